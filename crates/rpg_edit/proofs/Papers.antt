@@ -1,0 +1,29 @@
+-- What a paper gains by a further line, and by further lines.
+use Rattle.std.proofs.Common.{◌≡◌, ℕ, ◌+◌, List, [], ◌∷◌, ◌++◌, Option, Some, None, refl, sym, ap, ◌∙◌, rules, append_assoc}
+use Rattle.std.proofs.lemmas.List.{append-nil}
+use Rattle.rpg_edit.specs.Paper.{Position, Placed, trimmed, way, bytes_from, end_from, paper, end_of}
+use Rattle.rpg_edit.specs.Form.{Standing, StandsAt, way_of}
+
+-- lines behind lines add what they add to the paper that the first ones end
+pub bytes_from-append : (last : Option Position) (xs ys : List Placed) → bytes_from last (xs ++ ys) ≡ bytes_from last xs ++ bytes_from (end_from last xs) ys
+bytes_from-append last [] ys = refl
+bytes_from-append last (x ∷ xs) ys =
+    ap (λ bytes. way last x.at ++ trimmed x.text ++ bytes) (bytes_from-append (Some x.at) xs ys)
+    ∙ sym (append_assoc (way last x.at ++ trimmed x.text) (bytes_from (Some x.at) xs) (bytes_from (end_from (Some x.at) xs) ys))
+
+-- a form knows the way from the line placed last
+pub way_is : (form : Standing) (previous : Option Position) (here : Position) → StandsAt form previous here → way previous here ≡ way_of form
+way_is form None here s = search rules
+way_is form (Some from) here s = search rules
+
+joined : (sent old whole between text : List ℕ) → sent ++ old ≡ whole → sent ++ (old ++ between ++ text) ≡ whole ++ (between ++ text ++ [])
+joined sent old whole between text e =
+    rw (← e) (simp (append_assoc, append-nil))
+
+-- the line that a form places is the next line of the paper
+pub paper_more : (form : Standing) (lines : List Placed) (here : Position) (text sent old new : List ℕ) → StandsAt form (end_of lines) here → sent ++ old ≡ paper lines → new ≡ old ++ way_of form ++ trimmed text → sent ++ new ≡ paper (lines ++ record { at = here; text = text } ∷ [])
+paper_more form lines here text sent old new s e is =
+    ap (λ bytes. sent ++ bytes) is
+    ∙ joined sent old (paper lines) (way_of form) (trimmed text) e
+    ∙ ap (λ between. paper lines ++ (between ++ trimmed text ++ [])) (sym (way_is form (end_of lines) here s))
+    ∙ sym (bytes_from-append None lines (record { at = here; text = text } ∷ []))

@@ -1,0 +1,58 @@
+-- What a form stands for. A form counts pages from the page of the line placed last, so no page number grows without bound.
+use Rattle.std.specs.Prelude.{◌≡◌, ℕ, ◌+◌, ◌-◌, ◌≤◌, List, [], ◌∷◌, ◌++◌, replicate, Option, Some, None, option_map, unwrap_or, if◌then◌else◌, ◌==◌}
+use Rattle.rpg_edit.specs.Paper.{Position, spaced, skipped}
+
+-- the line placed last on its page, the pages begun since, and the present line
+pub record Standing : Type 0 where
+  pub last : Option ℕ
+  pub begun : ℕ
+  pub line : ℕ
+
+-- at the first line of the first page, nothing being placed
+abbrev pub at_first_line : Standing
+at_first_line = record { last = None; begun = 0; line = 1 }
+
+-- on one of 66 lines, and not before a line that was placed on the same page
+pub record IsOnPaper (last : Option ℕ) (begun line : ℕ) : Type 0 where
+  pub first : 1 ≤ line
+  pub within : line ≤ 66
+  pub few_pages : begun ≤ 1000
+  pub forward : begun ≡ 0 → unwrap_or last 1 ≤ line
+
+abbrev pub page_or_1 : Option Position → ℕ
+page_or_1 None = 1
+page_or_1 (Some p) = p.page
+
+-- the form is at `here`, where `previous` is the position of the line placed last
+pub record StandsAt (form : Standing) (previous : Option Position) (here : Position) : Type 0 where
+  pub last_line : form.last ≡ option_map (λ p. p.line) previous
+  pub page : here.page ≡ page_or_1 previous + form.begun
+  pub present_line : here.line ≡ form.line
+
+-- where the form is, its page counted from 0 at the line placed last
+abbrev pub here_of : Standing → Position
+here_of form = record { page = form.begun; line = form.line }
+
+abbrev pub moved_to : Position → Standing → Standing
+moved_to to form = record { last = form.last; begun = to.page; line = to.line }
+
+-- after a space of n lines
+abbrev pub after_space : ℕ → Standing → Standing
+after_space n form = moved_to (spaced n (here_of form)) form
+
+-- after a skip to a line
+abbrev pub after_skip : ℕ → Standing → Standing
+after_skip line form = moved_to (skipped line (here_of form)) form
+
+-- after a line is placed
+abbrev pub after_line : Standing → Standing
+after_line form = record { last = Some form.line; begun = 0; line = form.line }
+
+-- on the page of the line placed last
+abbrev pub way_on_page : Option ℕ → ℕ → List ℕ
+way_on_page None line = replicate (line - 1) 10
+way_on_page (Some last) line = if line == last then 13 ∷ [] else replicate (line - last) 10
+
+-- what brings the paper from the line placed last to the present one
+abbrev pub way_of : Standing → List ℕ
+way_of form = if form.begun == 0 then way_on_page form.last form.line else replicate form.begun 12 ++ replicate (form.line - 1) 10

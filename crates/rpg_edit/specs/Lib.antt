@@ -1,0 +1,3 @@
+pub mod Edited
+pub mod Form
+pub mod Paper
