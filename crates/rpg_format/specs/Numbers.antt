@@ -1,0 +1,61 @@
+-- What numbers stand for, and the formats of single numbers.
+use Rattle.std.specs.Prelude.{ℕ, List, [], ◌∷◌, Bool, true, false, ◌&&◌, ◌==◌, nat_le, if◌then◌else◌, Result, Ok, Err}
+use Rattle.rpg_format.specs.declared.fault.Code.{Code}
+use Rattle.rpg_format.specs.declared.fault.Code.TheVariants.{NotAllowed, Unused, PastLimit}
+use Rattle.rpg_format.specs.Format.{Format, byte, two_bytes}
+
+-- the numbers that a test takes
+abbrev pub allowed : (ℕ → Bool) → ℕ → Result ℕ Code
+allowed test n = if test n then Ok n else Err NotAllowed
+
+abbrev pub is_between : ℕ → ℕ → ℕ → Bool
+is_between low high n = nat_le low n && nat_le n high
+
+abbrev pub is_any : ℕ → Bool
+is_any n = true
+
+-- the one of these that has the number
+abbrev pub choice : {K : Type 0} → List K → (K → ℕ) → ℕ → Result K Code
+choice [] number n = Err NotAllowed
+choice (k ∷ ks) number n = if number k == n then Ok k else choice ks number n
+
+-- a number of rows up to a limit
+abbrev pub up_to : ℕ → ℕ → Result ℕ Code
+up_to limit n = if nat_le n limit then Ok n else Err PastLimit
+
+-- a number that is always the same, and the fault of any other
+abbrev pub only : ℕ → Code → ℕ → Result (Unit {0}) Code
+only k c n = if n == k then Ok tt else Err c
+
+-- a yes or no
+abbrev pub flag_number : Bool → ℕ
+flag_number false = 0
+flag_number true = 1
+
+-- ---- formats of single numbers
+
+abbrev pub number_where : (ℕ → Bool) → Format ℕ
+number_where test = two_bytes (allowed test) (λ n. n)
+
+abbrev pub any_number : Format ℕ
+any_number = number_where is_any
+
+abbrev pub byte_where : (ℕ → Bool) → Format ℕ
+byte_where test = byte (allowed test) (λ n. n)
+
+abbrev pub one_of : {K : Type 0} → List K → (K → ℕ) → Format K
+one_of ks number = byte (choice ks number) number
+
+abbrev pub yes_or_no : Format Bool
+yes_or_no = one_of (false ∷ true ∷ []) flag_number
+
+-- a count of rows
+abbrev pub count : ℕ → Format ℕ
+count limit = two_bytes (up_to limit) (λ n. n)
+
+-- the number k, and the fault of any other
+abbrev pub only_byte : ℕ → Code → Format (Unit {0})
+only_byte k c = byte (only k c) (λ u. k)
+
+abbrev pub only_number : ℕ → Code → Format (Unit {0})
+only_number k c = two_bytes (only k c) (λ u. k)

@@ -1,0 +1,71 @@
+//! What is wrong with bytes that were to spell something.
+
+ghost use Rattle.std.specs.Prelude.{◌≡◌};
+
+use std::alloc::{AllocError, AllocFailed};
+use std::fmt;
+
+ghost use Rattle.rpg_format.specs.declared.fault.ReadFault.TheVariants.{NoMemory};
+
+/// How a number breaks its rule.
+#[derive(Clone, Copy, Debug, PartialEq, Eq)]
+pub enum Code {
+    /// B1: the bytes don't begin with the name of an object.
+    NoObject,
+    /// B2: the version is another one.
+    Version,
+    /// B3: the number doesn't lie wholly inside the bytes.
+    CutShort,
+    /// B4: bytes are left over.
+    LeftOver,
+    /// B5: the value isn't among those allowed.
+    NotAllowed,
+    /// B6: a number that isn't used is not 0.
+    Unused,
+    /// B7: a count, or what the counts make in all, is past its limit.
+    PastLimit,
+}
+
+impl fmt::Display for Code {
+    fn fmt<W: fmt::Write>(&self, f: &mut fmt::Formatter<W>) -> fmt::Result {
+        match self {
+            Code::NoObject => write!(f, "B1"),
+            Code::Version => write!(f, "B2"),
+            Code::CutShort => write!(f, "B3"),
+            Code::LeftOver => write!(f, "B4"),
+            Code::NotAllowed => write!(f, "B5"),
+            Code::Unused => write!(f, "B6"),
+            Code::PastLimit => write!(f, "B7"),
+        }
+    }
+}
+
+/// The number that breaks its rule, by the bytes from its first one to the end of all; 0 where it is cut short.
+#[derive(Clone, Copy, Debug, PartialEq, Eq)]
+pub struct Fault {
+    pub left: usize,
+    pub code: Code,
+}
+
+/// Why bytes weren't read.
+#[derive(Clone, Copy, Debug, PartialEq, Eq)]
+pub enum ReadFault {
+    NoMemory,
+    At(Fault),
+}
+
+impl<T: Drop> From<AllocFailed<T>> for ReadFault {
+    ghost from_gives = { λ _ e. e ≡ NoMemory };
+
+    fn from(_e: AllocFailed<T>) -> ReadFault {
+        ReadFault::NoMemory
+    }
+}
+
+impl From<AllocError> for ReadFault {
+    ghost from_gives = { λ _ e. e ≡ NoMemory };
+
+    fn from(_e: AllocError) -> ReadFault {
+        ReadFault::NoMemory
+    }
+}

@@ -1,0 +1,1 @@
+//! Numbers at the front of bytes.

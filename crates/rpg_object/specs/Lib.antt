@@ -1,0 +1,3 @@
+pub mod Object
+pub mod Rows
+pub mod Program

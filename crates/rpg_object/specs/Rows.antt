@@ -1,0 +1,274 @@
+-- The formats of rows, number by number.
+use Rattle.std.specs.Prelude.{◌≡◌, ℕ, zero, suc, ◌+◌, ◌-◌, ◌*◌, ◌^◌, ◌<◌, ◌≤◌, ℤ, unsigned_abs, List, [], ◌∷◌, length, take, drop, Bool, true, false, ◌&&◌, ◌==◌, nat_lt, nat_le, if◌then◌else◌, Option, Some, None, Result, Ok, Err}
+use Rattle.std.specs.Str.{bytes_eq}
+use Rattle.rpg_decimal.specs.Zoned.{number_in, zoned_text}
+use Rattle.rpg_effect.specs.declared.form.Class.{Class}
+use Rattle.rpg_effect.specs.declared.form.Class.TheVariants as classes
+use Rattle.rpg_effect.specs.declared.form.Form.{Form}
+use Rattle.rpg_effect.specs.declared.form.Kind.{Kind}
+use Rattle.rpg_effect.specs.declared.form.Kind.TheVariants as kinds
+use Rattle.rpg_effect.specs.declared.line.Condition.{Condition}
+use Rattle.rpg_effect.specs.declared.line.File.{File}
+use Rattle.rpg_effect.specs.declared.line.File.TheVariants.{Printer, Disk}
+use Rattle.rpg_effect.specs.declared.line.LineField.{LineField}
+use Rattle.rpg_effect.specs.declared.line.Moves.{Moves}
+use Rattle.rpg_effect.specs.declared.line.Time.{Time}
+use Rattle.rpg_effect.specs.declared.line.Time.TheVariants as times
+use Rattle.rpg_effect.specs.declared.operation.Action.{Action}
+use Rattle.rpg_effect.specs.declared.operation.Action.TheVariants as actions
+use Rattle.rpg_effect.specs.declared.operation.Instruction.{Instruction}
+use Rattle.rpg_effect.specs.declared.operation.Instruction.TheVariants.{Act}
+use Rattle.rpg_effect.specs.declared.operation.Operand.{Operand}
+use Rattle.rpg_effect.specs.Values.{Value, Number, Text}
+use Rattle.rpg_format.specs.declared.fault.Code.{Code}
+use Rattle.rpg_format.specs.declared.fault.Code.TheVariants.{NotAllowed, Unused, PastLimit}
+use Rattle.rpg_format.specs.declared.fault.Fault.{Fault}
+use Rattle.rpg_format.specs.Format.{Format, byte, two_bytes, pair, row, times_with, table, ends_early, fault_at, ruled}
+use Rattle.rpg_format.specs.Numbers.{allowed, is_between, is_any, choice, up_to, only, flag_number, number_where, any_number, byte_where, one_of, yes_or_no, count, only_byte, only_number}
+use Rattle.rpg_object.specs.declared.operation.Operation.{Operation}
+use Rattle.rpg_object.specs.declared.operation.Operation.TheVariants as op
+use Rattle.rpg_object.specs.declared.row.Move.{Move}
+use Rattle.rpg_object.specs.Object.{TypeRow, LineRow}
+
+-- ---- numbers
+
+-- 0, where nothing else may stand yet
+abbrev pub no_byte : Format (Unit {0})
+no_byte = only_byte 0 NotAllowed
+
+abbrev pub no_number : Format (Unit {0})
+no_number = only_number 0 NotAllowed
+
+-- the count of a table that no program has yet
+abbrev pub no_rows : Format (Unit {0})
+no_rows = only_number 0 PastLimit
+
+-- 0, where nothing ever stands
+abbrev pub unused_byte : Format (Unit {0})
+unused_byte = only_byte 0 Unused
+
+abbrev pub unused_number : Format (Unit {0})
+unused_number = only_number 0 Unused
+
+-- ---- fields, 8 bytes
+
+abbrev pub kind_number : Kind → ℕ
+kind_number kinds.Number = 1
+kind_number kinds.Text = 2
+
+abbrev pub class_number : Class → ℕ
+class_number classes.Plain = 0
+class_number classes.Array = 1
+class_number classes.Table = 2
+class_number classes.Constant = 3
+class_number classes.Date = 4
+
+-- at most 9, and no more than digits
+abbrev pub is_decimals : ℕ → ℕ → Bool
+is_decimals digits n = nat_le n 9 && nat_le n digits
+
+-- the entries, whose bytes must lie within the storage that is left
+abbrev pub entries_within : ℕ → ℕ → ℕ → Result ℕ Code
+entries_within len storage n = if n == 1 then (if nat_le (len * n) storage then Ok n else Err PastLimit) else Err NotAllowed
+
+-- kind, class, length, decimals, sequence, entries, with the storage that the fields before it leave
+unfoldable pub field : ℕ → Format Form
+field storage = row
+    (λ p. record { kind = p.0; class = p.1.0; length = p.1.1.0; decimals = p.1.1.1.0; is_ascending = p.1.1.1.1.0; entries = p.1.1.1.1.1 })
+    (λ f. (f.kind, (f.class, (f.length, (f.decimals, (f.is_ascending, f.entries))))))
+    (pair (one_of (kinds.Number ∷ []) kind_number) (λ kind.
+    pair (one_of (classes.Plain ∷ []) class_number) (λ class.
+    pair (number_where (is_between 1 15)) (λ len.
+    pair (byte_where (is_decimals len)) (λ decimals.
+    pair (one_of (false ∷ []) flag_number) (λ is_ascending.
+    two_bytes (entries_within len storage) (λ n. n)))))))
+
+-- a field takes its bytes from the storage that is left
+abbrev pub storage_after : ℕ → Form → ℕ
+storage_after storage f = storage - f.length * f.entries
+
+unfoldable pub fields : ℕ → Format (List Form)
+fields n = times_with field storage_after n 65535
+
+-- ---- first values
+
+-- what is read of a number's text: the number, where the text is the one that is written for it
+abbrev pub as_written : List ℕ → Option ℤ → Result Value Code
+as_written text None = Err NotAllowed
+as_written text (Some n) = if bytes_eq text (zoned_text (length text) n) then Ok (Number n) else Err NotAllowed
+
+abbrev pub read_value : ℕ → List ℕ → Result (Value × List ℕ) Fault
+read_value len bytes =
+    if nat_lt (length bytes) len then Err ends_early
+    else ruled bytes (drop len bytes) (as_written (take len bytes) (number_in (take len bytes)))
+
+abbrev pub value_text : ℕ → Value → List ℕ
+value_text len (Number n) = zoned_text len n
+value_text len (Text text) = text
+
+-- a number of so many digits
+abbrev pub IsNumberOf : ℕ → Value → Type 0
+IsNumberOf len (Number n) = (1 ≤ len) × (unsigned_abs n < 10 ^ len)
+IsNumberOf len (Text text) = ⊥
+
+-- the value of a field's entry, in as many bytes as the field has digits
+unfoldable pub value : ℕ → Format Value
+value len = record {
+  spelling = value_text len;
+  Holds = IsNumberOf len;
+  reading = read_value len;
+}
+
+abbrev pub next_length : List Form → ℕ
+next_length [] = 0
+next_length (f ∷ fs) = f.length
+
+abbrev pub later_fields : List Form → Value → List Form
+later_fields [] v = []
+later_fields (f ∷ fs) v = fs
+
+-- a value for each field
+unfoldable pub values : List Form → Format (List Value)
+values fs = times_with (λ s. value (next_length s)) later_fields (length fs) fs
+
+-- ---- record types
+
+abbrev pub indicator_of : ℕ → Result (Option ℕ) Code
+indicator_of n = if n == 0 then Ok None else (if nat_le n 129 then Ok (Some n) else Err NotAllowed)
+
+abbrev pub indicator_number : Option ℕ → ℕ
+indicator_number None = 0
+indicator_number (Some n) = n
+
+-- from, to, field, three indicators, 0
+unfoldable pub move_row : Format Move
+move_row = row
+    (λ p. record { from = p.0; to = p.1.0; field = p.1.1.0 })
+    (λ m. (m.from, (m.to, (m.field, (tt, (tt, (tt, tt)))))))
+    (pair any_number (λ from. pair any_number (λ to. pair any_number (λ f.
+    pair no_byte (λ plus. pair no_byte (λ minus. pair no_byte (λ zero_on. unused_byte)))))))
+
+abbrev pub TypeParts : Type 0
+TypeParts = Option ℕ × (Unit {0} × (Unit {0} × (Unit {0} × (ℕ × List Move))))
+
+-- indicator, 0, counts of codes, levels and moves, and these
+unfoldable pub type_parts : Format TypeParts
+type_parts =
+    pair (byte indicator_of indicator_number) (λ indicator. pair unused_byte (λ nothing.
+    pair no_rows (λ codes. pair no_rows (λ levels. pair (count 500) (λ moves. table moves move_row)))))
+
+unfoldable pub record_type : Format TypeRow
+record_type = row
+    (λ p. record { indicator = p.0; moves = p.1.1.1.1.1 })
+    (λ t. (t.indicator, (tt, (tt, (tt, (length t.moves, t.moves))))))
+    type_parts
+
+-- ---- output lines
+
+abbrev pub file_number : File → ℕ
+file_number Printer = 1
+file_number Disk = 2
+
+abbrev pub time_number : Time → ℕ
+time_number times.Heading = 1
+time_number times.Detail = 2
+time_number times.Total = 3
+time_number times.Exception = 4
+
+-- N, and an indicator
+unfoldable pub condition : Format Condition
+condition = row
+    (λ p. record { indicator = p.1; is_negated = p.0 })
+    (λ c. (c.is_negated, c.indicator))
+    (pair yes_or_no (λ is_negated. byte_where (is_between 1 129)))
+
+-- a count, and so many rows
+abbrev pub counted_rows : {X : Type 0} → ℕ → Format X → Format (List X)
+counted_rows limit f = row (λ p. p.1) (λ xs. (length xs, xs)) (pair (count limit) (λ n. table n f))
+
+-- a count, and the conditions
+unfoldable pub alternative : Format (List Condition)
+alternative = counted_rows 60 condition
+
+-- kind, edit code, fill, blank after, field, index, edit word, end, three indicators, N bits
+unfoldable pub line_field : Format (LineField ℕ)
+line_field = row
+    (λ p. record { operand = record { field = p.1.1.1.1.0 }; end = p.1.1.1.1.1.1.1.0 })
+    (λ f. (tt, (tt, (tt, (tt, (f.operand.field, (tt, (tt, (f.end, (tt, (tt, (tt, tt))))))))))))
+    (pair (only_byte 1 NotAllowed) (λ kind. pair no_byte (λ edit. pair no_byte (λ fill. pair no_byte (λ blank_after.
+    pair any_number (λ f. pair no_number (λ index. pair no_number (λ word. pair any_number (λ end.
+    pair no_byte (λ first. pair no_byte (λ second. pair no_byte (λ third. no_byte))))))))))))
+
+-- just one, for now
+abbrev pub alternative_count : ℕ → Result ℕ Code
+alternative_count n = if nat_lt 0 n then up_to 1 n else Err NotAllowed
+
+-- a movement that is the same at every line
+abbrev pub fixed : ℕ → Format ℕ
+fixed k = byte_where (λ n. n == k)
+
+abbrev pub LineParts : Type 0
+LineParts = File × (Time × (ℕ × (ℕ × (ℕ × (ℕ × (ℕ × (ℕ × (Unit {0} × (List (List Condition) × List (LineField ℕ))))))))))
+
+-- file, time, spaces, skips, counts of alternatives and fields, 0, and these
+unfoldable pub line_parts : Format LineParts
+line_parts =
+    pair (one_of (Printer ∷ []) file_number) (λ file. pair (one_of (times.Detail ∷ []) time_number) (λ time.
+    pair (fixed 0) (λ space_before. pair (fixed 1) (λ space_after. pair (fixed 0) (λ skip_before. pair (fixed 0) (λ skip_after.
+    pair (two_bytes alternative_count (λ n. n)) (λ alternatives. pair (count 200) (λ line_fields. pair unused_number (λ nothing.
+    pair (table alternatives alternative) (λ as_. table line_fields line_field))))))))))
+
+unfoldable pub line : Format LineRow
+line = row
+    (λ p. record { file = p.0; time = p.1.0; moves = record { space_before = p.1.1.0; space_after = p.1.1.1.0; skip_before = p.1.1.1.1.0; skip_after = p.1.1.1.1.1.0 }; alternatives = p.1.1.1.1.1.1.1.1.1.0; fields = p.1.1.1.1.1.1.1.1.1.1 })
+    (λ l. (l.file, (l.time, (l.moves.space_before, (l.moves.space_after, (l.moves.skip_before, (l.moves.skip_after, (length l.alternatives, (length l.fields, (tt, (l.alternatives, l.fields)))))))))))
+    line_parts
+
+-- ---- instructions, 20 bytes
+
+abbrev pub operation_number : Operation → ℕ
+operation_number op.Add = 1
+operation_number op.ZeroAdd = 5
+
+-- Z-ADD has no factor 1
+abbrev pub has_factor1 : Operation → Bool
+has_factor1 op.Add = true
+has_factor1 op.ZeroAdd = false
+
+-- a number that is used, and 0 where it is not used
+abbrev pub used : Bool → ℕ → Result ℕ Code
+used true n = Ok n
+used false n = if n == 0 then Ok n else Err Unused
+
+-- a field and no index; 0 where the operation has no such operand
+unfoldable pub operand : Bool → Format ℕ
+operand is_used = row
+    (λ p. p.0)
+    (λ n. (n, tt))
+    (pair (two_bytes (used is_used) (λ n. n)) (λ f. only_number 0 (if is_used then NotAllowed else Unused)))
+
+abbrev pub InstructionParts : Type 0
+InstructionParts = Operation × (Unit {0} × (ℕ × (ℕ × (ℕ × (Unit {0} × (Unit {0} × (Unit {0} × (Unit {0} × Unit {0}))))))))
+
+-- the numbers of an operation and its operands
+abbrev pub numbers : Operation → ℕ → ℕ → ℕ → InstructionParts
+numbers o factor1 factor2 res = (o, (tt, (factor1, (factor2, (res, (tt, (tt, (tt, (tt, tt)))))))))
+
+abbrev pub action_of : Operation → ℕ → ℕ → ℕ → Action ℕ
+action_of op.Add factor1 factor2 res = actions.Add (record { field = factor1 }) (record { field = factor2 }) (record { field = res })
+action_of op.ZeroAdd factor1 factor2 res = actions.ZeroAdd (record { field = factor2 }) (record { field = res })
+
+abbrev pub numbers_of : Instruction ℕ → InstructionParts
+numbers_of (Act (actions.Add factor1 factor2 res)) = numbers op.Add factor1.field factor2.field res.field
+numbers_of (Act (actions.ZeroAdd factor2 res)) = numbers op.ZeroAdd 0 factor2.field res.field
+
+-- operation, half adjust, factor 1, factor 2, result, three indicators, target, N bits
+unfoldable pub instruction : Format (Instruction ℕ)
+instruction = row
+    (λ p. Act (action_of p.0 p.1.1.0 p.1.1.1.0 p.1.1.1.1.0))
+    numbers_of
+    (pair (one_of (op.Add ∷ op.ZeroAdd ∷ []) operation_number) (λ o.
+    pair no_byte (λ half.
+    pair (operand (has_factor1 o)) (λ factor1. pair (operand true) (λ factor2. pair (operand true) (λ res.
+    pair no_byte (λ first. pair no_byte (λ second. pair no_byte (λ third.
+    pair unused_number (λ target. unused_byte))))))))))

@@ -1,0 +1,8 @@
+//! The operations of instructions.
+
+/// What an instruction does.
+#[derive(Clone, Copy)]
+pub enum Operation {
+    Add,
+    ZeroAdd,
+}
