@@ -1,0 +1,3 @@
+-- Lemmas on records.
+pub mod Lines
+pub mod Returns

@@ -1,0 +1,48 @@
+-- The records of an input.
+use Rattle.std.specs.Prelude.{◌≡◌, ◌==◌, ◌&&◌, ℕ, Bool, true, false, if◌then◌else◌, List, [], ◌∷◌, codes, refl}
+
+abbrev pub begins_with_line_feed : List ℕ → Bool
+begins_with_line_feed [] = false
+begins_with_line_feed (b ∷ bytes) = b == 10
+
+-- one more byte before the first record
+abbrev pub onto_first : ℕ → List (List ℕ) → List (List ℕ)
+onto_first b [] = (b ∷ []) ∷ []
+onto_first b (record_bytes ∷ rest) = (b ∷ record_bytes) ∷ rest
+
+-- A line feed ends a record, and one carriage return before it is dropped. What stands behind the last line feed is a
+-- record where it isn't empty.
+abbrev pub records : List ℕ → List (List ℕ)
+records [] = []
+records (b ∷ bytes) =
+    if b == 10 then [] ∷ records bytes
+    else (if b == 13 && begins_with_line_feed bytes then records bytes else onto_first b (records bytes))
+
+-- ---- examples
+
+nothing : records [] ≡ []
+nothing = refl
+
+two_lines : records (codes "007\n35\n") ≡ codes "007" ∷ codes "35" ∷ []
+two_lines = refl
+
+without_line_feed_at_the_end : records (codes "007\n35") ≡ codes "007" ∷ codes "35" ∷ []
+without_line_feed_at_the_end = refl
+
+empty_lines : records (codes "\n\n") ≡ [] ∷ [] ∷ []
+empty_lines = refl
+
+carriage_return_before_line_feed : records (codes "007\r\n35") ≡ codes "007" ∷ codes "35" ∷ []
+carriage_return_before_line_feed = refl
+
+two_carriage_returns : records (codes "7\r\r\n") ≡ codes "7\r" ∷ []
+two_carriage_returns = refl
+
+carriage_return_elsewhere : records (codes "7\r5\r") ≡ codes "7\r5\r" ∷ []
+carriage_return_elsewhere = refl
+
+-- a line without a carriage return at its end
+abbrev pub without_return : List ℕ → List ℕ
+without_return [] = []
+without_return (b ∷ []) = if b == 13 then [] else b ∷ []
+without_return (b ∷ c ∷ bytes) = b ∷ without_return (c ∷ bytes)
