@@ -1,0 +1,33 @@
+-- What is moved, and what it gives.
+use Rattle.std.specs.Prelude.{ℕ, ◌+◌, ◌-◌, ◌≤◌, ℤ, List, length, Option, Some}
+use Rattle.rpg_decimal.specs.Move.{overlay_right, overlay_left, number_moved_right, number_moved_left}
+use Rattle.rpg_decimal.specs.Zoned.{zoned_text, number_in, IsFirstBad}
+use Rattle.rpg_decimal.specs.declared.num.Figure.{Figure}
+use Rattle.rpg_decimal.specs.declared.moves.Source.{Source}
+use Rattle.rpg_decimal.specs.declared.moves.Source.TheVariants.{Number, Text}
+
+-- the characters that a source has: of a number those written for it
+abbrev pub text_of : Source → List ℕ
+text_of (Number n) = zoned_text n.len n.value
+text_of (Text t) = t.now
+
+-- MOVE to a number: a text goes over the old number's text, and what comes out is read
+abbrev pub moved_right : Source → ℕ → ℤ → Option ℤ
+moved_right (Number n) len before = Some (number_moved_right n.len n.value len before)
+moved_right (Text t) len before = number_in (overlay_right t.now (zoned_text len before))
+
+-- MOVEL to a number
+abbrev pub moved_left : Source → ℕ → ℤ → Option ℤ
+moved_left (Number n) len before = Some (number_moved_left n.len n.value len before)
+moved_left (Text t) len before = number_in (overlay_left t.now (zoned_text len before))
+
+-- the first place of the source that MOVE can't bring into a number of `len` digits
+abbrev pub IsFirstBadRight : Source → ℕ → ℤ → ℕ → Type 0
+IsFirstBadRight (Number n) len before spot = ⊥
+IsFirstBadRight (Text t) len before spot =
+    (length t.now ≤ spot + len) × IsFirstBad (overlay_right t.now (zoned_text len before)) (spot + len - length t.now)
+
+-- the same of MOVEL
+abbrev pub IsFirstBadLeft : Source → ℕ → ℤ → ℕ → Type 0
+IsFirstBadLeft (Number n) len before spot = ⊥
+IsFirstBadLeft (Text t) len before spot = IsFirstBad (overlay_left t.now (zoned_text len before)) spot

@@ -1,0 +1,48 @@
+//! Sums, differences and products, as a result field keeps them.
+ghost use Rattle.std.specs.Prelude.{◌≡◌, ◌*◌, ◌^◌, ◌<◌, ◌≤◌, pos, ◌*ℤ◌, unsigned_abs};
+ghost use Rattle.rpg_decimal.specs.Fraction.{stored_number, plus, minus, times, with_decimals};
+ghost use Rattle.rpg_decimal.specs.Num.{value_of};
+
+use crate::num::{Num, Scale, Target};
+use crate::whole::{align, fit, power_of_ten};
+
+/// The number `n` of `from` decimals as the target keeps it: aligned, and without the digits too
+/// many on the left.
+pub fn keep(n: i128, from: Scale, target: Target) -> i64
+    requires { unsigned_abs n < 10 ^ 36 }
+    ensures value { result ≡ stored_number target.half target.dec target.len (with_decimals n from.value) }
+    ensures fits { unsigned_abs result < 10 ^ target.len }
+{
+    let to = Scale { value: target.dec };
+    if from.value < target.dec {
+        // A shift up may pass 128 bits, so the digits that no field keeps go first.
+        let lowest = i128::from(fit(n, 15));
+        return fit(align(lowest, from, to, target.half), target.len);
+    }
+    fit(align(n, from, to, target.half), target.len)
+}
+
+/// The value with `scale` decimals more.
+fn widened(value: i64, scale: u8) -> i128
+    requires value_in { unsigned_abs value < 10 ^ 15 }
+    requires scale_in { scale ≤ 9 }
+    ensures value { result ≡ value *ℤ pos (10 ^ scale) }
+    ensures bound { unsigned_abs result < 10 ^ 24 }
+{
+    i128::from(value) * power_of_ten(scale) as i128
+}
+
+/// `a` and `b` added up.
+pub fn add(a: Num, b: Num, target: Target) -> i64
+    ensures value { result ≡ stored_number target.half target.dec target.len (plus (value_of a) (value_of b)) }
+    ensures fits { unsigned_abs result < 10 ^ target.len }
+{
+    let sum = widened(a.value, b.dec) + widened(b.value, a.dec);
+    keep(
+        sum,
+        Scale {
+            value: a.dec + b.dec,
+        },
+        target,
+    )
+}

@@ -1,0 +1,61 @@
+//! Numbers, and the forms in which results are kept. The limits are this profile's.
+ghost use Rattle.std.specs.Prelude.{◌≡◌, ◌^◌, ◌<◌, ◌≤◌, unsigned_abs};
+
+/// How many digits stand behind a point.
+#[derive(Clone, Copy, Debug, PartialEq, Eq)]
+pub struct Scale {
+    pub value: u8,
+    pub ghost in_range: { value ≤ 18 },
+}
+
+/// The number `value` with its point before the last `dec` digits.
+#[derive(Clone, Copy, Debug, PartialEq, Eq)]
+pub struct Num {
+    pub value: i64,
+    pub dec: u8,
+    pub ghost value_in: { unsigned_abs value < 10 ^ 15 },
+    pub ghost dec_in: { dec ≤ 9 },
+}
+
+/// What a result is kept in: `len` digits, `dec` of them behind the point, and whether it is half adjusted.
+#[derive(Clone, Copy, Debug, PartialEq, Eq)]
+pub struct Target {
+    pub len: u8,
+    pub dec: u8,
+    pub half: bool,
+    pub ghost len_low: { 1 ≤ len },
+    pub ghost len_high: { len ≤ 15 },
+    pub ghost dec_in: { dec ≤ 9 },
+}
+
+/// A whole number of `len` digits.
+#[derive(Clone, Copy, Debug, PartialEq, Eq)]
+pub struct Figure {
+    pub value: i64,
+    pub len: u8,
+    pub ghost len_low: { 1 ≤ len },
+    pub ghost len_high: { len ≤ 15 },
+    pub ghost fits: { unsigned_abs value < 10 ^ len },
+}
+
+/// What a division leaves: `value` with its point before the last `dec` digits.
+#[derive(Clone, Copy, Debug, PartialEq, Eq)]
+pub struct Rest {
+    pub value: i128,
+    pub dec: Scale,
+    pub ghost bound: { unsigned_abs value < 10 ^ 15 },
+}
+
+impl Figure {
+    /// The number with its point before the last `dec` digits.
+    pub fn with_point(self, dec: u8) -> Num
+        requires { dec ≤ 9 }
+        ensures value { result.value ≡ self.value }
+        ensures dec { result.dec ≡ dec }
+    {
+        Num {
+            value: self.value,
+            dec,
+        }
+    }
+}

@@ -1,0 +1,120 @@
+//! Numbers as texts: a digit in each place, and the sign over the last one.
+ghost use Rattle.std.specs.Prelude.{◌≡◌, ◌+◌, ◌<◌, ◌≤◌, ◌^◌, unsigned_abs, length, map, IfOk, IfErr, OnOk, EachIndex};
+ghost use Rattle.std.specs.Result.{result_ok};
+ghost use Rattle.rpg_decimal.specs.Place.{digits, place_value};
+ghost use Rattle.rpg_decimal.specs.Zoned.{digit_of, is_minus, may_stand, last_character, number_in, zoned_text, IsGoodAt, Spells, IsFirstBad};
+
+use thiserror::Error;
+
+/// A character that no number has at its place, counted from 0.
+#[derive(Clone, Copy, Debug, PartialEq, Eq, Error)]
+#[error("a bad digit at {spot}")]
+pub struct BadDigit {
+    pub spot: usize,
+}
+
+/// The digit that a character stands for.
+fn digit_of(c: u8) -> u8
+    ensures value { result ≡ digit_of c }
+    ensures below { result < 10 }
+{
+    match c {
+        b'0'..=b'9' => c - b'0',
+        b'A'..=b'I' => c - b'@',
+        b'J'..=b'R' => c - b'I',
+        _ => 0,
+    }
+}
+
+/// Whether a character brings a minus sign.
+fn is_minus(c: u8) -> bool
+    ensures { result ≡ is_minus c }
+{
+    matches!(c, b'}' | b'J'..=b'R')
+}
+
+/// Whether a character may stand in a number, in its last place or before it.
+fn may_stand(last: bool, c: u8) -> bool
+    ensures { result ≡ may_stand last c }
+{
+    match c {
+        b' ' | b'0'..=b'9' => true,
+        b'{' | b'}' | b'A'..=b'R' => last,
+        _ => false,
+    }
+}
+
+/// The last character that is written for a number.
+fn last_character(n: i64) -> u8
+    ensures { result ≡ last_character n }
+{
+    let digit = (n.unsigned_abs() % 10) as u8;
+    if n >= 0 {
+        b'0' + digit
+    } else if digit == 0 {
+        b'}'
+    } else {
+        b'I' + digit
+    }
+}
+
+/// The number that a text stands for, its first character first. A blank is a zero, and the last
+/// character brings the sign. The rule is this profile's.
+pub fn read_zoned(text: &[u8]) -> Result<i64, BadDigit>
+    requires low { 1 ≤ length text.now }
+    requires high { length text.now ≤ 15 }
+    ensures ok { IfOk result (Spells text.now) }
+    ensures fits { IfOk result (λ n. unsigned_abs n < 10 ^ length text.now) }
+    ensures bad { IfErr result (λ e. IsFirstBad text.now e.spot) }
+    ensures number { result_ok result ≡ number_in text.now }
+{
+    let size = read_digits(text)?;
+    if is_minus(text[text.len() - 1]) {
+        return Ok(-(size as i64));
+    }
+    Ok(size as i64)
+}
+
+/// The number that the digits of a text stand for, without its sign.
+fn read_digits(text: &[u8]) -> Result<u64, BadDigit>
+    requires { length text.now ≤ 15 }
+    ensures value { IfOk result (λ size. size ≡ place_value (map digit_of text.now)) }
+    ensures fits { IfOk result (λ size. size < 10 ^ length text.now) }
+    ensures good { OnOk result (EachIndex text.now (IsGoodAt text.now)) }
+    ensures bad { IfErr result (λ e. IsFirstBad text.now e.spot) }
+{
+    let mut size = 0u64;
+    for (spot, c) in text.iter().enumerate() {
+        if !may_stand(spot + 1 == text.len(), *c) {
+            return Err(BadDigit { spot });
+        }
+        size = size * 10 + u64::from(digit_of(*c));
+    }
+    Ok(size)
+}
+
+/// Writes the lowest digits of a number, as many as the text has places.
+fn write_digits(size: u64, text: &mut [u8])
+    ensures { text.new ≡ map (λ d. 48 + d) (digits (length text.old) size) }
+{
+    let mut rest = size;
+    let mut place = text.len();
+    while place > 0 {
+        place -= 1;
+        text[place] = b'0' + (rest % 10) as u8;
+        rest /= 10;
+    }
+}
+
+/// Writes a number with plain digits, and a letter in the last place where it is below zero.
+pub fn write_zoned(n: i64, text: &mut [u8])
+    requires low { 1 ≤ length text.old }
+    requires high { length text.old ≤ 15 }
+    requires fits { unsigned_abs n < 10 ^ length text.old }
+    ensures text { text.new ≡ zoned_text (length text.old) n }
+    ensures spells { Spells text.new n }
+{
+    let last = text.len() - 1;
+    write_digits(n.unsigned_abs() / 10, &mut text[..last]);
+    text[last] = last_character(n);
+}
