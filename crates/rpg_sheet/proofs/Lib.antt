@@ -1,0 +1,6 @@
+pub mod Laws
+pub mod CardLaws
+pub mod Digits
+pub mod Padding
+pub mod LineLemmas
+pub mod SheetLemmas

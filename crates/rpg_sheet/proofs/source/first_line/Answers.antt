@@ -1,0 +1,12 @@
+use Rattle.std.proofs.Common.{◌+◌, ◌∙◌, sym, ap, List, ◌∷◌}
+use Rattle.std.specs.Str.Lines.{lines}
+use Rattle.rpg_sheet.proofs.LineLemmas.{lines_at_newline, lines_last, lines_behind}
+use Rattle.rpg_sheet.proofs.source.first_line.Goals as goal
+
+pub returns-in-Some-clause-cut : goal.returns-in-Some-clause-cut
+returns-in-Some-clause-cut c =
+    rw (lines_behind c.args.text.now (c.in-Some.end + 1), c.without_return.ensures)
+    (lines_at_newline c.args.text.now c.in-Some.end (sym c.in-Some.ensures.place))
+
+pub returns-in-None-clause-cut : goal.returns-in-None-clause-cut
+returns-in-None-clause-cut c = lines_last c.args.text.now c.requires (sym c.in-None.ensures.place)

@@ -1,0 +1,5 @@
+pub mod Columns
+pub mod Values
+pub mod Tables
+pub mod Sheet
+pub mod Seen

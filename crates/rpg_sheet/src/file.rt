@@ -1,0 +1,106 @@
+//! The file description sheet (F).
+
+ghost use Rattle.std.specs.Prelude.{◌≡◌, [], Some, OnOk, IfErr};
+ghost use Rattle.rpg_sheet.specs.Columns.{IsLeast, cols};
+ghost use Rattle.rpg_sheet.specs.Tables as tables;
+
+use crate::card::{Card, ColumnFault, at};
+use crate::values;
+use crate::word::Word;
+
+/// Whether a file is read or written.
+#[derive(Clone, Copy, PartialEq, Eq)]
+pub enum Direction {
+    Input,
+    Output,
+}
+
+#[derive(Clone, Copy, PartialEq, Eq)]
+pub enum Device {
+    Printer,
+    Other,
+}
+
+/// An F card.
+#[derive(Drop)]
+pub struct FileSpec {
+    pub name: Word<8>,
+    pub direction: Direction,
+    /// E: the job ends once the file is at its end.
+    pub ends_job: bool,
+    pub ascending: bool,
+    pub record_length: u16,
+    pub device: Device,
+}
+
+impl FileSpec {
+    #[tactic(auto, unfolding(crate::specs::Tables::file, crate::specs::Columns::values, crate::specs::Columns::at_with, crate::specs::Columns::also, crate::specs::Columns::past, crate::specs::Columns::blank))]
+    fn read(card: &Card) -> Result<Self, ColumnFault>
+        ensures { result ≡ tables.file.reading card.now }
+    {
+        let name = at(7, values::name(card.columns(7, 14)))?;
+        let direction = at(15, direction_of(card.columns(15, 15)))?;
+        at(16, designation(card))?;
+        let ends_job = at(17, values::marked(b"E", card.columns(17, 17)))?;
+        let ascending = at(18, values::marked(b"A", card.columns(18, 18)))?;
+        at(19, values::only(b"F", card.columns(19, 19)))?;
+        let record_length = at(24, values::number(card.columns(24, 27)))?;
+        card.blank(28, 32)?;
+        at(33, values::unused(card.columns(33, 34)))?;
+        card.blank(35, 39)?;
+        let device = at(40, Some(device_of(card.columns(40, 46))))?;
+        card.blank(47, 74)?;
+        Ok(FileSpec {
+            name,
+            direction,
+            ends_job,
+            ascending,
+            record_length,
+            device,
+        })
+    }
+}
+
+impl Card {
+    /// An F card, or the least first column of its bad values.
+    pub fn f(&self) -> Result<FileSpec, ColumnFault>
+        ensures value { result ≡ tables.file.reading self.now }
+        ensures good { OnOk result (tables.file.bad self.now ≡ []) }
+        ensures least { IfErr result (λ fault. IsLeast (tables.file.bad self.now) fault.column) }
+    {
+        FileSpec::read(self)
+    }
+}
+
+fn direction_of(text: &[u8]) -> Option<Direction>
+    ensures { result ≡ tables.direction text.now }
+{
+    if text == b"I".as_slice() {
+        Some(Direction::Input)
+    } else if text == b"O".as_slice() {
+        Some(Direction::Output)
+    } else {
+        None
+    }
+}
+
+/// P with I, blank with O.
+fn designation(card: &Card) -> Option<()>
+    ensures { result ≡ tables.designation card.now (cols 16 16 card.now) }
+{
+    if card.columns(15, 15) == b"I".as_slice() {
+        values::only(b"P", card.columns(16, 16))
+    } else {
+        values::only(b" ", card.columns(16, 16))
+    }
+}
+
+fn device_of(text: &[u8]) -> Device
+    ensures { Some result ≡ tables.device_of text.now }
+{
+    if text == b"PRINTER".as_slice() {
+        Device::Printer
+    } else {
+        Device::Other
+    }
+}

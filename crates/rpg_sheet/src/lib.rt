@@ -1,0 +1,25 @@
+//! RPG II sheets: the cards of a source, and what their columns stand for.
+#![tactic(auto)]
+
+mod calculation;
+mod card;
+mod file;
+mod header;
+mod indicator;
+mod input;
+mod output;
+mod sheet;
+mod source;
+mod values;
+mod word;
+
+pub use calculation::{CalculationSpec, Operation};
+pub use card::{Card, ColumnFault};
+pub use file::{Device, Direction, FileSpec};
+pub use header::HeaderSpec;
+pub use indicator::{Condition, Indicator, Three};
+pub use input::{InputField, InputSpec, RecordType};
+pub use output::{LineTime, OutputField, OutputRecord, OutputSpec};
+pub use sheet::{Cards, FormType, SheetCode, SheetFault};
+pub use source::cards;
+pub use word::Word;

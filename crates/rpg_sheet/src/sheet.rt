@@ -1,0 +1,208 @@
+//! The sheets of a source, and what can be wrong with its cards.
+
+ghost use Rattle.std.specs.Prelude.{◌≡◌, ◌≤◌};
+ghost use Rattle.rpg_sheet.specs.Sheet as sheets;
+ghost use Rattle.rpg_sheet.specs.Seen.{sheet_code};
+ghost use Rattle.rpg_sheet.specs.declared.sheet.SheetFault.TheVariants.{NoMemory};
+
+use crate::card::Card;
+use crate::values;
+use std::alloc::AllocFailed;
+use std::marker::Model;
+use thiserror::Error;
+
+/// The sheet that a card is on, by its form type in column 6. The sheets come in this order.
+#[derive(Clone, Copy, Debug, PartialEq, Eq)]
+pub enum FormType {
+    Header,
+    File,
+    Input,
+    Calculation,
+    Output,
+}
+
+impl FormType {
+    /// Its place among the sheets of a source.
+    pub(crate) fn place(self) -> u8
+        ensures value { result ≡ sheets.place_of self }
+        ensures few { result ≤ 5 }
+    {
+        match self {
+            FormType::Header => 0,
+            FormType::File => 1,
+            FormType::Input => 3,
+            FormType::Calculation => 4,
+            FormType::Output => 5,
+        }
+    }
+}
+
+/// What is wrong with a card.
+#[derive(Clone, Copy, Debug, PartialEq, Eq, Error)]
+pub enum SheetCode {
+    /// The card has more than 80 characters.
+    #[error("S1")]
+    S1,
+    /// It has a byte that is no character.
+    #[error("S2")]
+    S2,
+    /// Its form type is unknown.
+    #[error("S3")]
+    S3,
+    /// Its form type is earlier than one before.
+    #[error("S4")]
+    S4,
+    /// Some columns have a bad value.
+    #[error("S5")]
+    S5,
+    /// It is card 2,001.
+    #[error("S6")]
+    S6,
+}
+
+/// Why a source has no cards.
+#[derive(Clone, Copy, Debug, PartialEq, Eq, Error)]
+pub enum SheetFault {
+    /// Cards are numbered from 1.
+    #[error("card {card}: {code}")]
+    At { card: u16, code: SheetCode },
+    #[error("no memory")]
+    NoMemory,
+}
+
+impl<T: Drop> From<AllocFailed<T>> for SheetFault {
+    ghost from_gives = { λ _ fault. fault ≡ NoMemory };
+
+    fn from(_: AllocFailed<T>) -> Self {
+        SheetFault::NoMemory
+    }
+}
+
+/// The cards of a source: card n is the one at place n - 1.
+#[derive(Drop)]
+pub struct Cards {
+    cards: Vec<Card>,
+}
+
+impl Model for Cards {
+    ghost use Rattle.std.specs.Prelude.{ℕ, List};
+
+    ghost Value = { List (List ℕ) };
+
+    ghost view = { λ c. c.cards.items };
+}
+
+impl Cards {
+    pub(crate) fn new(cards: Vec<Card>) -> Self
+        ensures { result ≡ cards.items }
+    {
+        Cards { cards }
+    }
+
+    pub fn as_slice(&self) -> &[Card]
+        ensures { result.now ≡ self.now }
+    {
+        self.cards.as_slice()
+    }
+}
+
+impl Card {
+    /// Whether it is the last card of its source.
+    pub fn ends_source(&self) -> bool
+        ensures { result ≡ sheets.ends_source self.now }
+    {
+        self.columns(1, 3) == b"/* ".as_slice()
+    }
+
+    /// Whether it begins a table's data, which no sheet has yet.
+    fn begins_data(&self) -> bool
+        ensures { result ≡ sheets.begins_data self.now }
+    {
+        self.columns(1, 3) == b"** ".as_slice()
+    }
+
+    /// Whether it is blank or a comment.
+    pub fn is_skipped(&self) -> bool
+        ensures { result ≡ sheets.is_skipped self.now }
+    {
+        values::is_blank(self.as_slice())
+            || (self.columns(7, 7) == b"*".as_slice() && !self.begins_data())
+    }
+
+    /// Whether it must have a form type.
+    pub(crate) fn is_sheet(&self) -> bool
+        ensures { result ≡ sheets.is_sheet self.now }
+    {
+        !(self.ends_source() || self.is_skipped())
+    }
+
+    pub(crate) fn form_type(&self) -> Option<FormType>
+        ensures { result ≡ sheets.form_type self.now }
+    {
+        if self.begins_data() {
+            return None;
+        }
+        form_type_of(self.columns(6, 6))
+    }
+
+    /// The sheet that the card is on: none where it is skipped or ends the source.
+    pub fn sheet(&self) -> Option<FormType>
+        ensures { result ≡ sheets.sheet_of self.now }
+    {
+        if self.is_sheet() {
+            self.form_type()
+        } else {
+            None
+        }
+    }
+
+    /// What is wrong with its form type and its columns, behind a sheet at place `latest`.
+    pub(crate) fn code(&self, latest: u8) -> Option<SheetCode>
+        ensures { result ≡ sheet_code latest self.now }
+    {
+        if !self.is_sheet() {
+            return None;
+        }
+        let Some(sheet) = self.form_type() else {
+            return Some(SheetCode::S3);
+        };
+        if sheet.place() < latest {
+            Some(SheetCode::S4)
+        } else if has_bad_column(sheet, self) {
+            Some(SheetCode::S5)
+        } else {
+            None
+        }
+    }
+}
+
+fn form_type_of(text: &[u8]) -> Option<FormType>
+    ensures { result ≡ sheets.form_type_of text.now }
+{
+    if text == b"H".as_slice() {
+        Some(FormType::Header)
+    } else if text == b"F".as_slice() {
+        Some(FormType::File)
+    } else if text == b"I".as_slice() {
+        Some(FormType::Input)
+    } else if text == b"C".as_slice() {
+        Some(FormType::Calculation)
+    } else if text == b"O".as_slice() {
+        Some(FormType::Output)
+    } else {
+        None
+    }
+}
+
+/// Whether some columns of a card on this sheet have a bad value.
+fn has_bad_column(sheet: FormType, card: &Card) -> bool
+    ensures { result ≡ sheets.has_bad_column sheet card.now }
+{
+    match sheet {
+        FormType::Header => card.h().is_err(),
+        FormType::File => card.f().is_err(),
+        FormType::Input => card.i().is_err(),
+        FormType::Calculation => card.c().is_err(),
+        FormType::Output => card.o().is_err(),
+    }
+}
