@@ -2,14 +2,18 @@
 #![tactic(auto)]
 
 
+mod code;
 mod form;
 
+mod how;
 mod mark;
 mod paper;
 mod suppression;
+mod word;
 
 
 
+pub use code::{EditCode, Ending, Fill};
 pub use form::{Form, NoMemory};
-
-
+pub use how::{How, edit, width};
+pub use word::{EditFault, EditWord};

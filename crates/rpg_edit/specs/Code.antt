@@ -1,0 +1,91 @@
+-- Edit codes, and numbers without one.
+use Rattle.std.specs.Prelude.{◌≡◌, ℕ, zero, suc, ◌-◌, ◌%◌, max, Bool, true, false, not, ◌&&◌, List, [], ◌∷◌, ◌++◌, replicate, ℤ, Option, Some, None, if◌then◌else◌, nat_lt, nat_le, ◌==◌, unsigned_abs}
+use Rattle.rpg_edit.specs.declared.mark.Mark.{Mark}
+use Rattle.rpg_edit.specs.declared.mark.Mark.TheVariants.{Digit, Zone, Insert, Sign}
+use Rattle.rpg_edit.specs.declared.code.Ending.{Ending}
+use Rattle.rpg_edit.specs.declared.code.Ending.TheVariants.{Unsigned, Credit, Minus}
+use Rattle.rpg_edit.specs.declared.code.Fill.{Fill}
+use Rattle.rpg_edit.specs.declared.code.Fill.TheVariants.{Blank, Star, Dollar}
+use Rattle.rpg_edit.specs.declared.code.EditCode.{EditCode}
+use Rattle.rpg_edit.specs.declared.code.EditCode.TheVariants.{Money, X, Y, Z}
+use Rattle.rpg_edit.specs.Edited.{text_of, with_dollar}
+
+-- a comma before a full group of three, where a digit stands before it
+abbrev pub comma_marks : Bool → ℕ → List Mark
+comma_marks commas left = if commas && nat_lt 0 left && (left % 3 == 0) then Insert 44 ∷ [] else []
+
+-- i digits, with their commas where commas are on
+abbrev pub whole_marks : Bool → ℕ → List Mark
+whole_marks commas zero = []
+whole_marks commas (suc left) = (Digit ∷ comma_marks commas left) ++ whole_marks commas left
+
+-- a point and the decimals, where there are any
+abbrev pub decimal_marks : ℕ → List Mark
+decimal_marks zero = []
+decimal_marks (suc d) = Insert 46 ∷ replicate (suc d) Digit
+
+abbrev pub ending_marks : Ending → List Mark
+ending_marks Unsigned = []
+ending_marks Credit = Sign 67 ∷ Sign 82 ∷ []
+ending_marks Minus = Sign 45 ∷ []
+
+-- a floating dollar sign has a place more
+abbrev pub dollar_marks : Fill → List Mark
+dollar_marks Blank = []
+dollar_marks Star = []
+dollar_marks Dollar = Digit ∷ []
+
+-- two, two and two digits between slashes
+abbrev pub date_marks : List Mark
+date_marks = Digit ∷ Digit ∷ Insert 47 ∷ Digit ∷ Digit ∷ Insert 47 ∷ Digit ∷ Digit ∷ []
+
+abbrev pub code_marks : EditCode → Fill → ℕ → ℕ → List Mark
+code_marks (Money commas zeros ending) fill len dec = dollar_marks fill ++ whole_marks commas (len - dec) ++ decimal_marks dec ++ ending_marks ending
+code_marks X fill len dec = replicate len Digit
+code_marks Y fill len dec = date_marks
+code_marks Z fill len dec = replicate len Digit
+
+-- how many of the last digits always show: the decimals, or the last digit where there are none, and none in a blank zero
+abbrev pub sure_digits : EditCode → ℕ → ℕ → ℕ → ℕ
+sure_digits (Money commas zeros ending) len dec size = if (size == 0) && not zeros then 0 else max dec 1
+sure_digits X len dec size = len
+sure_digits Y len dec size = 5
+sure_digits Z len dec size = 0
+
+-- what stands for what is suppressed
+abbrev pub fill_of : Fill → ℕ
+fill_of Blank = 32
+fill_of Star = 42
+fill_of Dollar = 32
+
+abbrev pub dollar_in : Fill → List ℕ → List ℕ
+dollar_in Blank text = text
+dollar_in Star text = text
+dollar_in Dollar text = with_dollar text
+
+-- the text of n by a code
+abbrev pub coded : ℤ → ℕ → ℕ → EditCode → Fill → List ℕ
+coded n len dec code fill = dollar_in fill (text_of n (sure_digits code len dec (unsigned_abs n)) (fill_of fill) (code_marks code fill len dec))
+
+-- without a code every digit shows, the last one under the sign
+abbrev pub plain_marks : ℕ → List Mark
+plain_marks len = replicate (len - 1) Digit ++ Zone ∷ []
+
+-- the zoned text of n
+abbrev pub plain : ℤ → ℕ → List ℕ
+plain n len = text_of n len 32 (plain_marks len)
+
+-- the table of codes: the first two of a row of four have commas, the first and the third print zeros
+abbrev pub money : ℕ → Ending → EditCode
+money k ending = Money (nat_lt k 2) (k % 2 == 0) ending
+
+abbrev pub is_between : ℕ → ℕ → ℕ → Bool
+is_between low high c = nat_le low c && nat_le c high
+
+-- the code of a character: 1 to 4, A to D, J to M, X, Y, Z
+abbrev pub code_of : ℕ → Option EditCode
+code_of c =
+    if is_between 49 52 c then Some (money (c - 49) Unsigned)
+    else (if is_between 65 68 c then Some (money (c - 65) Credit)
+    else (if is_between 74 77 c then Some (money (c - 74) Minus)
+    else (if c == 88 then Some X else (if c == 89 then Some Y else (if c == 90 then Some Z else None)))))
