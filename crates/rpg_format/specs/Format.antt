@@ -27,15 +27,6 @@ fault_at bytes c = record { left = length bytes; code = c }
 abbrev pub ends_early : Fault
 ends_early = record { left = 0; code = CutShort }
 
--- What a function returned, seen by view, is what reading gives, unless memory ran out.
-abbrev pub Fails : {Y : Type 0} → ReadFault → Result Y Fault → Type 0
-Fails faults.NoMemory read = Unit {0}
-Fails (faults.At f) read = read ≡ Err f
-
-abbrev pub Gives : {X Y : Type 0} → (X → Y) → Result X ReadFault → Result Y Fault → Type 0
-Gives view (Ok x) read = read ≡ Ok (view x)
-Gives view (Err e) read = Fails e read
-
 -- ---- numbers. A rule takes a number to the value that it stands for, or to its fault; a code takes it back.
 
 -- the value that was read, or the fault of the number that stands at the front of these bytes

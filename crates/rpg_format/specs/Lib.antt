@@ -1,2 +1,3 @@
 pub mod Format
 pub mod Numbers
+pub mod Reading

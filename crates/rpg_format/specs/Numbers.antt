@@ -46,8 +46,11 @@ byte_where test = byte (allowed test) (λ n. n)
 abbrev pub one_of : {K : Type 0} → List K → (K → ℕ) → Format K
 one_of ks number = byte (choice ks number) number
 
+abbrev pub flag : ℕ → Result Bool Code
+flag = choice (false ∷ true ∷ []) flag_number
+
 abbrev pub yes_or_no : Format Bool
-yes_or_no = one_of (false ∷ true ∷ []) flag_number
+yes_or_no = byte flag flag_number
 
 -- a count of rows
 abbrev pub count : ℕ → Format ℕ

@@ -4,4 +4,3 @@
 
 pub mod fault;
 pub mod number;
-pub mod table;

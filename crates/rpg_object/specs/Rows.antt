@@ -3,17 +3,17 @@ use Rattle.std.specs.Prelude.{◌≡◌, ℕ, zero, suc, ◌+◌, ◌-◌, ◌*�
 use Rattle.std.specs.Str.{bytes_eq}
 use Rattle.rpg_decimal.specs.Zoned.{number_in, zoned_text}
 use Rattle.rpg_effect.specs.declared.form.Class.{Class}
-use Rattle.rpg_effect.specs.declared.form.Class.TheVariants as classes
+use Rattle.rpg_effect.specs.declared.form.Class.TheVariants as class
 use Rattle.rpg_effect.specs.declared.form.Form.{Form}
 use Rattle.rpg_effect.specs.declared.form.Kind.{Kind}
-use Rattle.rpg_effect.specs.declared.form.Kind.TheVariants as kinds
+use Rattle.rpg_effect.specs.declared.form.Kind.TheVariants as kind
 use Rattle.rpg_effect.specs.declared.line.Condition.{Condition}
 use Rattle.rpg_effect.specs.declared.line.File.{File}
 use Rattle.rpg_effect.specs.declared.line.File.TheVariants.{Printer, Disk}
 use Rattle.rpg_effect.specs.declared.line.LineField.{LineField}
 use Rattle.rpg_effect.specs.declared.line.Moves.{Moves}
 use Rattle.rpg_effect.specs.declared.line.Time.{Time}
-use Rattle.rpg_effect.specs.declared.line.Time.TheVariants as times
+use Rattle.rpg_effect.specs.declared.line.Time.TheVariants as time
 use Rattle.rpg_effect.specs.declared.operation.Action.{Action}
 use Rattle.rpg_effect.specs.declared.operation.Action.TheVariants as actions
 use Rattle.rpg_effect.specs.declared.operation.Instruction.{Instruction}
@@ -53,15 +53,26 @@ unused_number = only_number 0 Unused
 -- ---- fields, 8 bytes
 
 abbrev pub kind_number : Kind → ℕ
-kind_number kinds.Number = 1
-kind_number kinds.Text = 2
+kind_number kind.Number = 1
+kind_number kind.Text = 2
 
 abbrev pub class_number : Class → ℕ
-class_number classes.Plain = 0
-class_number classes.Array = 1
-class_number classes.Table = 2
-class_number classes.Constant = 3
-class_number classes.Date = 4
+class_number class.Plain = 0
+class_number class.Array = 1
+class_number class.Table = 2
+class_number class.Constant = 3
+class_number class.Date = 4
+
+-- the kinds that fields have so far
+abbrev pub kind_of : ℕ → Result Kind Code
+kind_of = choice (kind.Number ∷ []) kind_number
+
+abbrev pub class_of : ℕ → Result Class Code
+class_of = choice (class.Plain ∷ []) class_number
+
+-- in no sequence yet
+abbrev pub sequence_of : ℕ → Result Bool Code
+sequence_of = choice (false ∷ []) flag_number
 
 -- at most 9, and no more than digits
 abbrev pub is_decimals : ℕ → ℕ → Bool
@@ -76,11 +87,11 @@ unfoldable pub field : ℕ → Format Form
 field storage = row
     (λ p. record { kind = p.0; class = p.1.0; length = p.1.1.0; decimals = p.1.1.1.0; is_ascending = p.1.1.1.1.0; entries = p.1.1.1.1.1 })
     (λ f. (f.kind, (f.class, (f.length, (f.decimals, (f.is_ascending, f.entries))))))
-    (pair (one_of (kinds.Number ∷ []) kind_number) (λ kind.
-    pair (one_of (classes.Plain ∷ []) class_number) (λ class.
+    (pair (byte kind_of kind_number) (λ k.
+    pair (byte class_of class_number) (λ c.
     pair (number_where (is_between 1 15)) (λ len.
     pair (byte_where (is_decimals len)) (λ decimals.
-    pair (one_of (false ∷ []) flag_number) (λ is_ascending.
+    pair (byte sequence_of flag_number) (λ is_ascending.
     two_bytes (entries_within len storage) (λ n. n)))))))
 
 -- a field takes its bytes from the storage that is left
@@ -92,15 +103,19 @@ fields n = times_with field storage_after n 65535
 
 -- ---- first values
 
--- what is read of a number's text: the number, where the text is the one that is written for it
-abbrev pub as_written : List ℕ → Option ℤ → Result Value Code
+-- the number that a text was read as, where the text is the one that is written for it
+abbrev pub as_written : List ℕ → Option ℤ → Result ℤ Code
 as_written text None = Err NotAllowed
-as_written text (Some n) = if bytes_eq text (zoned_text (length text) n) then Ok (Number n) else Err NotAllowed
+as_written text (Some n) = if bytes_eq text (zoned_text (length text) n) then Ok n else Err NotAllowed
+
+abbrev pub as_value : Result ℤ Code → Result Value Code
+as_value (Ok n) = Ok (Number n)
+as_value (Err c) = Err c
 
 abbrev pub read_value : ℕ → List ℕ → Result (Value × List ℕ) Fault
 read_value len bytes =
     if nat_lt (length bytes) len then Err ends_early
-    else ruled bytes (drop len bytes) (as_written (take len bytes) (number_in (take len bytes)))
+    else ruled bytes (drop len bytes) (as_value (as_written (take len bytes) (number_in (take len bytes))))
 
 abbrev pub value_text : ℕ → Value → List ℕ
 value_text len (Number n) = zoned_text len n
@@ -170,10 +185,16 @@ file_number Printer = 1
 file_number Disk = 2
 
 abbrev pub time_number : Time → ℕ
-time_number times.Heading = 1
-time_number times.Detail = 2
-time_number times.Total = 3
-time_number times.Exception = 4
+time_number time.Heading = 1
+time_number time.Detail = 2
+time_number time.Total = 3
+time_number time.Exception = 4
+
+abbrev pub file_of : ℕ → Result File Code
+file_of = choice (Printer ∷ []) file_number
+
+abbrev pub time_of : ℕ → Result Time Code
+time_of = choice (time.Detail ∷ []) time_number
 
 -- N, and an indicator
 unfoldable pub condition : Format Condition
@@ -213,7 +234,7 @@ LineParts = File × (Time × (ℕ × (ℕ × (ℕ × (ℕ × (ℕ × (ℕ × (Un
 -- file, time, spaces, skips, counts of alternatives and fields, 0, and these
 unfoldable pub line_parts : Format LineParts
 line_parts =
-    pair (one_of (Printer ∷ []) file_number) (λ file. pair (one_of (times.Detail ∷ []) time_number) (λ time.
+    pair (byte file_of file_number) (λ f. pair (byte time_of time_number) (λ t.
     pair (fixed 0) (λ space_before. pair (fixed 1) (λ space_after. pair (fixed 0) (λ skip_before. pair (fixed 0) (λ skip_after.
     pair (two_bytes alternative_count (λ n. n)) (λ alternatives. pair (count 200) (λ line_fields. pair unused_number (λ nothing.
     pair (table alternatives alternative) (λ as_. table line_fields line_field))))))))))
@@ -230,6 +251,9 @@ abbrev pub operation_number : Operation → ℕ
 operation_number op.Add = 1
 operation_number op.ZeroAdd = 5
 
+abbrev pub operation_of : ℕ → Result Operation Code
+operation_of = choice (op.Add ∷ op.ZeroAdd ∷ []) operation_number
+
 -- Z-ADD has no factor 1
 abbrev pub has_factor1 : Operation → Bool
 has_factor1 op.Add = true
@@ -240,12 +264,17 @@ abbrev pub used : Bool → ℕ → Result ℕ Code
 used true n = Ok n
 used false n = if n == 0 then Ok n else Err Unused
 
+-- the fault of an index: there are none yet
+abbrev pub index_code : Bool → Code
+index_code true = NotAllowed
+index_code false = Unused
+
 -- a field and no index; 0 where the operation has no such operand
 unfoldable pub operand : Bool → Format ℕ
 operand is_used = row
     (λ p. p.0)
     (λ n. (n, tt))
-    (pair (two_bytes (used is_used) (λ n. n)) (λ f. only_number 0 (if is_used then NotAllowed else Unused)))
+    (pair (two_bytes (used is_used) (λ n. n)) (λ f. only_number 0 (index_code is_used)))
 
 abbrev pub InstructionParts : Type 0
 InstructionParts = Operation × (Unit {0} × (ℕ × (ℕ × (ℕ × (Unit {0} × (Unit {0} × (Unit {0} × (Unit {0} × Unit {0}))))))))
@@ -267,7 +296,7 @@ unfoldable pub instruction : Format (Instruction ℕ)
 instruction = row
     (λ p. Act (action_of p.0 p.1.1.0 p.1.1.1.0 p.1.1.1.1.0))
     numbers_of
-    (pair (one_of (op.Add ∷ op.ZeroAdd ∷ []) operation_number) (λ o.
+    (pair (byte operation_of operation_number) (λ o.
     pair no_byte (λ half.
     pair (operand (has_factor1 o)) (λ factor1. pair (operand true) (λ factor2. pair (operand true) (λ res.
     pair no_byte (λ first. pair no_byte (λ second. pair no_byte (λ third.

@@ -1,0 +1,42 @@
+-- Loops that read or write rows: what was done, and what is still to do.
+use Rattle.std.proofs.Common.{◌≡◌, ℕ, zero, suc, ◌+◌, ◌-◌, ◌<◌, ◌≤◌, List, [], ◌∷◌, ◌++◌, length, get_or, take, drop, Result, Ok, Err, refl, sym, ap, ◌∙◌, append_assoc, append-nil, arith, drop-cons, add-one}
+use Rattle.rpg_format.specs.declared.fault.Fault.{Fault}
+use Rattle.rpg_format.specs.declared.fault.ReadFault.{ReadFault}
+use Rattle.rpg_format.specs.declared.fault.ReadFault.TheVariants as faults
+use Rattle.rpg_format.specs.Format.{◌>>=◌, listed, read_times, spelled_along}
+use Rattle.rpg_format.specs.Reading.{Fails}
+
+abbrev pub in_front : {X : Type 0} → List X → List X × List ℕ → Result (List X × List ℕ) Fault
+in_front front x = Ok (front ++ x.0, x.1)
+
+-- what was read before, and what is still read
+abbrev pub with_front : {X : Type 0} → List X → Result (List X × List ℕ) Fault → Result (List X × List ℕ) Fault
+with_front front read = read >>= in_front front
+
+regroup : {X : Type 0} (front : List X) (x : X) (read : Result (List X × List ℕ) Fault) → with_front front (read >>= listed x) ≡ with_front (front ++ x ∷ []) read
+regroup {X} front x (Ok y) = ap (λ (xs : List X). Ok (xs, y.1)) (simp append_assoc)
+regroup front x (Err f) = refl
+
+pub goes_on : {S X : Type 0} (read : S → List ℕ → Result (X × List ℕ) Fault) (next : S → X → S) (front : List X) (count i : ℕ) (s : S) (bytes : List ℕ) (x : X) (after : List ℕ) (total : Result (List X × List ℕ) Fault) → i < count → read s bytes ≡ Ok (x, after)
+    → with_front front (read_times read next (count - i) s bytes) ≡ total → with_front (front ++ x ∷ []) (read_times read next (count - (i + 1)) (next s x) after) ≡ total
+unfolding read_times
+goes_on read next front count i s bytes x after total lt h so_far =
+    let k : count - i ≡ suc (count - (i + 1)) = omega arith in
+    let one : with_front front (read_times read next (count - i) s bytes) ≡ with_front (front ++ x ∷ []) (read_times read next (count - (i + 1)) (next s x) after) = rw (k, h) (regroup front x (read_times read next (count - (i + 1)) (next s x) after)) in
+    sym one ∙ so_far
+
+pub ends : {S X : Type 0} (e : ReadFault) (read : S → List ℕ → Result (X × List ℕ) Fault) (next : S → X → S) (front : List X) (count i : ℕ) (s : S) (bytes : List ℕ) (total : Result (List X × List ℕ) Fault) → i < count → Fails e (read s bytes)
+    → with_front front (read_times read next (count - i) s bytes) ≡ total → Fails e total
+unfolding read_times
+ends faults.NoMemory read next front count i s bytes total lt h so_far = tt
+ends (faults.At f) read next front count i s bytes total lt h so_far =
+    let k : count - i ≡ suc (count - (i + 1)) = omega arith in
+    let one : with_front front (read_times read next (count - i) s bytes) ≡ Err f = rw (k, h) refl in
+    sym so_far ∙ one
+
+pub is_done : {S X : Type 0} (read : S → List ℕ → Result (X × List ℕ) Fault) (next : S → X → S) (front : List X) (count i : ℕ) (s : S) (bytes : List ℕ) (total : Result (List X × List ℕ) Fault) → count ≤ i → with_front front (read_times read next (count - i) s bytes) ≡ total → total ≡ Ok (front, bytes)
+unfolding read_times
+is_done {S} {X} read next front count i s bytes total le so_far =
+    let k : count - i ≡ 0 = omega arith in
+    let one : with_front front (read_times read next (count - i) s bytes) ≡ Ok (front, bytes) = rw k (ap (λ (xs : List X). Ok (xs, bytes)) (append-nil front)) in
+    sym so_far ∙ one

@@ -1,0 +1,114 @@
+//! Record types, with the columns that they move.
+
+ghost use Rattle.std.specs.Prelude.{◌≡◌, ◌++◌, map, OnOk};
+ghost use Rattle.rpg_format.specs.Format.{keep, read_byte, spelled_along, table};
+ghost use Rattle.rpg_format.specs.Reading.{Gives};
+ghost use Rattle.rpg_object.specs.Object.{type_row};
+ghost use Rattle.rpg_object.specs.Rows.{indicator_number, indicator_of, move_row, record_type};
+
+use std::alloc::{AllocError, Global};
+
+use rpg_format::fault::{Code, ReadFault};
+use rpg_format::number::{any_number_at, byte_at, count_at, high, low, only_byte_at, only_number_at};
+
+use crate::row::{Move, RecordType};
+use crate::table::{Row, put_rows, rows_at};
+
+fn indicator_of(n: u8) -> Result<Option<u8>, Code>
+    ensures { result ≡ indicator_of n }
+{
+    match n {
+        0 => Ok(None),
+        1..=129 => Ok(Some(n)),
+        _ => Err(Code::NotAllowed),
+    }
+}
+
+fn indicator_number(indicator: Option<u8>) -> u8
+    ensures { result ≡ indicator_number indicator }
+{
+    match indicator {
+        None => 0,
+        Some(n) => n,
+    }
+}
+
+#[tactic(auto, unfolding(rpg_format::specs::Format::read_byte))]
+fn indicator_at(bytes: &[u8]) -> Result<(Option<u8>, &[u8]), ReadFault>
+    ensures { Gives (λ x. (x.0, x.1.now)) result (read_byte indicator_of bytes.now) }
+{
+    byte_at(bytes, |n| indicator_of(n))
+}
+
+#[tactic(auto, unfolding(rpg_format::specs::Format::byte, rpg_format::specs::Format::two_bytes, rpg_format::specs::Format::pair, rpg_format::specs::Format::row, crate::specs::Rows::move_row))]
+fn move_at(bytes: &[u8]) -> Result<(Move, &[u8]), ReadFault>
+    ensures { Gives (λ x. (x.0, x.1.now)) result (move_row.reading bytes.now) }
+{
+    let (from, rest) = any_number_at(bytes)?;
+    let (to, rest) = any_number_at(rest)?;
+    let (field, rest) = any_number_at(rest)?;
+    let ((), rest) = only_byte_at(rest, 0, Code::NotAllowed)?;
+    let ((), rest) = only_byte_at(rest, 0, Code::NotAllowed)?;
+    let ((), rest) = only_byte_at(rest, 0, Code::NotAllowed)?;
+    let ((), rest) = only_byte_at(rest, 0, Code::Unused)?;
+    Ok((Move { from, to, field }, rest))
+}
+
+impl Row for Move {
+    ghost read = { move_row.reading };
+
+    ghost spell = { move_row.spelling };
+
+    fn read_row(bytes: &[u8]) -> Result<(Self, &[u8]), ReadFault> {
+        move_at(bytes)
+    }
+
+    #[tactic(auto, unfolding(rpg_format::specs::Format::byte, rpg_format::specs::Format::two_bytes, rpg_format::specs::Format::pair, rpg_format::specs::Format::row, crate::specs::Rows::move_row))]
+    fn put_row(&self, out: &mut Vec<u8>) -> Result<(), AllocError> {
+        let row = [
+            high(self.from),
+            low(self.from),
+            high(self.to),
+            low(self.to),
+            high(self.field),
+            low(self.field),
+            0,
+            0,
+            0,
+            0,
+        ];
+        out.extend_from_slice(&row)?;
+        Ok(())
+    }
+}
+
+#[tactic(auto, unfolding(rpg_format::specs::Format::byte, rpg_format::specs::Format::two_bytes, rpg_format::specs::Format::pair, rpg_format::specs::Format::row, rpg_format::specs::Format::times_with, crate::specs::Rows::type_parts, crate::specs::Rows::record_type))]
+fn record_type_at(alloc: Global, bytes: &[u8]) -> Result<(RecordType, &[u8]), ReadFault>
+    ensures { Gives (λ x. (type_row x.0, x.1.now)) result (record_type.reading bytes.now) }
+{
+    let (indicator, rest) = indicator_at(bytes)?;
+    let ((), rest) = only_byte_at(rest, 0, Code::Unused)?;
+    let ((), rest) = only_number_at(rest, 0, Code::PastLimit)?;
+    let ((), rest) = only_number_at(rest, 0, Code::PastLimit)?;
+    let (count, rest) = count_at(rest, 500)?;
+    let (moves, rest) = rows_at(alloc, count, rest)?;
+    Ok((RecordType { indicator, moves }, rest))
+}
+
+/// Reads so many record types.
+pub fn record_types_at(
+    alloc: Global,
+    count: u16,
+    bytes: &[u8],
+) -> Result<(Vec<RecordType>, &[u8]), ReadFault>
+    ensures { Gives (λ x. (map type_row x.0.items, x.1.now)) result ((table count record_type).reading bytes.now) }
+{
+    let mut types = Vec::new(alloc);
+    let mut rest = bytes;
+    for _ in 0..count {
+        let (record_type, after) = record_type_at(alloc, rest)?;
+        types.push(record_type)?;
+        rest = after;
+    }
+    Ok((types, rest))
+}

@@ -1,0 +1,51 @@
+//! Tables: rows of one format, one behind the other.
+
+ghost use Rattle.std.specs.Prelude.{◌≡◌, ℕ, List, ◌++◌, Result, OnOk};
+ghost use Rattle.rpg_format.specs.declared.fault.Fault.{Fault};
+ghost use Rattle.rpg_format.specs.Format.{keep, read_times, spelled_along};
+ghost use Rattle.rpg_format.specs.Reading.{Gives};
+
+use std::alloc::{AllocError, Global};
+
+use rpg_format::fault::ReadFault;
+
+/// A row that is read the same way wherever it stands.
+pub trait Row: Copy {
+    ghost read: { List ℕ → Result (Self × List ℕ) Fault };
+
+    ghost spell: { Self → List ℕ };
+
+    fn read_row(bytes: &[u8]) -> Result<(Self, &[u8]), ReadFault>
+        ensures { Gives (λ x. (x.0, x.1.now)) result (read bytes.now) };
+
+    fn put_row(&self, out: &mut Vec<u8>) -> Result<(), AllocError>
+        ensures { OnOk result (out.new.items ≡ out.old.items ++ spell self.now) };
+}
+
+/// Reads so many rows.
+pub fn rows_at<T: Row>(
+    alloc: Global,
+    count: u16,
+    bytes: &[u8],
+) -> Result<(Vec<T>, &[u8]), ReadFault>
+    ensures { Gives (λ x. (x.0.items, x.1.now)) result (read_times (λ s b. T.read b) keep count tt bytes.now) }
+{
+    let mut rows = Vec::new(alloc);
+    let mut rest = bytes;
+    for _ in 0..count {
+        let (row, after) = T::read_row(rest)?;
+        rows.push(row)?;
+        rest = after;
+    }
+    Ok((rows, rest))
+}
+
+/// Writes the rows behind what is there.
+pub fn put_rows<T: Row>(rows: &[T], out: &mut Vec<u8>) -> Result<(), AllocError>
+    ensures { OnOk result (out.new.items ≡ out.old.items ++ spelled_along (λ s x. T.spell x) keep tt rows.now) }
+{
+    for row in rows {
+        row.put_row(out)?;
+    }
+    Ok(())
+}
