@@ -11,11 +11,11 @@ use Rattle.rpg_edit.specs.declared.code.Ending.TheVariants.{Unsigned, Credit, Mi
 use Rattle.rpg_edit.specs.declared.code.Fill.{Fill}
 use Rattle.rpg_edit.specs.declared.code.Fill.TheVariants.{Blank, Star, Dollar}
 use Rattle.rpg_edit.specs.declared.code.EditCode.{EditCode}
-use Rattle.rpg_edit.specs.declared.code.EditCode.TheVariants.{Money, X, Y, Z}
+use Rattle.rpg_edit.specs.declared.code.EditCode.TheVariants.{Combination, X, Y, Z}
 use Rattle.rpg_edit.specs.declared.how.How.{How}
 use Rattle.rpg_edit.specs.declared.how.How.TheVariants.{Plain, Code, Word}
 use Rattle.rpg_edit.specs.Edited.{is_place, places, character, characters, text_of, IsTextOf}
-use Rattle.rpg_edit.specs.Code.{comma_marks, whole_marks, decimal_marks, ending_marks, dollar_marks, code_marks, sure_digits, fill_of, dollar_in, plain_marks}
+use Rattle.rpg_edit.specs.Code.{comma_marks, whole_marks, decimal_marks, ending_marks, dollar_marks, code_marks, kept_digits, fill_of, dollar_in, plain_marks}
 use Rattle.rpg_edit.specs.Word.{digits_behind_stop, word_fill, word_marks}
 use Rattle.rpg_edit.specs.How.{edited, IsEdited, IsFitCode}
 
@@ -64,7 +64,7 @@ pub record HasDigits (len : ℕ) (marks : List Mark) : Type 0 where
   pub one_more : places marks ≤ len + 1
 
 pub code_digits : (code : EditCode) (fill : Fill) (len dec : ℕ) → dec ≤ len → IsFitCode len dec code fill → HasDigits len (code_marks code fill len dec)
-code_digits (Money commas zeros ending) fill len dec within fit =
+code_digits (Combination commas zeros ending) fill len dec within fit =
     let dollar = places-dollar fill in
     let whole = places-whole commas (len - dec) in
     let decimals = places-decimals dec in
@@ -83,37 +83,37 @@ fits_more size len count more fits =
     let grows : 10 ^ len ≤ 10 ^ count = pow-le-pow_right (omega arith) more in
     omega arith
 
-length-characters : (negative : Bool) (size sure fill : ℕ) (marks : List Mark) → length (characters negative size sure fill marks) ≡ length marks
-length-characters negative size sure fill [] = refl
-length-characters negative size sure fill (m ∷ rest) = ap suc (length-characters negative size sure fill rest)
+length-characters : (negative : Bool) (size kept fill : ℕ) (marks : List Mark) → length (characters negative size kept fill marks) ≡ length marks
+length-characters negative size kept fill [] = refl
+length-characters negative size kept fill (m ∷ rest) = ap suc (length-characters negative size kept fill rest)
 
-get_or-characters : (negative : Bool) (size sure fill : ℕ) (marks : List Mark) (i : ℕ) → i < length marks → get_or (characters negative size sure fill marks) i 0 ≡ character negative size sure fill (get_or marks i Digit) (places (drop (suc i) marks))
-get_or-characters negative size sure fill [] i within = absurd (omega arith)
-get_or-characters negative size sure fill (m ∷ rest) zero within = refl
-get_or-characters negative size sure fill (m ∷ rest) (suc i) within = get_or-characters negative size sure fill rest i (omega arith)
+get_or-characters : (negative : Bool) (size kept fill : ℕ) (marks : List Mark) (i : ℕ) → i < length marks → get_or (characters negative size kept fill marks) i 0 ≡ character negative size kept fill (get_or marks i Digit) (places (drop (suc i) marks))
+get_or-characters negative size kept fill [] i within = absurd (omega arith)
+get_or-characters negative size kept fill (m ∷ rest) zero within = refl
+get_or-characters negative size kept fill (m ∷ rest) (suc i) within = get_or-characters negative size kept fill rest i (omega arith)
 
 -- the text of the marks is a text by its places
-pub text_is : (n : ℤ) (sure fill : ℕ) (marks : List Mark) → IsTextOf n sure fill marks (text_of n sure fill marks)
-text_is n sure fill marks = record {
-  same_length = length-characters _ _ sure fill marks;
-  each = λ i within. get_or-characters _ _ sure fill marks i within
+pub text_is : (n : ℤ) (kept fill : ℕ) (marks : List Mark) → IsTextOf n kept fill marks (text_of n kept fill marks)
+text_is n kept fill marks = record {
+  same_length = length-characters _ _ kept fill marks;
+  each = λ i within. get_or-characters _ _ kept fill marks i within;
 }
 
 -- and there is no other
-pub text_only : (n : ℤ) (sure fill : ℕ) (marks : List Mark) (text : List ℕ) → IsTextOf n sure fill marks text → text ≡ text_of n sure fill marks
-text_only n sure fill marks text is =
-    let own = text_is n sure fill marks in
-    ext_get_or 0 text (text_of n sure fill marks) (is.same_length ∙ sym own.same_length)
-      (λ i within. let inside : i < length marks = omega (arith, is.same_length) in is.each i inside ∙ sym (own.each i inside))
+pub text_only : (n : ℤ) (kept fill : ℕ) (marks : List Mark) (text : List ℕ) → IsTextOf n kept fill marks text → text ≡ text_of n kept fill marks
+text_only n kept fill marks text is =
+    let own = text_is n kept fill marks in
+    ext_get_or 0 text (text_of n kept fill marks) (is.same_length ∙ sym own.same_length)
+    (λ i within. let inside : i < length marks = omega (arith, is.same_length) in is.each i inside ∙ sym (own.each i inside))
 
 pub edited_is : (n : ℤ) (len dec : ℕ) (how : How) → IsEdited n len dec how (edited n len dec how)
 edited_is n len dec Plain = text_is n len 32 (plain_marks len)
 edited_is n len dec (Code code fill) =
-    (text_of n (sure_digits code len dec (unsigned_abs n)) (fill_of fill) (code_marks code fill len dec), text_is n _ _ _, refl)
+    (text_of n (kept_digits code len dec (unsigned_abs n)) (fill_of fill) (code_marks code fill len dec), text_is n _ _ _, refl)
 edited_is n len dec (Word word) = text_is n (digits_behind_stop word) (word_fill word) (word_marks word)
 
 pub edited_only : (n : ℤ) (len dec : ℕ) (how : How) (text : List ℕ) → IsEdited n len dec how text → text ≡ edited n len dec how
 edited_only n len dec Plain text is = text_only n len 32 (plain_marks len) text is
 edited_only n len dec (Code code fill) text is =
-    is.2 ∙ ap (dollar_in fill) (text_only n (sure_digits code len dec (unsigned_abs n)) (fill_of fill) (code_marks code fill len dec) is.0 is.1)
+    is.2 ∙ ap (dollar_in fill) (text_only n (kept_digits code len dec (unsigned_abs n)) (fill_of fill) (code_marks code fill len dec) is.0 is.1)
 edited_only n len dec (Word word) text is = text_only n (digits_behind_stop word) (word_fill word) (word_marks word) text is

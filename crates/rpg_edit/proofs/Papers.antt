@@ -1,8 +1,8 @@
 -- What a paper gains by a further line, and by further lines.
-use Rattle.std.proofs.Common.{◌≡◌, ℕ, ◌+◌, List, [], ◌∷◌, ◌++◌, Option, Some, None, refl, sym, ap, ◌∙◌, rules, append_assoc}
+use Rattle.std.proofs.Common.{◌≡◌, option_map, ℕ, List, [], ◌∷◌, ◌++◌, Option, Some, None, refl, sym, ap, ◌∙◌, rules, append_assoc}
 use Rattle.std.proofs.lemmas.List.{append-nil}
 use Rattle.rpg_edit.specs.Paper.{Position, Placed, trimmed, way, bytes_from, end_from, paper, end_of}
-use Rattle.rpg_edit.specs.Form.{Standing, StandsAt, way_of}
+use Rattle.rpg_edit.specs.Form.{Standing, StandsAt, way_of, FormLine, position_after, placed_after, form_bytes}
 
 -- lines behind lines add what they add to the paper that the first ones end
 pub bytes_from-append : (last : Option Position) (xs ys : List Placed) → bytes_from last (xs ++ ys) ≡ bytes_from last xs ++ bytes_from (end_from last xs) ys
@@ -27,3 +27,12 @@ paper_more form lines here text sent old new s e is =
     ∙ joined sent old (paper lines) (way_of form) (trimmed text) e
     ∙ ap (λ between. paper lines ++ (between ++ trimmed text ++ [])) (sym (way_is form (end_of lines) here s))
     ∙ sym (bytes_from-append None lines (record { at = here; text = text } ∷ []))
+
+-- counting pages from the line before gives the bytes of the positions
+pub form_bytes_are : (previous : Option Position) (xs : List FormLine) → bytes_from previous (placed_after previous xs) ≡ form_bytes (option_map (λ p. p.line) previous) xs
+form_bytes_are previous [] = refl
+form_bytes_are previous (x ∷ xs) =
+    let form : Standing = record { last = option_map (λ p. p.line) previous; begun = x.begun; line = x.line } in
+    let stands : StandsAt form previous (position_after previous x) = record { last_line = refl; page = refl; present_line = refl } in
+    ap (λ between. between ++ trimmed x.text ++ bytes_from (Some (position_after previous x)) (placed_after (Some (position_after previous x)) xs)) (way_is form previous (position_after previous x) stands)
+    ∙ ap (λ bytes. way_of form ++ trimmed x.text ++ bytes) (form_bytes_are (Some (position_after previous x)) xs)

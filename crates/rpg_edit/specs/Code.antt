@@ -1,5 +1,5 @@
 -- Edit codes, and numbers without one.
-use Rattle.std.specs.Prelude.{◌≡◌, ℕ, zero, suc, ◌-◌, ◌%◌, max, Bool, true, false, not, ◌&&◌, List, [], ◌∷◌, ◌++◌, replicate, ℤ, Option, Some, None, if◌then◌else◌, nat_lt, nat_le, ◌==◌, unsigned_abs}
+use Rattle.std.specs.Prelude.{ℕ, zero, suc, ◌-◌, ◌%◌, max, Bool, not, ◌&&◌, List, [], ◌∷◌, ◌++◌, replicate, ℤ, Option, Some, None, if◌then◌else◌, nat_lt, nat_le, ◌==◌, unsigned_abs}
 use Rattle.rpg_edit.specs.declared.mark.Mark.{Mark}
 use Rattle.rpg_edit.specs.declared.mark.Mark.TheVariants.{Digit, Zone, Insert, Sign}
 use Rattle.rpg_edit.specs.declared.code.Ending.{Ending}
@@ -7,7 +7,7 @@ use Rattle.rpg_edit.specs.declared.code.Ending.TheVariants.{Unsigned, Credit, Mi
 use Rattle.rpg_edit.specs.declared.code.Fill.{Fill}
 use Rattle.rpg_edit.specs.declared.code.Fill.TheVariants.{Blank, Star, Dollar}
 use Rattle.rpg_edit.specs.declared.code.EditCode.{EditCode}
-use Rattle.rpg_edit.specs.declared.code.EditCode.TheVariants.{Money, X, Y, Z}
+use Rattle.rpg_edit.specs.declared.code.EditCode.TheVariants.{Combination, X, Y, Z}
 use Rattle.rpg_edit.specs.Edited.{text_of, with_dollar}
 
 -- a comma before a full group of three, where a digit stands before it
@@ -40,17 +40,17 @@ abbrev pub date_marks : List Mark
 date_marks = Digit ∷ Digit ∷ Insert 47 ∷ Digit ∷ Digit ∷ Insert 47 ∷ Digit ∷ Digit ∷ []
 
 abbrev pub code_marks : EditCode → Fill → ℕ → ℕ → List Mark
-code_marks (Money commas zeros ending) fill len dec = dollar_marks fill ++ whole_marks commas (len - dec) ++ decimal_marks dec ++ ending_marks ending
+code_marks (Combination commas zeros ending) fill len dec = dollar_marks fill ++ whole_marks commas (len - dec) ++ decimal_marks dec ++ ending_marks ending
 code_marks X fill len dec = replicate len Digit
 code_marks Y fill len dec = date_marks
 code_marks Z fill len dec = replicate len Digit
 
 -- how many of the last digits always show: the decimals, or the last digit where there are none, and none in a blank zero
-abbrev pub sure_digits : EditCode → ℕ → ℕ → ℕ → ℕ
-sure_digits (Money commas zeros ending) len dec size = if (size == 0) && not zeros then 0 else max dec 1
-sure_digits X len dec size = len
-sure_digits Y len dec size = 5
-sure_digits Z len dec size = 0
+abbrev pub kept_digits : EditCode → ℕ → ℕ → ℕ → ℕ
+kept_digits (Combination commas zeros ending) len dec size = if (size == 0) && not zeros then 0 else max dec 1
+kept_digits X len dec size = len
+kept_digits Y len dec size = 5
+kept_digits Z len dec size = 0
 
 -- what stands for what is suppressed
 abbrev pub fill_of : Fill → ℕ
@@ -65,7 +65,7 @@ dollar_in Dollar text = with_dollar text
 
 -- the text of n by a code
 abbrev pub coded : ℤ → ℕ → ℕ → EditCode → Fill → List ℕ
-coded n len dec code fill = dollar_in fill (text_of n (sure_digits code len dec (unsigned_abs n)) (fill_of fill) (code_marks code fill len dec))
+coded n len dec code fill = dollar_in fill (text_of n (kept_digits code len dec (unsigned_abs n)) (fill_of fill) (code_marks code fill len dec))
 
 -- without a code every digit shows, the last one under the sign
 abbrev pub plain_marks : ℕ → List Mark
@@ -76,8 +76,8 @@ abbrev pub plain : ℤ → ℕ → List ℕ
 plain n len = text_of n len 32 (plain_marks len)
 
 -- the table of codes: the first two of a row of four have commas, the first and the third print zeros
-abbrev pub money : ℕ → Ending → EditCode
-money k ending = Money (nat_lt k 2) (k % 2 == 0) ending
+abbrev pub combination : ℕ → Ending → EditCode
+combination k ending = Combination (nat_lt k 2) (k % 2 == 0) ending
 
 abbrev pub is_between : ℕ → ℕ → ℕ → Bool
 is_between low high c = nat_le low c && nat_le c high
@@ -85,7 +85,7 @@ is_between low high c = nat_le low c && nat_le c high
 -- the code of a character: 1 to 4, A to D, J to M, X, Y, Z
 abbrev pub code_of : ℕ → Option EditCode
 code_of c =
-    if is_between 49 52 c then Some (money (c - 49) Unsigned)
-    else (if is_between 65 68 c then Some (money (c - 65) Credit)
-    else (if is_between 74 77 c then Some (money (c - 74) Minus)
+    if is_between 49 52 c then Some (combination (c - 49) Unsigned)
+    else (if is_between 65 68 c then Some (combination (c - 65) Credit)
+    else (if is_between 74 77 c then Some (combination (c - 74) Minus)
     else (if c == 88 then Some X else (if c == 89 then Some Y else (if c == 90 then Some Z else None)))))

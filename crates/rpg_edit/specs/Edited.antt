@@ -30,27 +30,27 @@ digit_at size k = 48 + size / 10 ^ k % 10
 abbrev pub minus_letter : ℕ → ℕ
 minus_letter digit = if digit == 48 then 125 else digit + 25
 
--- what stands at a mark that k digits follow, where the last `sure` digits always show: a digit, and a character between
+-- what stands at a mark that k digits follow, where the last `kept` digits always show: a digit, and a character between
 -- digits, once a digit that isn't zero has stood, or where so few digits follow, else the fill
 abbrev pub character : Bool → ℕ → ℕ → ℕ → Mark → ℕ → ℕ
-character negative size sure fill Digit k = if is_begun size k || nat_lt k sure then digit_at size k else fill
-character negative size sure fill (Insert c) k = if is_begun size k || nat_le k sure then c else fill
-character negative size sure fill Zone k = if negative then minus_letter (digit_at size k) else digit_at size k
-character negative size sure fill (Always c) k = c
-character negative size sure fill (Sign c) k = if negative then c else 32
+character negative size kept fill Digit k = if is_begun size k || nat_lt k kept then digit_at size k else fill
+character negative size kept fill (Insert c) k = if is_begun size k || nat_le k kept then c else fill
+character negative size kept fill Zone k = if negative then minus_letter (digit_at size k) else digit_at size k
+character negative size kept fill (Always c) k = c
+character negative size kept fill (Sign c) k = if negative then c else 32
 
 abbrev pub characters : Bool → ℕ → ℕ → ℕ → List Mark → List ℕ
-characters negative size sure fill [] = []
-characters negative size sure fill (m ∷ rest) = character negative size sure fill m (places rest) ∷ characters negative size sure fill rest
+characters negative size kept fill [] = []
+characters negative size kept fill (m ∷ rest) = character negative size kept fill m (places rest) ∷ characters negative size kept fill rest
 
 -- the text of n at the marks
 abbrev pub text_of : ℤ → ℕ → ℕ → List Mark → List ℕ
-text_of n sure fill marks = characters (is_negative n) (unsigned_abs n) sure fill marks
+text_of n kept fill marks = characters (is_negative n) (unsigned_abs n) kept fill marks
 
 -- the text by its places: at each, the character of its mark and of the digits that follow
-pub record IsTextOf (n : ℤ) (sure fill : ℕ) (marks : List Mark) (text : List ℕ) : Type 0 where
+pub record IsTextOf (n : ℤ) (kept fill : ℕ) (marks : List Mark) (text : List ℕ) : Type 0 where
   pub same_length : length text ≡ length marks
-  pub each : (i : ℕ) → i < length marks → slice_index text i ≡ character (is_negative n) (unsigned_abs n) sure fill (slice_index_or marks i Digit) (places (drop (suc i) marks))
+  pub each : (i : ℕ) → i < length marks → slice_index text i ≡ character (is_negative n) (unsigned_abs n) kept fill (slice_index_or marks i Digit) (places (drop (suc i) marks))
 
 -- a dollar sign right before the first character that isn't a blank, if there is one
 abbrev pub with_dollar : List ℕ → List ℕ

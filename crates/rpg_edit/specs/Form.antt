@@ -1,6 +1,6 @@
 -- What a form stands for. A form counts pages from the page of the line placed last, so no page number grows without bound.
 use Rattle.std.specs.Prelude.{◌≡◌, ℕ, ◌+◌, ◌-◌, ◌≤◌, List, [], ◌∷◌, ◌++◌, replicate, Option, Some, None, option_map, unwrap_or, if◌then◌else◌, ◌==◌}
-use Rattle.rpg_edit.specs.Paper.{Position, spaced, skipped}
+use Rattle.rpg_edit.specs.Paper.{Position, Placed, spaced, skipped, trimmed}
 
 -- the line placed last on its page, the pages begun since, and the present line
 pub record Standing : Type 0 where
@@ -56,3 +56,22 @@ way_on_page (Some last) line = if line == last then 13 ∷ [] else replicate (li
 -- what brings the paper from the line placed last to the present one
 abbrev pub way_of : Standing → List ℕ
 way_of form = if form.begun == 0 then way_on_page form.last form.line else replicate form.begun 12 ++ replicate (form.line - 1) 10
+
+-- a line as a form places it: the pages begun since the line before, the line, and its text
+pub record FormLine : Type 0 where
+  pub begun : ℕ
+  pub line : ℕ
+  pub text : List ℕ
+
+-- the position of such a line behind a previous one
+abbrev pub position_after : Option Position → FormLine → Position
+position_after previous x = record { page = page_or_1 previous + x.begun; line = x.line }
+
+abbrev pub placed_after : Option Position → List FormLine → List Placed
+placed_after previous [] = []
+placed_after previous (x ∷ xs) = record { at = position_after previous x; text = x.text } ∷ placed_after (Some (position_after previous x)) xs
+
+-- the bytes of such lines behind a line placed last
+abbrev pub form_bytes : Option ℕ → List FormLine → List ℕ
+form_bytes last [] = []
+form_bytes last (x ∷ xs) = way_of (record { last = last; begun = x.begun; line = x.line }) ++ trimmed x.text ++ form_bytes (Some x.line) xs

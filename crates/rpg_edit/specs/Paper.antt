@@ -1,5 +1,5 @@
 -- The printed form: positions, movements and the bytes that a list of placed lines stands for. A page has 66 lines.
-use Rattle.std.specs.Prelude.{◌≡◌, ℕ, ◌+◌, ◌-◌, ◌≤◌, Bool, ◌&&◌, List, [], ◌∷◌, ◌++◌, length, take, replicate, Option, Some, None, if◌then◌else◌, nat_le, ◌==◌}
+use Rattle.std.specs.Prelude.{◌≡◌, ℕ, ◌+◌, ◌-◌, ◌*◌, ◌≤◌, ◌&&◌, List, [], ◌∷◌, ◌++◌, length, take, replicate, Option, Some, None, if◌then◌else◌, nat_le, ◌==◌}
 use Rattle.std.specs.List.{suffix_len}
 
 -- a line of a page, both counted from 1
@@ -14,6 +14,10 @@ pub record Placed : Type 0 where
 
 abbrev pub top_of_paper : Position
 top_of_paper = record { page = 1; line = 1 }
+
+-- the lines of the paper in front of a position and its own line
+abbrev pub lines_to : Position → ℕ
+lines_to p = p.page * 66 + p.line
 
 -- n lines on, 66 to a page
 abbrev pub spaced : ℕ → Position → Position

@@ -23,10 +23,10 @@ pub enum Fill {
     Dollar,
 }
 
-/// An edit code by its columns in the table of codes (this profile): 1 to 4, A to D and J to M are `Money`.
+/// An edit code by its columns in the table of codes (this profile): 1 to 4, A to D and J to M are `Combination`.
 #[derive(Clone, Copy, Debug, PartialEq, Eq)]
 pub enum EditCode {
-    Money {
+    Combination {
         commas: bool,
         zeros: bool,
         ending: Ending,
@@ -50,16 +50,16 @@ impl Fill {
 }
 
 impl EditCode {
-    ghost use Rattle.rpg_edit.specs.Code.{money, code_of, code_marks, sure_digits, fill_of};
+    ghost use Rattle.rpg_edit.specs.Code.{combination, code_of, code_marks, kept_digits, fill_of};
 
     /// The code of a character, where it is one.
     pub fn of(character: u8) -> Option<EditCode>
         ensures { result ≡ code_of character }
     {
         match character {
-            b'1'..=b'4' => Some(EditCode::money(character - b'1', Ending::Unsigned)),
-            b'A'..=b'D' => Some(EditCode::money(character - b'A', Ending::Credit)),
-            b'J'..=b'M' => Some(EditCode::money(character - b'J', Ending::Minus)),
+            b'1'..=b'4' => Some(EditCode::combination(character - b'1', Ending::Unsigned)),
+            b'A'..=b'D' => Some(EditCode::combination(character - b'A', Ending::Credit)),
+            b'J'..=b'M' => Some(EditCode::combination(character - b'J', Ending::Minus)),
             b'X' => Some(EditCode::X),
             b'Y' => Some(EditCode::Y),
             b'Z' => Some(EditCode::Z),
@@ -67,10 +67,10 @@ impl EditCode {
         }
     }
 
-    fn money(column: u8, ending: Ending) -> EditCode
-        ensures { result ≡ money column ending }
+    fn combination(column: u8, ending: Ending) -> EditCode
+        ensures { result ≡ combination column ending }
     {
-        EditCode::Money {
+        EditCode::Combination {
             commas: column < 2,
             zeros: column % 2 == 0,
             ending,
@@ -79,23 +79,19 @@ impl EditCode {
 
     /// What is suppressed in a number of this size.
     pub(crate) fn suppression(self, fill: Fill, len: u8, dec: u8, size: u64) -> Suppression
-        ensures sure { result.sure ≡ sure_digits self len dec size }
+        ensures kept { result.kept ≡ kept_digits self len dec size }
         ensures fill { result.fill ≡ fill_of fill }
     {
-        let sure = match self {
-            EditCode::Money { zeros, .. } => {
-                if size == 0 && !zeros {
-                    0
-                } else {
-                    dec.max(1)
-                }
+        let kept = match self {
+            EditCode::Combination { zeros, .. } => {
+                if size == 0 && !zeros { 0 } else { dec.max(1) }
             }
             EditCode::X => len,
             EditCode::Y => 5,
             EditCode::Z => 0,
         };
         Suppression {
-            sure,
+            kept,
             fill: fill.character(),
         }
     }
@@ -107,7 +103,7 @@ impl EditCode {
     {
         let mut marks = Marks::new();
         match self {
-            EditCode::Money { commas, ending, .. } => {
+            EditCode::Combination { commas, ending, .. } => {
                 push_dollar(&mut marks, fill);
                 push_whole(&mut marks, commas, len - dec);
                 push_decimals(&mut marks, dec);
@@ -199,5 +195,7 @@ pub(crate) fn put_dollar(out: &mut [u8])
 fn leading_blanks(text: &[u8]) -> usize
     ensures { result ≡ prefix_len (λ c. c == 32) text.now }
 {
-    text.iter().take_while(|character| **character == b' ').count()
+    text.iter()
+        .take_while(|character| **character == b' ')
+        .count()
 }

@@ -27,7 +27,9 @@ const PAGE_LINES: u8 = 66;
 const OVERFLOW_LINE: u8 = 60;
 
 const LINE_FEED: u8 = 10;
+
 const FORM_FEED: u8 = 12;
+
 const CARRIAGE_RETURN: u8 = 13;
 
 /// Where the printer's paper stands: the line placed last, the pages begun since, and the present line.
@@ -62,6 +64,13 @@ impl Form {
             begun: 0,
             line: 1,
         }
+    }
+
+    /// The pages begun since a line was placed, or since the first page where none was.
+    pub fn begun(&self) -> u16
+        ensures { result ≡ self.now.begun }
+    {
+        self.begun
     }
 
     /// Moves `lines` lines on. Answers whether this turns the overflow indicator on.
@@ -155,5 +164,13 @@ impl Form {
             Some(last) if last == self.line => append_times(out, CARRIAGE_RETURN, 1),
             Some(last) => append_times(out, LINE_FEED, usize::from(self.line - last)),
         }
+    }
+}
+
+impl Default for Form {
+    ghost is_default = { λ f. f ≡ at_first_line };
+
+    fn default() -> Self {
+        Form::new()
     }
 }

@@ -82,7 +82,7 @@ fn write_plain(n: i64, len: u8, out: &mut [u8])
     ensures { out.new ≡ plain n len }
 {
     let suppression = Suppression {
-        sure: len,
+        kept: len,
         fill: b' ',
     };
     write(n, &plain_marks(len), suppression, out);

@@ -6,7 +6,7 @@ use crate::mark::Mark;
 /// What stands for leading zeros, and how many of the last digits always show.
 #[derive(Clone, Copy, Debug, PartialEq, Eq)]
 pub struct Suppression {
-    pub sure: u8,
+    pub kept: u8,
     pub fill: u8,
 }
 
@@ -65,7 +65,7 @@ impl Pass {
     fn next(&mut self, mark: Mark) -> u8
         requires { IsTrue (is_place mark) → 1 ≤ self.old.left }
         ensures character { result ≡ character self.old.of.negative self.old.of.size
-            self.old.suppression.sure self.old.suppression.fill mark self.new.left }
+            self.old.suppression.kept self.old.suppression.fill mark self.new.left }
         ensures left { self.new.left ≡ (if is_place mark then self.old.left - 1 else self.old.left) }
         ensures of { self.new.of ≡ self.old.of }
         ensures suppression { self.new.suppression ≡ self.old.suppression }
@@ -73,7 +73,7 @@ impl Pass {
         match mark {
             Mark::Digit => {
                 let digit = self.take_digit();
-                if self.begun || self.left < self.suppression.sure {
+                if self.begun || self.left < self.suppression.kept {
                     digit
                 } else {
                     self.suppression.fill
@@ -88,20 +88,14 @@ impl Pass {
                 }
             }
             Mark::Insert(character) => {
-                if self.begun || self.left <= self.suppression.sure {
+                if self.begun || self.left <= self.suppression.kept {
                     character
                 } else {
                     self.suppression.fill
                 }
             }
             Mark::Always(character) => character,
-            Mark::Sign(character) => {
-                if self.of.negative {
-                    character
-                } else {
-                    b' '
-                }
-            }
+            Mark::Sign(character) => { if self.of.negative { character } else { b' ' } }
         }
     }
 }
@@ -117,7 +111,7 @@ pub(crate) fn count_places(marks: &[Mark]) -> u8
 fn write_from(mut pass: Pass, marks: &[Mark], out: &mut [u8])
     requires left { pass.left ≡ places marks.now }
     requires room { length out.old ≡ length marks.now }
-    ensures { out.new ≡ characters pass.of.negative pass.of.size pass.suppression.sure pass.suppression.fill marks.now }
+    ensures { out.new ≡ characters pass.of.negative pass.of.size pass.suppression.kept pass.suppression.fill marks.now }
 {
     for (i, mark) in marks.iter().enumerate() {
         out[i] = pass.next(*mark);
@@ -130,7 +124,7 @@ pub(crate) fn write(n: i64, marks: &[Mark], suppression: Suppression, out: &mut 
     requires short { length marks.now ≤ 24 }
     requires fits { unsigned_abs n < 10 ^ places marks.now }
     requires room { length out.old ≡ length marks.now }
-    ensures { out.new ≡ text_of n suppression.sure suppression.fill marks.now }
+    ensures { out.new ≡ text_of n suppression.kept suppression.fill marks.now }
 {
     let pass = Pass {
         of: Size {

@@ -6,4 +6,4 @@ abbrev pub invariant-loop-i : goal.invariant-loop-i
 invariant-loop-i l =
     let start = l.initial.pass in
     (l.pass.of ≡ start.of) × (l.pass.suppression ≡ start.suppression) × (l.pass.left ≡ places (drop l.i l.marks))
-    × (take l.i l.out ++ characters start.of.negative start.of.size start.suppression.sure start.suppression.fill (drop l.i l.marks) ≡ characters start.of.negative start.of.size start.suppression.sure start.suppression.fill l.marks)
+    × (take l.i l.out ++ characters start.of.negative start.of.size start.suppression.kept start.suppression.fill (drop l.i l.marks) ≡ characters start.of.negative start.of.size start.suppression.kept start.suppression.fill l.marks)

@@ -12,6 +12,7 @@ invariant_of-self c =
     record {
       few = omega arith;
       has_begun = elim c.if-self.branch [
-        then-self w ↦ let begun = ap (λ b. b || not (eqb (digit_at self.of.size (self.left - 1)) 48)) w.if-self.true in cc
-        | else-self w ↦ let begun = ap (λ b. b || not (eqb (digit_at self.of.size (self.left - 1)) 48)) w.if-self.false in cc ]
+        | then-self w ↦ let begun = ap (λ b. b || not (eqb (digit_at self.of.size (self.left - 1)) 48)) w.if-self.true in cc
+        | else-self w ↦ let begun = ap (λ b. b || not (eqb (digit_at self.of.size (self.left - 1)) 48)) w.if-self.false in cc
+      ];
     }
