@@ -1,0 +1,15 @@
+pub mod Contents
+pub mod Codes
+pub mod Tables
+pub mod Date
+pub mod Good
+pub mod Memory
+pub mod Config
+pub mod State
+pub mod Step
+pub mod Run
+pub mod Output
+pub mod Moving
+pub mod Start
+pub mod Ends
+pub mod Running
