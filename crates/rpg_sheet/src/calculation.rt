@@ -4,11 +4,12 @@ ghost use Rattle.std.specs.Prelude.{◌≡◌, [], OnOk, IfErr};
 ghost use Rattle.rpg_sheet.specs.Columns.{IsLeast};
 ghost use Rattle.rpg_sheet.specs.Tables as tables;
 
-use crate::card::{Card, ColumnFault, at};
+use crate::card::{Card, ColumnFault};
+use crate::columns::at;
 use crate::values;
 use crate::word::Word;
 
-#[derive(Clone, Copy, PartialEq, Eq)]
+#[derive(Clone, Copy, Debug, PartialEq, Eq)]
 pub enum Operation {
     Add,
     ZeroAdd,
@@ -31,24 +32,16 @@ impl CalculationSpec {
     fn read(card: &Card) -> Result<Self, ColumnFault>
         ensures { result ≡ tables.calculation_card.reading card.now }
     {
-        at(7, values::unused(card.columns(7, 8)))?;
+        card.unused(7, 8)?;
         no_conditions(card)?;
-        let factor_1 = card.columns(18, 27);
-        let factor_1 = at(18, values::blank_or(factor_1, values::name(factor_1)))?;
+        let factor_1 = card.optional_name(18, 27)?;
         let operation = card.columns(28, 32);
         let operation = at(28, values::blank_or(operation, operation_of(operation)))?;
-        let factor_2 = card.columns(33, 42);
-        let factor_2 = at(33, values::blank_or(factor_2, values::name(factor_2)))?;
-        let result_field = card.columns(43, 48);
-        let result_field = at(
-            43,
-            values::blank_or(result_field, values::name(result_field)),
-        )?;
-        let length = card.columns(49, 51);
-        let length = at(49, values::blank_or(length, values::number(length)))?;
-        let decimals = card.columns(52, 52);
-        let decimals = at(52, values::blank_or(decimals, values::digit(decimals)))?;
-        at(53, values::unused(card.columns(53, 53)))?;
+        let factor_2 = card.optional_name(33, 42)?;
+        let result_field = card.optional_name(43, 48)?;
+        let length = card.optional_number(49, 51)?;
+        let decimals = card.optional_digit(52, 52)?;
+        card.unused(53, 53)?;
         no_resulting_indicators(card)?;
         Ok(CalculationSpec {
             factor_1,
@@ -88,16 +81,16 @@ fn operation_of(text: &[u8]) -> Option<Operation>
 fn no_conditions(card: &Card) -> Result<(), ColumnFault>
     ensures { result ≡ tables.no_conditions.reading card.now }
 {
-    at(9, values::unused(card.columns(9, 11)))?;
-    at(12, values::unused(card.columns(12, 14)))?;
-    at(15, values::unused(card.columns(15, 17)))
+    card.unused(9, 11)?;
+    card.unused(12, 14)?;
+    card.unused(15, 17)
 }
 
 #[tactic(auto, unfolding(crate::specs::Tables::no_resulting_indicators, crate::specs::Columns::values, crate::specs::Columns::at_with, crate::specs::Columns::past))]
 fn no_resulting_indicators(card: &Card) -> Result<(), ColumnFault>
     ensures { result ≡ tables.no_resulting_indicators.reading card.now }
 {
-    at(54, values::unused(card.columns(54, 55)))?;
-    at(56, values::unused(card.columns(56, 57)))?;
-    at(58, values::unused(card.columns(58, 59)))
+    card.unused(54, 55)?;
+    card.unused(56, 57)?;
+    card.unused(58, 59)
 }

@@ -1,6 +1,6 @@
 //! A card and its columns.
 
-ghost use Rattle.std.specs.Prelude.{◌≡◌, ◌+◌, ◌-◌, ◌≤◌, ◌++◌, length, take, replicate, position, ok_or, IsTrue};
+ghost use Rattle.std.specs.Prelude.{◌≡◌, ◌+◌, ◌-◌, ◌≤◌, ◌++◌, length, take, replicate, position, IsTrue};
 ghost use Rattle.std.specs.List.{list_all};
 ghost use Rattle.rpg_sheet.specs.Columns.{cols, is_filled, fault_if_some};
 ghost use Rattle.rpg_sheet.specs.Values.{is_character};
@@ -85,13 +85,6 @@ impl Card {
             }),
         }
     }
-}
-
-/// The value of the columns from `column` on.
-pub(crate) fn at<T>(column: u8, value: Option<T>) -> Result<T, ColumnFault>
-    ensures { result ≡ ok_or value (record { column = column }) }
-{
-    value.ok_or(ColumnFault { column })
 }
 
 fn first_filled(text: &[u8]) -> Option<usize>

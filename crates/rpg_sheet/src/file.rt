@@ -4,18 +4,19 @@ ghost use Rattle.std.specs.Prelude.{◌≡◌, [], Some, OnOk, IfErr};
 ghost use Rattle.rpg_sheet.specs.Columns.{IsLeast, cols};
 ghost use Rattle.rpg_sheet.specs.Tables as tables;
 
-use crate::card::{Card, ColumnFault, at};
+use crate::card::{Card, ColumnFault};
+use crate::columns::at;
 use crate::values;
 use crate::word::Word;
 
 /// Whether a file is read or written.
-#[derive(Clone, Copy, PartialEq, Eq)]
+#[derive(Clone, Copy, Debug, PartialEq, Eq)]
 pub enum Direction {
     Input,
     Output,
 }
 
-#[derive(Clone, Copy, PartialEq, Eq)]
+#[derive(Clone, Copy, Debug, PartialEq, Eq)]
 pub enum Device {
     Printer,
     Other,
@@ -38,17 +39,17 @@ impl FileSpec {
     fn read(card: &Card) -> Result<Self, ColumnFault>
         ensures { result ≡ tables.file.reading card.now }
     {
-        let name = at(7, values::name(card.columns(7, 14)))?;
+        let name = card.name(7, 14)?;
         let direction = at(15, direction_of(card.columns(15, 15)))?;
         at(16, designation(card))?;
         let ends_job = at(17, values::marked(b"E", card.columns(17, 17)))?;
         let ascending = at(18, values::marked(b"A", card.columns(18, 18)))?;
         at(19, values::only(b"F", card.columns(19, 19)))?;
-        let record_length = at(24, values::number(card.columns(24, 27)))?;
+        let record_length = card.number(24, 27)?;
         card.blank(28, 32)?;
-        at(33, values::unused(card.columns(33, 34)))?;
+        card.unused(33, 34)?;
         card.blank(35, 39)?;
-        let device = at(40, Some(device_of(card.columns(40, 46))))?;
+        let device = device_of(card.columns(40, 46));
         card.blank(47, 74)?;
         Ok(FileSpec {
             name,

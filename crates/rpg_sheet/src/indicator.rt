@@ -4,7 +4,7 @@ use std::marker::Model;
 
 /// An indicator by its number: 1 to 99, L0 to L9 (100 to 109), LR (110), 1P (111), OA to OG and OV
 /// (112 to 119), H1 to H9 (120 to 128), MR (129).
-#[derive(Clone, Copy, PartialEq, Eq)]
+#[derive(Clone, Copy, Debug, PartialEq, Eq)]
 pub struct Indicator {
     number: u8,
 }
@@ -42,14 +42,14 @@ impl Indicator {
 }
 
 /// An indicator that must be on, or off where it is negated.
-#[derive(Clone, Copy)]
+#[derive(Clone, Copy, Debug, PartialEq, Eq)]
 pub struct Condition {
     pub negated: bool,
     pub indicator: Indicator,
 }
 
 /// Three of a kind, in the order of their columns.
-#[derive(Clone, Copy, Drop)]
+#[derive(Clone, Copy, Debug, PartialEq, Eq, Drop)]
 pub struct Three<T> {
     pub first: T,
     pub second: T,

@@ -4,7 +4,8 @@ ghost use Rattle.std.specs.Prelude.{◌≡◌, [], OnOk, IfErr};
 ghost use Rattle.rpg_sheet.specs.Columns.{IsLeast};
 ghost use Rattle.rpg_sheet.specs.Tables as tables;
 
-use crate::card::{Card, ColumnFault, at};
+use crate::card::{Card, ColumnFault};
+use crate::columns::at;
 use crate::indicator::Indicator;
 use crate::values;
 use crate::word::Word;
@@ -71,18 +72,13 @@ impl RecordType {
     fn read(card: &Card) -> Result<Self, ColumnFault>
         ensures { result ≡ tables.type_card.reading card.now }
     {
-        let file = card.columns(7, 14);
-        let file = at(7, values::blank_or(file, values::name(file)))?;
+        let file = card.optional_name(7, 14)?;
         let sequence = at(15, values::letters(card.columns(15, 16)))?;
         card.blank(17, 18)?;
-        let indicator = card.columns(19, 20);
-        let indicator = at(
-            19,
-            values::blank_or(indicator, values::indicator(indicator)),
-        )?;
-        at(21, values::unused(card.columns(21, 27)))?;
-        at(28, values::unused(card.columns(28, 34)))?;
-        at(35, values::unused(card.columns(35, 41)))?;
+        let indicator = card.optional_indicator(19, 20)?;
+        card.unused(21, 27)?;
+        card.unused(28, 34)?;
+        card.unused(35, 41)?;
         card.blank(42, 74)?;
         Ok(RecordType {
             file,
@@ -98,16 +94,15 @@ impl InputField {
         ensures { result ≡ tables.field_card.reading card.now }
     {
         card.blank(17, 43)?;
-        let from = at(44, values::number(card.columns(44, 47)))?;
-        let to = at(48, values::number(card.columns(48, 51)))?;
-        let decimals = card.columns(52, 52);
-        let decimals = at(52, values::blank_or(decimals, values::digit(decimals)))?;
-        let name = at(53, values::name(card.columns(53, 58)))?;
-        at(59, values::unused(card.columns(59, 60)))?;
+        let from = card.number(44, 47)?;
+        let to = card.number(48, 51)?;
+        let decimals = card.optional_digit(52, 52)?;
+        let name = card.name(53, 58)?;
+        card.unused(59, 60)?;
         card.blank(61, 64)?;
-        at(65, values::unused(card.columns(65, 66)))?;
-        at(67, values::unused(card.columns(67, 68)))?;
-        at(69, values::unused(card.columns(69, 70)))?;
+        card.unused(65, 66)?;
+        card.unused(67, 68)?;
+        card.unused(69, 70)?;
         card.blank(71, 74)?;
         Ok(InputField {
             from,

@@ -3,6 +3,7 @@
 
 mod calculation;
 mod card;
+mod columns;
 mod file;
 mod header;
 mod indicator;
@@ -10,6 +11,8 @@ mod input;
 mod output;
 mod sheet;
 mod source;
+#[cfg(test)]
+mod tests;
 mod values;
 mod word;
 

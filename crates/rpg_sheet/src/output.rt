@@ -4,14 +4,15 @@ ghost use Rattle.std.specs.Prelude.{◌≡◌, [], OnOk, IfErr};
 ghost use Rattle.rpg_sheet.specs.Columns.{IsLeast};
 ghost use Rattle.rpg_sheet.specs.Tables as tables;
 
-use crate::card::{Card, ColumnFault, at};
+use crate::card::{Card, ColumnFault};
+use crate::columns::at;
 use crate::indicator::{Condition, Three};
 use crate::input::is_field_card;
 use crate::values;
 use crate::word::Word;
 
 /// When a line is put out.
-#[derive(Clone, Copy, PartialEq, Eq)]
+#[derive(Clone, Copy, Debug, PartialEq, Eq)]
 pub enum LineTime {
     Detail,
 }
@@ -72,15 +73,14 @@ impl OutputRecord {
     fn read(card: &Card) -> Result<Self, ColumnFault>
         ensures { result ≡ tables.record_card.reading card.now }
     {
-        let file = card.columns(7, 14);
-        let file = at(7, values::blank_or(file, values::name(file)))?;
+        let file = card.optional_name(7, 14)?;
         let time = at(15, line_time(card.columns(15, 15)))?;
         card.blank(16, 16)?;
-        at(17, values::unused(card.columns(17, 17)))?;
+        card.unused(17, 17)?;
         let space_after = card.columns(18, 18);
         let space_after = at(18, values::blank_or(space_after, one_space(space_after)))?;
-        at(19, values::unused(card.columns(19, 20)))?;
-        at(21, values::unused(card.columns(21, 22)))?;
+        card.unused(19, 20)?;
+        card.unused(21, 22)?;
         let conditions = conditions(card)?;
         card.blank(32, 70)?;
         Ok(OutputRecord {
@@ -101,11 +101,11 @@ impl OutputField {
         let conditions = conditions(card)?;
         let name = card.columns(32, 37);
         let name = at(32, values::blank_or(name, values::name_but(b"PAGE", name)))?;
-        at(38, values::unused(card.columns(38, 38)))?;
-        at(39, values::unused(card.columns(39, 39)))?;
-        let end = at(40, values::number(card.columns(40, 43)))?;
+        card.unused(38, 38)?;
+        card.unused(39, 39)?;
+        let end = card.number(40, 43)?;
         card.blank(44, 44)?;
-        at(45, values::unused(card.columns(45, 70)))?;
+        card.unused(45, 70)?;
         Ok(OutputField {
             conditions,
             name,
@@ -119,12 +119,9 @@ impl OutputField {
 fn conditions(card: &Card) -> Result<Three<Option<Condition>>, ColumnFault>
     ensures { result ≡ (tables.conditions 23 25 26 28 29 31).reading card.now }
 {
-    let first = card.columns(23, 25);
-    let first = at(23, values::blank_or(first, values::condition(first)))?;
-    let second = card.columns(26, 28);
-    let second = at(26, values::blank_or(second, values::condition(second)))?;
-    let third = card.columns(29, 31);
-    let third = at(29, values::blank_or(third, values::condition(third)))?;
+    let first = card.optional_condition(23, 25)?;
+    let second = card.optional_condition(26, 28)?;
+    let third = card.optional_condition(29, 31)?;
     Ok(Three {
         first,
         second,

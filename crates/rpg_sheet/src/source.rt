@@ -71,7 +71,7 @@ fn checked(count: usize, latest: u8, line: &[u8]) -> Result<Card, SheetCode>
     Ok(card)
 }
 
-fn has_only_characters(line: &[u8]) -> bool
+pub(crate) fn has_only_characters(line: &[u8]) -> bool
     ensures { result ≡ list_all values.is_character line.now }
 {
     line.iter().all(|c| (b' '..=b'~').contains(c))
