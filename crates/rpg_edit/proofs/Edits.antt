@@ -15,9 +15,9 @@ use Rattle.rpg_edit.specs.declared.code.EditCode.TheVariants.{Combination, X, Y,
 use Rattle.rpg_edit.specs.declared.how.How.{How}
 use Rattle.rpg_edit.specs.declared.how.How.TheVariants.{Plain, Code, Word}
 use Rattle.rpg_edit.specs.Edited.{is_place, places, character, characters, text_of, IsTextOf}
-use Rattle.rpg_edit.specs.Code.{comma_marks, whole_marks, decimal_marks, ending_marks, dollar_marks, code_marks, kept_digits, fill_of, dollar_in, plain_marks}
+use Rattle.rpg_edit.specs.Code.{comma_marks, whole_marks, decimal_marks, ending_marks, dollar_marks, code_marks, kept_digits, fill_of, dollar_in, plain_marks, IsFitCode}
 use Rattle.rpg_edit.specs.Word.{digits_behind_stop, word_fill, word_marks}
-use Rattle.rpg_edit.specs.How.{edited, IsEdited, IsFitCode}
+use Rattle.rpg_edit.specs.How.{edited, IsEdited}
 
 places-append : (xs ys : List Mark) → places (xs ++ ys) ≡ places xs + places ys
 places-append xs ys = sum_by-append _ xs ys

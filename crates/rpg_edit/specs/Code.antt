@@ -1,5 +1,5 @@
 -- Edit codes, and numbers without one.
-use Rattle.std.specs.Prelude.{ℕ, zero, suc, ◌-◌, ◌%◌, max, Bool, not, ◌&&◌, List, [], ◌∷◌, ◌++◌, replicate, ℤ, Option, Some, None, if◌then◌else◌, nat_lt, nat_le, ◌==◌, unsigned_abs}
+use Rattle.std.specs.Prelude.{◌≡◌, find, option_map, ℕ, zero, suc, ◌-◌, ◌%◌, max, Bool, true, false, not, ◌&&◌, List, [], ◌∷◌, ◌++◌, replicate, ℤ, Option, if◌then◌else◌, nat_lt, ◌==◌, unsigned_abs}
 use Rattle.rpg_edit.specs.declared.mark.Mark.{Mark}
 use Rattle.rpg_edit.specs.declared.mark.Mark.TheVariants.{Digit, Zone, Insert, Sign}
 use Rattle.rpg_edit.specs.declared.code.Ending.{Ending}
@@ -67,6 +67,13 @@ dollar_in Dollar text = with_dollar text
 abbrev pub coded : ℤ → ℕ → ℕ → EditCode → Fill → List ℕ
 coded n len dec code fill = dollar_in fill (text_of n (kept_digits code len dec (unsigned_abs n)) (fill_of fill) (code_marks code fill len dec))
 
+-- Y edits six digits without decimals, and X, Y and Z take no fill
+abbrev pub IsFitCode : ℕ → ℕ → EditCode → Fill → Type 0
+IsFitCode len dec (Combination _ _ _) fill = Unit {0}
+IsFitCode len dec X fill = fill ≡ Blank
+IsFitCode len dec Y fill = (len ≡ 6) × (dec ≡ 0) × (fill ≡ Blank)
+IsFitCode len dec Z fill = fill ≡ Blank
+
 -- without a code every digit shows, the last one under the sign
 abbrev pub plain_marks : ℕ → List Mark
 plain_marks len = replicate (len - 1) Digit ++ Zone ∷ []
@@ -75,17 +82,13 @@ plain_marks len = replicate (len - 1) Digit ++ Zone ∷ []
 abbrev pub plain : ℤ → ℕ → List ℕ
 plain n len = text_of n len 32 (plain_marks len)
 
--- the table of codes: the first two of a row of four have commas, the first and the third print zeros
-abbrev pub combination : ℕ → Ending → EditCode
-combination k ending = Combination (nat_lt k 2) (k % 2 == 0) ending
+-- the edit code of each character that is one
+abbrev pub table_of_codes : List (ℕ × EditCode)
+table_of_codes =
+    (49, Combination true true Unsigned) ∷ (50, Combination true false Unsigned) ∷ (51, Combination false true Unsigned) ∷ (52, Combination false false Unsigned)
+    ∷ (65, Combination true true Credit) ∷ (66, Combination true false Credit) ∷ (67, Combination false true Credit) ∷ (68, Combination false false Credit)
+    ∷ (74, Combination true true Minus) ∷ (75, Combination true false Minus) ∷ (76, Combination false true Minus) ∷ (77, Combination false false Minus)
+    ∷ (88, X) ∷ (89, Y) ∷ (90, Z) ∷ []
 
-abbrev pub is_between : ℕ → ℕ → ℕ → Bool
-is_between low high c = nat_le low c && nat_le c high
-
--- the code of a character: 1 to 4, A to D, J to M, X, Y, Z
 abbrev pub code_of : ℕ → Option EditCode
-code_of c =
-    if is_between 49 52 c then Some (combination (c - 49) Unsigned)
-    else (if is_between 65 68 c then Some (combination (c - 65) Credit)
-    else (if is_between 74 77 c then Some (combination (c - 74) Minus)
-    else (if c == 88 then Some X else (if c == 89 then Some Y else (if c == 90 then Some Z else None)))))
+code_of c = option_map (λ row. row.1) (find (λ row. row.0 == c) table_of_codes)

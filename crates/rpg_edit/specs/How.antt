@@ -1,14 +1,10 @@
 -- How a number is edited.
 use Rattle.std.specs.Prelude.{◌≡◌, ℕ, List, length, ℤ, unsigned_abs}
 use Rattle.rpg_edit.specs.declared.mark.Mark.{Mark}
-use Rattle.rpg_edit.specs.declared.code.Fill.{Fill}
-use Rattle.rpg_edit.specs.declared.code.Fill.TheVariants.{Blank}
-use Rattle.rpg_edit.specs.declared.code.EditCode.{EditCode}
-use Rattle.rpg_edit.specs.declared.code.EditCode.TheVariants.{Combination, X, Y, Z}
 use Rattle.rpg_edit.specs.declared.how.How.{How}
 use Rattle.rpg_edit.specs.declared.how.How.TheVariants.{Plain, Code, Word}
 use Rattle.rpg_edit.specs.Edited.{IsTextOf}
-use Rattle.rpg_edit.specs.Code.{plain_marks, code_marks, plain, coded, kept_digits, fill_of, dollar_in}
+use Rattle.rpg_edit.specs.Code.{plain_marks, code_marks, plain, coded, kept_digits, fill_of, dollar_in, IsFitCode}
 use Rattle.rpg_edit.specs.Word.{word_marks, worded, digits_behind_stop, word_fill, IsWordFor}
 
 abbrev pub marks_for : ℕ → ℕ → How → List Mark
@@ -30,13 +26,6 @@ abbrev pub IsEdited : ℤ → ℕ → ℕ → How → List ℕ → Type 0
 IsEdited n len dec Plain text = IsTextOf n len 32 (plain_marks len) text
 IsEdited n len dec (Code code fill) text = (digits : List ℕ) × IsTextOf n (kept_digits code len dec (unsigned_abs n)) (fill_of fill) (code_marks code fill len dec) digits × (text ≡ dollar_in fill digits)
 IsEdited n len dec (Word word) text = IsTextOf n (digits_behind_stop word) (word_fill word) (word_marks word) text
-
--- Y edits six digits without decimals, and X, Y and Z take no fill
-abbrev pub IsFitCode : ℕ → ℕ → EditCode → Fill → Type 0
-IsFitCode len dec (Combination _ _ _) fill = Unit {0}
-IsFitCode len dec X fill = fill ≡ Blank
-IsFitCode len dec Y fill = (len ≡ 6) × (dec ≡ 0) × (fill ≡ Blank)
-IsFitCode len dec Z fill = fill ≡ Blank
 
 -- what a number of `len` digits with `dec` decimals may be edited by
 abbrev pub IsFit : ℕ → ℕ → How → Type 0

@@ -1,5 +1,5 @@
 ghost use Rattle.std.specs.Prelude.{◌≡◌, ℕ, ◌^◌, ◌<◌, ◌≤◌, List, ◌++◌, drop, length, unsigned_abs};
-ghost use Rattle.rpg_edit.specs.Code.{plain, plain_marks, coded, code_marks};
+ghost use Rattle.rpg_edit.specs.Code.{plain, plain_marks, coded, code_marks, IsFitCode};
 ghost use Rattle.rpg_edit.specs.Word.{worded, word_marks, IsWordFor};
 
 use crate::code::{EditCode, Fill, put_dollar};
@@ -15,7 +15,7 @@ pub enum How {
     Word(EditWord),
 }
 
-ghost use Rattle.rpg_edit.specs.How.{marks_for, width_of, edited, IsEdited, IsFitCode, IsFit};
+ghost use Rattle.rpg_edit.specs.How.{marks_for, width_of, edited, IsEdited, IsFit};
 
 /// The characters that a number of `len` digits with `dec` decimals takes.
 pub fn width(len: u8, dec: u8, how: &How) -> usize
