@@ -1,3 +1,6 @@
+mod MoveLemmas
+mod OrderLemmas
 mod PlaceLemmas
+mod QuotientLemmas
 mod WholeLemmas
 mod ZonedLemmas

@@ -185,11 +185,11 @@ stored-early half n from to k len h d =
 
 -- ---- sizes of what is shifted
 
--- a number of fifteen digits, shifted by at most nine places
-pub shifted-below : (m k : ℕ) → m < 10 ^ 15 → k ≤ 9 → m * 10 ^ k < 10 ^ 24
+-- a number of fifteen digits, shifted by at most eighteen places
+pub shifted-below : (m k : ℕ) → m < 10 ^ 15 → k ≤ 18 → m * 10 ^ k < 10 ^ 33
 shifted-below m k h d =
-    let ten = ten_le k 9 d in
-    let more : m * 10 ^ k ≤ m * 10 ^ 9 = mul-le-mul_left m ten in
+    let ten = ten_le k 18 d in
+    let more : m * 10 ^ k ≤ m * 10 ^ 18 = mul-le-mul_left m ten in
     omega arith
 
 -- ---- fractions whose bottoms are powers of ten
@@ -199,7 +199,12 @@ pub stored-joined : (half : Bool) (dec len : ℕ) (t : ℤ) (j k : ℕ) → stor
 stored-joined half dec len t j k = ap (λ b. stored_number half dec len (record { top = t; bottom = b })) (pow-add 10 j k)
 
 -- a sum as the code makes it, of numbers that come back from their bits
-pub sum_is : (x y u v : ℤ) → mag x < 2 ^ 127 → mag y < 2 ^ 127 → unsigned_abs x < 10 ^ 24 → unsigned_abs y < 10 ^ 24 → x ≡ u → y ≡ v → to_z w128 (of_z w128 (to_z w128 (of_z w128 x) +ℤ to_z w128 (of_z w128 y))) ≡ u +ℤ v
+pub sum_is : (x y u v : ℤ) → mag x < 2 ^ 127 → mag y < 2 ^ 127 → unsigned_abs x < 10 ^ 33 → unsigned_abs y < 10 ^ 33 → x ≡ u → y ≡ v → to_z w128 (of_z w128 (to_z w128 (of_z w128 x) +ℤ to_z w128 (of_z w128 y))) ≡ u +ℤ v
 sum_is x y u v hx hy small_x small_y ex ey =
     let fits : FitsSigned w128 (x +ℤ y) = omega (arith, ints) in
     rw (back {z = x} hx, back {z = y} hy) (to_z-of_z fits ∙ ap₂ (◌+ℤ◌) ex ey)
+
+pub difference_is : (x y u v : ℤ) → mag x < 2 ^ 127 → mag y < 2 ^ 127 → unsigned_abs x < 10 ^ 33 → unsigned_abs y < 10 ^ 33 → x ≡ u → y ≡ v → to_z w128 (of_z w128 (to_z w128 (of_z w128 x) -ℤ to_z w128 (of_z w128 y))) ≡ u -ℤ v
+difference_is x y u v hx hy small_x small_y ex ey =
+    let fits : FitsSigned w128 (x -ℤ y) = omega (arith, ints) in
+    rw (back {z = x} hx, back {z = y} hy) (to_z-of_z fits ∙ ap₂ (◌-ℤ◌) ex ey)

@@ -23,11 +23,11 @@ pub fn keep(n: i128, from: Scale, target: Target) -> i64
 }
 
 /// The value with `scale` decimals more.
-fn widened(value: i64, scale: u8) -> i128
+pub(crate) fn widened(value: i64, scale: u8) -> i128
     requires value_in { unsigned_abs value < 10 ^ 15 }
-    requires scale_in { scale ≤ 9 }
+    requires scale_in { scale ≤ 18 }
     ensures value { result ≡ value *ℤ pos (10 ^ scale) }
-    ensures bound { unsigned_abs result < 10 ^ 24 }
+    ensures bound { unsigned_abs result < 10 ^ 33 }
 {
     i128::from(value) * power_of_ten(scale) as i128
 }
@@ -40,6 +40,36 @@ pub fn add(a: Num, b: Num, target: Target) -> i64
     let sum = widened(a.value, b.dec) + widened(b.value, a.dec);
     keep(
         sum,
+        Scale {
+            value: a.dec + b.dec,
+        },
+        target,
+    )
+}
+
+/// `b` taken from `a`.
+pub fn sub(a: Num, b: Num, target: Target) -> i64
+    ensures value { result ≡ stored_number target.half target.dec target.len (minus (value_of a) (value_of b)) }
+    ensures fits { unsigned_abs result < 10 ^ target.len }
+{
+    let difference = widened(a.value, b.dec) - widened(b.value, a.dec);
+    keep(
+        difference,
+        Scale {
+            value: a.dec + b.dec,
+        },
+        target,
+    )
+}
+
+/// `a` times `b`.
+pub fn mult(a: Num, b: Num, target: Target) -> i64
+    ensures value { result ≡ stored_number target.half target.dec target.len (times (value_of a) (value_of b)) }
+    ensures fits { unsigned_abs result < 10 ^ target.len }
+{
+    let product = i128::from(a.value) * i128::from(b.value);
+    keep(
+        product,
         Scale {
             value: a.dec + b.dec,
         },

@@ -1,11 +1,190 @@
 //! MOVE and MOVEL: places of a source over an old value, aligned right and left.
-ghost use Rattle.std.specs.Prelude.{◌≡◌, ◌<◌, ◌≤◌, ◌^◌, length};
+ghost use Rattle.std.specs.Prelude.{◌≡◌, ◌+◌, ◌-◌, ◌<◌, ◌≤◌, ◌^◌, unsigned_abs, length, IfOk, IfErr};
+ghost use Rattle.std.specs.Result.{result_ok};
+ghost use Rattle.rpg_decimal.specs.Move.{overlay_right, overlay_left, number_moved_right, number_moved_left};
+ghost use Rattle.rpg_decimal.specs.Place.{digits, place_value};
+ghost use Rattle.rpg_decimal.specs.Whole.{with_sign_of};
+ghost use Rattle.rpg_decimal.specs.Zoned.{number_in, zoned_text, IsFirstBad};
+ghost use Rattle.rpg_decimal.specs.Source.{text_of, moved_right, moved_left, IsFirstBadRight, IsFirstBadLeft};
 
 use crate::num::Figure;
+use crate::whole::{power_of_ten, with_sign_of};
+use crate::zoned::{BadDigit, read_zoned, write_zoned};
 
 /// What is moved: a number by its digits, or a text.
 #[derive(Clone, Copy, Debug)]
 pub enum Source<'a> {
     Number(Figure),
     Text(&'a [u8]),
+}
+
+/// Puts the last places of a text over those of another.
+fn overlay_right(source: &[u8], target: &mut [u8])
+    ensures { target.new ≡ overlay_right source.now target.old }
+{
+    let moved = source.len().min(target.len());
+    let (from, to) = (source.len() - moved, target.len() - moved);
+    target[to..].copy_from_slice(&source[from..]);
+}
+
+/// Puts the first places of a text over those of another.
+fn overlay_left(source: &[u8], target: &mut [u8])
+    ensures { target.new ≡ overlay_left source.now target.old }
+{
+    let moved = source.len().min(target.len());
+    target[..moved].copy_from_slice(&source[..moved]);
+}
+
+/// MOVE to a text: a number as the text that is written for it.
+pub fn move_right_text(source: Source<'_>, target: &mut [u8])
+    ensures { target.new ≡ overlay_right (text_of source.entry) target.old }
+{
+    match source {
+        Source::Text(text) => overlay_right(text, target),
+        Source::Number(figure) => {
+            let mut places = [0; 15];
+            let text = &mut places[..usize::from(figure.len)];
+            write_zoned(figure.value, text);
+            overlay_right(text, target);
+        }
+    }
+}
+
+/// MOVEL to a text.
+pub fn move_left_text(source: Source<'_>, target: &mut [u8])
+    ensures { target.new ≡ overlay_left (text_of source.entry) target.old }
+{
+    match source {
+        Source::Text(text) => overlay_left(text, target),
+        Source::Number(figure) => {
+            let mut places = [0; 15];
+            let text = &mut places[..usize::from(figure.len)];
+            write_zoned(figure.value, text);
+            overlay_left(text, target);
+        }
+    }
+}
+
+/// MOVE of a text to a number: the old number's text with the source over it is read.
+fn move_right_of_text(text: &[u8], before: Figure) -> Result<i64, BadDigit>
+    ensures value { result_ok result ≡ number_in (overlay_right text.now (zoned_text before.len before.value)) }
+    ensures fits { IfOk result (λ n. unsigned_abs n < 10 ^ before.len) }
+    ensures inside { IfErr result (λ e. length text.now ≤ e.spot + before.len) }
+    ensures bad { IfErr result (λ e. IsFirstBad (overlay_right text.now (zoned_text before.len before.value)) (e.spot + before.len - length text.now)) }
+{
+    let mut buffer = [0; 15];
+    let places = &mut buffer[..usize::from(before.len)];
+    write_zoned(before.value, places);
+    overlay_right(text, places);
+    match read_zoned(places) {
+        Ok(n) => Ok(n),
+        Err(bad) => Err(BadDigit {
+            spot: bad.spot + text.len() - usize::from(before.len),
+        }),
+    }
+}
+
+/// MOVEL of a text to a number.
+fn move_left_of_text(text: &[u8], before: Figure) -> Result<i64, BadDigit>
+    ensures value { result_ok result ≡ number_in (overlay_left text.now (zoned_text before.len before.value)) }
+    ensures fits { IfOk result (λ n. unsigned_abs n < 10 ^ before.len) }
+    ensures bad { IfErr result (λ e. IsFirstBad (overlay_left text.now (zoned_text before.len before.value)) e.spot) }
+{
+    let mut buffer = [0; 15];
+    let places = &mut buffer[..usize::from(before.len)];
+    write_zoned(before.value, places);
+    overlay_left(text, places);
+    read_zoned(places)
+}
+
+/// The digits of a number without its sign.
+fn size_of(figure: Figure) -> u128
+    ensures value { result ≡ unsigned_abs figure.value }
+    ensures bound { result < 10 ^ 15 }
+{
+    u128::from(figure.value.unsigned_abs())
+}
+
+/// The source's last digits behind the first ones of the old number.
+fn digits_moved_right(source: Figure, before: Figure) -> u128
+    ensures value { result ≡ place_value (overlay_right (digits source.len (unsigned_abs source.value)) (digits before.len (unsigned_abs before.value))) }
+    ensures bound { result < 10 ^ before.len }
+    ensures small { result < 10 ^ 15 }
+{
+    let moved = power_of_ten(source.len.min(before.len));
+    size_of(before) / moved * moved + size_of(source) % moved
+}
+
+/// The source's first digits before the last ones of the old number.
+fn digits_moved_left(source: Figure, before: Figure) -> u128
+    ensures value { result ≡ place_value (overlay_left (digits source.len (unsigned_abs source.value)) (digits before.len (unsigned_abs before.value))) }
+    ensures bound { result < 10 ^ before.len }
+    ensures small { result < 10 ^ 15 }
+{
+    let moved = source.len.min(before.len);
+    let taken = size_of(source) / power_of_ten(source.len - moved);
+    let kept = power_of_ten(before.len - moved);
+    taken * kept + size_of(before) % kept
+}
+
+/// The number of this size under the sign of another.
+fn under_sign_of(n: i64, size: u128) -> i64
+    requires { size < 10 ^ 15 }
+    ensures value { result ≡ with_sign_of n size }
+    ensures bound { unsigned_abs result ≡ size }
+{
+    with_sign_of(i128::from(n), size) as i64
+}
+
+/// MOVE of a number to a number: its last place is always replaced, so the sign is the source's.
+fn move_right_of_number(source: Figure, before: Figure) -> i64
+    ensures value { result ≡ number_moved_right source.len source.value before.len before.value }
+    ensures fits { unsigned_abs result < 10 ^ before.len }
+{
+    under_sign_of(source.value, digits_moved_right(source, before))
+}
+
+/// MOVEL of a number to a number: a source that is too short for the last place leaves the sign.
+fn move_left_of_number(source: Figure, before: Figure) -> i64
+    ensures value { result ≡ number_moved_left source.len source.value before.len before.value }
+    ensures fits { unsigned_abs result < 10 ^ before.len }
+{
+    let size = digits_moved_left(source, before);
+    if source.len < before.len {
+        under_sign_of(before.value, size)
+    } else {
+        under_sign_of(source.value, size)
+    }
+}
+
+/// MOVE to a number of `len` digits; decimals are ignored. A bad digit is counted in the source.
+pub fn move_right(source: Source<'_>, before: i64, len: u8) -> Result<i64, BadDigit>
+    requires low { 1 ≤ len }
+    requires high { len ≤ 15 }
+    requires fits { unsigned_abs before < 10 ^ len }
+    ensures value { result_ok result ≡ moved_right source.entry len before }
+    ensures fits { IfOk result (λ n. unsigned_abs n < 10 ^ len) }
+    ensures bad { IfErr result (λ e. IsFirstBadRight source.entry len before e.spot) }
+{
+    let before = Figure { value: before, len };
+    match source {
+        Source::Text(text) => move_right_of_text(text, before),
+        Source::Number(figure) => Ok(move_right_of_number(figure, before)),
+    }
+}
+
+/// MOVEL to a number of `len` digits; decimals are ignored. A bad digit is counted in the source.
+pub fn move_left(source: Source<'_>, before: i64, len: u8) -> Result<i64, BadDigit>
+    requires low { 1 ≤ len }
+    requires high { len ≤ 15 }
+    requires fits { unsigned_abs before < 10 ^ len }
+    ensures value { result_ok result ≡ moved_left source.entry len before }
+    ensures fits { IfOk result (λ n. unsigned_abs n < 10 ^ len) }
+    ensures bad { IfErr result (λ e. IsFirstBadLeft source.entry len before e.spot) }
+{
+    let before = Figure { value: before, len };
+    match source {
+        Source::Text(text) => move_left_of_text(text, before),
+        Source::Number(figure) => Ok(move_left_of_number(figure, before)),
+    }
 }

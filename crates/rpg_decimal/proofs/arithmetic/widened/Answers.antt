@@ -10,10 +10,10 @@ product_is c =
     ap₂ (◌*ℤ◌) (back c.from.type_inv ∙ c.from.ensures ∙ to_z-of_z c.ranges.value)
     (to_z_pos w128 c.power_of_ten.result (omega arith) ∙ ap pos c.power_of_ten.ensures.value)
 
-below : (n : ℤ) (k : ℕ) → unsigned_abs n < 10 ^ 15 → k ≤ 9 → unsigned_abs (n *ℤ pos (10 ^ k)) < 10 ^ 24
+below : (n : ℤ) (k : ℕ) → unsigned_abs n < 10 ^ 15 → k ≤ 18 → unsigned_abs (n *ℤ pos (10 ^ k)) < 10 ^ 33
 below n k h d = rw (unsigned_abs-times n (10 ^ k)) (shifted-below (unsigned_abs n) k h d)
 
-fits : (n : ℤ) (k : ℕ) → unsigned_abs n < 10 ^ 15 → k ≤ 9 → FitsSigned w128 (n *ℤ pos (10 ^ k))
+fits : (n : ℤ) (k : ℕ) → unsigned_abs n < 10 ^ 15 → k ≤ 18 → FitsSigned w128 (n *ℤ pos (10 ^ k))
 fits n k h d = let small = below n k h d in record { sfits = mag_below (n *ℤ pos (10 ^ k)) (2 ^ 127) (omega arith) }
 
 pub overflow_mul-result : goal.overflow_mul-result

@@ -1,0 +1,22 @@
+use Rattle.std.proofs.Common.{◌≡◌, ◌<◌, ◌≤◌, ◌+◌, ◌^◌, ◌*◌, ◌*ℤ◌, unsigned_abs, arith, rules, ap, ap₂, ◌∙◌, to_z-of_z, FitsSigned, w64}
+use Rattle.std.proofs.lemmas.Nat.{mul-le}
+use Rattle.rpg_decimal.specs.Fraction.{stored_number, with_decimals}
+use Rattle.rpg_decimal.proofs.WholeLemmas.{back_64, stored-joined}
+use Rattle.rpg_decimal.proofs.QuotientLemmas.{product_is}
+use Rattle.rpg_decimal.proofs.arithmetic.mult.Goals as goal
+
+pub returns-clause-value : goal.returns-clause-value
+returns-clause-value c =
+    let a = c.args.a in
+    let b = c.args.b in
+    let t = c.args.target in
+    let fits_a : FitsSigned w64 a.value = search rules in
+    let fits_b : FitsSigned w64 b.value = search rules in
+    let x_is : c.from.result ≡ a.value = c.from.ensures ∙ to_z-of_z fits_a in
+    let y_is : c.from-2.result ≡ b.value = c.from-2.ensures ∙ to_z-of_z fits_b in
+    let small : unsigned_abs c.from.result * unsigned_abs c.from-2.result ≤ 10 ^ 15 * 10 ^ 15 =
+    mul-le (unsigned_abs c.from.result) (unsigned_abs c.from-2.result) (10 ^ 15) (10 ^ 15) (rw x_is (omega (arith, a.value_in))) (rw y_is (omega (arith, b.value_in))) in
+    back_64 c.keep.type_inv ∙ c.keep.ensures.value
+    ∙ ap (λ n. stored_number t.half t.dec t.len (with_decimals n (a.dec + b.dec)))
+    (product_is c.from.result c.from-2.result c.from.type_inv c.from-2.type_inv (omega arith) ∙ ap₂ (◌*ℤ◌) x_is y_is)
+    ∙ stored-joined t.half t.dec t.len (a.value *ℤ b.value) a.dec b.dec

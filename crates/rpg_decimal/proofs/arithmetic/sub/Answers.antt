@@ -1,0 +1,18 @@
+use Rattle.std.proofs.Common.{◌≡◌, ℤ, pos, ◌-ℤ◌, ◌*ℤ◌, ◌+◌, ◌^◌, rules, ap, ◌∙◌, to_z-of_z, FitsSigned, w64}
+use Rattle.rpg_decimal.specs.Fraction.{stored_number, with_decimals}
+use Rattle.rpg_decimal.proofs.WholeLemmas.{back_64, stored-joined, difference_is}
+use Rattle.rpg_decimal.proofs.arithmetic.sub.Goals as goal
+
+pub returns-clause-value : goal.returns-clause-value
+returns-clause-value c =
+    let a = c.args.a in
+    let b = c.args.b in
+    let t = c.args.target in
+    let fits_a : FitsSigned w64 a.value = search rules in
+    let fits_b : FitsSigned w64 b.value = search rules in
+    let x_is = rw (to_z-of_z fits_a) at c.widened.ensures.value in
+    let y_is = rw (to_z-of_z fits_b) at c.widened-2.ensures.value in
+    back_64 c.keep.type_inv ∙ c.keep.ensures.value
+    ∙ ap (λ n. stored_number t.half t.dec t.len (with_decimals n (a.dec + b.dec)))
+    (difference_is _ _ _ _ c.widened.type_inv c.widened-2.type_inv c.widened.ensures.bound c.widened-2.ensures.bound x_is y_is)
+    ∙ stored-joined t.half t.dec t.len (a.value *ℤ pos (10 ^ b.dec) -ℤ b.value *ℤ pos (10 ^ a.dec)) a.dec b.dec

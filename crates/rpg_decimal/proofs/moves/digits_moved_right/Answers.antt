@@ -1,0 +1,23 @@
+use Rattle.std.proofs.Common.{◌≡◌, ◌<◌, ◌≤◌, ◌^◌, min, unsigned_abs, arith, ap, ◌∙◌}
+use Rattle.rpg_decimal.proofs.WholeLemmas.{ten_le}
+use Rattle.rpg_decimal.proofs.MoveLemmas.{moved_right_size, moved_right-below}
+use Rattle.rpg_decimal.proofs.moves.digits_moved_right.Goals as goal
+
+pub returns-clause-value : goal.returns-clause-value
+returns-clause-value c =
+    let s = c.args.source in
+    let b = c.args.before in
+    rw (c.size_of.ensures.value, c.size_of-2.ensures.value, c.power_of_ten-moved.ensures.value, c.min.ensures)
+    (moved_right_size s.len b.len (unsigned_abs s.value) (unsigned_abs b.value) b.fits)
+
+pub returns-clause-bound : goal.returns-clause-bound
+returns-clause-bound c =
+    let s = c.args.source in
+    let b = c.args.before in
+    rw (c.size_of.ensures.value, c.size_of-2.ensures.value, c.power_of_ten-moved.ensures.value, c.min.ensures)
+    (moved_right-below s.len b.len (unsigned_abs s.value) (unsigned_abs b.value) b.fits)
+
+pub returns-clause-small : goal.returns-clause-small
+returns-clause-small c =
+    let ten = ten_le c.args.before.len 15 c.args.before.len_high in
+    omega (arith, returns-clause-bound c)

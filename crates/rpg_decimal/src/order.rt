@@ -1,0 +1,63 @@
+//! The order of numbers and of texts.
+ghost use Rattle.std.specs.Prelude.{◌≡◌, ◌+◌, ◌<◌, ◌≤◌, ◌==◌, length, position, unwrap_or, slice_index_or};
+ghost use Rattle.rpg_decimal.specs.Fraction.{fraction_cmp};
+ghost use Rattle.rpg_decimal.specs.Num.{value_of};
+ghost use Rattle.rpg_decimal.specs.Order.{rank, text_cmp};
+
+use crate::arithmetic::widened;
+use crate::num::Num;
+use std::cmp::Ordering;
+
+/// The characters, lowest first: the collating sequence of this profile.
+const COLLATING_SEQUENCE: &[u8; 95] =
+    b" .<(+|&!$*);-/,%_>?`:#@'=\"abcdefghijklmnopqr~stuvwxyz^[]{ABCDEFGHI}JKLMNOPQR\\STUVWXYZ0123456789";
+
+/// Compares the values of two numbers.
+pub fn compare(a: Num, b: Num) -> Ordering
+    ensures { result ≡ fraction_cmp (value_of a) (value_of b) }
+{
+    widened(a.value, b.dec).cmp(&widened(b.value, a.dec))
+}
+
+/// The place of a character in a sequence.
+fn place_in(sequence: &[u8], c: u8) -> Option<usize>
+    ensures { result ≡ position (λ x. x == c) sequence.now }
+{
+    sequence.iter().position(|x| *x == c)
+}
+
+/// The place of a character in the order; other bytes come behind all of them, by value.
+#[tactic(auto, unfolding(crate::specs::Order::rank, crate::specs::Order::collating_sequence))]
+fn rank(c: u8) -> usize
+    ensures { result ≡ rank c }
+{
+    let behind = COLLATING_SEQUENCE.len() + usize::from(c);
+    place_in(COLLATING_SEQUENCE, c).unwrap_or(behind)
+}
+
+/// The character at a place, a blank behind the end.
+fn character_at(text: &[u8], place: usize) -> u8
+    ensures { result ≡ slice_index_or text.now place 32 }
+{
+    if place < text.len() {
+        text[place]
+    } else {
+        b' '
+    }
+}
+
+/// Compares two texts by the first place where they differ, the shorter one with blanks behind it.
+pub fn compare_text(a: &[u8], b: &[u8]) -> Ordering
+    ensures { result ≡ text_cmp a.now b.now }
+{
+    for place in 0..a.len().max(b.len()) {
+        let (x, y) = (character_at(a, place), character_at(b, place));
+        if x != y {
+            let order = rank(x).cmp(&rank(y));
+            if order != Ordering::Equal {
+                return order;
+            }
+        }
+    }
+    Ordering::Equal
+}
