@@ -57,19 +57,19 @@ err_is c d e = cc
 
 -- ---- numbers
 
-ruled_ok : {X : Type 0} (bytes rest rest' : List ℕ) (r : Result X Code) (x : X) → ruled bytes rest r ≡ Ok (x, rest') → (r ≡ Ok x) × (rest ≡ rest')
+pub ruled_ok : {X : Type 0} (bytes rest rest' : List ℕ) (r : Result X Code) (x : X) → ruled bytes rest r ≡ Ok (x, rest') → (r ≡ Ok x) × (rest ≡ rest')
 ruled_ok bytes rest rest' (Ok y) x e = let k = ok_is (y, rest) (x, rest') e in (ap (λ (p : _ × List ℕ). Ok p.0) k, ap (λ (p : _ × List ℕ). p.1) k)
 ruled_ok bytes rest rest' (Err c) x e = absurd cc
 
-ruled_err : {X : Type 0} (bytes rest : List ℕ) (r : Result X Code) (d : Fault) → ruled bytes rest r ≡ Err d → d.left ≤ length bytes
+pub ruled_err : {X : Type 0} (bytes rest : List ℕ) (r : Result X Code) (d : Fault) → ruled bytes rest r ≡ Err d → d.left ≤ length bytes
 ruled_err bytes rest (Ok y) d e = absurd cc
 ruled_err bytes rest (Err c) d e = let k : fault_at bytes c ≡ d = cc in let l : length bytes ≡ d.left = ap (λ (f : Fault). f.left) k in omega arith
 
-ruled_stays : {X : Type 0} (bytes longer rest rest' more : List ℕ) (r : Result X Code) (x : X) → ruled bytes rest r ≡ Ok (x, rest') → ruled longer (rest ++ more) r ≡ Ok (x, rest' ++ more)
+pub ruled_stays : {X : Type 0} (bytes longer rest rest' more : List ℕ) (r : Result X Code) (x : X) → ruled bytes rest r ≡ Ok (x, rest') → ruled longer (rest ++ more) r ≡ Ok (x, rest' ++ more)
 ruled_stays {X} bytes longer rest rest' more (Ok y) x e = ap (λ (p : X × List ℕ). Ok (p.0, p.1 ++ more)) (ok_is (y, rest) (x, rest') e)
 ruled_stays bytes longer rest rest' more (Err c) x e = absurd cc
 
-ruled_fails : {X : Type 0} (bytes rest rest' more : List ℕ) (r : Result X Code) (d : Fault) → ruled bytes rest r ≡ Err d → ruled (bytes ++ more) rest' r ≡ Err (further (length more) d)
+pub ruled_fails : {X : Type 0} (bytes rest rest' more : List ℕ) (r : Result X Code) (d : Fault) → ruled bytes rest r ≡ Err d → ruled (bytes ++ more) rest' r ≡ Err (further (length more) d)
 ruled_fails bytes rest rest' more (Ok y) d e = absurd cc
 ruled_fails {X} bytes rest rest' more (Err c) d e =
     let k : fault_at bytes c ≡ d = cc in

@@ -1,1 +1,6 @@
+pub mod FieldsLeft
+pub mod ObjectLaws
+pub mod RowLaws
 pub mod Texts
+pub mod ValueLaws
+pub mod ZonedTexts

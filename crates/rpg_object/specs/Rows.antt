@@ -134,6 +134,10 @@ value len = record {
   reading = read_value len;
 }
 
+-- 1 to 15 digits
+abbrev pub HasDigits : Form → Type 0
+HasDigits f = (1 ≤ f.length) × (f.length ≤ 15)
+
 abbrev pub next_length : List Form → ℕ
 next_length [] = 0
 next_length (f ∷ fs) = f.length

@@ -1,1 +1,73 @@
-//! First values of fields.
+//! First values of fields, each in as many bytes as its field has digits.
+
+ghost use Rattle.std.specs.Prelude.{◌≡◌, ◌≤◌, All, length, map};
+ghost use Rattle.rpg_decimal.specs.Zoned.{number_in};
+ghost use Rattle.rpg_effect.specs.Values.{held};
+ghost use Rattle.rpg_format.specs.Reading.{Gives};
+ghost use Rattle.rpg_object.specs.Rows.{as_written, read_value, values, HasDigits};
+
+use std::alloc::Global;
+
+use rpg_decimal::{read_zoned, write_zoned};
+use rpg_effect::form::Form;
+use rpg_effect::value::Value;
+use rpg_format::fault::{Code, ReadFault};
+use rpg_format::number::{ends_early, fault_at};
+
+/// The most digits that a number has.
+const DIGITS: usize = 15;
+
+/// The number that the text is written for: no blank stands for a zero in it, no letter for a plus sign, and a zero
+/// has no minus sign.
+fn number_written(text: &[u8]) -> Result<i64, Code>
+    requires low { 1 ≤ length text.now }
+    requires high { length text.now ≤ 15 }
+    ensures { result ≡ as_written text.now (number_in text.now) }
+{
+    let Ok(number) = read_zoned(text) else {
+        return Err(Code::NotAllowed);
+    };
+    let mut places = [0u8; DIGITS];
+    let written = &mut places[..text.len()];
+    write_zoned(number, written);
+    if &*written == text {
+        Ok(number)
+    } else {
+        Err(Code::NotAllowed)
+    }
+}
+
+fn value_at(bytes: &[u8], len: u16) -> Result<(Value, &[u8]), ReadFault>
+    requires low { 1 ≤ len }
+    requires high { len ≤ 15 }
+    ensures { Gives (λ x. (held x.0, x.1.now)) result (read_value len bytes.now) }
+{
+    let len = len as usize;
+    if bytes.len() < len {
+        return Err(ends_early());
+    }
+    let (text, rest) = bytes.split_at(len);
+    match number_written(text) {
+        Ok(number) => Ok((Value::Number(number), rest)),
+        Err(code) => Err(fault_at(bytes, code)),
+    }
+}
+
+/// Reads a value for each field.
+pub fn values_at<'a>(
+    alloc: Global,
+    fields: &[Form],
+    bytes: &'a [u8],
+) -> Result<(Vec<Value>, &'a [u8]), ReadFault>
+    requires { All HasDigits fields.now }
+    ensures { Gives (λ x. (map held x.0.items, x.1.now)) result ((values fields.now).reading bytes.now) }
+{
+    let mut values = Vec::new(alloc);
+    let mut rest = bytes;
+    for field in fields {
+        let (value, after) = value_at(rest, field.length)?;
+        values.push(value)?;
+        rest = after;
+    }
+    Ok((values, rest))
+}

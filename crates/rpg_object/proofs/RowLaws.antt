@@ -1,0 +1,176 @@
+-- The laws of the formats of rows.
+use Rattle.std.proofs.Common.{◌≡◌, ℕ, zero, suc, ◌+◌, ◌-◌, ◌*◌, ◌^◌, ◌<◌, ◌≤◌, Bool, true, false, cond, List, [], ◌∷◌, ◌++◌, length, take, drop, Option, Some, None, Result, Ok, Err, ℤ, refl, sym, ap, subst, ◌∙◌, arith, inl, inr, eqb, leb, ltb, eqb-true, unsigned_abs, length-append}
+use Rattle.std.specs.Prelude.{◌⊎◌}
+use Rattle.rpg_decimal.specs.Zoned.{number_in, zoned_text}
+use Rattle.rpg_effect.specs.declared.form.Class.TheVariants as class
+use Rattle.rpg_effect.specs.declared.form.Form.{Form}
+use Rattle.rpg_effect.specs.declared.form.Kind.TheVariants as kind
+use Rattle.rpg_effect.specs.declared.line.Condition.{Condition}
+use Rattle.rpg_effect.specs.declared.line.File.TheVariants.{Printer}
+use Rattle.rpg_effect.specs.declared.line.LineField.{LineField}
+use Rattle.rpg_effect.specs.declared.line.Time.TheVariants as time
+use Rattle.rpg_effect.specs.declared.operation.Action.TheVariants as actions
+use Rattle.rpg_effect.specs.declared.operation.Instruction.{Instruction}
+use Rattle.rpg_effect.specs.declared.operation.Instruction.TheVariants.{Act}
+use Rattle.rpg_format.specs.declared.fault.Code.{Code}
+use Rattle.rpg_format.specs.declared.fault.Code.TheVariants.{NotAllowed, Unused, PastLimit}
+use Rattle.rpg_format.specs.Format.{Format, byte, two_bytes, pair, row, times_with, table, keep}
+use Rattle.rpg_format.specs.Numbers.{is_between, flag_number, up_to, count}
+use Rattle.rpg_format.proofs.Laws.{IsFormat, IsRule, byte_law, two_law, pair_law, row_law, times_law, table_law}
+use Rattle.rpg_format.proofs.Rules.{chosen, stands_for, value_is, guarded, choice_rule, up_to_rule, number_law, any_number_law, byte_where_law, yes_or_no_law, count_law, only_byte_law, only_number_law}
+use Rattle.rpg_object.specs.declared.operation.Operation.{Operation}
+use Rattle.rpg_object.specs.declared.operation.Operation.TheVariants as op
+use Rattle.rpg_object.specs.declared.row.Move.{Move}
+use Rattle.rpg_object.specs.Object.{TypeRow, LineRow}
+use Rattle.rpg_object.specs.Rows.{no_byte, no_number, no_rows, unused_byte, unused_number, kind_number, class_number, is_decimals, entries_within, field, storage_after, fields, indicator_of, indicator_number, move_row, TypeParts, type_parts, record_type, file_number, time_number, condition, counted_rows, alternative, line_field, alternative_count, LineParts, line_parts, line, operation_number, has_factor1, used, index_code, operand, InstructionParts, numbers, action_of, numbers_of, instruction}
+
+-- ---- fields
+
+entries_rule : (len storage : ℕ) → IsRule (entries_within len storage) (λ n. n)
+entries_rule len storage n x e =
+    elim (chosen (eqb n 1) (cond (leb (len * n) storage) (stands_for n) (Err PastLimit)) (Err NotAllowed) (stands_for x) e) [
+      | inl w ↦ sym (guarded (leb (len * n) storage) PastLimit n x w.1)
+      | inr w ↦ absurd (let k = w.1 in cc)
+    ]
+
+pub field_law : (storage : ℕ) → IsFormat (field storage)
+unfolding field
+field_law storage =
+    row_law _ _ _ (λ a h. refl) (λ x. refl)
+    (pair_law _ _ (byte_law _ _ (choice_rule (kind.Number ∷ []) kind_number)) (λ k.
+    pair_law _ _ (byte_law _ _ (choice_rule (class.Plain ∷ []) class_number)) (λ c.
+    pair_law _ _ (number_law (is_between 1 15)) (λ len.
+    pair_law _ _ (byte_where_law (is_decimals len)) (λ decimals.
+    pair_law _ _ (byte_law _ _ (choice_rule (false ∷ []) flag_number)) (λ is_ascending.
+    two_law _ _ (entries_rule len storage)))))))
+
+pub fields_law : (n : ℕ) → IsFormat (fields n)
+unfolding fields
+fields_law n = times_law field storage_after field_law n 65535
+
+-- ---- record types
+
+indicator_rule : IsRule indicator_of indicator_number
+indicator_rule n x e =
+    elim (chosen (eqb n 0) (stands_for None) (cond (leb n 129) (stands_for (Some n)) (Err NotAllowed)) (stands_for x) e) [
+      | inl w ↦ ap indicator_number (sym (value_is None x w.1)) ∙ sym (eqb-true _ _ w.0)
+      | inr w ↦ sym (ap indicator_number (guarded (leb n 129) NotAllowed (Some n) x w.1))
+    ]
+
+pub move_law : IsFormat move_row
+unfolding move_row
+move_law =
+    row_law _ _ _ (λ a h. refl) (λ x. refl)
+    (pair_law _ _ any_number_law (λ from. pair_law _ _ any_number_law (λ to. pair_law _ _ any_number_law (λ f.
+    pair_law _ _ (only_byte_law 0 NotAllowed) (λ plus. pair_law _ _ (only_byte_law 0 NotAllowed) (λ minus. pair_law _ _ (only_byte_law 0 NotAllowed) (λ zero_on. only_byte_law 0 Unused)))))))
+
+type_parts_law : IsFormat type_parts
+unfolding type_parts
+type_parts_law =
+    pair_law _ _ (byte_law _ _ indicator_rule) (λ indicator. pair_law _ _ (only_byte_law 0 Unused) (λ nothing.
+    pair_law _ _ (only_number_law 0 PastLimit) (λ codes. pair_law _ _ (only_number_law 0 PastLimit) (λ levels.
+    pair_law _ _ (count_law 500) (λ moves. table_law moves move_row move_law)))))
+
+abbrev type_with : TypeParts → ℕ → TypeParts
+type_with a m = (a.0, (tt, (tt, (tt, (m, a.1.1.1.1.1)))))
+
+type_there : (a : TypeParts) → type_parts.Holds a → type_with a (length a.1.1.1.1.1) ≡ a
+unfolding type_parts pair times_with
+type_there a h = ap (λ (k : ℕ). type_with a k) h.1.1.1.1.1.0
+
+pub record_type_law : IsFormat record_type
+unfolding record_type
+record_type_law = row_law _ _ _ type_there (λ x. refl) type_parts_law
+
+-- ---- output lines
+
+pub condition_law : IsFormat condition
+unfolding condition
+condition_law = row_law _ _ _ (λ a h. refl) (λ x. refl) (pair_law _ _ yes_or_no_law (λ is_negated. byte_where_law (is_between 1 129)))
+
+counted_there : {X : Type 0} (limit : ℕ) (f : Format X) (a : ℕ × List X) → (pair (count limit) (λ n. table n f)).Holds a → (length a.1, a.1) ≡ a
+unfolding pair times_with
+counted_there {X} limit f a h = ap (λ (k : ℕ). with_count k a.1) h.1.0
+  where
+    with_count : ℕ → List X → ℕ × List X
+    with_count k xs = (k, xs)
+
+counted_law : {X : Type 0} (limit : ℕ) (f : Format X) → IsFormat f → IsFormat (counted_rows limit f)
+counted_law limit f p = row_law _ _ _ (counted_there limit f) (λ x. refl) (pair_law _ _ (count_law limit) (λ n. table_law n f p))
+
+pub alternative_law : IsFormat alternative
+unfolding alternative
+alternative_law = counted_law 60 condition condition_law
+
+pub line_field_law : IsFormat line_field
+unfolding line_field
+line_field_law =
+    row_law _ _ _ (λ a h. refl) (λ x. refl)
+    (pair_law _ _ (only_byte_law 1 NotAllowed) (λ k. pair_law _ _ (only_byte_law 0 NotAllowed) (λ edit. pair_law _ _ (only_byte_law 0 NotAllowed) (λ fill. pair_law _ _ (only_byte_law 0 NotAllowed) (λ blank_after.
+    pair_law _ _ any_number_law (λ f. pair_law _ _ (only_number_law 0 NotAllowed) (λ index. pair_law _ _ (only_number_law 0 NotAllowed) (λ word. pair_law _ _ any_number_law (λ end.
+    pair_law _ _ (only_byte_law 0 NotAllowed) (λ first. pair_law _ _ (only_byte_law 0 NotAllowed) (λ second. pair_law _ _ (only_byte_law 0 NotAllowed) (λ third. only_byte_law 0 NotAllowed))))))))))))
+
+alternative_rule : IsRule alternative_count (λ n. n)
+alternative_rule n x e =
+    elim (chosen (ltb 0 n) (up_to 1 n) (Err NotAllowed) (stands_for x) e) [
+      | inl w ↦ up_to_rule 1 n x w.1
+      | inr w ↦ absurd (let m = w.1 in cc)
+    ]
+
+line_parts_law : IsFormat line_parts
+unfolding line_parts
+line_parts_law =
+    pair_law _ _ (byte_law _ _ (choice_rule (Printer ∷ []) file_number)) (λ f. pair_law _ _ (byte_law _ _ (choice_rule (time.Detail ∷ []) time_number)) (λ t.
+    pair_law _ _ (byte_where_law (λ n. eqb n 0)) (λ space_before. pair_law _ _ (byte_where_law (λ n. eqb n 1)) (λ space_after. pair_law _ _ (byte_where_law (λ n. eqb n 0)) (λ skip_before. pair_law _ _ (byte_where_law (λ n. eqb n 0)) (λ skip_after.
+    pair_law _ _ (two_law _ _ alternative_rule) (λ alternatives. pair_law _ _ (count_law 200) (λ line_fields. pair_law _ _ (only_number_law 0 Unused) (λ nothing.
+    pair_law _ _ (table_law alternatives alternative alternative_law) (λ as_. table_law line_fields line_field line_field_law))))))))))
+
+abbrev line_with : LineParts → ℕ → ℕ → LineParts
+line_with a m n = (a.0, (a.1.0, (a.1.1.0, (a.1.1.1.0, (a.1.1.1.1.0, (a.1.1.1.1.1.0, (m, (n, (tt, (a.1.1.1.1.1.1.1.1.1.0, a.1.1.1.1.1.1.1.1.1.1))))))))))
+
+line_there : (a : LineParts) → line_parts.Holds a → line_with a (length a.1.1.1.1.1.1.1.1.1.0) (length a.1.1.1.1.1.1.1.1.1.1) ≡ a
+unfolding line_parts pair times_with
+line_there a h =
+    ap (λ (k : ℕ). line_with a k (length a.1.1.1.1.1.1.1.1.1.1)) h.1.1.1.1.1.1.1.1.1.0.0
+    ∙ ap (λ (k : ℕ). line_with a a.1.1.1.1.1.1.0 k) h.1.1.1.1.1.1.1.1.1.1.0
+
+pub line_law : IsFormat line
+unfolding line
+line_law = row_law _ _ _ line_there (λ x. refl) line_parts_law
+
+-- ---- instructions
+
+used_rule : (is_used : Bool) → IsRule (used is_used) (λ n. n)
+used_rule true n x e = sym (value_is n x e)
+used_rule false n x e = sym (guarded (eqb n 0) Unused n x e)
+
+pub operand_law : (is_used : Bool) → IsFormat (operand is_used)
+unfolding operand
+operand_law is_used = row_law _ _ _ (λ a h. refl) (λ x. refl) (pair_law _ _ (two_law _ _ (used_rule is_used)) (λ n. only_number_law 0 (index_code is_used)))
+
+-- a number that isn't used is 0
+unused_zero : (n : ℕ) → (operand false).Holds n → n ≡ 0
+unfolding operand row pair two_bytes
+unused_zero n h =
+    elim (chosen (eqb n 0) (stands_for n) (Err Unused) (stands_for n) h.0.0) [
+      | inl w ↦ eqb-true _ _ w.0
+      | inr w ↦ absurd (let m = w.1 in cc)
+    ]
+
+instruction_there : (o : Operation) (factor1 factor2 res : ℕ) → (operand (has_factor1 o)).Holds factor1 → numbers_of (Act (action_of o factor1 factor2 res)) ≡ numbers o factor1 factor2 res
+instruction_there op.Add factor1 factor2 res h = refl
+instruction_there op.ZeroAdd factor1 factor2 res h = ap (λ (n : ℕ). numbers op.ZeroAdd n factor2 res) (sym (unused_zero factor1 h))
+
+instruction_back : (i : Instruction ℕ) → Act (action_of (numbers_of i).0 (numbers_of i).1.1.0 (numbers_of i).1.1.1.0 (numbers_of i).1.1.1.1.0) ≡ i
+instruction_back (Act (actions.Add factor1 factor2 res)) = refl
+instruction_back (Act (actions.ZeroAdd factor2 res)) = refl
+
+pub instruction_law : IsFormat instruction
+unfolding instruction pair
+instruction_law =
+    row_law _ _ _ (λ a h. instruction_there a.0 a.1.1.0 a.1.1.1.0 a.1.1.1.1.0 h.1.1.0) instruction_back
+    (pair_law _ _ (byte_law _ _ (choice_rule (op.Add ∷ op.ZeroAdd ∷ []) operation_number)) (λ o.
+    pair_law _ _ (only_byte_law 0 NotAllowed) (λ half.
+    pair_law _ _ (operand_law (has_factor1 o)) (λ factor1. pair_law _ _ (operand_law true) (λ factor2. pair_law _ _ (operand_law true) (λ res.
+    pair_law _ _ (only_byte_law 0 NotAllowed) (λ first. pair_law _ _ (only_byte_law 0 NotAllowed) (λ second. pair_law _ _ (only_byte_law 0 NotAllowed) (λ third.
+    pair_law _ _ (only_number_law 0 Unused) (λ target. only_byte_law 0 Unused))))))))))
