@@ -1,5 +1,6 @@
 -- Loops that read or write rows: what was done, and what is still to do.
 use Rattle.std.proofs.Common.{◌≡◌, ℕ, zero, suc, ◌+◌, ◌-◌, ◌<◌, ◌≤◌, List, [], ◌∷◌, ◌++◌, length, get_or, take, drop, Result, Ok, Err, refl, sym, ap, ◌∙◌, append_assoc, append-nil, arith, drop-cons, add-one}
+use Rattle.std.proofs.lemmas.List.{drop_all}
 use Rattle.rpg_format.specs.declared.fault.Fault.{Fault}
 use Rattle.rpg_format.specs.declared.fault.ReadFault.{ReadFault}
 use Rattle.rpg_format.specs.declared.fault.ReadFault.TheVariants as faults
@@ -40,3 +41,17 @@ is_done {S} {X} read next front count i s bytes total le so_far =
     let k : count - i ≡ 0 = omega arith in
     let one : with_front front (read_times read next (count - i) s bytes) ≡ Ok (front, bytes) = rw k (ap (λ (xs : List X). Ok (xs, bytes)) (append-nil front)) in
     sym so_far ∙ one
+
+-- ---- rows that are written
+
+pub writes_on : {S X : Type 0} (spell : S → X → List ℕ) (next : S → X → S) (out piece : List ℕ) (s s' : S) (xs : List X) (i : ℕ) (x : X) (total : List ℕ) → drop i xs ≡ x ∷ drop (i + 1) xs → spell s x ≡ piece → next s x ≡ s'
+    → out ++ spelled_along spell next s (drop i xs) ≡ total → (out ++ piece) ++ spelled_along spell next s' (drop (i + 1) xs) ≡ total
+writes_on spell next out piece s s' xs i x total more text after so_far =
+    append_assoc out piece (spelled_along spell next s' (drop (i + 1) xs))
+    ∙ ap (λ (t : List ℕ). out ++ (t ++ spelled_along spell next s' (drop (i + 1) xs))) (sym text)
+    ∙ ap (λ t. out ++ (spell s x ++ spelled_along spell next t (drop (i + 1) xs))) (sym after)
+    ∙ ap (λ (ys : List _). out ++ spelled_along spell next s ys) (sym more) ∙ so_far
+
+pub all_written : {S X : Type 0} (spell : S → X → List ℕ) (next : S → X → S) (out : List ℕ) (s : S) (xs : List X) (i : ℕ) (total : List ℕ) → length xs ≤ i → out ++ spelled_along spell next s (drop i xs) ≡ total → out ≡ total
+all_written spell next out s xs i total le so_far =
+    sym (append-nil out) ∙ ap (λ (ys : List _). out ++ spelled_along spell next s ys) (sym (drop_all i xs le)) ∙ so_far

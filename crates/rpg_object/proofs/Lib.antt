@@ -1,5 +1,6 @@
 pub mod FieldsLeft
 pub mod ObjectLaws
+pub mod PlainRows
 pub mod RowLaws
 pub mod Texts
 pub mod ValueLaws

@@ -1,5 +1,5 @@
 -- The formats of rows, number by number.
-use Rattle.std.specs.Prelude.{◌≡◌, ℕ, zero, suc, ◌+◌, ◌-◌, ◌*◌, ◌^◌, ◌<◌, ◌≤◌, ℤ, unsigned_abs, List, [], ◌∷◌, length, take, drop, Bool, true, false, ◌&&◌, ◌==◌, nat_lt, nat_le, if◌then◌else◌, Option, Some, None, Result, Ok, Err}
+use Rattle.std.specs.Prelude.{◌≡◌, ℕ, zero, suc, ◌+◌, ◌-◌, ◌*◌, ◌^◌, ◌<◌, ◌≤◌, ℤ, unsigned_abs, List, [], ◌∷◌, length, take, drop, slice_index_or, Bool, true, false, ◌&&◌, ◌==◌, nat_lt, nat_le, if◌then◌else◌, Option, Some, None, Result, Ok, Err}
 use Rattle.std.specs.Str.{bytes_eq}
 use Rattle.rpg_decimal.specs.Zoned.{number_in, zoned_text}
 use Rattle.rpg_effect.specs.declared.form.Class.{Class}
@@ -137,6 +137,10 @@ value len = record {
 -- 1 to 15 digits
 abbrev pub HasDigits : Form → Type 0
 HasDigits f = (1 ≤ f.length) × (f.length ≤ 15)
+
+-- a number for each field, of as many digits as the field has
+abbrev pub AreNumbersOf : List Form → List Value → Type 0
+AreNumbersOf fs vs = (length vs ≡ length fs) × ((i : ℕ) (f : Form) (v : Value) → i < length fs → IsNumberOf (slice_index_or fs i f).length (slice_index_or vs i v))
 
 abbrev pub next_length : List Form → ℕ
 next_length [] = 0

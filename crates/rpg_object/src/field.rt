@@ -1,11 +1,11 @@
 //! Fields, 8 bytes each.
 
-ghost use Rattle.std.specs.Prelude.{◌≡◌, ◌++◌, length, Result, OnOk};
+ghost use Rattle.std.specs.Prelude.{◌≡◌, ◌++◌, All, length, Result, IfOk, OnOk};
 ghost use Rattle.rpg_format.specs.declared.fault.Code.{Code};
 ghost use Rattle.rpg_format.specs.Format.{read_byte, read_two, spelled_along};
 ghost use Rattle.rpg_format.specs.Numbers.{allowed};
 ghost use Rattle.rpg_format.specs.Reading.{Gives};
-ghost use Rattle.rpg_object.specs.Rows.{class_number, class_of, entries_within, field, fields, is_decimals, kind_number, kind_of, sequence_of, storage_after};
+ghost use Rattle.rpg_object.specs.Rows.{class_number, class_of, entries_within, field, fields, is_decimals, kind_number, kind_of, sequence_of, storage_after, HasDigits};
 
 use std::alloc::{AllocError, Global};
 
@@ -151,7 +151,8 @@ pub fn fields_at(
     count: u16,
     bytes: &[u8],
 ) -> Result<(Vec<Form>, &[u8]), ReadFault>
-    ensures { Gives (λ x. (x.0.items, x.1.now)) result ((fields count).reading bytes.now) }
+    ensures read { Gives (λ x. (x.0.items, x.1.now)) result ((fields count).reading bytes.now) }
+    ensures digits { IfOk result (λ x. All HasDigits x.0.items) }
 {
     let mut fields = Vec::new(alloc);
     let mut rest = bytes;

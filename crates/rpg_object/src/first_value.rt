@@ -1,12 +1,12 @@
 //! First values of fields, each in as many bytes as its field has digits.
 
-ghost use Rattle.std.specs.Prelude.{◌≡◌, ◌≤◌, All, length, map};
+ghost use Rattle.std.specs.Prelude.{◌≡◌, ◌++◌, ◌≤◌, All, length, map, OnOk};
 ghost use Rattle.rpg_decimal.specs.Zoned.{number_in};
 ghost use Rattle.rpg_effect.specs.Values.{held};
 ghost use Rattle.rpg_format.specs.Reading.{Gives};
-ghost use Rattle.rpg_object.specs.Rows.{as_written, read_value, values, HasDigits};
+ghost use Rattle.rpg_object.specs.Rows.{as_written, read_value, value_text, values, AreNumbersOf, HasDigits, IsNumberOf};
 
-use std::alloc::Global;
+use std::alloc::{AllocError, Global};
 
 use rpg_decimal::{read_zoned, write_zoned};
 use rpg_effect::form::Form;
@@ -70,4 +70,38 @@ pub fn values_at<'a>(
         rest = after;
     }
     Ok((values, rest))
+}
+
+/// Writes a value in as many bytes as its field has digits.
+fn put_value(out: &mut Vec<u8>, value: &Value, len: u16) -> Result<(), AllocError>
+    requires low { 1 ≤ len }
+    requires high { len ≤ 15 }
+    requires number { IsNumberOf len (held value.now) }
+    ensures { OnOk result (out.new.items ≡ out.old.items ++ value_text len (held value.now)) }
+{
+    match value {
+        Value::Number(number) => {
+            let mut places = [0u8; DIGITS];
+            let written = &mut places[..len as usize];
+            write_zoned(*number, written);
+            out.extend_from_slice(written)?;
+            Ok(())
+        }
+        Value::Text(text) => {
+            out.extend_from_slice(text)?;
+            Ok(())
+        }
+    }
+}
+
+/// Writes the value of each field.
+pub fn put_values(out: &mut Vec<u8>, fields: &[Form], numbers: &[Value]) -> Result<(), AllocError>
+    requires digits { All HasDigits fields.now }
+    requires numbers { AreNumbersOf fields.now (map held numbers.now) }
+    ensures { OnOk result (out.new.items ≡ out.old.items ++ (values fields.now).spelling (map held numbers.now)) }
+{
+    for (i, field) in fields.iter().enumerate() {
+        put_value(out, &numbers[i], field.length)?;
+    }
+    Ok(())
 }

@@ -1,6 +1,7 @@
 //! Object programs: their rows, and the bytes that spell them.
 #![tactic(auto)]
 
+mod decoding;
 mod field;
 mod first_value;
 mod instruction;
