@@ -2,7 +2,7 @@
 use Rattle.std.proofs.Common.{ℕ, ◌+◌, ◌≤◌, lit≤}
 use Rattle.rpg_sheet.specs.Columns.{Columns, also, past}
 use Rattle.rpg_sheet.specs.Tables.{header, file, type_card, field_card, is_field_card, input_card, calculation_card, no_conditions, no_resulting_indicators, conditions, record_card, output_field_card, output_card}
-use Rattle.rpg_sheet.proofs.Laws.{IsTable, values_law, at_law, blank_law, also_law, past_law, where_law, IsTable-lower}
+use Rattle.rpg_sheet.proofs.Laws.{IsTable, values_law, at_law, blank_law, also_law, past_law, where_law}
 
 infixl 7 ◌⊛◌
 infixl 7 ◌⊘◌

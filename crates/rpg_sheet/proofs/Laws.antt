@@ -1,12 +1,12 @@
 -- What is read from a table is what all its lines say, or the least first column of a bad value.
-use Rattle.std.proofs.Common.{◌≡◌, ℕ, zero, suc, ◌+◌, ◌-◌, ◌<◌, ◌≤◌, Bool, true, false, cond, List, [], ◌∷◌, ◌++◌, length, get_or, Result, Ok, Err, Option, Some, None, refl, sym, ap, subst, ◌∙◌, arith, inl, inr, take, drop, lit≤}
-use Rattle.std.specs.Prelude.{if◌then◌else◌, not, ◌⊎◌, nat_lt, position, OnOk, IfErr}
+use Rattle.std.proofs.Common.{◌≡◌, ℕ, zero, suc, ◌+◌, ◌-◌, ◌<◌, ◌≤◌, Bool, true, false, cond, List, [], ◌∷◌, ◌++◌, length, get_or, Result, Ok, Err, Option, Some, None, refl, sym, ap, subst, ◌∙◌, arith, inl, inr, drop}
+use Rattle.std.specs.Prelude.{if◌then◌else◌, not, ◌⊎◌, position, OnOk, IfErr}
 use Rattle.std.specs.Option.{ok_or}
 use Rattle.std.specs.List.{prefix_len}
 use Rattle.std.proofs.lemmas.Grind.{common_steps}
-use Rattle.std.proofs.lemmas.List.{length-take, length-drop}
+use Rattle.std.proofs.lemmas.List.{length-take}
 use Rattle.rpg_sheet.specs.declared.card.ColumnFault.{ColumnFault}
-use Rattle.rpg_sheet.specs.Columns.{IsLeast, Columns, cols, values, at_with, blank, where_card, also, past, applied, kept, with_value, fault_at, fault_if_some, bad_if_none, filled_from, is_filled}
+use Rattle.rpg_sheet.specs.Columns.{IsLeast, Columns, cols, values, at_with, blank, where_card, also, past, applied, kept, fault_at, fault_if_some, bad_if_none, filled_from, is_filled}
 
 -- columns that rise, from low on and below high
 abbrev pub Rises : ℕ → List ℕ → ℕ → Type 0

@@ -1,10 +1,9 @@
 -- A line with blanks behind its end.
-use Rattle.std.proofs.Common.{◌≡◌, ℕ, zero, suc, ◌+◌, ◌-◌, ◌≤◌, ◌++◌, true, List, [], ◌∷◌, length, take, refl, sym, ap, ◌∙◌, arith, length-append}
-use Rattle.std.specs.Prelude.{IsTrue, replicate, ◌&&◌}
+use Rattle.std.proofs.Common.{◌≡◌, ℕ, zero, suc, ◌-◌, ◌≤◌, ◌++◌, true, List, length, take, refl, arith, length-append}
+use Rattle.std.specs.Prelude.{IsTrue, replicate}
 use Rattle.std.specs.List.{list_all}
 use Rattle.std.proofs.lemmas.List.{length-replicate, take_all}
 use Rattle.std.proofs.lemmas.List.Folds.{list_all-append}
-use Rattle.std.proofs.lemmas.Grind.{common_steps}
 use Rattle.rpg_sheet.specs.Values.{is_character}
 
 blank_characters : (n : ℕ) → list_all is_character (replicate n 32) ≡ true

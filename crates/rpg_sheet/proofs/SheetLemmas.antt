@@ -1,5 +1,5 @@
 -- What is kept of the lines before says what is wrong with the next.
-use Rattle.std.proofs.Common.{◌≡◌, ℕ, zero, suc, ◌+◌, ◌<◌, ◌≤◌, Bool, true, false, List, [], ◌∷◌, ◌++◌, length, Option, Some, None, refl, sym, ap, ◌∙◌, arith, length-append}
+use Rattle.std.proofs.Common.{◌≡◌, ℕ, ◌+◌, ◌<◌, Bool, true, false, List, [], ◌∷◌, ◌++◌, length, Option, Some, None, refl, sym, ◌∙◌, arith, length-append}
 use Rattle.std.specs.Prelude.{if◌then◌else◌, ◌||◌, ◌&&◌, not, nat_lt, nat_le, is_none}
 use Rattle.std.specs.List.{list_any, list_all}
 use Rattle.std.specs.Option.{option_map_or, option_or}
@@ -9,10 +9,9 @@ use Rattle.std.proofs.lemmas.Grind.{common_steps}
 use Rattle.rpg_sheet.specs.declared.sheet.FormType.{FormType}
 use Rattle.rpg_sheet.specs.declared.sheet.SheetCode.{SheetCode}
 use Rattle.rpg_sheet.specs.declared.sheet.SheetCode.TheVariants.{S1, S2, S3, S4, S5, S6}
-use Rattle.rpg_sheet.specs.declared.sheet.SheetFault.{SheetFault}
 use Rattle.rpg_sheet.specs.declared.sheet.SheetFault.TheVariants.{At}
 use Rattle.rpg_sheet.specs.Values.{is_character}
-use Rattle.rpg_sheet.specs.Sheet.{card_of, ends_source, is_sheet, form_type, place_of, comes_after, has_bad_column, code_of, fault_behind, source}
+use Rattle.rpg_sheet.specs.Sheet.{card_of, ends_source, is_sheet, form_type, place_of, comes_after, has_bad_column, is_readable, code_of, fault_behind, source}
 use Rattle.rpg_sheet.specs.Seen.{IsSeen, form_code, sheet_code, code_seen}
 
 -- which of six tests is the first that passes
@@ -79,6 +78,22 @@ few_seen count latest line h = by (nat_lt 80 (length line)) (not (list_all is_ch
     by false true x e = absurd cc
     by false false (Some c) e = absurd cc
     by false false None e = grind (arith, common_steps)
+
+pub readable_seen : (count latest : ℕ) (line : List ℕ) → code_seen count latest line ≡ None → is_readable (card_of line) ≡ true
+readable_seen count latest line h = by (nat_lt 80 (length line)) (not (list_all is_character line)) (is_sheet (card_of line)) (form_type (card_of line)) h
+  where
+    by : (a b s : Bool) (f : Option FormType) → (if a then Some S1 else if b then Some S2 else option_or (if s then form_code latest (card_of line) f else None) (if nat_le 2000 count then Some S6 else None)) ≡ None
+        → option_map_or (λ g. not (has_bad_column g (card_of line))) (on_sheet s f) true ≡ true
+    by true b s f e = absurd cc
+    by false true s f e = absurd cc
+    by false false false f e = refl
+    by false false true None e = absurd cc
+    by false false true (Some g) e = two (nat_lt (place_of g) latest) (has_bad_column g (card_of line)) e
+      where
+        two : (l w : Bool) → option_or (if l then Some S4 else if w then Some S5 else None) (if nat_le 2000 count then Some S6 else None) ≡ None → not w ≡ true
+        two true w e = absurd cc
+        two false true e = absurd cc
+        two false false e = refl
 
 -- ---- a line more
 

@@ -1,5 +1,5 @@
 -- What the columns of a card hold: one line for each range of columns.
-use Rattle.std.specs.Prelude.{◌≡◌, ◌≤◌, ◌<◌, length, slice_index, ℕ, ◌+◌, ◌-◌, List, [], ◌∷◌, ◌++◌, Bool, Option, None, Some, Result, Ok, Err, slice_range, position, is_some, if◌then◌else◌, ◌==◌, not}
+use Rattle.std.specs.Prelude.{◌≡◌, ◌≤◌, ◌<◌, length, slice_index, ℕ, ◌+◌, ◌-◌, List, [], ◌∷◌, ◌++◌, Bool, Option, None, Some, Result, Ok, Err, slice_range, position, if◌then◌else◌, ◌==◌, not}
 use Rattle.std.specs.Option.{ok_or}
 use Rattle.rpg_sheet.specs.declared.card.ColumnFault.{ColumnFault}
 

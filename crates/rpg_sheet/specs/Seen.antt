@@ -1,5 +1,5 @@
 -- What is kept of the lines before, and the code of a line that it leads to.
-use Rattle.std.specs.Prelude.{◌≡◌, ℕ, List, length, Bool, Option, None, Some, if◌then◌else◌, not, nat_le, nat_lt}
+use Rattle.std.specs.Prelude.{◌≡◌, ℕ, List, length, Option, None, Some, if◌then◌else◌, not, nat_le, nat_lt}
 use Rattle.std.specs.List.{list_all, list_any}
 use Rattle.std.specs.Option.{option_or}
 use Rattle.rpg_sheet.specs.declared.sheet.FormType.{FormType}

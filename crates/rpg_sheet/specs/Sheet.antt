@@ -80,6 +80,10 @@ has_bad_column form.Input card = is_err (input_card.reading card)
 has_bad_column form.Calculation card = is_err (calculation_card.reading card)
 has_bad_column form.Output card = is_err (output_card.reading card)
 
+-- the card is on no sheet, or its columns are good
+abbrev pub is_readable : List ℕ → Bool
+is_readable card = option_map_or (λ f. not (has_bad_column f card)) (sheet_of card) true
+
 abbrev pub has : List (List ℕ) → List ℕ → SheetCode → Bool
 has earlier line S1 = nat_lt 80 (length line)
 has earlier line S2 = not (list_all is_character line)

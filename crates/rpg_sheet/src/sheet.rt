@@ -1,7 +1,8 @@
 //! The sheets of a source, and what can be wrong with its cards.
 
-ghost use Rattle.std.specs.Prelude.{◌≡◌, ◌≤◌};
+ghost use Rattle.std.specs.Prelude.{◌≡◌, ◌≤◌, length, IsTrue, vec_len};
 ghost use Rattle.rpg_sheet.specs.Sheet as sheets;
+ghost use Rattle.std.specs.List.{list_all};
 ghost use Rattle.rpg_sheet.specs.Seen.{sheet_code};
 ghost use Rattle.rpg_sheet.specs.declared.sheet.SheetFault.TheVariants.{NoMemory};
 
@@ -78,29 +79,37 @@ impl<T: Drop> From<AllocFailed<T>> for SheetFault {
     }
 }
 
-/// The cards of a source: card n is the one at place n - 1.
+/// The cards of a source without faults: card n is the one at place n - 1.
 #[derive(Drop)]
 pub struct Cards {
     cards: Vec<Card>,
 }
 
 impl Model for Cards {
-    ghost use Rattle.std.specs.Prelude.{ℕ, List};
+    ghost use Rattle.std.specs.Prelude.{ℕ, List, IsTrue, vec_len, ◌≤◌};
+    ghost use Rattle.std.specs.List.{list_all};
+    ghost use Rattle.rpg_sheet.specs.Sheet.{is_readable};
 
     ghost Value = { List (List ℕ) };
 
     ghost view = { λ c. c.cards.items };
+
+    ghost invariant = { λ c. IsTrue (list_all is_readable c.cards.items) × (vec_len c.cards ≤ 2000) };
 }
 
 impl Cards {
     pub(crate) fn new(cards: Vec<Card>) -> Self
+        requires readable { IsTrue (list_all sheets.is_readable cards.items) }
+        requires few { vec_len cards ≤ 2000 }
         ensures { result ≡ cards.items }
     {
         Cards { cards }
     }
 
     pub fn as_slice(&self) -> &[Card]
-        ensures { result.now ≡ self.now }
+        ensures value { result.now ≡ self.now }
+        ensures readable { IsTrue (list_all sheets.is_readable self.now) }
+        ensures few { length self.now ≤ 2000 }
     {
         self.cards.as_slice()
     }

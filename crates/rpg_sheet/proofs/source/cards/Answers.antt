@@ -1,8 +1,14 @@
-use Rattle.std.proofs.Common.{◌≡◌, ◌+◌, ◌<◌, List, [], ◌∷◌, ◌++◌, ap, sym, ◌∙◌, arith, append_assoc, vec_len, ℕ}
+use Rattle.std.proofs.Common.{◌≡◌, ◌+◌, ◌<◌, true, refl, List, [], ◌∷◌, ◌++◌, ap, sym, ◌∙◌, arith, append_assoc, vec_len, ℕ}
 use Rattle.std.proofs.lemmas.List.{map-append}
-use Rattle.rpg_sheet.specs.Sheet.{card_of, ends_source, source}
-use Rattle.rpg_sheet.proofs.SheetLemmas.{seen-push, few_seen, source_ends, source_goes_on, fault_behind-good, fault_behind-bad}
+use Rattle.std.proofs.lemmas.List.Folds.{list_all-append}
+use Rattle.std.specs.Prelude.{IsTrue}
+use Rattle.std.specs.List.{list_all}
+use Rattle.rpg_sheet.specs.Sheet.{card_of, ends_source, is_readable, source}
+use Rattle.rpg_sheet.proofs.SheetLemmas.{seen-push, few_seen, readable_seen, source_goes_on, fault_behind-good, fault_behind-bad}
 use Rattle.rpg_sheet.proofs.source.cards.Goals as goal
+
+readable-push : (cards more : List (List ℕ)) (card : List ℕ) → more ≡ cards ++ card ∷ [] → IsTrue (list_all is_readable cards) → is_readable card ≡ true → IsTrue (list_all is_readable more)
+readable-push cards more card e all last = rw (e, list_all-append is_readable cards (card ∷ []), all, last) refl
 
 pub returns-in-Err-clause-fault : goal.returns-in-Err-clause-fault
 returns-in-Err-clause-fault c =
@@ -24,5 +30,6 @@ loop-rest-preserved c =
       made = rw (c.in_ok-push.ensures.items, kept.made, card) (sym (map-append card_of done (line ∷ [])));
       good = kept.good ∙ rw on (fault_behind-good done (source c.first_line.result.1.now) c.len-count.result c.loop-rest.latest line seen c.in-Ok.ensures.ok.1);
       seen = rw (c.in_ok-push.ensures.len, sym c.len-count.ensures) (seen-push done c.len-count.result c.loop-rest.latest c.latest_after-latest.result line seen (rw card at c.latest_after-latest.ensures));
+      readable = readable-push _ _ _ c.in_ok-push.ensures.items kept.readable (rw card (readable_seen c.len-count.result c.loop-rest.latest line c.in-Ok.ensures.ok.1));
       few = let f : c.len-count.result < 2000 = few_seen c.len-count.result c.loop-rest.latest line c.in-Ok.ensures.ok.1 in let n : c.len-count.result ≡ vec_len c.loop-rest.cards = c.len-count.ensures in let l : vec_len c.push.new.self ≡ vec_len c.loop-rest.cards + 1 = c.in_ok-push.ensures.len in omega arith;
     }

@@ -1,5 +1,7 @@
 use Rattle.std.proofs.Common.{◌≡◌, ℕ, ◌≤◌, ◌++◌, List, length, map, vec_len}
-use Rattle.rpg_sheet.specs.Sheet.{card_of, source, first_fault, fault_behind}
+use Rattle.rpg_sheet.specs.Sheet.{card_of, is_readable, source, first_fault, fault_behind}
+use Rattle.std.specs.Prelude.{IsTrue}
+use Rattle.std.specs.List.{list_all}
 use Rattle.rpg_sheet.specs.Seen.{IsSeen}
 use Rattle.rpg_sheet.proofs.source.cards.Given as goal
 
@@ -11,6 +13,7 @@ invariant-loop-rest l = record {
   made : l.cards.items ≡ map card_of done;
   good : first_fault (source l.text) ≡ fault_behind done (source l.rest);
   seen : IsSeen done (vec_len l.cards) l.latest;
+  readable : IsTrue (list_all is_readable l.cards.items);
   few : vec_len l.cards ≤ 2000;
 }
 

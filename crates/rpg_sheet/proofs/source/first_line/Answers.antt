@@ -1,5 +1,4 @@
-use Rattle.std.proofs.Common.{◌+◌, ◌∙◌, sym, ap, List, ◌∷◌}
-use Rattle.std.specs.Str.Lines.{lines}
+use Rattle.std.proofs.Common.{◌+◌, sym}
 use Rattle.rpg_sheet.proofs.LineLemmas.{lines_at_newline, lines_last, lines_behind}
 use Rattle.rpg_sheet.proofs.source.first_line.Goals as goal
 

@@ -1,4 +1,4 @@
-use Rattle.std.proofs.Common.{◌≡◌, ℕ, ◌+◌, ◌*◌, ◌^◌, ◌<◌, ◌≤◌, arith, get_or}
+use Rattle.std.proofs.Common.{◌+◌, ◌*◌, arith, get_or}
 use Rattle.std.proofs.lemmas.Int.Digits.{digits_value_more}
 use Rattle.std.proofs.lemmas.Str.{digit_value_digit}
 use Rattle.rpg_sheet.proofs.Digits.{is_digit_at, more_fits, short_fits}
