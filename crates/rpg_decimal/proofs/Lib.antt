@@ -1,3 +1,4 @@
+mod LawLemmas
 mod MoveLemmas
 mod OrderLemmas
 mod PlaceLemmas

@@ -15,7 +15,7 @@ use Rattle.rpg_decimal.proofs.WholeLemmas.{ten_pos, ten_le}
 
 -- ---- parts of the digits of a number
 
-div-tens : (m j k : ℕ) → m / 10 ^ j / 10 ^ k ≡ m / 10 ^ (j + k)
+pub div-tens : (m j k : ℕ) → m / 10 ^ j / 10 ^ k ≡ m / 10 ^ (j + k)
 div-tens m j k = div-div-eq-div-mul m (10 ^ j) (10 ^ k) ∙ ap (λ p. m / p) (sym (pow-add 10 j k))
 
 take-digits : (j n m : ℕ) → j ≤ n → take j (digits n m) ≡ digits j (m / 10 ^ (n - j))
@@ -102,7 +102,7 @@ length-overlay_right s o =
     ∙ omega arith
 
 -- the places that the source doesn't reach
-front-overlay_right : (s o : List ℕ) (i : ℕ) → i + length s < length o → get_or (overlay_right s o) i 0 ≡ get_or o i 0
+pub front-overlay_right : (s o : List ℕ) (i : ℕ) → i + length s < length o → get_or (overlay_right s o) i 0 ≡ get_or o i 0
 front-overlay_right s o i h =
     let k = length o - length s in
     let taken = length-take-le k o (omega arith) in

@@ -62,7 +62,7 @@ plus_back size h = omega (arith, ints)
 
 -- ---- characters of digits
 
-digit_stands : (d : ℕ) → d < 10 → is_digit (48 + d) ≡ true
+pub digit_stands : (d : ℕ) → d < 10 → is_digit (48 + d) ≡ true
 digit_stands d h = agree_below_at (λ n. is_digit (48 + n)) (λ _. true) 10 d refl h
 
 pub digit_of-plain : (d : ℕ) → d < 10 → digit_of (48 + d) ≡ d
@@ -77,7 +77,7 @@ digit_of-letter d h = eqb-true _ _ (agree_below_at (λ n. digit_of (minus_letter
 pub is_minus-letter : (d : ℕ) → d < 10 → is_minus (minus_letter d) ≡ true
 is_minus-letter d h = agree_below_at (λ n. is_minus (minus_letter n)) (λ _. true) 10 d refl h
 
-letter_stands : (d : ℕ) → d < 10 → may_stand true (minus_letter d) ≡ true
+pub letter_stands : (d : ℕ) → d < 10 → may_stand true (minus_letter d) ≡ true
 letter_stands d h = agree_below_at (λ n. may_stand true (minus_letter n)) (λ _. true) 10 d refl h
 
 pub plain_stands : (last : Bool) (d : ℕ) → d < 10 → may_stand last (48 + d) ≡ true
@@ -95,7 +95,7 @@ digits-characters : (k m c : ℕ) → map digit_of (map (λ d. 48 + d) (digits k
 digits-characters zero m c = refl
 digits-characters (suc k) m c = ap₂ (◌∷◌) (digit_of-plain (m / 10 ^ k % 10) (omega arith)) (digits-characters k m c)
 
-last_of_push : (xs : List ℕ) (c : ℕ) → last_of (xs ++ c ∷ []) ≡ c
+pub last_of_push : (xs : List ℕ) (c : ℕ) → last_of (xs ++ c ∷ []) ≡ c
 last_of_push xs c = get_or_push xs c 0 (length (xs ++ c ∷ []) - 1) (let e = length_push xs c in omega arith)
 
 -- the digits of a size, its last one apart
@@ -108,7 +108,7 @@ size_whole k size low h =
     ∙ ap (λ v. v * 10 + size % 10) (place_value-digits (k - 1) (size / 10) ∙ mod-eq_of_lt below)
     ∙ div-add-mod' size 10
 
-last_character-pos : (a : ℕ) → last_character (pos a) ≡ 48 + a % 10
+pub last_character-pos : (a : ℕ) → last_character (pos a) ≡ 48 + a % 10
 last_character-pos a = ap (λ b. cond b (minus_letter (a % 10)) (48 + a % 10)) (le-ltb a 0 (omega arith))
 
 spelled-digits : (k m c : ℕ) (b : Bool) → is_minus c ≡ b → spelled_number (map (λ d. 48 + d) (digits k m) ++ c ∷ []) ≡ signed_number b (digits k m ++ digit_of c ∷ [])

@@ -1,4 +1,5 @@
 pub mod Fraction
+pub mod Laws
 pub mod Move
 pub mod Num
 pub mod Order

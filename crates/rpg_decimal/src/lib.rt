@@ -3,6 +3,7 @@
 
 mod arithmetic;
 mod division;
+mod laws;
 mod moves;
 mod num;
 mod order;
@@ -11,6 +12,7 @@ mod zoned;
 
 pub use arithmetic::{add, keep, mult, sub};
 pub use division::{ZeroDivisor, div, remainder};
+pub use laws::{moves_go_by_places, stored_numbers_fit, texts_spell_by_places};
 pub use moves::{Source, move_left, move_left_text, move_right, move_right_text};
 pub use num::{Figure, Num, Rest, Scale, Target};
 pub use order::{compare, compare_text};
