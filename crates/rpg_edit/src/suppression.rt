@@ -10,9 +10,9 @@ pub struct Suppression {
     pub fill: u8,
 }
 
-/// The sign of a number and its digits.
+/// A number by its sign and its size.
 #[derive(Clone, Copy)]
-struct Size {
+struct Number {
     negative: bool,
     size: u64,
 }
@@ -20,12 +20,12 @@ struct Size {
 /// One pass over the marks from the left: the digits still to come, and whether a digit that isn't zero has stood.
 #[derive(Drop)]
 struct Pass {
-    of: Size,
+    number: Number,
     suppression: Suppression,
     left: u8,
     begun: bool,
     ghost few: { left ≤ 16 },
-    ghost has_begun: { begun ≡ is_begun of.size left },
+    ghost has_begun: { begun ≡ is_begun number.size left },
 }
 
 fn digit_at(size: u64, after: u8) -> u8
@@ -49,13 +49,13 @@ fn minus_letter(digit: u8) -> u8
 impl Pass {
     fn take_digit(&mut self) -> u8
         requires { 1 ≤ self.old.left }
-        ensures digit { result ≡ digit_at self.old.of.size self.new.left }
+        ensures digit { result ≡ digit_at self.old.number.size self.new.left }
         ensures left { self.new.left + 1 ≡ self.old.left }
-        ensures of { self.new.of ≡ self.old.of }
+        ensures number { self.new.number ≡ self.old.number }
         ensures suppression { self.new.suppression ≡ self.old.suppression }
     {
         let left = self.left - 1;
-        let digit = digit_at(self.of.size, left);
+        let digit = digit_at(self.number.size, left);
         self.left = left;
         self.begun = self.begun || digit != b'0';
         digit
@@ -64,10 +64,10 @@ impl Pass {
     /// The character at the next mark.
     fn next(&mut self, mark: Mark) -> u8
         requires { IsTrue (is_place mark) → 1 ≤ self.old.left }
-        ensures character { result ≡ character self.old.of.negative self.old.of.size
+        ensures character { result ≡ character self.old.number.negative self.old.number.size
             self.old.suppression.kept self.old.suppression.fill mark self.new.left }
         ensures left { self.new.left ≡ (if is_place mark then self.old.left - 1 else self.old.left) }
-        ensures of { self.new.of ≡ self.old.of }
+        ensures number { self.new.number ≡ self.old.number }
         ensures suppression { self.new.suppression ≡ self.old.suppression }
     {
         match mark {
@@ -81,7 +81,7 @@ impl Pass {
             }
             Mark::Zone => {
                 let digit = self.take_digit();
-                if self.of.negative {
+                if self.number.negative {
                     minus_letter(digit)
                 } else {
                     digit
@@ -95,7 +95,13 @@ impl Pass {
                 }
             }
             Mark::Always(character) => character,
-            Mark::Sign(character) => { if self.of.negative { character } else { b' ' } }
+            Mark::Sign(character) => {
+                if self.number.negative {
+                    character
+                } else {
+                    b' '
+                }
+            }
         }
     }
 }
@@ -111,7 +117,7 @@ pub(crate) fn count_places(marks: &[Mark]) -> u8
 fn write_from(mut pass: Pass, marks: &[Mark], out: &mut [u8])
     requires left { pass.left ≡ places marks.now }
     requires room { length out.old ≡ length marks.now }
-    ensures { out.new ≡ characters pass.of.negative pass.of.size pass.suppression.kept pass.suppression.fill marks.now }
+    ensures { out.new ≡ characters pass.number.negative pass.number.size pass.suppression.kept pass.suppression.fill marks.now }
 {
     for (i, mark) in marks.iter().enumerate() {
         out[i] = pass.next(*mark);
@@ -127,7 +133,7 @@ pub(crate) fn write(n: i64, marks: &[Mark], suppression: Suppression, out: &mut 
     ensures { out.new ≡ text_of n suppression.kept suppression.fill marks.now }
 {
     let pass = Pass {
-        of: Size {
+        number: Number {
             negative: n < 0,
             size: n.unsigned_abs(),
         },
