@@ -18,3 +18,6 @@ pub use num::{Figure, Num, Rest, Scale, Target};
 pub use order::{compare, compare_text};
 pub use whole::{align, fit};
 pub use zoned::{BadDigit, read_zoned, write_zoned};
+
+#[cfg(test)]
+mod tests;
