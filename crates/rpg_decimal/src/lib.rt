@@ -20,4 +20,6 @@ pub use whole::{align, fit};
 pub use zoned::{BadDigit, read_zoned, write_zoned};
 
 #[cfg(test)]
+mod examples;
+#[cfg(test)]
 mod tests;
