@@ -1,6 +1,7 @@
 -- Loops that read or write rows: what was done, and what is still to do.
-use Rattle.std.proofs.Common.{◌≡◌, ℕ, zero, suc, ◌+◌, ◌-◌, ◌<◌, ◌≤◌, List, [], ◌∷◌, ◌++◌, length, get_or, take, drop, Result, Ok, Err, refl, sym, ap, ◌∙◌, append_assoc, append-nil, arith, drop-cons, add-one}
-use Rattle.std.proofs.lemmas.List.{drop_all}
+use Rattle.std.proofs.Common.{◌≡◌, ℕ, zero, suc, ◌+◌, ◌-◌, ◌<◌, ◌≤◌, List, [], ◌∷◌, ◌++◌, length, get_or, take, drop, Result, Ok, Err, refl, sym, ap, ◌∙◌, append_assoc, append-nil, arith, drop-cons, add-one, map, subst}
+use Rattle.std.proofs.lemmas.List.{drop_all, get_or-map, length-map}
+use Rattle.std.specs.Prelude.{All}
 use Rattle.rpg_format.specs.declared.fault.Fault.{Fault}
 use Rattle.rpg_format.specs.declared.fault.ReadFault.{ReadFault}
 use Rattle.rpg_format.specs.declared.fault.ReadFault.TheVariants as faults
@@ -55,3 +56,20 @@ writes_on spell next out piece s s' xs i x total more text after so_far =
 pub all_written : {S X : Type 0} (spell : S → X → List ℕ) (next : S → X → S) (out : List ℕ) (s : S) (xs : List X) (i : ℕ) (total : List ℕ) → length xs ≤ i → out ++ spelled_along spell next s (drop i xs) ≡ total → out ≡ total
 all_written spell next out s xs i total le so_far =
     sym (append-nil out) ∙ ap (λ (ys : List _). out ++ spelled_along spell next s ys) (sym (drop_all i xs le)) ∙ so_far
+
+-- ---- rows as their definitions see them
+
+-- the row at a place
+pub mapped-at : {X Y : Type 0} (view : X → Y) (xs : List X) (i : ℕ) (x : X) → i < length xs → x ≡ get_or xs i x → get_or (map view xs) i (view x) ≡ view x
+mapped-at view xs i x lt e = get_or-map view xs i x (view x) lt ∙ ap view (sym e)
+
+-- the rows from a place on
+pub mapped-drop : {X Y : Type 0} (view : X → Y) (xs : List X) (i : ℕ) (x : X) → i < length xs → x ≡ get_or xs i x → drop i (map view xs) ≡ view x ∷ drop (i + 1) (map view xs)
+mapped-drop view xs i x lt e =
+    drop-cons (map view xs) i (view x) (omega (arith, length-map xs view))
+    ∙ ap (λ v. v ∷ drop (suc i) (map view xs)) (mapped-at view xs i x lt e)
+    ∙ ap (λ (k : ℕ). view x ∷ drop k (map view xs)) (sym (add-one i))
+
+-- what all rows keep, the row at a place keeps
+pub mapped_keeps : {X Y : Type 0} (view : X → Y) (P : Y → Type 0) (xs : List X) (i : ℕ) (x : X) → i < length xs → x ≡ get_or xs i x → All P (map view xs) → P (view x)
+mapped_keeps view P xs i x lt e h = subst P (mapped-at view xs i x lt e) (h i (view x) (omega (arith, length-map xs view)))

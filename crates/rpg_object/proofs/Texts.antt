@@ -1,8 +1,9 @@
 -- Texts of tables, row by row.
-use Rattle.std.proofs.Common.{◌≡◌, ℕ, List, [], ◌∷◌, ◌++◌, refl, ap}
+use Rattle.std.proofs.Common.{◌≡◌, ℕ, List, [], ◌∷◌, ◌++◌, refl, sym, ap, ◌∙◌, append_assoc}
 use Rattle.rpg_effect.specs.declared.form.Form.{Form}
 use Rattle.rpg_format.specs.Format.{keep, spelled_along, times_with, byte, two_bytes, pair, row}
-use Rattle.rpg_object.specs.Rows.{field, fields, storage_after}
+use Rattle.rpg_object.specs.Object.{LineRow}
+use Rattle.rpg_object.specs.Rows.{field, fields, storage_after, line, line_parts, line_head, alternative, line_field}
 
 -- a field's text doesn't depend on the storage that is left
 abbrev pub field_text : Form → List ℕ
@@ -19,3 +20,20 @@ along_same s (f ∷ fs) = rw (field_same s f) (ap (λ (rest : List ℕ). field_t
 pub fields_text : (n : ℕ) (fs : List Form) → (fields n).spelling fs ≡ spelled_along (λ u f. field_text f) keep tt fs
 unfolding fields times_with
 fields_text n fs = along_same 65535 fs
+
+abbrev alternatives_text : LineRow → List ℕ
+alternatives_text l = spelled_along (λ s x. alternative.spelling x) keep tt l.alternatives
+
+abbrev line_fields_text : LineRow → List ℕ
+line_fields_text l = spelled_along (λ s x. line_field.spelling x) keep tt l.fields
+
+-- a line's text: its numbers, then its tables
+line_text : (l : LineRow) → line.spelling l ≡ line_head l ++ (alternatives_text l ++ line_fields_text l)
+unfolding line line_parts byte two_bytes pair row times_with
+line_text l = refl
+
+pub line_written : (l : LineRow) (old head with_alternatives new : List ℕ) → head ≡ old ++ line_head l → with_alternatives ≡ head ++ alternatives_text l → new ≡ with_alternatives ++ line_fields_text l → new ≡ old ++ line.spelling l
+line_written l old head with_alternatives new a b c =
+    c ∙ ap (λ (t : List ℕ). t ++ line_fields_text l) (b ∙ ap (λ (t : List ℕ). t ++ alternatives_text l) a)
+    ∙ append_assoc (old ++ line_head l) (alternatives_text l) (line_fields_text l) ∙ append_assoc old (line_head l) (alternatives_text l ++ line_fields_text l)
+    ∙ ap (λ (t : List ℕ). old ++ t) (sym (line_text l))

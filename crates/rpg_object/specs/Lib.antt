@@ -1,3 +1,4 @@
 pub mod Object
 pub mod Rows
 pub mod Program
+pub mod Kept

@@ -1,5 +1,5 @@
 -- The formats of rows, number by number.
-use Rattle.std.specs.Prelude.{◌≡◌, ℕ, zero, suc, ◌+◌, ◌-◌, ◌*◌, ◌^◌, ◌<◌, ◌≤◌, ℤ, unsigned_abs, List, [], ◌∷◌, length, take, drop, slice_index_or, Bool, true, false, ◌&&◌, ◌==◌, nat_lt, nat_le, if◌then◌else◌, Option, Some, None, Result, Ok, Err}
+use Rattle.std.specs.Prelude.{◌≡◌, ℕ, zero, suc, ◌+◌, ◌-◌, ◌*◌, ◌/◌, ◌%◌, ◌^◌, ◌<◌, ◌≤◌, ℤ, unsigned_abs, List, [], ◌∷◌, length, take, drop, slice_index_or, Bool, true, false, ◌&&◌, ◌==◌, nat_lt, nat_le, if◌then◌else◌, Option, Some, None, Result, Ok, Err}
 use Rattle.std.specs.Str.{bytes_eq}
 use Rattle.rpg_decimal.specs.Zoned.{number_in, zoned_text}
 use Rattle.rpg_effect.specs.declared.form.Class.{Class}
@@ -252,6 +252,10 @@ line = row
     (λ p. record { file = p.0; time = p.1.0; moves = record { space_before = p.1.1.0; space_after = p.1.1.1.0; skip_before = p.1.1.1.1.0; skip_after = p.1.1.1.1.1.0 }; alternatives = p.1.1.1.1.1.1.1.1.1.0; fields = p.1.1.1.1.1.1.1.1.1.1 })
     (λ l. (l.file, (l.time, (l.moves.space_before, (l.moves.space_after, (l.moves.skip_before, (l.moves.skip_after, (length l.alternatives, (length l.fields, (tt, (l.alternatives, l.fields)))))))))))
     line_parts
+
+-- the bytes of a line before its alternatives and fields
+abbrev pub line_head : LineRow → List ℕ
+line_head l = file_number l.file ∷ time_number l.time ∷ l.moves.space_before ∷ l.moves.space_after ∷ l.moves.skip_before ∷ l.moves.skip_after ∷ length l.alternatives / 256 ∷ length l.alternatives % 256 ∷ length l.fields / 256 ∷ length l.fields % 256 ∷ 0 ∷ 0 ∷ []
 
 -- ---- instructions, 20 bytes
 

@@ -1,11 +1,13 @@
 //! Output lines, with their alternatives and fields.
 
-ghost use Rattle.std.specs.Prelude.{◌≡◌, ◌==◌, ◌++◌, map, OnOk};
-ghost use Rattle.rpg_format.specs.Format.{keep, read_byte, read_two, spelled_along, table};
+ghost use Rattle.std.specs.Prelude.{◌≡◌, ◌==◌, ◌++◌, ◌≤◌, ◌<◌, ◌^◌, All, length, map, OnOk};
+ghost use Rattle.rpg_format.specs.Format.{read_byte, read_two, table};
 ghost use Rattle.rpg_format.specs.Numbers.{allowed};
 ghost use Rattle.rpg_format.specs.Reading.{Gives};
 ghost use Rattle.rpg_object.specs.Object.{line_row};
-ghost use Rattle.rpg_object.specs.Rows.{alternative, alternative_count, condition, file_number, file_of, line, line_field, time_number, time_of};
+ghost use Rattle.rpg_object.specs.Kept.{IsAlternativeRow, IsLineRow};
+ghost use Rattle.rpg_object.specs.Rows as rows;
+ghost use Rattle.rpg_object.specs.Rows.{alternative_count, condition, file_number, file_of, line_field, line_head, time_number, time_of};
 
 use std::alloc::{AllocError, Global};
 
@@ -201,7 +203,7 @@ impl Row for LineField<u16> {
 
 #[tactic(auto, unfolding(rpg_format::specs::Format::two_bytes, rpg_format::specs::Format::pair, rpg_format::specs::Format::row, rpg_format::specs::Format::times_with, crate::specs::Rows::alternative))]
 fn alternative_at(alloc: Global, bytes: &[u8]) -> Result<(Vec<Condition>, &[u8]), ReadFault>
-    ensures { Gives (λ x. (x.0.items, x.1.now)) result (alternative.reading bytes.now) }
+    ensures { Gives (λ x. (x.0.items, x.1.now)) result (rows.alternative.reading bytes.now) }
 {
     let (count, rest) = count_at(bytes, 60)?;
     let (conditions, rest) = rows_at(alloc, count, rest)?;
@@ -213,7 +215,7 @@ fn alternatives_at(
     count: u16,
     bytes: &[u8],
 ) -> Result<(Vec<Vec<Condition>>, &[u8]), ReadFault>
-    ensures { Gives (λ x. (map (λ a. a.items) x.0.items, x.1.now)) result ((table count alternative).reading bytes.now) }
+    ensures { Gives (λ x. (map (λ a. a.items) x.0.items, x.1.now)) result ((table count rows.alternative).reading bytes.now) }
 {
     let mut alternatives = Vec::new(alloc);
     let mut rest = bytes;
@@ -227,7 +229,7 @@ fn alternatives_at(
 
 #[tactic(auto, unfolding(rpg_format::specs::Format::byte, rpg_format::specs::Format::two_bytes, rpg_format::specs::Format::pair, rpg_format::specs::Format::row, rpg_format::specs::Format::times_with, crate::specs::Rows::line_parts, crate::specs::Rows::line))]
 fn line_at(alloc: Global, bytes: &[u8]) -> Result<(Line, &[u8]), ReadFault>
-    ensures { Gives (λ x. (line_row x.0, x.1.now)) result (line.reading bytes.now) }
+    ensures { Gives (λ x. (line_row x.0, x.1.now)) result (rows.line.reading bytes.now) }
 {
     let (file, rest) = file_at(bytes)?;
     let (time, rest) = time_at(rest)?;
@@ -263,7 +265,7 @@ pub fn lines_at(
     count: u16,
     bytes: &[u8],
 ) -> Result<(Vec<Line>, &[u8]), ReadFault>
-    ensures { Gives (λ x. (map line_row x.0.items, x.1.now)) result ((table count line).reading bytes.now) }
+    ensures { Gives (λ x. (map line_row x.0.items, x.1.now)) result ((table count rows.line).reading bytes.now) }
 {
     let mut lines = Vec::new(alloc);
     let mut rest = bytes;
@@ -273,4 +275,71 @@ pub fn lines_at(
         rest = after;
     }
     Ok((lines, rest))
+}
+
+#[tactic(auto, unfolding(rpg_format::specs::Format::two_bytes, rpg_format::specs::Format::pair, rpg_format::specs::Format::row, rpg_format::specs::Format::times_with, crate::specs::Rows::alternative))]
+fn put_alternative(out: &mut Vec<u8>, conditions: &[Condition]) -> Result<(), AllocError>
+    requires { length conditions.now ≤ 60 }
+    ensures { OnOk result (out.new.items ≡ out.old.items ++ rows.alternative.spelling conditions.now) }
+{
+    let count = conditions.len() as u16;
+    out.extend_from_slice(&[high(count), low(count)])?;
+    put_rows(conditions, out)
+}
+
+fn put_alternatives(out: &mut Vec<u8>, alternatives: &[Vec<Condition>]) -> Result<(), AllocError>
+    requires { All IsAlternativeRow (map (λ a. a.items) alternatives.now) }
+    ensures { OnOk result (out.new.items ≡ out.old.items ++ (table (length alternatives.now) rows.alternative).spelling (map (λ a. a.items) alternatives.now)) }
+{
+    for alternative in alternatives {
+        put_alternative(out, alternative)?;
+    }
+    Ok(())
+}
+
+/// Writes the numbers of a line before its tables.
+fn put_line_head(out: &mut Vec<u8>, line: &Line) -> Result<(), AllocError>
+    requires alternatives { length line.now.alternatives.items < 2 ^ 16 }
+    requires fields { length line.now.fields.items < 2 ^ 16 }
+    ensures { OnOk result (out.new.items ≡ out.old.items ++ line_head (line_row line.now)) }
+{
+    let alternative_count = line.alternatives.len() as u16;
+    let field_count = line.fields.len() as u16;
+    let row = [
+        file_number(line.file),
+        time_number(line.time),
+        line.moves.space_before,
+        line.moves.space_after,
+        line.moves.skip_before,
+        line.moves.skip_after,
+        high(alternative_count),
+        low(alternative_count),
+        high(field_count),
+        low(field_count),
+        0,
+        0,
+    ];
+    out.extend_from_slice(&row)?;
+    Ok(())
+}
+
+fn put_line(out: &mut Vec<u8>, line: &Line) -> Result<(), AllocError>
+    requires { IsLineRow (line_row line.now) }
+    ensures { OnOk result (out.new.items ≡ out.old.items ++ rows.line.spelling (line_row line.now)) }
+{
+    put_line_head(out, line)?;
+    put_alternatives(out, &line.alternatives)?;
+    put_rows(&line.fields, out)?;
+    Ok(())
+}
+
+/// Writes all lines.
+pub fn put_lines(out: &mut Vec<u8>, lines: &[Line]) -> Result<(), AllocError>
+    requires { All IsLineRow (map line_row lines.now) }
+    ensures { OnOk result (out.new.items ≡ out.old.items ++ (table (length lines.now) rows.line).spelling (map line_row lines.now)) }
+{
+    for line in lines {
+        put_line(out, line)?;
+    }
+    Ok(())
 }

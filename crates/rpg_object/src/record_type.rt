@@ -1,10 +1,12 @@
 //! Record types, with the columns that they move.
 
-ghost use Rattle.std.specs.Prelude.{◌≡◌, ◌++◌, map, OnOk};
-ghost use Rattle.rpg_format.specs.Format.{keep, read_byte, spelled_along, table};
+ghost use Rattle.std.specs.Prelude.{◌≡◌, ◌++◌, ◌≤◌, All, length, map, OnOk};
+ghost use Rattle.rpg_format.specs.Format.{read_byte, table};
 ghost use Rattle.rpg_format.specs.Reading.{Gives};
 ghost use Rattle.rpg_object.specs.Object.{type_row};
-ghost use Rattle.rpg_object.specs.Rows.{indicator_number, indicator_of, move_row, record_type};
+ghost use Rattle.rpg_object.specs.Kept.{IsTypeRow};
+ghost use Rattle.rpg_object.specs.Rows as rows;
+ghost use Rattle.rpg_object.specs.Rows.{indicator_number, indicator_of, move_row};
 
 use std::alloc::{AllocError, Global};
 
@@ -84,7 +86,7 @@ impl Row for Move {
 
 #[tactic(auto, unfolding(rpg_format::specs::Format::byte, rpg_format::specs::Format::two_bytes, rpg_format::specs::Format::pair, rpg_format::specs::Format::row, rpg_format::specs::Format::times_with, crate::specs::Rows::type_parts, crate::specs::Rows::record_type))]
 fn record_type_at(alloc: Global, bytes: &[u8]) -> Result<(RecordType, &[u8]), ReadFault>
-    ensures { Gives (λ x. (type_row x.0, x.1.now)) result (record_type.reading bytes.now) }
+    ensures { Gives (λ x. (type_row x.0, x.1.now)) result (rows.record_type.reading bytes.now) }
 {
     let (indicator, rest) = indicator_at(bytes)?;
     let ((), rest) = only_byte_at(rest, 0, Code::Unused)?;
@@ -101,7 +103,7 @@ pub fn record_types_at(
     count: u16,
     bytes: &[u8],
 ) -> Result<(Vec<RecordType>, &[u8]), ReadFault>
-    ensures { Gives (λ x. (map type_row x.0.items, x.1.now)) result ((table count record_type).reading bytes.now) }
+    ensures { Gives (λ x. (map type_row x.0.items, x.1.now)) result ((table count rows.record_type).reading bytes.now) }
 {
     let mut types = Vec::new(alloc);
     let mut rest = bytes;
@@ -111,4 +113,35 @@ pub fn record_types_at(
         rest = after;
     }
     Ok((types, rest))
+}
+
+#[tactic(auto, unfolding(rpg_format::specs::Format::byte, rpg_format::specs::Format::two_bytes, rpg_format::specs::Format::pair, rpg_format::specs::Format::row, rpg_format::specs::Format::times_with, crate::specs::Rows::type_parts, crate::specs::Rows::record_type))]
+fn put_record_type(out: &mut Vec<u8>, record_type: &RecordType) -> Result<(), AllocError>
+    requires { length record_type.now.moves.items ≤ 500 }
+    ensures { OnOk result (out.new.items ≡ out.old.items ++ rows.record_type.spelling (type_row record_type.now)) }
+{
+    let count = record_type.moves.len() as u16;
+    let row = [
+        indicator_number(record_type.indicator),
+        0,
+        0,
+        0,
+        0,
+        0,
+        high(count),
+        low(count),
+    ];
+    out.extend_from_slice(&row)?;
+    put_rows(&record_type.moves, out)
+}
+
+/// Writes all record types.
+pub fn put_record_types(out: &mut Vec<u8>, types: &[RecordType]) -> Result<(), AllocError>
+    requires { All IsTypeRow (map type_row types.now) }
+    ensures { OnOk result (out.new.items ≡ out.old.items ++ (table (length types.now) rows.record_type).spelling (map type_row types.now)) }
+{
+    for record_type in types {
+        put_record_type(out, record_type)?;
+    }
+    Ok(())
 }
