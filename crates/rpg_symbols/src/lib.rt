@@ -1,0 +1,7 @@
+//! The names of a source, numbered in the order of their first definitions.
+#![tactic(auto)]
+
+mod symbols;
+
+pub use rpg_sheet::Indicator;
+pub use symbols::{DefineFault, Name, Symbols};
