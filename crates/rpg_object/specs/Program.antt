@@ -1,5 +1,5 @@
 -- Whole object programs: the bytes that spell them, and what other bytes are answered.
-use Rattle.std.specs.Prelude.{◌≡◌, ℕ, ◌-◌, List, [], ◌∷◌, ◌++◌, length, drop, codes, Bool, true, false, ◌&&◌, ◌==◌, if◌then◌else◌, Option, Some, None, Result, Ok, Err}
+use Rattle.std.specs.Prelude.{◌≡◌, ℕ, ◌-◌, ◌/◌, ◌%◌, List, [], ◌∷◌, ◌++◌, length, drop, codes, Bool, true, false, ◌&&◌, ◌==◌, if◌then◌else◌, Option, Some, None, Result, Ok, Err}
 use Rattle.rpg_effect.specs.declared.form.Form.{Form}
 use Rattle.rpg_effect.specs.declared.operation.Instruction.{Instruction}
 use Rattle.rpg_effect.specs.Values.{Value}
@@ -48,6 +48,10 @@ parts =
 
 unfoldable pub body : Format Object
 body = row object_of parts_of parts
+
+-- the bytes of a program before its tables, without its name
+abbrev pub head : Object → List ℕ
+head p = 0 ∷ 1 ∷ p.allowance / 256 ∷ p.allowance % 256 ∷ p.record_length / 256 ∷ p.record_length % 256 ∷ p.printer_length / 256 ∷ p.printer_length % 256 ∷ 0 ∷ 0 ∷ 0 ∷ 0 ∷ length p.fields / 256 ∷ length p.fields % 256 ∷ length p.types / 256 ∷ length p.types % 256 ∷ length p.lines / 256 ∷ length p.lines % 256 ∷ length p.detail / 256 ∷ length p.detail % 256 ∷ 0 ∷ 0 ∷ 0 ∷ 0 ∷ 0 ∷ 0 ∷ []
 
 -- ---- whole objects
 

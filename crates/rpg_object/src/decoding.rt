@@ -1,12 +1,15 @@
 //! Bytes to an object program.
 
-ghost use Rattle.std.specs.Prelude.{◌≡◌, ℕ, IfOk};
+ghost use Rattle.std.specs.Prelude.{◌≡◌, IfOk};
 ghost use Rattle.rpg_format.specs.Format.{fault_at};
 ghost use Rattle.rpg_format.specs.Reading.{Gives};
-ghost use Rattle.rpg_object.specs.Object.{seen};
-ghost use Rattle.rpg_object.specs.Program.{body, reading};
+ghost use Rattle.rpg_object.specs.Decoding.{FaultIs, IsOkBarMemory};
+ghost use Rattle.rpg_object.specs.Object.{Object, seen};
+ghost use Rattle.rpg_object.specs.Program.{IsProgram, body, first_fault, reading, spelling};
 
 use std::alloc::Global;
+use std::error::Error;
+use std::fmt;
 
 use rpg_format::fault::{Code, ReadFault};
 use rpg_format::number::{count_at, fault_at, number_between_at, only_number_at};
@@ -14,9 +17,33 @@ use rpg_format::number::{count_at, fault_at, number_between_at, only_number_at};
 use crate::field::fields_at;
 use crate::first_value::values_at;
 use crate::output_line::lines_at;
+use crate::program::Program;
 use crate::record_type::record_types_at;
 use crate::row::Rows;
 use crate::table::rows_at;
+
+/// Why bytes weren't decoded.
+#[derive(Clone, Copy, Debug, PartialEq, Eq)]
+pub enum DecodeFault {
+    /// The first number that breaks its rule: where its first byte stands, counted from 0, and how it breaks it. A
+    /// number that is cut short stands at the end of the bytes.
+    Object {
+        offset: usize,
+        code: Code,
+    },
+    NoMemory,
+}
+
+impl fmt::Display for DecodeFault {
+    fn fmt<W: fmt::Write>(&self, f: &mut fmt::Formatter<W>) -> fmt::Result {
+        match self {
+            DecodeFault::Object { offset, code } => write!(f, "{code} at {offset}"),
+            DecodeFault::NoMemory => write!(f, "out of memory"),
+        }
+    }
+}
+
+impl Error for DecodeFault {}
 
 #[tactic(auto, unfolding(rpg_format::specs::Format::two_bytes, rpg_format::specs::Format::pair, rpg_format::specs::Format::row, rpg_format::specs::Format::times_with, crate::specs::Program::parts, crate::specs::Program::body))]
 fn body_at(alloc: Global, bytes: &[u8]) -> Result<(Rows, &[u8]), ReadFault>
@@ -55,9 +82,9 @@ fn body_at(alloc: Global, bytes: &[u8]) -> Result<(Rows, &[u8]), ReadFault>
     ))
 }
 
-/// The rows that the bytes spell, all of them.
+/// The rows that the bytes spell, all of the bytes.
 #[tactic(auto, unfolding(crate::specs::Program::reading))]
-pub fn rows_of(alloc: Global, bytes: &[u8]) -> Result<Rows, ReadFault>
+fn rows_of(alloc: Global, bytes: &[u8]) -> Result<Rows, ReadFault>
     ensures { Gives seen result (reading bytes.now) }
 {
     if !bytes.starts_with(b"RPGOBJ") {
@@ -68,4 +95,23 @@ pub fn rows_of(alloc: Global, bytes: &[u8]) -> Result<Rows, ReadFault>
         return Err(fault_at(rest, Code::LeftOver));
     }
     Ok(rows)
+}
+
+/// The program that the bytes spell, all of the bytes.
+pub fn decode(alloc: Global, bytes: &[u8]) -> Result<Program, DecodeFault>
+    // What is decoded is a program, and the bytes are its spelling.
+    ensures found { IfOk result (λ p. IsProgram p × (bytes.now ≡ spelling p)) }
+    // What a program spells is decoded to it, unless memory runs out.
+    ensures only { (p : Object) → IsProgram p → bytes.now ≡ spelling p → IsOkBarMemory result (λ q. q ≡ p) }
+    // Other bytes have the first fault, unless memory runs out.
+    ensures fault { FaultIs result (first_fault bytes.now) }
+{
+    match rows_of(alloc, bytes) {
+        Ok(rows) => Ok(Program::build(rows)),
+        Err(ReadFault::NoMemory) => Err(DecodeFault::NoMemory),
+        Err(ReadFault::At(fault)) => Err(DecodeFault::Object {
+            offset: bytes.len() - fault.left,
+            code: fault.code,
+        }),
+    }
 }

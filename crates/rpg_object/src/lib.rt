@@ -2,6 +2,7 @@
 #![tactic(auto)]
 
 mod decoding;
+mod encoding;
 mod field;
 mod first_value;
 mod instruction;
@@ -12,3 +13,8 @@ mod table;
 pub mod operation;
 pub mod program;
 pub mod row;
+
+pub use decoding::{DecodeFault, decode};
+pub use encoding::encode;
+pub use program::Program;
+pub use rpg_format::fault::Code;
