@@ -95,13 +95,8 @@ impl Pass {
                 }
             }
             Mark::Always(character) => character,
-            Mark::Sign(character) => {
-                if self.number.negative {
-                    character
-                } else {
-                    b' '
-                }
-            }
+            Mark::Sign(character) if self.number.negative => character,
+            Mark::Sign(_) => b' ',
         }
     }
 }

@@ -64,7 +64,7 @@ fn codes_edit_zero_one_digit_negative_and_all_nines(rt: HostRuntime) -> Result<(
         expect_row(&rt, line)?;
         rows = rows.wrapping_add(1);
     }
-    assert_eq!(rt; rows, 671);
+    assert_eq!(rt; rows, 732);
     Ok(())
 }
 
@@ -95,6 +95,6 @@ fn words_suppress_up_to_the_stop_and_show_the_sign_behind_the_last_place(
         expect_word(&rt, line)?;
         rows = rows.wrapping_add(1);
     }
-    assert_eq!(rt; rows, 124);
+    assert_eq!(rt; rows, 144);
     Ok(())
 }
