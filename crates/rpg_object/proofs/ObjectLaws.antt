@@ -1,5 +1,6 @@
 -- The laws of whole object programs.
 use Rattle.std.proofs.Common.{◌≡◌, ℕ, zero, suc, ◌+◌, ◌-◌, ◌<◌, ◌≤◌, Bool, true, false, ◌&&◌, List, [], ◌∷◌, ◌++◌, length, drop, Option, Some, None, Result, Ok, Err, refl, sym, ap, subst, ◌∙◌, append_assoc, append-nil, arith, inl, inr, eqb, eqb-true, length-append, length-drop}
+use Rattle.std.proofs.lemmas.List.{drop-append-le}
 use Rattle.std.specs.Prelude.{◌⊎◌}
 use Rattle.rpg_format.specs.declared.fault.Code.{Code}
 use Rattle.rpg_format.specs.declared.fault.Code.TheVariants.{NoObject, Version, CutShort, LeftOver, Unused, NotAllowed, PastLimit}
@@ -9,7 +10,7 @@ use Rattle.rpg_format.specs.Numbers.{is_between}
 use Rattle.rpg_format.proofs.Laws.{IsBytes, IsBytes-rest, Takes, IsFormat, further, bind_ok, bind_err, ok_is, pair_law, row_law, table_law}
 use Rattle.rpg_format.proofs.Rules.{chosen, number_law, count_law, only_number_law}
 use Rattle.rpg_object.specs.Object.{Object}
-use Rattle.rpg_object.specs.Program.{Parts, object_of, with_counts, parts_of, parts, body, name, spelling, IsProgram, ended, begins_with, reading}
+use Rattle.rpg_object.specs.Program.{Parts, object_of, with_counts, parts_of, parts, body, name, spelling, IsProgram, ended, begins_with, reading, fault_in, first_fault, FaultStays}
 use Rattle.rpg_object.specs.Rows.{fields, record_type, line, instruction}
 use Rattle.rpg_object.proofs.RowLaws.{fields_law, record_type_law, line_law, instruction_law}
 use Rattle.rpg_object.proofs.ValueLaws.{values_law}
@@ -125,3 +126,83 @@ only_one bytes p q e h s = ok_is p q (sym e ∙ ap reading s ∙ all_again q h)
 
 pub no_fault : (bytes : List ℕ) (d : Fault) (q : Object) → reading bytes ≡ Err d → IsProgram q → bytes ≡ spelling q → ⊥
 no_fault bytes d q e h s = let k : found q ≡ Err d = sym (all_again q h) ∙ ap reading (sym s) ∙ e in cc
+
+-- ---- bytes behind
+
+abbrev fails : {A : Type 0} → Fault → Result A Fault
+fails d = Err d
+
+fault-longer : (bytes more : List ℕ) (c : Code) → fault_at (bytes ++ more) c ≡ further (length more) (fault_at bytes c)
+fault-longer bytes more c = ap (λ (n : ℕ). at n c) (length-append bytes more)
+  where
+    at : ℕ → Code → Fault
+    at n c = record { left = n; code = c }
+
+begins_long : (xs bytes : List ℕ) → begins_with xs bytes ≡ true → length xs ≤ length bytes
+begins_long [] bytes e = omega arith
+begins_long (x ∷ xs) [] e = absurd cc
+begins_long (x ∷ xs) (b ∷ bytes) e = let more = begins_long xs bytes (and_both (eqb x b) (begins_with xs bytes) e).1 in omega arith
+
+begins_longer : (xs bytes more : List ℕ) → begins_with xs bytes ≡ true → begins_with xs (bytes ++ more) ≡ true
+begins_longer [] bytes more e = refl
+begins_longer (x ∷ xs) [] more e = absurd cc
+begins_longer (x ∷ xs) (b ∷ bytes) more e = let k = and_both (eqb x b) (begins_with xs bytes) e in rw k.0 (begins_longer xs bytes more k.1)
+
+not_both : (a b : Bool) → (a && b) ≡ false → (a ≡ false) ⊎ ((a ≡ true) × (b ≡ false))
+not_both true b e = inr (refl, e)
+not_both false b e = inl refl
+
+begins_not : (xs bytes more : List ℕ) → length xs ≤ length bytes → begins_with xs bytes ≡ false → begins_with xs (bytes ++ more) ≡ false
+begins_not [] bytes more le e = absurd cc
+begins_not (x ∷ xs) [] more le e = absurd (omega arith)
+begins_not (x ∷ xs) (b ∷ bytes) more le e =
+    elim (not_both (eqb x b) (begins_with xs bytes) e) [
+      | inl w ↦ ap (λ (t : Bool). t && begins_with xs (bytes ++ more)) w
+      | inr w ↦ ap (λ (t : Bool). t && begins_with xs (bytes ++ more)) w.0 ∙ begins_not xs bytes more (omega arith) w.1
+    ]
+
+ended_longer : (p : Object) (rest more : List ℕ) (d : Fault) → ended (p, rest) ≡ Err d → ended (p, rest ++ more) ≡ Err (further (length more) d)
+ended_longer p [] more d e = absurd cc
+ended_longer p (b ∷ rest) more d e =
+    let k : fault_at (b ∷ rest) LeftOver ≡ d = cc in
+    ap fails (fault-longer (b ∷ rest) more LeftOver ∙ ap (further (length more)) k)
+
+-- A fault stays as it is where bytes are appended, but that of a number that they may complete.
+pub reading_fails_alike : (bytes more : List ℕ) (d : Fault) → reading bytes ≡ Err d → (d.code ≡ CutShort → ⊥) → (d.code ≡ NoObject → 6 ≤ length bytes) → reading (bytes ++ more) ≡ Err (further (length more) d)
+unfolding reading
+reading_fails_alike bytes more d e whole long =
+    elim (chosen (begins_with name bytes) (body.reading (drop 6 bytes) >>= ended) (Err (fault_at bytes NoObject)) (Err d) e) [
+      | inl w ↦
+          let six : 6 ≤ length bytes = begins_long name bytes w.0 in
+          let front : begins_with name (bytes ++ more) ≡ true = begins_longer name bytes more w.0 in
+          let dropped : drop 6 (bytes ++ more) ≡ drop 6 bytes ++ more = drop-append-le 6 bytes more six in
+          elim (bind_err (body.reading (drop 6 bytes)) ended d w.1) [
+            | inl bad ↦ rw (front, dropped, body_law.fails_alike (drop 6 bytes) more d bad whole) refl
+            | inr a ↦ rw (front, dropped, body_law.stays (drop 6 bytes) more a.0.0 a.0.1 a.1) (ended_longer a.0.0 a.0.1 more d a.2)
+          ]
+      | inr w ↦
+          let k : fault_at bytes NoObject ≡ d = let m = w.1 in cc in
+          let six : 6 ≤ length bytes = long (ap (λ (f : Fault). f.code) (sym k)) in
+          rw (begins_not name bytes more six w.0) (ap fails (fault-longer bytes more NoObject ∙ ap (further (length more)) k))
+    ]
+
+fault_is : (bytes : List ℕ) (r : Result Object Fault) (offset : ℕ) (code : Code) → fault_in bytes r ≡ Some (offset, code) → (d : Fault) × (r ≡ Err d) × (length bytes - d.left ≡ offset) × (d.code ≡ code)
+fault_is bytes (Ok p) offset code e = absurd cc
+fault_is bytes (Err d) offset code e =
+    let k : place (length bytes - d.left) d.code ≡ place offset code = some_is (place (length bytes - d.left) d.code) (place offset code) e in
+    (d, refl, ap (λ (x : ℕ × Code). x.0) k, ap (λ (x : ℕ × Code). x.1) k)
+  where
+    place : ℕ → Code → ℕ × Code
+    place n c = (n, c)
+
+    some_is : (x y : ℕ × Code) → Some x ≡ Some y → x ≡ y
+    some_is x y h = cc
+
+pub fault_stays : (bytes more : List ℕ) → FaultStays bytes more
+unfolding first_fault
+fault_stays bytes more offset code e whole long =
+    let a = fault_is bytes (reading bytes) offset code e in
+    let d = a.0 in
+    let same = reading_fails_alike bytes more d a.1 (λ (h : d.code ≡ CutShort). whole (sym a.3 ∙ h)) (λ (h : d.code ≡ NoObject). long (sym a.3 ∙ h)) in
+    let left : length (bytes ++ more) - (d.left + length more) ≡ offset = omega (arith, length-append bytes more, a.2) in
+    rw (same, left, a.3) refl

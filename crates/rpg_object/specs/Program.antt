@@ -1,10 +1,10 @@
 -- Whole object programs: the bytes that spell them, and what other bytes are answered.
-use Rattle.std.specs.Prelude.{◌≡◌, ℕ, ◌-◌, ◌/◌, ◌%◌, List, [], ◌∷◌, ◌++◌, length, drop, codes, Bool, true, false, ◌&&◌, ◌==◌, if◌then◌else◌, Option, Some, None, Result, Ok, Err}
+use Rattle.std.specs.Prelude.{◌≡◌, ℕ, ◌-◌, ◌/◌, ◌%◌, ◌≤◌, List, [], ◌∷◌, ◌++◌, length, drop, codes, Bool, true, false, ◌&&◌, ◌==◌, if◌then◌else◌, Option, Some, None, Result, Ok, Err}
 use Rattle.rpg_effect.specs.declared.form.Form.{Form}
 use Rattle.rpg_effect.specs.declared.operation.Instruction.{Instruction}
 use Rattle.rpg_effect.specs.Values.{Value}
 use Rattle.rpg_format.specs.declared.fault.Code.{Code}
-use Rattle.rpg_format.specs.declared.fault.Code.TheVariants.{NoObject, Version, LeftOver, Unused}
+use Rattle.rpg_format.specs.declared.fault.Code.TheVariants.{NoObject, Version, CutShort, LeftOver, Unused}
 use Rattle.rpg_format.specs.declared.fault.Fault.{Fault}
 use Rattle.rpg_format.specs.Format.{Format, pair, row, table, fault_at, ◌>>=◌}
 use Rattle.rpg_format.specs.Numbers.{is_between, number_where, count, only_number}
@@ -88,3 +88,7 @@ fault_in bytes (Err f) = Some (length bytes - f.left, f.code)
 -- the offset and the code of the first number that breaks its rule
 unfoldable pub first_fault : List ℕ → Option (ℕ × Code)
 first_fault bytes = fault_in bytes (reading bytes)
+
+-- Bytes behind a fault change neither its offset nor its code, unless they may complete a number or the name that is cut short.
+abbrev pub FaultStays : List ℕ → List ℕ → Type 0
+FaultStays bytes more = (offset : ℕ) (code : Code) → first_fault bytes ≡ Some (offset, code) → (code ≡ CutShort → ⊥) → (code ≡ NoObject → 6 ≤ length bytes) → first_fault (bytes ++ more) ≡ Some (offset, code)

@@ -10,6 +10,7 @@ mod output_line;
 mod record_type;
 mod table;
 
+pub mod laws;
 pub mod operation;
 pub mod program;
 pub mod row;
