@@ -5,3 +5,6 @@ mod symbols;
 
 pub use rpg_sheet::Indicator;
 pub use symbols::{DefineFault, Name, Symbols};
+
+#[cfg(test)]
+mod tests;
