@@ -1,3 +1,5 @@
--- Lemmas on records.
+-- Lemmas on records, on parts of an output, and on a run that stops early.
 pub mod Lines
+pub mod Parts
 pub mod Returns
+pub mod Stops

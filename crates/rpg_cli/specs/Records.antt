@@ -1,5 +1,6 @@
 -- The records of an input.
-use Rattle.std.specs.Prelude.{◌≡◌, ◌==◌, ◌&&◌, ℕ, Bool, true, false, if◌then◌else◌, List, [], ◌∷◌, codes, refl}
+use Rattle.std.specs.Prelude.{◌≡◌, ◌==◌, ◌&&◌, ℕ, Bool, true, false, not, if◌then◌else◌, List, [], ◌∷◌, ◌++◌, map, codes, refl}
+use Rattle.std.specs.List.{flat_map, list_all}
 
 abbrev pub begins_with_line_feed : List ℕ → Bool
 begins_with_line_feed [] = false
@@ -17,6 +18,31 @@ records [] = []
 records (b ∷ bytes) =
     if b == 10 then [] ∷ records bytes
     else (if b == 13 && begins_with_line_feed bytes then records bytes else onto_first b (records bytes))
+
+-- a line without a carriage return at its end
+abbrev pub without_return : List ℕ → List ℕ
+without_return [] = []
+without_return (b ∷ []) = if b == 13 then [] else b ∷ []
+without_return (b ∷ c ∷ bytes) = b ∷ without_return (c ∷ bytes)
+
+-- ---- the same, by lines
+
+-- bytes with no line feed among them
+abbrev pub is_line : List ℕ → Bool
+is_line = list_all (λ b. not (b == 10))
+
+abbrev pub with_line_feed : List ℕ → List ℕ
+with_line_feed text = text ++ 10 ∷ []
+
+abbrev pub unless_empty : List ℕ → List (List ℕ)
+unless_empty [] = []
+unless_empty (b ∷ bytes) = (b ∷ bytes) ∷ []
+
+-- Lines, each with its line feed, and then a part without one: the records are the lines without the carriage return at
+-- their end, and that part as it is, where it isn't empty. All bytes are such lines and such a part.
+abbrev pub RecordsAreLines : Type 0
+RecordsAreLines = (lines : List (List ℕ)) (rest : List ℕ) → list_all is_line lines ≡ true → is_line rest ≡ true
+    → records (flat_map with_line_feed lines ++ rest) ≡ map without_return lines ++ unless_empty rest
 
 -- ---- examples
 
@@ -40,9 +66,3 @@ two_carriage_returns = refl
 
 carriage_return_elsewhere : records (codes "7\r5\r") ≡ codes "7\r5\r" ∷ []
 carriage_return_elsewhere = refl
-
--- a line without a carriage return at its end
-abbrev pub without_return : List ℕ → List ℕ
-without_return [] = []
-without_return (b ∷ []) = if b == 13 then [] else b ∷ []
-without_return (b ∷ c ∷ bytes) = b ∷ without_return (c ∷ bytes)

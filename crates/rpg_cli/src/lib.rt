@@ -1,9 +1,25 @@
 //! The engine, from object bytes and input bytes to the answer and the output bytes, and the program `rpg2` over it.
 #![tactic(auto)]
 
+mod answer;
+mod command_line;
 mod device;
+mod engine;
+mod fault;
+mod files;
+mod program;
 mod receiving;
 mod records;
+mod report;
 mod sending;
+#[cfg(test)]
+mod tests;
+mod text;
 
-pub use records::{MOST_RECORDS, SplitFault, split_records};
+pub use answer::{Answer, Line};
+pub use engine::execute;
+pub use fault::RunFault;
+pub use program::{main_with, run};
+pub use records::records_are_lines;
+pub use report::Report;
+pub use text::line;

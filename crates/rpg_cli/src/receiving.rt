@@ -4,10 +4,9 @@ ghost use Rattle.std.specs.Prelude.{◌≡◌, IfOk, OnOk, OnErr, IfSome};
 ghost use Rattle.std.specs.Io.KnownBytes.{IsAtEnd, Consumes};
 ghost use Rattle.rpg_cli.specs.Receiving.{ConsumesSome};
 
+use crate::device::read_some;
 use std::alloc::{AllocError, Global};
 use std::io::Read;
-
-use crate::device::read_some;
 
 /// Why an input was not read to its end.
 #[derive(Clone, Copy, Debug, PartialEq, Eq)]
@@ -17,6 +16,10 @@ pub(crate) enum ReadFault {
 }
 
 impl From<AllocError> for ReadFault {
+    ghost use Rattle.rpg_cli.specs.declared.receiving.ReadFault.TheVariants.{NoMemory};
+
+    ghost from_gives = { λ _ e. e ≡ NoMemory };
+
     fn from(_error: AllocError) -> ReadFault {
         ReadFault::NoMemory
     }

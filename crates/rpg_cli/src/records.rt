@@ -2,16 +2,16 @@
 
 ghost use Rattle.std.specs.Prelude.{◌≡◌, ◌==◌, ◌<◌, ◌≤◌, ◌∷◌, map, length, position, IfOk};
 ghost use Rattle.rpg_cli.specs.declared.records.SplitFault.{SplitFault};
-ghost use Rattle.rpg_cli.specs.Records.{records, without_return};
+ghost use Rattle.rpg_cli.specs.Records.{RecordsAreLines, records, without_return};
 
 use std::alloc::{AllocError, AllocFailed, Global};
 
 /// The most records of a run (this profile).
-pub const MOST_RECORDS: usize = 10_000_000;
+const MOST_RECORDS: usize = 10_000_000;
 
 /// Why an input was not split into records.
 #[derive(Clone, Copy, Debug, PartialEq, Eq)]
-pub enum SplitFault {
+pub(crate) enum SplitFault {
     /// It has more records than a run may have.
     TooMany,
     NoMemory,
@@ -39,13 +39,7 @@ fn without_return(line: &[u8]) -> &[u8]
 {
     match line.split_last() {
         None => line,
-        Some((last, front)) => {
-            if *last == b'\r' {
-                front
-            } else {
-                line
-            }
-        }
+        Some((last, front)) => { if *last == b'\r' { front } else { line } }
     }
 }
 
@@ -69,7 +63,7 @@ fn first_record(bytes: &[u8]) -> (&[u8], &[u8])
 }
 
 /// The records of the whole input.
-pub fn split_records(alloc: Global, input: &[u8]) -> Result<Vec<Vec<u8>>, SplitFault>
+pub(crate) fn split_records(alloc: Global, input: &[u8]) -> Result<Vec<Vec<u8>>, SplitFault>
     ensures ok { IfOk result (λ v. map (λ r. r.items) v.items ≡ records input.now) }
     ensures few { IfOk result (λ v. length v.items ≤ 10000000) }
     ensures many { result ≡ Err SplitFault.TooMany → 10000000 < length (records input.now) }
@@ -87,3 +81,8 @@ pub fn split_records(alloc: Global, input: &[u8]) -> Result<Vec<Vec<u8>>, SplitF
     }
     Ok(list)
 }
+
+/// A law of the definition: the records are the lines of the input.
+pub fn records_are_lines()
+    ensures { RecordsAreLines }
+{}

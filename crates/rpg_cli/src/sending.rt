@@ -1,12 +1,13 @@
 //! All bytes of an output to a writer.
 
 ghost use Rattle.std.specs.Prelude.{OnOk, IfErr};
+ghost use Rattle.std.specs.Bool.{MatchBool};
 ghost use Rattle.std.specs.Io.KnownBytes.{Appends};
-ghost use Rattle.rpg_cli.specs.Sending.{AppendsFirst};
-
-use std::io::Write;
+ghost use Rattle.rpg_cli.specs.Records.{with_line_feed};
+ghost use Rattle.rpg_cli.specs.Sending.{AppendsFirst, AppendsPrefix};
 
 use crate::device::write_some;
+use std::io::Write;
 
 /// A writer failed when this many bytes had gone out.
 #[derive(Clone, Copy, Debug, PartialEq, Eq)]
@@ -28,4 +29,18 @@ pub(crate) fn send<W: Write>(writer: &mut W, bytes: &[u8]) -> Result<(), WriteFa
         }
     }
     Ok(())
+}
+
+/// Writes a line and its line feed, and answers whether all of it went out.
+pub(crate) fn send_line<W: Write>(writer: &mut W, text: &[u8]) -> bool
+    ensures { MatchBool result (Appends (W.contents writer.old) (W.contents writer.new) (with_line_feed text.now))
+        (AppendsPrefix (W.contents writer.old) (W.contents writer.new) (with_line_feed text.now)) }
+{
+    let Ok(()) = send(writer, text) else {
+        return false;
+    };
+    let Ok(()) = send(writer, b"\n") else {
+        return false;
+    };
+    writer.flush().is_ok()
 }

@@ -1,4 +1,4 @@
-use Rattle.std.proofs.Common.{◌≡◌, ◌++◌, take, Result, Ok, Err, OnErr}
+use Rattle.std.proofs.Common.{Result, Ok, Err, OnErr}
 use Rattle.std.proofs.KnownBytes.{Consumes-trans}
 use Rattle.rpg_cli.proofs.receiving.read_all.Goals as goal
 

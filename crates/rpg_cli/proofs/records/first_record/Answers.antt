@@ -1,7 +1,6 @@
-use Rattle.std.proofs.Common.{ℕ, ◌≡◌, ◌+◌, ◌==◌, ◌∷◌, sym, ◌∙◌, ap, take, drop, length, arith, add-one, List}
+use Rattle.std.proofs.Common.{ℕ, ◌+◌, ◌==◌, sym, length, arith, add-one}
 use Rattle.std.proofs.lemmas.List.{take_rest, take_all, drop_all}
 use Rattle.std.proofs.lemmas.List.Quantifiers.{position-Some}
-use Rattle.rpg_cli.specs.Records.{records, without_return}
 use Rattle.rpg_cli.proofs.Lines.{first_line, first_whole}
 use Rattle.rpg_cli.proofs.records.first_record.Goals as goal
 

@@ -1,4 +1,4 @@
-use Rattle.std.proofs.Common.{◌≡◌, ◌<◌, ◌≤◌, ◌+◌, ◌++◌, ◌==◌, false, length, map, ap, arith, length-append}
+use Rattle.std.proofs.Common.{length, map, ap, arith, length-append}
 use Rattle.std.proofs.lemmas.List.{length-map}
 use Rattle.rpg_cli.specs.Records.{records}
 use Rattle.rpg_cli.proofs.Lines.{some_record}

@@ -1,4 +1,4 @@
-use Rattle.std.proofs.Common.{◌≡◌, ◌+◌, ◌≤◌, length, drop, arith, length-drop}
+use Rattle.std.proofs.Common.{◌≡◌, ◌≤◌, length, drop, arith, length-drop}
 use Rattle.std.proofs.Math.Seq.{take-add}
 use Rattle.std.proofs.KnownBytes.{Appends-trans}
 use Rattle.rpg_cli.proofs.sending.send.Goals as goal

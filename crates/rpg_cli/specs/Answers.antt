@@ -1,0 +1,45 @@
+-- The line and the exit status of each answer.
+use Rattle.std.specs.Prelude.{ℕ, List, ◌++◌, codes, decimal}
+use Rattle.rpg_format.specs.declared.fault.Code.{Code}
+use Rattle.rpg_format.specs.declared.fault.Code.TheVariants.{NoObject, Version, CutShort, LeftOver, NotAllowed, Unused, PastLimit}
+use Rattle.rpg_effect.specs.declared.outcome.Wrong.{Wrong}
+use Rattle.rpg_effect.specs.declared.outcome.Wrong.TheVariants as wrong
+use Rattle.rpg_cli.specs.declared.answer.Answer.{Answer}
+use Rattle.rpg_cli.specs.declared.answer.Answer.TheVariants as answer
+
+abbrev pub code_text : Code → List ℕ
+code_text NoObject = codes "B1"
+code_text Version = codes "B2"
+code_text CutShort = codes "B3"
+code_text LeftOver = codes "B4"
+code_text NotAllowed = codes "B5"
+code_text Unused = codes "B6"
+code_text PastLimit = codes "B7"
+
+abbrev pub wrong_text : Wrong → List ℕ
+wrong_text wrong.Jump = codes "jump"
+wrong_text wrong.Storage = codes "storage"
+wrong_text wrong.Kind = codes "kind"
+wrong_text wrong.Return = codes "return"
+
+abbrev pub line_text : Answer → List ℕ
+line_text (answer.EndOfJob cycles) = codes "end of job" ++ codes ", cycles " ++ decimal cycles
+line_text (answer.Halt number cycles) = codes "halt " ++ decimal number ++ codes ", cycles " ++ decimal cycles
+line_text (answer.Wrong wrong cycles) = codes "wrong " ++ wrong_text wrong ++ codes ", cycles " ++ decimal cycles
+line_text (answer.NotAnObject offset code) = codes "refused: " ++ code_text code ++ codes " at " ++ decimal offset
+line_text answer.BadDate = codes "bad date"
+line_text answer.InputFailed = codes "input failed"
+line_text answer.OutputFailed = codes "output failed"
+line_text answer.FileTooLarge = codes "file too large"
+line_text answer.NoMemory = codes "no memory"
+
+abbrev pub exit_status : Answer → ℕ
+exit_status (answer.EndOfJob cycles) = 0
+exit_status (answer.Halt number cycles) = 5
+exit_status (answer.Wrong wrong cycles) = 5
+exit_status (answer.NotAnObject offset code) = 4
+exit_status answer.BadDate = 2
+exit_status answer.InputFailed = 1
+exit_status answer.OutputFailed = 1
+exit_status answer.FileTooLarge = 1
+exit_status answer.NoMemory = 1

@@ -1,0 +1,25 @@
+-- The answer to each report and fault of a run.
+use Rattle.std.specs.Prelude.{ℕ}
+use Rattle.rpg_cycle.specs.declared.run.RunEnding.{RunEnding}
+use Rattle.rpg_cycle.specs.declared.run.RunEnding.TheVariants as ending
+use Rattle.rpg_cli.specs.declared.answer.Answer.{Answer}
+use Rattle.rpg_cli.specs.declared.answer.Answer.TheVariants as answer
+use Rattle.rpg_cli.specs.declared.fault.RunFault.{RunFault}
+use Rattle.rpg_cli.specs.declared.fault.RunFault.TheVariants as faults
+use Rattle.rpg_cli.specs.declared.report.Report.{Report}
+
+abbrev pub answer_to_ending : RunEnding → ℕ → Answer
+answer_to_ending ending.EndOfJob cycles = answer.EndOfJob cycles
+answer_to_ending (ending.Halt number) cycles = answer.Halt number cycles
+answer_to_ending (ending.Wrong wrong) cycles = answer.Wrong wrong cycles
+
+abbrev pub answer_to_report : Report → Answer
+answer_to_report report = answer_to_ending report.ending report.cycles
+
+abbrev pub answer_to_fault : RunFault → Answer
+answer_to_fault (faults.Object offset code) = answer.NotAnObject offset code
+answer_to_fault faults.Date = answer.BadDate
+answer_to_fault faults.Read = answer.InputFailed
+answer_to_fault (faults.Print sent) = answer.OutputFailed
+answer_to_fault (faults.Disk sent) = answer.OutputFailed
+answer_to_fault faults.NoMemory = answer.NoMemory

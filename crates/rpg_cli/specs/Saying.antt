@@ -1,0 +1,16 @@
+-- What the program prints.
+use Rattle.std.specs.Prelude.{◌≡◌, ℕ, ◌⊎◌, List, Option}
+use Rattle.std.specs.Io.KnownBytes.{Appends, Keeps}
+use Rattle.rpg_cli.specs.Answers.{exit_status, line_text}
+use Rattle.rpg_cli.specs.Sending.{AppendsPrefix}
+use Rattle.rpg_cli.specs.Records.{with_line_feed}
+use Rattle.rpg_cli.specs.declared.answer.Answer.{Answer}
+
+-- the answer's line and its status; where not all of the line could be written, a first part of it and status 1
+abbrev pub Says : Option (List ℕ) → Option (List ℕ) → ℕ → Answer → Type 0
+Says old new status answer =
+    (Appends old new (with_line_feed (line_text answer)) × (status ≡ exit_status answer)) ⊎ (AppendsPrefix old new (with_line_feed (line_text answer)) × (status ≡ 1))
+
+-- an answer's line, or nothing where clap answers in its place
+abbrev pub PrintsALine : Option (List ℕ) → Option (List ℕ) → ℕ → Type 0
+PrintsALine old new status = Keeps old new ⊎ ((answer : Answer) × Says old new status answer)

@@ -1,0 +1,94 @@
+//! What the program answers to a command.
+
+ghost use Rattle.std.specs.Prelude.{◌≡◌};
+
+use crate::fault::RunFault;
+use crate::receiving::ReadFault;
+use crate::report::Report;
+use arrayvec::ArrayVec;
+use rpg_cycle::run::RunEnding;
+use rpg_effect::outcome::Wrong;
+use rpg_format::fault::Code;
+use rpg_object::DecodeFault;
+
+/// How a command ended.
+#[derive(Clone, Copy, Debug, PartialEq, Eq)]
+pub enum Answer {
+    /// The job came to its end.
+    EndOfJob { cycles: u64 },
+    /// The job halted with this number.
+    Halt { number: u8, cycles: u64 },
+    /// A step of the object program is wrong.
+    Wrong { wrong: Wrong, cycles: u64 },
+    /// The object file is no object program: its first fault.
+    NotAnObject { offset: usize, code: Code },
+    /// The date isn't six digits.
+    BadDate,
+    /// A file that is read can't be opened or read.
+    InputFailed,
+    /// A file that is written can't be made or written.
+    OutputFailed,
+    /// A source or object file is longer than 16,777,216 bytes.
+    FileTooLarge,
+    NoMemory,
+}
+
+/// The line that is printed for an answer, without its line feed, and the exit status.
+#[derive(Drop)]
+pub struct Line {
+    pub text: ArrayVec<u8, 96>,
+    pub status: u8,
+}
+
+impl From<Report> for Answer {
+    ghost use Rattle.rpg_cli.specs.Outcomes.{answer_to_report};
+
+    ghost from_gives = { λ report answer. answer ≡ answer_to_report report };
+
+    fn from(report: Report) -> Answer {
+        let cycles = report.cycles;
+        match report.ending {
+            RunEnding::EndOfJob => Answer::EndOfJob { cycles },
+            RunEnding::Halt(number) => Answer::Halt { number, cycles },
+            RunEnding::Wrong(wrong) => Answer::Wrong { wrong, cycles },
+        }
+    }
+}
+
+impl From<RunFault> for Answer {
+    ghost use Rattle.rpg_cli.specs.Outcomes.{answer_to_fault};
+
+    ghost from_gives = { λ fault answer. answer ≡ answer_to_fault fault };
+
+    fn from(fault: RunFault) -> Answer {
+        match fault {
+            RunFault::Object { offset, code } => Answer::NotAnObject { offset, code },
+            RunFault::Date => Answer::BadDate,
+            RunFault::Read => Answer::InputFailed,
+            RunFault::Print { .. } | RunFault::Disk { .. } => Answer::OutputFailed,
+            RunFault::NoMemory => Answer::NoMemory,
+        }
+    }
+}
+
+impl From<DecodeFault> for Answer {
+    ghost use Rattle.rpg_cli.specs.Engine.{decode_fault};
+    ghost use Rattle.rpg_cli.specs.Outcomes.{answer_to_fault};
+
+    ghost from_gives = { λ fault answer. answer ≡ answer_to_fault (decode_fault fault) };
+
+    fn from(fault: DecodeFault) -> Answer {
+        Answer::from(RunFault::from(fault))
+    }
+}
+
+impl From<ReadFault> for Answer {
+    ghost use Rattle.rpg_cli.specs.Engine.{read_fault};
+    ghost use Rattle.rpg_cli.specs.Outcomes.{answer_to_fault};
+
+    ghost from_gives = { λ fault answer. answer ≡ answer_to_fault (read_fault fault) };
+
+    fn from(fault: ReadFault) -> Answer {
+        Answer::from(RunFault::from(fault))
+    }
+}

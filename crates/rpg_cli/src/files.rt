@@ -1,0 +1,61 @@
+//! The files of a command.
+
+use crate::answer::Answer;
+use crate::command_line::RunWords;
+use crate::engine::execute;
+use crate::receiving::read_all;
+use crate::report::Report;
+use rpg_object::decode;
+use std::alloc::Global;
+use std::io::{Error, ErrorKind, Read};
+use std::rt::Files;
+use std::{fs, io};
+
+/// The most bytes of a source or object file (this profile).
+const MOST_BYTES: usize = 16_777_216;
+
+fn input_fault(error: Error) -> Answer {
+    match error.kind() {
+        ErrorKind::OutOfMemory => Answer::NoMemory,
+        _ => Answer::InputFailed,
+    }
+}
+
+fn output_fault(error: Error) -> Answer {
+    match error.kind() {
+        ErrorKind::OutOfMemory => Answer::NoMemory,
+        _ => Answer::OutputFailed,
+    }
+}
+
+/// The bytes of a source or object file.
+fn file_bytes<R: Files + AllocGlobal>(rt: &R, path: &str) -> Result<Vec<u8>, Answer> {
+    let file = fs::open(rt, path).map_err(input_fault)?;
+    let bytes = read_all(rt.alloc(), &mut file.take(MOST_BYTES as u64 + 1))?;
+    if bytes.len() > MOST_BYTES {
+        return Err(Answer::FileTooLarge);
+    }
+    Ok(bytes)
+}
+
+/// Runs an object program over its files.
+///
+/// The object is read and decoded first; then the input is opened, and then the printer's file made, which empties it.
+pub(crate) fn run_files<R: Files + AllocGlobal>(
+    rt: &R,
+    words: &RunWords,
+) -> Result<Report, Answer> {
+    let object = file_bytes(rt, words.object)?;
+    decode(rt.alloc(), &object)?;
+    let mut input = fs::open(rt, words.input).map_err(input_fault)?;
+    let mut print = fs::create(rt, words.print).map_err(output_fault)?;
+    let report = execute(
+        rt.alloc(),
+        &object,
+        words.date.as_bytes(),
+        &mut input,
+        &mut print,
+        &mut io::sink(),
+    )?;
+    Ok(report)
+}

@@ -1,0 +1,84 @@
+//! The program `rpg2`.
+
+ghost use Rattle.rpg_cli.specs.Saying.{PrintsALine, Says};
+
+use crate::answer::Answer;
+use crate::command_line::{Request, request_of};
+use crate::files::run_files;
+use crate::sending::send_line;
+use crate::text::line;
+use clap::Error;
+use clap::error::ErrorKind;
+use std::io::Write;
+use std::process::ExitCode;
+use std::rt::{Env, Files};
+use std::{env, io};
+
+fn answer_to<R: Files + AllocGlobal>(rt: &R, request: &Request) -> Answer {
+    match request {
+        Request::Run(words) => match run_files(rt, words) {
+            Ok(report) => Answer::from(report),
+            Err(answer) => answer,
+        },
+    }
+}
+
+/// Prints the line of an answer, and answers the exit status.
+fn say<W: Write>(out: &mut W, answer: &Answer) -> u8
+    ensures { Says (W.contents out.old) (W.contents out.new) result answer.now }
+{
+    let said = line(answer);
+    if send_line(out, said.text.as_slice()) {
+        said.status
+    } else {
+        1
+    }
+}
+
+/// Prints clap's text on a fault of the command line, or help that was asked for, and answers the exit status.
+fn explain<R: Print + Eprint + AllocGlobal>(rt: &R, error: &Error) -> u8 {
+    let is_fault = error.use_stderr();
+    match error.print(rt) {
+        Ok(()) if is_fault => 2,
+        Ok(()) => 0,
+        Err(_) => 1,
+    }
+}
+
+/// Does what the words ask, prints one line to `out`, and answers the exit status.
+///
+/// The first word is the program's name. A fault of the command line prints clap's text on standard error, and help that
+/// was asked for goes to standard output, in place of the line.
+pub fn run<R: Files + Print + Eprint + AllocGlobal, W: Write>(
+    rt: &R,
+    words: &[String],
+    out: &mut W,
+) -> u8
+    ensures { PrintsALine (W.contents out.old) (W.contents out.new) result }
+{
+    match request_of(rt.alloc(), words) {
+        Ok(request) => say(out, &answer_to(rt, &request)),
+        Err(error) => {
+            if error.kind() == ErrorKind::OutOfMemory {
+                say(out, &Answer::NoMemory)
+            } else {
+                explain(rt, &error)
+            }
+        }
+    }
+}
+
+fn words<R: Env + AllocGlobal>(rt: &R) -> io::Result<Vec<String>> {
+    let words = env::args(rt)?.collect(rt.alloc())?;
+    Ok(words)
+}
+
+/// The whole program.
+pub fn main_with<R: Files + Print + Eprint + Env + AllocGlobal>(rt: &R) -> ExitCode {
+    let mut out = io::writer(rt);
+    let status = match words(rt) {
+        Ok(words) => run(rt, words.as_slice(), &mut out),
+        Err(_) => say(&mut out, &Answer::NoMemory),
+    };
+    ExitCode::from(status)
+}

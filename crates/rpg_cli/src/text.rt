@@ -1,0 +1,117 @@
+//! The line and the exit status of an answer.
+
+ghost use Rattle.std.specs.Prelude.{◌≡◌, ◌+◌, ◌≤◌, ◌++◌, length, codes, decimal};
+ghost use Rattle.arrayvec.specs.ArrayVec.{array_vec_len};
+ghost use Rattle.rpg_cli.specs.Answers.{code_text, exit_status, line_text, wrong_text};
+
+use crate::answer::{Answer, Line};
+use arrayvec::ArrayVec;
+use itoa::Buffer;
+use rpg_effect::outcome::Wrong;
+use rpg_format::fault::Code;
+
+/// A line under construction.
+type Text = ArrayVec<u8, 96>;
+
+fn put(text: &mut Text, piece: &[u8])
+    requires { array_vec_len text.old + length piece.now ≤ 96 }
+    ensures items { text.new.items ≡ text.old.items ++ piece.now }
+    ensures len { array_vec_len text.new ≡ array_vec_len text.old + length piece.now }
+{
+    text.try_extend_from_slice(piece).unwrap();
+}
+
+fn put_number(text: &mut Text, number: u64)
+    requires { array_vec_len text.old ≤ 76 }
+    ensures items { text.new.items ≡ text.old.items ++ decimal number }
+    ensures len { array_vec_len text.new ≤ array_vec_len text.old + 20 }
+{
+    put(text, Buffer::new().format(number).as_bytes());
+}
+
+fn put_cycles(text: &mut Text, cycles: u64)
+    requires { array_vec_len text.old ≤ 60 }
+    ensures { text.new.items ≡ text.old.items ++ codes ", cycles " ++ decimal cycles }
+{
+    put(text, b", cycles ");
+    put_number(text, cycles);
+}
+
+fn code_text(code: Code) -> &'static [u8]
+    ensures value { result.now ≡ code_text code }
+    ensures len { length result.now ≤ 2 }
+{
+    match code {
+        Code::NoObject => b"B1",
+        Code::Version => b"B2",
+        Code::CutShort => b"B3",
+        Code::LeftOver => b"B4",
+        Code::NotAllowed => b"B5",
+        Code::Unused => b"B6",
+        Code::PastLimit => b"B7",
+    }
+}
+
+fn wrong_text(wrong: Wrong) -> &'static [u8]
+    ensures value { result.now ≡ wrong_text wrong }
+    ensures len { length result.now ≤ 7 }
+{
+    match wrong {
+        Wrong::Jump => b"jump",
+        Wrong::Storage => b"storage",
+        Wrong::Kind => b"kind",
+        Wrong::Return => b"return",
+    }
+}
+
+/// The exit status of an answer.
+fn exit_status(answer: &Answer) -> u8
+    ensures { result ≡ exit_status answer.now }
+{
+    match answer {
+        Answer::EndOfJob { .. } => 0,
+        Answer::Halt { .. } | Answer::Wrong { .. } => 5,
+        Answer::NotAnObject { .. } => 4,
+        Answer::BadDate => 2,
+        Answer::InputFailed | Answer::OutputFailed | Answer::FileTooLarge | Answer::NoMemory => 1,
+    }
+}
+
+/// The line that is printed for an answer, and the exit status.
+pub fn line(answer: &Answer) -> Line
+    ensures text { result.text.items ≡ line_text answer.now }
+    ensures status { result.status ≡ exit_status answer.now }
+{
+    let mut text = ArrayVec::new();
+    match *answer {
+        Answer::EndOfJob { cycles } => {
+            put(&mut text, b"end of job");
+            put_cycles(&mut text, cycles);
+        }
+        Answer::Halt { number, cycles } => {
+            put(&mut text, b"halt ");
+            put_number(&mut text, u64::from(number));
+            put_cycles(&mut text, cycles);
+        }
+        Answer::Wrong { wrong, cycles } => {
+            put(&mut text, b"wrong ");
+            put(&mut text, wrong_text(wrong));
+            put_cycles(&mut text, cycles);
+        }
+        Answer::NotAnObject { offset, code } => {
+            put(&mut text, b"refused: ");
+            put(&mut text, code_text(code));
+            put(&mut text, b" at ");
+            put_number(&mut text, offset as u64);
+        }
+        Answer::BadDate => put(&mut text, b"bad date"),
+        Answer::InputFailed => put(&mut text, b"input failed"),
+        Answer::OutputFailed => put(&mut text, b"output failed"),
+        Answer::FileTooLarge => put(&mut text, b"file too large"),
+        Answer::NoMemory => put(&mut text, b"no memory"),
+    }
+    Line {
+        text,
+        status: exit_status(answer),
+    }
+}
