@@ -19,3 +19,6 @@ pub use decoding::{DecodeFault, decode};
 pub use encoding::encode;
 pub use program::Program;
 pub use rpg_format::fault::Code;
+
+#[cfg(test)]
+mod tests;
