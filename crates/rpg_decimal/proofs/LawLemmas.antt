@@ -1,10 +1,10 @@
 -- The definitions place by place.
-use Rattle.std.proofs.Common.{◌≡◌, ◌≢◌, ℕ, zero, suc, ◌+◌, ◌-◌, ◌*◌, ◌/◌, ◌%◌, ◌^◌, ◌<◌, ◌≤◌, Bool, true, false, ℤ, pos, negsuc, neg_ℤ, unsigned_abs, List, [], ◌∷◌, ◌++◌, length, map, slice_index, get_or, take, drop, refl, sym, ap, ap₂, ◌∙◌, arith, nat_lt, cond, inl, inr, subst, length-append, div-one, mod-eq_of_lt, ◌↔◌, if◌then◌else◌}
+use Rattle.std.proofs.Common.{◌≡◌, ◌≢◌, ℕ, zero, suc, ◌+◌, ◌-◌, ◌/◌, ◌%◌, ◌^◌, ◌<◌, ◌≤◌, Bool, true, false, ℤ, pos, negsuc, neg_ℤ, unsigned_abs, List, [], ◌∷◌, ◌++◌, length, map, slice_index, get_or, take, drop, refl, sym, ap, ap₂, ◌∙◌, arith, nat_lt, cond, inl, inr, length-append, div-one, mod-eq_of_lt, ◌↔◌, if◌then◌else◌}
 use Rattle.std.proofs.lemmas.Grind.{common_steps}
 use Rattle.std.proofs.lemmas.List.{places, get_or-append_right, get_or-drop, get_or_past, length-take-le, length-map, get_or-map, ext_get_or, get_or_append_left}
 use Rattle.std.proofs.lemmas.Bool.Decides.{nat_tests}
 use Rattle.rpg_decimal.proofs.MoveLemmas.{length-overlay_right, front-overlay_right, div-tens}
-use Rattle.std.proofs.lemmas.Bool.{cases_lt, le-ltb, lt-ltb, cases_Bool}
+use Rattle.std.proofs.lemmas.Bool.{cases_lt, le-ltb, lt-ltb}
 use Rattle.std.specs.Int.{is_negative}
 use Rattle.rpg_decimal.specs.Laws.{from_right, digit_at, MovesFromRight, MovesFromLeft, MovesDigitsFromRight, MovesDigitsFromLeft, SpellsByPlaces, SpellsPlainly}
 use Rattle.rpg_decimal.specs.Zoned.{digit_of, is_digit, is_minus, last_of, Spells, zoned_text, last_character, minus_letter}

@@ -1,5 +1,5 @@
 -- Moves of places.
-use Rattle.std.proofs.Common.{◌≡◌, ℕ, zero, suc, ◌+◌, ◌-◌, ◌*◌, ◌/◌, ◌%◌, ◌^◌, ◌<◌, ◌≤◌, min, Bool, true, false, ℤ, pos, negsuc, unsigned_abs, List, [], ◌∷◌, ◌++◌, length, get_or, take, drop, refl, sym, ap, ap₂, ◌∙◌, arith, mod-eq_of_lt, mod-lt, div-lt_iff_lt-mul, nat_lt, cond, ◌==◌, slice_index, inl, inr, length-append, length-drop}
+use Rattle.std.proofs.Common.{◌≡◌, ℕ, zero, suc, ◌+◌, ◌-◌, ◌*◌, ◌/◌, ◌%◌, ◌^◌, ◌<◌, ◌≤◌, min, true, ℤ, pos, negsuc, List, ◌∷◌, ◌++◌, length, get_or, take, drop, refl, sym, ap, ap₂, ◌∙◌, arith, mod-eq_of_lt, mod-lt, div-lt_iff_lt-mul, ◌==◌, slice_index, inl, inr, length-append, length-drop}
 use Rattle.std.proofs.Math.Nat.{div-div-eq-div-mul}
 use Rattle.std.proofs.lemmas.Bool.{le-ltb, cases_lt}
 use Rattle.std.proofs.lemmas.Nat.{pow-add, mul-add-lt}
@@ -11,7 +11,7 @@ use Rattle.rpg_decimal.specs.Whole.{with_sign_of}
 use Rattle.rpg_decimal.specs.Zoned.{may_stand, is_numeric, IsFirstBad}
 use Rattle.rpg_decimal.proofs.ZonedLemmas.{good_from_numeric}
 use Rattle.rpg_decimal.proofs.PlaceLemmas.{place_value-append, place_value-digits, length-digits}
-use Rattle.rpg_decimal.proofs.WholeLemmas.{ten_pos, ten_le}
+use Rattle.rpg_decimal.proofs.WholeLemmas.{ten_pos}
 
 -- ---- parts of the digits of a number
 

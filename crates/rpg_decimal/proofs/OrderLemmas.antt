@@ -1,22 +1,21 @@
 -- The order of texts.
-use Rattle.std.proofs.Common.{◌≡◌, ◌≢◌, ℕ, zero, suc, ◌+◌, ◌-◌, ◌<◌, ◌≤◌, max, List, [], ◌∷◌, ◌++◌, length, get_or, drop, replicate, refl, sym, ap, ap₂, ◌∙◌, arith, length-append, inl, inr, nat_cmp, Ordering, Less, Equal, Greater, true, false, not, ◌==◌, true≢false}
+use Rattle.std.proofs.Common.{◌≡◌, ◌≢◌, ℕ, ◌+◌, ◌-◌, ◌<◌, ◌≤◌, max, List, length, get_or, drop, replicate, refl, sym, ap, ap₂, ◌∙◌, arith, length-append, inl, inr, nat_cmp, Ordering, Less, Equal, Greater, true, false, not, ◌==◌, true≢false}
 use Rattle.std.specs.Ordering.{ordering_then, ordering_index}
 use Rattle.std.specs.Cmp.Lexicographic.{slice_cmp}
 use Rattle.std.proofs.lemmas.Bool.{cases_lt}
 use Rattle.std.proofs.lemmas.Bool.Decides.{nat_tests}
 use Rattle.std.proofs.lemmas.List.{drop_more, drop_all, length-replicate, get_or_append_left, get_or-append_right, get_or-replicate, get_or_past, get_or_default}
-use Rattle.rpg_decimal.specs.Order.{padded_text, text_cmp, character_cmp, rank}
+use Rattle.rpg_decimal.specs.Order.{padded_text, character_cmp, rank}
 
 length-padded : (n : ℕ) (text : List ℕ) → length (padded_text n text) ≡ max (length text) n
 length-padded n text = length-append text (replicate (n - length text) 32) ∙ ap (λ k. length text + k) (length-replicate (n - length text) 32) ∙ omega arith
 
 pub padded_character : (n : ℕ) (text : List ℕ) (i : ℕ) → i < max (length text) n → get_or (padded_text n text) i 0 ≡ get_or text i 32
 padded_character n text i h =
-    let blanks = replicate (n - length text) 32 in
     elim (cases_lt i (length text)) [
-      | inl inside ↦ get_or_append_left text blanks 0 i inside ∙ get_or_default text i 0 32 inside
+      | inl inside ↦ get_or_append_left text (replicate (n - length text) 32) 0 i inside ∙ get_or_default text i 0 32 inside
       | inr behind ↦
-          get_or-append_right text blanks (length text) i 0 refl behind
+          get_or-append_right text (replicate (n - length text) 32) (length text) i 0 refl behind
           ∙ get_or-replicate (n - length text) (i - length text) 32 0 (omega arith)
           ∙ sym (get_or_past text i 32 behind)
     ]

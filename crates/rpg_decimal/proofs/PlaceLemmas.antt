@@ -1,5 +1,5 @@
 -- Digits, their places, and the numbers that they stand for.
-use Rattle.std.proofs.Common.{◌≡◌, ℕ, zero, suc, ◌+◌, ◌-◌, ◌*◌, ◌/◌, ◌%◌, ◌^◌, ◌<◌, ◌≤◌, List, [], ◌∷◌, ◌++◌, map, length, get_or, take, drop, refl, sym, ap, ap₂, ◌∙◌, arith, mul_assoc, length-append, pow-suc, div-add-mod', mod-lt, mod-eq_of_lt, inl, inr, add_comm}
+use Rattle.std.proofs.Common.{◌≡◌, ℕ, zero, suc, ◌+◌, ◌-◌, ◌*◌, ◌/◌, ◌%◌, ◌^◌, ◌<◌, List, [], ◌∷◌, ◌++◌, map, length, get_or, take, refl, sym, ap, ap₂, ◌∙◌, arith, mul_assoc, length-append, pow-suc, div-add-mod', mod-lt, mod-eq_of_lt, inl, inr, add_comm}
 use Rattle.std.proofs.Math.Nat.{div-div-eq-div-mul, add-mul-div_right}
 use Rattle.std.proofs.lemmas.Nat.{pow-add, mod-mul-add, mul-add-lt, div-mul-add}
 use Rattle.std.proofs.lemmas.Bool.{cases_lt}

@@ -1,16 +1,16 @@
 -- Products and quotients of signed numbers, and what a division leaves.
-use Rattle.std.proofs.Common.{◌≡◌, ◌≢◌, ℕ, zero, suc, ◌+◌, ◌-◌, ◌*◌, ◌/◌, ◌%◌, ◌^◌, ◌<◌, ◌≤◌, min, max, Bool, true, false, ℤ, pos, negsuc, neg_ℤ, ◌+ℤ◌, ◌-ℤ◌, ◌*ℤ◌, unsigned_abs, int_div, int_rem, refl, sym, ap, ap₂, ◌∙◌, arith, mul_assoc, mul_comm, zero-mul, mul-zero, FitsSigned, to_z, of_z, to_z-of_z, mul-pos, mod-lt, div-add-mod', mul-one, mul-div_cancel, pos_of_ne-zero, inl, inr}
+use Rattle.std.proofs.Common.{◌≡◌, ℕ, zero, suc, ◌+◌, ◌-◌, ◌*◌, ◌/◌, ◌%◌, ◌^◌, ◌<◌, ◌≤◌, min, max, false, ℤ, pos, negsuc, neg_ℤ, ◌-ℤ◌, ◌*ℤ◌, unsigned_abs, int_div, refl, sym, ap, ap₂, ◌∙◌, arith, mul_assoc, mul_comm, zero-mul, mul-zero, FitsSigned, to_z, of_z, to_z-of_z, mul-pos, mod-lt, div-add-mod', mul-one, mul-div_cancel, pos_of_ne-zero, inl, inr}
 use Rattle.std.proofs.Math.Nat.{mul-lt-mul_of_pos_right, mod-le}
 use Rattle.std.proofs.lemmas.Bool.{cases_lt}
 use Rattle.std.proofs.Math.IntN.{neg_ℤ-neg_ℤ, *ℤ-negsuc, *ℤ_comm}
 use native.Mathlib.Nat.{zero-div}
-use Rattle.std.proofs.lemmas.Nat.{pow-add, mod-mul-add, mul-add-lt}
+use Rattle.std.proofs.lemmas.Nat.{pow-add, mod-mul-add}
 use Rattle.std.proofs.lemmas.Int.{ints, unsigned_abs-mul}
 use Rattle.std.specs.Int.{w64, w128, int_signum}
 use lib.Signed.{mag}
 use Rattle.rpg_decimal.specs.Whole.{with_sign_of, cut_quotient}
-use Rattle.rpg_decimal.specs.Fraction.{Fraction, with_decimals, minus, times, over, aligned_number, quotient_of, rest_of, rest_decimals, IsSameValue}
-use Rattle.rpg_decimal.proofs.WholeLemmas.{back, mag_below, times_is, rounded_is, rounded_size, rounded-times, ten_pos, ten-split, unsigned_abs-with_sign}
+use Rattle.rpg_decimal.specs.Fraction.{with_decimals, aligned_number, rest_of, IsSameValue}
+use Rattle.rpg_decimal.proofs.WholeLemmas.{back, mag_below, times_is, rounded-times, ten_pos, ten-split}
 
 -- ---- products
 

@@ -1,6 +1,6 @@
 -- Whole numbers: their signs and sizes, powers of ten, and quotients.
-use Rattle.std.proofs.Common.{◌≡◌, ℕ, zero, suc, ◌+◌, ◌-◌, ◌*◌, ◌/◌, ◌%◌, ◌^◌, ◌<◌, ◌≤◌, Bool, true, false, ℤ, pos, negsuc, neg_ℤ, ◌+ℤ◌, ◌-ℤ◌, ◌*ℤ◌, unsigned_abs, int_div, int_rem, refl, sym, ap, ◌∙◌, ap₂, subst, arith, mul_assoc, mul_comm, zero-mul, mul-zero, FitsSigned, to_z, of_z, to_z-of_z, div-lt_iff_lt-mul, le-mul_of_pos_right, mul-pos, le_trans, mod-lt, div-le_self, div-one, mul-le-mul_left}
-use Rattle.std.proofs.Math.Nat.{pow-le-pow_right, one-le-pow, div-div-eq-div-mul, mul-div-mul_right, mul-div_cancel, mod-mod_of_dvd, dvd-mul_left, mul-lt-mul_of_pos_right}
+use Rattle.std.proofs.Common.{◌≡◌, ℕ, zero, suc, ◌+◌, ◌-◌, ◌*◌, ◌/◌, ◌%◌, ◌^◌, ◌<◌, ◌≤◌, Bool, true, false, ℤ, pos, negsuc, neg_ℤ, ◌+ℤ◌, ◌-ℤ◌, ◌*ℤ◌, unsigned_abs, int_rem, refl, sym, ap, ◌∙◌, ap₂, subst, arith, mul_assoc, zero-mul, FitsSigned, to_z, of_z, to_z-of_z, div-lt_iff_lt-mul, le-mul_of_pos_right, mul-pos, mod-lt, div-le_self, div-one, mul-le-mul_left}
+use Rattle.std.proofs.Math.Nat.{pow-le-pow_right, one-le-pow, div-div-eq-div-mul, mul-div-mul_right, mod-mod_of_dvd, dvd-mul_left}
 use Rattle.std.proofs.lemmas.Nat.{mul-mod_first, pow-add}
 use Rattle.std.proofs.lemmas.Int.{ints}
 use Rattle.std.specs.Int.{w64, w128, ◌∣◌}

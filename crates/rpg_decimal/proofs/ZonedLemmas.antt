@@ -1,10 +1,9 @@
 -- Texts of numbers.
-use Rattle.std.proofs.Common.{◌≡◌, ℕ, zero, suc, ◌+◌, ◌-◌, ◌*◌, ◌/◌, ◌%◌, ◌^◌, ◌<◌, ◌≤◌, Bool, true, false, ◌&&◌, ◌||◌, IsTrue, ℤ, pos, negsuc, neg_ℤ, unsigned_abs, List, [], ◌∷◌, ◌++◌, map, length, get_or, slice_index, refl, sym, ap, ap₂, ◌∙◌, arith, eqb, nat_eq, nat_le, ◌==◌, subst, add-one, Option, Some, None, Result, Ok, Err, IsErr, to_z, of_z, w64, ◌-ℤ◌, cond, mod-eq_of_lt, div-add-mod', div-lt_iff_lt-mul, pow-suc, take, drop, set}
+use Rattle.std.proofs.Common.{◌≡◌, ℕ, zero, suc, ◌+◌, ◌-◌, ◌*◌, ◌/◌, ◌%◌, ◌^◌, ◌<◌, ◌≤◌, Bool, true, false, ◌&&◌, ℤ, pos, negsuc, neg_ℤ, unsigned_abs, List, [], ◌∷◌, ◌++◌, map, length, get_or, slice_index, refl, sym, ap, ap₂, ◌∙◌, arith, nat_eq, ◌==◌, subst, add-one, Some, None, Result, Ok, Err, IsErr, to_z, of_z, w64, ◌-ℤ◌, cond, mod-eq_of_lt, div-add-mod', pow-suc, take, drop, set}
 use Rattle.std.proofs.lemmas.Bool.{and_parts, and_from, or_left, or_right, false_from_ne_true, agree_below_at, eqb-true, le-ltb}
 use Rattle.std.proofs.lemmas.Bool.Decides.{nat_tests}
 use Rattle.std.proofs.lemmas.Int.{ints}
 use Rattle.std.proofs.lemmas.List.{get_or_push, length_push, length-take-le, length-map, drop_more, drop_all, set_at}
-use Rattle.std.specs.Int.{is_negative}
 use Rattle.std.specs.Result.{result_ok}
 use Rattle.rpg_decimal.specs.Place.{place_value, digits, signed_number}
 use Rattle.rpg_decimal.specs.Zoned.{may_stand, IsGoodAt, is_numeric, is_digit, is_minus, digit_of, minus_letter, last_of, spelled_number, number_in, last_character, zoned_text, Spells, IsFirstBad}

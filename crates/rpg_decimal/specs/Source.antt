@@ -2,7 +2,6 @@
 use Rattle.std.specs.Prelude.{ℕ, ◌+◌, ◌-◌, ◌≤◌, ℤ, List, length, Option, Some}
 use Rattle.rpg_decimal.specs.Move.{overlay_right, overlay_left, number_moved_right, number_moved_left}
 use Rattle.rpg_decimal.specs.Zoned.{zoned_text, number_in, IsFirstBad}
-use Rattle.rpg_decimal.specs.declared.num.Figure.{Figure}
 use Rattle.rpg_decimal.specs.declared.moves.Source.{Source}
 use Rattle.rpg_decimal.specs.declared.moves.Source.TheVariants.{Number, Text}
 

@@ -1,5 +1,5 @@
 //! Sums, differences and products, as a result field keeps them.
-ghost use Rattle.std.specs.Prelude.{◌≡◌, ◌*◌, ◌^◌, ◌<◌, ◌≤◌, pos, ◌*ℤ◌, unsigned_abs};
+ghost use Rattle.std.specs.Prelude.{◌≡◌, ◌+◌, ◌*◌, ◌^◌, ◌<◌, ◌≤◌, pos, ◌*ℤ◌, unsigned_abs};
 ghost use Rattle.rpg_decimal.specs.Fraction.{stored_number, plus, minus, times, with_decimals};
 ghost use Rattle.rpg_decimal.specs.Num.{value_of};
 
@@ -32,19 +32,22 @@ pub(crate) fn widened(value: i64, scale: u8) -> i128
     i128::from(value) * power_of_ten(scale) as i128
 }
 
+/// The decimals of two numbers together.
+fn both_decimals(a: Num, b: Num) -> Scale
+    ensures { result.value ≡ a.dec + b.dec }
+{
+    Scale {
+        value: a.dec + b.dec,
+    }
+}
+
 /// `a` and `b` added up.
 pub fn add(a: Num, b: Num, target: Target) -> i64
     ensures value { result ≡ stored_number target.half target.dec target.len (plus (value_of a) (value_of b)) }
     ensures fits { unsigned_abs result < 10 ^ target.len }
 {
     let sum = widened(a.value, b.dec) + widened(b.value, a.dec);
-    keep(
-        sum,
-        Scale {
-            value: a.dec + b.dec,
-        },
-        target,
-    )
+    keep(sum, both_decimals(a, b), target)
 }
 
 /// `b` taken from `a`.
@@ -53,13 +56,7 @@ pub fn sub(a: Num, b: Num, target: Target) -> i64
     ensures fits { unsigned_abs result < 10 ^ target.len }
 {
     let difference = widened(a.value, b.dec) - widened(b.value, a.dec);
-    keep(
-        difference,
-        Scale {
-            value: a.dec + b.dec,
-        },
-        target,
-    )
+    keep(difference, both_decimals(a, b), target)
 }
 
 /// `a` times `b`.
@@ -68,11 +65,5 @@ pub fn mult(a: Num, b: Num, target: Target) -> i64
     ensures fits { unsigned_abs result < 10 ^ target.len }
 {
     let product = i128::from(a.value) * i128::from(b.value);
-    keep(
-        product,
-        Scale {
-            value: a.dec + b.dec,
-        },
-        target,
-    )
+    keep(product, both_decimals(a, b), target)
 }

@@ -1,4 +1,4 @@
-use Rattle.std.proofs.Common.{◌≡◌, ◌<◌, ◌≤◌, ◌-◌, ◌*◌, ◌^◌, unsigned_abs, arith, ap, sym, ◌∙◌, to_z, of_z, to_z-of_z}
+use Rattle.std.proofs.Common.{◌≡◌, ◌-◌, ◌*◌, ◌^◌, unsigned_abs, arith, ◌∙◌, to_z, of_z, to_z-of_z}
 use Rattle.std.specs.Int.{w128}
 use Rattle.rpg_decimal.proofs.WholeLemmas.{back, back_64, aligned_up, aligned_down, stored-early, rounded-le, shifted-below, ten_pos, unsigned_abs-with_sign}
 use Rattle.rpg_decimal.proofs.arithmetic.keep.Goals as goal

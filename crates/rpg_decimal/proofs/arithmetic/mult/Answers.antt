@@ -1,4 +1,4 @@
-use Rattle.std.proofs.Common.{◌≡◌, ◌<◌, ◌≤◌, ◌+◌, ◌^◌, ◌*◌, ◌*ℤ◌, unsigned_abs, arith, rules, ap, ap₂, ◌∙◌, to_z-of_z, FitsSigned, w64}
+use Rattle.std.proofs.Common.{◌≡◌, ◌≤◌, ◌^◌, ◌*◌, ◌*ℤ◌, unsigned_abs, arith, rules, ap₂, ◌∙◌, to_z-of_z, FitsSigned, w64}
 use Rattle.std.proofs.lemmas.Nat.{mul-le}
 use Rattle.rpg_decimal.specs.Fraction.{stored_number, with_decimals}
 use Rattle.rpg_decimal.proofs.WholeLemmas.{back_64, stored-joined}
@@ -17,6 +17,6 @@ returns-clause-value c =
     let small : unsigned_abs c.from.result * unsigned_abs c.from-2.result ≤ 10 ^ 15 * 10 ^ 15 =
     mul-le (unsigned_abs c.from.result) (unsigned_abs c.from-2.result) (10 ^ 15) (10 ^ 15) (rw x_is (omega (arith, a.value_in))) (rw y_is (omega (arith, b.value_in))) in
     back_64 c.keep.type_inv ∙ c.keep.ensures.value
-    ∙ ap (λ n. stored_number t.half t.dec t.len (with_decimals n (a.dec + b.dec)))
-    (product_is c.from.result c.from-2.result c.from.type_inv c.from-2.type_inv (omega arith) ∙ ap₂ (◌*ℤ◌) x_is y_is)
+    ∙ ap₂ (λ n d. stored_number t.half t.dec t.len (with_decimals n d))
+    (product_is c.from.result c.from-2.result c.from.type_inv c.from-2.type_inv (omega arith) ∙ ap₂ (◌*ℤ◌) x_is y_is) c.both_decimals.ensures
     ∙ stored-joined t.half t.dec t.len (a.value *ℤ b.value) a.dec b.dec

@@ -1,4 +1,4 @@
-use Rattle.std.proofs.Common.{◌≡◌, ℤ, pos, ◌-ℤ◌, ◌*ℤ◌, ◌+◌, ◌^◌, rules, ap, ◌∙◌, to_z-of_z, FitsSigned, w64}
+use Rattle.std.proofs.Common.{pos, ◌-ℤ◌, ◌*ℤ◌, ◌^◌, rules, ap₂, ◌∙◌, to_z-of_z, FitsSigned, w64}
 use Rattle.rpg_decimal.specs.Fraction.{stored_number, with_decimals}
 use Rattle.rpg_decimal.proofs.WholeLemmas.{back_64, stored-joined, difference_is}
 use Rattle.rpg_decimal.proofs.arithmetic.sub.Goals as goal
@@ -13,6 +13,6 @@ returns-clause-value c =
     let x_is = rw (to_z-of_z fits_a) at c.widened.ensures.value in
     let y_is = rw (to_z-of_z fits_b) at c.widened-2.ensures.value in
     back_64 c.keep.type_inv ∙ c.keep.ensures.value
-    ∙ ap (λ n. stored_number t.half t.dec t.len (with_decimals n (a.dec + b.dec)))
-    (difference_is _ _ _ _ c.widened.type_inv c.widened-2.type_inv c.widened.ensures.bound c.widened-2.ensures.bound x_is y_is)
+    ∙ ap₂ (λ n d. stored_number t.half t.dec t.len (with_decimals n d))
+    (difference_is _ _ _ _ c.widened.type_inv c.widened-2.type_inv c.widened.ensures.bound c.widened-2.ensures.bound x_is y_is) c.both_decimals.ensures
     ∙ stored-joined t.half t.dec t.len (a.value *ℤ pos (10 ^ b.dec) -ℤ b.value *ℤ pos (10 ^ a.dec)) a.dec b.dec

@@ -1,5 +1,5 @@
-use Rattle.std.proofs.Common.{◌≡◌, ◌<◌, ◌+◌, ◌*◌, ◌^◌, pos, ◌*ℤ◌, unsigned_abs, rules, ap, ap₂, ◌∙◌, to_z, of_z, to_z-of_z, FitsSigned, w64, mul-pos, mul_comm}
-use Rattle.std.specs.Int.{int_signum, w128}
+use Rattle.std.proofs.Common.{◌^◌, unsigned_abs, rules, ap, ap₂, ◌∙◌, to_z-of_z, FitsSigned, w64, mul-pos, mul_comm}
+use Rattle.std.specs.Int.{int_signum}
 use Rattle.rpg_decimal.specs.Whole.{fit, rounded_quotient}
 use Rattle.rpg_decimal.proofs.WholeLemmas.{back, back_64, ten_pos}
 use Rattle.rpg_decimal.proofs.QuotientLemmas.{size_pos, dividend_is}

@@ -1,4 +1,4 @@
-use Rattle.std.proofs.Common.{◌≡◌, ◌≤◌, ◌<◌, ◌*◌, ◌^◌, unsigned_abs, arith, ap, ◌∙◌, to_z-of_z}
+use Rattle.std.proofs.Common.{◌≡◌, ◌≤◌, ◌*◌, unsigned_abs, arith, ap, ◌∙◌, to_z-of_z}
 use Rattle.std.specs.Int.{int_signum}
 use Rattle.std.proofs.Math.Nat.{mul-le-mul_left}
 use Rattle.std.proofs.lemmas.Int.{unsigned_abs-mul}

@@ -1,4 +1,4 @@
-use Rattle.std.proofs.Common.{◌≡◌, ◌<◌, ◌≤◌, ◌+◌, ◌-◌, ◌*◌, ◌%◌, ◌^◌, max, unsigned_abs, arith, rules, ap, ◌∙◌, to_z, of_z, to_z-of_z, subst, sym, FitsSigned, w64, mul-pos, ℕ, false}
+use Rattle.std.proofs.Common.{◌≡◌, ◌+◌, ◌-◌, unsigned_abs, arith, rules, ap, ◌∙◌, to_z, of_z, to_z-of_z, subst, sym, FitsSigned, w64, mul-pos, ℕ, false}
 use Rattle.std.specs.Int.{w128}
 use Rattle.rpg_decimal.specs.Num.{value_of}
 use Rattle.rpg_decimal.specs.Fraction.{with_decimals, rest_of, IsSameValue, aligned_number}

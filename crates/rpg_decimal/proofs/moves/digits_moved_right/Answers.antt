@@ -1,4 +1,4 @@
-use Rattle.std.proofs.Common.{◌≡◌, ◌<◌, ◌≤◌, ◌^◌, min, unsigned_abs, arith, ap, ◌∙◌}
+use Rattle.std.proofs.Common.{unsigned_abs, arith}
 use Rattle.rpg_decimal.proofs.WholeLemmas.{ten_le}
 use Rattle.rpg_decimal.proofs.MoveLemmas.{moved_right_size, moved_right-below}
 use Rattle.rpg_decimal.proofs.moves.digits_moved_right.Goals as goal

@@ -1,4 +1,4 @@
-use Rattle.std.proofs.Common.{◌≤◌, ◌<◌, ◌^◌, arith, rules, ap, ◌∙◌, unsigned_abs, FitsSigned, to_z-of_z, w64}
+use Rattle.std.proofs.Common.{arith, rules, ap, ◌∙◌, unsigned_abs, FitsSigned, to_z-of_z, w64}
 use Rattle.rpg_decimal.proofs.WholeLemmas.{ten_le}
 use Rattle.rpg_decimal.proofs.moves.size_of.Goals as goal
 

@@ -1,4 +1,4 @@
-use Rattle.std.proofs.Common.{◌<◌, ◌^◌, arith, ap, ◌∙◌, to_z-of_z}
+use Rattle.std.proofs.Common.{◌^◌, arith, ap, ◌∙◌, to_z-of_z}
 use Rattle.rpg_decimal.specs.Whole.{with_sign_of}
 use Rattle.rpg_decimal.proofs.WholeLemmas.{back, back_64, mag_below}
 use Rattle.rpg_decimal.proofs.moves.under_sign_of.Goals as goal

@@ -1,4 +1,4 @@
-use Rattle.std.proofs.Common.{◌≡◌, ◌<◌, ◌*◌, ◌^◌, ◌-◌, ◌≤◌, ℕ, ℤ, Bool, unsigned_abs, arith, ap, sym, ◌∙◌, to_z-of_z}
+use Rattle.std.proofs.Common.{◌<◌, ◌*◌, ◌^◌, ◌-◌, ◌≤◌, ℕ, ℤ, Bool, unsigned_abs, arith, sym, ◌∙◌, to_z-of_z}
 use Rattle.rpg_decimal.specs.Fraction.{aligned_number, with_decimals}
 use Rattle.rpg_decimal.proofs.WholeLemmas.{back, aligned_up, aligned_down, unsigned_abs-with_sign}
 use Rattle.rpg_decimal.proofs.whole.align.Goals as goal

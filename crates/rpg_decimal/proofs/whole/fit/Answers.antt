@@ -1,4 +1,4 @@
-use Rattle.std.proofs.Common.{◌<◌, ◌%◌, ◌^◌, arith, ap, sym, ◌∙◌, to_z-of_z, mod-lt}
+use Rattle.std.proofs.Common.{◌^◌, arith, sym, ◌∙◌, to_z-of_z, mod-lt}
 use Rattle.rpg_decimal.proofs.WholeLemmas.{back, back_64, mag_below, fit_is, ten_le}
 use Rattle.rpg_decimal.proofs.whole.fit.Goals as goal
 

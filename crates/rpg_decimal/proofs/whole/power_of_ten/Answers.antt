@@ -1,4 +1,4 @@
-use Rattle.std.proofs.Common.{◌≡◌, ◌^◌, ◌<◌, ◌≤◌, arith}
+use Rattle.std.proofs.Common.{◌^◌, ◌≤◌, arith}
 use Rattle.rpg_decimal.proofs.WholeLemmas.{ten_le, ten_pos}
 use Rattle.rpg_decimal.proofs.whole.power_of_ten.Goals as goal
 

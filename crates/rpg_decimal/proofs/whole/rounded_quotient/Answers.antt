@@ -1,4 +1,4 @@
-use Rattle.std.proofs.Common.{◌≤◌, arith, ◌∙◌, to_z-of_z}
+use Rattle.std.proofs.Common.{arith, ◌∙◌, to_z-of_z}
 use Rattle.rpg_decimal.proofs.WholeLemmas.{back, half_is, half_bound}
 use Rattle.rpg_decimal.proofs.whole.rounded_quotient.Goals as goal
 

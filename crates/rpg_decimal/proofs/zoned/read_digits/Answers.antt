@@ -1,4 +1,4 @@
-use Rattle.std.proofs.Common.{◌≡◌, ◌+◌, ◌*◌, ◌^◌, ◌<◌, ◌≤◌, ap, ap₂, sym, ◌∙◌, arith, below_more}
+use Rattle.std.proofs.Common.{◌+◌, ◌*◌, ap₂, sym, ◌∙◌, arith, below_more}
 use Rattle.std.proofs.lemmas.Nat.{pow-add}
 use Rattle.rpg_decimal.specs.Zoned.{digit_of, IsGoodAt}
 use Rattle.rpg_decimal.proofs.WholeLemmas.{ten_le}

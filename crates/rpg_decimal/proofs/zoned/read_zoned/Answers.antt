@@ -1,4 +1,4 @@
-use Rattle.std.proofs.Common.{◌≡◌, ◌^◌, ◌<◌, ◌≤◌, Some, length, ap, sym, ◌∙◌, arith}
+use Rattle.std.proofs.Common.{Some, length, ap, sym, ◌∙◌, arith}
 use Rattle.std.proofs.lemmas.Int.{ints}
 use Rattle.rpg_decimal.proofs.WholeLemmas.{ten_le}
 use Rattle.rpg_decimal.proofs.ZonedLemmas.{number_none, number_some, numeric_from_good, spelled-minus, spelled-plus, minus_back, plus_back, none_from_err}

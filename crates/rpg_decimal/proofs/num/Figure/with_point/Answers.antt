@@ -1,4 +1,4 @@
-use Rattle.std.proofs.Common.{◌≡◌, ◌<◌, ◌^◌, arith, rules, FitsSigned, to_z-of_z, w64}
+use Rattle.std.proofs.Common.{arith, rules, FitsSigned, to_z-of_z, w64}
 use Rattle.rpg_decimal.proofs.WholeLemmas.{ten_le}
 use Rattle.rpg_decimal.proofs.num.Figure.with_point.Goals as goal
 
