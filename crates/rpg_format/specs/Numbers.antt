@@ -1,5 +1,5 @@
 -- What numbers stand for, and the formats of single numbers.
-use Rattle.std.specs.Prelude.{ℕ, List, [], ◌∷◌, Bool, true, false, ◌&&◌, ◌==◌, nat_le, if◌then◌else◌, Result, Ok, Err}
+use Rattle.std.specs.Prelude.{ℕ, ◌/◌, ◌%◌, List, [], ◌∷◌, Bool, true, false, ◌&&◌, ◌==◌, nat_le, if◌then◌else◌, Result, Ok, Err}
 use Rattle.rpg_format.specs.declared.fault.Code.{Code}
 use Rattle.rpg_format.specs.declared.fault.Code.TheVariants.{NotAllowed, Unused, PastLimit}
 use Rattle.rpg_format.specs.Format.{Format, byte, two_bytes}
@@ -31,6 +31,10 @@ only k c n = if n == k then Ok tt else Err c
 abbrev pub flag_number : Bool → ℕ
 flag_number false = 0
 flag_number true = 1
+
+-- a number as its two bytes
+abbrev pub two : ℕ → List ℕ
+two n = n / 256 ∷ n % 256 ∷ []
 
 -- ---- formats of single numbers
 

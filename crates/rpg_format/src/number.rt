@@ -1,10 +1,11 @@
 //! Single numbers, of one byte or of two with the higher byte first: what they are read as, and how they are spelled.
 
-ghost use Rattle.std.specs.Prelude.{◌≡◌, ℕ, ◌/◌, ◌%◌, ◌^◌, ◌<◌, ◌==◌, Result};
-ghost use Rattle.rpg_format.specs.declared.fault.Code.{Code};
-ghost use Rattle.rpg_format.specs.Format.{ends_early, fault_at, read_byte, read_two};
-ghost use Rattle.rpg_format.specs.Numbers.{allowed, is_any, is_between, flag_number, only, up_to, flag};
+ghost use Rattle.std.specs.Prelude.{◌≡◌, ℕ, ◌/◌, ◌%◌, ◌^◌, ◌<◌, ◌++◌, OnOk};
+ghost use Rattle.rpg_format.specs.Format.{ends_early, fault_at, keep, read_byte, read_two, spelled_along};
+ghost use Rattle.rpg_format.specs.Numbers.{allowed, is_any, is_between, flag_number, only, two, up_to, flag};
 ghost use Rattle.rpg_format.specs.Reading.{Gives, GivesByte, GivesTwo};
+
+use std::alloc::AllocError;
 
 use crate::fault::{Code, Fault, ReadFault};
 
@@ -198,4 +199,14 @@ pub fn flag_number(flag: bool) -> u8
     ensures { result ≡ flag_number flag }
 {
     if flag { 1 } else { 0 }
+}
+
+/// Writes numbers of two bytes each.
+pub fn put_numbers(out: &mut Vec<u8>, numbers: &[u16]) -> Result<(), AllocError>
+    ensures { OnOk result (out.new.items ≡ out.old.items ++ spelled_along (λ s n. two n) keep tt numbers.now) }
+{
+    for number in numbers {
+        out.extend_from_slice(&[high(*number), low(*number)])?;
+    }
+    Ok(())
 }

@@ -18,8 +18,8 @@ use Rattle.rpg_format.specs.Format.{Format, byte, two_bytes, pair, row, times_wi
 use Rattle.rpg_format.specs.Numbers.{is_between, flag_number, up_to, count}
 use Rattle.rpg_format.proofs.Laws.{IsFormat, IsRule, byte_law, two_law, pair_law, row_law, times_law, table_law}
 use Rattle.rpg_format.proofs.Rules.{chosen, stands_for, value_is, guarded, choice_rule, up_to_rule, number_law, any_number_law, byte_where_law, yes_or_no_law, count_law, only_byte_law, only_number_law}
-use Rattle.rpg_object.specs.declared.operation.Operation.{Operation}
-use Rattle.rpg_object.specs.declared.operation.Operation.TheVariants as op
+use Rattle.rpg_object.specs.declared.instruction.Operation.{Operation}
+use Rattle.rpg_object.specs.declared.instruction.Operation.TheVariants as op
 use Rattle.rpg_object.specs.declared.row.Move.{Move}
 use Rattle.rpg_object.specs.Object.{TypeRow, LineRow}
 use Rattle.rpg_object.specs.Rows.{no_byte, no_number, no_rows, unused_byte, unused_number, kind_number, class_number, is_decimals, entries_within, field, storage_after, fields, indicator_of, indicator_number, move_row, TypeParts, type_parts, record_type, file_number, time_number, condition, counted_rows, alternative, line_field, alternative_count, LineParts, line_parts, line, operation_number, has_factor1, used, index_code, operand, InstructionParts, numbers, action_of, numbers_of, instruction}

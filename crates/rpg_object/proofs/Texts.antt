@@ -2,6 +2,7 @@
 use Rattle.std.proofs.Common.{◌≡◌, ℕ, List, [], ◌∷◌, ◌++◌, length, refl, sym, ap, ◌∙◌, append_assoc}
 use Rattle.rpg_effect.specs.declared.form.Form.{Form}
 use Rattle.rpg_format.specs.Format.{keep, spelled_along, times_with, byte, two_bytes, pair, row}
+use Rattle.rpg_format.specs.Numbers.{two}
 use Rattle.rpg_object.specs.Object.{LineRow, Object}
 use Rattle.rpg_object.specs.Program.{body, head, parts}
 use Rattle.rpg_object.specs.Rows.{field, fields, storage_after, line, line_parts, line_head, alternative, line_field, values, record_type, instruction}
@@ -56,16 +57,19 @@ all_fields_text p = (fields (length p.fields)).spelling p.fields
 abbrev values_text : Object → List ℕ
 values_text p = (values p.fields).spelling p.values
 
+abbrev head_text : Object → List ℕ
+head_text p = spelled_along (λ s n. two n) keep tt (head p)
+
 -- a program's text: its numbers, then its tables
-body_text : (p : Object) → body.spelling p ≡ head p ++ (all_fields_text p ++ (values_text p ++ (types_text p ++ (lines_text p ++ detail_text p))))
+body_text : (p : Object) → body.spelling p ≡ head_text p ++ (all_fields_text p ++ (values_text p ++ (types_text p ++ (lines_text p ++ detail_text p))))
 unfolding body parts two_bytes pair row times_with
 body_text p = refl
 
 regrouped : (old a b c d e f : List ℕ) → (((((old ++ a) ++ b) ++ c) ++ d) ++ e) ++ f ≡ old ++ (a ++ (b ++ (c ++ (d ++ (e ++ f)))))
 regrouped old a b c d e f = simp append_assoc
 
-pub program_written : (p : Object) (old o1 o2 o3 o4 o5 new : List ℕ) → o1 ≡ old ++ head p → o2 ≡ o1 ++ all_fields_text p → o3 ≡ o2 ++ values_text p → o4 ≡ o3 ++ types_text p → o5 ≡ o4 ++ lines_text p → new ≡ o5 ++ detail_text p → new ≡ old ++ body.spelling p
+pub program_written : (p : Object) (old o1 o2 o3 o4 o5 new : List ℕ) → o1 ≡ old ++ head_text p → o2 ≡ o1 ++ all_fields_text p → o3 ≡ o2 ++ values_text p → o4 ≡ o3 ++ types_text p → o5 ≡ o4 ++ lines_text p → new ≡ o5 ++ detail_text p → new ≡ old ++ body.spelling p
 program_written p old o1 o2 o3 o4 o5 new e1 e2 e3 e4 e5 e6 =
     e6 ∙ ap (λ (t : List ℕ). t ++ detail_text p) (e5 ∙ ap (λ (t : List ℕ). t ++ lines_text p) (e4 ∙ ap (λ (t : List ℕ). t ++ types_text p) (e3 ∙ ap (λ (t : List ℕ). t ++ values_text p) (e2 ∙ ap (λ (t : List ℕ). t ++ all_fields_text p) e1))))
-    ∙ regrouped old (head p) (all_fields_text p) (values_text p) (types_text p) (lines_text p) (detail_text p)
+    ∙ regrouped old (head_text p) (all_fields_text p) (values_text p) (types_text p) (lines_text p) (detail_text p)
     ∙ ap (λ (t : List ℕ). old ++ t) (sym (body_text p))

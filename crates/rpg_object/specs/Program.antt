@@ -1,5 +1,5 @@
 -- Whole object programs: the bytes that spell them, and what other bytes are answered.
-use Rattle.std.specs.Prelude.{◌≡◌, ℕ, ◌-◌, ◌/◌, ◌%◌, ◌≤◌, List, [], ◌∷◌, ◌++◌, length, drop, codes, Bool, true, false, ◌&&◌, ◌==◌, if◌then◌else◌, Option, Some, None, Result, Ok, Err}
+use Rattle.std.specs.Prelude.{◌≡◌, ℕ, ◌-◌, ◌≤◌, List, [], ◌∷◌, ◌++◌, length, drop, codes, Bool, true, false, ◌&&◌, ◌==◌, if◌then◌else◌, Option, Some, None, Result, Ok, Err}
 use Rattle.rpg_effect.specs.declared.form.Form.{Form}
 use Rattle.rpg_effect.specs.declared.operation.Instruction.{Instruction}
 use Rattle.rpg_effect.specs.Values.{Value}
@@ -8,7 +8,8 @@ use Rattle.rpg_format.specs.declared.fault.Code.TheVariants.{NoObject, Version, 
 use Rattle.rpg_format.specs.declared.fault.Fault.{Fault}
 use Rattle.rpg_format.specs.Format.{Format, pair, row, table, fault_at, ◌>>=◌}
 use Rattle.rpg_format.specs.Numbers.{is_between, number_where, count, only_number}
-use Rattle.rpg_object.specs.Object.{Object, TypeRow, LineRow}
+use Rattle.rpg_object.specs.Object.{TypeRow, LineRow}
+pub use Rattle.rpg_object.specs.Object.{Object}
 use Rattle.rpg_object.specs.Rows.{no_number, no_rows, fields, values, record_type, line, instruction}
 
 abbrev pub Parts : Type 0
@@ -49,9 +50,9 @@ parts =
 unfoldable pub body : Format Object
 body = row object_of parts_of parts
 
--- the bytes of a program before its tables, without its name
+-- the numbers of a program before its tables
 abbrev pub head : Object → List ℕ
-head p = 0 ∷ 1 ∷ p.allowance / 256 ∷ p.allowance % 256 ∷ p.record_length / 256 ∷ p.record_length % 256 ∷ p.printer_length / 256 ∷ p.printer_length % 256 ∷ 0 ∷ 0 ∷ 0 ∷ 0 ∷ length p.fields / 256 ∷ length p.fields % 256 ∷ length p.types / 256 ∷ length p.types % 256 ∷ length p.lines / 256 ∷ length p.lines % 256 ∷ length p.detail / 256 ∷ length p.detail % 256 ∷ 0 ∷ 0 ∷ 0 ∷ 0 ∷ 0 ∷ 0 ∷ []
+head p = 1 ∷ p.allowance ∷ p.record_length ∷ p.printer_length ∷ 0 ∷ 0 ∷ length p.fields ∷ length p.types ∷ length p.lines ∷ length p.detail ∷ 0 ∷ 0 ∷ 0 ∷ []
 
 -- ---- whole objects
 

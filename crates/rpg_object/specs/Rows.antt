@@ -25,8 +25,8 @@ use Rattle.rpg_format.specs.declared.fault.Code.TheVariants.{NotAllowed, Unused,
 use Rattle.rpg_format.specs.declared.fault.Fault.{Fault}
 use Rattle.rpg_format.specs.Format.{Format, byte, two_bytes, pair, row, times_with, table, ends_early, fault_at, ruled}
 use Rattle.rpg_format.specs.Numbers.{allowed, is_between, is_any, choice, up_to, only, flag_number, number_where, any_number, byte_where, one_of, yes_or_no, count, only_byte, only_number}
-use Rattle.rpg_object.specs.declared.operation.Operation.{Operation}
-use Rattle.rpg_object.specs.declared.operation.Operation.TheVariants as op
+use Rattle.rpg_object.specs.declared.instruction.Operation.{Operation}
+use Rattle.rpg_object.specs.declared.instruction.Operation.TheVariants as op
 use Rattle.rpg_object.specs.declared.row.Move.{Move}
 use Rattle.rpg_object.specs.Object.{TypeRow, LineRow}
 

@@ -1,13 +1,15 @@
 //! An object program to bytes.
 
 ghost use Rattle.std.specs.Prelude.{◌≡◌, ◌++◌, ◌<◌, ◌^◌, length, IfOk, OnOk};
+ghost use Rattle.rpg_format.specs.Format.{keep, spelled_along};
+ghost use Rattle.rpg_format.specs.Numbers.{two};
 ghost use Rattle.rpg_object.specs.Kept.{IsPlainProgram};
 ghost use Rattle.rpg_object.specs.Object.{seen};
 ghost use Rattle.rpg_object.specs.Program.{body, head, spelling};
 
 use std::alloc::{AllocError, Global};
 
-use rpg_format::number::{high, low};
+use rpg_format::number::put_numbers;
 
 use crate::field::put_fields;
 use crate::first_value::put_values;
@@ -23,42 +25,28 @@ fn put_head(out: &mut Vec<u8>, rows: &Rows) -> Result<(), AllocError>
     requires types { length rows.now.types.items < 2 ^ 16 }
     requires lines { length rows.now.lines.items < 2 ^ 16 }
     requires detail { length rows.now.detail.items < 2 ^ 16 }
-    ensures { OnOk result (out.new.items ≡ out.old.items ++ head (seen rows.now)) }
+    ensures { OnOk result (out.new.items ≡ out.old.items ++ spelled_along (λ s n. two n) keep tt (head (seen rows.now))) }
 {
     let fields = rows.fields.len() as u16;
     let types = rows.types.len() as u16;
     let lines = rows.lines.len() as u16;
     let detail = rows.detail.len() as u16;
     let numbers = [
-        0,
         1,
-        high(rows.allowance),
-        low(rows.allowance),
-        high(rows.record_length),
-        low(rows.record_length),
-        high(rows.printer_length),
-        low(rows.printer_length),
+        rows.allowance,
+        rows.record_length,
+        rows.printer_length,
         0,
         0,
-        0,
-        0,
-        high(fields),
-        low(fields),
-        high(types),
-        low(types),
-        high(lines),
-        low(lines),
-        high(detail),
-        low(detail),
-        0,
-        0,
-        0,
+        fields,
+        types,
+        lines,
+        detail,
         0,
         0,
         0,
     ];
-    out.extend_from_slice(&numbers)?;
-    Ok(())
+    put_numbers(out, &numbers)
 }
 
 /// Writes the numbers and tables of a program.

@@ -11,8 +11,14 @@ use rpg_effect::operation::{Action, Instruction, Operand};
 use rpg_format::fault::{Code, ReadFault};
 use rpg_format::number::{byte_at, high, low, number_at, only_byte_at, only_number_at};
 
-use crate::operation::Operation;
 use crate::table::Row;
+
+/// What an instruction does, apart from its operands.
+#[derive(Clone, Copy)]
+pub enum Operation {
+    Add,
+    ZeroAdd,
+}
 
 fn operation_of(n: u8) -> Result<Operation, Code>
     ensures { result ≡ operation_of n }

@@ -11,7 +11,6 @@ mod record_type;
 mod table;
 
 pub mod laws;
-pub mod operation;
 pub mod program;
 pub mod row;
 
