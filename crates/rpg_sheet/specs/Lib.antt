@@ -3,3 +3,4 @@ pub mod Values
 pub mod Tables
 pub mod Sheet
 pub mod Seen
+pub mod Specs

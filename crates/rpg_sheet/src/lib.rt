@@ -11,6 +11,7 @@ mod input;
 mod output;
 mod sheet;
 mod source;
+mod spec;
 #[cfg(test)]
 mod tests;
 mod values;
@@ -25,4 +26,5 @@ pub use input::{InputField, InputSpec, RecordType};
 pub use output::{LineTime, OutputField, OutputRecord, OutputSpec};
 pub use sheet::{Cards, FormType, SheetCode, SheetFault};
 pub use source::cards;
+pub use spec::Spec;
 pub use word::Word;
