@@ -1,6 +1,6 @@
 ghost use Rattle.std.specs.Prelude.{◌≡◌, ℕ, ◌+◌, ◌<◌, ◌≤◌, ◌↔◌, List, [], ◌∷◌, ◌++◌, take, vec_len, unwrap_or, Option, Some, None, IsTrue, OnOk, OnErr};
-ghost use Rattle.rpg_edit.specs.Paper.{Position, Placed, TurnsOverflowOn, top_of_paper, spaced, skipped, trimmed, bytes_from, paper, end_of};
-ghost use Rattle.rpg_edit.specs.Form.{StandsAt, at_first_line, after_space, after_skip, after_line, way_of};
+ghost use Rattle.rpg_edit.specs.Paper.{Position, Placed, TurnsOverflowOn, top_of_paper, spaced, skipped, trimmed, bytes_from};
+ghost use Rattle.rpg_edit.specs.Form.{StandsAt, HasPrinted, at_first_line, after_space, after_skip, after_line, way_of};
 
 use crate::paper::{append_times, trim_end};
 use std::alloc::AllocError;
@@ -57,6 +57,7 @@ impl Form {
     /// The form at the first line of the first page, nothing being placed.
     pub fn new() -> Self
         ensures stands { StandsAt result None top_of_paper }
+        ensures paper { HasPrinted result [] top_of_paper [] }
         ensures form { result ≡ at_first_line }
     {
         Form {
@@ -118,9 +119,9 @@ impl Form {
     /// and the text without the blanks at its end.
     pub fn place(&mut self, text: &[u8], out: &mut Vec<u8>) -> Result<(), NoMemory>
         // The bytes are those of the paper, whatever was placed before.
-        ensures paper { (sent : List ℕ) (lines : List Placed) (here : Position) → StandsAt self.old (end_of lines) here
-            → sent ++ out.old.items ≡ paper lines
-            → OnOk result (sent ++ out.new.items ≡ paper (lines ++ record { at = here; text = text.now } ∷ [])) }
+        ensures paper { (sent : List ℕ) (lines : List Placed) (here : Position)
+            → HasPrinted self.old lines here (sent ++ out.old.items)
+            → OnOk result (HasPrinted self.new (lines ++ record { at = here; text = text.now } ∷ []) here (sent ++ out.new.items)) }
         ensures bytes { (last : Option Position) (here : Position) → StandsAt self.old last here
             → OnOk result (out.new.items ≡ out.old.items ++ bytes_from last (record { at = here; text = text.now } ∷ [])) }
         ensures stands { (last : Option Position) (here : Position) → StandsAt self.old last here
