@@ -3,7 +3,6 @@ use Rattle.std.proofs.Common.{◌≡◌, ℕ, Bool, true, false, cond, List, [],
 use Rattle.std.specs.Prelude.{◌⊎◌}
 use Rattle.rpg_format.specs.declared.fault.Code.{Code}
 use Rattle.rpg_format.specs.declared.fault.Code.TheVariants.{NotAllowed, PastLimit}
-use Rattle.rpg_format.specs.Format.{Format}
 use Rattle.rpg_format.specs.Numbers.{allowed, is_any, choice, up_to, only, flag_number, number_where, any_number, byte_where, one_of, yes_or_no, count, only_byte, only_number}
 use Rattle.rpg_format.proofs.Laws.{IsRule, IsFormat, byte_law, two_law}
 

@@ -3,8 +3,6 @@ use Rattle.std.specs.Prelude.{◌≡◌, ℕ, zero, suc, ◌+◌, ◌*◌, ◌/�
 use Rattle.rpg_format.specs.declared.fault.Code.{Code}
 use Rattle.rpg_format.specs.declared.fault.Code.TheVariants.{CutShort}
 use Rattle.rpg_format.specs.declared.fault.Fault.{Fault}
-use Rattle.rpg_format.specs.declared.fault.ReadFault.{ReadFault}
-use Rattle.rpg_format.specs.declared.fault.ReadFault.TheVariants as faults
 
 -- how a value is spelled, which values it may hold, and what is read at the front of bytes, with what is left of them
 pub record Format (X : Type 0) : Type 1 where

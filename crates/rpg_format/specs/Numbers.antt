@@ -1,7 +1,7 @@
 -- What numbers stand for, and the formats of single numbers.
 use Rattle.std.specs.Prelude.{ℕ, ◌/◌, ◌%◌, List, [], ◌∷◌, Bool, true, false, ◌&&◌, ◌==◌, nat_le, if◌then◌else◌, Result, Ok, Err}
 use Rattle.rpg_format.specs.declared.fault.Code.{Code}
-use Rattle.rpg_format.specs.declared.fault.Code.TheVariants.{NotAllowed, Unused, PastLimit}
+use Rattle.rpg_format.specs.declared.fault.Code.TheVariants.{NotAllowed, PastLimit}
 use Rattle.rpg_format.specs.Format.{Format, byte, two_bytes}
 
 -- the numbers that a test takes

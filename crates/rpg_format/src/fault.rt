@@ -1,11 +1,10 @@
 //! What is wrong with bytes that were to spell something.
 
 ghost use Rattle.std.specs.Prelude.{◌≡◌};
+ghost use Rattle.rpg_format.specs.declared.fault.ReadFault.TheVariants.{NoMemory};
 
 use std::alloc::{AllocError, AllocFailed};
 use std::fmt;
-
-ghost use Rattle.rpg_format.specs.declared.fault.ReadFault.TheVariants.{NoMemory};
 
 /// How a number breaks its rule.
 #[derive(Clone, Copy, Debug, PartialEq, Eq)]

@@ -5,9 +5,8 @@ ghost use Rattle.rpg_format.specs.Format.{ends_early, fault_at, keep, read_byte,
 ghost use Rattle.rpg_format.specs.Numbers.{allowed, is_any, is_between, flag_number, only, two, up_to, flag};
 ghost use Rattle.rpg_format.specs.Reading.{Gives, GivesByte, GivesTwo};
 
-use std::alloc::AllocError;
-
 use crate::fault::{Code, Fault, ReadFault};
+use std::alloc::AllocError;
 
 /// The fault of bytes that end in the middle of a number.
 pub fn ends_early() -> ReadFault
@@ -118,11 +117,7 @@ fn flag(n: u8) -> Result<bool, Code>
 
 /// Reads a number of two bytes within limits.
 #[tactic(auto, unfolding(crate::specs::Format::read_two))]
-pub fn number_between_at(
-    bytes: &[u8],
-    low: u16,
-    high: u16,
-) -> Result<(u16, &[u8]), ReadFault>
+pub fn number_between_at(bytes: &[u8], low: u16, high: u16) -> Result<(u16, &[u8]), ReadFault>
     ensures { Gives (λ x. (x.0, x.1.now)) result (read_two (allowed (is_between low high)) bytes.now) }
 {
     number_at(bytes, |n| between(low, high, n))
@@ -138,11 +133,7 @@ pub fn any_number_at(bytes: &[u8]) -> Result<(u16, &[u8]), ReadFault>
 
 /// Reads a byte within limits.
 #[tactic(auto, unfolding(crate::specs::Format::read_byte))]
-pub fn byte_between_at(
-    bytes: &[u8],
-    low: u8,
-    high: u8,
-) -> Result<(u8, &[u8]), ReadFault>
+pub fn byte_between_at(bytes: &[u8], low: u8, high: u8) -> Result<(u8, &[u8]), ReadFault>
     ensures { Gives (λ x. (x.0, x.1.now)) result (read_byte (allowed (is_between low high)) bytes.now) }
 {
     byte_at(bytes, |n| byte_between(low, high, n))

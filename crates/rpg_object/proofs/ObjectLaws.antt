@@ -1,5 +1,5 @@
 -- The laws of whole object programs.
-use Rattle.std.proofs.Common.{◌≡◌, ℕ, zero, suc, ◌+◌, ◌-◌, ◌<◌, ◌≤◌, Bool, true, false, ◌&&◌, List, [], ◌∷◌, ◌++◌, length, drop, Option, Some, None, Result, Ok, Err, refl, sym, ap, subst, ◌∙◌, append_assoc, append-nil, arith, inl, inr, eqb, eqb-true, length-append, length-drop}
+use Rattle.std.proofs.Common.{◌≡◌, ℕ, zero, suc, ◌+◌, ◌-◌, ◌≤◌, Bool, true, false, ◌&&◌, List, [], ◌∷◌, ◌++◌, length, drop, Some, Result, Ok, Err, refl, sym, ap, subst, ◌∙◌, append-nil, arith, inl, inr, eqb, eqb-true, length-append, length-drop}
 use Rattle.std.proofs.lemmas.List.{drop-append-le}
 use Rattle.std.specs.Prelude.{◌⊎◌}
 use Rattle.rpg_format.specs.declared.fault.Code.{Code}
@@ -7,7 +7,7 @@ use Rattle.rpg_format.specs.declared.fault.Code.TheVariants.{NoObject, Version, 
 use Rattle.rpg_format.specs.declared.fault.Fault.{Fault}
 use Rattle.rpg_format.specs.Format.{◌>>=◌, fault_at, pair, times_with}
 use Rattle.rpg_format.specs.Numbers.{is_between}
-use Rattle.rpg_format.proofs.Laws.{IsBytes, IsBytes-rest, Takes, IsFormat, further, bind_ok, bind_err, ok_is, pair_law, row_law, table_law}
+use Rattle.rpg_format.proofs.Laws.{IsBytes, IsBytes-rest, IsFormat, further, bind_ok, bind_err, ok_is, pair_law, row_law, table_law}
 use Rattle.rpg_format.proofs.Rules.{chosen, number_law, count_law, only_number_law}
 use Rattle.rpg_object.specs.Object.{Object}
 use Rattle.rpg_object.specs.Program.{Parts, object_of, with_counts, parts_of, parts, body, name, spelling, IsProgram, ended, begins_with, reading, fault_in, first_fault, FaultStays}

@@ -1,6 +1,6 @@
 -- What rows keep, in plain words.
-use Rattle.std.proofs.Common.{◌≡◌, ℕ, zero, suc, ◌+◌, ◌-◌, ◌*◌, ◌^◌, ◌<◌, ◌≤◌, Bool, true, false, ◌&&◌, cond, List, [], ◌∷◌, length, get_or, slice_index_or, Option, Some, None, Result, Ok, Err, refl, sym, ap, subst, ◌∙◌, arith, inl, inr, leb, eqb, eqb-true, ltb}
-use Rattle.std.specs.Prelude.{◌⊎◌, All, IfSome}
+use Rattle.std.proofs.Common.{◌≡◌, ℕ, zero, suc, ◌*◌, ◌<◌, ◌≤◌, Bool, true, false, cond, List, [], ◌∷◌, length, get_or, Option, Some, None, Ok, Err, refl, ap, ◌∙◌, arith, inl, inr, leb, eqb, eqb-true, ltb}
+use Rattle.std.specs.Prelude.{All, IfSome}
 use Rattle.std.proofs.lemmas.Bool.{leb-true, ltb-true, and_parts, eqb-false}
 use Rattle.rpg_effect.specs.declared.form.Class.{Class}
 use Rattle.rpg_effect.specs.declared.form.Class.TheVariants as class
@@ -18,7 +18,6 @@ use Rattle.rpg_effect.specs.declared.operation.Action.TheVariants as actions
 use Rattle.rpg_effect.specs.declared.operation.Instruction.{Instruction}
 use Rattle.rpg_effect.specs.declared.operation.Instruction.TheVariants.{Act}
 use Rattle.rpg_effect.specs.Values.{Value}
-use Rattle.rpg_format.specs.declared.fault.Code.{Code}
 use Rattle.rpg_format.specs.declared.fault.Code.TheVariants.{NotAllowed, PastLimit}
 use Rattle.rpg_format.specs.Format.{Format, byte, two_bytes, pair, row, times_with, table, keep, AllAlong}
 use Rattle.rpg_format.specs.Numbers.{allowed, is_between, flag_number, up_to}

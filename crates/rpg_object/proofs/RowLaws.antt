@@ -1,28 +1,20 @@
 -- The laws of the formats of rows.
-use Rattle.std.proofs.Common.{◌≡◌, ℕ, zero, suc, ◌+◌, ◌-◌, ◌*◌, ◌^◌, ◌<◌, ◌≤◌, Bool, true, false, cond, List, [], ◌∷◌, ◌++◌, length, take, drop, Option, Some, None, Result, Ok, Err, ℤ, refl, sym, ap, subst, ◌∙◌, arith, inl, inr, eqb, leb, ltb, eqb-true, unsigned_abs, length-append}
-use Rattle.std.specs.Prelude.{◌⊎◌}
-use Rattle.rpg_decimal.specs.Zoned.{number_in, zoned_text}
+use Rattle.std.proofs.Common.{◌≡◌, ℕ, ◌*◌, Bool, true, false, cond, List, [], ◌∷◌, length, Some, None, Err, refl, sym, ap, ◌∙◌, inl, inr, eqb, leb, ltb, eqb-true}
 use Rattle.rpg_effect.specs.declared.form.Class.TheVariants as class
-use Rattle.rpg_effect.specs.declared.form.Form.{Form}
 use Rattle.rpg_effect.specs.declared.form.Kind.TheVariants as kind
-use Rattle.rpg_effect.specs.declared.line.Condition.{Condition}
 use Rattle.rpg_effect.specs.declared.line.File.TheVariants.{Printer}
-use Rattle.rpg_effect.specs.declared.line.LineField.{LineField}
 use Rattle.rpg_effect.specs.declared.line.Time.TheVariants as time
 use Rattle.rpg_effect.specs.declared.operation.Action.TheVariants as actions
 use Rattle.rpg_effect.specs.declared.operation.Instruction.{Instruction}
 use Rattle.rpg_effect.specs.declared.operation.Instruction.TheVariants.{Act}
-use Rattle.rpg_format.specs.declared.fault.Code.{Code}
 use Rattle.rpg_format.specs.declared.fault.Code.TheVariants.{NotAllowed, Unused, PastLimit}
-use Rattle.rpg_format.specs.Format.{Format, byte, two_bytes, pair, row, times_with, table, keep}
+use Rattle.rpg_format.specs.Format.{Format, two_bytes, pair, row, times_with, table}
 use Rattle.rpg_format.specs.Numbers.{is_between, flag_number, up_to, count}
 use Rattle.rpg_format.proofs.Laws.{IsFormat, IsRule, byte_law, two_law, pair_law, row_law, times_law, table_law}
 use Rattle.rpg_format.proofs.Rules.{chosen, stands_for, value_is, guarded, choice_rule, up_to_rule, number_law, any_number_law, byte_where_law, yes_or_no_law, count_law, only_byte_law, only_number_law}
 use Rattle.rpg_object.specs.declared.instruction.Operation.{Operation}
 use Rattle.rpg_object.specs.declared.instruction.Operation.TheVariants as op
-use Rattle.rpg_object.specs.declared.row.Move.{Move}
-use Rattle.rpg_object.specs.Object.{TypeRow, LineRow}
-use Rattle.rpg_object.specs.Rows.{no_byte, no_number, no_rows, unused_byte, unused_number, kind_number, class_number, is_decimals, entries_within, field, storage_after, fields, indicator_of, indicator_number, move_row, TypeParts, type_parts, record_type, file_number, time_number, condition, counted_rows, alternative, line_field, alternative_count, LineParts, line_parts, line, operation_number, has_factor1, used, index_code, operand, InstructionParts, numbers, action_of, numbers_of, instruction}
+use Rattle.rpg_object.specs.Rows.{kind_number, class_number, is_decimals, entries_within, field, storage_after, fields, indicator_of, indicator_number, move_row, TypeParts, type_parts, record_type, file_number, time_number, condition, counted_rows, alternative, line_field, alternative_count, LineParts, line_parts, line, operation_number, has_factor1, used, index_code, operand, numbers, action_of, numbers_of, instruction}
 
 -- ---- fields
 

@@ -1,5 +1,5 @@
 -- Rows that keep the plain words are rows of an object program.
-use Rattle.std.proofs.Common.{◌≡◌, ℕ, zero, suc, ◌+◌, ◌-◌, ◌*◌, ◌^◌, ◌<◌, ◌≤◌, Bool, true, false, ◌&&◌, cond, List, [], ◌∷◌, length, get_or, slice_index_or, Option, Some, None, Result, Ok, Err, refl, sym, ap, subst, ◌∙◌, arith, leb, eqb, ltb, eq-eqb, ne_eqb}
+use Rattle.std.proofs.Common.{◌≡◌, ℕ, suc, ◌*◌, ◌^◌, ◌<◌, ◌≤◌, Bool, true, false, List, [], ◌∷◌, length, get_or, Option, Some, None, Ok, refl, sym, ap, subst, arith, leb, eqb, eq-eqb, ne_eqb}
 use Rattle.std.specs.Prelude.{All, IfSome}
 use Rattle.std.proofs.lemmas.Bool.{le-leb, and_from}
 use Rattle.rpg_effect.specs.declared.form.Class.{Class}
@@ -14,8 +14,6 @@ use Rattle.rpg_effect.specs.declared.operation.Action.TheVariants as actions
 use Rattle.rpg_effect.specs.declared.operation.Instruction.{Instruction}
 use Rattle.rpg_effect.specs.declared.operation.Instruction.TheVariants.{Act}
 use Rattle.rpg_effect.specs.Values.{Value}
-use Rattle.rpg_format.specs.declared.fault.Code.{Code}
-use Rattle.rpg_format.specs.declared.fault.Code.TheVariants.{NotAllowed, PastLimit}
 use Rattle.rpg_format.specs.Format.{Format, byte, two_bytes, pair, row, times_with, table, keep, AllAlong}
 use Rattle.rpg_format.specs.Numbers.{allowed, is_between, flag, flag_number, up_to}
 use Rattle.rpg_object.specs.declared.row.Move.{Move}
@@ -60,16 +58,15 @@ field_from s f h storage =
     let decimals = taken (is_decimals f.length) f.decimals (and_from (leb f.decimals 9) (leb f.decimals f.length) (le-leb _ _ h.few_decimals) (le-leb _ _ h.decimals_within)) in
     let one : (entries_within f.length s 1 ≡ Ok 1) = let fits : f.length * 1 ≤ s = subst (λ (n : ℕ). f.length * n ≤ s) h.entries storage in rw (le-leb (f.length * 1) s fits) refl in
     let entries : entries_within f.length s f.entries ≡ Ok f.entries = subst (λ (n : ℕ). entries_within f.length s n ≡ Ok n) (sym h.entries) one in
-    let longest = h.longest in let few_decimals = h.few_decimals in let is_one = h.entries in
-    (
+    let longest = h.longest in let few_decimals = h.few_decimals in let is_one = h.entries in (
       subst (λ (k : Kind). (kind_of (kind_number k) ≡ Ok k) × (kind_number k < 2 ^ 8)) (sym h.kind) (refl, omega arith),
       (
         subst (λ (k : Class). (class_of (class_number k) ≡ Ok k) × (class_number k < 2 ^ 8)) (sym h.class) (refl, omega arith),
         (
           (len, omega arith),
-          ((decimals, omega arith), (subst (λ (b : Bool). (sequence_of (flag_number b) ≡ Ok b) × (flag_number b < 2 ^ 8)) (sym h.sequence) (refl, omega arith), (entries, omega arith)))
-        )
-      )
+          ((decimals, omega arith), (subst (λ (b : Bool). (sequence_of (flag_number b) ≡ Ok b) × (flag_number b < 2 ^ 8)) (sym h.sequence) (refl, omega arith), (entries, omega arith))),
+        ),
+      ),
     )
 
 fields_along : (s : ℕ) (fs : List Form) → All IsFieldRow fs → storage_of fs ≤ s → AllAlong (λ t f. (field t).Holds f) storage_after s fs
@@ -135,8 +132,7 @@ pub line_from : (l : LineRow) → IsLineRow l → line.Holds l
 unfolding line line_parts row pair byte two_bytes
 line_from l h =
     let small = h.few_fields in
-    let one = h.one_alternative in
-    (
+    let one = h.one_alternative in (
       subst (λ (f : File). (file_of (file_number f) ≡ Ok f) × (file_number f < 2 ^ 8)) (sym h.file) (refl, omega arith),
       (
         subst (λ (t : Time). (time_of (time_number t) ≡ Ok t) × (time_number t < 2 ^ 8)) (sym h.time) (refl, omega arith),
@@ -150,13 +146,13 @@ line_from l h =
                 movement l.moves.skip_after 0 (ap (λ (m : Moves). m.skip_after) h.moves) (omega arith),
                 (
                   (subst (λ (n : ℕ). alternative_count n ≡ Ok n) (sym h.one_alternative) refl, omega arith),
-                  ((few 200 (length l.fields) h.few_fields, omega arith), ((refl, omega arith), (table_from_all alternative IsAlternativeRow alternative_from l.alternatives h.alternatives, table_from_all line_field IsLineFieldRow line_field_from l.fields h.fields)))
-                )
-              )
-            )
-          )
-        )
-      )
+                  ((few 200 (length l.fields) h.few_fields, omega arith), ((refl, omega arith), (table_from_all alternative IsAlternativeRow alternative_from l.alternatives h.alternatives, table_from_all line_field IsLineFieldRow line_field_from l.fields h.fields))),
+                ),
+              ),
+            ),
+          ),
+        ),
+      ),
     )
 
 -- ---- instructions
@@ -173,8 +169,49 @@ instruction_from (Act (actions.ZeroAdd factor2 res)) h =
 pub program_from : (p : Object) → IsPlainProgram p → IsProgram p
 unfolding body parts row pair two_bytes
 program_from p h =
-    let a = h.highest_allowance in let b = h.longest_record in let c = h.widest_line in let f = h.few_fields in let t = h.few_types in let l = h.few_lines in let d = h.few_instructions in
-    ((refl, omega arith), ((between 1 65535 p.allowance h.lowest_allowance h.highest_allowance, omega arith), ((between 1 9999 p.record_length h.shortest_record h.longest_record, omega arith), ((between 0 132 p.printer_length (omega arith) h.widest_line, omega arith),
-    ((refl, omega arith), ((refl, omega arith), ((few 4000 (length p.fields) h.few_fields, omega arith), ((few 200 (length p.types) h.few_types, omega arith), ((few 1000 (length p.lines) h.few_lines, omega arith), ((few 8192 (length p.detail) h.few_instructions, omega arith),
-    ((refl, omega arith), ((refl, omega arith), ((refl, omega arith), (fields_from p.fields h.fields h.storage, (values_from p.fields p.values h.values,
-    (table_from_all record_type IsTypeRow type_from p.types h.types, (table_from_all line IsLineRow line_from p.lines h.lines, table_from_all instruction IsInstructionRow instruction_from p.detail h.detail)))))))))))))))))
+    let a = h.highest_allowance in let b = h.longest_record in let c = h.widest_line in let f = h.few_fields in let t = h.few_types in let l = h.few_lines in let d = h.few_instructions in (
+      (refl, omega arith),
+      (
+        (between 1 65535 p.allowance h.lowest_allowance h.highest_allowance, omega arith),
+        (
+          (between 1 9999 p.record_length h.shortest_record h.longest_record, omega arith),
+          (
+            (between 0 132 p.printer_length (omega arith) h.widest_line, omega arith),
+            (
+              (refl, omega arith),
+              (
+                (refl, omega arith),
+                (
+                  (few 4000 (length p.fields) h.few_fields, omega arith),
+                  (
+                    (few 200 (length p.types) h.few_types, omega arith),
+                    (
+                      (few 1000 (length p.lines) h.few_lines, omega arith),
+                      (
+                        (few 8192 (length p.detail) h.few_instructions, omega arith),
+                        (
+                          (refl, omega arith),
+                          (
+                            (refl, omega arith),
+                            (
+                              (refl, omega arith),
+                              (
+                                fields_from p.fields h.fields h.storage,
+                                (
+                                  values_from p.fields p.values h.values,
+                                  (table_from_all record_type IsTypeRow type_from p.types h.types, (table_from_all line IsLineRow line_from p.lines h.lines, table_from_all instruction IsInstructionRow instruction_from p.detail h.detail)),
+                                ),
+                              ),
+                            ),
+                          ),
+                        ),
+                      ),
+                    ),
+                  ),
+                ),
+              ),
+            ),
+          ),
+        ),
+      ),
+    )

@@ -1,10 +1,9 @@
 -- The laws of the formats of first values.
-use Rattle.std.proofs.Common.{◌≡◌, ℕ, zero, suc, ◌+◌, ◌^◌, ◌<◌, ◌≤◌, Bool, true, false, cond, List, [], ◌∷◌, ◌++◌, length, take, drop, get_or, Option, Some, None, Result, Ok, Err, ℤ, unsigned_abs, refl, sym, ap, subst, ◌∙◌, arith, inl, inr, ltb, length-append}
+use Rattle.std.proofs.Common.{◌≡◌, ℕ, zero, suc, ◌^◌, ◌<◌, ◌≤◌, Bool, true, false, cond, List, [], ◌∷◌, ◌++◌, length, take, drop, Option, Some, None, Result, Ok, Err, ℤ, unsigned_abs, refl, sym, ap, subst, ◌∙◌, arith, inl, inr, ltb, length-append}
 use Rattle.std.proofs.lemmas.Bool.{le-ltb, ltb-false}
 use Rattle.std.proofs.lemmas.List.{length-take-le, length_push, take-append-le, drop-append-le, take-append-drop}
 use Rattle.std.proofs.lemmas.Slice.Eq.{bytes_eq-Decides}
 use Rattle.std.proofs.Math.Seq.{take-append_seam, drop-append_seam}
-use Rattle.std.specs.Prelude.{◌⊎◌}
 use Rattle.std.specs.Str.{bytes_eq}
 use Rattle.rpg_decimal.specs.Zoned.{number_in, zoned_text}
 use Rattle.rpg_effect.specs.declared.form.Form.{Form}
@@ -12,8 +11,8 @@ use Rattle.rpg_effect.specs.Values.{Value, Number, Text}
 use Rattle.rpg_format.specs.declared.fault.Code.{Code}
 use Rattle.rpg_format.specs.declared.fault.Code.TheVariants.{CutShort, NotAllowed}
 use Rattle.rpg_format.specs.declared.fault.Fault.{Fault}
-use Rattle.rpg_format.specs.Format.{Format, ends_early, fault_at, ruled, times_with}
-use Rattle.rpg_format.proofs.Laws.{IsBytes, Takes, IsFormat, IsBytes-rest, further, ok_is, at_end, times_law, ruled_ok, ruled_err, ruled_stays, ruled_fails}
+use Rattle.rpg_format.specs.Format.{ends_early, ruled}
+use Rattle.rpg_format.proofs.Laws.{IsBytes, Takes, IsFormat, IsBytes-rest, further, at_end, times_law, ruled_ok, ruled_err, ruled_stays, ruled_fails}
 use Rattle.rpg_format.proofs.Rules.{chosen, stands_for}
 use Rattle.rpg_object.specs.Rows.{as_written, as_value, read_value, value_text, IsNumberOf, value, next_length, later_fields, values}
 use Rattle.rpg_object.proofs.ZonedTexts.{number_in-zoned, length-zoned, number_in-below}

@@ -1,5 +1,5 @@
 -- The formats of rows, number by number.
-use Rattle.std.specs.Prelude.{◌≡◌, ℕ, zero, suc, ◌+◌, ◌-◌, ◌*◌, ◌/◌, ◌%◌, ◌^◌, ◌<◌, ◌≤◌, ℤ, unsigned_abs, List, [], ◌∷◌, length, take, drop, slice_index_or, Bool, true, false, ◌&&◌, ◌==◌, nat_lt, nat_le, if◌then◌else◌, Option, Some, None, Result, Ok, Err}
+use Rattle.std.specs.Prelude.{◌≡◌, ℕ, ◌-◌, ◌*◌, ◌/◌, ◌%◌, ◌^◌, ◌<◌, ◌≤◌, ℤ, unsigned_abs, List, [], ◌∷◌, length, take, drop, slice_index_or, Bool, true, false, ◌&&◌, ◌==◌, nat_lt, nat_le, if◌then◌else◌, Option, Some, None, Result, Ok, Err}
 use Rattle.std.specs.Str.{bytes_eq}
 use Rattle.rpg_decimal.specs.Zoned.{number_in, zoned_text}
 use Rattle.rpg_effect.specs.declared.form.Class.{Class}
@@ -11,20 +11,18 @@ use Rattle.rpg_effect.specs.declared.line.Condition.{Condition}
 use Rattle.rpg_effect.specs.declared.line.File.{File}
 use Rattle.rpg_effect.specs.declared.line.File.TheVariants.{Printer, Disk}
 use Rattle.rpg_effect.specs.declared.line.LineField.{LineField}
-use Rattle.rpg_effect.specs.declared.line.Moves.{Moves}
 use Rattle.rpg_effect.specs.declared.line.Time.{Time}
 use Rattle.rpg_effect.specs.declared.line.Time.TheVariants as time
 use Rattle.rpg_effect.specs.declared.operation.Action.{Action}
 use Rattle.rpg_effect.specs.declared.operation.Action.TheVariants as actions
 use Rattle.rpg_effect.specs.declared.operation.Instruction.{Instruction}
 use Rattle.rpg_effect.specs.declared.operation.Instruction.TheVariants.{Act}
-use Rattle.rpg_effect.specs.declared.operation.Operand.{Operand}
 use Rattle.rpg_effect.specs.Values.{Value, Number, Text}
 use Rattle.rpg_format.specs.declared.fault.Code.{Code}
 use Rattle.rpg_format.specs.declared.fault.Code.TheVariants.{NotAllowed, Unused, PastLimit}
 use Rattle.rpg_format.specs.declared.fault.Fault.{Fault}
-use Rattle.rpg_format.specs.Format.{Format, byte, two_bytes, pair, row, times_with, table, ends_early, fault_at, ruled}
-use Rattle.rpg_format.specs.Numbers.{allowed, is_between, is_any, choice, up_to, only, flag_number, number_where, any_number, byte_where, one_of, yes_or_no, count, only_byte, only_number}
+use Rattle.rpg_format.specs.Format.{Format, byte, two_bytes, pair, row, times_with, table, ends_early, ruled}
+use Rattle.rpg_format.specs.Numbers.{is_between, choice, up_to, flag_number, number_where, any_number, byte_where, yes_or_no, count, only_byte, only_number}
 use Rattle.rpg_object.specs.declared.instruction.Operation.{Operation}
 use Rattle.rpg_object.specs.declared.instruction.Operation.TheVariants as op
 use Rattle.rpg_object.specs.declared.row.Move.{Move}

@@ -7,13 +7,6 @@ ghost use Rattle.rpg_object.specs.Decoding.{FaultIs, IsOkBarMemory};
 ghost use Rattle.rpg_object.specs.Object.{Object, seen};
 ghost use Rattle.rpg_object.specs.Program.{IsProgram, body, first_fault, reading, spelling};
 
-use std::alloc::Global;
-use std::error::Error;
-use std::fmt;
-
-use rpg_format::fault::{Code, ReadFault};
-use rpg_format::number::{count_at, fault_at, number_between_at, only_number_at};
-
 use crate::field::fields_at;
 use crate::first_value::values_at;
 use crate::output_line::lines_at;
@@ -21,16 +14,18 @@ use crate::program::Program;
 use crate::record_type::record_types_at;
 use crate::row::Rows;
 use crate::table::rows_at;
+use rpg_format::fault::{Code, ReadFault};
+use rpg_format::number::{count_at, fault_at, number_between_at, only_number_at};
+use std::alloc::Global;
+use std::error::Error;
+use std::fmt;
 
 /// Why bytes weren't decoded.
 #[derive(Clone, Copy, Debug, PartialEq, Eq)]
 pub enum DecodeFault {
     /// The first number that breaks its rule: where its first byte stands, counted from 0, and how it breaks it. A
     /// number that is cut short stands at the end of the bytes.
-    Object {
-        offset: usize,
-        code: Code,
-    },
+    Object { offset: usize, code: Code },
     NoMemory,
 }
 

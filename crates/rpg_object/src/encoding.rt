@@ -7,10 +7,6 @@ ghost use Rattle.rpg_object.specs.Kept.{IsPlainProgram};
 ghost use Rattle.rpg_object.specs.Object.{seen};
 ghost use Rattle.rpg_object.specs.Program.{body, head, spelling};
 
-use std::alloc::{AllocError, Global};
-
-use rpg_format::number::put_numbers;
-
 use crate::field::put_fields;
 use crate::first_value::put_values;
 use crate::output_line::put_lines;
@@ -18,6 +14,8 @@ use crate::program::Program;
 use crate::record_type::put_record_types;
 use crate::row::Rows;
 use crate::table::put_rows;
+use rpg_format::number::put_numbers;
+use std::alloc::{AllocError, Global};
 
 /// Writes the numbers before the tables.
 fn put_head(out: &mut Vec<u8>, rows: &Rows) -> Result<(), AllocError>

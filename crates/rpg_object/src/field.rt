@@ -7,11 +7,10 @@ ghost use Rattle.rpg_format.specs.Numbers.{allowed};
 ghost use Rattle.rpg_format.specs.Reading.{Gives};
 ghost use Rattle.rpg_object.specs.Rows.{class_number, class_of, entries_within, field, fields, is_decimals, kind_number, kind_of, sequence_of, storage_after, HasDigits};
 
-use std::alloc::{AllocError, Global};
-
 use rpg_effect::form::{Class, Form, Kind};
 use rpg_format::fault::{Code, ReadFault};
 use rpg_format::number::{byte_at, flag_number, high, low, number_at, number_between_at};
+use std::alloc::{AllocError, Global};
 
 /// Bytes of storage in all.
 const STORAGE: u32 = 65_535;
@@ -146,11 +145,7 @@ fn field_at(bytes: &[u8], storage: u32) -> Result<(Form, &[u8]), ReadFault>
 }
 
 /// Reads so many fields.
-pub fn fields_at(
-    alloc: Global,
-    count: u16,
-    bytes: &[u8],
-) -> Result<(Vec<Form>, &[u8]), ReadFault>
+pub fn fields_at(alloc: Global, count: u16, bytes: &[u8]) -> Result<(Vec<Form>, &[u8]), ReadFault>
     ensures read { Gives (λ x. (x.0.items, x.1.now)) result ((fields count).reading bytes.now) }
     ensures digits { IfOk result (λ x. All HasDigits x.0.items) }
 {

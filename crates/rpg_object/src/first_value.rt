@@ -6,13 +6,12 @@ ghost use Rattle.rpg_effect.specs.Values.{held};
 ghost use Rattle.rpg_format.specs.Reading.{Gives};
 ghost use Rattle.rpg_object.specs.Rows.{as_written, read_value, value_text, values, AreNumbersOf, HasDigits, IsNumberOf};
 
-use std::alloc::{AllocError, Global};
-
 use rpg_decimal::{read_zoned, write_zoned};
 use rpg_effect::form::Form;
 use rpg_effect::value::Value;
 use rpg_format::fault::{Code, ReadFault};
 use rpg_format::number::{ends_early, fault_at};
+use std::alloc::{AllocError, Global};
 
 /// The most digits that a number has.
 const DIGITS: usize = 15;

@@ -5,13 +5,11 @@ ghost use Rattle.rpg_format.specs.Format.{read_byte, read_two};
 ghost use Rattle.rpg_format.specs.Reading.{Gives};
 ghost use Rattle.rpg_object.specs.Rows.{has_factor1, index_code, instruction, operand, operation_number, operation_of, used};
 
-use std::alloc::AllocError;
-
+use crate::table::Row;
 use rpg_effect::operation::{Action, Instruction, Operand};
 use rpg_format::fault::{Code, ReadFault};
 use rpg_format::number::{byte_at, high, low, number_at, only_byte_at, only_number_at};
-
-use crate::table::Row;
+use std::alloc::AllocError;
 
 /// What an instruction does, apart from its operands.
 #[derive(Clone, Copy)]

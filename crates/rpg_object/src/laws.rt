@@ -7,17 +7,14 @@ ghost use Rattle.rpg_object.specs.Program.{FaultStays, IsProgram};
 /// Bytes behind a fault change neither its offset nor its code, unless they may complete what is cut short.
 pub fn bytes_behind_keep_a_fault(bytes: &[u8], more: &[u8])
     ensures { FaultStays bytes.now more.now }
-{
-}
+{}
 
 /// What a program keeps, row by row in plain words.
 pub fn programs_are_plain()
     ensures { (p : Object) → IsProgram p → IsPlainProgram p }
-{
-}
+{}
 
 /// What keeps the plain words is a program.
 pub fn plain_rows_are_programs()
     ensures { (p : Object) → IsPlainProgram p → IsProgram p }
-{
-}
+{}

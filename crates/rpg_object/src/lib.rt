@@ -6,13 +6,12 @@ mod encoding;
 mod field;
 mod first_value;
 mod instruction;
-mod output_line;
-mod record_type;
-mod table;
-
 pub mod laws;
+mod output_line;
 pub mod program;
+mod record_type;
 pub mod row;
+mod table;
 
 pub use decoding::{DecodeFault, decode};
 pub use encoding::encode;

@@ -9,8 +9,8 @@ ghost use Rattle.rpg_object.specs.Kept.{IsAlternativeRow, IsLineRow};
 ghost use Rattle.rpg_object.specs.Rows as rows;
 ghost use Rattle.rpg_object.specs.Rows.{alternative_count, condition, file_number, file_of, line_field, line_head, time_number, time_of};
 
-use std::alloc::{AllocError, Global};
-
+use crate::row::Line;
+use crate::table::{Row, put_rows, rows_at};
 use rpg_effect::line::{Condition, File, LineField, Moves, Time};
 use rpg_effect::operation::Operand;
 use rpg_format::fault::{Code, ReadFault};
@@ -18,9 +18,7 @@ use rpg_format::number::{
     any_number_at, byte_at, byte_between_at, count_at, flag_at, flag_number, high, low, number_at,
     only_byte_at, only_number_at,
 };
-
-use crate::row::Line;
-use crate::table::{Row, put_rows, rows_at};
+use std::alloc::{AllocError, Global};
 
 fn file_of(n: u8) -> Result<File, Code>
     ensures { result ≡ file_of n }
@@ -63,11 +61,7 @@ fn time_number(time: Time) -> u8
 fn fixed(k: u8, n: u8) -> Result<u8, Code>
     ensures { result ≡ allowed (λ m. m == k) n }
 {
-    if n == k {
-        Ok(n)
-    } else {
-        Err(Code::NotAllowed)
-    }
+    if n == k { Ok(n) } else { Err(Code::NotAllowed) }
 }
 
 fn alternative_count(n: u16) -> Result<u16, Code>
@@ -260,11 +254,7 @@ fn line_at(alloc: Global, bytes: &[u8]) -> Result<(Line, &[u8]), ReadFault>
 }
 
 /// Reads so many lines.
-pub fn lines_at(
-    alloc: Global,
-    count: u16,
-    bytes: &[u8],
-) -> Result<(Vec<Line>, &[u8]), ReadFault>
+pub fn lines_at(alloc: Global, count: u16, bytes: &[u8]) -> Result<(Vec<Line>, &[u8]), ReadFault>
     ensures { Gives (λ x. (map line_row x.0.items, x.1.now)) result ((table count rows.line).reading bytes.now) }
 {
     let mut lines = Vec::new(alloc);

@@ -8,13 +8,13 @@ ghost use Rattle.rpg_object.specs.Kept.{IsTypeRow};
 ghost use Rattle.rpg_object.specs.Rows as rows;
 ghost use Rattle.rpg_object.specs.Rows.{indicator_number, indicator_of, move_row};
 
-use std::alloc::{AllocError, Global};
-
-use rpg_format::fault::{Code, ReadFault};
-use rpg_format::number::{any_number_at, byte_at, count_at, high, low, only_byte_at, only_number_at};
-
 use crate::row::{Move, RecordType};
 use crate::table::{Row, put_rows, rows_at};
+use rpg_format::fault::{Code, ReadFault};
+use rpg_format::number::{
+    any_number_at, byte_at, count_at, high, low, only_byte_at, only_number_at,
+};
+use std::alloc::{AllocError, Global};
 
 fn indicator_of(n: u8) -> Result<Option<u8>, Code>
     ensures { result ≡ indicator_of n }

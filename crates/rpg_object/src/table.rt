@@ -5,9 +5,8 @@ ghost use Rattle.rpg_format.specs.declared.fault.Fault.{Fault};
 ghost use Rattle.rpg_format.specs.Format.{keep, read_times, spelled_along};
 ghost use Rattle.rpg_format.specs.Reading.{Gives};
 
-use std::alloc::{AllocError, Global};
-
 use rpg_format::fault::ReadFault;
+use std::alloc::{AllocError, Global};
 
 /// A row that is read the same way wherever it stands.
 pub trait Row: Copy {

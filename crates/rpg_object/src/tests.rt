@@ -1,13 +1,11 @@
 //! Objects by hand, byte by byte.
 
+use super::{DecodeFault, decode, encode};
+use rpg_effect::operation::{Action, Instruction};
+use rpg_effect::value::Value;
 use std::alloc::{AllocError, Global};
 use std::process::Abort;
 use std::test::Fail;
-
-use rpg_effect::operation::{Action, Instruction};
-use rpg_effect::value::Value;
-
-use super::{DecodeFault, decode, encode};
 
 /// Moves columns 1 to 3 to field 1, sets field 3 to it, adds that to field 2 and prints field 2.
 static OBJECT_A: [u8; 157] = [

@@ -1,9 +1,9 @@
-use Rattle.std.proofs.Common.{◌≡◌, ◌<◌, length, drop, map, get_or, arith, ap, ◌+◌, ◌/◌}
+use Rattle.std.proofs.Common.{◌<◌, length, drop, map, arith, ap, ◌+◌}
 use Rattle.std.proofs.lemmas.List.{length-map}
 use Rattle.rpg_effect.specs.Values.{held}
 use Rattle.rpg_format.specs.Format.{times_with}
 use Rattle.rpg_format.proofs.Loop.{writes_on, all_written, mapped-at, mapped-drop}
-use Rattle.rpg_object.specs.Rows.{value, value_text, values, next_length, later_fields, IsNumberOf}
+use Rattle.rpg_object.specs.Rows.{value, value_text, values, next_length, later_fields}
 use Rattle.rpg_object.proofs.FieldsLeft.{next_length-drop, later_fields-drop}
 use Rattle.rpg_object.proofs.first_value.put_values.Goals as goal
 

@@ -3,7 +3,6 @@ use Rattle.std.proofs.lemmas.List.{map-append}
 use Rattle.std.proofs.lemmas.Result.{err_from_is_err_and}
 use Rattle.rpg_format.specs.Format.{keep, times_with}
 use Rattle.rpg_format.proofs.Loop.{goes_on, ends, is_done}
-
 use Rattle.rpg_object.specs.Rows.{alternative}
 use Rattle.rpg_object.proofs.output_line.alternatives_at.Goals as goal
 

@@ -1,7 +1,6 @@
 use Rattle.std.proofs.Common.{◌≡◌, ◌-◌, map}
 use Rattle.rpg_format.specs.Format.{keep, read_times}
 use Rattle.rpg_format.proofs.Loop.{with_front}
-
 use Rattle.rpg_object.specs.Rows.{alternative}
 use Rattle.rpg_object.proofs.output_line.alternatives_at.Given as goal
 

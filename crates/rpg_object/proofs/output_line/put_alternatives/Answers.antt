@@ -1,4 +1,4 @@
-use Rattle.std.proofs.Common.{length, map, arith, refl}
+use Rattle.std.proofs.Common.{map, arith, refl}
 use Rattle.std.proofs.lemmas.List.{length-map}
 use Rattle.rpg_format.specs.Format.{keep, times_with}
 use Rattle.rpg_format.proofs.Loop.{writes_on, all_written, mapped-drop, mapped_keeps}
