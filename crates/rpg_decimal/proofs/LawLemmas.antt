@@ -1,17 +1,20 @@
 -- The definitions place by place.
-use Rattle.std.proofs.Common.{◌≡◌, ◌≢◌, ℕ, zero, suc, ◌+◌, ◌-◌, ◌/◌, ◌%◌, ◌^◌, ◌<◌, ◌≤◌, Bool, true, false, ℤ, pos, negsuc, neg_ℤ, unsigned_abs, List, [], ◌∷◌, ◌++◌, length, map, slice_index, get_or, take, drop, refl, sym, ap, ap₂, ◌∙◌, arith, nat_lt, cond, inl, inr, length-append, div-one, mod-eq_of_lt, ◌↔◌, if◌then◌else◌}
+use Rattle.std.proofs.Common.{◌≡◌, ◌≢◌, ℕ, zero, suc, ◌+◌, ◌-◌, ◌/◌, ◌%◌, ◌^◌, ◌<◌, ◌≤◌, Bool, true, false, ℤ, pos, negsuc, neg_ℤ, unsigned_abs, List, [], ◌∷◌, ◌++◌, length, map, slice_index, get_or, take, drop, refl, sym, ap, ap₂, ◌∙◌, arith, nat_lt, cond, inl, inr, length-append, div-one, mod-eq_of_lt, ◌↔◌, Some, None, subst, if◌then◌else◌}
 use Rattle.std.proofs.lemmas.Grind.{common_steps}
 use Rattle.std.proofs.lemmas.List.{places, get_or-append_right, get_or-drop, get_or_past, length-take-le, length-map, get_or-map, ext_get_or, get_or_append_left}
 use Rattle.std.proofs.lemmas.Bool.Decides.{nat_tests}
 use Rattle.rpg_decimal.proofs.MoveLemmas.{length-overlay_right, front-overlay_right, div-tens}
-use Rattle.std.proofs.lemmas.Bool.{cases_lt, le-ltb, lt-ltb}
+use Rattle.std.proofs.lemmas.Bool.{cases_lt, le-ltb, lt-ltb, cases_Bool}
 use Rattle.std.specs.Int.{is_negative}
 use Rattle.rpg_decimal.specs.Laws.{from_right, digit_at, MovesFromRight, MovesFromLeft, MovesDigitsFromRight, MovesDigitsFromLeft, SpellsByPlaces, SpellsPlainly}
-use Rattle.rpg_decimal.specs.Zoned.{digit_of, is_digit, is_minus, last_of, Spells, zoned_text, last_character, minus_letter}
+use Rattle.rpg_decimal.specs.Zoned.{digit_of, is_digit, is_minus, last_of, Spells, zoned_text, last_character, minus_letter, number_in, is_numeric, spelled_number}
+use Rattle.rpg_decimal.specs.Source.{moved_right, moved_left}
+use Rattle.rpg_decimal.specs.declared.moves.Source.{Source}
+use Rattle.rpg_decimal.specs.declared.moves.Source.TheVariants.{Number, Text}
 use Rattle.rpg_decimal.specs.Move.{overlay_right, overlay_left, number_moved_right, number_moved_left}
 use Rattle.rpg_decimal.specs.Place.{place_value, digits, signed_number}
 use Rattle.rpg_decimal.proofs.PlaceLemmas.{place_value-below, place_digit, length-digits, get_or-digits, get_or-digits-below, digits-from_right, place_value-digits}
-use Rattle.rpg_decimal.proofs.ZonedLemmas.{good_from_numeric, numeric_from_good, Spells-zoned, digit_stands, is_minus-letter, last_of_push, last_character-pos}
+use Rattle.rpg_decimal.proofs.ZonedLemmas.{good_from_numeric, numeric_from_good, Spells-zoned, digit_stands, is_minus-letter, last_of_push, last_character-pos, number_some}
 use Rattle.rpg_decimal.proofs.WholeLemmas.{unsigned_abs-neg}
 
 -- ---- numbers with a sign
@@ -222,7 +225,7 @@ digit_is c h = grind (arith, nat_tests)
 letter_is : (c : ℕ) → is_minus c ≡ true → c ≡ minus_letter (digit_of c)
 letter_is c h = grind (arith, nat_tests)
 
-length-zoned : (k : ℕ) (n : ℤ) → 1 ≤ k → length (zoned_text k n) ≡ k
+pub length-zoned : (k : ℕ) (n : ℤ) → 1 ≤ k → length (zoned_text k n) ≡ k
 length-zoned k n h =
     let ds = digits (k - 1) (unsigned_abs n / 10) in
     length-append (map (λ d. 48 + d) ds) (last_character n ∷ [])
@@ -259,3 +262,40 @@ plain_alone text n some p =
           ∙ ap (λ j. get_or (zoned_text k n) (j - 1) 0) long
           ∙ sym (ap (λ j. get_or (zoned_text k n) j 0) here)
     ])
+
+-- ---- reading as a function
+
+spelled_in : (text : List ℕ) (n : ℤ) → number_in text ≡ Some n → Spells text n
+spelled_in text n h =
+    elim (cases_Bool (is_numeric text)) [
+      | inl good ↦ let here = number_some text good in record { good = good; value = cc }
+      | inr bad ↦ let none : number_in text ≡ None = ap (λ b. cond b (Some (spelled_number text)) None) bad in absurd cc
+    ]
+
+in_spelled : (text : List ℕ) (n : ℤ) → Spells text n → number_in text ≡ Some n
+in_spelled text n h = number_some text h.good ∙ ap Some (sym h.value)
+
+pub read_either : (text : List ℕ) (n : ℤ) → (number_in text ≡ Some n) ↔ Spells text n
+read_either text n = (spelled_in text n, in_spelled text n)
+
+pub read_back : (k : ℕ) (n : ℤ) → 1 ≤ k → unsigned_abs n < 10 ^ k → number_in (zoned_text k n) ≡ Some n
+read_back k n low h = in_spelled (zoned_text k n) n (Spells-zoned k n low h)
+
+-- ---- what is moved fits
+
+read_fits : (text : List ℕ) (len : ℕ) (n : ℤ) → length text ≡ len → number_in text ≡ Some n → unsigned_abs n < 10 ^ len
+read_fits text len n long h = rw (sym (ap (λ j. 10 ^ j) long)) ((spelled_by_places text n (spelled_in text n h)).fits)
+
+pub right_fits : (source : Source) (len : ℕ) (old n : ℤ) → 1 ≤ len → moved_right source len old ≡ Some n → unsigned_abs n < 10 ^ len
+right_fits (Number f) len old n low h =
+    let e : number_moved_right f.len f.value len old ≡ n = cc in
+    subst (λ z. unsigned_abs z < 10 ^ len) e ((right_digits f.len f.value len old).fits)
+right_fits (Text t) len old n low h =
+    read_fits (overlay_right t.now (zoned_text len old)) len n (length-overlay_right t.now (zoned_text len old) ∙ length-zoned len old low) h
+
+pub left_fits : (source : Source) (len : ℕ) (old n : ℤ) → 1 ≤ len → moved_left source len old ≡ Some n → unsigned_abs n < 10 ^ len
+left_fits (Number f) len old n low h =
+    let e : number_moved_left f.len f.value len old ≡ n = cc in
+    subst (λ z. unsigned_abs z < 10 ^ len) e ((left_digits f.len f.value len old).fits)
+left_fits (Text t) len old n low h =
+    read_fits (overlay_left t.now (zoned_text len old)) len n (left_long t.now (zoned_text len old) ∙ length-zoned len old low) h

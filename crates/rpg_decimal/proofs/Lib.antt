@@ -1,7 +1,7 @@
-mod LawLemmas
-mod MoveLemmas
+pub mod LawLemmas
+pub mod MoveLemmas
 mod OrderLemmas
-mod PlaceLemmas
+pub mod PlaceLemmas
 mod QuotientLemmas
-mod WholeLemmas
-mod ZonedLemmas
+pub mod WholeLemmas
+pub mod ZonedLemmas

@@ -1,9 +1,11 @@
 //! Laws of the definitions that the other contracts cite. The functions do nothing: each is called for its contract alone.
-ghost use Rattle.std.specs.Prelude.{◌≡◌, ◌↔◌, ℕ, ◌^◌, ◌<◌, ◌≤◌, ℤ, Bool, List, length, unsigned_abs};
+ghost use Rattle.std.specs.Prelude.{◌≡◌, ◌↔◌, ℕ, ◌^◌, ◌<◌, ◌≤◌, ℤ, Bool, List, length, unsigned_abs, Some};
 ghost use Rattle.rpg_decimal.specs.Fraction.{Fraction, stored_number};
 ghost use Rattle.rpg_decimal.specs.Laws.{MovesFromRight, MovesFromLeft, MovesDigitsFromRight, MovesDigitsFromLeft, SpellsByPlaces, SpellsPlainly};
 ghost use Rattle.rpg_decimal.specs.Move.{overlay_right, overlay_left, number_moved_right, number_moved_left};
-ghost use Rattle.rpg_decimal.specs.Zoned.{zoned_text, Spells};
+ghost use Rattle.rpg_decimal.specs.Source.{moved_right, moved_left};
+ghost use Rattle.rpg_decimal.specs.Zoned.{zoned_text, number_in, Spells};
+ghost use Rattle.rpg_decimal.specs.declared.moves.Source.{Source};
 
 /// A move goes place by place, and takes the sign with the last place.
 pub fn moves_go_by_places()
@@ -17,10 +19,15 @@ pub fn moves_go_by_places()
 pub fn texts_spell_by_places()
     ensures spells { (text : List ℕ) (n : ℤ) → Spells text n ↔ SpellsByPlaces text n }
     ensures written { (k : ℕ) (n : ℤ) → 1 ≤ k → unsigned_abs n < 10 ^ k → SpellsPlainly (zoned_text k n) n }
+    ensures long { (k : ℕ) (n : ℤ) → 1 ≤ k → length (zoned_text k n) ≡ k }
+    ensures read { (text : List ℕ) (n : ℤ) → (number_in text ≡ Some n) ↔ Spells text n }
+    ensures read_back { (k : ℕ) (n : ℤ) → 1 ≤ k → unsigned_abs n < 10 ^ k → number_in (zoned_text k n) ≡ Some n }
     ensures alone { (text : List ℕ) (n : ℤ) → 1 ≤ length text → SpellsPlainly text n → text ≡ zoned_text (length text) n }
 {}
 
-/// What a form stores fits it.
+/// What is stored in a form, or moved to one, fits it.
 pub fn stored_numbers_fit()
-    ensures { (half : Bool) (dec len : ℕ) (p : Fraction) → unsigned_abs (stored_number half dec len p) < 10 ^ len }
+    ensures stored { (half : Bool) (dec len : ℕ) (p : Fraction) → unsigned_abs (stored_number half dec len p) < 10 ^ len }
+    ensures right { (source : Source) (len : ℕ) (old n : ℤ) → 1 ≤ len → moved_right source len old ≡ Some n → unsigned_abs n < 10 ^ len }
+    ensures left { (source : Source) (len : ℕ) (old n : ℤ) → 1 ≤ len → moved_left source len old ≡ Some n → unsigned_abs n < 10 ^ len }
 {}
