@@ -1,4 +1,5 @@
--- The cards, one line for each range of columns. Columns that a card doesn't name may hold anything where they are `any`, and are blank elsewhere.
+-- The cards, one line for each range of columns: `⊛` a range that gives the next member of the spec, `⊘` one that only has to be good.
+-- 1-5 and 75-80 are free on every card, and further columns where a sheet's headline says so.
 use Rattle.std.specs.Prelude.{ℕ, List, [], ◌∷◌, Bool, Option, Some, if◌then◌else◌, codes}
 use Rattle.std.specs.Str.{bytes_eq}
 use Rattle.rpg_sheet.specs.declared.indicator.Three.{Three}
@@ -28,12 +29,12 @@ use Rattle.rpg_sheet.specs.Values.{all_blank, one_of, only, unused, blank_or, ma
 abbrev pub three : {X : Type 0} → X → X → X → Three X
 three a b c = record { first = a; second = b; third = c }
 
--- ---- H; any: 7-14
+-- ---- H; free: 7-14
 
 unfoldable pub header : Columns HeaderSpec
 header = values (record {}) ⊘ blank 15 74
 
--- ---- F; any: 20-23
+-- ---- F; free: 20-23
 
 abbrev pub direction : List ℕ → Option Direction
 direction = one_of ((codes "I", Input) ∷ (codes "O", Output) ∷ [])
@@ -102,7 +103,7 @@ is_field_card card = all_blank (cols 7 16 card)
 unfoldable pub input_card : Columns InputSpec
 input_card = where_card is_field_card (values input.Field ⊛ field_card) (values input.Type ⊛ type_card)
 
--- ---- C; any: 60-74
+-- ---- C; free: 60-74
 
 abbrev pub operation : List ℕ → Option Operation
 operation = one_of ((codes "ADD  ", op.Add) ∷ (codes "Z-ADD", op.ZeroAdd) ∷ [])
@@ -130,7 +131,7 @@ calculation_card = values calculation_spec
     ⊘ at 53 53 unused
     ⊘ no_resulting_indicators
 
--- ---- O; any: 71-74
+-- ---- O; free: 71-74
 
 -- three conditions, each of three columns
 unfoldable pub conditions : ℕ → ℕ → ℕ → ℕ → ℕ → ℕ → Columns (Three (Option Condition))

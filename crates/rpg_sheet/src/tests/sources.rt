@@ -1,6 +1,6 @@
 //! Sources, their cards and their first faults.
 
-use crate::{FormType, SheetCode, SheetFault, cards};
+use crate::{FormType, SheetCode, SheetFault, Spec, cards};
 use std::test::Fail;
 
 #[test]
@@ -70,6 +70,23 @@ fn a_card_is_on_its_sheet(rt: HostRuntime) -> Result<(), Fail> {
         assert_eq!(rt; sheets.next(), Some(sheet));
     }
     assert_eq!(rt; sheets.next(), None);
+    Ok(())
+}
+
+#[test]
+fn cards_stand_for_specs_of_their_sheets(rt: HostRuntime) -> Result<(), Fail> {
+    let text =
+        b"     H\n     FA       O   F      80            PRINTER\n     IA       AA\n     C\n     O        D\n     C*\n/*";
+    let source = cards(rt.alloc(), text)?;
+    let mut specs = source.as_slice().iter().map(|card| card.spec());
+    assert!(rt; matches!(specs.next(), Some(Some(Spec::Header(_)))));
+    assert!(rt; matches!(specs.next(), Some(Some(Spec::File(_)))));
+    assert!(rt; matches!(specs.next(), Some(Some(Spec::Input(_)))));
+    assert!(rt; matches!(specs.next(), Some(Some(Spec::Calculation(_)))));
+    assert!(rt; matches!(specs.next(), Some(Some(Spec::Output(_)))));
+    assert!(rt; matches!(specs.next(), Some(None)));
+    assert!(rt; matches!(specs.next(), Some(None)));
+    assert!(rt; specs.next().is_none());
     Ok(())
 }
 
