@@ -1,0 +1,6 @@
+pub mod Phases
+pub mod Taking
+pub mod Doing
+pub mod Job
+pub mod Runs
+pub mod Facts
