@@ -1,1 +1,13 @@
 pub mod Numbers
+pub mod ByNumber
+pub mod Keeping
+pub mod Doing
+pub mod Steps
+pub mod Starting
+pub mod Fields
+pub mod Moves
+pub mod Weights
+pub mod OneLine
+pub mod AllLines
+pub mod Sound
+pub mod Ready

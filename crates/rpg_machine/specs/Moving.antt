@@ -32,11 +32,14 @@ is_right_move len m (Some d) = nat_le 1 m.from && nat_le m.from m.to && nat_le m
 unfoldable pub move_fault : List Form → ℕ → Move → Option Wrong
 move_fault forms len m = if is_right_move len m (form_at forms m.field) then None else Some wrongs.Storage
 
--- one move; a bad digit is halt 4
+-- a value is put into a field; a bad digit is halt 4
+abbrev pub put_value : ℕ → Option Value → World nat_cmp → Effect nat_cmp
+put_value field v w = or_halt v 4 w (λ x. Leaves (set_value w field x))
+
+-- one move
 unfoldable pub moved : List Form → List ℕ → Move → World nat_cmp → Effect nat_cmp
 moved forms text m w =
-    unless_wrong (move_fault forms (length text) m) w
-      (or_halt (value_in (kind_of (form_at forms m.field)) (columns m text)) 4 w (λ v. Leaves (set_value w m.field v)))
+    unless_wrong (move_fault forms (length text) m) w (put_value m.field (value_in (kind_of (form_at forms m.field)) (columns m text)) w)
 
 -- moves, in order
 unfoldable pub all_moved : List Form → List ℕ → List Move → World nat_cmp → Effect nat_cmp

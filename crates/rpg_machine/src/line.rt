@@ -1,5 +1,6 @@
 //! The text of a line.
-ghost use Rattle.std.specs.Prelude.{◌≡◌, ◌≤◌, length, None, IfNone};
+ghost use Rattle.std.specs.Prelude.{◌≡◌, ◌≤◌, ◌<◌, ◌^◌, length, unsigned_abs, None};
+ghost use Rattle.rpg_decimal.specs.Zoned.{zoned_text};
 ghost use Rattle.rpg_effect.specs.Lines as lines;
 ghost use Rattle.rpg_effect.specs.Rows as rows_of;
 ghost use Rattle.rpg_machine.specs.Good.{AreForms, Fits};
@@ -29,6 +30,33 @@ fn field_fault(rows: &Rows, len: u16, field: LineField<u16>) -> Option<Wrong>
     None
 }
 
+/// Lays a text over the line, ending at that place.
+#[tactic(auto, using(crate::proofs::Fields::laid), unfolding(rpg_effect::specs::Lines::laid_over))]
+fn lay_text(text: &mut Vec<u8>, end: u16, part: &[u8])
+    requires width { length part.now ≤ end }
+    requires end { end ≤ length text.old.items }
+    ensures text { text.new.items ≡ lines.laid_over text.old.items end part.now }
+    ensures length { length text.new.items ≡ length text.old.items }
+{
+    let start = end as usize - part.len();
+    text[start..end as usize].copy_from_slice(part);
+}
+
+/// Lays a number over the line, a digit in each of its places.
+#[tactic(auto, using(crate::proofs::Fields::laid), unfolding(rpg_effect::specs::Lines::laid_over))]
+fn lay_number(text: &mut Vec<u8>, end: u16, places: u16, n: i64)
+    requires low { 1 ≤ places }
+    requires high { places ≤ 15 }
+    requires fits { unsigned_abs n < 10 ^ places }
+    requires width { places ≤ end }
+    requires end { end ≤ length text.old.items }
+    ensures text { text.new.items ≡ lines.laid_over text.old.items end (zoned_text places n) }
+    ensures length { length text.new.items ≡ length text.old.items }
+{
+    let start = end as usize - places as usize;
+    write_zoned(n, &mut text[start..end as usize]);
+}
+
 /// Lays the text of a field over the line, ending at the field's end position.
 fn lay(rows: &Rows, memory: &Memory, text: &mut Vec<u8>, field: LineField<u16>)
     requires forms { AreForms rows.now.fields.items }
@@ -37,16 +65,16 @@ fn lay(rows: &Rows, memory: &Memory, text: &mut Vec<u8>, field: LineField<u16>)
     ensures text { text.new.items ≡ lines.laid_over text.old.items field.end (lines.field_text (tables.form_at rows.now.fields.items) (world_of memory.now) field) }
     ensures length { length text.new.items ≡ length text.old.items }
 {
-    let form = form_at(rows, field.operand.field);
-    let end = field.end as usize;
-    let start = end - length_of(form) as usize;
+    let number = field.operand.field;
+    let form = form_at(rows, number);
     match kind_of(form) {
-        Kind::Number => write_zoned(memory.values.number(field.operand.field), &mut text[start..end]),
-        Kind::Text => text[start..end].copy_from_slice(memory.values.text(field.operand.field)),
+        Kind::Number => lay_number(text, field.end, length_of(form), memory.values.number(number)),
+        Kind::Text => lay_text(text, field.end, memory.values.text(number)),
     }
 }
 
 /// Lays fields over the text, in order, until one is faulty.
+#[tactic(auto, unfolding(rpg_effect::specs::Lines::assembled))]
 pub fn assemble(rows: &Rows, memory: &Memory, len: u16, text: &mut Vec<u8>, fields: &[LineField<u16>]) -> Ending
     requires forms { AreForms rows.now.fields.items }
     requires fits { Fits rows.now.fields.items memory.now.values }

@@ -1,5 +1,8 @@
 //! The machine, to its callers.
-ghost use Rattle.std.specs.Prelude.{◌≡◌};
+ghost use Rattle.std.specs.Prelude.{◌≡◌, length};
+ghost use Rattle.rpg_object.specs.Object.{seen};
+ghost use Rattle.rpg_object.specs.Program.{IsProgram};
+ghost use Rattle.rpg_machine.specs.Good.{IsSound};
 
 use crate::date::Date;
 use crate::memory::{Memory, Output};
@@ -9,6 +12,7 @@ use crate::section::{Section, SectionEnd, State, end_with, run_section};
 use crate::start::{first_on, first_paper, first_values};
 use crate::values::Values;
 use rpg_object::program::Program;
+use rpg_object::row::Rows;
 use std::alloc::{AllocError, Global};
 use std::marker::Model;
 
@@ -48,7 +52,8 @@ impl<'a> Machine<'a> {
         ensures start { IfOk result (λ m. m ≡ of.started program.now date.value) }
         ensures ready { IfOk result (λ m. of.IsReady m) }
     {
-        let values = first_values(alloc, program.rows(), date)?;
+        let rows = rows_of(program);
+        let values = first_values(alloc, rows, date)?;
         Ok(Machine {
             alloc,
             program,
@@ -60,7 +65,7 @@ impl<'a> Machine<'a> {
                 },
                 section: Section::Detail,
                 place: 0,
-                allowance: program.rows().allowance,
+                allowance: rows.allowance,
                 steps: 0,
             },
             output: Output {
@@ -78,7 +83,8 @@ impl<'a> Machine<'a> {
         ensures ready { IfOk result (λ e. e ≡ SectionEnd.Done → of.IsReady self.new) }
         ensures steps { OnOk result (self.new.config.steps ≤ self.old.config.steps + 2 ^ 18) }
     {
-        Ok(run_section(self.program.rows(), &mut self.state, section))
+        let rows = rows_of(self.program);
+        Ok(run_section(rows, &mut self.state, section))
     }
 
     /// Puts out the lines of that time that are asked for.
@@ -89,33 +95,34 @@ impl<'a> Machine<'a> {
         ensures ready { IfOk result (λ e. e ≡ SectionEnd.Done → of.IsReady self.new) }
         ensures steps { OnOk result (self.new.config.steps ≤ self.old.config.steps + 2 ^ 18) }
     {
-        let rows = self.program.rows();
+        let rows = rows_of(self.program);
         self.state.steps += output_weight(rows, when);
         let ending = put_lines(self.alloc, rows, &mut self.state.memory, &mut self.output, when)?;
         Ok(end_with(ending))
     }
 
     /// Moves the fields of a record type, the first of which is 0, out of a record that is filled to its length.
-    pub fn move_in(&mut self, type_row: usize, record: &[u8]) -> SectionEnd
+    pub fn move_in(&mut self, type_row: usize, text: &[u8]) -> SectionEnd
         requires ready { of.IsReady self.old }
         requires steps { self.old.config.steps < 2 ^ 63 }
         requires type_row { type_row < length self.old.program.types }
-        requires filled { length record.now ≡ self.old.program.record_length }
-        ensures done { of.MovesIn type_row record.now self.old result self.new }
+        requires filled { length text.now ≡ self.old.program.record_length }
+        ensures done { of.MovesIn type_row text.now self.old result self.new }
         ensures ready { result ≡ SectionEnd.Done → of.IsReady self.new }
         ensures steps { self.new.config.steps ≤ self.old.config.steps + 2 ^ 18 }
     {
-        let rows = self.program.rows();
+        let rows = rows_of(self.program);
         let moves = &rows.types[type_row].moves;
         self.state.steps += moves.len() as u64;
-        end_with(move_all(rows, &mut self.state.memory, record, moves))
+        end_with(move_all(rows, &mut self.state.memory, text, moves))
     }
 
     /// The allowance full, and no steps.
     pub fn refill(&mut self)
         ensures { self.new ≡ of.refilled self.old }
     {
-        self.state.allowance = self.program.rows().allowance;
+        let rows = rows_of(self.program);
+        self.state.allowance = rows.allowance;
         self.state.steps = 0;
     }
 
@@ -170,4 +177,14 @@ impl<'a> Machine<'a> {
         let disk = std::mem::replace(&mut self.output.disk, Vec::new(self.alloc));
         Output { print, disk }
     }
+}
+
+/// The rows of a program, with what the machine uses of all that it keeps.
+fn rows_of(program: &Program) -> &Rows
+    ensures same { seen result.now ≡ program.now }
+    ensures kept { IsProgram program.now }
+    ensures sound { IsSound (seen result.now) }
+    ensures values { length result.now.values.items ≡ length result.now.fields.items }
+{
+    program.rows()
 }

@@ -1,7 +1,10 @@
 //! Columns of a record, moved to fields.
-ghost use Rattle.std.specs.Prelude.{◌≡◌, ◌≤◌, ◌<◌, length, None, Some, IfNone};
+ghost use Rattle.std.specs.Prelude.{◌≡◌, ◌+◌, ◌-◌, ◌≤◌, length, true, None};
 ghost use Rattle.rpg_effect.specs.Effect.{quiet};
 ghost use Rattle.rpg_effect.specs.Rows as rows_of;
+ghost use Rattle.rpg_effect.specs.Values.{Text};
+ghost use Rattle.rpg_effect.specs.World.{set_value};
+ghost use Rattle.rpg_effect.specs.declared.form.Kind.TheVariants as kinds;
 ghost use Rattle.rpg_machine.specs.Good.{AreForms, Fits};
 ghost use Rattle.rpg_machine.specs.Memory.{world_of};
 ghost use Rattle.rpg_machine.specs.Moving as of;
@@ -49,39 +52,96 @@ fn move_fault(rows: &Rows, len: usize, columns: Move) -> Option<Wrong>
     }
 }
 
-/// Moves columns to a field.
-fn move_one(rows: &Rows, memory: &mut Memory, record: &[u8], columns: Move) -> Ending
+/// The columns of a record that a move takes.
+fn columns_of(text: &[u8], columns: Move) -> &[u8]
+    requires low { 1 ≤ columns.from }
+    requires ordered { columns.from ≤ columns.to }
+    requires high { columns.to ≤ length text.now }
+    ensures value { result.now ≡ of.columns columns text.now }
+    ensures length { length result.now ≡ columns.to + 1 - columns.from }
+{
+    &text[columns.from as usize - 1..columns.to as usize]
+}
+
+/// Puts the number that digits spell into a field, if they spell one.
+#[tactic(auto, using(crate::proofs::Numbers::written))]
+fn move_number(rows: &Rows, memory: &mut Memory, field: u16, digits: &[u8]) -> Ending
     requires forms { AreForms rows.now.fields.items }
     requires fits { Fits rows.now.fields.items memory.old.values }
-    ensures done { quiet result (world_of memory.new) ≡ of.moved rows.now.fields.items record.now columns (world_of memory.old) }
+    requires kind { rows_of.has_kind (tables.form_at rows.now.fields.items field) kinds.Number ≡ true }
+    requires length { length digits.now ≡ rows_of.length_of (tables.form_at rows.now.fields.items field) }
+    ensures done { quiet result (world_of memory.new) ≡ of.put_value field (of.value_in kinds.Number digits.now) (world_of memory.old) }
     ensures fits { Fits rows.now.fields.items memory.new.values }
     ensures paper { memory.new.paper ≡ memory.old.paper }
 {
-    match move_fault(rows, record.len(), columns) {
+    match read_zoned(digits) {
+        Ok(n) => {
+            memory.values.set_number(field, n);
+            Ending::Goes
+        }
+        Err(_) => Ending::Halts(4),
+    }
+}
+
+/// Puts characters into a field.
+fn move_text(rows: &Rows, memory: &mut Memory, field: u16, part: &[u8])
+    requires fits { Fits rows.now.fields.items memory.old.values }
+    requires kind { rows_of.has_kind (tables.form_at rows.now.fields.items field) kinds.Text ≡ true }
+    requires length { length part.now ≡ rows_of.length_of (tables.form_at rows.now.fields.items field) }
+    ensures world { world_of memory.new ≡ set_value (world_of memory.old) field (Text part.now) }
+    ensures fits { Fits rows.now.fields.items memory.new.values }
+    ensures paper { memory.new.paper ≡ memory.old.paper }
+{
+    let _form = form_at(rows, field);
+    memory.values.set_text(field, part);
+}
+
+/// Puts columns into a field.
+fn move_columns(rows: &Rows, memory: &mut Memory, text: &[u8], columns: Move) -> Ending
+    requires forms { AreForms rows.now.fields.items }
+    requires fits { Fits rows.now.fields.items memory.old.values }
+    requires right { of.move_fault rows.now.fields.items (length text.now) columns ≡ None }
+    ensures done { quiet result (world_of memory.new) ≡ of.put_value columns.field (of.value_in (rows_of.kind_of (tables.form_at rows.now.fields.items columns.field)) (of.columns columns text.now)) (world_of memory.old) }
+    ensures fits { Fits rows.now.fields.items memory.new.values }
+    ensures paper { memory.new.paper ≡ memory.old.paper }
+{
+    let part = columns_of(text, columns);
+    match kind_of(form_at(rows, columns.field)) {
+        Kind::Number => move_number(rows, memory, columns.field, part),
+        Kind::Text => {
+            move_text(rows, memory, columns.field, part);
+            Ending::Goes
+        }
+    }
+}
+
+/// Makes a move.
+#[tactic(auto, using(crate::proofs::Moves::making))]
+fn move_one(rows: &Rows, memory: &mut Memory, text: &[u8], columns: Move) -> Ending
+    requires forms { AreForms rows.now.fields.items }
+    requires fits { Fits rows.now.fields.items memory.old.values }
+    ensures done { quiet result (world_of memory.new) ≡ of.moved rows.now.fields.items text.now columns (world_of memory.old) }
+    ensures fits { Fits rows.now.fields.items memory.new.values }
+    ensures paper { memory.new.paper ≡ memory.old.paper }
+{
+    match move_fault(rows, text.len(), columns) {
         Some(wrong) => return Ending::Fails(wrong),
         None => {}
     }
-    let text = &record[columns.from as usize - 1..columns.to as usize];
-    match kind_of(form_at(rows, columns.field)) {
-        Kind::Number => match read_zoned(text) {
-            Ok(n) => memory.values.set_number(columns.field, n),
-            Err(_) => return Ending::Halts(4),
-        },
-        Kind::Text => memory.values.set_text(columns.field, text),
-    }
-    Ending::Goes
+    move_columns(rows, memory, text, columns)
 }
 
 /// Moves columns to fields, in order, until a move halts or fails.
-pub fn move_all(rows: &Rows, memory: &mut Memory, record: &[u8], moves: &[Move]) -> Ending
+#[tactic(auto, unfolding(crate::specs::Moving::all_moved))]
+pub fn move_all(rows: &Rows, memory: &mut Memory, text: &[u8], moves: &[Move]) -> Ending
     requires forms { AreForms rows.now.fields.items }
     requires fits { Fits rows.now.fields.items memory.old.values }
-    ensures done { quiet result (world_of memory.new) ≡ of.all_moved rows.now.fields.items record.now moves.now (world_of memory.old) }
+    ensures done { quiet result (world_of memory.new) ≡ of.all_moved rows.now.fields.items text.now moves.now (world_of memory.old) }
     ensures fits { Fits rows.now.fields.items memory.new.values }
     ensures paper { memory.new.paper ≡ memory.old.paper }
 {
     'moves: for columns in moves {
-        match move_one(rows, memory, record, *columns) {
+        match move_one(rows, memory, text, *columns) {
             Ending::Goes => {}
             Ending::Halts(number) => return Ending::Halts(number),
             Ending::Fails(wrong) => return Ending::Fails(wrong),

@@ -1,8 +1,10 @@
 //! Operations: the test of their operands, and what they do to values.
-ghost use Rattle.std.specs.Prelude.{◌≡◌, false};
+ghost use Rattle.std.specs.Prelude.{◌≡◌, true, false};
+ghost use Rattle.rpg_decimal.specs.Fraction.{plus};
 ghost use Rattle.rpg_effect.specs.Act as acts;
 ghost use Rattle.rpg_effect.specs.Effect.{quiet};
 ghost use Rattle.rpg_effect.specs.Rows as rows_of;
+ghost use Rattle.rpg_effect.specs.declared.form.Kind.TheVariants as kinds;
 ghost use Rattle.rpg_machine.specs.Good.{AreForms, Fits};
 ghost use Rattle.rpg_machine.specs.Memory.{world_of};
 ghost use Rattle.rpg_machine.specs.Tables as tables;
@@ -87,6 +89,41 @@ pub fn mixes_kinds(rows: &Rows, row: Row<u16>) -> bool
     !(fits_use(rows, row.factor1) && (fits_use(rows, row.factor2) && fits_use(rows, row.result)))
 }
 
+/// The result field becomes the sum of the factors.
+#[tactic(auto, using(crate::proofs::Numbers::written))]
+fn add_to(rows: &Rows, memory: &mut Memory, factor1: Operand<u16>, factor2: Operand<u16>, to: Operand<u16>)
+    requires forms { AreForms rows.now.fields.items }
+    requires fits { Fits rows.now.fields.items memory.old.values }
+    requires factor1 { rows_of.has_kind (tables.form_at rows.now.fields.items factor1.field) kinds.Number ≡ true }
+    requires factor2 { rows_of.has_kind (tables.form_at rows.now.fields.items factor2.field) kinds.Number ≡ true }
+    requires to { rows_of.has_kind (tables.form_at rows.now.fields.items to.field) kinds.Number ≡ true }
+    ensures world { world_of memory.new ≡ acts.store (tables.form_at rows.now.fields.items) (world_of memory.old) to (plus (acts.exact (tables.form_at rows.now.fields.items) (world_of memory.old) factor1) (acts.exact (tables.form_at rows.now.fields.items) (world_of memory.old) factor2)) }
+    ensures fits { Fits rows.now.fields.items memory.new.values }
+    ensures paper { memory.new.paper ≡ memory.old.paper }
+{
+    let a = number_at(rows, &memory.values, factor1.field);
+    let b = number_at(rows, &memory.values, factor2.field);
+    let sum = add(a, b, target_of(rows, to.field));
+    memory.values.set_number(to.field, sum);
+}
+
+/// The result field becomes factor 2.
+#[tactic(auto, using(crate::proofs::Numbers::written))]
+fn zero_add_to(rows: &Rows, memory: &mut Memory, factor2: Operand<u16>, to: Operand<u16>)
+    requires forms { AreForms rows.now.fields.items }
+    requires fits { Fits rows.now.fields.items memory.old.values }
+    requires factor2 { rows_of.has_kind (tables.form_at rows.now.fields.items factor2.field) kinds.Number ≡ true }
+    requires to { rows_of.has_kind (tables.form_at rows.now.fields.items to.field) kinds.Number ≡ true }
+    ensures world { world_of memory.new ≡ acts.store (tables.form_at rows.now.fields.items) (world_of memory.old) to (acts.exact (tables.form_at rows.now.fields.items) (world_of memory.old) factor2) }
+    ensures fits { Fits rows.now.fields.items memory.new.values }
+    ensures paper { memory.new.paper ≡ memory.old.paper }
+{
+    let n = number_at(rows, &memory.values, factor2.field);
+    let scale = Scale { value: n.dec };
+    let kept = keep(i128::from(n.value), scale, target_of(rows, to.field));
+    memory.values.set_number(to.field, kept);
+}
+
 /// What an operation does.
 pub fn act(rows: &Rows, memory: &mut Memory, action: Action<u16>) -> Ending
     requires forms { AreForms rows.now.fields.items }
@@ -98,17 +135,11 @@ pub fn act(rows: &Rows, memory: &mut Memory, action: Action<u16>) -> Ending
 {
     match action {
         Action::Add { factor1, factor2, result: to } => {
-            let a = number_at(rows, &memory.values, factor1.field);
-            let b = number_at(rows, &memory.values, factor2.field);
-            let sum = add(a, b, target_of(rows, to.field));
-            memory.values.set_number(to.field, sum);
+            add_to(rows, memory, factor1, factor2, to);
             Ending::Goes
         }
         Action::ZeroAdd { factor2, result: to } => {
-            let n = number_at(rows, &memory.values, factor2.field);
-            let scale = Scale { value: n.dec };
-            let kept = keep(i128::from(n.value), scale, target_of(rows, to.field));
-            memory.values.set_number(to.field, kept);
+            zero_add_to(rows, memory, factor2, to);
             Ending::Goes
         }
     }

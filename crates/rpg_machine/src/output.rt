@@ -1,5 +1,5 @@
 //! Lines that are put out.
-ghost use Rattle.std.specs.Prelude.{◌≡◌, ◌≤◌, ◌<◌, ◌+◌, ◌^◌, length, map, IfOk, OnOk, None, replicate};
+ghost use Rattle.std.specs.Prelude.{◌≡◌, ◌≤◌, ◌<◌, ◌+◌, ◌^◌, length, map, IfOk, OnOk, None, replicate, if◌then◌else◌};
 ghost use Rattle.std.specs.Global.{Vec};
 ghost use Rattle.rpg_effect.specs.Effect.{Leaves};
 ghost use Rattle.rpg_effect.specs.Lines as lines;
@@ -117,6 +117,7 @@ fn print_line(memory: &mut Memory, output: &mut Output, moves: Moves, text: &[u8
     Ok(())
 }
 
+#[tactic(auto, using(rpg_effect::proofs::Putting::record_done))]
 fn write_record(memory: &Memory, output: &mut Output, moves: Moves, text: &[u8]) -> Result<(), AllocError>
     ensures done { OnOk result (IsDone (lines.put_on File.Disk moves (world_of memory.now) text.now) (world_of memory.now) (bytes_of output.old) Goes (world_of memory.now) (bytes_of output.new)) }
 {
@@ -209,7 +210,20 @@ pub fn put_lines(alloc: Global, rows: &Rows, memory: &mut Memory, output: &mut O
     Ok(Ending::Goes)
 }
 
-/// What an output is charged: one for each of its lines, and one for each of their fields.
+/// What a line is charged: one, and one for each of its fields.
+fn line_weight(when: When, line: &Line) -> u64
+    requires { length line.now.fields.items ≤ 200 }
+    ensures value { result ≡ (if of.is_meant when line.now.time then 1 + length line.now.fields.items else 0) }
+    ensures bound { result ≤ 201 }
+{
+    if is_meant(when, line.time) {
+        1 + line.fields.len() as u64
+    } else {
+        0
+    }
+}
+
+/// What an output is charged.
 pub fn output_weight(rows: &Rows, when: When) -> u64
     requires { AreLines (seen rows.now).lines }
     ensures value { result ≡ of.output_weight (seen rows.now) when }
@@ -217,9 +231,7 @@ pub fn output_weight(rows: &Rows, when: When) -> u64
 {
     let mut weight = 0u64;
     'lines: for line in &rows.lines {
-        if is_meant(when, line.time) {
-            weight += 1 + line.fields.len() as u64;
-        }
+        weight += line_weight(when, line);
     }
     weight
 }
