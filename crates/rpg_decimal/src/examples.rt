@@ -1,5 +1,5 @@
 //! Worked examples that the definitions themselves compute.
-ghost use Rattle.std.specs.Prelude.{◌≡◌, ◌∷◌, [], pos, neg_ℤ, true, false, IsTrue, Some, None, codes, length, nat_lt};
+ghost use Rattle.std.specs.Prelude.{◌≡◌, pos, neg_ℤ, true, false, IsTrue, Some, None, codes, length, nat_lt};
 ghost use Rattle.std.specs.List.{list_all, range_with_len};
 ghost use Rattle.std.specs.declared.cmp.Ordering.TheVariants.{Less, Equal};
 ghost use Rattle.rpg_decimal.specs.Fraction.{aligned_number, stored_number, with_decimals, plus, minus, times, over, rest_of, fraction_cmp};

@@ -1,4 +1,5 @@
-//! MOVE and MOVEL: places of a source over an old value, aligned right and left.
+//! MOVE and MOVEL: places of a source over an old value, aligned right and left. What becomes of the sign,
+//! and which characters may go to a number, are this profile's rules.
 ghost use Rattle.std.specs.Prelude.{◌≡◌, ◌+◌, ◌-◌, ◌<◌, ◌≤◌, ◌^◌, unsigned_abs, length, IfOk, IfErr};
 ghost use Rattle.std.specs.Result.{result_ok};
 ghost use Rattle.rpg_decimal.specs.Move.{overlay_right, overlay_left, number_moved_right, number_moved_left};

@@ -1,4 +1,4 @@
-//! The order of numbers and of texts.
+//! The order of numbers and of texts, for COMP and searches.
 ghost use Rattle.std.specs.Prelude.{◌≡◌, ◌+◌, ◌<◌, ◌≤◌, ◌==◌, length, position, unwrap_or, slice_index_or};
 ghost use Rattle.rpg_decimal.specs.Fraction.{fraction_cmp};
 ghost use Rattle.rpg_decimal.specs.Num.{value_of};

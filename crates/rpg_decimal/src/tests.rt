@@ -1,4 +1,4 @@
-//! Worked examples of the calls. The expected values are the profile's, or were computed by hand.
+//! Worked examples of the calls. The expected values are the profile's, or another program computed them with exact fractions.
 use crate::{
     Figure, Num, Scale, Source, Target, ZeroDivisor, add, align, compare, compare_text, div, fit,
     keep, move_left, move_left_text, move_right, move_right_text, mult, read_zoned, remainder, sub,

@@ -1,4 +1,5 @@
-//! Numbers as texts: a digit in each place, and the sign over the last one.
+//! Numbers as texts: a digit in each place, and the sign over the last one: `}` and J to R stand for minus
+//! 0 to 9, `{` and A to I for plus 0 to 9.
 ghost use Rattle.std.specs.Prelude.{◌≡◌, ◌+◌, ◌<◌, ◌≤◌, ◌^◌, unsigned_abs, length, map, IfOk, IfErr, OnOk, EachIndex};
 ghost use Rattle.std.specs.Result.{result_ok};
 ghost use Rattle.rpg_decimal.specs.Place.{digits, place_value};
