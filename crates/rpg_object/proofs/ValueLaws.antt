@@ -6,6 +6,7 @@ use Rattle.std.proofs.lemmas.Slice.Eq.{bytes_eq-Decides}
 use Rattle.std.proofs.Math.Seq.{take-append_seam, drop-append_seam}
 use Rattle.std.specs.Str.{bytes_eq}
 use Rattle.rpg_decimal.specs.Zoned.{number_in, zoned_text}
+use Rattle.rpg_decimal.proofs.LawLemmas.{length-zoned}
 use Rattle.rpg_effect.specs.declared.form.Form.{Form}
 use Rattle.rpg_effect.specs.Values.{Value, Number, Text}
 use Rattle.rpg_format.specs.declared.fault.Code.{Code}
@@ -15,7 +16,7 @@ use Rattle.rpg_format.specs.Format.{ends_early, ruled}
 use Rattle.rpg_format.proofs.Laws.{IsBytes, Takes, IsFormat, IsBytes-rest, further, at_end, times_law, ruled_ok, ruled_err, ruled_stays, ruled_fails}
 use Rattle.rpg_format.proofs.Rules.{chosen, stands_for}
 use Rattle.rpg_object.specs.Rows.{as_written, as_value, read_value, value_text, IsNumberOf, value, next_length, later_fields, values}
-use Rattle.rpg_object.proofs.ZonedTexts.{number_in-zoned, length-zoned, number_in-below}
+use Rattle.rpg_object.proofs.ZonedTexts.{number_in-zoned, number_in-below}
 
 -- a text that is written for a number, and that number
 written_is : (text : List ℕ) (o : Option ℤ) (n : ℤ) → as_written text o ≡ Ok n → (o ≡ Some n) × (text ≡ zoned_text (length text) n)
