@@ -48,7 +48,9 @@ right_at forms len m (Some d) e h =
     let c = and_true _ (nat_le m.to len) b.0 in
     let l = and_true (nat_le 1 m.from) (nat_le m.from m.to) c.0 in
     record {
-      low = leb-true _ _ l.0; ordered = leb-true _ _ l.1; high = leb-true _ _ c.1;
+      low = leb-true _ _ l.0;
+      ordered = leb-true _ _ l.1;
+      high = leb-true _ _ c.1;
       width = eqb-true (m.to + 1 - m.from) d.length a.1 ∙ ap length_of (sym e);
       kind = subst (λ (x : Option Form). has_kind x (kind_of x) ≡ true) (sym e) (both _ _ (kept_kind d.kind) (not_array d.class b.1));
     }

@@ -113,4 +113,5 @@ pub of_its_kind : (o : Option Form) (k : Kind) → kind_of o ≡ k → has_kind 
 of_its_kind o k e h = subst (λ (l : Kind). has_kind o l ≡ true) e h
 
 pub ruleset numbers = (number_there)
+
 pub ruleset written = (value_is_there)

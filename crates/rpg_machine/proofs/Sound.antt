@@ -65,7 +65,7 @@ start_at p date h k d e =
     let is : IsNumberOf d.length v = subst (λ (f : Form). IsNumberOf f.length v) (get_or_from_slice_get p.fields k d d e) (subst (λ (x : Value). IsNumberOf (get_or p.fields k d).length x) (get_or_from_slice_get p.values k v v there) (h.values.1 k d v low)) in
     let value : slice_get (first_values date p.fields p.values) k ≡ Some v = first_at date p.fields p.values k d v e there ∙ ap (λ c. Some (cond (is_date c) (Number date) v)) r.class in
     subst (λ (x : Kind). HasForm x d.length (slice_get (first_values date p.fields p.values) k)) (sym r.kind)
-      (subst (λ (o : Option Value). HasForm kinds.Number d.length o) (sym value) (number_form d.length v is))
+    (subst (λ (o : Option Value). HasForm kinds.Number d.length o) (sym value) (number_form d.length v is))
 
 start_fits : (p : Object) (date : ℤ) → IsPlainProgram p → Fits p.fields (contents (first_values date p.fields p.values))
 start_fits p date h = record { each = each }

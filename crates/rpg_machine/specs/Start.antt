@@ -31,5 +31,8 @@ first_paper = record { last = 0; begun = 0; line = 1 }
 abbrev pub start_of : Object → ℤ → Config
 start_of p date = record {
   world = record { values = contents (first_values date p.fields p.values); on = first_on; paper = first_paper };
-  section = sections.Detail; place = 0; allowance = p.allowance; steps = 0;
+  section = sections.Detail;
+  place = 0;
+  allowance = p.allowance;
+  steps = 0;
 }

@@ -18,7 +18,12 @@ file_length printer Disk = 0
 
 abbrev pub line_of : ℕ → LineRow → Line ℕ
 line_of printer l = record {
-  file = l.file; time = l.time; len = file_length printer l.file; moves = l.moves; alternatives = l.alternatives; fields = l.fields;
+  file = l.file;
+  time = l.time;
+  len = file_length printer l.file;
+  moves = l.moves;
+  alternatives = l.alternatives;
+  fields = l.fields;
 }
 
 -- the output lines of a program

@@ -13,6 +13,8 @@ mod printer;
 mod reading;
 mod section;
 mod start;
+#[cfg(test)]
+mod tests;
 mod values;
 
 pub use date::Date;

@@ -61,25 +61,39 @@ fn lay_number(text: &mut Vec<u8>, end: u16, places: u16, n: i64)
 fn lay(rows: &Rows, memory: &Memory, text: &mut Vec<u8>, field: LineField<u16>)
     requires forms { AreForms rows.now.fields.items }
     requires fits { Fits rows.now.fields.items memory.now.values }
-    requires right { lines.field_fault (tables.form_at rows.now.fields.items) (length text.old.items) field ≡ None }
-    ensures text { text.new.items ≡ lines.laid_over text.old.items field.end (lines.field_text (tables.form_at rows.now.fields.items) (world_of memory.now) field) }
+    requires right { lines.field_fault (tables.form_at rows.now.fields.items)
+        (length text.old.items) field ≡ None }
+    ensures text { text.new.items ≡ lines.laid_over text.old.items field.end
+        (lines.field_text (tables.form_at rows.now.fields.items) (world_of memory.now) field) }
     ensures length { length text.new.items ≡ length text.old.items }
 {
     let number = field.operand.field;
     let form = form_at(rows, number);
     match kind_of(form) {
-        Kind::Number => lay_number(text, field.end, length_of(form), memory.values.number(number)),
+        Kind::Number => lay_number(
+            text,
+            field.end,
+            length_of(form),
+            memory.values.number(number),
+        ),
         Kind::Text => lay_text(text, field.end, memory.values.text(number)),
     }
 }
 
 /// Lays fields over the text, in order, until one is faulty.
 #[tactic(auto, unfolding(rpg_effect::specs::Lines::assembled))]
-pub fn assemble(rows: &Rows, memory: &Memory, len: u16, text: &mut Vec<u8>, fields: &[LineField<u16>]) -> Ending
+pub fn assemble(
+    rows: &Rows,
+    memory: &Memory,
+    len: u16,
+    text: &mut Vec<u8>,
+    fields: &[LineField<u16>],
+) -> Ending
     requires forms { AreForms rows.now.fields.items }
     requires fits { Fits rows.now.fields.items memory.now.values }
     requires length { length text.old.items ≡ len }
-    ensures { lines.drafted result text.new.items ≡ lines.assembled (tables.form_at rows.now.fields.items) (world_of memory.now) len fields.now text.old.items }
+    ensures { lines.drafted result text.new.items ≡ lines.assembled
+        (tables.form_at rows.now.fields.items) (world_of memory.now) len fields.now text.old.items }
 {
     'fields: for field in fields {
         match field_fault(rows, len, *field) {

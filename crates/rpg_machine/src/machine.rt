@@ -38,7 +38,12 @@ impl<'a> Model for Machine<'a> {
 
     ghost coded = { Prim.hlevel (codes, config_code) };
 
-    ghost view = { λ m. record { program = m.program.now; config = config_of m.state; output = bytes_of m.output } };
+    ghost view = { λ m. record {
+      program = m.program.now;
+      config = config_of m.state;
+      output =
+          bytes_of m.output;
+    } };
 }
 
 impl<'a> Machine<'a> {
@@ -97,7 +102,13 @@ impl<'a> Machine<'a> {
     {
         let rows = rows_of(self.program);
         self.state.steps += output_weight(rows, when);
-        let ending = put_lines(self.alloc, rows, &mut self.state.memory, &mut self.output, when)?;
+        let ending = put_lines(
+            self.alloc,
+            rows,
+            &mut self.state.memory,
+            &mut self.output,
+            when,
+        )?;
         Ok(end_with(ending))
     }
 

@@ -68,9 +68,12 @@ fn columns_of(text: &[u8], columns: Move) -> &[u8]
 fn move_number(rows: &Rows, memory: &mut Memory, field: u16, digits: &[u8]) -> Ending
     requires forms { AreForms rows.now.fields.items }
     requires fits { Fits rows.now.fields.items memory.old.values }
-    requires kind { rows_of.has_kind (tables.form_at rows.now.fields.items field) kinds.Number ≡ true }
-    requires length { length digits.now ≡ rows_of.length_of (tables.form_at rows.now.fields.items field) }
-    ensures done { quiet result (world_of memory.new) ≡ of.put_value field (of.value_in kinds.Number digits.now) (world_of memory.old) }
+    requires kind { rows_of.has_kind (tables.form_at rows.now.fields.items field) kinds.Number ≡
+        true }
+    requires length { length digits.now ≡ rows_of.length_of
+        (tables.form_at rows.now.fields.items field) }
+    ensures done { quiet result (world_of memory.new) ≡ of.put_value field
+        (of.value_in kinds.Number digits.now) (world_of memory.old) }
     ensures fits { Fits rows.now.fields.items memory.new.values }
     ensures paper { memory.new.paper ≡ memory.old.paper }
 {
@@ -87,7 +90,8 @@ fn move_number(rows: &Rows, memory: &mut Memory, field: u16, digits: &[u8]) -> E
 fn move_text(rows: &Rows, memory: &mut Memory, field: u16, part: &[u8])
     requires fits { Fits rows.now.fields.items memory.old.values }
     requires kind { rows_of.has_kind (tables.form_at rows.now.fields.items field) kinds.Text ≡ true }
-    requires length { length part.now ≡ rows_of.length_of (tables.form_at rows.now.fields.items field) }
+    requires length { length part.now ≡ rows_of.length_of
+        (tables.form_at rows.now.fields.items field) }
     ensures world { world_of memory.new ≡ set_value (world_of memory.old) field (Text part.now) }
     ensures fits { Fits rows.now.fields.items memory.new.values }
     ensures paper { memory.new.paper ≡ memory.old.paper }
@@ -101,7 +105,9 @@ fn move_columns(rows: &Rows, memory: &mut Memory, text: &[u8], columns: Move) ->
     requires forms { AreForms rows.now.fields.items }
     requires fits { Fits rows.now.fields.items memory.old.values }
     requires right { of.move_fault rows.now.fields.items (length text.now) columns ≡ None }
-    ensures done { quiet result (world_of memory.new) ≡ of.put_value columns.field (of.value_in (rows_of.kind_of (tables.form_at rows.now.fields.items columns.field)) (of.columns columns text.now)) (world_of memory.old) }
+    ensures done { quiet result (world_of memory.new) ≡ of.put_value columns.field
+        (of.value_in (rows_of.kind_of (tables.form_at rows.now.fields.items columns.field))
+        (of.columns columns text.now)) (world_of memory.old) }
     ensures fits { Fits rows.now.fields.items memory.new.values }
     ensures paper { memory.new.paper ≡ memory.old.paper }
 {
@@ -120,7 +126,8 @@ fn move_columns(rows: &Rows, memory: &mut Memory, text: &[u8], columns: Move) ->
 fn move_one(rows: &Rows, memory: &mut Memory, text: &[u8], columns: Move) -> Ending
     requires forms { AreForms rows.now.fields.items }
     requires fits { Fits rows.now.fields.items memory.old.values }
-    ensures done { quiet result (world_of memory.new) ≡ of.moved rows.now.fields.items text.now columns (world_of memory.old) }
+    ensures done { quiet result (world_of memory.new) ≡ of.moved rows.now.fields.items text.now
+        columns (world_of memory.old) }
     ensures fits { Fits rows.now.fields.items memory.new.values }
     ensures paper { memory.new.paper ≡ memory.old.paper }
 {
@@ -136,7 +143,8 @@ fn move_one(rows: &Rows, memory: &mut Memory, text: &[u8], columns: Move) -> End
 pub fn move_all(rows: &Rows, memory: &mut Memory, text: &[u8], moves: &[Move]) -> Ending
     requires forms { AreForms rows.now.fields.items }
     requires fits { Fits rows.now.fields.items memory.old.values }
-    ensures done { quiet result (world_of memory.new) ≡ of.all_moved rows.now.fields.items text.now moves.now (world_of memory.old) }
+    ensures done { quiet result (world_of memory.new) ≡ of.all_moved rows.now.fields.items text.now
+        moves.now (world_of memory.old) }
     ensures fits { Fits rows.now.fields.items memory.new.values }
     ensures paper { memory.new.paper ≡ memory.old.paper }
 {

@@ -32,12 +32,19 @@ pub fn row_of(action: Action<u16>) -> Row<u16>
     ensures { result ≡ rows_of.row_of action }
 {
     match action {
-        Action::Add { factor1, factor2, result: sum } => Row {
+        Action::Add {
+            factor1,
+            factor2,
+            result: sum,
+        } => Row {
             factor1: number(factor1),
             factor2: number(factor2),
             result: number(sum),
         },
-        Action::ZeroAdd { factor2, result: sum } => Row {
+        Action::ZeroAdd {
+            factor2,
+            result: sum,
+        } => Row {
             factor1: None,
             factor2: number(factor2),
             result: number(sum),
@@ -46,7 +53,8 @@ pub fn row_of(action: Action<u16>) -> Row<u16>
 }
 
 fn is_there(rows: &Rows, column: Option<Use<u16>>) -> bool
-    ensures { result ≡ rows_of.all_used (rows_of.is_there (tables.form_at rows.now.fields.items)) column }
+    ensures { result ≡ rows_of.all_used (rows_of.is_there (tables.form_at rows.now.fields.items))
+        column }
 {
     match column {
         None => true,
@@ -55,7 +63,8 @@ fn is_there(rows: &Rows, column: Option<Use<u16>>) -> bool
 }
 
 fn fits_use(rows: &Rows, column: Option<Use<u16>>) -> bool
-    ensures { result ≡ rows_of.all_used (rows_of.fits_use (tables.form_at rows.now.fields.items)) column }
+    ensures { result ≡ rows_of.all_used (rows_of.fits_use (tables.form_at rows.now.fields.items))
+        column }
 {
     match column {
         None => true,
@@ -64,7 +73,8 @@ fn fits_use(rows: &Rows, column: Option<Use<u16>>) -> bool
 }
 
 fn is_written(rows: &Rows, column: Option<Use<u16>>) -> bool
-    ensures { result ≡ rows_of.all_used (rows_of.is_written (tables.form_at rows.now.fields.items)) column }
+    ensures { result ≡ rows_of.all_used (rows_of.is_written (tables.form_at rows.now.fields.items))
+        column }
 {
     match column {
         None => true,
@@ -91,13 +101,25 @@ pub fn mixes_kinds(rows: &Rows, row: Row<u16>) -> bool
 
 /// The result field becomes the sum of the factors.
 #[tactic(auto, using(crate::proofs::Numbers::written))]
-fn add_to(rows: &Rows, memory: &mut Memory, factor1: Operand<u16>, factor2: Operand<u16>, to: Operand<u16>)
+fn add_to(
+    rows: &Rows,
+    memory: &mut Memory,
+    factor1: Operand<u16>,
+    factor2: Operand<u16>,
+    to: Operand<u16>,
+)
     requires forms { AreForms rows.now.fields.items }
     requires fits { Fits rows.now.fields.items memory.old.values }
-    requires factor1 { rows_of.has_kind (tables.form_at rows.now.fields.items factor1.field) kinds.Number ≡ true }
-    requires factor2 { rows_of.has_kind (tables.form_at rows.now.fields.items factor2.field) kinds.Number ≡ true }
-    requires to { rows_of.has_kind (tables.form_at rows.now.fields.items to.field) kinds.Number ≡ true }
-    ensures world { world_of memory.new ≡ acts.store (tables.form_at rows.now.fields.items) (world_of memory.old) to (plus (acts.exact (tables.form_at rows.now.fields.items) (world_of memory.old) factor1) (acts.exact (tables.form_at rows.now.fields.items) (world_of memory.old) factor2)) }
+    requires factor1 { rows_of.has_kind (tables.form_at rows.now.fields.items factor1.field)
+        kinds.Number ≡ true }
+    requires factor2 { rows_of.has_kind (tables.form_at rows.now.fields.items factor2.field)
+        kinds.Number ≡ true }
+    requires to { rows_of.has_kind (tables.form_at rows.now.fields.items to.field) kinds.Number ≡
+        true }
+    ensures world { world_of memory.new ≡ acts.store (tables.form_at rows.now.fields.items)
+        (world_of memory.old) to (plus (acts.exact (tables.form_at rows.now.fields.items)
+        (world_of memory.old) factor1) (acts.exact (tables.form_at rows.now.fields.items)
+        (world_of memory.old) factor2)) }
     ensures fits { Fits rows.now.fields.items memory.new.values }
     ensures paper { memory.new.paper ≡ memory.old.paper }
 {
@@ -112,9 +134,13 @@ fn add_to(rows: &Rows, memory: &mut Memory, factor1: Operand<u16>, factor2: Oper
 fn zero_add_to(rows: &Rows, memory: &mut Memory, factor2: Operand<u16>, to: Operand<u16>)
     requires forms { AreForms rows.now.fields.items }
     requires fits { Fits rows.now.fields.items memory.old.values }
-    requires factor2 { rows_of.has_kind (tables.form_at rows.now.fields.items factor2.field) kinds.Number ≡ true }
-    requires to { rows_of.has_kind (tables.form_at rows.now.fields.items to.field) kinds.Number ≡ true }
-    ensures world { world_of memory.new ≡ acts.store (tables.form_at rows.now.fields.items) (world_of memory.old) to (acts.exact (tables.form_at rows.now.fields.items) (world_of memory.old) factor2) }
+    requires factor2 { rows_of.has_kind (tables.form_at rows.now.fields.items factor2.field)
+        kinds.Number ≡ true }
+    requires to { rows_of.has_kind (tables.form_at rows.now.fields.items to.field) kinds.Number ≡
+        true }
+    ensures world { world_of memory.new ≡ acts.store (tables.form_at rows.now.fields.items)
+        (world_of memory.old) to (acts.exact (tables.form_at rows.now.fields.items)
+        (world_of memory.old) factor2) }
     ensures fits { Fits rows.now.fields.items memory.new.values }
     ensures paper { memory.new.paper ≡ memory.old.paper }
 {
@@ -128,17 +154,26 @@ fn zero_add_to(rows: &Rows, memory: &mut Memory, factor2: Operand<u16>, to: Oper
 pub fn act(rows: &Rows, memory: &mut Memory, action: Action<u16>) -> Ending
     requires forms { AreForms rows.now.fields.items }
     requires fits { Fits rows.now.fields.items memory.old.values }
-    requires kinds { rows_of.mixes_kinds (tables.form_at rows.now.fields.items) (rows_of.row_of action) ≡ false }
-    ensures done { quiet result (world_of memory.new) ≡ acts.act (tables.form_at rows.now.fields.items) action (world_of memory.old) }
+    requires kinds { rows_of.mixes_kinds (tables.form_at rows.now.fields.items)
+        (rows_of.row_of action) ≡ false }
+    ensures done { quiet result (world_of memory.new) ≡ acts.act
+        (tables.form_at rows.now.fields.items) action (world_of memory.old) }
     ensures fits { Fits rows.now.fields.items memory.new.values }
     ensures paper { memory.new.paper ≡ memory.old.paper }
 {
     match action {
-        Action::Add { factor1, factor2, result: to } => {
+        Action::Add {
+            factor1,
+            factor2,
+            result: to,
+        } => {
             add_to(rows, memory, factor1, factor2, to);
             Ending::Goes
         }
-        Action::ZeroAdd { factor2, result: to } => {
+        Action::ZeroAdd {
+            factor2,
+            result: to,
+        } => {
             zero_add_to(rows, memory, factor2, to);
             Ending::Goes
         }

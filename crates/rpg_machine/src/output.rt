@@ -103,10 +103,17 @@ fn blanks(alloc: Global, len: u16) -> Result<Vec<u8>, AllocError>
 }
 
 /// The form moves, the line is printed, the form moves.
-fn print_line(memory: &mut Memory, output: &mut Output, moves: Moves, text: &[u8]) -> Result<(), AllocError>
+fn print_line(
+    memory: &mut Memory,
+    output: &mut Output,
+    moves: Moves,
+    text: &[u8],
+) -> Result<(), AllocError>
     requires moves { lines.line_fault 1 moves ≡ None }
     requires form { IsOnForm memory.old.paper }
-    ensures done { OnOk result (IsDone (lines.put_on File.Printer moves (world_of memory.old) text.now) (world_of memory.old) (bytes_of output.old) Goes (world_of memory.new) (bytes_of output.new)) }
+    ensures done { OnOk result (IsDone (lines.put_on File.Printer moves (world_of memory.old)
+        text.now) (world_of memory.old) (bytes_of output.old) Goes (world_of memory.new)
+        (bytes_of output.new)) }
     ensures values { memory.new.values ≡ memory.old.values }
     ensures form { OnOk result (IsOnForm memory.new.paper) }
 {
@@ -118,18 +125,33 @@ fn print_line(memory: &mut Memory, output: &mut Output, moves: Moves, text: &[u8
 }
 
 #[tactic(auto, using(rpg_effect::proofs::Putting::record_done))]
-fn write_record(memory: &Memory, output: &mut Output, moves: Moves, text: &[u8]) -> Result<(), AllocError>
-    ensures done { OnOk result (IsDone (lines.put_on File.Disk moves (world_of memory.now) text.now) (world_of memory.now) (bytes_of output.old) Goes (world_of memory.now) (bytes_of output.new)) }
+fn write_record(
+    memory: &Memory,
+    output: &mut Output,
+    moves: Moves,
+    text: &[u8],
+) -> Result<(), AllocError>
+    ensures done { OnOk result (IsDone (lines.put_on File.Disk moves (world_of memory.now) text.now)
+        (world_of memory.now) (bytes_of output.old) Goes (world_of memory.now)
+        (bytes_of output.new)) }
 {
     output.disk.extend_from_slice(text)?;
     output.disk.push(10)?;
     Ok(())
 }
 
-fn put_on(memory: &mut Memory, output: &mut Output, file: File, moves: Moves, text: &[u8]) -> Result<(), AllocError>
+fn put_on(
+    memory: &mut Memory,
+    output: &mut Output,
+    file: File,
+    moves: Moves,
+    text: &[u8],
+) -> Result<(), AllocError>
     requires moves { lines.line_fault 1 moves ≡ None }
     requires form { IsOnForm memory.old.paper }
-    ensures done { OnOk result (IsDone (lines.put_on file moves (world_of memory.old) text.now) (world_of memory.old) (bytes_of output.old) Goes (world_of memory.new) (bytes_of output.new)) }
+    ensures done { OnOk result (IsDone (lines.put_on file moves (world_of memory.old) text.now)
+        (world_of memory.old) (bytes_of output.old) Goes (world_of memory.new)
+        (bytes_of output.new)) }
     ensures values { memory.new.values ≡ memory.old.values }
     ensures form { OnOk result (IsOnForm memory.new.paper) }
 {
@@ -146,11 +168,19 @@ fn put_on(memory: &mut Memory, output: &mut Output, file: File, moves: Moves, te
 }
 
 /// Puts a line out: assembled whole, and then placed.
-fn put_line(alloc: Global, rows: &Rows, memory: &mut Memory, output: &mut Output, line: &Line) -> Result<Ending, AllocError>
+fn put_line(
+    alloc: Global,
+    rows: &Rows,
+    memory: &mut Memory,
+    output: &mut Output,
+    line: &Line,
+) -> Result<Ending, AllocError>
     requires forms { AreForms rows.now.fields.items }
     requires fits { Fits rows.now.fields.items memory.old.values }
     requires form { IsOnForm memory.old.paper }
-    ensures done { IfOk result (λ e. IsDone (lines.line_out (tables.form_at rows.now.fields.items) (tables.line_of rows.now.printer_length (line_row line.now)) (world_of memory.old)) (world_of memory.old) (bytes_of output.old) e (world_of memory.new) (bytes_of output.new)) }
+    ensures done { IfOk result (λ e. IsDone (lines.line_out (tables.form_at rows.now.fields.items)
+        (tables.line_of rows.now.printer_length (line_row line.now)) (world_of memory.old))
+        (world_of memory.old) (bytes_of output.old) e (world_of memory.new) (bytes_of output.new)) }
     ensures values { memory.new.values ≡ memory.old.values }
     ensures form { OnOk result (IsOnForm memory.new.paper) }
 {
@@ -176,11 +206,21 @@ fn is_wanted(on: &Indicators, when: When, line: &Line) -> bool
 }
 
 /// Puts a line out if its time is meant and it is asked for.
-fn put_if_asked(alloc: Global, rows: &Rows, memory: &mut Memory, output: &mut Output, when: When, line: &Line) -> Result<Ending, AllocError>
+fn put_if_asked(
+    alloc: Global,
+    rows: &Rows,
+    memory: &mut Memory,
+    output: &mut Output,
+    when: When,
+    line: &Line,
+) -> Result<Ending, AllocError>
     requires forms { AreForms rows.now.fields.items }
     requires fits { Fits rows.now.fields.items memory.old.values }
     requires form { IsOnForm memory.old.paper }
-    ensures done { IfOk result (λ e. IsDone (lines.one_out (tables.form_at rows.now.fields.items) (of.is_meant when) (tables.line_of rows.now.printer_length (line_row line.now)) (world_of memory.old)) (world_of memory.old) (bytes_of output.old) e (world_of memory.new) (bytes_of output.new)) }
+    ensures done { IfOk result (λ e. IsDone (lines.one_out (tables.form_at rows.now.fields.items)
+        (of.is_meant when) (tables.line_of rows.now.printer_length (line_row line.now))
+        (world_of memory.old)) (world_of memory.old) (bytes_of output.old) e (world_of memory.new)
+        (bytes_of output.new)) }
     ensures values { memory.new.values ≡ memory.old.values }
     ensures form { OnOk result (IsOnForm memory.new.paper) }
 {
@@ -192,11 +232,18 @@ fn put_if_asked(alloc: Global, rows: &Rows, memory: &mut Memory, output: &mut Ou
 }
 
 /// Puts out the lines of that time that are asked for, in order.
-pub fn put_lines(alloc: Global, rows: &Rows, memory: &mut Memory, output: &mut Output, when: When) -> Result<Ending, AllocError>
+pub fn put_lines(
+    alloc: Global,
+    rows: &Rows,
+    memory: &mut Memory,
+    output: &mut Output,
+    when: When,
+) -> Result<Ending, AllocError>
     requires forms { AreForms rows.now.fields.items }
     requires fits { Fits rows.now.fields.items memory.old.values }
     requires form { IsOnForm memory.old.paper }
-    ensures done { IfOk result (λ e. IsDone (of.outputs (seen rows.now) when (world_of memory.old)) (world_of memory.old) (bytes_of output.old) e (world_of memory.new) (bytes_of output.new)) }
+    ensures done { IfOk result (λ e. IsDone (of.outputs (seen rows.now) when (world_of memory.old))
+        (world_of memory.old) (bytes_of output.old) e (world_of memory.new) (bytes_of output.new)) }
     ensures values { memory.new.values ≡ memory.old.values }
     ensures form { OnOk result (IsOnForm memory.new.paper) }
 {
@@ -213,7 +260,8 @@ pub fn put_lines(alloc: Global, rows: &Rows, memory: &mut Memory, output: &mut O
 /// What a line is charged: one, and one for each of its fields.
 fn line_weight(when: When, line: &Line) -> u64
     requires { length line.now.fields.items ≤ 200 }
-    ensures value { result ≡ (if of.is_meant when line.now.time then 1 + length line.now.fields.items else 0) }
+    ensures value { result ≡ (if of.is_meant when line.now.time then 1 + length
+        line.now.fields.items else 0) }
     ensures bound { result ≤ 201 }
 {
     if is_meant(when, line.time) {

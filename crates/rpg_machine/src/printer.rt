@@ -79,7 +79,8 @@ pub fn behind_line(paper: Paper, moves: Moves) -> Paper
     requires high { paper.line ≤ 66 }
     requires skip { moves.skip_after ≤ 66 }
     requires space { moves.space_after ≤ 3 }
-    ensures value { result ≡ lines.space moves.space_after (lines.skip moves.skip_after (lines.printed paper)) }
+    ensures value { result ≡ lines.space moves.space_after
+        (lines.skip moves.skip_after (lines.printed paper)) }
     ensures form { IsOnForm result }
     ensures last { result.last ≡ paper.line }
 {
@@ -102,7 +103,8 @@ fn put_many(print: &mut Vec<u8>, byte: u8, n: u16) -> Result<(), AllocError>
 
 /// Appends the way from the line printed last to where the form stands.
 pub fn put_way(print: &mut Vec<u8>, paper: Paper) -> Result<(), AllocError>
-    ensures { OnOk result (print.new.items ≡ print.old.items ++ lines.way paper.last paper.begun paper.line) }
+    ensures { OnOk result (print.new.items ≡ print.old.items ++ lines.way paper.last paper.begun
+        paper.line) }
 {
     if paper.begun != 0 {
         put_many(print, 12, paper.begun)?;
@@ -115,7 +117,11 @@ pub fn put_way(print: &mut Vec<u8>, paper: Paper) -> Result<(), AllocError>
         print.push(13)?;
         return Ok(());
     }
-    put_many(print, 10, u16::from(paper.line).saturating_sub(u16::from(paper.last)))
+    put_many(
+        print,
+        10,
+        u16::from(paper.line).saturating_sub(u16::from(paper.last)),
+    )
 }
 
 /// The text without the blanks at its end.

@@ -78,7 +78,8 @@ pub fn may_write(form: Option<Form>) -> bool
 pub fn number_at(rows: &Rows, values: &Values, field: u16) -> Num
     requires forms { AreForms rows.now.fields.items }
     requires fits { Fits rows.now.fields.items values.now }
-    requires kind { rows_of.has_kind (tables.form_at rows.now.fields.items field) kinds.Number ≡ true }
+    requires kind { rows_of.has_kind (tables.form_at rows.now.fields.items field) kinds.Number ≡
+        true }
     ensures value { result.value ≡ number_of (maps.get values.now (field, 1)) }
     ensures decimals { result.dec ≡ rows_of.decimals_of (tables.form_at rows.now.fields.items field) }
 {
@@ -95,7 +96,8 @@ pub fn number_at(rows: &Rows, values: &Values, field: u16) -> Num
 #[tactic(auto, using(crate::proofs::Numbers::numbers))]
 pub fn target_of(rows: &Rows, field: u16) -> Target
     requires forms { AreForms rows.now.fields.items }
-    requires kind { rows_of.has_kind (tables.form_at rows.now.fields.items field) kinds.Number ≡ true }
+    requires kind { rows_of.has_kind (tables.form_at rows.now.fields.items field) kinds.Number ≡
+        true }
     ensures length { result.len ≡ rows_of.length_of (tables.form_at rows.now.fields.items field) }
     ensures decimals { result.dec ≡ rows_of.decimals_of (tables.form_at rows.now.fields.items field) }
     ensures half { result.half ≡ false }

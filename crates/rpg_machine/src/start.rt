@@ -38,7 +38,8 @@ fn first_value(alloc: Global, date: Date, form: Form, value: &Value) -> Result<V
 /// The values that the fields start with.
 pub fn first_values(alloc: Global, rows: &Rows, date: Date) -> Result<Vec<Value>, AllocError>
     requires { length rows.now.values.items ≡ length rows.now.fields.items }
-    ensures { IfOk result (λ vs. map held vs.items ≡ of.first_values date.value (seen rows.now).fields (seen rows.now).values) }
+    ensures { IfOk result (λ vs. map held vs.items ≡ of.first_values date.value
+        (seen rows.now).fields (seen rows.now).values) }
 {
     let mut values = Vec::new(alloc);
     'values: for i in 0..rows.fields.len() {

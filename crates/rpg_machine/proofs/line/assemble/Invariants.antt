@@ -8,5 +8,5 @@ abbrev pub invariant-fields : goal.invariant-fields
 invariant-fields l = record {
   length : length l.text.items ≡ l.len;
   onward : assembled (form_at l.rows.fields.items) (world_of l.memory) l.len (drop l.field-index l.fields) l.text.items
-    ≡ assembled (form_at l.rows.fields.items) (world_of l.memory) l.len l.fields l.fn.text.items;
+      ≡ assembled (form_at l.rows.fields.items) (world_of l.memory) l.len l.fields l.fn.text.items;
 }

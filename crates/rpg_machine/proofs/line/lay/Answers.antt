@@ -12,7 +12,7 @@ number-requires c =
     let field = c.args.field.operand.field in
     let r = right (form_at forms) (length c.args.text.now.items) c.args.field c.requires.right in
     number_there forms c.args.memory.now.values field c.requires.forms c.requires.fits
-      (of_its_kind (form_at forms field) kinds.Number (ap kind_of (sym c.form_at-form.ensures) ∙ sym c.kind_of.ensures ∙ c.in-Number.is) r.kind)
+    (of_its_kind (form_at forms field) kinds.Number (ap kind_of (sym c.form_at-form.ensures) ∙ sym c.kind_of.ensures ∙ c.in-Number.is) r.kind)
 
 pub lay_number-requires-clause-low : goal.lay_number-requires-clause-low
 lay_number-requires-clause-low c =
@@ -30,7 +30,7 @@ lay_number-requires-clause-fits c =
     let k = of_its_kind (form_at forms field) kinds.Number (ap kind_of (sym c.form_at-form.ensures) ∙ sym c.kind_of.ensures ∙ c.in-Number.is) r.kind in
     let read : to_z w64 (of_z w64 c.number.result) ≡ c.number.result = search rules in
     rw read (subst (λ (n : ℕ). unsigned_abs c.number.result < 10 ^ n) (ap length_of (sym c.form_at-form.ensures) ∙ sym c.length_of.ensures)
-      (number_fits forms c.args.memory.now.values field c.number.result c.requires.forms c.requires.fits k c.number.ensures))
+    (number_fits forms c.args.memory.now.values field c.number.result c.requires.forms c.requires.fits k c.number.ensures))
 
 pub lay_number-requires-clause-width : goal.lay_number-requires-clause-width
 lay_number-requires-clause-width c =

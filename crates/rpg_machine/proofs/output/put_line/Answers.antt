@@ -24,7 +24,7 @@ returns-in-Halts-clause-done c =
     let q = bytes_of c.args.output.now in
     let no = ap (λ (n : ℕ). line_fault n l.moves) (sym c.file_length-len.ensures) ∙ sym c.line_fault.ensures ∙ c.in-None.is in
     let a = assembled_from forms w c.file_length-len.result l.len c.in_ok-text.text.items c.assemble.new.text.items c.deref.result.now l.fields (Halts c.in-Halts.number) c.assemble.result
-        c.file_length-len.ensures c.in_ok-text.ensures c.deref.ensures.value c.in-Halts.is c.assemble.ensures in
+    c.file_length-len.ensures c.in_ok-text.ensures c.deref.ensures.value c.in-Halts.is c.assemble.ensures in
     line_halted forms l w q c.in-Halts.number c.assemble.new.text.items no a
 
 pub returns-in-Fails-clause-done : goal.returns-in-Fails-clause-done
@@ -35,7 +35,7 @@ returns-in-Fails-clause-done c =
     let q = bytes_of c.args.output.now in
     let no = ap (λ (n : ℕ). line_fault n l.moves) (sym c.file_length-len.ensures) ∙ sym c.line_fault.ensures ∙ c.in-None.is in
     let a = assembled_from forms w c.file_length-len.result l.len c.in_ok-text.text.items c.assemble.new.text.items c.deref.result.now l.fields (Fails c.in-Fails.wrong) c.assemble.result
-        c.file_length-len.ensures c.in_ok-text.ensures c.deref.ensures.value c.in-Fails.is c.assemble.ensures in
+    c.file_length-len.ensures c.in_ok-text.ensures c.deref.ensures.value c.in-Fails.is c.assemble.ensures in
     line_failed forms l w q c.in-Fails.wrong c.assemble.new.text.items no a
 
 pub returns-clause-done : goal.returns-clause-done
@@ -46,7 +46,7 @@ returns-clause-done c =
     let q = bytes_of c.args.output.now in
     let no = ap (λ (n : ℕ). line_fault n l.moves) (sym c.file_length-len.ensures) ∙ sym c.line_fault.ensures ∙ c.in-None.is in
     let a = assembled_from forms w c.file_length-len.result l.len c.in_ok-text.text.items c.assemble.new.text.items c.deref.result.now l.fields Goes c.assemble.result
-        c.file_length-len.ensures c.in_ok-text.ensures c.deref.ensures.value c.in-Goes.is c.assemble.ensures in
+    c.file_length-len.ensures c.in_ok-text.ensures c.deref.ensures.value c.in-Goes.is c.assemble.ensures in
     let v = world_of c.put_on.new.memory in
     let o = bytes_of c.put_on.new.output in
     let put : IsDone (put_on l.file l.moves w c.assemble.new.text.items) w q Goes v o = subst (λ (t : List ℕ). IsDone (put_on l.file l.moves w t) w q Goes v o) c.deref-2.ensures.value c.in_ok-put_on.ensures.done in

@@ -12,6 +12,6 @@ invariant-lines l = record {
   values : l.memory.values ≡ l.fn.memory.values;
   form : IsOnForm l.memory.paper;
   onward : (e : Ending) (v : World nat_cmp) (o : Bytes) →
-    IsDone (rest l.rows l.when (drop l.line-index l.rows.lines.items) (world_of l.memory)) (world_of l.memory) (bytes_of l.output) e v o →
-    IsDone (rest l.rows l.when l.rows.lines.items (world_of l.fn.memory)) (world_of l.fn.memory) (bytes_of l.fn.output) e v o;
+      IsDone (rest l.rows l.when (drop l.line-index l.rows.lines.items) (world_of l.memory)) (world_of l.memory) (bytes_of l.output) e v o →
+      IsDone (rest l.rows l.when l.rows.lines.items (world_of l.fn.memory)) (world_of l.fn.memory) (bytes_of l.fn.output) e v o;
 }

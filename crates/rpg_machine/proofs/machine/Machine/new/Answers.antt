@@ -13,7 +13,7 @@ returns-clause-ready c =
     let date = c.args.date.value in
     let ready = ready_start p date c.rows_of-rows.ensures.kept in
     let values : c.of.result ≡ contents (first_values date p.fields p.values) =
-      c.of.ensures ∙ ap contents (c.in_ok-values.ensures ∙ ap (λ (o : Object). first_values date o.fields o.values) c.rows_of-rows.ensures.same) in
+    c.of.ensures ∙ ap contents (c.in_ok-values.ensures ∙ ap (λ (o : Object). first_values date o.fields o.values) c.rows_of-rows.ensures.same) in
     record {
       values = subst (λ (v : Values). Fits p.fields v) (sym values) ready.values;
       paper = subst (λ (x : Paper). IsOnForm x) (sym c.first_paper.ensures) ready.paper;
