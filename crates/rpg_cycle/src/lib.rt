@@ -11,3 +11,6 @@ mod runs;
 pub use flow::JobEnd;
 pub use jobs::{CycleEnd, Job, StartFault};
 pub use runs::{Run, run_records};
+
+#[cfg(test)]
+mod tests;
