@@ -1,12 +1,13 @@
 -- What the engine answers.
-use Rattle.std.specs.Prelude.{◌≡◌, ℕ, Bool, true, false, List, [], ◌++◌, Option, Some, None, Result, Ok, Err}
+use Rattle.std.specs.Prelude.{◌≡◌, ℕ, ℤ, Bool, true, List, [], ◌++◌, Option, Some, None, Result, Ok, Err}
 use Rattle.std.specs.Io.KnownBytes.{Appends, Consumes, IsAtEnd}
 use Rattle.rpg_format.specs.declared.fault.Code.{Code}
-use Rattle.rpg_object.specs.Program.{Object, spelling, IsProgram}
+use Rattle.rpg_object.specs.Object.{Object}
+use Rattle.rpg_object.specs.Program.{spelling, IsProgram}
 use Rattle.rpg_object.specs.declared.decoding.DecodeFault.{DecodeFault}
 use Rattle.rpg_object.specs.declared.decoding.DecodeFault.TheVariants as decoding
-use Rattle.rpg_cycle.specs.Run.{Ran, seen}
-use Rattle.rpg_cycle.specs.declared.run.Run.{Run}
+use Rattle.rpg_cycle.specs.Runs.{IsRun}
+use Rattle.rpg_cycle.specs.declared.runs.Run.{Run}
 use Rattle.rpg_cli.specs.Records.{records}
 use Rattle.rpg_cli.specs.Sending.{AppendsFirst, AppendsPrefix}
 use Rattle.rpg_cli.specs.declared.fault.RunFault.{RunFault}
@@ -20,10 +21,10 @@ use Rattle.rpg_cli.specs.declared.report.Report.{Report}
 -- ---- what is refused before anything is read
 
 -- an object by its first fault, and then a date that is none
-abbrev pub refusal : Option (ℕ × Code) → Bool → Option RunFault
-refusal (Some fault) is_date = Some (faults.Object fault.0 fault.1)
-refusal None false = Some faults.Date
-refusal None true = None
+abbrev pub refusal : Option (ℕ × Code) → Option ℤ → Option RunFault
+refusal (Some fault) date = Some (faults.Object fault.0 fault.1)
+refusal None None = Some faults.Date
+refusal None (Some day) = None
 
 -- a refusal is answered exactly where there is one, unless memory runs out
 abbrev pub RefusedBy : {X : Type 0} → Result X RunFault → Option RunFault → Type 0
@@ -42,19 +43,30 @@ pub record Spells (bytes : List ℕ) (p : Object) : Type 0 where
   pub program : IsProgram p
   pub spelled : bytes ≡ spelling p
 
--- the report is the run's, and each writer has all of its output
-pub record Reports (run : Ran) (report : Report) (print print' disk disk' : Option (List ℕ)) : Type 0 where
+-- the report is that of the run over the records of the input, and each writer has all of its output
+pub record Reports (p : Object) (date input : List ℕ) (report : Report) (print print' disk disk' : Option (List ℕ)) : Type 0 where
+  pub run : Run
+  pub is_run : IsRun p date (records input) run
   pub ending : report.ending ≡ run.ending
   pub cycles : report.cycles ≡ run.cycles
   pub most : report.most ≡ run.most
-  pub printed : Appends print print' run.print
-  pub stored : Appends disk disk' run.disk
+  pub printed : Appends print print' run.output.print.items
+  pub stored : Appends disk disk' run.output.disk.items
 
 -- The writer that failed has as many bytes of its output as the fault says, and every other a first part.
-abbrev pub HasParts : RunFault → Option (List ℕ) → Option (List ℕ) → List ℕ → Option (List ℕ) → Option (List ℕ) → List ℕ → Type 0
-HasParts (faults.Print sent) print print' printed disk disk' stored = AppendsFirst print print' sent printed × AppendsPrefix disk disk' stored
-HasParts (faults.Disk sent) print print' printed disk disk' stored = AppendsPrefix print print' printed × AppendsFirst disk disk' sent stored
-HasParts e print print' printed disk disk' stored = AppendsPrefix print print' printed × AppendsPrefix disk disk' stored
+abbrev pub SendsParts : RunFault → Option (List ℕ) → Option (List ℕ) → List ℕ → Option (List ℕ) → Option (List ℕ) → List ℕ → Type 0
+SendsParts (faults.Print sent) print print' printed disk disk' stored = AppendsFirst print print' sent printed × AppendsPrefix disk disk' stored
+SendsParts (faults.Disk sent) print print' printed disk disk' stored = AppendsPrefix print print' printed × AppendsFirst disk disk' sent stored
+SendsParts e print print' printed disk disk' stored = AppendsPrefix print print' printed × AppendsPrefix disk disk' stored
+
+-- such parts of the output of the run over the records of the input
+abbrev pub HasParts : RunFault → Object → List ℕ → List ℕ → Option (List ℕ) → Option (List ℕ) → Option (List ℕ) → Option (List ℕ) → Type 0
+HasParts (faults.Print sent) p date input print print' disk disk' =
+    (run : Run) × IsRun p date (records input) run × SendsParts (faults.Print sent) print print' run.output.print.items disk disk' run.output.disk.items
+HasParts (faults.Disk sent) p date input print print' disk disk' =
+    (run : Run) × IsRun p date (records input) run × SendsParts (faults.Disk sent) print print' run.output.print.items disk disk' run.output.disk.items
+HasParts e p date input print print' disk disk' =
+    (run : Run) → IsRun p date (records input) run → SendsParts e print print' run.output.print.items disk disk' run.output.disk.items
 
 -- A run stopped early: it had read these bytes, and Out holds for every input that begins with them; where it had read
 -- the input's end, for that input alone.
@@ -91,8 +103,8 @@ IsWriterFault (faults.Disk sent) = Unit {0}
 IsWriterFault e = ⊥
 
 -- the whole input was read, and the run is the one over its records
-pub record AnswersRun (given left : Option (List ℕ)) (run_over : List (List ℕ) → Ran) (run : Run) : Type 0 where
+pub record AnswersRun (given left : Option (List ℕ)) (p : Object) (date : List ℕ) (run : Run) : Type 0 where
   pub bytes : List ℕ
   pub taken : Consumes given left bytes
   pub ended : IsAtEnd left
-  pub same : seen run ≡ run_over (records bytes)
+  pub same : IsRun p date (records bytes) run

@@ -1,14 +1,14 @@
 -- The answer to each report and fault of a run.
 use Rattle.std.specs.Prelude.{ℕ}
-use Rattle.rpg_cycle.specs.declared.run.RunEnding.{RunEnding}
-use Rattle.rpg_cycle.specs.declared.run.RunEnding.TheVariants as ending
+use Rattle.rpg_cycle.specs.declared.flow.JobEnd.{JobEnd}
+use Rattle.rpg_cycle.specs.declared.flow.JobEnd.TheVariants as ending
 use Rattle.rpg_cli.specs.declared.answer.Answer.{Answer}
 use Rattle.rpg_cli.specs.declared.answer.Answer.TheVariants as answer
 use Rattle.rpg_cli.specs.declared.fault.RunFault.{RunFault}
 use Rattle.rpg_cli.specs.declared.fault.RunFault.TheVariants as faults
 use Rattle.rpg_cli.specs.declared.report.Report.{Report}
 
-abbrev pub answer_to_ending : RunEnding → ℕ → Answer
+abbrev pub answer_to_ending : JobEnd → ℕ → Answer
 answer_to_ending ending.EndOfJob cycles = answer.EndOfJob cycles
 answer_to_ending (ending.Halt number) cycles = answer.Halt number cycles
 answer_to_ending (ending.Wrong wrong) cycles = answer.Wrong wrong cycles

@@ -6,7 +6,7 @@ use crate::fault::RunFault;
 use crate::receiving::ReadFault;
 use crate::report::Report;
 use arrayvec::ArrayVec;
-use rpg_cycle::run::RunEnding;
+use rpg_cycle::JobEnd;
 use rpg_effect::outcome::Wrong;
 use rpg_format::fault::Code;
 use rpg_object::DecodeFault;
@@ -48,9 +48,9 @@ impl From<Report> for Answer {
     fn from(report: Report) -> Answer {
         let cycles = report.cycles;
         match report.ending {
-            RunEnding::EndOfJob => Answer::EndOfJob { cycles },
-            RunEnding::Halt(number) => Answer::Halt { number, cycles },
-            RunEnding::Wrong(wrong) => Answer::Wrong { wrong, cycles },
+            JobEnd::EndOfJob => Answer::EndOfJob { cycles },
+            JobEnd::Halt(number) => Answer::Halt { number, cycles },
+            JobEnd::Wrong(wrong) => Answer::Wrong { wrong, cycles },
         }
     }
 }

@@ -1,40 +1,33 @@
 //! The engine: from object bytes and input bytes to the report and the output bytes.
 
-ghost use Rattle.std.specs.Prelude.{◌≡◌, true, map, List, ℕ, IfErr, IfOk, IfSome, IsSome, OnErr, OnOk};
-ghost use Rattle.std.specs.Io.KnownBytes.{Appends, Consumes, IsAtEnd};
-ghost use Rattle.rpg_cycle.specs.Run.{is_date, run_of};
-ghost use Rattle.rpg_object.specs.Program.{first_fault, Object};
+ghost use Rattle.std.specs.Prelude.{◌≡◌, IfErr, IfOk, IfSome, IsSome, OnErr, OnOk};
+ghost use Rattle.std.specs.Io.KnownBytes.{Appends};
+ghost use Rattle.rpg_machine.specs.Date.{date_in};
+ghost use Rattle.rpg_object.specs.Object.{Object};
+ghost use Rattle.rpg_object.specs.Program.{first_fault};
 ghost use Rattle.rpg_cli.specs.Receiving.{ConsumesSome};
-ghost use Rattle.rpg_cli.specs.Records.{records};
-ghost use Rattle.rpg_cli.specs.Engine.{refusal, AnswersRun, HasParts, IsReadOrMemory, IsWriterFault, RefusedBy, Reports, Spells, StopsEarly};
+ghost use Rattle.rpg_cli.specs.Engine.{refusal, AnswersRun, HasParts, IsReadOrMemory, IsWriterFault, RefusedBy, Reports, SendsParts, Spells, StopsEarly};
 
 use crate::fault::RunFault;
 use crate::receiving::read_all;
 use crate::records::split_records;
 use crate::report::Report;
 use crate::sending::send;
-use rpg_cycle::run::{Output, Run, RunEnding, StartFault};
-use rpg_cycle::running::run_records;
-use rpg_object::{DecodeFault, Program, decode};
+use rpg_cycle::{Run, StartFault, run_records};
+use rpg_machine::{Date, Output};
+use rpg_object::{Program, decode};
 use std::alloc::Global;
 use std::io::{Read, Write};
 
-/// Whether these are six digits.
-fn is_date(date: &[u8]) -> bool
-    ensures { result ≡ is_date date.now }
-{
-    date.len() == 6
-}
-
-/// Runs the program over all that the reader has left.
+/// Runs the program over all that the reader has left, on a date of six digits.
 fn run_input<R: Read>(
     alloc: Global,
     program: &Program,
     date: &[u8],
     input: &mut R,
 ) -> Result<Run, RunFault>
-    requires { is_date date.now ≡ true }
-    ensures ok { IfOk result (λ run. AnswersRun (R.remaining input.old) (R.remaining input.new) (run_of program.now date.now) run) }
+    requires { IsSome (date_in date.now) }
+    ensures ok { IfOk result (λ run. AnswersRun (R.remaining input.old) (R.remaining input.new) program.now date.now run) }
     ensures err { OnErr result (ConsumesSome (R.remaining input.old) (R.remaining input.new)) }
     ensures only { IfErr result IsReadOrMemory }
 {
@@ -43,7 +36,7 @@ fn run_input<R: Read>(
     match run_records(alloc, program, date, &list) {
         Ok(run) => Ok(run),
         Err(StartFault::NoMemory) => Err(RunFault::NoMemory),
-        Err(StartFault::D1) => unreachable!(),
+        Err(StartFault::BadDate) => unreachable!(),
     }
 }
 
@@ -55,7 +48,7 @@ fn send_output<W1: Write, W2: Write>(
 ) -> Result<(), RunFault>
     ensures print_ok { OnOk result (Appends (W1.contents print.old) (W1.contents print.new) output.now.print.items) }
     ensures disk_ok { OnOk result (Appends (W2.contents disk.old) (W2.contents disk.new) output.now.disk.items) }
-    ensures err { IfErr result (λ e. HasParts e (W1.contents print.old) (W1.contents print.new) output.now.print.items
+    ensures err { IfErr result (λ e. SendsParts e (W1.contents print.old) (W1.contents print.new) output.now.print.items
         (W2.contents disk.old) (W2.contents disk.new) output.now.disk.items) }
     ensures only { IfErr result IsWriterFault }
 {
@@ -80,21 +73,20 @@ pub fn execute<R: Read, W1: Write, W2: Write>(
     disk: &mut W2,
 ) -> Result<Report, RunFault>
     // An object is refused by its first fault, and then a date that isn't six digits, unless memory runs out.
-    ensures refused { RefusedBy result (refusal (first_fault object.now) (is_date date.now)) }
+    ensures refused { RefusedBy result (refusal (first_fault object.now) (date_in date.now)) }
     // Then nothing is read or written.
-    ensures untouched { IsSome (refusal (first_fault object.now) (is_date date.now))
+    ensures untouched { IsSome (refusal (first_fault object.now) (date_in date.now))
         → (input.new ≡ input.old) × (print.new ≡ print.old) × (disk.new ≡ disk.old) }
 
     // Else the report and all output are the run's over the records of the whole input.
     ensures report { IfOk result (λ report. (p : Object) → Spells object.now p → IfSome (R.remaining input.old) (λ bytes.
-        Reports (run_of p date.now (records bytes)) report (W1.contents print.old) (W1.contents print.new) (W2.contents disk.old) (W2.contents disk.new))) }
+        Reports p date.now bytes report (W1.contents print.old) (W1.contents print.new) (W2.contents disk.old) (W2.contents disk.new))) }
     // Where it stops early each writer has a first part of its output.
     ensures early { IfErr result (λ e. (p : Object) → Spells object.now p → StopsEarly (R.remaining input.old) (R.remaining input.new) (λ bytes.
-        let run = run_of p date.now (records bytes) in
-        HasParts e (W1.contents print.old) (W1.contents print.new) run.print (W2.contents disk.old) (W2.contents disk.new) run.disk)) }
+        HasParts e p date.now bytes (W1.contents print.old) (W1.contents print.new) (W2.contents disk.old) (W2.contents disk.new))) }
 {
     let program = decode(alloc, object)?;
-    if !is_date(date) {
+    if Date::read(date).is_none() {
         return Err(RunFault::Date);
     }
     let run = run_input(alloc, &program, date, input)?;

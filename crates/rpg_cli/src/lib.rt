@@ -22,4 +22,5 @@ pub use fault::RunFault;
 pub use program::{main_with, run};
 pub use records::records_are_lines;
 pub use report::Report;
+pub use rpg_cycle::{Job, run_records};
 pub use text::line;
