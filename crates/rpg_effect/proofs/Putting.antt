@@ -37,7 +37,7 @@ put_none from q = record { print = sym (append-nil q.print); disk = sym (append-
 pub put_both : (a b c : ℕ) (p q r : Bytes) (xs ys : List Placed) → IsPut a p xs b q → IsPut b q ys c r → IsPut a p (xs ++ ys) c r
 put_both a b c p q r xs ys h g = record {
   print = g.print ∙ ap (λ z. z ++ paper b ys) h.print ∙ append_assoc p.print (paper a xs) (paper b ys)
-    ∙ ap (λ n. p.print ++ (paper a xs ++ paper n ys)) h.last ∙ ap (λ z. p.print ++ z) (sym (paper-append a xs ys));
+      ∙ ap (λ n. p.print ++ (paper a xs ++ paper n ys)) h.last ∙ ap (λ z. p.print ++ z) (sym (paper-append a xs ys));
   disk = g.disk ∙ ap (λ z. z ++ disk ys) h.disk ∙ append_assoc p.disk (disk xs) (disk ys) ∙ ap (λ z. p.disk ++ z) (sym (disk-append xs ys));
   last = g.last ∙ ap (λ n. last_of n ys) h.last ∙ sym (last-append a xs ys);
 }
@@ -45,7 +45,8 @@ put_both a b c p q r xs ys h g = record {
 -- nothing is put out
 pub quiet_done : (e : Ending) (w v : World nat_cmp) (q : Bytes) (u : World nat_cmp) → u ≡ v → u.paper.last ≡ w.paper.last → IsDone (quiet e v) w q e u q
 quiet_done e w v q u h l = record {
-  ending = refl; world = h;
+  ending = refl;
+  world = h;
   put = subst (λ (n : ℕ). IsPut w.paper.last q [] n q) (sym l) (put_none w.paper.last q);
 }
 
@@ -56,7 +57,8 @@ then_done one go w v u p q r e h g =
     let is : then_go one go ≡ after_lines one.lines (go one.world) = ap (λ x. go_on x one go) (sym h.ending) in
     let at : after_lines one.lines (go one.world) ≡ after_lines one.lines (go v) = ap (λ x. after_lines one.lines (go x)) (sym h.world) in
     subst (λ (x : Effect nat_cmp). IsDone x w p e u r) (sym (is ∙ at)) (record {
-      ending = g.ending; world = g.world;
+      ending = g.ending;
+      world = g.world;
       put = put_both w.paper.last v.paper.last u.paper.last p q r one.lines (go v).lines h.put g.put;
     })
 
@@ -81,7 +83,8 @@ unfolding put_on
 print_done w v m text q o h l p d =
     let gone = way w.paper.last (paper_at m w).begun (paper_at m w).line in
     record {
-      ending = refl; world = h;
+      ending = refl;
+      world = h;
       put = record {
         print = p ∙ append_assoc q.print gone (trimmed text) ∙ ap (λ z. q.print ++ z) (sym (append-nil (gone ++ trimmed text)));
         disk = d ∙ sym (append-nil q.disk);
@@ -94,6 +97,7 @@ pub record_done : (w : World nat_cmp) (m : Moves) (text : List ℕ) (q o : Bytes
     IsDone (put_on Disk m w text) w q Goes w o
 unfolding put_on
 record_done w m text q o p d = record {
-  ending = refl; world = refl;
+  ending = refl;
+  world = refl;
   put = record { print = p ∙ sym (append-nil q.print); disk = d ∙ append_assoc q.disk text (10 ∷ []); last = refl };
 }

@@ -1,5 +1,5 @@
 -- Operations: their effect on a world, said once for instructions and for calculation cards.
-use Rattle.std.specs.Prelude.{ℤ, false, Option}
+use Rattle.std.specs.Prelude.{false, Option}
 use Rattle.std.specs.declared.cmp.Ordering.{Ordering}
 use Rattle.rpg_decimal.specs.Fraction.{Fraction, stored_number, plus, with_decimals}
 use Rattle.rpg_effect.specs.Effect.{Effect, Leaves}

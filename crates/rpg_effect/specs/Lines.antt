@@ -1,5 +1,5 @@
 -- Output lines: their effect on a world, and the bytes of the lines that are placed.
-use Rattle.std.specs.Prelude.{ℕ, zero, suc, ◌+◌, ◌-◌, Bool, true, false, not, ◌&&◌, ◌||◌, ◌==◌, nat_le, List, [], ◌∷◌, ◌++◌, length, take, drop, replicate, Option, None, Some, if◌then◌else◌}
+use Rattle.std.specs.Prelude.{ℕ, ◌+◌, ◌-◌, Bool, true, false, not, ◌&&◌, ◌||◌, ◌==◌, nat_le, List, [], ◌∷◌, ◌++◌, length, take, drop, replicate, Option, None, Some, if◌then◌else◌}
 use Rattle.std.specs.List.{suffix_len}
 use Rattle.std.specs.FinSet as set
 use Rattle.std.specs.Ordering.{nat_cmp}
@@ -140,7 +140,7 @@ module _ {K : Type 0} {R : K → K → Ordering} (forms : K → Option Form) whe
   unfoldable pub line_out : Line K → World R → Effect R
   line_out l w =
       unless_wrong (line_fault l.len l.moves) w
-        (let done = assembled w l.len l.fields (replicate l.len 32) in put_out l done.ending done.text w)
+      (let done = assembled w l.len l.fields (replicate l.len 32) in put_out l done.ending done.text w)
 
   -- a line, where its time is meant and it is asked for
   unfoldable pub one_out : (Time → Bool) → Line K → World R → Effect R

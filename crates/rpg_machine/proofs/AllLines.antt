@@ -1,5 +1,5 @@
 -- Lines, one after another.
-use Rattle.std.proofs.Common.{◌≡◌, ℕ, ◌+◌, ◌<◌, ◌≤◌, List, [], ◌∷◌, refl, sym, ap, subst, drop, map, length, get_or, nat_cmp}
+use Rattle.std.proofs.Common.{◌≡◌, ℕ, ◌+◌, ◌<◌, ◌≤◌, List, [], ◌∷◌, refl, sym, subst, drop, map, length, get_or, nat_cmp}
 use Rattle.std.proofs.lemmas.List.{drop_all}
 use Rattle.rpg_effect.proofs.Putting.{quiet_done, then_done, halts_done, fails_done}
 use Rattle.rpg_effect.specs.Effect.{Effect, then_go}

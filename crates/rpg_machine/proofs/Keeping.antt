@@ -1,10 +1,9 @@
 -- Writes keep the values fit.
-use Rattle.std.proofs.Common.{◌≡◌, ℕ, ℤ, ◌<◌, ◌^◌, Bool, true, false, ◌&&◌, cond, eqb, List, Option, None, Some, refl, sym, ap, ◌∙◌, subst, eqb-true, unsigned_abs, length, nat_cmp}
+use Rattle.std.proofs.Common.{◌≡◌, ℕ, ℤ, ◌<◌, ◌^◌, Bool, true, false, ◌&&◌, cond, eqb, List, Option, Some, refl, sym, ap, ◌∙◌, subst, eqb-true, unsigned_abs, length}
 use Rattle.std.proofs.lemmas.Option.{same_Some}
 use Rattle.std.specs.FinMap as maps
-use Rattle.std.specs.Ordering.{eq_by_cmp}
 use Rattle.rpg_effect.specs.Rows.{has_kind, length_of}
-use Rattle.rpg_effect.specs.Values.{Value, Number, Text, entry_cmp}
+use Rattle.rpg_effect.specs.Values.{Value, Number, Text}
 use Rattle.rpg_effect.specs.declared.form.Form.{Form}
 use Rattle.rpg_effect.specs.declared.form.Kind.{Kind}
 use Rattle.rpg_effect.specs.declared.form.Kind.TheVariants as kinds
@@ -12,7 +11,7 @@ use Rattle.rpg_machine.specs.Contents.{Values}
 use Rattle.rpg_machine.specs.Good.{Fits, HasForm}
 use Rattle.rpg_machine.specs.Tables.{form_at}
 use Rattle.rpg_machine.proofs.ByNumber.{entries_total, same_entry}
-use Rattle.rpg_machine.proofs.Numbers.{IsOf, is_of}
+use Rattle.rpg_machine.proofs.Numbers.{is_of}
 
 fits_at : (forms : List Form) (values : Values) (field : ℕ) (v : Value) → Fits forms values → ((d : Form) → form_at forms field ≡ Some d → HasForm d.kind d.length (Some v)) →
     (g : ℕ) (d : Form) → form_at forms g ≡ Some d → (b : Bool) → eqb g field ≡ b → HasForm d.kind d.length (cond (b && eqb 1 1) (Some v) (maps.get values (g, 1)))

@@ -1,6 +1,6 @@
 -- Moves of columns to fields.
-use Rattle.std.proofs.Common.{◌≡◌, ℕ, ◌+◌, ◌-◌, ◌≤◌, Bool, true, false, not, ◌&&◌, ◌==◌, cond, nat_le, List, [], ◌∷◌, length, Option, None, Some, refl, sym, ap, ◌∙◌, subst, leb-true, eqb-true, nat_cmp}
-use Rattle.rpg_effect.specs.Effect.{Effect, quiet, unless_wrong}
+use Rattle.std.proofs.Common.{◌≡◌, ℕ, ◌+◌, ◌-◌, ◌≤◌, Bool, true, false, not, ◌&&◌, ◌==◌, cond, nat_le, List, length, Option, None, Some, refl, sym, ap, ◌∙◌, subst, leb-true, eqb-true, nat_cmp}
+use Rattle.rpg_effect.specs.Effect.{quiet, unless_wrong}
 use Rattle.rpg_effect.specs.Rows.{has_kind, is_array, is_plain, kind_of, length_of, same_kind}
 use Rattle.rpg_effect.specs.World.{World}
 use Rattle.rpg_effect.specs.declared.form.Class.{Class}

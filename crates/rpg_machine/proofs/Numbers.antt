@@ -1,15 +1,15 @@
 -- What a field that passed its test has.
-use Rattle.std.proofs.Common.{◌≡◌, ℕ, zero, ℤ, ◌<◌, ◌≤◌, ◌^◌, Bool, true, false, not, ◌&&◌, List, Option, None, Some, IsSome, refl, sym, ap, ◌∙◌, subst, arith, unsigned_abs, length}
+use Rattle.std.proofs.Common.{◌≡◌, ℕ, zero, ℤ, ◌<◌, ◌≤◌, ◌^◌, Bool, true, false, ◌&&◌, List, Option, None, Some, IsSome, refl, sym, ap, ◌∙◌, subst, arith, unsigned_abs, length}
 use Rattle.std.proofs.Math.Nat.{pow-le-pow_right}
 use Rattle.std.proofs.lemmas.Option.{same_Some}
 use Rattle.std.specs.FinMap as maps
-use Rattle.rpg_effect.specs.Rows.{has_kind, has_field, same_kind, is_array, kind_of, length_of, decimals_of}
-use Rattle.rpg_effect.specs.Values.{Value, Number, Text, number_of}
+use Rattle.rpg_effect.specs.Rows.{has_kind, same_kind, kind_of, length_of}
+use Rattle.rpg_effect.specs.Values.{Value, Number, Text}
 use Rattle.rpg_effect.specs.declared.form.Form.{Form}
 use Rattle.rpg_effect.specs.declared.form.Kind.{Kind}
 use Rattle.rpg_effect.specs.declared.form.Kind.TheVariants as kinds
 use Rattle.rpg_machine.specs.Contents.{Values}
-use Rattle.rpg_machine.specs.Good.{AreForms, Fits, HasForm, IsNumber, IsNumeric, IsText}
+use Rattle.rpg_machine.specs.Good.{AreForms, Fits, HasForm, IsNumber, IsNumeric}
 use Rattle.rpg_machine.specs.Tables.{form_at}
 
 pub and_true : (a b : Bool) → (a && b) ≡ true → (a ≡ true) × (b ≡ true)
@@ -107,6 +107,11 @@ pub text_fits : (forms : List Form) (values : Values) (field : ℕ) (t : List �
 text_fits forms values field t fits h e =
     let i = is_of forms field kinds.Text h in
     subst (λ (o : Option Value). HasForm kinds.Text i.form.length o) e (form_there forms values field kinds.Text fits i) ∙ ap length_of (sym i.there)
+
+pub text_there : (forms : List Form) (values : Values) (field : ℕ) → Fits forms values → has_kind (form_at forms field) kinds.Text ≡ true → HasForm kinds.Text (length_of (form_at forms field)) (maps.get values (field, 1))
+text_there forms values field fits h =
+    let i = is_of forms field kinds.Text h in
+    subst (λ (n : ℕ). HasForm kinds.Text n (maps.get values (field, 1))) (ap length_of (sym i.there)) (form_there forms values field kinds.Text fits i)
 
 -- the kind of a field that passed its test
 pub of_its_kind : (o : Option Form) (k : Kind) → kind_of o ≡ k → has_kind o (kind_of o) ≡ true → has_kind o k ≡ true

@@ -1,7 +1,7 @@
 -- A line, from its parts.
-use Rattle.std.proofs.Common.{◌≡◌, ℕ, ◌≤◌, Bool, true, false, ◌&&◌, cond, nat_le, List, [], Option, None, Some, refl, sym, ap, ◌∙◌, subst, replicate, nat_cmp}
+use Rattle.std.proofs.Common.{◌≡◌, ℕ, Bool, true, false, ◌&&◌, cond, nat_le, List, Option, None, Some, refl, sym, ap, ◌∙◌, subst, replicate, nat_cmp}
 use Rattle.rpg_effect.proofs.Putting.{quiet_done}
-use Rattle.rpg_effect.specs.Effect.{Effect, quiet, unless_wrong}
+use Rattle.rpg_effect.specs.Effect.{Effect, unless_wrong}
 use Rattle.rpg_effect.specs.Lines.{Line, Drafted, assembled, drafted, if_asked, is_asked, line_fault, line_out, one_out, put_on, put_out}
 use Rattle.rpg_effect.specs.Put.{Bytes, IsDone}
 use Rattle.rpg_effect.specs.World.{World}

@@ -1,24 +1,23 @@
 -- What a program keeps, as the machine uses it.
-use Rattle.std.proofs.Common.{◌≡◌, ℕ, zero, suc, ◌<◌, ◌≤◌, ◌^◌, ℤ, unsigned_abs, pos, List, [], ◌∷◌, length, All, arith, get_or, Option, Some, None, slice_get, refl, sym, ap, ◌∙◌, subst, false, cond, Bool}
+use Rattle.std.proofs.Common.{◌≡◌, ℕ, zero, suc, ◌<◌, ℤ, pos, List, [], ◌∷◌, length, All, arith, get_or, Option, Some, slice_get, sym, ap, ◌∙◌, subst, cond}
 use Rattle.std.proofs.lemmas.Option.{get_or_from_slice_get, same_Some, slice_get-get_or, slice_get_within}
 use Rattle.std.specs.FinMap as maps
 use Rattle.rpg_effect.specs.Rows.{is_date}
 use Rattle.rpg_effect.specs.Values.{Value, Number, Text}
-use Rattle.rpg_effect.specs.declared.form.Class.TheVariants as classes
 use Rattle.rpg_effect.specs.declared.form.Form.{Form}
 use Rattle.rpg_effect.specs.declared.form.Kind.{Kind}
 use Rattle.rpg_effect.specs.declared.form.Kind.TheVariants as kinds
 use Rattle.rpg_object.specs.Kept.{IsFieldRow, IsLineRow, IsPlainProgram, IsTypeRow}
-use Rattle.rpg_object.specs.Object.{LineRow, Object, TypeRow}
+use Rattle.rpg_object.specs.Object.{Object}
 use Rattle.rpg_object.specs.Program.{IsProgram}
-use Rattle.rpg_object.specs.Rows.{AreNumbersOf, IsNumberOf}
+use Rattle.rpg_object.specs.Rows.{IsNumberOf}
 use Rattle.rpg_object.proofs.PlainRows.{program_kept}
 use Rattle.rpg_machine.specs.Contents.{contents}
-use Rattle.rpg_machine.specs.Good.{AreForms, AreLines, Fits, HasForm, IsNumeric, IsOnForm, IsSound}
+use Rattle.rpg_machine.specs.Good.{AreForms, Fits, HasForm, IsNumeric, IsSound}
 use Rattle.rpg_machine.specs.Running.{IsReady, started}
 use Rattle.rpg_machine.specs.Start.{first_value, first_values}
 use Rattle.rpg_machine.specs.Tables.{form_at}
-use Rattle.rpg_machine.proofs.ByNumber.{get-value, value_number}
+use Rattle.rpg_machine.proofs.ByNumber.{get-value}
 
 all_at : {X : Type 0} (P : X → Type 0) (xs : List X) (k : ℕ) (x : X) → All P xs → slice_get xs k ≡ Some x → P x
 all_at P xs k x h e = subst P (get_or_from_slice_get xs k x x e) (h k x (slice_get_within xs k x e))

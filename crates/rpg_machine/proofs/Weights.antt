@@ -1,13 +1,13 @@
 -- The weight of an output.
-use Rattle.std.proofs.Common.{◌≡◌, ℕ, suc, ◌+◌, ◌<◌, ◌≤◌, Bool, cond, List, ◌∷◌, length, get_or, drop, map, Some, slice_get, refl, sym, ap, ◌∙◌, add-one, drop-cons, arith}
+use Rattle.std.proofs.Common.{◌≡◌, ℕ, suc, ◌+◌, ◌<◌, ◌≤◌, cond, List, ◌∷◌, length, get_or, drop, map, Some, sym, ap, ◌∙◌, add-one, drop-cons}
 use Rattle.std.proofs.lemmas.List.{drop_all}
 use Rattle.std.proofs.lemmas.Option.{slice_get-get_or, slice_get-map}
 use Rattle.std.specs.Option.{option_map}
 use Rattle.rpg_effect.specs.Lines.{lines_weight}
-use Rattle.rpg_object.specs.Object.{LineRow, line_row}
+use Rattle.rpg_object.specs.Object.{line_row}
 use Rattle.rpg_object.specs.declared.row.Line.{Line}
 use Rattle.rpg_machine.specs.Good.{AreLines}
-use Rattle.rpg_machine.specs.Output.{is_meant, output_weight}
+use Rattle.rpg_machine.specs.Output.{is_meant}
 use Rattle.rpg_machine.specs.Tables.{line_of}
 use Rattle.rpg_machine.specs.declared.output.When.{When}
 

@@ -2,8 +2,6 @@
 ghost use Rattle.std.specs.Prelude.{◌≡◌, ◌+◌, ◌-◌, ◌≤◌, length, true, None};
 ghost use Rattle.rpg_effect.specs.Effect.{quiet};
 ghost use Rattle.rpg_effect.specs.Rows as rows_of;
-ghost use Rattle.rpg_effect.specs.Values.{Text};
-ghost use Rattle.rpg_effect.specs.World.{set_value};
 ghost use Rattle.rpg_effect.specs.declared.form.Kind.TheVariants as kinds;
 ghost use Rattle.rpg_machine.specs.Good.{AreForms, Fits};
 ghost use Rattle.rpg_machine.specs.Memory.{world_of};
@@ -86,20 +84,6 @@ fn move_number(rows: &Rows, memory: &mut Memory, field: u16, digits: &[u8]) -> E
     }
 }
 
-/// Puts characters into a field.
-fn move_text(rows: &Rows, memory: &mut Memory, field: u16, part: &[u8])
-    requires fits { Fits rows.now.fields.items memory.old.values }
-    requires kind { rows_of.has_kind (tables.form_at rows.now.fields.items field) kinds.Text ≡ true }
-    requires length { length part.now ≡ rows_of.length_of
-        (tables.form_at rows.now.fields.items field) }
-    ensures world { world_of memory.new ≡ set_value (world_of memory.old) field (Text part.now) }
-    ensures fits { Fits rows.now.fields.items memory.new.values }
-    ensures paper { memory.new.paper ≡ memory.old.paper }
-{
-    let _form = form_at(rows, field);
-    memory.values.set_text(field, part);
-}
-
 /// Puts columns into a field.
 fn move_columns(rows: &Rows, memory: &mut Memory, text: &[u8], columns: Move) -> Ending
     requires forms { AreForms rows.now.fields.items }
@@ -115,7 +99,7 @@ fn move_columns(rows: &Rows, memory: &mut Memory, text: &[u8], columns: Move) ->
     match kind_of(form_at(rows, columns.field)) {
         Kind::Number => move_number(rows, memory, columns.field, part),
         Kind::Text => {
-            move_text(rows, memory, columns.field, part);
+            memory.values.set_text(columns.field, part);
             Ending::Goes
         }
     }

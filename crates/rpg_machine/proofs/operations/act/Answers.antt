@@ -1,8 +1,5 @@
-use Rattle.std.proofs.Common.{◌≡◌, false, ap, sym, ◌∙◌}
+use Rattle.std.proofs.Common.{ap, sym, ◌∙◌}
 use Rattle.rpg_effect.specs.Act.{act}
-use Rattle.rpg_effect.specs.Rows.{mixes_kinds, row_of}
-use Rattle.rpg_effect.specs.declared.operation.Action.{Action}
-use Rattle.rpg_effect.specs.declared.operation.Action.TheVariants.{Add, ZeroAdd}
 use Rattle.rpg_machine.specs.Memory.{world_of}
 use Rattle.rpg_machine.specs.Tables.{form_at}
 use Rattle.rpg_machine.proofs.Doing.{add_kinds, add_done, zero_add_kinds, zero_add_done}

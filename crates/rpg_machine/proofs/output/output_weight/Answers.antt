@@ -1,4 +1,4 @@
-use Rattle.std.proofs.Common.{◌≡◌, ◌<◌, ◌≤◌, ◌∙◌, sym, ap, arith, length, get_or}
+use Rattle.std.proofs.Common.{◌≡◌, ◌<◌, ◌≤◌, arith, length, get_or}
 use Rattle.rpg_machine.specs.Output.{output_weight}
 use Rattle.rpg_machine.proofs.Weights.{weight_more, weight_none, few_fields}
 use Rattle.rpg_machine.proofs.output.output_weight.Goals as goal

@@ -1,7 +1,6 @@
 use Rattle.std.proofs.Common.{◌≡◌, ℕ, ◌++◌, refl, ap, ◌∙◌}
 use Rattle.rpg_effect.proofs.Putting.{print_done}
-use Rattle.rpg_effect.specs.Lines.{paper_at, printed, skip, space, trimmed, way}
-use Rattle.rpg_effect.specs.World.{World}
+use Rattle.rpg_effect.specs.Lines.{paper_at, printed, skip, space, way}
 use Rattle.rpg_effect.specs.declared.line.Paper.{Paper}
 use Rattle.rpg_machine.specs.Memory.{world_of, bytes_of}
 use Rattle.rpg_machine.proofs.output.print_line.Goals as goal

@@ -1,11 +1,11 @@
-use Rattle.std.proofs.Common.{◌≡◌, ℕ, List, sym, ap, ◌∙◌, subst}
+use Rattle.std.proofs.Common.{ℕ, List, sym, ap, ◌∙◌, subst}
 use Rattle.rpg_effect.specs.Lines.{line_fault, put_on}
 use Rattle.rpg_effect.specs.Put.{IsDone}
 use Rattle.rpg_effect.specs.declared.outcome.Ending.TheVariants.{Goes, Halts, Fails}
 use Rattle.rpg_object.specs.Object.{line_row}
 use Rattle.rpg_machine.specs.Memory.{bytes_of, world_of}
 use Rattle.rpg_machine.specs.Tables.{form_at, line_of}
-use Rattle.rpg_machine.proofs.OneLine.{assembled_from, line_failed, line_halted, line_placed, line_wrong, right_moves}
+use Rattle.rpg_machine.proofs.OneLine.{assembled_from, line_failed, line_halted, line_placed, line_wrong}
 use Rattle.rpg_machine.proofs.output.put_line.Goals as goal
 
 pub returns-in-Some-clause-done : goal.returns-in-Some-clause-done

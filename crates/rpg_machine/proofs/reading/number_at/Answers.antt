@@ -1,4 +1,4 @@
-use Rattle.std.proofs.Common.{◌≡◌, ◌<◌, unsigned_abs, sym, ◌∙◌, rules, to_z, of_z, w64}
+use Rattle.std.proofs.Common.{◌≡◌, sym, ◌∙◌, rules, to_z, of_z, w64}
 use Rattle.rpg_machine.proofs.Numbers.{small_there, decimals_there}
 use Rattle.rpg_machine.proofs.reading.number_at.Goals as goal
 

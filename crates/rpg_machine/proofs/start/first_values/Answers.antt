@@ -1,7 +1,7 @@
-use Rattle.std.proofs.Common.{◌≡◌, ◌≤◌, ◌<◌, length, map, take, [], ◌∷◌, ◌++◌, sym, ap, ◌∙◌, arith}
+use Rattle.std.proofs.Common.{◌≤◌, ◌<◌, length, map, take, [], ◌∷◌, ◌++◌, sym, ap, ◌∙◌, arith}
 use Rattle.std.proofs.lemmas.List.{map-append, take_all}
 use Rattle.rpg_effect.specs.Values.{held}
-use Rattle.rpg_machine.specs.Start.{first_values, first_value}
+use Rattle.rpg_machine.specs.Start.{first_values}
 use Rattle.rpg_machine.proofs.Starting.{first_more, few_values}
 use Rattle.rpg_machine.proofs.start.first_values.Goals as goal
 

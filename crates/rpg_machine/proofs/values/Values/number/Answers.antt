@@ -1,5 +1,4 @@
-use Rattle.std.proofs.Common.{◌≡◌, ◌≤◌, ◌<◌, ◌-◌, IsSome, length, sym, ap, ◌∙◌, arith, Option, Some, subst, rules}
-use Rattle.std.proofs.lemmas.Int.{ints}
+use Rattle.std.proofs.Common.{◌≡◌, ap, ◌∙◌, arith, Option, Some, subst, rules}
 use Rattle.std.specs.FinMap as maps
 use Rattle.rpg_effect.specs.Values.{Value, Number, Text, held}
 use Rattle.rpg_machine.specs.Good.{IsNumber}
