@@ -1,6 +1,7 @@
 //! What is wrong with bytes that were to spell something.
 
-ghost use Rattle.std.specs.Prelude.{◌≡◌};
+ghost use Rattle.std.specs.Prelude.{◌≡◌, Some};
+ghost use Rattle.rpg_format.specs.Codes.{code_text};
 ghost use Rattle.rpg_format.specs.declared.fault.ReadFault.TheVariants.{NoMemory};
 
 use std::alloc::{AllocError, AllocFailed};
@@ -26,6 +27,8 @@ pub enum Code {
 }
 
 impl fmt::Display for Code {
+    ghost output = { λ c. Some (code_text c) };
+
     fn fmt<W: fmt::Write>(&self, f: &mut fmt::Formatter<W>) -> fmt::Result {
         match self {
             Code::NoObject => write!(f, "B1"),

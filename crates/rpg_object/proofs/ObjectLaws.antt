@@ -124,6 +124,9 @@ all_within bytes d fits e =
 pub only_one : (bytes : List ℕ) (p q : Object) → reading bytes ≡ Ok p → IsProgram q → bytes ≡ spelling q → p ≡ q
 only_one bytes p q e h s = ok_is p q (sym e ∙ ap reading s ∙ all_again q h)
 
+pub same_spelling : (p q : Object) → IsProgram p → IsProgram q → spelling p ≡ spelling q → p ≡ q
+same_spelling p q h k e = only_one (spelling p) p q (all_again p h) k e
+
 pub no_fault : (bytes : List ℕ) (d : Fault) (q : Object) → reading bytes ≡ Err d → IsProgram q → bytes ≡ spelling q → ⊥
 no_fault bytes d q e h s = let k : found q ≡ Err d = sym (all_again q h) ∙ ap reading (sym s) ∙ e in cc
 

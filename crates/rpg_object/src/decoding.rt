@@ -1,9 +1,9 @@
 //! Bytes to an object program.
 
-ghost use Rattle.std.specs.Prelude.{◌≡◌, IfOk};
+ghost use Rattle.std.specs.Prelude.{◌≡◌, IfOk, Some};
 ghost use Rattle.rpg_format.specs.Format.{fault_at};
 ghost use Rattle.rpg_format.specs.Reading.{Gives};
-ghost use Rattle.rpg_object.specs.Decoding.{FaultIs, IsOkBarMemory};
+ghost use Rattle.rpg_object.specs.Decoding.{fault_text, FaultIs, IsOkBarMemory};
 ghost use Rattle.rpg_object.specs.Object.{Object, seen};
 ghost use Rattle.rpg_object.specs.Program.{IsProgram, body, first_fault, reading, spelling};
 
@@ -30,6 +30,8 @@ pub enum DecodeFault {
 }
 
 impl fmt::Display for DecodeFault {
+    ghost output = { λ fault. Some (fault_text fault) };
+
     fn fmt<W: fmt::Write>(&self, f: &mut fmt::Formatter<W>) -> fmt::Result {
         match self {
             DecodeFault::Object { offset, code } => write!(f, "{code} at {offset}"),
