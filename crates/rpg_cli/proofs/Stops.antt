@@ -8,11 +8,11 @@ use Rattle.rpg_object.specs.declared.decoding.DecodeFault.{DecodeFault}
 use Rattle.rpg_object.specs.declared.decoding.DecodeFault.TheVariants as decoding
 use Rattle.rpg_cycle.specs.Runs.{IsRun}
 use Rattle.rpg_cycle.specs.declared.runs.Run.{Run}
+use Rattle.rpg_cli.proofs.Determined.{one_run}
 use Rattle.rpg_cli.specs.Receiving.{ConsumesSome}
 use Rattle.rpg_cli.specs.Records.{records}
 use Rattle.rpg_cli.specs.Sending.{AppendsPrefix}
-use Rattle.rpg_cli.specs.Engine.{AnswersRun, HasParts, IsReadOrMemory, IsWriterFault, Reports, SendsParts, StopsEarly, decode_fault}
-use Rattle.rpg_cli.specs.declared.report.Report.{Report}
+use Rattle.rpg_cli.specs.Engine.{AnswersRun, HasParts, IsReadOrMemory, Reports, SendsParts, StopsEarly, decode_fault}
 use Rattle.rpg_cli.specs.declared.fault.RunFault.{RunFault}
 use Rattle.rpg_cli.specs.declared.fault.RunFault.TheVariants as faults
 
@@ -60,25 +60,23 @@ unread a b print disk e p date is some = record {
 run_of : (a b : Option (List ℕ)) (q p : Object) (date : List ℕ) (run : Run) → q ≡ p → (answers : AnswersRun a b q date run) → IsRun p date (records answers.bytes) run
 run_of a b q p date run same answers = subst (λ (o : Object). IsRun o date (records answers.bytes) run) same answers.same
 
-parts_of : (e : RunFault) → IsWriterFault e → (p : Object) (date bytes : List ℕ) (print print' disk disk' : Option (List ℕ)) (run : Run) → IsRun p date (records bytes) run
+parts_of : (e : RunFault) (p : Object) (date bytes : List ℕ) (print print' disk disk' : Option (List ℕ)) (run : Run) → IsRun p date (records bytes) run
     → SendsParts e print print' run.output.print.items disk disk' run.output.disk.items → HasParts e p date bytes print print' disk disk'
-parts_of (faults.Object offset code) is p date bytes print print' disk disk' run is_run parts = absurd is
-parts_of faults.Date is p date bytes print print' disk disk' run is_run parts = absurd is
-parts_of faults.Read is p date bytes print print' disk disk' run is_run parts = absurd is
-parts_of (faults.Print sent) is p date bytes print print' disk disk' run is_run parts = (run, is_run, parts)
-parts_of (faults.Disk sent) is p date bytes print print' disk disk' run is_run parts = (run, is_run, parts)
-parts_of faults.NoMemory is p date bytes print print' disk disk' run is_run parts = absurd is
+parts_of e p date bytes print print' disk disk' run is_run parts = λ other is_other.
+    let same = one_run p date (records bytes) run other is_run is_other in
+    subst (λ (printed : List ℕ). SendsParts e print print' printed disk disk' other.output.disk.items) same.print
+    (subst (λ (stored : List ℕ). SendsParts e print print' run.output.print.items disk disk' stored) same.disk parts)
 
-pub sent_in_part : (a b print print' disk disk' : Option (List ℕ)) (e : RunFault) (q p : Object) (date : List ℕ) (run : Run) → IsWriterFault e → q ≡ p → AnswersRun a b q date run
+pub sent_in_part : (a b print print' disk disk' : Option (List ℕ)) (e : RunFault) (q p : Object) (date : List ℕ) (run : Run) → q ≡ p → AnswersRun a b q date run
     → SendsParts e print print' run.output.print.items disk disk' run.output.disk.items → StopsEarly a b (λ bytes. HasParts e p date bytes print print' disk disk')
-sent_in_part a b print print' disk disk' e q p date run is same answers parts = record {
+sent_in_part a b print print' disk disk' e q p date run same answers parts = record {
   read = answers.bytes;
   ended = true;
   taken = answers.taken;
   at_end = λ k. answers.ended;
   part = λ more k.
       let all : answers.bytes ++ more ≡ answers.bytes = ap (λ (rest : List ℕ). answers.bytes ++ rest) (k refl) ∙ append-nil answers.bytes in
-      subst (λ (bytes : List ℕ). HasParts e p date bytes print print' disk disk') (sym all) (parts_of e is p date answers.bytes print print' disk disk' run (run_of a b q p date run same answers) parts);
+      subst (λ (bytes : List ℕ). HasParts e p date bytes print print' disk disk') (sym all) (parts_of e p date answers.bytes print print' disk disk' run (run_of a b q p date run same answers) parts);
 }
 
 all_read : (a b : Option (List ℕ)) (bytes : List ℕ) (P : List ℕ → Type 0) → Consumes a b bytes → IsAtEnd b → P bytes → IfSome a P

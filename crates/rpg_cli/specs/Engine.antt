@@ -61,10 +61,6 @@ SendsParts e print print' printed disk disk' stored = AppendsPrefix print print'
 
 -- such parts of the output of the run over the records of the input
 abbrev pub HasParts : RunFault → Object → List ℕ → List ℕ → Option (List ℕ) → Option (List ℕ) → Option (List ℕ) → Option (List ℕ) → Type 0
-HasParts (faults.Print sent) p date input print print' disk disk' =
-    (run : Run) × IsRun p date (records input) run × SendsParts (faults.Print sent) print print' run.output.print.items disk disk' run.output.disk.items
-HasParts (faults.Disk sent) p date input print print' disk disk' =
-    (run : Run) × IsRun p date (records input) run × SendsParts (faults.Disk sent) print print' run.output.print.items disk disk' run.output.disk.items
 HasParts e p date input print print' disk disk' =
     (run : Run) → IsRun p date (records input) run → SendsParts e print print' run.output.print.items disk disk' run.output.disk.items
 
@@ -76,6 +72,18 @@ pub record StopsEarly (given left : Option (List ℕ)) (Out : List ℕ → Type 
   pub taken : Consumes given left read
   pub at_end : ended ≡ true → IsAtEnd left
   pub part : (more : List ℕ) → (ended ≡ true → more ≡ []) → Out (read ++ more)
+
+-- ---- there is one run over the same records
+
+pub record IsSameRun (one other : Run) : Type 0 where
+  pub ending : one.ending ≡ other.ending
+  pub cycles : one.cycles ≡ other.cycles
+  pub most : one.most ≡ other.most
+  pub print : one.output.print.items ≡ other.output.print.items
+  pub disk : one.output.disk.items ≡ other.output.disk.items
+
+abbrev pub RunsAreOne : Type 0
+RunsAreOne = (p : Object) (date : List ℕ) (rs : List (List ℕ)) (one other : Run) → IsRun p date rs one → IsRun p date rs other → IsSameRun one other
 
 -- ---- its parts
 

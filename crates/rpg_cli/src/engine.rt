@@ -6,7 +6,7 @@ ghost use Rattle.rpg_machine.specs.Date.{date_in};
 ghost use Rattle.rpg_object.specs.Object.{Object};
 ghost use Rattle.rpg_object.specs.Program.{first_fault};
 ghost use Rattle.rpg_cli.specs.Receiving.{ConsumesSome};
-ghost use Rattle.rpg_cli.specs.Engine.{refusal, AnswersRun, HasParts, IsReadOrMemory, IsWriterFault, RefusedBy, Reports, SendsParts, Spells, StopsEarly};
+ghost use Rattle.rpg_cli.specs.Engine.{refusal, AnswersRun, HasParts, IsReadOrMemory, IsWriterFault, RefusedBy, Reports, RunsAreOne, SendsParts, Spells, StopsEarly};
 
 use crate::fault::RunFault;
 use crate::receiving::read_all;
@@ -97,3 +97,8 @@ pub fn execute<R: Read, W1: Write, W2: Write>(
         most: run.most,
     })
 }
+
+/// A law of the definitions: over the same records, on the same date, a program has one run.
+pub fn runs_are_one()
+    ensures { RunsAreOne }
+{}

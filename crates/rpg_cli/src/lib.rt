@@ -17,7 +17,7 @@ mod tests;
 mod text;
 
 pub use answer::{Answer, Line};
-pub use engine::execute;
+pub use engine::{execute, runs_are_one};
 pub use fault::RunFault;
 pub use program::{main_with, run};
 pub use records::records_are_lines;

@@ -1,4 +1,3 @@
-use Rattle.std.proofs.Common.{ℕ, List}
 use Rattle.std.proofs.lemmas.Result.{err_from_is_err_and}
 use Rattle.rpg_cli.proofs.Stops.{at_once, undecoded, undated, unread, sent_in_part, reported}
 use Rattle.rpg_cli.specs.declared.fault.RunFault.TheVariants as faults
@@ -23,7 +22,7 @@ returns-in_err-send_output-clause-early g c =
     let e = err_from_is_err_and c.from_residual-in_err-send_output.result c.from_residual-in_err-send_output.ensures.1 in
     rw (e.1, e.2) (λ p spelled.
     sent_in_part _ _ (g.W1.Write.contents c.args.print.now) (g.W1.Write.contents c.send_output.new.print) (g.W2.Write.contents c.args.disk.now) (g.W2.Write.contents c.send_output.new.disk) _ _ p c.args.date.now c.in_ok-run.run'
-    c.in_err-send_output.ensures.only (c.in_ok-program.ensures.only p spelled.program spelled.spelled) c.in_ok-run.ensures.ok c.in_err-send_output.ensures.err)
+    (c.in_ok-program.ensures.only p spelled.program spelled.spelled) c.in_ok-run.ensures.ok c.in_err-send_output.ensures.err)
 
 pub returns-clause-report : goal.returns-clause-report
 returns-clause-report g c = λ p spelled.
