@@ -35,7 +35,7 @@ pub struct Line {
 /// The numbers and tables of a program.
 #[derive(Drop)]
 pub struct Rows {
-    /// The path cost that is allowed in a cycle, 1 to 65,535.
+    /// Backward branches and calls that a cycle may take, 1 to 65,535; no instruction is one yet.
     pub allowance: u16,
     /// Columns of a record, 1 to 9,999.
     pub record_length: u16,
