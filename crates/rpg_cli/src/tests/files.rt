@@ -118,6 +118,75 @@ fn each_fault_of_a_file_has_its_line(rt: HostRuntime) -> Result<(), Fail> {
 }
 
 #[test]
+fn wrong_steps_are_told_of_files(rt: HostRuntime) -> Result<(), Fail> {
+    let object = path(&rt, "wrong.obj")?;
+    let input = path(&rt, "wrong.txt")?;
+    let print = path(&rt, "wrong.print")?;
+    fs::write(&rt, input.as_str(), "007\n")?;
+    // An instruction's result field that isn't there, a line's field that ends behind the line, columns behind the record.
+    for (place, byte, wanted) in [
+        (144, 9, "wrong storage, cycles 1\n"),
+        (112, 6, "wrong storage, cycles 2\n"),
+        (78, 4, "wrong storage, cycles 1\n"),
+    ] {
+        fs::write(
+            &rt,
+            object.as_str(),
+            &changed(rt.alloc(), &[(place, byte)])?,
+        )?;
+        let list = [
+            "rpg2",
+            "run",
+            object.as_str(),
+            input.as_str(),
+            print.as_str(),
+            "--date",
+            "010576",
+        ];
+        let (line, status) = said(&rt, &list)?;
+        assert_eq!(rt; line.as_slice(), wanted.as_bytes());
+        assert_eq!(rt; status, 5);
+        assert!(rt; fs::read(&rt, print.as_str())?.is_empty());
+    }
+    Ok(())
+}
+
+#[test]
+fn a_file_of_67_records_has_two_pages(rt: HostRuntime) -> Result<(), Fail> {
+    let object = path(&rt, "pages.obj")?;
+    let input = path(&rt, "pages.txt")?;
+    let print = path(&rt, "pages.print")?;
+    let mut records = Vec::new(rt.alloc());
+    let mut wanted = Vec::new(rt.alloc());
+    for number in 1..=67u8 {
+        records.extend_from_slice(b"001\n")?;
+        wanted.extend_from_slice(b"000")?;
+        wanted.push(b'0' + number / 10)?;
+        wanted.push(b'0' + number % 10)?;
+        wanted.push(if number == 66 { 0x0C } else { b'\n' })?;
+    }
+    fs::write(&rt, object.as_str(), TOTAL)?;
+    fs::write(&rt, input.as_str(), &records)?;
+    let list = [
+        "rpg2",
+        "run",
+        object.as_str(),
+        input.as_str(),
+        print.as_str(),
+        "--date",
+        "010576",
+    ];
+    let (line, status) = said(&rt, &list)?;
+    assert_eq!(rt; line.as_slice(), b"end of job, cycles 68\n".as_slice());
+    assert_eq!(rt; status, 0);
+    assert_eq!(rt;
+        fs::read(&rt, print.as_str())?.as_slice(),
+        wanted.as_slice()
+    );
+    Ok(())
+}
+
+#[test]
 fn a_wrong_command_line_prints_no_line(rt: HostRuntime) -> Result<(), Fail> {
     let lists: [&[&str]; 4] = [
         &["rpg2"],
