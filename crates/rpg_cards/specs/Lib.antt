@@ -1,0 +1,4 @@
+pub mod Cards
+pub mod Names
+pub mod Files
+pub mod Operations
