@@ -8,7 +8,7 @@ use Rattle.rpg_decimal.specs.Zoned.{zoned_text}
 use Rattle.rpg_effect.specs.Effect.{Placed, OnPaper, OnDisk, Effect, Leaves, quiet, then_go, unless_wrong}
 use Rattle.rpg_effect.specs.Rows.{kind_of, length_of, has_field, has_kind}
 use Rattle.rpg_effect.specs.Values.{Value, Number, Text}
-use Rattle.rpg_effect.specs.World.{World, value_at, all_hold}
+use Rattle.rpg_effect.specs.World.{World, value_at, all_hold, three_hold}
 use Rattle.rpg_effect.specs.declared.form.Form.{Form}
 use Rattle.rpg_effect.specs.declared.line.Condition.{Condition}
 use Rattle.rpg_effect.specs.declared.line.File.{File}
@@ -131,10 +131,12 @@ module _ {K : Type 0} {R : K → K → Ordering} (forms : K → Option Form) whe
   abbrev pub field_text : World R → LineField K → List ℕ
   field_text w f = text_of (length_of (forms f.operand.field)) (value_at w f.operand.field)
 
-  -- each field is laid over the text, in order, until one is faulty
+  -- each field whose conditions hold is laid over the text, in order, until one is faulty; of the others nothing is asked
   unfoldable pub assembled : World R → ℕ → List (LineField K) → List ℕ → Drafted
   assembled w len [] text = drafted Goes text
-  assembled w len (f ∷ fs) text = unless_faulty (field_fault forms len f) text (assembled w len fs (laid_over text f.end (field_text w f)))
+  assembled w len (f ∷ fs) text =
+      if three_hold w.on f.conditions then unless_faulty (field_fault forms len f) text (assembled w len fs (laid_over text f.end (field_text w f)))
+      else assembled w len fs text
 
   -- a line is assembled whole, and then put out
   unfoldable pub line_out : Line K → World R → Effect R

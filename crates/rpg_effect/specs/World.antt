@@ -1,11 +1,12 @@
 -- What operations and output read and change. K names the fields, R orders them.
-use Rattle.std.specs.Prelude.{ℤ, Bool, true, not, ◌&&◌, List, [], ◌∷◌, Option, if◌then◌else◌}
+use Rattle.std.specs.Prelude.{ℤ, Bool, true, not, ◌&&◌, List, [], ◌∷◌, Option, None, Some, if◌then◌else◌}
 use Rattle.std.specs.Ordering.{nat_cmp}
 use Rattle.std.specs.declared.cmp.Ordering.{Ordering}
 use Rattle.std.specs.FinMap as map
 use Rattle.std.specs.FinSet as set
 use Rattle.rpg_effect.specs.Values.{Value, entry_cmp, number_of}
 use Rattle.rpg_effect.specs.declared.line.Condition.{Condition}
+use Rattle.rpg_effect.specs.declared.line.Conditions.{Conditions}
 use Rattle.rpg_effect.specs.declared.line.Paper.{Paper}
 
 -- the values by field and entry, the indicators that are on, and where the form stands
@@ -20,6 +21,14 @@ holds on c = if c.is_negated then not (set.contains on c.indicator) else set.con
 abbrev pub all_hold : set.FinSet nat_cmp → List Condition → Bool
 all_hold on [] = true
 all_hold on (c ∷ cs) = holds on c && all_hold on cs
+
+-- where no condition stands, nothing is asked
+abbrev pub holds_if_any : set.FinSet nat_cmp → Option Condition → Bool
+holds_if_any on None = true
+holds_if_any on (Some c) = holds on c
+
+abbrev pub three_hold : set.FinSet nat_cmp → Conditions → Bool
+three_hold on cs = holds_if_any on cs.first && (holds_if_any on cs.second && holds_if_any on cs.third)
 
 module _ {K : Type 0} {R : K → K → Ordering} where
   -- the value of a field that has one entry

@@ -1,16 +1,17 @@
 -- What a program keeps, as the machine uses it.
-use Rattle.std.proofs.Common.{◌≡◌, ℕ, zero, suc, ◌<◌, ℤ, pos, List, [], ◌∷◌, length, All, arith, get_or, Option, Some, slice_get, sym, ap, ◌∙◌, subst, cond}
+use Rattle.std.proofs.Common.{◌≡◌, ℕ, zero, suc, ◌<◌, ◌^◌, ℤ, pos, unsigned_abs, Bool, false, List, [], ◌∷◌, length, All, arith, get_or, Option, Some, slice_get, sym, ap, ◌∙◌, subst, cond, inl, inr}
 use Rattle.std.proofs.lemmas.Option.{get_or_from_slice_get, same_Some, slice_get-get_or, slice_get_within}
 use Rattle.std.specs.FinMap as maps
+use Rattle.std.specs.Prelude.{◌⊎◌}
 use Rattle.rpg_effect.specs.Rows.{is_date}
 use Rattle.rpg_effect.specs.Values.{Value, Number, Text}
 use Rattle.rpg_effect.specs.declared.form.Form.{Form}
 use Rattle.rpg_effect.specs.declared.form.Kind.{Kind}
 use Rattle.rpg_effect.specs.declared.form.Kind.TheVariants as kinds
-use Rattle.rpg_object.specs.Kept.{IsFieldRow, IsLineRow, IsPlainProgram, IsTypeRow}
+use Rattle.rpg_object.specs.Kept.{IsDateForm, IsFieldRow, IsLineRow, IsNumberForm, IsPlainProgram, IsTextForm, IsTypeRow}
 use Rattle.rpg_object.specs.Object.{Object}
 use Rattle.rpg_object.specs.Program.{IsProgram}
-use Rattle.rpg_object.specs.Rows.{IsNumberOf}
+use Rattle.rpg_object.specs.Rows.{IsValueOf}
 use Rattle.rpg_object.proofs.PlainRows.{program_kept}
 use Rattle.rpg_machine.specs.Contents.{contents}
 use Rattle.rpg_machine.specs.Good.{AreForms, Fits, HasForm, IsNumeric, IsSound}
@@ -22,12 +23,21 @@ use Rattle.rpg_machine.proofs.ByNumber.{get-value}
 all_at : {X : Type 0} (P : X → Type 0) (xs : List X) (k : ℕ) (x : X) → All P xs → slice_get xs k ≡ Some x → P x
 all_at P xs k x h e = subst P (get_or_from_slice_get xs k x x e) (h k x (slice_get_within xs k x e))
 
+-- a field as one that keeps its row
+abbrev IsForm : Form → Type 0
+IsForm d = IsNumberForm d ⊎ (IsTextForm d ⊎ IsDateForm d)
+
+numeric_form : (d : Form) → IsForm d → d.kind ≡ kinds.Number → IsNumeric d
+numeric_form d (inl n) k = record { low = n.shortest; high = n.longest; decimals = n.few_decimals }
+numeric_form d (inr (inl t)) k = absurd (let e : kinds.Text ≡ kinds.Number = sym t.kind ∙ k in cc)
+numeric_form d (inr (inr x)) k = record { low = omega (arith, x.digits); high = omega (arith, x.digits); decimals = omega (arith, x.decimals) }
+
 forms_sound : (fs : List Form) → All IsFieldRow fs → AreForms fs
 forms_sound fs h = record { numeric = each }
   where
     each : (field : ℕ) (d : Form) → form_at fs field ≡ Some d → d.kind ≡ kinds.Number → IsNumeric d
     each zero d e k = cc
-    each (suc n) d e k = let r = all_at IsFieldRow fs n d h e in record { low = r.shortest; high = r.longest; decimals = r.few_decimals }
+    each (suc n) d e k = numeric_form d (all_at IsFieldRow fs n d h e).form k
 
 pub sound : (p : Object) → IsProgram p → IsSound p
 sound p h =
@@ -51,31 +61,42 @@ first_at date (x ∷ ds) (y ∷ vs) zero d v e f =
     ap (λ (z : Form). Some (first_value date z y)) (same_Some x d e) ∙ ap (λ (z : Value). Some (first_value date d z)) (same_Some y v f)
 first_at date (x ∷ ds) (y ∷ vs) (suc k) d v e f = first_at date ds vs k d v e f
 
-number_form : (len : ℕ) (v : Value) → IsNumberOf len v → HasForm kinds.Number len (Some v)
-number_form len (Number n) h = h.1
-number_form len (Text t) h = absurd h
+form_of_value : (k : Kind) (len : ℕ) (v : Value) → IsValueOf k len v → HasForm k len (Some v)
+form_of_value kinds.Number len (Number n) h = h.1
+form_of_value kinds.Number len (Text t) h = absurd h
+form_of_value kinds.Text len (Number n) h = absurd h
+form_of_value kinds.Text len (Text t) h = h.0
 
-start_at : (p : Object) (date : ℤ) → IsPlainProgram p → (k : ℕ) (d : Form) → slice_get p.fields k ≡ Some d → HasForm d.kind d.length (slice_get (first_values date p.fields p.values) k)
-start_at p date h k d e =
+-- a field of that class starts with its first value
+starts_plain : (date : ℤ) (d : Form) (v : Value) → is_date d.class ≡ false → IsValueOf d.kind d.length v → HasForm d.kind d.length (Some (first_value date d v))
+starts_plain date d v e is = subst (λ (b : Bool). HasForm d.kind d.length (Some (cond b (Number date) v))) (sym e) (form_of_value d.kind d.length v is)
+
+starts : (date : ℤ) (d : Form) (v : Value) → unsigned_abs date < 10 ^ 6 → IsForm d → IsValueOf d.kind d.length v → HasForm d.kind d.length (Some (first_value date d v))
+starts date d v fits (inl n) is = starts_plain date d v (ap is_date n.class) is
+starts date d v fits (inr (inl t)) is = starts_plain date d v (ap is_date t.class) is
+starts date d v fits (inr (inr x)) is =
+    subst (λ (b : Bool). HasForm d.kind d.length (Some (cond b (Number date) v))) (sym (ap is_date x.class))
+    (subst (λ (k : Kind). HasForm k d.length (Some (Number date))) (sym x.kind) (subst (λ (n : ℕ). unsigned_abs date < 10 ^ n) (sym x.digits) fits))
+
+start_at : (p : Object) (date : ℤ) → IsPlainProgram p → unsigned_abs date < 10 ^ 6 → (k : ℕ) (d : Form) → slice_get p.fields k ≡ Some d → HasForm d.kind d.length (slice_get (first_values date p.fields p.values) k)
+start_at p date h fits k d e =
     let r = all_at IsFieldRow p.fields k d h.fields e in
     let low : k < length p.fields = slice_get_within p.fields k d e in
     let v : Value = get_or p.values k (Number (pos 0)) in
     let there : slice_get p.values k ≡ Some v = slice_get-get_or p.values k (Number (pos 0)) (omega (arith, h.values.0)) in
-    let is : IsNumberOf d.length v = subst (λ (f : Form). IsNumberOf f.length v) (get_or_from_slice_get p.fields k d d e) (subst (λ (x : Value). IsNumberOf (get_or p.fields k d).length x) (get_or_from_slice_get p.values k v v there) (h.values.1 k d v low)) in
-    let value : slice_get (first_values date p.fields p.values) k ≡ Some v = first_at date p.fields p.values k d v e there ∙ ap (λ c. Some (cond (is_date c) (Number date) v)) r.class in
-    subst (λ (x : Kind). HasForm x d.length (slice_get (first_values date p.fields p.values) k)) (sym r.kind)
-    (subst (λ (o : Option Value). HasForm kinds.Number d.length o) (sym value) (number_form d.length v is))
+    let is : IsValueOf d.kind d.length v = subst (λ (f : Form). IsValueOf f.kind f.length v) (get_or_from_slice_get p.fields k d d e) (subst (λ (x : Value). IsValueOf (get_or p.fields k d).kind (get_or p.fields k d).length x) (get_or_from_slice_get p.values k v v there) (h.values.1 k d v low)) in
+    subst (λ (o : Option Value). HasForm d.kind d.length o) (sym (first_at date p.fields p.values k d v e there)) (starts date d v fits r.form is)
 
-start_fits : (p : Object) (date : ℤ) → IsPlainProgram p → Fits p.fields (contents (first_values date p.fields p.values))
-start_fits p date h = record { each = each }
+start_fits : (p : Object) (date : ℤ) → IsPlainProgram p → unsigned_abs date < 10 ^ 6 → Fits p.fields (contents (first_values date p.fields p.values))
+start_fits p date h fits = record { each = each }
   where
     each : (field : ℕ) (d : Form) → form_at p.fields field ≡ Some d → HasForm d.kind d.length (maps.get (contents (first_values date p.fields p.values)) (field, 1))
     each zero d e = cc
-    each (suc k) d e = subst (λ (o : Option Value). HasForm d.kind d.length o) (sym (get-value (first_values date p.fields p.values) (suc k))) (start_at p date h k d e)
+    each (suc k) d e = subst (λ (o : Option Value). HasForm d.kind d.length o) (sym (get-value (first_values date p.fields p.values) (suc k))) (start_at p date h fits k d e)
 
 -- a machine is ready when it starts
-pub ready_start : (p : Object) (date : ℤ) → IsProgram p → IsReady (started p date)
-ready_start p date h = record {
-  values = start_fits p date (program_kept p h);
+pub ready_start : (p : Object) (date : ℤ) → IsProgram p → unsigned_abs date < 10 ^ 6 → IsReady (started p date)
+ready_start p date h fits = record {
+  values = start_fits p date (program_kept p h) fits;
   paper = record { low = omega arith; high = omega arith; few = omega arith };
 }

@@ -1,6 +1,7 @@
 //! The machine of object programs: sections and output lines.
 #![tactic(auto)]
 
+mod condition;
 mod date;
 mod indicators;
 mod line;

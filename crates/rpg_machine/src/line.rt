@@ -7,6 +7,7 @@ ghost use Rattle.rpg_machine.specs.Good.{AreForms, Fits};
 ghost use Rattle.rpg_machine.specs.Memory.{world_of};
 ghost use Rattle.rpg_machine.specs.Tables as tables;
 
+use crate::condition::three_hold;
 use crate::memory::Memory;
 use crate::reading::{form_at, has_field, has_kind, kind_of, length_of};
 use rpg_decimal::write_zoned;
@@ -80,7 +81,7 @@ fn lay(rows: &Rows, memory: &Memory, text: &mut Vec<u8>, field: LineField<u16>)
     }
 }
 
-/// Lays fields over the text, in order, until one is faulty.
+/// Lays the fields whose conditions hold over the text, in order, until one is faulty.
 #[tactic(auto, unfolding(rpg_effect::specs::Lines::assembled))]
 pub fn assemble(
     rows: &Rows,
@@ -96,11 +97,13 @@ pub fn assemble(
         (tables.form_at rows.now.fields.items) (world_of memory.now) len fields.now text.old.items }
 {
     'fields: for field in fields {
-        match field_fault(rows, len, *field) {
-            Some(wrong) => return Ending::Fails(wrong),
-            None => {}
+        if three_hold(&memory.on, field.conditions) {
+            match field_fault(rows, len, *field) {
+                Some(wrong) => return Ending::Fails(wrong),
+                None => {}
+            }
+            lay(rows, memory, text, *field);
         }
-        lay(rows, memory, text, *field);
     }
     Ending::Goes
 }

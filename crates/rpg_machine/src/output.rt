@@ -4,7 +4,6 @@ ghost use Rattle.std.specs.Global.{Vec};
 ghost use Rattle.rpg_effect.specs.Effect.{Leaves};
 ghost use Rattle.rpg_effect.specs.Lines as lines;
 ghost use Rattle.rpg_effect.specs.Put.{IsDone};
-ghost use Rattle.rpg_effect.specs.World as worlds;
 ghost use Rattle.rpg_effect.specs.declared.line.Condition.{Condition};
 ghost use Rattle.rpg_effect.specs.declared.outcome.Ending.TheVariants.{Goes};
 ghost use Rattle.rpg_object.specs.Object.{line_row, seen};
@@ -13,6 +12,7 @@ ghost use Rattle.rpg_machine.specs.Memory.{bytes_of, world_of};
 ghost use Rattle.rpg_machine.specs.Output as of;
 ghost use Rattle.rpg_machine.specs.Tables as tables;
 
+use crate::condition::all_hold;
 use crate::indicators::Indicators;
 use crate::line::assemble;
 use crate::memory::{Memory, Output};
@@ -27,24 +27,6 @@ use std::alloc::{AllocError, Global};
 pub enum When {
     /// At detail time: heading and detail lines.
     Detail,
-}
-
-fn holds(on: &Indicators, when: Condition) -> bool
-    ensures { result ≡ worlds.holds on.now when }
-{
-    let is_on = on.is_on(when.indicator);
-    if when.is_negated { !is_on } else { is_on }
-}
-
-fn all_hold(on: &Indicators, conditions: &[Condition]) -> bool
-    ensures { result ≡ worlds.all_hold on.now conditions.now }
-{
-    'conditions: for condition in conditions {
-        if !holds(on, *condition) {
-            return false;
-        }
-    }
-    true
 }
 
 fn is_asked(on: &Indicators, alternatives: &[Vec<Condition>]) -> bool

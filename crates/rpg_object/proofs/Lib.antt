@@ -1,3 +1,4 @@
+pub mod ConditionLaws
 pub mod FieldsLeft
 pub mod ObjectLaws
 pub mod PlainRows

@@ -1,6 +1,6 @@
 -- What rows keep, in plain words.
-use Rattle.std.proofs.Common.{◌≡◌, ℕ, zero, suc, ◌*◌, ◌<◌, ◌≤◌, Bool, true, false, cond, List, [], ◌∷◌, length, get_or, Option, Some, None, Ok, Err, refl, ap, ◌∙◌, arith, inl, inr, leb, eqb, eqb-true, ltb}
-use Rattle.std.specs.Prelude.{All, IfSome}
+use Rattle.std.proofs.Common.{◌≡◌, ℕ, zero, suc, ◌*◌, ◌<◌, ◌≤◌, Bool, true, false, cond, List, [], ◌∷◌, length, get_or, Option, Some, None, Ok, Err, refl, sym, ap, ◌∙◌, arith, inl, inr, leb, eqb, eqb-true, ltb}
+use Rattle.std.specs.Prelude.{All, IfSome, ◌⊎◌}
 use Rattle.std.proofs.lemmas.Bool.{leb-true, ltb-true, and_parts, eqb-false}
 use Rattle.rpg_effect.specs.declared.form.Class.{Class}
 use Rattle.rpg_effect.specs.declared.form.Class.TheVariants as class
@@ -22,11 +22,12 @@ use Rattle.rpg_format.specs.declared.fault.Code.TheVariants.{NotAllowed, PastLim
 use Rattle.rpg_format.specs.Format.{Format, byte, two_bytes, pair, row, times_with, table, keep, AllAlong}
 use Rattle.rpg_format.specs.Numbers.{allowed, is_between, flag_number, up_to}
 use Rattle.rpg_format.proofs.Rules.{chosen, stands_for}
+use Rattle.rpg_object.proofs.ConditionLaws.{passed}
 use Rattle.rpg_object.specs.declared.row.Move.{Move}
 use Rattle.rpg_object.specs.Object.{TypeRow, LineRow, Object}
 use Rattle.rpg_object.specs.Program.{parts, body, IsProgram}
-use Rattle.rpg_object.specs.Rows.{kind_number, kind_of, class_number, class_of, sequence_of, is_decimals, entries_within, field, storage_after, fields, HasDigits, IsNumberOf, AreNumbersOf, value, next_length, later_fields, values, indicator_of, indicator_number, move_row, type_parts, record_type, file_number, file_of, time_number, time_of, condition, alternative, line_field, alternative_count, line_parts, line, operand, instruction}
-use Rattle.rpg_object.specs.Kept.{IsFieldRow, IsMoveRow, IsTypeRow, IsConditionRow, IsAlternativeRow, IsLineFieldRow, IsLineRow, IsInstructionRow, storage_of, IsPlainProgram}
+use Rattle.rpg_object.specs.Rows.{kind_number, kind_of, class_number, class_of, shortest, longest, most_decimals, sequence_of, is_decimals, entries_within, field, storage_after, fields, HasDigits, IsValueOf, AreValuesOf, value, next_kind, next_length, later_fields, values, indicator_of, indicator_number, move_row, type_parts, record_type, file_number, file_of, time_number, time_of, condition, alternative, indicator_in, conditions, line_field, alternative_count, line_parts, line, operand, instruction}
+use Rattle.rpg_object.specs.Kept.{IsNumberForm, IsTextForm, IsDateForm, IsFieldRow, IsMoveRow, IsTypeRow, IsConditionRow, IsAlternativeRow, IsLineFieldRow, IsLineRow, IsInstructionRow, storage_of, IsPlainProgram}
 
 -- ---- tables
 
@@ -41,14 +42,6 @@ unfolding times_with
 all_from_table f Q each n xs h = all_from_along (λ s x. f.Holds x) Q keep (λ s x. each x) tt xs h.1
 
 -- ---- numbers
-
--- a number that a test takes
-passed : (test : ℕ → Bool) (n : ℕ) → allowed test n ≡ Ok n → test n ≡ true
-passed test n e =
-    elim (chosen (test n) (stands_for n) (Err NotAllowed) (stands_for n) e) [
-      | inl w ↦ w.0
-      | inr w ↦ absurd (let k = w.1 in cc)
-    ]
 
 within : (low high n : ℕ) → allowed (is_between low high) n ≡ Ok n → (low ≤ n) × (n ≤ high)
 within low high n e = let k = and_parts (leb low n) (leb n high) (passed (is_between low high) n e) in (leb-true _ _ k.0, leb-true _ _ k.1)
@@ -65,16 +58,23 @@ counted limit n e =
 
 -- ---- fields
 
-kind_is : (k : Kind) → kind_of (kind_number k) ≡ Ok k → k ≡ kind.Number
-kind_is kind.Number e = refl
-kind_is kind.Text e = absurd cc
+abbrev known : Kind → Class → Type 0
+known k class.Plain = Unit {0}
+known k class.Array = ⊥
+known k class.Table = ⊥
+known k class.Constant = ⊥
+known k class.Date = k ≡ kind.Number
 
-class_is : (c : Class) → class_of (class_number c) ≡ Ok c → c ≡ class.Plain
-class_is class.Plain e = refl
-class_is class.Array e = absurd cc
-class_is class.Table e = absurd cc
-class_is class.Constant e = absurd cc
-class_is class.Date e = absurd cc
+class_is : (k : Kind) (c : Class) → class_of k (class_number c) ≡ Ok c → known k c
+class_is k class.Plain e = tt
+class_is kind.Number class.Array e = absurd cc
+class_is kind.Number class.Table e = absurd cc
+class_is kind.Number class.Constant e = absurd cc
+class_is kind.Number class.Date e = refl
+class_is kind.Text class.Array e = absurd cc
+class_is kind.Text class.Table e = absurd cc
+class_is kind.Text class.Constant e = absurd cc
+class_is kind.Text class.Date e = absurd cc
 
 sequence_is : (b : Bool) → sequence_of (flag_number b) ≡ Ok b → b ≡ false
 sequence_is false e = refl
@@ -90,18 +90,29 @@ entries_are len storage n e =
       | inr w ↦ absurd (let k = w.1 in cc)
     ]
 
+-- numbers of the row of a field
+record IsSized (k : Kind) (c : Class) (len decimals : ℕ) : Type 0 where
+  low : shortest c ≤ len
+  high : len ≤ longest k c
+  few : decimals ≤ most_decimals k c
+  within : decimals ≤ len
+
+form_from : (k : Kind) (c : Class) (f : Form) → f.kind ≡ k → f.class ≡ c → known k c → IsSized k c f.length f.decimals → IsNumberForm f ⊎ (IsTextForm f ⊎ IsDateForm f)
+form_from kind.Number class.Plain f e g h s = inl (record { kind = e; class = g; shortest = s.low; longest = s.high; few_decimals = s.few; decimals_within = s.within })
+form_from kind.Text class.Plain f e g h s = inr (inl (record { kind = e; class = g; shortest = s.low; longest = s.high; decimals = omega (arith, s.few) }))
+form_from k class.Array f e g h s = absurd h
+form_from k class.Table f e g h s = absurd h
+form_from k class.Constant f e g h s = absurd h
+form_from kind.Number class.Date f e g h s = inr (inr (record { kind = e; class = g; digits = omega (arith, s.low, s.high); decimals = omega (arith, s.few) }))
+form_from kind.Text class.Date f e g h s = absurd (let m = h in cc)
+
 pub field_kept : (s : ℕ) (f : Form) → (field s).Holds f → IsFieldRow f
 unfolding field row pair byte two_bytes
 field_kept s f h =
-    let digits = within 1 15 f.length h.1.1.0.0 in
-    let decimals = and_parts (leb f.decimals 9) (leb f.decimals f.length) (passed (is_decimals f.length) f.decimals h.1.1.1.0.0) in
+    let digits = within (shortest f.class) (longest f.kind f.class) f.length h.1.1.0.0 in
+    let decimals = and_parts (leb f.decimals (most_decimals f.kind f.class)) (leb f.decimals f.length) (passed (is_decimals (most_decimals f.kind f.class) f.length) f.decimals h.1.1.1.0.0) in
     record {
-      kind = kind_is f.kind h.0.0;
-      class = class_is f.class h.1.0.0;
-      shortest = digits.0;
-      longest = digits.1;
-      few_decimals = leb-true _ _ decimals.0;
-      decimals_within = leb-true _ _ decimals.1;
+      form = form_from f.kind f.class f refl refl (class_is f.kind f.class h.1.0.0) (record { low = digits.0; high = digits.1; few = leb-true _ _ decimals.0; within = leb-true _ _ decimals.1 });
       sequence = sequence_is f.is_ascending h.1.1.1.1.0.0;
       entries = (entries_are f.length s f.entries h.1.1.1.1.1.0).0;
     }
@@ -122,23 +133,28 @@ pub storage_kept : (n : ℕ) (fs : List Form) → (fields n).Holds fs → storag
 unfolding fields times_with
 storage_kept n fs h = storage_along 65535 fs h.1
 
+digits_of : (f : Form) → IsNumberForm f ⊎ (IsTextForm f ⊎ IsDateForm f) → HasDigits f
+digits_of f (inl n) e = (n.shortest, n.longest)
+digits_of f (inr (inl t)) e = absurd (let k : kind.Text ≡ kind.Number = sym t.kind ∙ e in cc)
+digits_of f (inr (inr d)) e = (omega (arith, d.digits), omega (arith, d.digits))
+
 pub digits_kept : (fs : List Form) → All IsFieldRow fs → All HasDigits fs
-digits_kept fs h k d lt = let f = h k d lt in (f.shortest, f.longest)
+digits_kept fs h k d lt = digits_of _ (h k d lt).form
 
 pub fields_digits : (n : ℕ) (fs : List Form) → (fields n).Holds fs → All HasDigits fs
 fields_digits n fs h = digits_kept fs (fields_kept n fs h)
 
 -- ---- first values
 
-values_along : (fs : List Form) (vs : List Value) → length vs ≡ length fs → AllAlong (λ s v. (value (next_length s)).Holds v) later_fields fs vs
-    → (i : ℕ) (f : Form) (v : Value) → i < length fs → IsNumberOf (get_or fs i f).length (get_or vs i v)
+values_along : (fs : List Form) (vs : List Value) → length vs ≡ length fs → AllAlong (λ s v. (value (next_kind s) (next_length s)).Holds v) later_fields fs vs
+    → (i : ℕ) (f : Form) (v : Value) → i < length fs → IsValueOf (get_or fs i f).kind (get_or fs i f).length (get_or vs i v)
 unfolding value
 values_along [] vs len h i f v lt = absurd (omega arith)
 values_along (g ∷ gs) [] len h i f v lt = absurd (omega arith)
 values_along (g ∷ gs) (w ∷ ws) len h zero f v lt = h.0
 values_along (g ∷ gs) (w ∷ ws) len h (suc i) f v lt = values_along gs ws (omega arith) h.1 i f v (omega arith)
 
-pub values_kept : (fs : List Form) (vs : List Value) → (values fs).Holds vs → AreNumbersOf fs vs
+pub values_kept : (fs : List Form) (vs : List Value) → (values fs).Holds vs → AreValuesOf fs vs
 unfolding values times_with
 values_kept fs vs h = (h.0, values_along fs vs h.0 h.1)
 
@@ -187,9 +203,21 @@ alternative_kept : (a : List Condition) → alternative.Holds a → IsAlternativ
 unfolding alternative row pair two_bytes
 alternative_kept a h = record { few = counted 60 (length a) h.0.0; each = all_from_table condition IsConditionRow condition_kept (length a) a h.1 }
 
+condition_is : (o : Option Condition) → IfSome (indicator_in o) (λ n. (1 ≤ n) × (n ≤ 129)) → IfSome o IsConditionRow
+condition_is None h = tt
+condition_is (Some c) h = record { lowest = h.0; highest = h.1 }
+
 line_field_kept : (f : LineField ℕ) → line_field.Holds f → IsLineFieldRow f
-unfolding line_field row pair byte two_bytes
-line_field_kept f h = record { field = h.1.1.1.1.0.1; end = h.1.1.1.1.1.1.1.0.1 }
+unfolding line_field conditions row pair byte two_bytes
+line_field_kept f h =
+    let c = h.1.1.1.1.1.1.1.1 in
+    record {
+      field = h.1.1.1.1.0.1;
+      end = h.1.1.1.1.1.1.1.0.1;
+      first = condition_is f.conditions.first (indicator_is (indicator_in f.conditions.first) c.0.0);
+      second = condition_is f.conditions.second (indicator_is (indicator_in f.conditions.second) c.1.0.0);
+      third = condition_is f.conditions.third (indicator_is (indicator_in f.conditions.third) c.1.1.0.0);
+    }
 
 one_alternative : (n : ℕ) → alternative_count n ≡ Ok n → n ≡ 1
 one_alternative n e =

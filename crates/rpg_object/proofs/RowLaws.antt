@@ -1,6 +1,5 @@
 -- The laws of the formats of rows.
 use Rattle.std.proofs.Common.{◌≡◌, ℕ, ◌*◌, Bool, true, false, cond, List, [], ◌∷◌, length, Some, None, Err, refl, sym, ap, ◌∙◌, inl, inr, eqb, leb, ltb, eqb-true}
-use Rattle.rpg_effect.specs.declared.form.Class.TheVariants as class
 use Rattle.rpg_effect.specs.declared.form.Kind.TheVariants as kind
 use Rattle.rpg_effect.specs.declared.line.File.TheVariants.{Printer}
 use Rattle.rpg_effect.specs.declared.line.Time.TheVariants as time
@@ -12,9 +11,10 @@ use Rattle.rpg_format.specs.Format.{Format, two_bytes, pair, row, times_with, ta
 use Rattle.rpg_format.specs.Numbers.{is_between, flag_number, up_to, count}
 use Rattle.rpg_format.proofs.Laws.{IsFormat, IsRule, byte_law, two_law, pair_law, row_law, times_law, table_law}
 use Rattle.rpg_format.proofs.Rules.{chosen, stands_for, value_is, guarded, choice_rule, up_to_rule, number_law, any_number_law, byte_where_law, yes_or_no_law, count_law, only_byte_law, only_number_law}
+use Rattle.rpg_object.proofs.ConditionLaws.{indicator_rule, conditions_law}
 use Rattle.rpg_object.specs.declared.instruction.Operation.{Operation}
 use Rattle.rpg_object.specs.declared.instruction.Operation.TheVariants as op
-use Rattle.rpg_object.specs.Rows.{kind_number, class_number, is_decimals, entries_within, field, storage_after, fields, indicator_of, indicator_number, move_row, TypeParts, type_parts, record_type, file_number, time_number, condition, counted_rows, alternative, line_field, alternative_count, LineParts, line_parts, line, operation_number, has_factor1, used, index_code, operand, numbers, action_of, numbers_of, instruction}
+use Rattle.rpg_object.specs.Rows.{kind_number, class_number, classes_of, shortest, longest, most_decimals, is_decimals, entries_within, field, storage_after, fields, indicator_of, indicator_number, move_row, TypeParts, type_parts, record_type, file_number, time_number, condition, counted_rows, alternative, line_field, alternative_count, LineParts, line_parts, line, operation_number, has_factor1, used, index_code, operand, numbers, action_of, numbers_of, instruction}
 
 -- ---- fields
 
@@ -29,10 +29,10 @@ pub field_law : (storage : ℕ) → IsFormat (field storage)
 unfolding field
 field_law storage =
     row_law _ _ _ (λ a h. refl) (λ x. refl)
-    (pair_law _ _ (byte_law _ _ (choice_rule (kind.Number ∷ []) kind_number)) (λ k.
-    pair_law _ _ (byte_law _ _ (choice_rule (class.Plain ∷ []) class_number)) (λ c.
-    pair_law _ _ (number_law (is_between 1 15)) (λ len.
-    pair_law _ _ (byte_where_law (is_decimals len)) (λ decimals.
+    (pair_law _ _ (byte_law _ _ (choice_rule (kind.Number ∷ kind.Text ∷ []) kind_number)) (λ k.
+    pair_law _ _ (byte_law _ _ (choice_rule (classes_of k) class_number)) (λ c.
+    pair_law _ _ (number_law (is_between (shortest c) (longest k c))) (λ len.
+    pair_law _ _ (byte_where_law (is_decimals (most_decimals k c) len)) (λ decimals.
     pair_law _ _ (byte_law _ _ (choice_rule (false ∷ []) flag_number)) (λ is_ascending.
     two_law _ _ (entries_rule len storage)))))))
 
@@ -41,13 +41,6 @@ unfolding fields
 fields_law n = times_law field storage_after field_law n 65535
 
 -- ---- record types
-
-indicator_rule : IsRule indicator_of indicator_number
-indicator_rule n x e =
-    elim (chosen (eqb n 0) (stands_for None) (cond (leb n 129) (stands_for (Some n)) (Err NotAllowed)) (stands_for x) e) [
-      | inl w ↦ ap indicator_number (sym (value_is None x w.1)) ∙ sym (eqb-true _ _ w.0)
-      | inr w ↦ sym (ap indicator_number (guarded (leb n 129) NotAllowed (Some n) x w.1))
-    ]
 
 pub move_law : IsFormat move_row
 unfolding move_row
@@ -99,8 +92,7 @@ unfolding line_field
 line_field_law =
     row_law _ _ _ (λ a h. refl) (λ x. refl)
     (pair_law _ _ (only_byte_law 1 NotAllowed) (λ k. pair_law _ _ (only_byte_law 0 NotAllowed) (λ edit. pair_law _ _ (only_byte_law 0 NotAllowed) (λ fill. pair_law _ _ (only_byte_law 0 NotAllowed) (λ blank_after.
-    pair_law _ _ any_number_law (λ f. pair_law _ _ (only_number_law 0 NotAllowed) (λ index. pair_law _ _ (only_number_law 0 NotAllowed) (λ word. pair_law _ _ any_number_law (λ end.
-    pair_law _ _ (only_byte_law 0 NotAllowed) (λ first. pair_law _ _ (only_byte_law 0 NotAllowed) (λ second. pair_law _ _ (only_byte_law 0 NotAllowed) (λ third. only_byte_law 0 NotAllowed))))))))))))
+    pair_law _ _ any_number_law (λ f. pair_law _ _ (only_number_law 0 NotAllowed) (λ index. pair_law _ _ (only_number_law 0 NotAllowed) (λ word. pair_law _ _ any_number_law (λ end. conditions_law)))))))))
 
 alternative_rule : IsRule alternative_count (λ n. n)
 alternative_rule n x e =

@@ -1,11 +1,14 @@
 -- Rows that keep the plain words are rows of an object program.
-use Rattle.std.proofs.Common.{◌≡◌, ℕ, suc, ◌*◌, ◌^◌, ◌<◌, ◌≤◌, Bool, true, false, List, [], ◌∷◌, length, get_or, Option, Some, None, Ok, refl, sym, ap, subst, arith, leb, eqb, eq-eqb, ne_eqb}
-use Rattle.std.specs.Prelude.{All, IfSome}
-use Rattle.std.proofs.lemmas.Bool.{le-leb, and_from}
+use Rattle.std.proofs.Common.{◌≡◌, ℕ, suc, ◌*◌, ◌^◌, ◌<◌, ◌≤◌, Bool, true, false, not, List, [], ◌∷◌, length, get_or, Option, Some, None, Ok, refl, sym, ap, subst, arith, leb, eqb, eq-eqb, ne_eqb, inl, inr}
+use Rattle.std.specs.Prelude.{All, IfSome, ◌⊎◌}
+use Rattle.std.proofs.lemmas.Bool.{le-leb, leb-true, and_from}
 use Rattle.rpg_effect.specs.declared.form.Class.{Class}
+use Rattle.rpg_effect.specs.declared.form.Class.TheVariants as class
 use Rattle.rpg_effect.specs.declared.form.Form.{Form}
 use Rattle.rpg_effect.specs.declared.form.Kind.{Kind}
+use Rattle.rpg_effect.specs.declared.form.Kind.TheVariants as kind
 use Rattle.rpg_effect.specs.declared.line.Condition.{Condition}
+use Rattle.rpg_effect.specs.declared.line.Conditions.{Conditions}
 use Rattle.rpg_effect.specs.declared.line.File.{File}
 use Rattle.rpg_effect.specs.declared.line.LineField.{LineField}
 use Rattle.rpg_effect.specs.declared.line.Moves.{Moves}
@@ -16,11 +19,12 @@ use Rattle.rpg_effect.specs.declared.operation.Instruction.TheVariants.{Act}
 use Rattle.rpg_effect.specs.Values.{Value}
 use Rattle.rpg_format.specs.Format.{Format, byte, two_bytes, pair, row, times_with, table, keep, AllAlong}
 use Rattle.rpg_format.specs.Numbers.{allowed, is_between, flag, flag_number, up_to}
+use Rattle.rpg_object.proofs.ConditionLaws.{has_bits}
 use Rattle.rpg_object.specs.declared.row.Move.{Move}
 use Rattle.rpg_object.specs.Object.{TypeRow, LineRow, Object}
 use Rattle.rpg_object.specs.Program.{parts, body, IsProgram}
-use Rattle.rpg_object.specs.Rows.{kind_number, kind_of, class_number, class_of, sequence_of, is_decimals, entries_within, field, storage_after, fields, IsNumberOf, AreNumbersOf, value, next_length, later_fields, values, indicator_of, indicator_number, move_row, type_parts, record_type, file_number, file_of, time_number, time_of, condition, alternative, line_field, alternative_count, line_parts, line, operand, instruction}
-use Rattle.rpg_object.specs.Kept.{IsFieldRow, IsMoveRow, IsTypeRow, IsConditionRow, IsAlternativeRow, IsLineFieldRow, IsLineRow, IsInstructionRow, storage_of, IsPlainProgram}
+use Rattle.rpg_object.specs.Rows.{kind_number, kind_of, class_number, class_of, shortest, longest, most_decimals, sequence_of, is_decimals, entries_within, field, storage_after, fields, IsValueOf, AreValuesOf, value, next_kind, next_length, later_fields, values, indicator_of, indicator_number, move_row, type_parts, record_type, file_number, file_of, time_number, time_of, condition, alternative, has_bit, may_negate, are_negations, indicator_in, is_negation, negations_of, conditions, line_field, alternative_count, line_parts, line, operand, instruction}
+use Rattle.rpg_object.specs.Kept.{IsNumberForm, IsTextForm, IsDateForm, IsFieldRow, IsMoveRow, IsTypeRow, IsConditionRow, IsAlternativeRow, IsLineFieldRow, IsLineRow, IsInstructionRow, storage_of, IsPlainProgram}
 
 -- ---- tables
 
@@ -51,20 +55,67 @@ few limit n h = rw (le-leb n limit h) refl
 
 -- ---- fields
 
+-- the numbers of the row of a field
+record IsSized (f : Form) : Type 0 where
+  kind : kind_of (kind_number f.kind) ≡ Ok f.kind
+  class : class_of f.kind (class_number f.class) ≡ Ok f.class
+  low : shortest f.class ≤ f.length
+  high : f.length ≤ longest f.kind f.class
+  few : f.decimals ≤ most_decimals f.kind f.class
+  within : f.decimals ≤ f.length
+
+sized : (k : Kind) (c : Class) (f : Form) → f.kind ≡ k → f.class ≡ c → kind_of (kind_number k) ≡ Ok k → class_of k (class_number c) ≡ Ok c → shortest c ≤ f.length → f.length ≤ longest k c → f.decimals ≤ most_decimals k c → f.decimals ≤ f.length → IsSized f
+sized k c f e g a b low high few within = record {
+  kind = subst (λ (x : Kind). kind_of (kind_number x) ≡ Ok x) (sym e) a;
+  class = rw (e, g) b;
+  low = rw g low;
+  high = rw (e, g) high;
+  few = rw (e, g) few;
+  within = within;
+}
+
+form_sized : (f : Form) → IsNumberForm f ⊎ (IsTextForm f ⊎ IsDateForm f) → IsSized f
+form_sized f (inl n) = sized kind.Number class.Plain f n.kind n.class refl refl n.shortest n.longest n.few_decimals n.decimals_within
+form_sized f (inr (inl t)) = sized kind.Text class.Plain f t.kind t.class refl refl t.shortest t.longest (omega (arith, t.decimals)) (omega (arith, t.decimals))
+form_sized f (inr (inr d)) = sized kind.Number class.Date f d.kind d.class refl refl (omega (arith, d.digits)) (omega (arith, d.digits)) (omega (arith, d.decimals)) (omega (arith, d.decimals))
+
+kind_small : (k : Kind) → kind_number k < 2 ^ 8
+kind_small kind.Number = omega arith
+kind_small kind.Text = omega arith
+
+class_small : (c : Class) → class_number c < 2 ^ 8
+class_small class.Plain = omega arith
+class_small class.Array = omega arith
+class_small class.Table = omega arith
+class_small class.Constant = omega arith
+class_small class.Date = omega arith
+
+longest_small : (k : Kind) (c : Class) → (longest k c ≤ 256) × (most_decimals k c ≤ 9)
+longest_small kind.Text c = (omega arith, omega arith)
+longest_small kind.Number class.Plain = (omega arith, omega arith)
+longest_small kind.Number class.Array = (omega arith, omega arith)
+longest_small kind.Number class.Table = (omega arith, omega arith)
+longest_small kind.Number class.Constant = (omega arith, omega arith)
+longest_small kind.Number class.Date = (omega arith, omega arith)
+
 pub field_from : (s : ℕ) (f : Form) → IsFieldRow f → f.length * f.entries ≤ s → (field s).Holds f
 unfolding field row pair byte two_bytes
 field_from s f h storage =
-    let len = between 1 15 f.length h.shortest h.longest in
-    let decimals = taken (is_decimals f.length) f.decimals (and_from (leb f.decimals 9) (leb f.decimals f.length) (le-leb _ _ h.few_decimals) (le-leb _ _ h.decimals_within)) in
+    let z = form_sized f h.form in
+    let small = longest_small f.kind f.class in
+    let len = between (shortest f.class) (longest f.kind f.class) f.length z.low z.high in
+    let decimals = taken (is_decimals (most_decimals f.kind f.class) f.length) f.decimals (and_from (leb f.decimals (most_decimals f.kind f.class)) (leb f.decimals f.length) (le-leb _ _ z.few) (le-leb _ _ z.within)) in
     let one : (entries_within f.length s 1 ≡ Ok 1) = let fits : f.length * 1 ≤ s = subst (λ (n : ℕ). f.length * n ≤ s) h.entries storage in rw (le-leb (f.length * 1) s fits) refl in
-    let entries : entries_within f.length s f.entries ≡ Ok f.entries = subst (λ (n : ℕ). entries_within f.length s n ≡ Ok n) (sym h.entries) one in
-    let longest = h.longest in let few_decimals = h.few_decimals in let is_one = h.entries in (
-      subst (λ (k : Kind). (kind_of (kind_number k) ≡ Ok k) × (kind_number k < 2 ^ 8)) (sym h.kind) (refl, omega arith),
+    let entries : entries_within f.length s f.entries ≡ Ok f.entries = subst (λ (n : ℕ). entries_within f.length s n ≡ Ok n) (sym h.entries) one in (
+      (z.kind, kind_small f.kind),
       (
-        subst (λ (k : Class). (class_of (class_number k) ≡ Ok k) × (class_number k < 2 ^ 8)) (sym h.class) (refl, omega arith),
+        (z.class, class_small f.class),
         (
-          (len, omega arith),
-          ((decimals, omega arith), (subst (λ (b : Bool). (sequence_of (flag_number b) ≡ Ok b) × (flag_number b < 2 ^ 8)) (sym h.sequence) (refl, omega arith), (entries, omega arith))),
+          (len, omega (arith, z.high, small.0)),
+          (
+            (decimals, omega (arith, z.few, small.1)),
+            (subst (λ (b : Bool). (sequence_of (flag_number b) ≡ Ok b) × (flag_number b < 2 ^ 8)) (sym h.sequence) (refl, omega arith), (entries, omega (arith, h.entries))),
+          ),
         ),
       ),
     )
@@ -79,14 +130,14 @@ fields_from fs h storage = (refl, fields_along 65535 fs h storage)
 
 -- ---- first values
 
-values_along : (fs : List Form) (vs : List Value) → length vs ≡ length fs → ((i : ℕ) (f : Form) (v : Value) → i < length fs → IsNumberOf (get_or fs i f).length (get_or vs i v)) → AllAlong (λ s v. (value (next_length s)).Holds v) later_fields fs vs
+values_along : (fs : List Form) (vs : List Value) → length vs ≡ length fs → ((i : ℕ) (f : Form) (v : Value) → i < length fs → IsValueOf (get_or fs i f).kind (get_or fs i f).length (get_or vs i v)) → AllAlong (λ s v. (value (next_kind s) (next_length s)).Holds v) later_fields fs vs
 unfolding value
 values_along [] [] len h = tt
 values_along [] (v ∷ vs) len h = absurd (omega arith)
 values_along (f ∷ fs) [] len h = absurd (omega arith)
 values_along (f ∷ fs) (v ∷ vs) len h = (h 0 f v (omega arith), values_along fs vs (omega arith) (λ i g w lt. h (suc i) g w (omega arith)))
 
-pub values_from : (fs : List Form) (vs : List Value) → AreNumbersOf fs vs → (values fs).Holds vs
+pub values_from : (fs : List Form) (vs : List Value) → AreValuesOf fs vs → (values fs).Holds vs
 unfolding values times_with
 values_from fs vs h = (h.0, values_along fs vs h.0 h.1)
 
@@ -120,10 +171,42 @@ alternative_from : (a : List Condition) → IsAlternativeRow a → alternative.H
 unfolding alternative row pair two_bytes
 alternative_from a h = let small = h.few in ((few 60 (length a) h.few, omega arith), table_from_all condition IsConditionRow condition_from a h.each)
 
+condition_in : (o : Option Condition) → IfSome o IsConditionRow → IfSome (indicator_in o) (λ n. (1 ≤ n) × (n ≤ 129))
+condition_in None h = tt
+condition_in (Some c) h = (h.lowest, h.highest)
+
+negatable : (o : Option Condition) (b : Bool) → b ≡ is_negation o → may_negate (indicator_in o) b ≡ true
+negatable None b e = ap not e
+negatable (Some c) b e = refl
+
+negations_from : (cs : Conditions) → are_negations (indicator_in cs.first) (indicator_in cs.second) (indicator_in cs.third) (negations_of cs) ≡ true
+negations_from cs =
+    let n = negations_of cs in
+    let b = has_bits (is_negation cs.first) (is_negation cs.second) (is_negation cs.third) in
+    let one = negatable cs.first (has_bit 1 n) b.first in
+    let two = negatable cs.second (has_bit 2 n) b.second in
+    let last = negatable cs.third (has_bit 4 n) b.third in
+    and_from (leb n 7) _ b.small (and_from (may_negate (indicator_in cs.first) (has_bit 1 n)) _ one (and_from (may_negate (indicator_in cs.second) (has_bit 2 n)) (may_negate (indicator_in cs.third) (has_bit 4 n)) two last))
+
+conditions_from : (cs : Conditions) → IfSome cs.first IsConditionRow → IfSome cs.second IsConditionRow → IfSome cs.third IsConditionRow → conditions.Holds cs
+unfolding conditions row pair byte
+conditions_from cs one two last =
+    let n = negations_of cs in
+    let small = leb-true n 7 (has_bits (is_negation cs.first) (is_negation cs.second) (is_negation cs.third)).small in (
+      indicator_from (indicator_in cs.first) (condition_in cs.first one),
+      (
+        indicator_from (indicator_in cs.second) (condition_in cs.second two),
+        (
+          indicator_from (indicator_in cs.third) (condition_in cs.third last),
+          (taken (are_negations (indicator_in cs.first) (indicator_in cs.second) (indicator_in cs.third)) n (negations_from cs), omega (arith, small)),
+        ),
+      ),
+    )
+
 line_field_from : (f : LineField ℕ) → IsLineFieldRow f → line_field.Holds f
 unfolding line_field row pair byte two_bytes
 line_field_from f h =
-    ((refl, omega arith), ((refl, omega arith), ((refl, omega arith), ((refl, omega arith), ((refl, h.field), ((refl, omega arith), ((refl, omega arith), ((refl, h.end), ((refl, omega arith), ((refl, omega arith), ((refl, omega arith), (refl, omega arith))))))))))))
+    ((refl, omega arith), ((refl, omega arith), ((refl, omega arith), ((refl, omega arith), ((refl, h.field), ((refl, omega arith), ((refl, omega arith), ((refl, h.end), conditions_from f.conditions h.first h.second h.third))))))))
 
 movement : (m k : ℕ) → m ≡ k → k < 2 ^ 8 → (allowed (λ n. eqb n k) m ≡ Ok m) × (m < 2 ^ 8)
 movement m k e small = (taken (λ n. eqb n k) m (eq-eqb m k e), omega arith)

@@ -1,5 +1,5 @@
 -- What the rows of an object program keep, in plain words.
-use Rattle.std.specs.Prelude.{◌≡◌, ℕ, ◌+◌, ◌*◌, ◌^◌, ◌<◌, ◌≤◌, false, List, [], ◌∷◌, length, All, IfSome}
+use Rattle.std.specs.Prelude.{◌≡◌, ℕ, ◌+◌, ◌*◌, ◌^◌, ◌<◌, ◌≤◌, ◌⊎◌, false, List, [], ◌∷◌, length, All, IfSome}
 use Rattle.rpg_effect.specs.declared.form.Class.TheVariants as class
 use Rattle.rpg_effect.specs.declared.form.Form.{Form}
 use Rattle.rpg_effect.specs.declared.form.Kind.TheVariants as kind
@@ -12,16 +12,35 @@ use Rattle.rpg_effect.specs.declared.operation.Instruction.{Instruction}
 use Rattle.rpg_effect.specs.declared.operation.Instruction.TheVariants.{Act}
 use Rattle.rpg_object.specs.declared.row.Move.{Move}
 use Rattle.rpg_object.specs.Object.{TypeRow, LineRow, Object}
-use Rattle.rpg_object.specs.Rows.{AreNumbersOf}
+use Rattle.rpg_object.specs.Rows.{AreValuesOf}
 
--- a plain number of 1 to 15 digits, in one entry
-pub record IsFieldRow (f : Form) : Type 0 where
+-- a plain number of 1 to 15 digits
+pub record IsNumberForm (f : Form) : Type 0 where
   pub kind : f.kind ≡ kind.Number
   pub class : f.class ≡ class.Plain
   pub shortest : 1 ≤ f.length
   pub longest : f.length ≤ 15
   pub few_decimals : f.decimals ≤ 9
   pub decimals_within : f.decimals ≤ f.length
+
+-- a plain text of 1 to 256 characters
+pub record IsTextForm (f : Form) : Type 0 where
+  pub kind : f.kind ≡ kind.Text
+  pub class : f.class ≡ class.Plain
+  pub shortest : 1 ≤ f.length
+  pub longest : f.length ≤ 256
+  pub decimals : f.decimals ≡ 0
+
+-- the date, a number of 6 digits
+pub record IsDateForm (f : Form) : Type 0 where
+  pub kind : f.kind ≡ kind.Number
+  pub class : f.class ≡ class.Date
+  pub digits : f.length ≡ 6
+  pub decimals : f.decimals ≡ 0
+
+-- a number, a text or the date, in one entry
+pub record IsFieldRow (f : Form) : Type 0 where
+  pub form : IsNumberForm f ⊎ (IsTextForm f ⊎ IsDateForm f)
   pub sequence : f.is_ascending ≡ false
   pub entries : f.entries ≡ 1
 
@@ -44,10 +63,13 @@ pub record IsAlternativeRow (conditions : List Condition) : Type 0 where
   pub few : length conditions ≤ 60
   pub each : All IsConditionRow conditions
 
--- a field and an end position, any numbers of two bytes
+-- a field and an end position, any numbers of two bytes, and up to three conditions
 pub record IsLineFieldRow (f : LineField ℕ) : Type 0 where
   pub field : f.operand.field < 2 ^ 16
   pub end : f.end < 2 ^ 16
+  pub first : IfSome f.conditions.first IsConditionRow
+  pub second : IfSome f.conditions.second IsConditionRow
+  pub third : IfSome f.conditions.third IsConditionRow
 
 -- a detail line on the printer, spaced once after
 pub record IsLineRow (l : LineRow) : Type 0 where
@@ -79,7 +101,7 @@ pub record IsPlainProgram (p : Object) : Type 0 where
   pub few_fields : length p.fields ≤ 4000
   pub fields : All IsFieldRow p.fields
   pub storage : storage_of p.fields ≤ 65535
-  pub values : AreNumbersOf p.fields p.values
+  pub values : AreValuesOf p.fields p.values
   pub few_types : length p.types ≤ 200
   pub types : All IsTypeRow p.types
   pub few_lines : length p.lines ≤ 1000

@@ -1,5 +1,6 @@
 -- The formats of rows, number by number.
-use Rattle.std.specs.Prelude.{◌≡◌, ℕ, ◌-◌, ◌*◌, ◌/◌, ◌%◌, ◌^◌, ◌<◌, ◌≤◌, ℤ, unsigned_abs, List, [], ◌∷◌, length, take, drop, slice_index_or, Bool, true, false, ◌&&◌, ◌==◌, nat_lt, nat_le, if◌then◌else◌, Option, Some, None, Result, Ok, Err}
+use Rattle.std.specs.Prelude.{◌≡◌, ℕ, ◌-◌, ◌+◌, ◌*◌, ◌/◌, ◌%◌, ◌^◌, ◌<◌, ◌≤◌, ℤ, unsigned_abs, List, [], ◌∷◌, length, take, drop, slice_index_or, Bool, true, false, not, ◌&&◌, ◌||◌, ◌==◌, nat_lt, nat_le, if◌then◌else◌, Option, Some, None, option_map, Result, Ok, Err}
+use Rattle.std.specs.List.{list_all, AllPass}
 use Rattle.std.specs.Str.{bytes_eq}
 use Rattle.rpg_decimal.specs.Zoned.{number_in, zoned_text}
 use Rattle.rpg_effect.specs.declared.form.Class.{Class}
@@ -8,6 +9,7 @@ use Rattle.rpg_effect.specs.declared.form.Form.{Form}
 use Rattle.rpg_effect.specs.declared.form.Kind.{Kind}
 use Rattle.rpg_effect.specs.declared.form.Kind.TheVariants as kind
 use Rattle.rpg_effect.specs.declared.line.Condition.{Condition}
+use Rattle.rpg_effect.specs.declared.line.Conditions.{Conditions}
 use Rattle.rpg_effect.specs.declared.line.File.{File}
 use Rattle.rpg_effect.specs.declared.line.File.TheVariants.{Printer, Disk}
 use Rattle.rpg_effect.specs.declared.line.LineField.{LineField}
@@ -17,6 +19,7 @@ use Rattle.rpg_effect.specs.declared.operation.Action.{Action}
 use Rattle.rpg_effect.specs.declared.operation.Action.TheVariants as actions
 use Rattle.rpg_effect.specs.declared.operation.Instruction.{Instruction}
 use Rattle.rpg_effect.specs.declared.operation.Instruction.TheVariants.{Act}
+use Rattle.rpg_effect.specs.Rows.{is_date}
 use Rattle.rpg_effect.specs.Values.{Value, Number, Text}
 use Rattle.rpg_format.specs.declared.fault.Code.{Code}
 use Rattle.rpg_format.specs.declared.fault.Code.TheVariants.{NotAllowed, Unused, PastLimit}
@@ -61,20 +64,37 @@ class_number class.Table = 2
 class_number class.Constant = 3
 class_number class.Date = 4
 
--- the kinds that fields have so far
 abbrev pub kind_of : ℕ → Result Kind Code
-kind_of = choice (kind.Number ∷ []) kind_number
+kind_of = choice (kind.Number ∷ kind.Text ∷ []) kind_number
 
-abbrev pub class_of : ℕ → Result Class Code
-class_of = choice (class.Plain ∷ []) class_number
+-- the classes that fields of a kind have so far; the date is a number
+abbrev pub classes_of : Kind → List Class
+classes_of kind.Number = class.Plain ∷ class.Date ∷ []
+classes_of kind.Text = class.Plain ∷ []
+
+abbrev pub class_of : Kind → ℕ → Result Class Code
+class_of k = choice (classes_of k) class_number
+
+-- the date has 6 digits; other numbers have 1 to 15, texts 1 to 256 characters
+abbrev pub shortest : Class → ℕ
+shortest c = if is_date c then 6 else 1
+
+abbrev pub longest : Kind → Class → ℕ
+longest kind.Number c = if is_date c then 6 else 15
+longest kind.Text c = 256
+
+-- the date and texts have no decimals
+abbrev pub most_decimals : Kind → Class → ℕ
+most_decimals kind.Number c = if is_date c then 0 else 9
+most_decimals kind.Text c = 0
 
 -- in no sequence yet
 abbrev pub sequence_of : ℕ → Result Bool Code
 sequence_of = choice (false ∷ []) flag_number
 
--- at most 9, and no more than digits
-abbrev pub is_decimals : ℕ → ℕ → Bool
-is_decimals digits n = nat_le n 9 && nat_le n digits
+-- so many at most, and no more than digits
+abbrev pub is_decimals : ℕ → ℕ → ℕ → Bool
+is_decimals most digits n = nat_le n most && nat_le n digits
 
 -- the entries, whose bytes must lie within the storage that is left
 abbrev pub entries_within : ℕ → ℕ → ℕ → Result ℕ Code
@@ -86,9 +106,9 @@ field storage = row
     (λ p. record { kind = p.0; class = p.1.0; length = p.1.1.0; decimals = p.1.1.1.0; is_ascending = p.1.1.1.1.0; entries = p.1.1.1.1.1 })
     (λ f. (f.kind, (f.class, (f.length, (f.decimals, (f.is_ascending, f.entries))))))
     (pair (byte kind_of kind_number) (λ k.
-    pair (byte class_of class_number) (λ c.
-    pair (number_where (is_between 1 15)) (λ len.
-    pair (byte_where (is_decimals len)) (λ decimals.
+    pair (byte (class_of k) class_number) (λ c.
+    pair (number_where (is_between (shortest c) (longest k c))) (λ len.
+    pair (byte_where (is_decimals (most_decimals k c) len)) (λ decimals.
     pair (byte sequence_of flag_number) (λ is_ascending.
     two_bytes (entries_within len storage) (λ n. n)))))))
 
@@ -110,35 +130,49 @@ abbrev pub as_value : Result ℤ Code → Result Value Code
 as_value (Ok n) = Ok (Number n)
 as_value (Err c) = Err c
 
-abbrev pub read_value : ℕ → List ℕ → Result (Value × List ℕ) Fault
-read_value len bytes =
+abbrev pub is_character : ℕ → Bool
+is_character c = is_between 32 126 c
+
+-- the value of that kind that a text stands for
+abbrev pub value_in : Kind → List ℕ → Result Value Code
+value_in kind.Number text = as_value (as_written text (number_in text))
+value_in kind.Text text = if list_all is_character text then Ok (Text text) else Err NotAllowed
+
+abbrev pub read_value : Kind → ℕ → List ℕ → Result (Value × List ℕ) Fault
+read_value k len bytes =
     if nat_lt (length bytes) len then Err ends_early
-    else ruled bytes (drop len bytes) (as_value (as_written (take len bytes) (number_in (take len bytes))))
+    else ruled bytes (drop len bytes) (value_in k (take len bytes))
 
 abbrev pub value_text : ℕ → Value → List ℕ
 value_text len (Number n) = zoned_text len n
 value_text len (Text text) = text
 
--- a number of so many digits
-abbrev pub IsNumberOf : ℕ → Value → Type 0
-IsNumberOf len (Number n) = (1 ≤ len) × (unsigned_abs n < 10 ^ len)
-IsNumberOf len (Text text) = ⊥
+-- a number of so many digits, or a text of so many characters
+abbrev pub IsValueOf : Kind → ℕ → Value → Type 0
+IsValueOf kind.Number len (Number n) = (1 ≤ len) × (unsigned_abs n < 10 ^ len)
+IsValueOf kind.Number len (Text text) = ⊥
+IsValueOf kind.Text len (Number n) = ⊥
+IsValueOf kind.Text len (Text text) = (length text ≡ len) × AllPass is_character text
 
--- the value of a field's entry, in as many bytes as the field has digits
-unfoldable pub value : ℕ → Format Value
-value len = record {
+-- the value of a field's entry, in as many bytes as the field is long
+unfoldable pub value : Kind → ℕ → Format Value
+value k len = record {
   spelling = value_text len;
-  Holds = IsNumberOf len;
-  reading = read_value len;
+  Holds = IsValueOf k len;
+  reading = read_value k len;
 }
 
--- 1 to 15 digits
+-- 1 to 15 digits, where it is a number
 abbrev pub HasDigits : Form → Type 0
-HasDigits f = (1 ≤ f.length) × (f.length ≤ 15)
+HasDigits f = f.kind ≡ kind.Number → (1 ≤ f.length) × (f.length ≤ 15)
 
--- a number for each field, of as many digits as the field has
-abbrev pub AreNumbersOf : List Form → List Value → Type 0
-AreNumbersOf fs vs = (length vs ≡ length fs) × ((i : ℕ) (f : Form) (v : Value) → i < length fs → IsNumberOf (slice_index_or fs i f).length (slice_index_or vs i v))
+-- a value for each field, of its kind and as long as it
+abbrev pub AreValuesOf : List Form → List Value → Type 0
+AreValuesOf fs vs = (length vs ≡ length fs) × ((i : ℕ) (f : Form) (v : Value) → i < length fs → IsValueOf (slice_index_or fs i f).kind (slice_index_or fs i f).length (slice_index_or vs i v))
+
+abbrev pub next_kind : List Form → Kind
+next_kind [] = kind.Number
+next_kind (f ∷ fs) = f.kind
 
 abbrev pub next_length : List Form → ℕ
 next_length [] = 0
@@ -150,7 +184,7 @@ later_fields (f ∷ fs) v = fs
 
 -- a value for each field
 unfoldable pub values : List Form → Format (List Value)
-values fs = times_with (λ s. value (next_length s)) later_fields (length fs) fs
+values fs = times_with (λ s. value (next_kind s) (next_length s)) later_fields (length fs) fs
 
 -- ---- record types
 
@@ -217,14 +251,62 @@ counted_rows limit f = row (λ p. p.1) (λ xs. (length xs, xs)) (pair (count lim
 unfoldable pub alternative : Format (List Condition)
 alternative = counted_rows 60 condition
 
--- kind, edit code, fill, blank after, field, index, edit word, end, three indicators, N bits
+-- which of three conditions are negated: 1 for the first, 2 for the second, 4 for the third
+abbrev pub has_bit : ℕ → ℕ → Bool
+has_bit weight n = (n / weight) % 2 == 1
+
+abbrev pub bit : ℕ → Bool → ℕ
+bit weight is_on = if is_on then weight else 0
+
+-- only an indicator that stands there is negated
+abbrev pub may_negate : Option ℕ → Bool → Bool
+may_negate None is_negated = not is_negated
+may_negate (Some indicator) is_negated = true
+
+abbrev pub are_negations : Option ℕ → Option ℕ → Option ℕ → ℕ → Bool
+are_negations first second third n =
+    nat_le n 7 && (may_negate first (has_bit 1 n) && (may_negate second (has_bit 2 n) && may_negate third (has_bit 4 n)))
+
+abbrev pub condition_with : Bool → Option ℕ → Option Condition
+condition_with is_negated indicator = option_map (λ n. record { indicator = n; is_negated = is_negated }) indicator
+
+abbrev pub conditions_of : Option ℕ → Option ℕ → Option ℕ → ℕ → Conditions
+conditions_of first second third n = record {
+  first = condition_with (has_bit 1 n) first;
+  second = condition_with (has_bit 2 n) second;
+  third = condition_with (has_bit 4 n) third;
+}
+
+abbrev pub indicator_in : Option Condition → Option ℕ
+indicator_in c = option_map (λ x. x.indicator) c
+
+abbrev pub is_negation : Option Condition → Bool
+is_negation None = false
+is_negation (Some c) = c.is_negated
+
+abbrev pub negations_of : Conditions → ℕ
+negations_of cs = bit 1 (is_negation cs.first) + bit 2 (is_negation cs.second) + bit 4 (is_negation cs.third)
+
+abbrev pub indicator_byte : Format (Option ℕ)
+indicator_byte = byte indicator_of indicator_number
+
+abbrev pub ConditionParts : Type 0
+ConditionParts = Option ℕ × (Option ℕ × (Option ℕ × ℕ))
+
+-- three indicators, N bits
+unfoldable pub conditions : Format Conditions
+conditions = row
+    (λ p. conditions_of p.0 p.1.0 p.1.1.0 p.1.1.1)
+    (λ cs. (indicator_in cs.first, (indicator_in cs.second, (indicator_in cs.third, negations_of cs))))
+    (pair indicator_byte (λ first. pair indicator_byte (λ second. pair indicator_byte (λ third. byte_where (are_negations first second third)))))
+
+-- kind, edit code, fill, blank after, field, index, edit word, end, conditions
 unfoldable pub line_field : Format (LineField ℕ)
 line_field = row
-    (λ p. record { operand = record { field = p.1.1.1.1.0 }; end = p.1.1.1.1.1.1.1.0 })
-    (λ f. (tt, (tt, (tt, (tt, (f.operand.field, (tt, (tt, (f.end, (tt, (tt, (tt, tt))))))))))))
+    (λ p. record { operand = record { field = p.1.1.1.1.0 }; end = p.1.1.1.1.1.1.1.0; conditions = p.1.1.1.1.1.1.1.1 })
+    (λ f. (tt, (tt, (tt, (tt, (f.operand.field, (tt, (tt, (f.end, f.conditions)))))))))
     (pair (only_byte 1 NotAllowed) (λ kind. pair no_byte (λ edit. pair no_byte (λ fill. pair no_byte (λ blank_after.
-    pair any_number (λ f. pair no_number (λ index. pair no_number (λ word. pair any_number (λ end.
-    pair no_byte (λ first. pair no_byte (λ second. pair no_byte (λ third. no_byte))))))))))))
+    pair any_number (λ f. pair no_number (λ index. pair no_number (λ word. pair any_number (λ end. conditions)))))))))
 
 -- just one, for now
 abbrev pub alternative_count : ℕ → Result ℕ Code

@@ -1,11 +1,12 @@
 //! Fields, 8 bytes each.
 
 ghost use Rattle.std.specs.Prelude.{◌≡◌, ◌++◌, All, length, Result, IfOk, OnOk};
+ghost use Rattle.rpg_effect.specs.Rows.{is_date};
 ghost use Rattle.rpg_format.specs.declared.fault.Code.{Code};
 ghost use Rattle.rpg_format.specs.Format.{read_byte, read_two, spelled_along};
 ghost use Rattle.rpg_format.specs.Numbers.{allowed};
 ghost use Rattle.rpg_format.specs.Reading.{Gives};
-ghost use Rattle.rpg_object.specs.Rows.{class_number, class_of, entries_within, field, fields, is_decimals, kind_number, kind_of, sequence_of, storage_after, HasDigits};
+ghost use Rattle.rpg_object.specs.Rows.{class_number, class_of, entries_within, field, fields, is_decimals, kind_number, kind_of, longest, most_decimals, sequence_of, shortest, storage_after, HasDigits};
 
 use rpg_effect::form::{Class, Form, Kind};
 use rpg_format::fault::{Code, ReadFault};
@@ -20,6 +21,7 @@ fn kind_of(n: u8) -> Result<Kind, Code>
 {
     match n {
         1 => Ok(Kind::Number),
+        2 => Ok(Kind::Text),
         _ => Err(Code::NotAllowed),
     }
 }
@@ -33,12 +35,20 @@ fn kind_number(kind: Kind) -> u8
     }
 }
 
-fn class_of(n: u8) -> Result<Class, Code>
-    ensures { result ≡ class_of n }
+/// The class of a number, or of a text, which is no date.
+fn class_of(kind: Kind, n: u8) -> Result<Class, Code>
+    ensures { result ≡ class_of kind n }
 {
-    match n {
-        0 => Ok(Class::Plain),
-        _ => Err(Code::NotAllowed),
+    match kind {
+        Kind::Number => match n {
+            0 => Ok(Class::Plain),
+            4 => Ok(Class::Date),
+            _ => Err(Code::NotAllowed),
+        },
+        Kind::Text => match n {
+            0 => Ok(Class::Plain),
+            _ => Err(Code::NotAllowed),
+        },
     }
 }
 
@@ -54,6 +64,39 @@ fn class_number(class: Class) -> u8
     }
 }
 
+fn is_date(class: Class) -> bool
+    ensures { result ≡ is_date class }
+{
+    match class {
+        Class::Date => true,
+        Class::Plain | Class::Array | Class::Table | Class::Constant => false,
+    }
+}
+
+fn shortest(class: Class) -> u16
+    ensures { result ≡ shortest class }
+{
+    if is_date(class) { 6 } else { 1 }
+}
+
+fn longest(kind: Kind, class: Class) -> u16
+    ensures { result ≡ longest kind class }
+{
+    match kind {
+        Kind::Number => { if is_date(class) { 6 } else { 15 } }
+        Kind::Text => 256,
+    }
+}
+
+fn most_decimals(kind: Kind, class: Class) -> u8
+    ensures { result ≡ most_decimals kind class }
+{
+    match kind {
+        Kind::Number => { if is_date(class) { 0 } else { 9 } }
+        Kind::Text => 0,
+    }
+}
+
 fn sequence_of(n: u8) -> Result<bool, Code>
     ensures { result ≡ sequence_of n }
 {
@@ -63,10 +106,10 @@ fn sequence_of(n: u8) -> Result<bool, Code>
     }
 }
 
-fn decimals_of(length: u16, n: u8) -> Result<u8, Code>
-    ensures { result ≡ allowed (is_decimals length) n }
+fn decimals_of(most: u8, length: u16, n: u8) -> Result<u8, Code>
+    ensures { result ≡ allowed (is_decimals most length) n }
 {
-    if n <= 9 && u16::from(n) <= length {
+    if n <= most && u16::from(n) <= length {
         Ok(n)
     } else {
         Err(Code::NotAllowed)
@@ -93,10 +136,10 @@ fn kind_at(bytes: &[u8]) -> Result<(Kind, &[u8]), ReadFault>
 }
 
 #[tactic(auto, unfolding(rpg_format::specs::Format::read_byte))]
-fn class_at(bytes: &[u8]) -> Result<(Class, &[u8]), ReadFault>
-    ensures { Gives (λ x. (x.0, x.1.now)) result (read_byte class_of bytes.now) }
+fn class_at(bytes: &[u8], kind: Kind) -> Result<(Class, &[u8]), ReadFault>
+    ensures { Gives (λ x. (x.0, x.1.now)) result (read_byte (class_of kind) bytes.now) }
 {
-    byte_at(bytes, |n| class_of(n))
+    byte_at(bytes, |n| class_of(kind, n))
 }
 
 #[tactic(auto, unfolding(rpg_format::specs::Format::read_byte))]
@@ -107,10 +150,10 @@ fn sequence_at(bytes: &[u8]) -> Result<(bool, &[u8]), ReadFault>
 }
 
 #[tactic(auto, unfolding(rpg_format::specs::Format::read_byte))]
-fn decimals_at(bytes: &[u8], length: u16) -> Result<(u8, &[u8]), ReadFault>
-    ensures { Gives (λ x. (x.0, x.1.now)) result (read_byte (allowed (is_decimals length)) bytes.now) }
+fn decimals_at(bytes: &[u8], most: u8, length: u16) -> Result<(u8, &[u8]), ReadFault>
+    ensures { Gives (λ x. (x.0, x.1.now)) result (read_byte (allowed (is_decimals most length)) bytes.now) }
 {
-    byte_at(bytes, |n| decimals_of(length, n))
+    byte_at(bytes, |n| decimals_of(most, length, n))
 }
 
 #[tactic(auto, unfolding(rpg_format::specs::Format::read_two))]
@@ -126,9 +169,9 @@ fn field_at(bytes: &[u8], storage: u32) -> Result<(Form, &[u8]), ReadFault>
     ensures { Gives (λ x. (x.0, x.1.now)) result ((field storage).reading bytes.now) }
 {
     let (kind, rest) = kind_at(bytes)?;
-    let (class, rest) = class_at(rest)?;
-    let (length, rest) = number_between_at(rest, 1, 15)?;
-    let (decimals, rest) = decimals_at(rest, length)?;
+    let (class, rest) = class_at(rest, kind)?;
+    let (length, rest) = number_between_at(rest, shortest(class), longest(kind, class))?;
+    let (decimals, rest) = decimals_at(rest, most_decimals(kind, class), length)?;
     let (is_ascending, rest) = sequence_at(rest)?;
     let (entries, rest) = entries_at(rest, length, storage)?;
     Ok((

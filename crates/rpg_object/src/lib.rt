@@ -5,6 +5,7 @@ mod decoding;
 mod encoding;
 mod field;
 mod first_value;
+mod indicator;
 mod instruction;
 pub mod laws;
 mod output_line;
@@ -20,3 +21,5 @@ pub use rpg_format::fault::Code;
 
 #[cfg(test)]
 mod tests;
+#[cfg(test)]
+mod text_tests;

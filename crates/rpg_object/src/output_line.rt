@@ -9,6 +9,7 @@ ghost use Rattle.rpg_object.specs.Kept.{IsAlternativeRow, IsLineRow};
 ghost use Rattle.rpg_object.specs.Rows as rows;
 ghost use Rattle.rpg_object.specs.Rows.{alternative_count, condition, file_number, file_of, line_field, line_head, time_number, time_of};
 
+use crate::indicator::{conditions_at, indicator_in, indicator_number, negations};
 use crate::row::Line;
 use crate::table::{Row, put_rows, rows_at};
 use rpg_effect::line::{Condition, File, LineField, Moves, Time};
@@ -147,14 +148,12 @@ fn line_field_at(bytes: &[u8]) -> Result<(LineField<u16>, &[u8]), ReadFault>
     let ((), rest) = only_number_at(rest, 0, Code::NotAllowed)?;
     let ((), rest) = only_number_at(rest, 0, Code::NotAllowed)?;
     let (end, rest) = any_number_at(rest)?;
-    let ((), rest) = only_byte_at(rest, 0, Code::NotAllowed)?;
-    let ((), rest) = only_byte_at(rest, 0, Code::NotAllowed)?;
-    let ((), rest) = only_byte_at(rest, 0, Code::NotAllowed)?;
-    let ((), rest) = only_byte_at(rest, 0, Code::NotAllowed)?;
+    let (conditions, rest) = conditions_at(rest)?;
     Ok((
         LineField {
             operand: Operand { field },
             end,
+            conditions,
         },
         rest,
     ))
@@ -169,7 +168,7 @@ impl Row for LineField<u16> {
         line_field_at(bytes)
     }
 
-    #[tactic(auto, unfolding(rpg_format::specs::Format::byte, rpg_format::specs::Format::two_bytes, rpg_format::specs::Format::pair, rpg_format::specs::Format::row, crate::specs::Rows::line_field))]
+    #[tactic(auto, unfolding(rpg_format::specs::Format::byte, rpg_format::specs::Format::two_bytes, rpg_format::specs::Format::pair, rpg_format::specs::Format::row, crate::specs::Rows::conditions, crate::specs::Rows::line_field))]
     fn put_row(&self, out: &mut Vec<u8>) -> Result<(), AllocError> {
         let field = self.operand.field;
         let row = [
@@ -185,10 +184,10 @@ impl Row for LineField<u16> {
             0,
             high(self.end),
             low(self.end),
-            0,
-            0,
-            0,
-            0,
+            indicator_number(indicator_in(self.conditions.first)),
+            indicator_number(indicator_in(self.conditions.second)),
+            indicator_number(indicator_in(self.conditions.third)),
+            negations(self.conditions),
         ];
         out.extend_from_slice(&row)?;
         Ok(())

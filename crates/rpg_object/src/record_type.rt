@@ -1,46 +1,19 @@
 //! Record types, with the columns that they move.
 
 ghost use Rattle.std.specs.Prelude.{◌≡◌, ◌++◌, ◌≤◌, All, length, map, OnOk};
-ghost use Rattle.rpg_format.specs.Format.{read_byte, table};
+ghost use Rattle.rpg_format.specs.Format.{table};
 ghost use Rattle.rpg_format.specs.Reading.{Gives};
 ghost use Rattle.rpg_object.specs.Object.{type_row};
 ghost use Rattle.rpg_object.specs.Kept.{IsTypeRow};
 ghost use Rattle.rpg_object.specs.Rows as rows;
-ghost use Rattle.rpg_object.specs.Rows.{indicator_number, indicator_of, move_row};
+ghost use Rattle.rpg_object.specs.Rows.{move_row};
 
+use crate::indicator::{indicator_at, indicator_number};
 use crate::row::{Move, RecordType};
 use crate::table::{Row, put_rows, rows_at};
 use rpg_format::fault::{Code, ReadFault};
-use rpg_format::number::{
-    any_number_at, byte_at, count_at, high, low, only_byte_at, only_number_at,
-};
+use rpg_format::number::{any_number_at, count_at, high, low, only_byte_at, only_number_at};
 use std::alloc::{AllocError, Global};
-
-fn indicator_of(n: u8) -> Result<Option<u8>, Code>
-    ensures { result ≡ indicator_of n }
-{
-    match n {
-        0 => Ok(None),
-        1..=129 => Ok(Some(n)),
-        _ => Err(Code::NotAllowed),
-    }
-}
-
-fn indicator_number(indicator: Option<u8>) -> u8
-    ensures { result ≡ indicator_number indicator }
-{
-    match indicator {
-        None => 0,
-        Some(n) => n,
-    }
-}
-
-#[tactic(auto, unfolding(rpg_format::specs::Format::read_byte))]
-fn indicator_at(bytes: &[u8]) -> Result<(Option<u8>, &[u8]), ReadFault>
-    ensures { Gives (λ x. (x.0, x.1.now)) result (read_byte indicator_of bytes.now) }
-{
-    byte_at(bytes, |n| indicator_of(n))
-}
 
 #[tactic(auto, unfolding(rpg_format::specs::Format::byte, rpg_format::specs::Format::two_bytes, rpg_format::specs::Format::pair, rpg_format::specs::Format::row, crate::specs::Rows::move_row))]
 fn move_at(bytes: &[u8]) -> Result<(Move, &[u8]), ReadFault>

@@ -42,7 +42,7 @@ pub struct Rows {
     /// Places of a printed line, at most 132; 0 without a printer.
     pub printer_length: u16,
     pub fields: Vec<Form>,
-    /// The first value of each entry, in the order of the fields.
+    /// The first value of each entry, in the order of the fields. Texts are characters, 0x20 to 0x7e.
     pub values: Vec<Value>,
     pub types: Vec<RecordType>,
     pub lines: Vec<Line>,

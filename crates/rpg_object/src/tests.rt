@@ -31,7 +31,7 @@ static OBJECT_L: [u8; 60] = [
 ];
 
 /// The object with these bytes from this place on.
-fn changed(alloc: Global, object: &[u8], at: usize, new: &[u8]) -> Result<Vec<u8>, AllocError> {
+pub fn changed(alloc: Global, object: &[u8], at: usize, new: &[u8]) -> Result<Vec<u8>, AllocError> {
     let mut bytes = Vec::new(alloc);
     for (i, byte) in object.iter().enumerate() {
         let new_byte = match i.checked_sub(at) {
@@ -51,7 +51,7 @@ fn answer(alloc: Global, bytes: &[u8]) -> Result<String, AllocError> {
     }
 }
 
-fn spelled_again(alloc: Global, bytes: &[u8]) -> Result<Option<Vec<u8>>, AllocError> {
+pub fn spelled_again(alloc: Global, bytes: &[u8]) -> Result<Option<Vec<u8>>, AllocError> {
     match decode(alloc, bytes) {
         Ok(program) => Ok(Some(encode(alloc, &program)?)),
         Err(_) => Ok(None),
@@ -120,9 +120,13 @@ fn a_byte_behind_is_left_over(rt: HostRuntime) -> Result<(), Fail> {
 }
 
 /// Bytes of an object from a place on, and what the object is then answered.
-type Case<'a> = (usize, &'a [u8], &'a str);
+pub type Case<'a> = (usize, &'a [u8], &'a str);
 
-fn check(rt: &(impl Abort + AllocGlobal), object: &[u8], cases: &[Case]) -> Result<(), AllocError> {
+pub fn check(
+    rt: &(impl Abort + AllocGlobal),
+    object: &[u8],
+    cases: &[Case],
+) -> Result<(), AllocError> {
     for (at, new, wanted) in cases {
         let bytes = changed(rt.alloc(), object, *at, new)?;
         let given = answer(rt.alloc(), &bytes)?;

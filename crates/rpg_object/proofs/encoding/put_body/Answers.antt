@@ -3,8 +3,8 @@ use Rattle.rpg_object.specs.Object.{seen}
 use Rattle.rpg_object.proofs.Texts.{program_written}
 use Rattle.rpg_object.proofs.encoding.put_body.Goals as goal
 
-pub put_values-requires-clause-numbers : goal.put_values-requires-clause-numbers
-put_values-requires-clause-numbers c = rw (c.deref-2.ensures.value, c.deref-3.ensures.value) c.requires.values
+pub put_values-requires-clause-values : goal.put_values-requires-clause-values
+put_values-requires-clause-values c = rw (c.deref-2.ensures.value, c.deref-3.ensures.value) c.requires.values
 
 pub returns : goal.returns
 unfolding times_with

@@ -11,7 +11,7 @@ pub returns-clause-ready : goal.returns-clause-ready
 returns-clause-ready c =
     let p = c.args.program.now in
     let date = c.args.date.value in
-    let ready = ready_start p date c.rows_of-rows.ensures.kept in
+    let ready = ready_start p date c.rows_of-rows.ensures.kept c.args.date.fits in
     let values : c.of.result ≡ contents (first_values date p.fields p.values) =
     c.of.ensures ∙ ap contents (c.in_ok-values.ensures ∙ ap (λ (o : Object). first_values date o.fields o.values) c.rows_of-rows.ensures.same) in
     record {
