@@ -5,10 +5,11 @@ use Rattle.std.specs.FinMap as maps
 use Rattle.std.specs.Prelude.{◌⊎◌}
 use Rattle.rpg_effect.specs.Rows.{is_date}
 use Rattle.rpg_effect.specs.Values.{Value, Number, Text}
+use Rattle.rpg_effect.specs.declared.form.Class.{Class}
 use Rattle.rpg_effect.specs.declared.form.Form.{Form}
 use Rattle.rpg_effect.specs.declared.form.Kind.{Kind}
 use Rattle.rpg_effect.specs.declared.form.Kind.TheVariants as kinds
-use Rattle.rpg_object.specs.Kept.{IsDateForm, IsFieldRow, IsLineRow, IsNumberForm, IsPlainProgram, IsTextForm, IsTypeRow}
+use Rattle.rpg_object.specs.Kept.{IsDateForm, IsFieldRow, IsLineRow, IsNumberForm, IsPlainOrConstant, IsPlainProgram, IsTextForm, IsTypeRow}
 use Rattle.rpg_object.specs.Object.{Object}
 use Rattle.rpg_object.specs.Program.{IsProgram}
 use Rattle.rpg_object.specs.Rows.{IsValueOf}
@@ -67,13 +68,17 @@ form_of_value kinds.Number len (Text t) h = absurd h
 form_of_value kinds.Text len (Number n) h = absurd h
 form_of_value kinds.Text len (Text t) h = h.0
 
--- a field of that class starts with its first value
+no_date : (c : Class) → IsPlainOrConstant c → is_date c ≡ false
+no_date c (inl e) = ap is_date e
+no_date c (inr e) = ap is_date e
+
+-- a field of another class starts with its first value
 starts_plain : (date : ℤ) (d : Form) (v : Value) → is_date d.class ≡ false → IsValueOf d.kind d.length v → HasForm d.kind d.length (Some (first_value date d v))
 starts_plain date d v e is = subst (λ (b : Bool). HasForm d.kind d.length (Some (cond b (Number date) v))) (sym e) (form_of_value d.kind d.length v is)
 
 starts : (date : ℤ) (d : Form) (v : Value) → unsigned_abs date < 10 ^ 6 → IsForm d → IsValueOf d.kind d.length v → HasForm d.kind d.length (Some (first_value date d v))
-starts date d v fits (inl n) is = starts_plain date d v (ap is_date n.class) is
-starts date d v fits (inr (inl t)) is = starts_plain date d v (ap is_date t.class) is
+starts date d v fits (inl n) is = starts_plain date d v (no_date d.class n.class) is
+starts date d v fits (inr (inl t)) is = starts_plain date d v (no_date d.class t.class) is
 starts date d v fits (inr (inr x)) is =
     subst (λ (b : Bool). HasForm d.kind d.length (Some (cond b (Number date) v))) (sym (ap is_date x.class))
     (subst (λ (k : Kind). HasForm k d.length (Some (Number date))) (sym x.kind) (subst (λ (n : ℕ). unsigned_abs date < 10 ^ n) (sym x.digits) fits))

@@ -16,6 +16,8 @@ mod section;
 mod start;
 #[cfg(test)]
 mod tests;
+#[cfg(test)]
+mod text_tests;
 mod values;
 
 pub use date::Date;

@@ -66,10 +66,10 @@ fn make_cycle(machine: &mut Machine, text: &[u8]) -> Result<SectionEnd, AllocErr
 
 /// How a program ends with these records, and what it printed.
 #[derive(Drop)]
-struct Outcome {
-    end: SectionEnd,
-    steps: u64,
-    print: Vec<u8>,
+pub struct Outcome {
+    pub end: SectionEnd,
+    pub steps: u64,
+    pub print: Vec<u8>,
 }
 
 /// Cycles with each of the records, to the first that isn't done, and then one output.
@@ -100,7 +100,7 @@ fn ended_with(mut machine: Machine, end: SectionEnd) -> Outcome {
 }
 
 /// The same, of a program that was decoded.
-fn run_decoded(alloc: Global, program: &Program, records: &[[u8; 3]]) -> Result<Outcome, Fail> {
+pub fn run_decoded(alloc: Global, program: &Program, records: &[[u8; 3]]) -> Result<Outcome, Fail> {
     let rows = program.rows();
     if rows.types.is_empty() || rows.record_length != 3 {
         return Err("another program".into());

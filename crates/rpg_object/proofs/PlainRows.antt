@@ -62,18 +62,17 @@ abbrev known : Kind → Class → Type 0
 known k class.Plain = Unit {0}
 known k class.Array = ⊥
 known k class.Table = ⊥
-known k class.Constant = ⊥
+known k class.Constant = Unit {0}
 known k class.Date = k ≡ kind.Number
 
 class_is : (k : Kind) (c : Class) → class_of k (class_number c) ≡ Ok c → known k c
 class_is k class.Plain e = tt
+class_is k class.Constant e = tt
 class_is kind.Number class.Array e = absurd cc
 class_is kind.Number class.Table e = absurd cc
-class_is kind.Number class.Constant e = absurd cc
 class_is kind.Number class.Date e = refl
 class_is kind.Text class.Array e = absurd cc
 class_is kind.Text class.Table e = absurd cc
-class_is kind.Text class.Constant e = absurd cc
 class_is kind.Text class.Date e = absurd cc
 
 sequence_is : (b : Bool) → sequence_of (flag_number b) ≡ Ok b → b ≡ false
@@ -98,11 +97,12 @@ record IsSized (k : Kind) (c : Class) (len decimals : ℕ) : Type 0 where
   within : decimals ≤ len
 
 form_from : (k : Kind) (c : Class) (f : Form) → f.kind ≡ k → f.class ≡ c → known k c → IsSized k c f.length f.decimals → IsNumberForm f ⊎ (IsTextForm f ⊎ IsDateForm f)
-form_from kind.Number class.Plain f e g h s = inl (record { kind = e; class = g; shortest = s.low; longest = s.high; few_decimals = s.few; decimals_within = s.within })
-form_from kind.Text class.Plain f e g h s = inr (inl (record { kind = e; class = g; shortest = s.low; longest = s.high; decimals = omega (arith, s.few) }))
+form_from kind.Number class.Plain f e g h s = inl (record { kind = e; class = inl g; shortest = s.low; longest = s.high; few_decimals = s.few; decimals_within = s.within })
+form_from kind.Number class.Constant f e g h s = inl (record { kind = e; class = inr g; shortest = s.low; longest = s.high; few_decimals = s.few; decimals_within = s.within })
+form_from kind.Text class.Plain f e g h s = inr (inl (record { kind = e; class = inl g; shortest = s.low; longest = s.high; decimals = omega (arith, s.few) }))
+form_from kind.Text class.Constant f e g h s = inr (inl (record { kind = e; class = inr g; shortest = s.low; longest = s.high; decimals = omega (arith, s.few) }))
 form_from k class.Array f e g h s = absurd h
 form_from k class.Table f e g h s = absurd h
-form_from k class.Constant f e g h s = absurd h
 form_from kind.Number class.Date f e g h s = inr (inr (record { kind = e; class = g; digits = omega (arith, s.low, s.high); decimals = omega (arith, s.few) }))
 form_from kind.Text class.Date f e g h s = absurd (let m = h in cc)
 

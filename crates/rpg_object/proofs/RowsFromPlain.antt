@@ -24,7 +24,7 @@ use Rattle.rpg_object.specs.declared.row.Move.{Move}
 use Rattle.rpg_object.specs.Object.{TypeRow, LineRow, Object}
 use Rattle.rpg_object.specs.Program.{parts, body, IsProgram}
 use Rattle.rpg_object.specs.Rows.{kind_number, kind_of, class_number, class_of, shortest, longest, most_decimals, sequence_of, is_decimals, entries_within, field, storage_after, fields, IsValueOf, AreValuesOf, value, next_kind, next_length, later_fields, values, indicator_of, indicator_number, move_row, type_parts, record_type, file_number, file_of, time_number, time_of, condition, alternative, has_bit, may_negate, are_negations, indicator_in, is_negation, negations_of, conditions, line_field, alternative_count, line_parts, line, operand, instruction}
-use Rattle.rpg_object.specs.Kept.{IsNumberForm, IsTextForm, IsDateForm, IsFieldRow, IsMoveRow, IsTypeRow, IsConditionRow, IsAlternativeRow, IsLineFieldRow, IsLineRow, IsInstructionRow, storage_of, IsPlainProgram}
+use Rattle.rpg_object.specs.Kept.{IsPlainOrConstant, IsNumberForm, IsTextForm, IsDateForm, IsFieldRow, IsMoveRow, IsTypeRow, IsConditionRow, IsAlternativeRow, IsLineFieldRow, IsLineRow, IsInstructionRow, storage_of, IsPlainProgram}
 
 -- ---- tables
 
@@ -74,9 +74,17 @@ sized k c f e g a b low high few within = record {
   within = within;
 }
 
+number_sized : (f : Form) → IsNumberForm f → IsPlainOrConstant f.class → IsSized f
+number_sized f n (inl c) = sized kind.Number class.Plain f n.kind c refl refl n.shortest n.longest n.few_decimals n.decimals_within
+number_sized f n (inr c) = sized kind.Number class.Constant f n.kind c refl refl n.shortest n.longest n.few_decimals n.decimals_within
+
+text_sized : (f : Form) → IsTextForm f → IsPlainOrConstant f.class → IsSized f
+text_sized f t (inl c) = sized kind.Text class.Plain f t.kind c refl refl t.shortest t.longest (omega (arith, t.decimals)) (omega (arith, t.decimals))
+text_sized f t (inr c) = sized kind.Text class.Constant f t.kind c refl refl t.shortest t.longest (omega (arith, t.decimals)) (omega (arith, t.decimals))
+
 form_sized : (f : Form) → IsNumberForm f ⊎ (IsTextForm f ⊎ IsDateForm f) → IsSized f
-form_sized f (inl n) = sized kind.Number class.Plain f n.kind n.class refl refl n.shortest n.longest n.few_decimals n.decimals_within
-form_sized f (inr (inl t)) = sized kind.Text class.Plain f t.kind t.class refl refl t.shortest t.longest (omega (arith, t.decimals)) (omega (arith, t.decimals))
+form_sized f (inl n) = number_sized f n n.class
+form_sized f (inr (inl t)) = text_sized f t t.class
 form_sized f (inr (inr d)) = sized kind.Number class.Date f d.kind d.class refl refl (omega (arith, d.digits)) (omega (arith, d.digits)) (omega (arith, d.decimals)) (omega (arith, d.decimals))
 
 kind_small : (k : Kind) → kind_number k < 2 ^ 8

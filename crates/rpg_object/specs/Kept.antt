@@ -1,5 +1,6 @@
 -- What the rows of an object program keep, in plain words.
 use Rattle.std.specs.Prelude.{◌≡◌, ℕ, ◌+◌, ◌*◌, ◌^◌, ◌<◌, ◌≤◌, ◌⊎◌, false, List, [], ◌∷◌, length, All, IfSome}
+use Rattle.rpg_effect.specs.declared.form.Class.{Class}
 use Rattle.rpg_effect.specs.declared.form.Class.TheVariants as class
 use Rattle.rpg_effect.specs.declared.form.Form.{Form}
 use Rattle.rpg_effect.specs.declared.form.Kind.TheVariants as kind
@@ -14,19 +15,23 @@ use Rattle.rpg_object.specs.declared.row.Move.{Move}
 use Rattle.rpg_object.specs.Object.{TypeRow, LineRow, Object}
 use Rattle.rpg_object.specs.Rows.{AreValuesOf}
 
--- a plain number of 1 to 15 digits
+-- a plain field, or a constant, which is never written
+abbrev pub IsPlainOrConstant : Class → Type 0
+IsPlainOrConstant c = (c ≡ class.Plain) ⊎ (c ≡ class.Constant)
+
+-- a number of 1 to 15 digits
 pub record IsNumberForm (f : Form) : Type 0 where
   pub kind : f.kind ≡ kind.Number
-  pub class : f.class ≡ class.Plain
+  pub class : IsPlainOrConstant f.class
   pub shortest : 1 ≤ f.length
   pub longest : f.length ≤ 15
   pub few_decimals : f.decimals ≤ 9
   pub decimals_within : f.decimals ≤ f.length
 
--- a plain text of 1 to 256 characters
+-- a text of 1 to 256 characters
 pub record IsTextForm (f : Form) : Type 0 where
   pub kind : f.kind ≡ kind.Text
-  pub class : f.class ≡ class.Plain
+  pub class : IsPlainOrConstant f.class
   pub shortest : 1 ≤ f.length
   pub longest : f.length ≤ 256
   pub decimals : f.decimals ≡ 0

@@ -69,8 +69,8 @@ kind_of = choice (kind.Number ∷ kind.Text ∷ []) kind_number
 
 -- the classes that fields of a kind have so far; the date is a number
 abbrev pub classes_of : Kind → List Class
-classes_of kind.Number = class.Plain ∷ class.Date ∷ []
-classes_of kind.Text = class.Plain ∷ []
+classes_of kind.Number = class.Plain ∷ class.Constant ∷ class.Date ∷ []
+classes_of kind.Text = class.Plain ∷ class.Constant ∷ []
 
 abbrev pub class_of : Kind → ℕ → Result Class Code
 class_of k = choice (classes_of k) class_number

@@ -42,11 +42,13 @@ fn class_of(kind: Kind, n: u8) -> Result<Class, Code>
     match kind {
         Kind::Number => match n {
             0 => Ok(Class::Plain),
+            3 => Ok(Class::Constant),
             4 => Ok(Class::Date),
             _ => Err(Code::NotAllowed),
         },
         Kind::Text => match n {
             0 => Ok(Class::Plain),
+            3 => Ok(Class::Constant),
             _ => Err(Code::NotAllowed),
         },
     }

@@ -94,7 +94,7 @@ fn conditions_keep_their_places(rt: HostRuntime) -> Result<(), Fail> {
 
 #[test]
 fn a_field_has_the_numbers_of_its_kind_and_class(rt: HostRuntime) -> Result<(), Fail> {
-    let cases: [Case; 23] = [
+    let cases: [Case; 28] = [
         (32, &[0], "B5 at 32"),
         (32, &[3], "B5 at 32"),
         (33, &[1], "B5 at 33"),
@@ -108,6 +108,7 @@ fn a_field_has_the_numbers_of_its_kind_and_class(rt: HostRuntime) -> Result<(), 
         (38, &[0, 2], "B5 at 38"),
         (41, &[0], "a program"),
         (41, &[1], "B5 at 41"),
+        (41, &[2], "B5 at 41"),
         (41, &[5], "B5 at 41"),
         (42, &[0, 5], "B5 at 42"),
         (42, &[0, 7], "B5 at 42"),
@@ -118,6 +119,10 @@ fn a_field_has_the_numbers_of_its_kind_and_class(rt: HostRuntime) -> Result<(), 
         (50, &[0, 16], "B5 at 50"),
         (52, &[7], "B5 at 52"),
         (52, &[6], "a program"),
+        (33, &[3], "a program"),
+        (49, &[3], "a program"),
+        (41, &[3], "a program"),
+        (41, &[3, 0, 15], "B5 at 59"),
     ];
     check(&rt, &OBJECT_T, &cases)?;
     Ok(())
