@@ -1,0 +1,104 @@
+-- The faults of a source without sheet faults, as a set of pairs, and the least of them.
+use Rattle.std.specs.Prelude.{◌≡◌, ℕ, ◌<◌, ◌≤◌, ◌⊎◌, Bool, true, false, List, [], ◌∷◌, ◌++◌, Option, None, Some, if◌then◌else◌, nat_lt}
+use Rattle.rpg_cards.specs.declared.spec_card.SpecCard.{SpecCard}
+use Rattle.rpg_faults.specs.declared.fault.FaultCode.{FaultCode}
+use Rattle.rpg_faults.specs.declared.fault.FaultCode.TheVariants.{F1, F2, F3, F4, F6, F7, F8, F9, F12, F16}
+use Rattle.rpg_faults.specs.declared.fault.Fault.{Fault}
+use Rattle.rpg_faults.specs.Cards.{Rule}
+use Rattle.rpg_faults.specs.Columns.{bad_columns}
+use Rattle.rpg_faults.specs.Files.{breaks_files, lacks_input}
+use Rattle.rpg_faults.specs.Indicators.{bad_indicator}
+use Rattle.rpg_faults.specs.Limits.{passes_limit}
+use Rattle.rpg_faults.specs.Names.{lacks_name, redefines, bad_size}
+use Rattle.rpg_faults.specs.Operands.{wrong_operand}
+use Rattle.rpg_faults.specs.Order.{lacks_heading}
+use Rattle.rpg_faults.specs.Places.{misplaces}
+
+-- ---- the rules
+
+-- what a card breaks
+unfoldable pub rule : FaultCode → Rule
+rule F1 before c after = lacks_name (before ++ c ∷ after) c
+rule F2 before c after = redefines before c
+rule F3 before c after = bad_size c
+rule F4 before c after = wrong_operand (before ++ c ∷ after) c
+rule F6 before c after = passes_limit before c
+rule F7 before c after = breaks_files (before ++ c ∷ after) before c
+rule F8 before c after = bad_indicator c
+rule F9 before c after = bad_columns c
+rule F12 before c after = lacks_heading before c
+rule F16 before c after = misplaces (before ++ c ∷ after) before c
+
+-- what the source as a whole breaks
+unfoldable pub source_rule : FaultCode → List SpecCard → Bool
+source_rule F1 cards = false
+source_rule F2 cards = false
+source_rule F3 cards = false
+source_rule F4 cards = false
+source_rule F6 cards = false
+source_rule F7 cards = lacks_input cards
+source_rule F8 cards = false
+source_rule F9 cards = false
+source_rule F12 cards = false
+source_rule F16 cards = false
+
+-- ---- the set: pairs of a card and a code
+
+-- a card with this number breaks a rule
+pub record IsBroken (r : Rule) (cards : List SpecCard) (number : ℕ) : Type 0 where
+  pub before : List SpecCard
+  pub card : SpecCard
+  pub after : List SpecCard
+  pub split : cards ≡ before ++ card ∷ after
+  pub here : card.number ≡ number
+  pub broken : r before card after ≡ true
+
+-- what is wrong with the source as a whole has card 0
+abbrev pub HasFault : List SpecCard → Fault → Type 0
+HasFault cards f = IsBroken (rule f.code) cards f.card ⊎ ((f.card ≡ 0) × (source_rule f.code cards ≡ true))
+
+abbrev pub Faultless : List SpecCard → Type 0
+Faultless cards = (f : Fault) → ¬ HasFault cards f
+
+-- ---- the least of them, by card and then by code
+
+abbrev pub place : FaultCode → ℕ
+place F1 = 1
+place F2 = 2
+place F3 = 3
+place F4 = 4
+place F6 = 6
+place F7 = 7
+place F8 = 8
+place F9 = 9
+place F12 = 12
+place F16 = 16
+
+abbrev pub NotAfter : Fault → Fault → Type 0
+NotAfter f g = (f.card < g.card) ⊎ ((f.card ≡ g.card) × (place f.code ≤ place g.code))
+
+pub record IsLeastFault (cards : List SpecCard) (f : Fault) : Type 0 where
+  pub is : HasFault cards f
+  pub least : (g : Fault) → HasFault cards g → NotAfter f g
+
+-- all codes, the least first
+abbrev pub codes : List FaultCode
+codes = F1 ∷ F2 ∷ F3 ∷ F4 ∷ F6 ∷ F7 ∷ F8 ∷ F9 ∷ F12 ∷ F16 ∷ []
+
+-- ---- how it is found: the least card of each code, and the least of these
+
+abbrev pub first_broken : Rule → List SpecCard → List SpecCard → Option ℕ
+first_broken r before [] = None
+first_broken r before (c ∷ after) = if r before c after then Some c.number else first_broken r (before ++ c ∷ []) after
+
+unfoldable pub least_card : FaultCode → List SpecCard → Option ℕ
+least_card code cards = if source_rule code cards then Some 0 else first_broken (rule code) [] cards
+
+abbrev pub earlier : Option Fault → FaultCode → Option ℕ → Option Fault
+earlier best code None = best
+earlier None code (Some n) = Some (record { card = n; code = code })
+earlier (Some f) code (Some n) = if nat_lt n f.card then Some (record { card = n; code = code }) else Some f
+
+abbrev pub least_of : List SpecCard → Option Fault → List FaultCode → Option Fault
+least_of cards best [] = best
+least_of cards best (k ∷ ks) = least_of cards (earlier best k (least_card k cards)) ks

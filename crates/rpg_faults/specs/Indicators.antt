@@ -1,0 +1,37 @@
+-- F8: indicators that are not allowed.
+use Rattle.std.specs.Prelude.{ℕ, Bool, false, not, ◌&&◌, ◌||◌, ◌==◌, nat_le, Option, None, Some}
+use Rattle.rpg_sheet.specs.declared.indicator.Condition.{Condition}
+use Rattle.rpg_sheet.specs.declared.indicator.Three.{Three}
+use Rattle.rpg_sheet.specs.declared.input.InputSpec.TheVariants as input
+use Rattle.rpg_sheet.specs.declared.output.OutputSpec.TheVariants as output
+use Rattle.rpg_sheet.specs.declared.spec.Spec.{Spec}
+use Rattle.rpg_sheet.specs.declared.spec.Spec.TheVariants as spec
+use Rattle.rpg_cards.specs.declared.spec_card.SpecCard.{SpecCard}
+
+-- a record type has 01 to 99, L1 to L9, LR or H1 to H9
+abbrev pub can_mark_type : ℕ → Bool
+can_mark_type n = nat_le n 99 || (nat_le 101 n && nat_le n 110) || (nat_le 120 n && nat_le n 128)
+
+abbrev pub bad_on_type : Option ℕ → Bool
+bad_on_type None = false
+bad_on_type (Some n) = not (can_mark_type n)
+
+-- output may ask for all but MR
+abbrev pub asks_for_mr : Option Condition → Bool
+asks_for_mr None = false
+asks_for_mr (Some c) = c.indicator == 129
+
+abbrev pub bad_in_output : Three (Option Condition) → Bool
+bad_in_output t = asks_for_mr t.first || asks_for_mr t.second || asks_for_mr t.third
+
+abbrev pub bad_on_card : Spec → Bool
+bad_on_card (spec.Header h) = false
+bad_on_card (spec.File f) = false
+bad_on_card (spec.Input (input.Type t)) = bad_on_type t.indicator
+bad_on_card (spec.Input (input.Field f)) = false
+bad_on_card (spec.Calculation k) = false
+bad_on_card (spec.Output (output.Record r)) = bad_in_output r.conditions
+bad_on_card (spec.Output (output.Field f)) = bad_in_output f.conditions
+
+abbrev pub bad_indicator : SpecCard → Bool
+bad_indicator c = bad_on_card c.spec

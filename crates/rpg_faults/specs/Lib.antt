@@ -1,0 +1,10 @@
+pub mod Cards
+pub mod Names
+pub mod Operands
+pub mod Limits
+pub mod Files
+pub mod Indicators
+pub mod Columns
+pub mod Order
+pub mod Places
+pub mod Faults

@@ -1,0 +1,66 @@
+-- F6: limits that are passed, at the card that passes.
+use Rattle.std.specs.Prelude.{ℕ, ◌+◌, Bool, false, ◌&&◌, ◌||◌, ◌==◌, nat_le, nat_lt, List, [], ◌∷◌, ◌++◌, count_by, fold, sum_by, Option, None, Some, if◌then◌else◌}
+use Rattle.std.specs.Option.{option_and_then}
+use Rattle.rpg_cards.specs.Names.{definition_on, form_of_name}
+use Rattle.rpg_cards.specs.declared.spec_card.SpecCard.{SpecCard}
+use Rattle.rpg_effect.specs.declared.form.Form.{Form}
+use Rattle.rpg_sheet.specs.declared.input.InputSpec.TheVariants as input
+use Rattle.rpg_sheet.specs.declared.output.OutputSpec.TheVariants as output
+use Rattle.rpg_sheet.specs.declared.spec.Spec.{Spec}
+use Rattle.rpg_sheet.specs.declared.spec.Spec.TheVariants as spec
+use Rattle.rpg_symbols.specs.Fields.{given, size_of, storage}
+use Rattle.rpg_faults.specs.Cards.{is_type, is_input_field, is_calculation, is_line, is_output_field}
+use Rattle.rpg_faults.specs.Names.{is_missing}
+
+-- ---- counts: a card passes a limit where as many of its kind come before as there may be
+
+abbrev pub count_of : (SpecCard → Bool) → List SpecCard → ℕ
+count_of kind cards = count_by kind cards
+
+-- the cards of a kind since the last heading
+abbrev pub counts : (SpecCard → Bool) → (SpecCard → Bool) → ℕ → SpecCard → ℕ
+counts heading kind n c = if heading c then 0 else if kind c then n + 1 else n
+
+abbrev pub count_since : (SpecCard → Bool) → (SpecCard → Bool) → List SpecCard → ℕ
+count_since heading kind cards = fold (counts heading kind) 0 cards
+
+-- 1,000 calculations, 200 record types with 500 fields each, 1,000 lines with 200 fields each
+abbrev pub passes_count : List SpecCard → Spec → Bool
+passes_count before (spec.Header h) = false
+passes_count before (spec.File f) = false
+passes_count before (spec.Input (input.Type t)) = count_of is_type before == 200
+passes_count before (spec.Input (input.Field f)) = count_since is_type is_input_field before == 500
+passes_count before (spec.Calculation k) = count_of is_calculation before == 1000
+passes_count before (spec.Output (output.Record r)) = count_of is_line before == 1000
+passes_count before (spec.Output (output.Field f)) = count_since is_line is_output_field before == 200
+
+-- ---- storage: fields are numbered in the order of the first definitions of their names
+
+abbrev pub bytes_of : Option Form → ℕ
+bytes_of None = 0
+bytes_of (Some form) = size_of form
+
+-- what the first definition of a name takes; a later one takes nothing, and neither does one without a form
+abbrev pub bytes_by : List SpecCard → Option (List ℕ × Option Form) → ℕ
+bytes_by before None = 0
+bytes_by before (Some d) = if is_missing (form_of_name d.0 before) then bytes_of d.1 else 0
+
+abbrev pub bytes_from : List SpecCard → List SpecCard → ℕ
+bytes_from before [] = 0
+bytes_from before (c ∷ cs) = bytes_by before (definition_on c.spec) + bytes_from (before ++ c ∷ []) cs
+
+abbrev pub bytes_in : List SpecCard → ℕ
+bytes_in cards = storage given + bytes_from [] cards
+
+-- no fewer bytes: what all definitions would take, later ones too
+abbrev pub bytes_on : SpecCard → ℕ
+bytes_on c = bytes_of (option_and_then (λ d. d.1) (definition_on c.spec))
+
+abbrev pub most_bytes_in : List SpecCard → ℕ
+most_bytes_in cards = storage given + sum_by bytes_on cards
+
+abbrev pub passes_storage : List SpecCard → SpecCard → Bool
+passes_storage before c = nat_le (bytes_in before) 65535 && nat_lt 65535 (bytes_in before + bytes_by before (definition_on c.spec))
+
+abbrev pub passes_limit : List SpecCard → SpecCard → Bool
+passes_limit before c = passes_count before c.spec || passes_storage before c

@@ -1,0 +1,96 @@
+-- F1, F2, F3: names, their definitions and their forms.
+use Rattle.std.specs.Prelude.{ℕ, ◌==◌, List, Bool, true, false, not, ◌&&◌, ◌||◌, nat_le, Option, None, Some, is_some, is_none}
+use Rattle.std.specs.Option.{option_map_or}
+use Rattle.rpg_cards.specs.Cards.{input_field_on, calculation_on, output_field_on}
+use Rattle.rpg_cards.specs.Names.{definition_on, field_form, form_of_name, sized_form}
+use Rattle.rpg_cards.specs.Operations.{columns}
+use Rattle.rpg_cards.specs.declared.names.Defined.{Defined}
+use Rattle.rpg_cards.specs.declared.names.Defined.TheVariants.{Missing, Bad, Good}
+use Rattle.rpg_cards.specs.declared.spec_card.SpecCard.{SpecCard}
+use Rattle.rpg_effect.specs.declared.form.Class.{Class}
+use Rattle.rpg_effect.specs.declared.form.Class.TheVariants as class
+use Rattle.rpg_effect.specs.declared.form.Form.{Form}
+use Rattle.rpg_effect.specs.declared.form.Kind.{Kind}
+use Rattle.rpg_effect.specs.declared.form.Kind.TheVariants as kind
+use Rattle.rpg_sheet.specs.declared.calculation.CalculationSpec.{CalculationSpec}
+use Rattle.rpg_sheet.specs.declared.calculation.Operation.{Operation}
+use Rattle.rpg_sheet.specs.declared.input.InputField.{InputField}
+use Rattle.rpg_sheet.specs.declared.output.OutputField.{OutputField}
+use Rattle.rpg_faults.specs.Cards.{operand}
+
+-- ---- F1: a name that is used and that no card defines, before or behind
+
+abbrev pub is_missing : Defined → Bool
+is_missing Missing = true
+is_missing Bad = false
+is_missing (Good form) = false
+
+abbrev pub is_undefined : List SpecCard → Option (List ℕ) → Bool
+is_undefined cards None = false
+is_undefined cards (Some name) = is_missing (form_of_name name cards)
+
+abbrev pub operation_lacks_name : List SpecCard → CalculationSpec → Operation → Bool
+operation_lacks_name cards k op =
+    is_undefined cards (operand (columns op).factor_1 k.factor_1)
+    || is_undefined cards (operand (columns op).factor_2 k.factor_2)
+    || is_undefined cards (operand (columns op).result_field k.result_field)
+
+abbrev pub calculation_lacks_name : List SpecCard → CalculationSpec → Bool
+calculation_lacks_name cards k = option_map_or (operation_lacks_name cards k) k.operation false
+
+abbrev pub output_lacks_name : List SpecCard → OutputField → Bool
+output_lacks_name cards f = is_undefined cards f.name
+
+abbrev pub lacks_name : List SpecCard → SpecCard → Bool
+lacks_name cards c = option_map_or (calculation_lacks_name cards) (calculation_on c.spec) false || option_map_or (output_lacks_name cards) (output_field_on c.spec) false
+
+-- ---- F2: a name that is defined again in another form
+
+abbrev pub same_kind : Kind → Kind → Bool
+same_kind kind.Number kind.Number = true
+same_kind kind.Number kind.Text = false
+same_kind kind.Text kind.Number = false
+same_kind kind.Text kind.Text = true
+
+abbrev pub class_number : Class → ℕ
+class_number class.Plain = 0
+class_number class.Array = 1
+class_number class.Table = 2
+class_number class.Constant = 3
+class_number class.Date = 4
+
+abbrev pub same_flag : Bool → Bool → Bool
+same_flag true b = b
+same_flag false b = not b
+
+abbrev pub same_form : Form → Form → Bool
+same_form f g =
+    same_kind f.kind g.kind && class_number f.class == class_number g.class && f.length == g.length && f.decimals == g.decimals
+    && same_flag f.is_ascending g.is_ascending && f.entries == g.entries
+
+abbrev pub is_other : Form → Defined → Bool
+is_other form Missing = false
+is_other form Bad = false
+is_other form (Good first) = not (same_form first form)
+
+-- a definition with its form
+abbrev pub redefines_as : List SpecCard → List ℕ → Option Form → Bool
+redefines_as before name None = false
+redefines_as before name (Some form) = is_other form (form_of_name name before)
+
+abbrev pub redefines : List SpecCard → SpecCard → Bool
+redefines before c = option_map_or (λ d. redefines_as before d.0 d.1) (definition_on c.spec) false
+
+-- ---- F3: a length or decimals past their limit, or decimals without a length
+
+abbrev pub bad_size_of_field : InputField → Bool
+bad_size_of_field f = nat_le f.from f.to && is_none (field_form f)
+
+abbrev pub bad_size_of_result : Option ℕ → Option ℕ → Bool
+bad_size_of_result None decimals = is_some decimals
+bad_size_of_result (Some len) decimals = is_none (sized_form len decimals)
+
+abbrev pub bad_size : SpecCard → Bool
+bad_size c =
+    option_map_or bad_size_of_field (input_field_on c.spec) false
+    || option_map_or (λ k. bad_size_of_result k.length k.decimals) (calculation_on c.spec) false

@@ -1,0 +1,49 @@
+//! F9: columns of calculations and output fields that are missing or not allowed.
+
+ghost use Rattle.std.specs.Prelude.{◌≡◌};
+ghost use Rattle.rpg_faults.specs.Columns as sheet_columns;
+
+use rpg_cards::{Need, SpecCard, columns};
+use rpg_sheet::CalculationSpec;
+use rpg_symbols::Name;
+
+pub(crate) fn bad_columns(card: &SpecCard) -> bool
+    ensures { result ≡ sheet_columns.bad_columns card.now }
+{
+    if let Some(calculation) = card.calculation() {
+        return bad_calculation(calculation);
+    }
+    match card.output_field() {
+        None => false,
+        Some(field) => field.name.is_none(),
+    }
+}
+
+fn bad_calculation(calculation: &CalculationSpec) -> bool
+    ensures { result ≡ sheet_columns.bad_calculation calculation.now }
+{
+    bad_operation(calculation)
+        || (calculation.length.is_some() && calculation.result_field.is_none())
+}
+
+fn bad_operation(calculation: &CalculationSpec) -> bool
+    ensures { result ≡ sheet_columns.bad_operation calculation.now calculation.now.operation }
+{
+    let Some(operation) = calculation.operation else {
+        return true;
+    };
+    let columns = columns(operation);
+    misses(columns.factor_1, &calculation.factor_1)
+        || misses(columns.factor_2, &calculation.factor_2)
+        || misses(columns.result_field, &calculation.result_field)
+}
+
+fn misses(need: Need, name: &Option<Name>) -> bool
+    ensures { result ≡ sheet_columns.misses need name.now }
+{
+    match need {
+        Need::Blank => name.is_some(),
+        Need::Free => false,
+        Need::Filled => name.is_none(),
+    }
+}

@@ -1,0 +1,76 @@
+//! F7: files that are unknown, given twice or of the wrong direction.
+
+ghost use Rattle.std.specs.Prelude.{◌≡◌, option_copied};
+ghost use Rattle.rpg_faults.specs.Files as files;
+ghost use Rattle.rpg_cards.specs.Files as known;
+
+use crate::order::{has_line, has_type};
+use rpg_cards::{SpecCard, file_named, input_file, output_file};
+use rpg_sheet::{Device, Direction, FileSpec, Word};
+
+pub(crate) fn breaks_files(cards: &[SpecCard], before: &[SpecCard], card: &SpecCard) -> bool
+    ensures { result ≡ files.breaks_files cards.now before.now card.now }
+{
+    if let Some(file) = card.file() {
+        return bad_file(before, file);
+    }
+    if let Some(record_type) = card.record_type() {
+        return lacks_input_file(cards, has_type(before), &record_type.file);
+    }
+    match card.line() {
+        None => false,
+        Some(line) => lacks_output_file(cards, has_line(before), &line.file),
+    }
+}
+
+fn bad_file(before: &[SpecCard], file: &FileSpec) -> bool
+    ensures { result ≡ files.bad_file before.now file.now }
+{
+    file_named(&file.name, before).is_some() || bad_for(before, file)
+}
+
+fn bad_for(before: &[SpecCard], file: &FileSpec) -> bool
+    ensures { result ≡ files.bad_for before.now file.now file.now.direction }
+{
+    match file.direction {
+        Direction::Input => {
+            input_file(before).is_some() || !(1..=9999).contains(&file.record_length)
+        }
+        Direction::Output => {
+            output_file(before).is_some()
+                || !(1..=132).contains(&file.record_length)
+                || file.device != Device::Printer
+        }
+    }
+}
+
+fn lacks_input_file(cards: &[SpecCard], is_behind: bool, name: &Option<Word<8>>) -> bool
+    ensures { result ≡ files.lacks_file cards.now known.is_input is_behind name.now }
+{
+    let Some(name) = name else {
+        return !is_behind;
+    };
+    match file_named(name, cards) {
+        None => true,
+        Some(file) => file.direction != Direction::Input,
+    }
+}
+
+fn lacks_output_file(cards: &[SpecCard], is_behind: bool, name: &Option<Word<8>>) -> bool
+    ensures { result ≡ files.lacks_file cards.now known.is_output is_behind name.now }
+{
+    let Some(name) = name else {
+        return !is_behind;
+    };
+    match file_named(name, cards) {
+        None => true,
+        Some(file) => file.direction != Direction::Output,
+    }
+}
+
+/// Card 0: there is no input file.
+pub(crate) fn lacks_input(cards: &[SpecCard]) -> bool
+    ensures { result ≡ files.lacks_input cards.now }
+{
+    input_file(cards).is_none()
+}
