@@ -1,2 +1,3 @@
+pub mod Forms
 pub mod LeastLemmas
 pub mod Storage

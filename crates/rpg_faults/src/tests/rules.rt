@@ -100,7 +100,7 @@ fn operands_are_numbers(rt: HostRuntime) -> Result<(), Fail> {
     for (number, card, fault) in [
         (4, "I 47=1 51=3 53=AMT", at(5, FaultCode::F4)),
         (6, "C 28=ADD 33=TOT 43=UDATE", at(6, FaultCode::F4)),
-        (6, "C 28=ADD 33=TOT 43=WORD 51=5", at(6, FaultCode::F4)),
+        (6, "C 28=ADD 33=AMT 43=WORD 51=5", at(6, FaultCode::F4)),
         (
             6,
             "C 18=WORD 28=ADD 33=TOT 43=WORD 51=5",
@@ -158,6 +158,11 @@ fn files(rt: HostRuntime) -> Result<(), Fail> {
     ] {
         assert_eq!(rt; fault_with(rt.alloc(), number, card)?, fault, "{card}");
     }
+    let printer = "F 7=MORE 15=O 19=F 25=120 40=PRINTER";
+    assert_eq!(rt;
+        fault_of(rt.alloc(), &[GOOD[0], GOOD[1], printer])?,
+        at(3, FaultCode::F7)
+    );
     assert_eq!(rt; fault_of(rt.alloc(), &[])?, at(0, FaultCode::F7));
     Ok(())
 }
