@@ -89,7 +89,7 @@ IsLeastCard cards code o =
     MatchOption o ((n : ℕ) → HasFault cards (record { card = n; code = code }) → ⊥)
     (λ n. HasFault cards (record { card = n; code = code }) × ((m : ℕ) → HasFault cards (record { card = m; code = code }) → n ≤ m))
 
-is_least_card : (cards : List SpecCard) (code : FaultCode) → Numbered 0 cards → IsLeastCard cards code (least_card code cards)
+is_least_card : (cards : List SpecCard) (code : FaultCode) → Numbered 1 cards → IsLeastCard cards code (least_card code cards)
 unfolding least_card
 is_least_card cards code h = by_source (source_rule code cards) refl
   where
@@ -106,7 +106,7 @@ is_least_card cards code h = by_source (source_rule code cards) refl
 
     by_source : (b : Bool) → source_rule code cards ≡ b → IsLeastCard cards code (cond b (Some 0) (first_broken (rule code) [] cards))
     by_source true t = (inr (refl, t), λ n x. omega arith)
-    by_source false f = by_cards f (first_broken (rule code) [] cards) (is_first (rule code) 0 [] cards h)
+    by_source false f = by_cards f (first_broken (rule code) [] cards) (is_first (rule code) 1 [] cards h)
 
 -- ---- the least fault of the codes with a place below m
 
@@ -174,7 +174,7 @@ above m k (x ∷ xs) h i = by_place i (above (place x + 1) k xs h.1)
     by_place (inr j) later = let l = h.0 in let r = later j in omega arith
 
 -- from the best of the codes below m to the least of all, where the codes left are those from m on
-least_from : (cards : List SpecCard) → Numbered 0 cards → (m : ℕ) (best : Option Fault) (ks : List FaultCode) → Ascends m ks → ((k : FaultCode) → (place k < m) ⊎ IsOneOf k ks) → Best cards m best → MatchOption (least_of cards best ks) (Faultless cards) (λ f. IsLeastFault cards f)
+least_from : (cards : List SpecCard) → Numbered 1 cards → (m : ℕ) (best : Option Fault) (ks : List FaultCode) → Ascends m ks → ((k : FaultCode) → (place k < m) ⊎ IsOneOf k ks) → Best cards m best → MatchOption (least_of cards best ks) (Faultless cards) (λ f. IsLeastFault cards f)
 least_from cards numbered m None [] a all b = λ g h. b g (elim (all g.code) [ inl p ↦ p | inr x ↦ absurd x ]) h
 least_from cards numbered m (Some f) [] a all b = record { is = b.0; least = λ g h. b.2 g (elim (all g.code) [ inl p ↦ p | inr x ↦ absurd x ]) h }
 least_from cards numbered m best (x ∷ xs) a all b =
@@ -212,7 +212,7 @@ all_codes F16 = inr (inr (inr (inr (inr (inr (inr (inr (inr (inl refl)))))))))
 codes_ascend : Ascends 0 codes
 codes_ascend = (omega arith, (omega arith, (omega arith, (omega arith, (omega arith, (omega arith, (omega arith, (omega arith, (omega arith, (omega arith, tt))))))))))
 
-pub least : (cards : List SpecCard) → Numbered 0 cards → MatchOption (least_of cards None codes) (Faultless cards) (λ f. IsLeastFault cards f)
+pub least : (cards : List SpecCard) → Numbered 1 cards → MatchOption (least_of cards None codes) (Faultless cards) (λ f. IsLeastFault cards f)
 least cards numbered = least_from cards numbered 0 None codes codes_ascend (λ k. inr (all_codes k)) (λ g l h. omega arith)
 
 -- ---- what a source without faults keeps

@@ -31,7 +31,7 @@ const CODES: [FaultCode; 10] = [
 
 /// The least fault by card, then by code. It takes no memory.
 pub fn first_fault(cards: &[SpecCard]) -> Option<Fault>
-    requires numbered { Numbered 0 cards.now }
+    requires numbered { Numbered 1 cards.now }
     requires few { length cards.now ≤ 2000 }
     ensures { MatchOption result (faults.Faultless cards.now) (λ fault. faults.IsLeastFault cards.now fault) }
 {

@@ -63,10 +63,8 @@ fn fault_of(alloc: Global, source: &[&str]) -> Result<Option<Fault>, Fail> {
 /// The least fault of the good source with one card changed.
 fn fault_with(alloc: Global, number: usize, card: &str) -> Result<Option<Fault>, Fail> {
     let mut text = Vec::new(alloc);
-    let mut place = 1;
-    for good in GOOD {
-        push_card(&mut text, if place == number { card } else { good })?;
-        place += 1;
+    for (i, good) in GOOD.iter().enumerate() {
+        push_card(&mut text, if i + 1 == number { card } else { good })?;
     }
     answer(alloc, &text)
 }
