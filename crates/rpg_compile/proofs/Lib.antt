@@ -1,0 +1,7 @@
+pub mod FieldLemmas
+pub mod RowLemmas
+pub mod Plain
+pub mod Walks
+pub mod Counts
+pub mod Storage
+pub mod Limits

@@ -1,0 +1,39 @@
+-- Rows made one after the other.
+use Rattle.std.proofs.Common.{◌≡◌, suc, List, [], ◌∷◌, ◌++◌, map, Some, sym, ap, ◌∙◌, subst, arith}
+use Rattle.std.proofs.lemmas.List.{map-append, append_assoc}
+use Rattle.std.proofs.lemmas.List.Elements.{All-push}
+use Rattle.std.specs.Prelude.{All}
+use Rattle.std.specs.Option.{option_map}
+use Rattle.rpg_cards.specs.Cards.{type_on, line_on}
+use Rattle.rpg_cards.specs.declared.spec_card.SpecCard.{SpecCard}
+use Rattle.rpg_compile.specs.Tables.{with_first, type_of, types_of, line_of, lines_of}
+use Rattle.rpg_sheet.specs.declared.input.RecordType.{RecordType}
+use Rattle.rpg_sheet.specs.declared.output.OutputRecord.{OutputRecord}
+use Rattle.rpg_symbols.specs.Fields.{Fields}
+
+-- ---- all
+
+pub all_head : {X : Type 0} (P : X → Type 0) (x : X) (xs all : List X) → all ≡ x ∷ xs → All P all → P x
+all_head P x xs all e h = let k = subst (λ ys. All P ys) e h in k 0 x (omega arith)
+
+pub all_tail : {X : Type 0} (P : X → Type 0) (x : X) (xs all : List X) → all ≡ x ∷ xs → All P all → All P xs
+all_tail P x xs all e h = let g = subst (λ ys. All P ys) e h in λ k d lt. g (suc k) d (omega arith)
+
+-- ---- one more row
+
+pub one_more_row : {X Y : Type 0} (row : X → Y) (xs new : List X) (x : X) (y : Y) (rest tail all : List Y) → new ≡ xs ++ x ∷ [] → row x ≡ y → rest ≡ y ∷ tail → map row xs ++ rest ≡ all → map row new ++ tail ≡ all
+one_more_row row xs new x y rest tail all pushed here first so_far =
+    ap (λ zs. map row zs ++ tail) pushed ∙ ap (λ zs. zs ++ tail) (map-append row xs (x ∷ []))
+    ∙ append_assoc (map row xs) (row x ∷ []) tail ∙ ap (λ z. map row xs ++ (z ∷ tail)) here ∙ ap (λ zs. map row xs ++ zs) (sym first) ∙ so_far
+
+pub all_with_one_more : {X Y : Type 0} (row : X → Y) (P : Y → Type 0) (xs new : List X) (x : X) → new ≡ xs ++ x ∷ [] → All P (map row xs) → P (row x) → All P (map row new)
+all_with_one_more row P xs new x pushed h here =
+    subst (λ (zs : List _). All P zs) (sym (ap (map row) pushed ∙ map-append row xs (x ∷ []))) (All-push P (map row xs) (row x) h here)
+
+-- ---- the row of a card in front
+
+pub types_of-card : (fields : Fields) (c : SpecCard) (behind rest : List SpecCard) (t : RecordType) → rest ≡ c ∷ behind → Some t ≡ type_on c.spec → types_of fields rest ≡ type_of fields behind t ∷ types_of fields behind
+types_of-card fields c behind rest t split on = ap (types_of fields) split ∙ ap (λ o. with_first (option_map (type_of fields behind) o) (types_of fields behind)) (sym on)
+
+pub lines_of-card : (fields : Fields) (c : SpecCard) (behind rest : List SpecCard) (r : OutputRecord) → rest ≡ c ∷ behind → Some r ≡ line_on c.spec → lines_of fields rest ≡ line_of fields behind r ∷ lines_of fields behind
+lines_of-card fields c behind rest r split on = ap (lines_of fields) split ∙ ap (λ o. with_first (option_map (line_of fields behind) o) (lines_of fields behind)) (sym on)

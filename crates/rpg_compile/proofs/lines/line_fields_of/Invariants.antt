@@ -1,0 +1,11 @@
+use Rattle.std.proofs.Common.{◌≡◌, ◌++◌, drop}
+use Rattle.std.specs.Prelude.{All}
+use Rattle.rpg_compile.specs.Tables.{line_fields_of}
+use Rattle.rpg_object.specs.Kept.{IsLineFieldRow}
+use Rattle.rpg_compile.proofs.lines.line_fields_of.Given as goal
+
+abbrev pub invariant-loop-card : goal.invariant-loop-card
+invariant-loop-card l = record {
+  so_far : l.fields.items ++ line_fields_of l.symbols (drop l.card-index l.cards) ≡ line_fields_of l.symbols l.cards;
+  rows : All IsLineFieldRow l.fields.items;
+}

@@ -1,0 +1,34 @@
+-- What compiling a source answers.
+use Rattle.std.specs.Prelude.{◌≡◌, ℕ, List, map, None, Some}
+use Rattle.rpg_cards.specs.Cards.{spec_cards}
+use Rattle.rpg_cards.specs.declared.spec_card.SpecCard.{SpecCard}
+use Rattle.rpg_compile.specs.Program.{program_of}
+use Rattle.rpg_compile.specs.declared.fault.CompileFault.{CompileFault}
+use Rattle.rpg_compile.specs.declared.fault.CompileFault.TheVariants.{At, NoMemory}
+use Rattle.rpg_compile.specs.declared.fault.SourceCode.TheVariants.{Sheet, Fault}
+use Rattle.rpg_faults.specs.Faults.{Faultless, IsLeastFault}
+use Rattle.rpg_object.specs.Object.{Object}
+use Rattle.rpg_sheet.specs.Sheet.{card_of, first_fault, source}
+use Rattle.rpg_sheet.specs.declared.sheet.SheetFault.{SheetFault}
+use Rattle.rpg_sheet.specs.declared.sheet.SheetFault.TheVariants as sheet
+
+-- the cards of a source by what they stand for
+abbrev pub cards_in : List ℕ → List SpecCard
+cards_in text = spec_cards (map card_of (source text))
+
+-- a source without faults, and the program that it stands for
+pub record Compiles (text : List ℕ) (allowance : ℕ) (p : Object) : Type 0 where
+  pub readable : first_fault (source text) ≡ None
+  pub faultless : Faultless (cards_in text)
+  pub program : p ≡ program_of (cards_in text) allowance
+
+-- a fault of the sheets, as it is answered
+abbrev pub of_sheet : SheetFault → CompileFault
+of_sheet (sheet.At card code) = At card (Sheet code)
+of_sheet sheet.NoMemory = NoMemory
+
+-- what a refusal says: the least fault of the sheets, where there is none the least of the others, and nothing where memory was wanted
+abbrev pub IsRefusal : CompileFault → List ℕ → Type 0
+IsRefusal (At card (Sheet code)) text = first_fault (source text) ≡ Some (sheet.At card code)
+IsRefusal (At card (Fault code)) text = (first_fault (source text) ≡ None) × IsLeastFault (cards_in text) (record { card = card; code = code })
+IsRefusal NoMemory text = Unit {0}

@@ -1,0 +1,45 @@
+-- The fields of a program: UDATE and PAGE, then the names that cards define, in the order of their first definitions.
+use Rattle.std.specs.Prelude.{ℕ, ◌++◌, List, [], ◌∷◌, Option, None, Some, is_some, unwrap_or, map, replicate, pos, if◌then◌else◌}
+use Rattle.rpg_cards.specs.declared.spec_card.SpecCard.{SpecCard}
+use Rattle.rpg_cards.specs.Names.{definition_on}
+use Rattle.rpg_effect.specs.declared.form.Form.{Form}
+use Rattle.rpg_effect.specs.declared.form.Kind.{Kind}
+use Rattle.rpg_effect.specs.declared.form.Kind.TheVariants as kind
+use Rattle.rpg_effect.specs.Values.{Value, Number, Text}
+use Rattle.rpg_symbols.specs.Fields.{Fields, given, number_of, form_of}
+
+-- a name that isn't known yet is added
+abbrev pub with_name : Fields → List ℕ → Form → Fields
+with_name fields name form = if is_some (form_of fields name) then fields else fields ++ (name, form) ∷ []
+
+abbrev pub with_form : Fields → List ℕ → Option Form → Fields
+with_form fields name None = fields
+with_form fields name (Some form) = with_name fields name form
+
+-- what a card defines, unless its form is bad
+abbrev pub with_definition : Fields → Option (List ℕ × Option Form) → Fields
+with_definition fields None = fields
+with_definition fields (Some d) = with_form fields d.0 d.1
+
+-- those that stand already, and what further cards define
+abbrev pub fields_from : Fields → List SpecCard → Fields
+fields_from fields [] = fields
+fields_from fields (c ∷ cs) = fields_from (with_definition fields (definition_on c.spec)) cs
+
+abbrev pub fields_of : List SpecCard → Fields
+fields_of cards = fields_from given cards
+
+-- the number of a name, its place from 1; 0 where it isn't defined
+abbrev pub number_in : Fields → List ℕ → ℕ
+number_in fields name = unwrap_or (number_of fields name) 0
+
+-- what a field holds before the first cycle: zero or blanks
+abbrev pub first_of_kind : Kind → ℕ → Value
+first_of_kind kind.Number n = Number (pos 0)
+first_of_kind kind.Text n = Text (replicate n 32)
+
+abbrev pub first_value : Form → Value
+first_value f = first_of_kind f.kind f.length
+
+abbrev pub forms : Fields → List Form
+forms fields = map (λ (f : List ℕ × Form). f.1) fields

@@ -1,0 +1,5 @@
+pub mod Fields
+pub mod Tables
+pub mod Code
+pub mod Program
+pub mod Compile

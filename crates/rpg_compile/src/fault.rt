@@ -1,0 +1,52 @@
+//! Why a source isn't compiled.
+
+ghost use Rattle.std.specs.Prelude.{◌≡◌};
+ghost use Rattle.rpg_compile.specs.declared.fault.CompileFault.TheVariants.{NoMemory};
+
+use rpg_faults::FaultCode;
+use rpg_sheet::{SheetCode, SheetFault};
+use std::alloc::AllocError;
+use thiserror::Error;
+
+/// What is wrong with a card: as a card of its sheet, or among the others.
+#[derive(Clone, Copy, Debug, PartialEq, Eq, Error)]
+pub enum SourceCode {
+    #[error("{0}")]
+    Sheet(SheetCode),
+    #[error("{0}")]
+    Fault(FaultCode),
+}
+
+/// Why a source has no program.
+#[derive(Clone, Copy, Debug, PartialEq, Eq, Error)]
+pub enum CompileFault {
+    /// Cards are numbered from 1. Card 0 is the source as a whole.
+    #[error("card {card}: {code}")]
+    At { card: u16, code: SourceCode },
+    #[error("no memory")]
+    NoMemory,
+}
+
+impl From<SheetFault> for CompileFault {
+    ghost use Rattle.rpg_compile.specs.Compile.{of_sheet};
+
+    ghost from_gives = { λ fault result. result ≡ of_sheet fault };
+
+    fn from(fault: SheetFault) -> Self {
+        match fault {
+            SheetFault::At { card, code } => CompileFault::At {
+                card,
+                code: SourceCode::Sheet(code),
+            },
+            SheetFault::NoMemory => CompileFault::NoMemory,
+        }
+    }
+}
+
+impl From<AllocError> for CompileFault {
+    ghost from_gives = { λ _ fault. fault ≡ NoMemory };
+
+    fn from(_: AllocError) -> Self {
+        CompileFault::NoMemory
+    }
+}

@@ -1,0 +1,116 @@
+//! The fields of a program.
+
+ghost use Rattle.std.specs.Prelude.{◌≡◌, ◌+◌, ◌<◌, ◌≤◌, length, map, IfOk, OnOk};
+ghost use Rattle.rpg_cards.specs.Names.{definition_on};
+ghost use Rattle.rpg_compile.specs.Fields as fields;
+ghost use Rattle.rpg_effect.specs.Values.{held};
+ghost use Rattle.rpg_symbols.specs.Fields.{given, storage};
+
+use rpg_cards::SpecCard;
+use rpg_effect::form::{Form, Kind};
+use rpg_effect::value::Value;
+use rpg_symbols::{DefineFault, Name, Symbols};
+use std::alloc::{AllocError, Global};
+
+/// The fields of a program: their names with their numbers, and their forms in the order of the numbers.
+#[derive(Drop)]
+pub(crate) struct FieldTable {
+    pub(crate) symbols: Symbols,
+    pub(crate) forms: Vec<Form>,
+}
+
+impl FieldTable {
+    /// The fields that cards define.
+    pub(crate) fn of_cards(alloc: Global, cards: &[SpecCard]) -> Result<Self, AllocError>
+        requires few { length cards.now ≤ 2000 }
+        requires storage { storage (fields.fields_of cards.now) ≤ 65535 }
+        ensures symbols { IfOk result (λ t. t.symbols ≡ fields.fields_of cards.now) }
+        ensures forms { IfOk result (λ t. t.forms.items ≡ fields.forms (fields.fields_of cards.now)) }
+    {
+        let mut table = FieldTable::given(alloc)?;
+        for card in cards {
+            table.define_on(card)?;
+        }
+        Ok(table)
+    }
+
+    /// The fields that every program has.
+    fn given(alloc: Global) -> Result<Self, AllocError>
+        ensures symbols { IfOk result (λ t. t.symbols ≡ given) }
+        ensures forms { IfOk result (λ t. t.forms.items ≡ fields.forms given) }
+    {
+        let Ok(symbols) = Symbols::new(alloc) else {
+            return Err(AllocError);
+        };
+        let mut forms = Vec::new(alloc);
+        forms.push(symbols.form(1))?;
+        forms.push(symbols.form(2))?;
+        Ok(FieldTable { symbols, forms })
+    }
+
+    /// One more field, where a card defines a name that isn't known yet.
+    fn define_on(&mut self, card: &SpecCard) -> Result<(), AllocError>
+        requires same { self.old.forms.items ≡ fields.forms self.old.symbols }
+        requires few { length self.old.symbols < 4000 }
+        requires room { storage (fields.with_definition self.old.symbols (definition_on card.now.spec)) ≤ 65535 }
+        ensures symbols { OnOk result (self.new.symbols ≡ fields.with_definition self.old.symbols (definition_on card.now.spec)) }
+        ensures forms { OnOk result (self.new.forms.items ≡ fields.forms self.new.symbols) }
+    {
+        let Some(name) = card.defined_name() else {
+            return Ok(());
+        };
+        match card.defined_form() {
+            Some(form) => self.define(Name::new(name.as_slice()), form),
+            None => Ok(()),
+        }
+    }
+
+    /// One more field, where the name isn't known yet.
+    fn define(&mut self, name: Name, form: Form) -> Result<(), AllocError>
+        requires same { self.old.forms.items ≡ fields.forms self.old.symbols }
+        requires few { length self.old.symbols < 4000 }
+        requires room { storage (fields.with_name self.old.symbols name form) ≤ 65535 }
+        ensures symbols { OnOk result (self.new.symbols ≡ fields.with_name self.old.symbols name form) }
+        ensures forms { OnOk result (self.new.forms.items ≡ fields.forms self.new.symbols) }
+    {
+        match self.symbols.define(name, form) {
+            Ok(number) => {
+                if number as usize > self.forms.len() {
+                    self.forms.push(form)?;
+                }
+                Ok(())
+            }
+            Err(DefineFault::Other) => Ok(()),
+            Err(DefineFault::Full) => unreachable!(),
+            Err(DefineFault::NoMemory) => Err(AllocError),
+        }
+    }
+}
+
+/// The number of a name; 0 where it isn't defined.
+pub(crate) fn number_in(symbols: &Symbols, name: &Name) -> u16
+    ensures { result ≡ fields.number_in symbols.now name.now }
+{
+    symbols.look(name).unwrap_or(0)
+}
+
+/// Zero or blanks.
+fn first_value(alloc: Global, form: &Form) -> Result<Value, AllocError>
+    ensures { IfOk result (λ v. held v ≡ fields.first_value form.now) }
+{
+    match form.kind {
+        Kind::Number => Ok(Value::Number(0)),
+        Kind::Text => Ok(Value::Text(vec![in alloc; b' '; form.length as usize]?)),
+    }
+}
+
+/// What the fields hold before the first cycle.
+pub(crate) fn first_values(alloc: Global, forms: &[Form]) -> Result<Vec<Value>, AllocError>
+    ensures { IfOk result (λ v. map held v.items ≡ map fields.first_value forms.now) }
+{
+    let mut values = Vec::new(alloc);
+    for form in forms {
+        values.push(first_value(alloc, form)?)?;
+    }
+    Ok(values)
+}

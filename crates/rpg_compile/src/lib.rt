@@ -1,0 +1,18 @@
+//! The compiler: from the cards of a source to an object program.
+#![tactic(auto)]
+
+mod code;
+mod fault;
+mod fields;
+mod lines;
+mod program;
+mod source;
+mod types;
+
+pub use fault::{CompileFault, SourceCode};
+pub use rpg_faults::FaultCode;
+pub use rpg_sheet::SheetCode;
+pub use source::compile;
+
+#[cfg(test)]
+mod tests;

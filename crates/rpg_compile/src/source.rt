@@ -1,0 +1,28 @@
+//! From the text of a source to its program.
+
+ghost use Rattle.std.specs.Prelude.{◌<◌, IfOk, IfErr};
+ghost use Rattle.rpg_compile.specs.Compile as compiling;
+
+use crate::fault::{CompileFault, SourceCode};
+use crate::program::program_of;
+use rpg_cards::spec_cards;
+use rpg_faults::first_fault;
+use rpg_object::Program;
+use std::alloc::Global;
+
+/// Compiles a source. `allowance` is what its program may spend in a cycle on backward branches and calls.
+pub fn compile(alloc: Global, text: &[u8], allowance: u16) -> Result<Program, CompileFault>
+    requires { 0 < allowance }
+    ensures ok { IfOk result (λ program. compiling.Compiles text.now allowance program) }
+    ensures err { IfErr result (λ fault. compiling.IsRefusal fault text.now) }
+{
+    let cards = rpg_sheet::cards(alloc, text)?;
+    let cards = spec_cards(alloc, &cards)?;
+    if let Some(fault) = first_fault(&cards) {
+        return Err(CompileFault::At {
+            card: fault.card,
+            code: SourceCode::Fault(fault.code),
+        });
+    }
+    Ok(program_of(alloc, &cards, allowance)?)
+}
