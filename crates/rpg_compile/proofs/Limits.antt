@@ -4,7 +4,7 @@ use Rattle.std.proofs.lemmas.Bool.{or_parts, and_parts, leb-true}
 use Rattle.std.proofs.lemmas.List.{append_assoc}
 use Rattle.std.specs.Prelude.{is_none, not, if◌then◌else◌}
 use Rattle.std.specs.Option.{option_map_or}
-use Rattle.rpg_cards.specs.Cards.{file_on, Numbered}
+use Rattle.rpg_cards.specs.Cards.{file_on}
 use Rattle.rpg_cards.specs.Files.{first_file, or_later, input_file, output_file, is_input, is_output}
 use Rattle.rpg_cards.specs.Names.{is_between}
 use Rattle.rpg_cards.specs.declared.spec_card.SpecCard.{SpecCard}
@@ -95,8 +95,3 @@ faultless_keeps_limits cards none = record {
   lines = few_lines (fields_of cards) cards none;
   line_fields = few_line_fields (fields_of cards) cards none;
 }
-
--- numbers from 1 on are numbers from 0 on
-pub numbered_from_0 : (cards : List SpecCard) → Numbered 1 cards → Numbered 0 cards
-numbered_from_0 [] h = tt
-numbered_from_0 (c ∷ cs) h = (omega arith, h.1)

@@ -1,11 +1,8 @@
 use Rattle.std.proofs.Common.{◌∙◌, sym, ap, subst}
-use Rattle.rpg_cards.specs.Cards.{spec_cards, Numbered}
-use Rattle.rpg_compile.proofs.Limits.{faultless_keeps_limits, numbered_from_0}
+use Rattle.rpg_cards.specs.Cards.{spec_cards}
+use Rattle.rpg_compile.proofs.Limits.{faultless_keeps_limits}
 use Rattle.rpg_faults.specs.Faults.{Faultless, IsLeastFault}
 use Rattle.rpg_compile.proofs.source.compile.Goals as goal
-
-pub first_fault-requires-clause-numbered : goal.first_fault-requires-clause-numbered
-first_fault-requires-clause-numbered c = numbered_from_0 c.deref.result.now (subst (Numbered 1) (sym c.deref.ensures.value) c.in_ok-cards-2.ensures.numbered)
 
 pub returns-in-Some-clause-err : goal.returns-in-Some-clause-err
 returns-in-Some-clause-err c =
