@@ -1,16 +1,23 @@
 # Melguda: an RPG II compiler, an object-program verifier and a machine. The Rattle kit's command `rt` is all it needs.
 
-EXAMPLE := examples/total
+EXAMPLE := examples/invoices
 RPG2 := crates/rpg2/out/rpg2
 SOURCES := $(shell find crates -path '*/out' -prune -o \( -name '*.rt' -o -name '*.antt' \) -print)
 
 .PHONY: run test bench
 
-# Builds rpg2 and runs the example report: its printed form, and then the line that rpg2 says.
+# Builds rpg2, shows the example report's source, compiles it and runs it: what rpg2 says of each, and the printed form between.
 run: $(RPG2)
 	@mkdir -p out
-	@$(RPG2) run $(EXAMPLE)/total.obj $(EXAMPLE)/amounts.txt out/total.print --date 010576 > out/total.line; \
-	status=$$?; cat out/total.print out/total.line; exit $$status
+	@cat $(EXAMPLE)/invoices.rpg
+	@echo
+	@echo '$$ rpg2 compile invoices.rpg invoices.obj'
+	@$(RPG2) compile $(EXAMPLE)/invoices.rpg out/invoices.obj
+	@echo
+	@echo '$$ rpg2 run invoices.obj invoices.txt invoices.print --date 010576'
+	@$(RPG2) run out/invoices.obj $(EXAMPLE)/invoices.txt out/invoices.print --date 010576 > out/invoices.line; \
+	status=$$?; cat out/invoices.print out/invoices.line; exit $$status
+	@cmp out/invoices.print $(EXAMPLE)/invoices.expected
 
 # The gate: every proof from nothing, every must-fail edit, every test, every program as two compilers build it.
 test:

@@ -1,5 +1,6 @@
 #!/usr/bin/env bash
-# Runs the example with each of its allocations refused in turn: the answer must be `no memory`, status 1, and nothing is printed.
+# Compiles an example, and runs one, with each of its allocations refused in turn: the answer must be `no memory`, status 1, and
+# nothing is written.
 set -euo pipefail
 
 top=$(cd "$(dirname "$0")/.." && pwd)
@@ -53,22 +54,32 @@ void *aligned_alloc(size_t align, size_t size) {
 PROGRAM
 cc -O1 -shared -fPIC -o "$work/refuse.so" "$work/refuse.c" -ldl
 
-refused=0
-served=0
-for ((nth = 1; served < 100; nth++)); do
-    : > "$work/print"
-    status=0
-    line=$(REFUSED=$nth LD_PRELOAD=$work/refuse.so "$rpg2" run "$top/examples/total/total.obj" \
-        "$top/examples/total/amounts.txt" "$work/print" --date 010576) || status=$?
-    if [ "$line" = "end of job, cycles 3" ] && [ "$status" = 0 ] && cmp -s "$work/print" "$top/examples/total/total.expected"; then
-        served=$((served + 1))
-        continue
-    fi
-    served=0
-    if [ "$line" != "no memory" ] || [ "$status" != 1 ] || [ -s "$work/print" ]; then
-        echo "allocation $nth refused: '$line', status $status"
-        exit 1
-    fi
-    refused=$((refused + 1))
-done
-echo "$refused allocations refused in turn: no memory, status 1, nothing printed"
+# Refuses the allocations of a command in turn, until 100 runs are served one after the other. A served run prints this line and
+# writes this file as expected.
+refuse() {
+    local command=$1 wanted=$2 written=$3 expected=$4
+    local refused=0 served=0 nth line status
+    for ((nth = 1; served < 100; nth++)); do
+        rm -f "$written"
+        status=0
+        line=$(REFUSED=$nth LD_PRELOAD=$work/refuse.so "$rpg2" "${@:5}") || status=$?
+        if [ "$line" = "$wanted" ] && [ "$status" = 0 ] && cmp -s "$written" "$expected"; then
+            served=$((served + 1))
+            continue
+        fi
+        served=0
+        if [ "$line" != "no memory" ] || [ "$status" != 1 ] || [ -s "$written" ]; then
+            echo "$command, allocation $nth refused: '$line', status $status"
+            exit 1
+        fi
+        refused=$((refused + 1))
+    done
+    echo "$command: $refused allocations refused in turn, no memory, status 1, nothing written"
+}
+
+lister=$top/examples/lister
+total=$top/examples/total
+"$rpg2" compile "$lister/lister.rpg" "$work/lister.obj" > "$work/line"
+refuse compile "compiled" "$work/refused.obj" "$work/lister.obj" compile "$lister/lister.rpg" "$work/refused.obj"
+refuse run "end of job, cycles 3" "$work/print" "$total/total.expected" \
+    run "$total/total.obj" "$total/amounts.txt" "$work/print" --date 010576

@@ -4,6 +4,7 @@ use Rattle.rpg_format.specs.declared.fault.Code.{Code}
 use Rattle.rpg_format.specs.declared.fault.Code.TheVariants.{NoObject, Version, CutShort, LeftOver, NotAllowed, Unused, PastLimit}
 use Rattle.rpg_effect.specs.declared.outcome.Wrong.{Wrong}
 use Rattle.rpg_effect.specs.declared.outcome.Wrong.TheVariants as wrong
+use Rattle.rpg_cli.specs.SourceCodes.{source_code_text}
 use Rattle.rpg_cli.specs.declared.answer.Answer.{Answer}
 use Rattle.rpg_cli.specs.declared.answer.Answer.TheVariants as answer
 
@@ -23,6 +24,8 @@ wrong_text wrong.Kind = codes "kind"
 wrong_text wrong.Return = codes "return"
 
 abbrev pub line_text : Answer → List ℕ
+line_text answer.Compiled = codes "compiled"
+line_text (answer.Source card code) = codes "card " ++ decimal card ++ codes ": " ++ source_code_text code
 line_text (answer.EndOfJob cycles) = codes "end of job" ++ codes ", cycles " ++ decimal cycles
 line_text (answer.Halt number cycles) = codes "halt " ++ decimal number ++ codes ", cycles " ++ decimal cycles
 line_text (answer.Wrong wrong cycles) = codes "wrong " ++ wrong_text wrong ++ codes ", cycles " ++ decimal cycles
@@ -34,6 +37,8 @@ line_text answer.FileTooLarge = codes "file too large"
 line_text answer.NoMemory = codes "no memory"
 
 abbrev pub exit_status : Answer → ℕ
+exit_status answer.Compiled = 0
+exit_status (answer.Source card code) = 3
 exit_status (answer.EndOfJob cycles) = 0
 exit_status (answer.Halt number cycles) = 5
 exit_status (answer.Wrong wrong cycles) = 5

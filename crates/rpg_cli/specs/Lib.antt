@@ -6,3 +6,4 @@ pub mod Receiving
 pub mod Records
 pub mod Saying
 pub mod Sending
+pub mod SourceCodes

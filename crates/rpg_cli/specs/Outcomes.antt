@@ -1,5 +1,7 @@
--- The answer to each report and fault of a run.
+-- The answer to each report and fault of a run, and to each fault of a source.
 use Rattle.std.specs.Prelude.{ℕ}
+use Rattle.rpg_compile.specs.declared.fault.CompileFault.{CompileFault}
+use Rattle.rpg_compile.specs.declared.fault.CompileFault.TheVariants as source
 use Rattle.rpg_cycle.specs.declared.flow.JobEnd.{JobEnd}
 use Rattle.rpg_cycle.specs.declared.flow.JobEnd.TheVariants as ending
 use Rattle.rpg_cli.specs.declared.answer.Answer.{Answer}
@@ -23,3 +25,7 @@ answer_to_fault faults.Read = answer.InputFailed
 answer_to_fault (faults.Print sent) = answer.OutputFailed
 answer_to_fault (faults.Disk sent) = answer.OutputFailed
 answer_to_fault faults.NoMemory = answer.NoMemory
+
+abbrev pub answer_to_source_fault : CompileFault → Answer
+answer_to_source_fault (source.At card code) = answer.Source card code
+answer_to_source_fault source.NoMemory = answer.NoMemory

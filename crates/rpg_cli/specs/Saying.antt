@@ -1,5 +1,5 @@
 -- What the program prints.
-use Rattle.std.specs.Prelude.{◌≡◌, ℕ, ◌⊎◌, List, Option}
+use Rattle.std.specs.Prelude.{◌≡◌, ℕ, ◌≤◌, ◌⊎◌, List, Option}
 use Rattle.std.specs.Io.KnownBytes.{Appends, Keeps}
 use Rattle.rpg_cli.specs.Answers.{exit_status, line_text}
 use Rattle.rpg_cli.specs.Sending.{AppendsPrefix}
@@ -11,6 +11,6 @@ abbrev pub Says : Option (List ℕ) → Option (List ℕ) → ℕ → Answer →
 Says old new status answer =
     (Appends old new (with_line_feed (line_text answer)) × (status ≡ exit_status answer)) ⊎ (AppendsPrefix old new (with_line_feed (line_text answer)) × (status ≡ 1))
 
--- an answer's line, or nothing where clap answers in its place
+-- an answer's line; or nothing, with a status of at most 2, where clap answers in its place
 abbrev pub PrintsALine : Option (List ℕ) → Option (List ℕ) → ℕ → Type 0
-PrintsALine old new status = Keeps old new ⊎ ((answer : Answer) × Says old new status answer)
+PrintsALine old new status = (Keeps old new × (status ≤ 2)) ⊎ ((answer : Answer) × Says old new status answer)

@@ -6,6 +6,7 @@ use crate::fault::RunFault;
 use crate::receiving::ReadFault;
 use crate::report::Report;
 use arrayvec::ArrayVec;
+use rpg_compile::{CompileFault, SourceCode};
 use rpg_cycle::JobEnd;
 use rpg_effect::outcome::Wrong;
 use rpg_format::fault::Code;
@@ -14,6 +15,10 @@ use rpg_object::DecodeFault;
 /// How a command ended.
 #[derive(Clone, Copy, Debug, PartialEq, Eq)]
 pub enum Answer {
+    /// The source was compiled to an object program.
+    Compiled,
+    /// The source is refused: its least fault. Cards are numbered from 1; card 0 is the source as a whole.
+    Source { card: u16, code: SourceCode },
     /// The job came to its end.
     EndOfJob { cycles: u64 },
     /// The job halted with this number.
@@ -90,5 +95,18 @@ impl From<ReadFault> for Answer {
 
     fn from(fault: ReadFault) -> Answer {
         Answer::from(RunFault::from(fault))
+    }
+}
+
+impl From<CompileFault> for Answer {
+    ghost use Rattle.rpg_cli.specs.Outcomes.{answer_to_source_fault};
+
+    ghost from_gives = { λ fault answer. answer ≡ answer_to_source_fault fault };
+
+    fn from(fault: CompileFault) -> Answer {
+        match fault {
+            CompileFault::At { card, code } => Answer::Source { card, code },
+            CompileFault::NoMemory => Answer::NoMemory,
+        }
     }
 }

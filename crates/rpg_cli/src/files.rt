@@ -1,13 +1,15 @@
 //! The files of a command.
 
 use crate::answer::Answer;
-use crate::command_line::RunWords;
+use crate::command_line::{CompileWords, RunWords};
 use crate::engine::execute;
 use crate::receiving::read_all;
 use crate::report::Report;
+use crate::sending::send;
+use crate::translation::compile_to_bytes;
 use rpg_object::decode;
 use std::alloc::Global;
-use std::io::{Error, ErrorKind, Read};
+use std::io::{Error, ErrorKind, Read, Write};
 use std::rt::Files;
 use std::{fs, io};
 
@@ -36,6 +38,22 @@ fn file_bytes<R: Files + AllocGlobal>(rt: &R, path: &str) -> Result<Vec<u8>, Ans
         return Err(Answer::FileTooLarge);
     }
     Ok(bytes)
+}
+
+/// Compiles a source to an object file.
+///
+/// The object file is made, which empties it, once the source is compiled: a source that is refused leaves it as it was.
+pub(crate) fn compile_files<R: Files + AllocGlobal>(
+    rt: &R,
+    words: &CompileWords,
+) -> Result<(), Answer> {
+    let source = file_bytes(rt, words.source)?;
+    let object = compile_to_bytes(rt.alloc(), &source, words.allowance)?;
+    let mut file = fs::create(rt, words.object).map_err(output_fault)?;
+    match send(&mut file, &object) {
+        Ok(()) => file.flush().map_err(output_fault),
+        Err(_) => Err(Answer::OutputFailed),
+    }
 }
 
 /// Runs an object program over its files.

@@ -12,9 +12,11 @@ mod receiving;
 mod records;
 mod report;
 mod sending;
+mod source_code;
 #[cfg(test)]
 mod tests;
 mod text;
+mod translation;
 
 pub use answer::{Answer, Line};
 pub use engine::{execute, runs_are_one};
@@ -22,5 +24,7 @@ pub use fault::RunFault;
 pub use program::{main_with, run};
 pub use records::records_are_lines;
 pub use report::Report;
+pub use rpg_compile::{CompileFault, SourceCode};
 pub use rpg_cycle::{Job, run_records};
 pub use text::line;
+pub use translation::compile_to_bytes;

@@ -1,10 +1,11 @@
 //! The program `rpg2`.
 
+ghost use Rattle.std.specs.Prelude.{◌≤◌};
 ghost use Rattle.rpg_cli.specs.Saying.{PrintsALine, Says};
 
 use crate::answer::Answer;
 use crate::command_line::{Request, request_of};
-use crate::files::run_files;
+use crate::files::{compile_files, run_files};
 use crate::sending::send_line;
 use crate::text::line;
 use clap::Error;
@@ -16,6 +17,10 @@ use std::{env, io};
 
 fn answer_to<R: Files + AllocGlobal>(rt: &R, request: &Request) -> Answer {
     match request {
+        Request::Compile(words) => match compile_files(rt, words) {
+            Ok(()) => Answer::Compiled,
+            Err(answer) => answer,
+        },
         Request::Run(words) => match run_files(rt, words) {
             Ok(report) => Answer::from(report),
             Err(answer) => answer,
@@ -36,7 +41,9 @@ fn say<W: Write>(out: &mut W, answer: &Answer) -> u8
 }
 
 /// Prints clap's text on a fault of the command line, or help that was asked for, and answers the exit status.
-fn explain<R: Print + Eprint + AllocGlobal>(rt: &R, error: &Error) -> u8 {
+fn explain<R: Print + Eprint + AllocGlobal>(rt: &R, error: &Error) -> u8
+    ensures { result ≤ 2 }
+{
     let is_fault = error.use_stderr();
     match error.print(rt) {
         Ok(()) if is_fault => 2,

@@ -1,7 +1,9 @@
 //! The worked rows of the engine, and what no clause says of it.
 
+mod compiling;
 mod devices;
 mod files;
 mod lines;
 mod objects;
 mod rows;
+mod sources;

@@ -3,10 +3,13 @@
 ghost use Rattle.std.specs.Prelude.{◌≡◌, ◌+◌, ◌≤◌, ◌++◌, length, codes, decimal};
 ghost use Rattle.arrayvec.specs.ArrayVec.{array_vec_len};
 ghost use Rattle.rpg_cli.specs.Answers.{code_text, exit_status, line_text, wrong_text};
+ghost use Rattle.rpg_cli.specs.SourceCodes.{source_code_text};
 
 use crate::answer::{Answer, Line};
+use crate::source_code::source_code_text;
 use arrayvec::ArrayVec;
 use itoa::Buffer;
+use rpg_compile::SourceCode;
 use rpg_effect::outcome::Wrong;
 use rpg_format::fault::Code;
 
@@ -35,6 +38,26 @@ fn put_cycles(text: &mut Text, cycles: u64)
 {
     put(text, b", cycles ");
     put_number(text, cycles);
+}
+
+fn put_source_fault(text: &mut Text, card: u16, code: SourceCode)
+    requires { array_vec_len text.old ≤ 60 }
+    ensures { text.new.items ≡ text.old.items ++ codes "card " ++ decimal card ++ codes ": " ++ source_code_text code }
+{
+    put(text, b"card ");
+    put_number(text, u64::from(card));
+    put(text, b": ");
+    put(text, source_code_text(code));
+}
+
+fn put_object_fault(text: &mut Text, offset: usize, code: Code)
+    requires { array_vec_len text.old ≤ 50 }
+    ensures { text.new.items ≡ text.old.items ++ codes "refused: " ++ code_text code ++ codes " at " ++ decimal offset }
+{
+    put(text, b"refused: ");
+    put(text, code_text(code));
+    put(text, b" at ");
+    put_number(text, offset as u64);
 }
 
 fn code_text(code: Code) -> &'static [u8]
@@ -69,11 +92,12 @@ fn exit_status(answer: &Answer) -> u8
     ensures { result ≡ exit_status answer.now }
 {
     match answer {
-        Answer::EndOfJob { .. } => 0,
-        Answer::Halt { .. } | Answer::Wrong { .. } => 5,
-        Answer::NotAnObject { .. } => 4,
-        Answer::BadDate => 2,
+        Answer::Compiled | Answer::EndOfJob { .. } => 0,
         Answer::InputFailed | Answer::OutputFailed | Answer::FileTooLarge | Answer::NoMemory => 1,
+        Answer::BadDate => 2,
+        Answer::Source { .. } => 3,
+        Answer::NotAnObject { .. } => 4,
+        Answer::Halt { .. } | Answer::Wrong { .. } => 5,
     }
 }
 
@@ -84,6 +108,8 @@ pub fn line(answer: &Answer) -> Line
 {
     let mut text = ArrayVec::new();
     match *answer {
+        Answer::Compiled => put(&mut text, b"compiled"),
+        Answer::Source { card, code } => put_source_fault(&mut text, card, code),
         Answer::EndOfJob { cycles } => {
             put(&mut text, b"end of job");
             put_cycles(&mut text, cycles);
@@ -98,12 +124,7 @@ pub fn line(answer: &Answer) -> Line
             put(&mut text, wrong_text(wrong));
             put_cycles(&mut text, cycles);
         }
-        Answer::NotAnObject { offset, code } => {
-            put(&mut text, b"refused: ");
-            put(&mut text, code_text(code));
-            put(&mut text, b" at ");
-            put_number(&mut text, offset as u64);
-        }
+        Answer::NotAnObject { offset, code } => put_object_fault(&mut text, offset, code),
         Answer::BadDate => put(&mut text, b"bad date"),
         Answer::InputFailed => put(&mut text, b"input failed"),
         Answer::OutputFailed => put(&mut text, b"output failed"),

@@ -8,7 +8,7 @@ use std::test::Fail;
 use std::{env, fs, io};
 
 /// A file of its own for a test, in the folder for such files.
-fn path<R: Env + AllocGlobal>(rt: &R, name: &str) -> io::Result<String> {
+pub fn path<R: Env + AllocGlobal>(rt: &R, name: &str) -> io::Result<String> {
     let folder = env::temp_dir(rt)?;
     let path = format!(in rt.alloc(); "{}/melguda_{name}", folder.display())?;
     Ok(path)
@@ -23,7 +23,7 @@ fn words(alloc: Global, list: &[&str]) -> Result<Vec<String>, AllocError> {
 }
 
 /// The line that the program prints for these words, and its status.
-fn said<R: Files + Print + Eprint + AllocGlobal>(
+pub fn said<R: Files + Print + Eprint + AllocGlobal>(
     rt: &R,
     list: &[&str],
 ) -> Result<(Vec<u8>, u8), AllocError> {
@@ -188,9 +188,10 @@ fn a_file_of_67_records_has_two_pages(rt: HostRuntime) -> Result<(), Fail> {
 
 #[test]
 fn a_wrong_command_line_prints_no_line(rt: HostRuntime) -> Result<(), Fail> {
-    let lists: [&[&str]; 4] = [
+    let lists: [&[&str]; 5] = [
         &["rpg2"],
         &["rpg2", "walk"],
+        &["rpg2", "compile", "a"],
         &["rpg2", "run", "a", "b", "c"],
         &["rpg2", "run", "a", "b", "--date", "010576"],
     ];

@@ -1,13 +1,31 @@
 //! The line and the status of each answer.
 
 use crate::{Answer, line};
+use rpg_compile::{FaultCode, SheetCode, SourceCode};
 use rpg_effect::outcome::Wrong;
 use rpg_format::fault::Code;
 use std::test::Fail;
 
 #[test]
 fn each_answer_has_its_line_and_status(rt: HostRuntime) -> Result<(), Fail> {
-    let answers: [(Answer, &[u8], u8); 15] = [
+    let answers: [(Answer, &[u8], u8); 18] = [
+        (Answer::Compiled, b"compiled", 0),
+        (
+            Answer::Source {
+                card: 6,
+                code: SourceCode::Fault(FaultCode::F16),
+            },
+            b"card 6: F16",
+            3,
+        ),
+        (
+            Answer::Source {
+                card: 65_535,
+                code: SourceCode::Sheet(SheetCode::S1),
+            },
+            b"card 65535: S1",
+            3,
+        ),
         (Answer::EndOfJob { cycles: 3 }, b"end of job, cycles 3", 0),
         (
             Answer::Halt {
