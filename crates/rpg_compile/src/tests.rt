@@ -271,16 +271,11 @@ fn refusals_are_printed(rt: HostRuntime) -> Result<(), Fail> {
     Ok(())
 }
 
-/// Run with each refused allocation too: the source is then refused for it, and nothing else is said.
+/// Run with each refused allocation too: the source is then refused for it, and nothing else is said. (The first few are the
+/// source text's own.)
 #[test]
 fn a_refused_growth_is_no_fault(rt: HostRuntime) -> Result<(), Fail> {
-    let mut text = Vec::new(rt.alloc());
-    for card in BASE {
-        push_card(&mut text, card)?;
-    }
-    for card in LISTER {
-        push_card(&mut text, card)?;
-    }
+    let text = source(rt.alloc(), &LISTER)?;
     match compile(rt.alloc(), &text, 1000) {
         Ok(program) => assert_eq!(rt; program.rows().lines.len(), 1),
         Err(fault) => assert_eq!(rt; fault, CompileFault::NoMemory),
