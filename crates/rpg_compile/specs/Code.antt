@@ -1,5 +1,5 @@
 -- The instructions of calculation cards.
-use Rattle.std.specs.Prelude.{ℕ, List, [], ◌∷◌, Option}
+use Rattle.std.specs.Prelude.{ℕ, false, List, [], ◌∷◌, Option}
 use Rattle.std.specs.Option.{option_map, option_and_then, option_or}
 use Rattle.rpg_cards.specs.Cards.{calculation_on}
 use Rattle.rpg_cards.specs.declared.spec_card.SpecCard.{SpecCard}
@@ -7,15 +7,18 @@ use Rattle.rpg_compile.specs.Tables.{operand_of, with_first}
 use Rattle.rpg_effect.specs.declared.operation.Action.TheVariants as actions
 use Rattle.rpg_effect.specs.declared.operation.Instruction.{Instruction}
 use Rattle.rpg_effect.specs.declared.operation.Instruction.TheVariants.{Act}
+use Rattle.rpg_effect.specs.declared.operation.Operator.TheVariants as operators
+use Rattle.rpg_object.specs.Rows.{no_shows}
 use Rattle.rpg_sheet.specs.declared.calculation.CalculationSpec.{CalculationSpec}
 use Rattle.rpg_sheet.specs.declared.calculation.Operation.{Operation}
 use Rattle.rpg_sheet.specs.declared.calculation.Operation.TheVariants as op
 use Rattle.rpg_symbols.specs.Fields.{Fields}
 
--- One case an operation. A blank factor 1 is the result field.
+-- One case an operation, cut and without resulting indicators. A blank factor 1 is the result field.
 abbrev pub instruction_of : Fields → CalculationSpec → Operation → Instruction ℕ
-instruction_of fields c op.Add = Act (actions.Add (operand_of fields (option_or c.factor_1 c.result_field)) (operand_of fields c.factor_2) (operand_of fields c.result_field))
-instruction_of fields c op.ZeroAdd = Act (actions.ZeroAdd (operand_of fields c.factor_2) (operand_of fields c.result_field))
+instruction_of fields c op.Add =
+    Act (actions.Compute operators.Add false (operand_of fields (option_or c.factor_1 c.result_field)) (operand_of fields c.factor_2) (operand_of fields c.result_field) no_shows)
+instruction_of fields c op.ZeroAdd = Act (actions.Assign false false (operand_of fields c.factor_2) (operand_of fields c.result_field) no_shows)
 
 -- what a C card becomes
 abbrev pub instruction_on : Fields → CalculationSpec → Option (Instruction ℕ)

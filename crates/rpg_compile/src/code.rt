@@ -6,10 +6,16 @@ ghost use Rattle.rpg_object.specs.Kept.{IsInstructionRow};
 
 use crate::lines::operand_of;
 use rpg_cards::SpecCard;
-use rpg_effect::operation::{Action, Instruction};
+use rpg_effect::operation::{Action, Instruction, Operator, Shows};
 use rpg_sheet::{CalculationSpec, Operation};
 use rpg_symbols::Symbols;
 use std::alloc::{AllocError, Global};
+
+const NO_INDICATORS: Shows = Shows {
+    plus: None,
+    minus: None,
+    zero: None,
+};
 
 /// An instruction for each C card.
 pub(crate) fn code_of(
@@ -43,14 +49,23 @@ fn instruction_of(
     let factor2 = operand_of(symbols, &calculation.factor_2);
     let result = operand_of(symbols, &calculation.result_field);
     Instruction::Act(match operation {
-        Operation::Add => Action::Add {
+        Operation::Add => Action::Compute {
+            operator: Operator::Add,
+            half: false,
             factor1: match calculation.factor_1 {
                 Some(_) => operand_of(symbols, &calculation.factor_1),
                 None => result,
             },
             factor2,
             result,
+            shows: NO_INDICATORS,
         },
-        Operation::ZeroAdd => Action::ZeroAdd { factor2, result },
+        Operation::ZeroAdd => Action::Assign {
+            is_negated: false,
+            half: false,
+            factor2,
+            result,
+            shows: NO_INDICATORS,
+        },
     })
 }

@@ -3,7 +3,7 @@
 use crate::{CompileFault, FaultCode, SheetCode, SourceCode, compile};
 use rpg_effect::form::{Class, Kind};
 use rpg_effect::line::{File, Time};
-use rpg_effect::operation::{Action, Instruction};
+use rpg_effect::operation::{Action, Instruction, Operator};
 use rpg_effect::value::Value;
 use rpg_object::Program;
 use std::alloc::Global;
@@ -143,13 +143,16 @@ fn the_running_total_adds(rt: HostRuntime) -> Result<(), Fail> {
     assert_eq!(rt; rows.detail.len(), 1);
     match rows.detail[0] {
         Instruction::Act(
-            Action::Add {
+            Action::Compute {
+                operator: Operator::Add,
+                half: false,
                 factor1,
                 factor2,
                 result,
+                ..
             },
         ) => assert_eq!(rt; (factor1.field, factor2.field, result.field), (4, 3, 4)),
-        Instruction::Act(Action::ZeroAdd { .. }) => assert!(rt; false),
+        _ => assert!(rt; false),
     }
     Ok(())
 }
@@ -168,20 +171,31 @@ fn operations_have_their_operands(rt: HostRuntime) -> Result<(), Fail> {
     let rows = program.rows();
     assert_eq!(rt; rows.detail.len(), 2);
     match rows.detail[0] {
-        Instruction::Act(Action::ZeroAdd { factor2, result }) => {
+        Instruction::Act(
+            Action::Assign {
+                is_negated: false,
+                half: false,
+                factor2,
+                result,
+                ..
+            },
+        ) => {
             assert_eq!(rt; (factor2.field, result.field), (1, 4));
         }
-        Instruction::Act(Action::Add { .. }) => assert!(rt; false),
+        _ => assert!(rt; false),
     }
     match rows.detail[1] {
         Instruction::Act(
-            Action::Add {
+            Action::Compute {
+                operator: Operator::Add,
+                half: false,
                 factor1,
                 factor2,
                 result,
+                ..
             },
         ) => assert_eq!(rt; (factor1.field, factor2.field, result.field), (4, 3, 4)),
-        Instruction::Act(Action::ZeroAdd { .. }) => assert!(rt; false),
+        _ => assert!(rt; false),
     }
     Ok(())
 }

@@ -1,18 +1,20 @@
 -- What operations and output read and change. K names the fields, R orders them.
-use Rattle.std.specs.Prelude.{ℤ, Bool, true, not, ◌&&◌, List, [], ◌∷◌, Option, None, Some, if◌then◌else◌}
+use Rattle.std.specs.Prelude.{ℤ, Bool, true, not, ◌&&◌, List, [], ◌∷◌, Option, None, Some, if◌then◌else◌, ℕ}
 use Rattle.std.specs.Ordering.{nat_cmp}
 use Rattle.std.specs.declared.cmp.Ordering.{Ordering}
 use Rattle.std.specs.FinMap as map
 use Rattle.std.specs.FinSet as set
-use Rattle.rpg_effect.specs.Values.{Value, entry_cmp, number_of}
+use Rattle.rpg_decimal.specs.Fraction.{Fraction}
+use Rattle.rpg_effect.specs.Values.{Value, characters_of, entry_cmp, number_of}
 use Rattle.rpg_effect.specs.declared.line.Condition.{Condition}
 use Rattle.rpg_effect.specs.declared.line.Conditions.{Conditions}
 use Rattle.rpg_effect.specs.declared.line.Paper.{Paper}
 
--- the values by field and entry, the indicators that are on, and where the form stands
+-- the values by field and entry, the indicators that are on, what the last division left, and where the form stands
 pub record World {K : Type 0} (R : K → K → Ordering) : Type 0 where
   pub values : map.FinMap (entry_cmp R) Value
   pub on : set.FinSet nat_cmp
+  pub remainder : Fraction
   pub paper : Paper
 
 abbrev pub holds : set.FinSet nat_cmp → Condition → Bool
@@ -37,6 +39,9 @@ module _ {K : Type 0} {R : K → K → Ordering} where
 
   abbrev pub number_at : World R → K → ℤ
   number_at w field = number_of (value_at w field)
+
+  abbrev pub characters_at : World R → K → List ℕ
+  characters_at w field = characters_of (value_at w field)
 
   abbrev pub set_value : World R → K → Value → World R
   set_value w field v = record w { values = map.insert w.values (field, 1) v }

@@ -2,6 +2,7 @@ pub mod Numbers
 pub mod ByNumber
 pub mod Keeping
 pub mod Doing
+pub mod Overlays
 pub mod Steps
 pub mod Starting
 pub mod Fields

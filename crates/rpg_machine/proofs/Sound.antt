@@ -1,5 +1,5 @@
 -- What a program keeps, as the machine uses it.
-use Rattle.std.proofs.Common.{◌≡◌, ℕ, zero, suc, ◌<◌, ◌^◌, ℤ, pos, unsigned_abs, Bool, false, List, [], ◌∷◌, length, All, arith, get_or, Option, Some, slice_get, sym, ap, ◌∙◌, subst, cond, inl, inr}
+use Rattle.std.proofs.Common.{◌≡◌, ℕ, zero, suc, ◌<◌, ◌^◌, ℤ, pos, unsigned_abs, Bool, false, List, [], ◌∷◌, length, All, arith, get_or, Option, Some, slice_get, sym, ap, ◌∙◌, subst, cond, inl, inr, ◌≤◌}
 use Rattle.std.proofs.lemmas.Option.{get_or_from_slice_get, same_Some, slice_get-get_or, slice_get_within}
 use Rattle.std.specs.FinMap as maps
 use Rattle.std.specs.Prelude.{◌⊎◌}
@@ -33,9 +33,18 @@ numeric_form d (inl n) k = record { low = n.shortest; high = n.longest; decimals
 numeric_form d (inr (inl t)) k = absurd (let e : kinds.Text ≡ kinds.Number = sym t.kind ∙ k in cc)
 numeric_form d (inr (inr x)) k = record { low = omega (arith, x.digits); high = omega (arith, x.digits); decimals = omega (arith, x.decimals) }
 
+text_form : (d : Form) → IsForm d → d.kind ≡ kinds.Text → d.length ≤ 256
+text_form d (inl n) k = absurd (let e : kinds.Number ≡ kinds.Text = sym n.kind ∙ k in cc)
+text_form d (inr (inl t)) k = t.longest
+text_form d (inr (inr x)) k = absurd (let e : kinds.Number ≡ kinds.Text = sym x.kind ∙ k in cc)
+
 forms_sound : (fs : List Form) → All IsFieldRow fs → AreForms fs
-forms_sound fs h = record { numeric = each }
+forms_sound fs h = record { numeric = each; textual = texts }
   where
+    texts : (field : ℕ) (d : Form) → form_at fs field ≡ Some d → d.kind ≡ kinds.Text → d.length ≤ 256
+    texts zero d e k = cc
+    texts (suc n) d e k = text_form d (all_at IsFieldRow fs n d h e).form k
+
     each : (field : ℕ) (d : Form) → form_at fs field ≡ Some d → d.kind ≡ kinds.Number → IsNumeric d
     each zero d e k = cc
     each (suc n) d e k = numeric_form d (all_at IsFieldRow fs n d h e).form k

@@ -4,6 +4,7 @@ use Rattle.std.proofs.Common.{inl, inr}
 use Rattle.std.specs.Coded.{Coded, code_by, coded×, coded_ℕ, coded_ℤ, coded_list, coded⊎}
 use Rattle.std.specs.FinMap as map
 use Rattle.std.specs.FinSet as set
+use Rattle.rpg_decimal.specs.Fraction.{Fraction}
 use Rattle.rpg_effect.specs.Values.{Value, Number, Text}
 use Rattle.rpg_effect.specs.World.{World}
 use Rattle.rpg_effect.specs.declared.line.Paper.{Paper}
@@ -41,14 +42,23 @@ paper_from p = record { last = p.0; begun = p.1.0; line = p.1.1 }
 abbrev pub paper_code : Coded Paper
 paper_code = code_by (ℕ × (ℕ × ℕ)) (coded× coded_ℕ (coded× coded_ℕ coded_ℕ)) paper_to paper_from (λ _. refl)
 
-abbrev world_to : World nat_cmp → Values × (set.FinSet nat_cmp × Paper)
-world_to w = (w.values, (w.on, w.paper))
+abbrev fraction_to : Fraction → ℤ × ℕ
+fraction_to p = (p.top, p.bottom)
 
-abbrev world_from : Values × (set.FinSet nat_cmp × Paper) → World nat_cmp
-world_from p = record { values = p.0; on = p.1.0; paper = p.1.1 }
+abbrev fraction_from : ℤ × ℕ → Fraction
+fraction_from p = record { top = p.0; bottom = p.1 }
+
+abbrev pub fraction_code : Coded Fraction
+fraction_code = code_by (ℤ × ℕ) (coded× coded_ℤ coded_ℕ) fraction_to fraction_from (λ _. refl)
+
+abbrev world_to : World nat_cmp → Values × (set.FinSet nat_cmp × (Fraction × Paper))
+world_to w = (w.values, (w.on, (w.remainder, w.paper)))
+
+abbrev world_from : Values × (set.FinSet nat_cmp × (Fraction × Paper)) → World nat_cmp
+world_from p = record { values = p.0; on = p.1.0; remainder = p.1.1.0; paper = p.1.1.1 }
 
 abbrev pub world_code : Coded (World nat_cmp)
-world_code = code_by (Values × (set.FinSet nat_cmp × Paper)) (coded× values_code (coded× (set.code coded_ℕ) paper_code)) world_to world_from (λ _. refl)
+world_code = code_by (Values × (set.FinSet nat_cmp × (Fraction × Paper))) (coded× values_code (coded× (set.code coded_ℕ) (coded× fraction_code paper_code))) world_to world_from (λ _. refl)
 
 abbrev section_to : Section → Unit {0}
 section_to Detail = tt

@@ -40,6 +40,7 @@ pub record IsNumeric (d : Form) : Type 0 where
 
 pub record AreForms (forms : List Form) : Type 0 where
   pub numeric : (field : ℕ) (d : Form) → form_at forms field ≡ Some d → d.kind ≡ kinds.Number → IsNumeric d
+  pub textual : (field : ℕ) (d : Form) → form_at forms field ≡ Some d → d.kind ≡ kinds.Text → d.length ≤ 256
 
 -- on a page, with few pages begun since the line printed last
 pub record IsOnForm (p : Paper) : Type 0 where

@@ -1,7 +1,8 @@
 -- The start of a job.
-use Rattle.std.specs.Prelude.{ℤ, List, [], ◌∷◌, if◌then◌else◌}
+use Rattle.std.specs.Prelude.{ℤ, pos, List, [], ◌∷◌, if◌then◌else◌}
 use Rattle.std.specs.Ordering.{nat_cmp}
 use Rattle.std.specs.FinSet as set
+use Rattle.rpg_decimal.specs.Fraction.{Fraction, with_decimals}
 use Rattle.rpg_effect.specs.Rows.{is_date}
 use Rattle.rpg_effect.specs.Values.{Value, Number}
 use Rattle.rpg_effect.specs.declared.form.Form.{Form}
@@ -24,13 +25,17 @@ first_values date (d ∷ ds) (v ∷ vs) = first_value date d v ∷ first_values 
 abbrev pub first_on : set.FinSet nat_cmp
 first_on = set.from_list (100 ∷ 111 ∷ [])
 
+-- nothing was divided yet
+abbrev pub first_remainder : Fraction
+first_remainder = with_decimals (pos 0) 0
+
 -- the form at its first line, nothing printed
 abbrev pub first_paper : Paper
 first_paper = record { last = 0; begun = 0; line = 1 }
 
 abbrev pub start_of : Object → ℤ → Config
 start_of p date = record {
-  world = record { values = contents (first_values date p.fields p.values); on = first_on; paper = first_paper };
+  world = record { values = contents (first_values date p.fields p.values); on = first_on; remainder = first_remainder; paper = first_paper };
   section = sections.Detail;
   place = 0;
   allowance = p.allowance;

@@ -1,6 +1,8 @@
 //! The machine of object programs: sections and output lines.
 #![tactic(auto)]
 
+mod arithmetic;
+mod comparing;
 mod condition;
 mod date;
 mod indicators;
@@ -8,11 +10,15 @@ mod line;
 mod machine;
 mod memory;
 mod moving;
+#[cfg(test)]
+mod operation_tests;
 mod operations;
 mod output;
+mod places;
 mod printer;
 mod reading;
 mod section;
+mod showing;
 mod start;
 #[cfg(test)]
 mod tests;

@@ -9,7 +9,7 @@ use crate::memory::{Memory, Output};
 use crate::moving::move_all;
 use crate::output::{When, output_weight, put_lines};
 use crate::section::{Section, SectionEnd, State, end_with, run_section};
-use crate::start::{first_on, first_paper, first_values};
+use crate::start::{first_on, first_paper, first_remainder, first_values};
 use crate::values::Values;
 use rpg_object::program::Program;
 use rpg_object::row::Rows;
@@ -66,6 +66,7 @@ impl<'a> Machine<'a> {
                 memory: Memory {
                     values: Values::of(values),
                     on: first_on(),
+                    remainder: first_remainder(),
                     paper: first_paper(),
                 },
                 section: Section::Detail,

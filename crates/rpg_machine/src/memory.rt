@@ -2,6 +2,7 @@
 
 use crate::indicators::Indicators;
 use crate::values::Values;
+use rpg_decimal::Rest;
 use rpg_effect::line::Paper;
 
 /// The world of a program.
@@ -9,6 +10,8 @@ use rpg_effect::line::Paper;
 pub struct Memory {
     pub values: Values,
     pub on: Indicators,
+    /// What the division left that was last done without half adjust.
+    pub remainder: Rest,
     pub paper: Paper,
 }
 

@@ -1,6 +1,5 @@
-//! Operations: the test of their operands, and what they do to values.
+//! Operations: the test of their operands, and what they do to values and indicators.
 ghost use Rattle.std.specs.Prelude.{◌≡◌, true, false};
-ghost use Rattle.rpg_decimal.specs.Fraction.{plus};
 ghost use Rattle.rpg_effect.specs.Act as acts;
 ghost use Rattle.rpg_effect.specs.Effect.{quiet};
 ghost use Rattle.rpg_effect.specs.Rows as rows_of;
@@ -9,46 +8,79 @@ ghost use Rattle.rpg_machine.specs.Good.{AreForms, Fits};
 ghost use Rattle.rpg_machine.specs.Memory.{world_of};
 ghost use Rattle.rpg_machine.specs.Tables as tables;
 
+use crate::arithmetic::{assigned, computed, divide, kept_remainder, store};
+use crate::comparing::compared;
 use crate::memory::Memory;
-use crate::reading::{form_at, has_field, has_kind, may_write, number_at, target_of};
-use rpg_decimal::{Scale, add, keep};
+use crate::places::move_places;
+use crate::reading::{form_at, has_field, has_kind, kind_of, may_write};
+use crate::showing::show;
 use rpg_effect::form::Kind;
 use rpg_effect::operation::{Action, Operand, Row, Use};
 use rpg_effect::outcome::Ending;
 use rpg_object::row::Rows;
 
-fn number(operand: Operand<u16>) -> Option<Use<u16>>
-    ensures { result ≡ rows_of.number operand }
+fn use_of(kind: Kind, operand: Operand<u16>) -> Option<Use<u16>>
+    ensures { result ≡ rows_of.use_of kind operand }
 {
-    Some(Use {
-        operand,
-        kind: Kind::Number,
-    })
+    Some(Use { operand, kind })
+}
+
+fn number(operand: Operand<u16>) -> Option<Use<u16>>
+    ensures { result ≡ rows_of.use_of kinds.Number operand }
+{
+    use_of(Kind::Number, operand)
+}
+
+/// A value of the kind that the field of another operand has.
+fn like(rows: &Rows, other: Operand<u16>, operand: Operand<u16>) -> Option<Use<u16>>
+    ensures { result ≡ rows_of.like (tables.form_at rows.now.fields.items) other operand }
+{
+    use_of(kind_of(form_at(rows, other.field)), operand)
 }
 
 /// The row of an operation in the table of operations.
 #[tactic(auto, unfolding(rpg_effect::specs::Rows::row_of))]
-pub fn row_of(action: Action<u16>) -> Row<u16>
-    ensures { result ≡ rows_of.row_of action }
+pub fn row_of(rows: &Rows, action: Action<u16>) -> Row<u16>
+    ensures { result ≡ rows_of.row_of (tables.form_at rows.now.fields.items) action }
 {
-    match action {
-        Action::Add {
+    let (first, second, third) = match action {
+        Action::Compute {
             factor1,
             factor2,
-            result: sum,
-        } => Row {
-            factor1: number(factor1),
-            factor2: number(factor2),
-            result: number(sum),
-        },
-        Action::ZeroAdd {
+            result: to,
+            ..
+        } => (number(factor1), number(factor2), number(to)),
+        Action::Divide {
+            factor1,
             factor2,
-            result: sum,
-        } => Row {
-            factor1: None,
-            factor2: number(factor2),
-            result: number(sum),
-        },
+            result: to,
+            ..
+        } => (number(factor1), number(factor2), number(to)),
+        Action::Assign {
+            factor2,
+            result: to,
+            ..
+        } => (None, number(factor2), number(to)),
+        Action::TakeRemainder { result: to, .. } => (None, None, number(to)),
+        Action::Compare {
+            factor1,
+            factor2,
+            ..
+        } => (
+            like(rows, factor1, factor1),
+            like(rows, factor1, factor2),
+            None,
+        ),
+        Action::Move {
+            factor2,
+            result: to,
+            ..
+        } => (None, like(rows, factor2, factor2), like(rows, to, to)),
+    };
+    Row {
+        factor1: first,
+        factor2: second,
+        result: third,
     }
 }
 
@@ -99,83 +131,67 @@ pub fn mixes_kinds(rows: &Rows, row: Row<u16>) -> bool
     !(fits_use(rows, row.factor1) && (fits_use(rows, row.factor2) && fits_use(rows, row.result)))
 }
 
-/// The result field becomes the sum of the factors.
-#[tactic(auto, using(crate::proofs::Numbers::written))]
-fn add_to(
-    rows: &Rows,
-    memory: &mut Memory,
-    factor1: Operand<u16>,
-    factor2: Operand<u16>,
-    to: Operand<u16>,
-)
-    requires forms { AreForms rows.now.fields.items }
-    requires fits { Fits rows.now.fields.items memory.old.values }
-    requires factor1 { rows_of.has_kind (tables.form_at rows.now.fields.items factor1.field)
-        kinds.Number ≡ true }
-    requires factor2 { rows_of.has_kind (tables.form_at rows.now.fields.items factor2.field)
-        kinds.Number ≡ true }
-    requires to { rows_of.has_kind (tables.form_at rows.now.fields.items to.field) kinds.Number ≡
-        true }
-    ensures world { world_of memory.new ≡ acts.store (tables.form_at rows.now.fields.items)
-        (world_of memory.old) to (plus (acts.exact (tables.form_at rows.now.fields.items)
-        (world_of memory.old) factor1) (acts.exact (tables.form_at rows.now.fields.items)
-        (world_of memory.old) factor2)) }
-    ensures fits { Fits rows.now.fields.items memory.new.values }
-    ensures paper { memory.new.paper ≡ memory.old.paper }
-{
-    let a = number_at(rows, &memory.values, factor1.field);
-    let b = number_at(rows, &memory.values, factor2.field);
-    let sum = add(a, b, target_of(rows, to.field));
-    memory.values.set_number(to.field, sum);
-}
-
-/// The result field becomes factor 2.
-#[tactic(auto, using(crate::proofs::Numbers::written))]
-fn zero_add_to(rows: &Rows, memory: &mut Memory, factor2: Operand<u16>, to: Operand<u16>)
-    requires forms { AreForms rows.now.fields.items }
-    requires fits { Fits rows.now.fields.items memory.old.values }
-    requires factor2 { rows_of.has_kind (tables.form_at rows.now.fields.items factor2.field)
-        kinds.Number ≡ true }
-    requires to { rows_of.has_kind (tables.form_at rows.now.fields.items to.field) kinds.Number ≡
-        true }
-    ensures world { world_of memory.new ≡ acts.store (tables.form_at rows.now.fields.items)
-        (world_of memory.old) to (acts.exact (tables.form_at rows.now.fields.items)
-        (world_of memory.old) factor2) }
-    ensures fits { Fits rows.now.fields.items memory.new.values }
-    ensures paper { memory.new.paper ≡ memory.old.paper }
-{
-    let n = number_at(rows, &memory.values, factor2.field);
-    let scale = Scale { value: n.dec };
-    let kept = keep(i128::from(n.value), scale, target_of(rows, to.field));
-    memory.values.set_number(to.field, kept);
-}
-
 /// What an operation does.
+#[tactic(auto, unfolding(rpg_effect::specs::Act::act))]
 pub fn act(rows: &Rows, memory: &mut Memory, action: Action<u16>) -> Ending
     requires forms { AreForms rows.now.fields.items }
     requires fits { Fits rows.now.fields.items memory.old.values }
     requires kinds { rows_of.mixes_kinds (tables.form_at rows.now.fields.items)
-        (rows_of.row_of action) ≡ false }
+        (rows_of.row_of (tables.form_at rows.now.fields.items) action) ≡ false }
     ensures done { quiet result (world_of memory.new) ≡ acts.act
         (tables.form_at rows.now.fields.items) action (world_of memory.old) }
     ensures fits { Fits rows.now.fields.items memory.new.values }
     ensures paper { memory.new.paper ≡ memory.old.paper }
 {
     match action {
-        Action::Add {
+        Action::Compute {
+            operator,
+            half,
             factor1,
             factor2,
             result: to,
+            shows,
         } => {
-            add_to(rows, memory, factor1, factor2, to);
-            Ending::Goes
+            let n = computed(rows, memory, operator, half, factor1, factor2, to);
+            store(rows, memory, to, shows, n)
         }
-        Action::ZeroAdd {
+        Action::Divide {
+            half,
+            factor1,
             factor2,
             result: to,
+            shows,
+        } => match divide(rows, memory, half, factor1, factor2, to) {
+            None => Ending::Halts(1),
+            Some(quotient) => store(rows, memory, to, shows, quotient),
+        },
+        Action::Assign {
+            is_negated,
+            half,
+            factor2,
+            result: to,
+            shows,
         } => {
-            zero_add_to(rows, memory, factor2, to);
+            let n = assigned(rows, memory, is_negated, half, factor2, to);
+            store(rows, memory, to, shows, n)
+        }
+        Action::TakeRemainder { result: to, shows } => {
+            let n = kept_remainder(rows, memory, to);
+            store(rows, memory, to, shows, n)
+        }
+        Action::Compare {
+            factor1,
+            factor2,
+            shows,
+        } => {
+            let order = compared(rows, memory, factor1, factor2);
+            show(&mut memory.on, shows, order);
             Ending::Goes
         }
+        Action::Move {
+            side,
+            factor2,
+            result: to,
+        } => move_places(rows, memory, side, factor2, to),
     }
 }

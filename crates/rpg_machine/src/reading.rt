@@ -94,13 +94,13 @@ pub fn number_at(rows: &Rows, values: &Values, field: u16) -> Num
 
 /// How a field keeps a result.
 #[tactic(auto, using(crate::proofs::Numbers::numbers))]
-pub fn target_of(rows: &Rows, field: u16) -> Target
+pub fn target_of(rows: &Rows, field: u16, half: bool) -> Target
     requires forms { AreForms rows.now.fields.items }
     requires kind { rows_of.has_kind (tables.form_at rows.now.fields.items field) kinds.Number ≡
         true }
     ensures length { result.len ≡ rows_of.length_of (tables.form_at rows.now.fields.items field) }
     ensures decimals { result.dec ≡ rows_of.decimals_of (tables.form_at rows.now.fields.items field) }
-    ensures half { result.half ≡ false }
+    ensures half { result.half ≡ half }
 {
     let Some(form) = form_at(rows, field) else {
         unreachable!()
@@ -108,7 +108,7 @@ pub fn target_of(rows: &Rows, field: u16) -> Target
     Target {
         len: form.length as u8,
         dec: form.decimals,
-        half: false,
+        half,
     }
 }
 

@@ -1,11 +1,13 @@
 //! The start of a job.
 ghost use Rattle.std.specs.Prelude.{◌≡◌, length, map, IfOk};
 ghost use Rattle.rpg_effect.specs.Values.{held};
+ghost use Rattle.rpg_machine.specs.Memory.{rest_value};
 ghost use Rattle.rpg_machine.specs.Start as of;
 ghost use Rattle.rpg_object.specs.Object.{seen};
 
 use crate::date::Date;
 use crate::indicators::Indicators;
+use rpg_decimal::{Rest, Scale};
 use rpg_effect::form::{Class, Form};
 use rpg_effect::line::Paper;
 use rpg_effect::value::Value;
@@ -57,6 +59,15 @@ pub fn first_on() -> Indicators
     on.turn(111, true);
     on.turn(100, true);
     on
+}
+
+pub fn first_remainder() -> Rest
+    ensures { rest_value result ≡ of.first_remainder }
+{
+    Rest {
+        value: 0,
+        dec: Scale { value: 0 },
+    }
 }
 
 pub fn first_paper() -> Paper

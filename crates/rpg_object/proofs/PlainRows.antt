@@ -17,6 +17,10 @@ use Rattle.rpg_effect.specs.declared.line.Time.TheVariants as time
 use Rattle.rpg_effect.specs.declared.operation.Action.TheVariants as actions
 use Rattle.rpg_effect.specs.declared.operation.Instruction.{Instruction}
 use Rattle.rpg_effect.specs.declared.operation.Instruction.TheVariants.{Act}
+use Rattle.rpg_effect.specs.declared.operation.Operand.{Operand}
+use Rattle.rpg_effect.specs.declared.operation.Operator.{Operator}
+use Rattle.rpg_effect.specs.declared.operation.Operator.TheVariants as operators
+use Rattle.rpg_effect.specs.declared.operation.Shows.{Shows}
 use Rattle.rpg_effect.specs.Values.{Value}
 use Rattle.rpg_format.specs.declared.fault.Code.TheVariants.{NotAllowed, PastLimit}
 use Rattle.rpg_format.specs.Format.{Format, byte, two_bytes, pair, row, times_with, table, keep, AllAlong}
@@ -26,8 +30,8 @@ use Rattle.rpg_object.proofs.ConditionLaws.{passed}
 use Rattle.rpg_object.specs.declared.row.Move.{Move}
 use Rattle.rpg_object.specs.Object.{TypeRow, LineRow, Object}
 use Rattle.rpg_object.specs.Program.{parts, body, IsProgram}
-use Rattle.rpg_object.specs.Rows.{kind_number, kind_of, class_number, class_of, shortest, longest, most_decimals, sequence_of, is_decimals, entries_within, field, storage_after, fields, HasDigits, IsValueOf, AreValuesOf, value, next_kind, next_length, later_fields, values, indicator_of, indicator_number, move_row, type_parts, record_type, file_number, file_of, time_number, time_of, condition, alternative, indicator_in, conditions, line_field, alternative_count, line_parts, line, operand, instruction}
-use Rattle.rpg_object.specs.Kept.{IsNumberForm, IsTextForm, IsDateForm, IsFieldRow, IsMoveRow, IsTypeRow, IsConditionRow, IsAlternativeRow, IsLineFieldRow, IsLineRow, IsInstructionRow, storage_of, IsPlainProgram}
+use Rattle.rpg_object.specs.Rows.{kind_number, kind_of, class_number, class_of, shortest, longest, most_decimals, sequence_of, is_decimals, entries_within, field, storage_after, fields, HasDigits, IsValueOf, AreValuesOf, value, next_kind, next_length, later_fields, values, indicator_of, indicator_number, move_row, type_parts, record_type, file_number, file_of, time_number, time_of, condition, alternative, indicator_in, conditions, line_field, alternative_count, line_parts, line, operand, instruction, shows, columns_of, computing}
+use Rattle.rpg_object.specs.Kept.{IsNumberForm, IsTextForm, IsDateForm, IsFieldRow, IsMoveRow, IsTypeRow, IsConditionRow, IsAlternativeRow, IsLineFieldRow, IsLineRow, IsInstructionRow, storage_of, IsPlainProgram, IsOperandRow, AreIndicators}
 
 -- ---- tables
 
@@ -248,10 +252,30 @@ line_kept l h = record {
 
 -- ---- instructions
 
+shows_kept : (s : Shows) → (shows true).Holds s → AreIndicators s
+unfolding shows row pair byte
+shows_kept s h = record { plus = indicator_is s.plus h.0.0; minus = indicator_is s.minus h.1.0.0; zero = indicator_is s.zero h.1.1.0 }
+
+operand_kept : (is_used : Bool) (o : Operand ℕ) → (operand is_used).Holds o.field → IsOperandRow o
+unfolding operand row pair two_bytes
+operand_kept is_used o h = h.0.1
+
 pub instruction_kept : (i : Instruction ℕ) → instruction.Holds i → IsInstructionRow i
-unfolding instruction operand row pair byte two_bytes
-instruction_kept (Act (actions.Add factor1 factor2 res)) h = (h.1.1.0.0.1, h.1.1.1.0.0.1, h.1.1.1.1.0.0.1)
-instruction_kept (Act (actions.ZeroAdd factor2 res)) h = (h.1.1.1.0.0.1, h.1.1.1.1.0.0.1)
+unfolding instruction row pair
+instruction_kept (Act (actions.Compute f half a b r s)) h =
+    (operand_kept _ a h.1.1.0, (operand_kept _ b h.1.1.1.0, (operand_kept _ r h.1.1.1.1.0, shows_kept s (rw (computes f) at h.1.1.1.1.1.0))))
+  where
+    computes : (g : Operator) → (columns_of (computing g)).indicators ≡ true
+    computes operators.Add = refl
+    computes operators.Subtract = refl
+    computes operators.Multiply = refl
+instruction_kept (Act (actions.Divide half a b r s)) h =
+    (operand_kept _ a h.1.1.0, (operand_kept _ b h.1.1.1.0, (operand_kept _ r h.1.1.1.1.0, shows_kept s h.1.1.1.1.1.0)))
+instruction_kept (Act (actions.Assign true half b r s)) h = (operand_kept _ b h.1.1.1.0, (operand_kept _ r h.1.1.1.1.0, shows_kept s h.1.1.1.1.1.0))
+instruction_kept (Act (actions.Assign false half b r s)) h = (operand_kept _ b h.1.1.1.0, (operand_kept _ r h.1.1.1.1.0, shows_kept s h.1.1.1.1.1.0))
+instruction_kept (Act (actions.TakeRemainder r s)) h = (operand_kept _ r h.1.1.1.1.0, shows_kept s h.1.1.1.1.1.0)
+instruction_kept (Act (actions.Compare a b s)) h = (operand_kept _ a h.1.1.0, (operand_kept _ b h.1.1.1.0, shows_kept s h.1.1.1.1.1.0))
+instruction_kept (Act (actions.Move side b r)) h = (operand_kept _ b h.1.1.1.0, operand_kept _ r h.1.1.1.1.0)
 
 -- ---- whole programs
 

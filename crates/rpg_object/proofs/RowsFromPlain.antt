@@ -16,6 +16,10 @@ use Rattle.rpg_effect.specs.declared.line.Time.{Time}
 use Rattle.rpg_effect.specs.declared.operation.Action.TheVariants as actions
 use Rattle.rpg_effect.specs.declared.operation.Instruction.{Instruction}
 use Rattle.rpg_effect.specs.declared.operation.Instruction.TheVariants.{Act}
+use Rattle.rpg_effect.specs.declared.operation.Operand.{Operand}
+use Rattle.rpg_effect.specs.declared.operation.Operator.TheVariants as operators
+use Rattle.rpg_effect.specs.declared.operation.Shows.{Shows}
+use Rattle.rpg_effect.specs.declared.operation.Side.TheVariants as sides
 use Rattle.rpg_effect.specs.Values.{Value}
 use Rattle.rpg_format.specs.Format.{Format, byte, two_bytes, pair, row, times_with, table, keep, AllAlong}
 use Rattle.rpg_format.specs.Numbers.{allowed, is_between, flag, flag_number, up_to}
@@ -23,8 +27,8 @@ use Rattle.rpg_object.proofs.ConditionLaws.{has_bits}
 use Rattle.rpg_object.specs.declared.row.Move.{Move}
 use Rattle.rpg_object.specs.Object.{TypeRow, LineRow, Object}
 use Rattle.rpg_object.specs.Program.{parts, body, IsProgram}
-use Rattle.rpg_object.specs.Rows.{kind_number, kind_of, class_number, class_of, shortest, longest, most_decimals, sequence_of, is_decimals, entries_within, field, storage_after, fields, IsValueOf, AreValuesOf, value, next_kind, next_length, later_fields, values, indicator_of, indicator_number, move_row, type_parts, record_type, file_number, file_of, time_number, time_of, condition, alternative, has_bit, may_negate, are_negations, indicator_in, is_negation, negations_of, conditions, line_field, alternative_count, line_parts, line, operand, instruction}
-use Rattle.rpg_object.specs.Kept.{IsPlainOrConstant, IsNumberForm, IsTextForm, IsDateForm, IsFieldRow, IsMoveRow, IsTypeRow, IsConditionRow, IsAlternativeRow, IsLineFieldRow, IsLineRow, IsInstructionRow, storage_of, IsPlainProgram}
+use Rattle.rpg_object.specs.Rows.{kind_number, kind_of, class_number, class_of, shortest, longest, most_decimals, sequence_of, is_decimals, entries_within, field, storage_after, fields, IsValueOf, AreValuesOf, value, next_kind, next_length, later_fields, values, indicator_of, indicator_number, move_row, type_parts, record_type, file_number, file_of, time_number, time_of, condition, alternative, has_bit, may_negate, are_negations, indicator_in, is_negation, negations_of, conditions, line_field, alternative_count, line_parts, line, operand, instruction, shows, no_shows}
+use Rattle.rpg_object.specs.Kept.{IsPlainOrConstant, IsNumberForm, IsTextForm, IsDateForm, IsFieldRow, IsMoveRow, IsTypeRow, IsConditionRow, IsAlternativeRow, IsLineFieldRow, IsLineRow, IsInstructionRow, storage_of, IsPlainProgram, IsOperandRow, AreIndicators}
 
 -- ---- tables
 
@@ -248,12 +252,44 @@ line_from l h =
 
 -- ---- instructions
 
+operand_from : (o : Operand ℕ) → IsOperandRow o → (operand true).Holds o.field
+unfolding operand row pair two_bytes
+operand_from o h = ((refl, h), (refl, omega arith))
+
+no_operand : (operand false).Holds 0
+unfolding operand row pair two_bytes
+no_operand = ((refl, omega arith), (refl, omega arith))
+
+shows_from : (s : Shows) → AreIndicators s → (shows true).Holds s
+unfolding shows row pair byte
+shows_from s h = (indicator_from s.plus h.plus, (indicator_from s.minus h.minus, indicator_from s.zero h.zero))
+
+none_shown : (shows false).Holds no_shows
+unfolding shows row pair byte
+none_shown = ((refl, omega arith), ((refl, omega arith), (refl, omega arith)))
+
 pub instruction_from : (i : Instruction ℕ) → IsInstructionRow i → instruction.Holds i
-unfolding instruction operand row pair byte two_bytes
-instruction_from (Act (actions.Add factor1 factor2 res)) h =
-    ((refl, omega arith), ((refl, omega arith), (((refl, h.0), (refl, omega arith)), (((refl, h.1), (refl, omega arith)), (((refl, h.2), (refl, omega arith)), ((refl, omega arith), ((refl, omega arith), ((refl, omega arith), ((refl, omega arith), (refl, omega arith))))))))))
-instruction_from (Act (actions.ZeroAdd factor2 res)) h =
-    ((refl, omega arith), ((refl, omega arith), (((refl, omega arith), (refl, omega arith)), (((refl, h.0), (refl, omega arith)), (((refl, h.1), (refl, omega arith)), ((refl, omega arith), ((refl, omega arith), ((refl, omega arith), ((refl, omega arith), (refl, omega arith))))))))))
+unfolding instruction row pair byte two_bytes
+instruction_from (Act (actions.Compute operators.Add half a b r s)) h =
+    ((refl, omega arith), (flag_from half, (operand_from a h.0, (operand_from b h.1.0, (operand_from r h.1.1.0, (shows_from s h.1.1.1, ((refl, omega arith), (refl, omega arith))))))))
+instruction_from (Act (actions.Compute operators.Subtract half a b r s)) h =
+    ((refl, omega arith), (flag_from half, (operand_from a h.0, (operand_from b h.1.0, (operand_from r h.1.1.0, (shows_from s h.1.1.1, ((refl, omega arith), (refl, omega arith))))))))
+instruction_from (Act (actions.Compute operators.Multiply half a b r s)) h =
+    ((refl, omega arith), (flag_from half, (operand_from a h.0, (operand_from b h.1.0, (operand_from r h.1.1.0, (shows_from s h.1.1.1, ((refl, omega arith), (refl, omega arith))))))))
+instruction_from (Act (actions.Divide half a b r s)) h =
+    ((refl, omega arith), (flag_from half, (operand_from a h.0, (operand_from b h.1.0, (operand_from r h.1.1.0, (shows_from s h.1.1.1, ((refl, omega arith), (refl, omega arith))))))))
+instruction_from (Act (actions.Assign true half b r s)) h =
+    ((refl, omega arith), (flag_from half, (no_operand, (operand_from b h.0, (operand_from r h.1.0, (shows_from s h.1.1, ((refl, omega arith), (refl, omega arith))))))))
+instruction_from (Act (actions.Assign false half b r s)) h =
+    ((refl, omega arith), (flag_from half, (no_operand, (operand_from b h.0, (operand_from r h.1.0, (shows_from s h.1.1, ((refl, omega arith), (refl, omega arith))))))))
+instruction_from (Act (actions.TakeRemainder r s)) h =
+    ((refl, omega arith), ((refl, omega arith), (no_operand, (no_operand, (operand_from r h.0, (shows_from s h.1, ((refl, omega arith), (refl, omega arith))))))))
+instruction_from (Act (actions.Compare a b s)) h =
+    ((refl, omega arith), ((refl, omega arith), (operand_from a h.0, (operand_from b h.1.0, (no_operand, (shows_from s h.1.1, ((refl, omega arith), (refl, omega arith))))))))
+instruction_from (Act (actions.Move sides.Right b r)) h =
+    ((refl, omega arith), ((refl, omega arith), (no_operand, (operand_from b h.0, (operand_from r h.1, (none_shown, ((refl, omega arith), (refl, omega arith))))))))
+instruction_from (Act (actions.Move sides.Left b r)) h =
+    ((refl, omega arith), ((refl, omega arith), (no_operand, (operand_from b h.0, (operand_from r h.1, (none_shown, ((refl, omega arith), (refl, omega arith))))))))
 
 -- ---- whole programs
 

@@ -1,5 +1,5 @@
 -- What the rows of an object program keep, in plain words.
-use Rattle.std.specs.Prelude.{◌≡◌, ℕ, ◌+◌, ◌*◌, ◌^◌, ◌<◌, ◌≤◌, ◌⊎◌, false, List, [], ◌∷◌, length, All, IfSome}
+use Rattle.std.specs.Prelude.{◌≡◌, ℕ, ◌+◌, ◌*◌, ◌^◌, ◌<◌, ◌≤◌, ◌⊎◌, false, List, [], ◌∷◌, length, All, IfSome, Option}
 use Rattle.rpg_effect.specs.declared.form.Class.{Class}
 use Rattle.rpg_effect.specs.declared.form.Class.TheVariants as class
 use Rattle.rpg_effect.specs.declared.form.Form.{Form}
@@ -11,6 +11,8 @@ use Rattle.rpg_effect.specs.declared.line.Time.TheVariants as time
 use Rattle.rpg_effect.specs.declared.operation.Action.TheVariants as actions
 use Rattle.rpg_effect.specs.declared.operation.Instruction.{Instruction}
 use Rattle.rpg_effect.specs.declared.operation.Instruction.TheVariants.{Act}
+use Rattle.rpg_effect.specs.declared.operation.Operand.{Operand}
+use Rattle.rpg_effect.specs.declared.operation.Shows.{Shows}
 use Rattle.rpg_object.specs.declared.row.Move.{Move}
 use Rattle.rpg_object.specs.Object.{TypeRow, LineRow, Object}
 use Rattle.rpg_object.specs.Rows.{AreValuesOf}
@@ -86,10 +88,27 @@ pub record IsLineRow (l : LineRow) : Type 0 where
   pub few_fields : length l.fields ≤ 200
   pub fields : All IsLineFieldRow l.fields
 
--- operands of any numbers of two bytes
+-- any number of two bytes
+abbrev pub IsOperandRow : Operand ℕ → Type 0
+IsOperandRow o = o.field < 2 ^ 16
+
+-- none, or 1 to 129
+abbrev pub IsIndicator : Option ℕ → Type 0
+IsIndicator o = IfSome o (λ n. (1 ≤ n) × (n ≤ 129))
+
+pub record AreIndicators (s : Shows) : Type 0 where
+  pub plus : IsIndicator s.plus
+  pub minus : IsIndicator s.minus
+  pub zero : IsIndicator s.zero
+
+-- what the operation has
 abbrev pub IsInstructionRow : Instruction ℕ → Type 0
-IsInstructionRow (Act (actions.Add factor1 factor2 res)) = (factor1.field < 2 ^ 16) × (factor2.field < 2 ^ 16) × (res.field < 2 ^ 16)
-IsInstructionRow (Act (actions.ZeroAdd factor2 res)) = (factor2.field < 2 ^ 16) × (res.field < 2 ^ 16)
+IsInstructionRow (Act (actions.Compute operator half a b r s)) = IsOperandRow a × (IsOperandRow b × (IsOperandRow r × AreIndicators s))
+IsInstructionRow (Act (actions.Divide half a b r s)) = IsOperandRow a × (IsOperandRow b × (IsOperandRow r × AreIndicators s))
+IsInstructionRow (Act (actions.Assign negated half b r s)) = IsOperandRow b × (IsOperandRow r × AreIndicators s)
+IsInstructionRow (Act (actions.TakeRemainder r s)) = IsOperandRow r × AreIndicators s
+IsInstructionRow (Act (actions.Compare a b s)) = IsOperandRow a × (IsOperandRow b × AreIndicators s)
+IsInstructionRow (Act (actions.Move side b r)) = IsOperandRow b × IsOperandRow r
 
 -- the bytes of the entries of all fields
 abbrev pub storage_of : List Form → ℕ

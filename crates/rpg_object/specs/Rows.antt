@@ -20,14 +20,22 @@ use Rattle.rpg_effect.specs.declared.operation.Action.TheVariants as actions
 use Rattle.rpg_effect.specs.declared.operation.Instruction.{Instruction}
 use Rattle.rpg_effect.specs.declared.operation.Instruction.TheVariants.{Act}
 use Rattle.rpg_effect.specs.Rows.{is_date}
+use Rattle.rpg_effect.specs.declared.operation.Operand.{Operand}
+use Rattle.rpg_effect.specs.declared.operation.Operator.{Operator}
+use Rattle.rpg_effect.specs.declared.operation.Operator.TheVariants as operators
+use Rattle.rpg_effect.specs.declared.operation.Shows.{Shows}
+use Rattle.rpg_effect.specs.declared.operation.Side.{Side}
+use Rattle.rpg_effect.specs.declared.operation.Side.TheVariants as sides
 use Rattle.rpg_effect.specs.Values.{Value, Number, Text}
 use Rattle.rpg_format.specs.declared.fault.Code.{Code}
 use Rattle.rpg_format.specs.declared.fault.Code.TheVariants.{NotAllowed, Unused, PastLimit}
 use Rattle.rpg_format.specs.declared.fault.Fault.{Fault}
 use Rattle.rpg_format.specs.Format.{Format, byte, two_bytes, pair, row, times_with, table, ends_early, ruled}
-use Rattle.rpg_format.specs.Numbers.{is_between, choice, up_to, flag_number, number_where, any_number, byte_where, yes_or_no, count, only_byte, only_number}
-use Rattle.rpg_object.specs.declared.instruction.Operation.{Operation}
-use Rattle.rpg_object.specs.declared.instruction.Operation.TheVariants as op
+use Rattle.rpg_format.specs.Numbers.{is_between, choice, up_to, flag, flag_number, number_where, any_number, byte_where, yes_or_no, count, only_byte, only_number}
+use Rattle.rpg_object.specs.declared.operation.Columns.{Columns}
+use Rattle.rpg_object.specs.declared.operation.Numbers.{Numbers}
+use Rattle.rpg_object.specs.declared.operation.Operation.{Operation}
+use Rattle.rpg_object.specs.declared.operation.Operation.TheVariants as op
 use Rattle.rpg_object.specs.declared.row.Move.{Move}
 use Rattle.rpg_object.specs.Object.{TypeRow, LineRow}
 
@@ -341,15 +349,41 @@ line_head l = file_number l.file ∷ time_number l.time ∷ l.moves.space_before
 
 abbrev pub operation_number : Operation → ℕ
 operation_number op.Add = 1
+operation_number op.Subtract = 2
+operation_number op.Multiply = 3
+operation_number op.Divide = 4
 operation_number op.ZeroAdd = 5
+operation_number op.ZeroSubtract = 6
+operation_number op.TakeRemainder = 7
+operation_number op.Compare = 8
+operation_number op.MoveRight = 9
+operation_number op.MoveLeft = 10
+
+abbrev pub operations : List Operation
+operations =
+    op.Add ∷ op.Subtract ∷ op.Multiply ∷ op.Divide ∷ op.ZeroAdd ∷ op.ZeroSubtract ∷ op.TakeRemainder ∷ op.Compare ∷ op.MoveRight ∷ op.MoveLeft ∷ []
 
 abbrev pub operation_of : ℕ → Result Operation Code
-operation_of = choice (op.Add ∷ op.ZeroAdd ∷ []) operation_number
+operation_of = choice operations operation_number
 
--- Z-ADD has no factor 1
-abbrev pub has_factor1 : Operation → Bool
-has_factor1 op.Add = true
-has_factor1 op.ZeroAdd = false
+-- the table of operations: which numbers of its row each uses
+abbrev pub arithmetic : Columns
+arithmetic = record { half = true; factor1 = true; factor2 = true; result = true; indicators = true }
+
+abbrev pub assignment : Columns
+assignment = record { half = true; factor1 = false; factor2 = true; result = true; indicators = true }
+
+abbrev pub columns_of : Operation → Columns
+columns_of op.Add = arithmetic
+columns_of op.Subtract = arithmetic
+columns_of op.Multiply = arithmetic
+columns_of op.Divide = arithmetic
+columns_of op.ZeroAdd = assignment
+columns_of op.ZeroSubtract = assignment
+columns_of op.TakeRemainder = record { half = false; factor1 = false; factor2 = false; result = true; indicators = true }
+columns_of op.Compare = record { half = false; factor1 = true; factor2 = true; result = false; indicators = true }
+columns_of op.MoveRight = record { half = false; factor1 = false; factor2 = true; result = true; indicators = false }
+columns_of op.MoveLeft = record { half = false; factor1 = false; factor2 = true; result = true; indicators = false }
 
 -- a number that is used, and 0 where it is not used
 abbrev pub used : Bool → ℕ → Result ℕ Code
@@ -357,39 +391,123 @@ used true n = Ok n
 used false n = if n == 0 then Ok n else Err Unused
 
 -- the fault of an index: there are none yet
-abbrev pub index_code : Bool → Code
-index_code true = NotAllowed
-index_code false = Unused
+abbrev pub other_code : Bool → Code
+other_code true = NotAllowed
+other_code false = Unused
 
 -- a field and no index; 0 where the operation has no such operand
 unfoldable pub operand : Bool → Format ℕ
 operand is_used = row
     (λ p. p.0)
     (λ n. (n, tt))
-    (pair (two_bytes (used is_used) (λ n. n)) (λ f. only_number 0 (index_code is_used)))
+    (pair (two_bytes (used is_used) (λ n. n)) (λ f. only_number 0 (other_code is_used)))
+
+-- whether the result is half adjusted; 0 where the operation has none that may be
+abbrev pub half_of : Bool → ℕ → Result Bool Code
+half_of true n = flag n
+half_of false n = if n == 0 then Ok false else Err Unused
+
+-- a resulting indicator, 0 for none; 0 where the operation has none
+abbrev pub shown_of : Bool → ℕ → Result (Option ℕ) Code
+shown_of true n = indicator_of n
+shown_of false n = if n == 0 then Ok None else Err Unused
+
+-- plus or high, minus or low, zero or equal
+unfoldable pub shows : Bool → Format Shows
+shows is_used = row
+    (λ p. record { plus = p.0; minus = p.1.0; zero = p.1.1 })
+    (λ s. (s.plus, (s.minus, s.zero)))
+    (pair (byte (shown_of is_used) indicator_number) (λ first. pair (byte (shown_of is_used) indicator_number) (λ second. byte (shown_of is_used) indicator_number)))
+
+-- ---- an operation and its numbers
+
+abbrev pub at_field : ℕ → Operand ℕ
+at_field n = record { field = n }
+
+abbrev pub compute : Operator → Numbers → Action ℕ
+compute f n = actions.Compute f n.half (at_field n.factor1) (at_field n.factor2) (at_field n.result) n.shows
+
+abbrev pub divide : Numbers → Action ℕ
+divide n = actions.Divide n.half (at_field n.factor1) (at_field n.factor2) (at_field n.result) n.shows
+
+abbrev pub assign : Bool → Numbers → Action ℕ
+assign negated n = actions.Assign negated n.half (at_field n.factor2) (at_field n.result) n.shows
+
+abbrev pub take_remainder : Numbers → Action ℕ
+take_remainder n = actions.TakeRemainder (at_field n.result) n.shows
+
+abbrev pub compare : Numbers → Action ℕ
+compare n = actions.Compare (at_field n.factor1) (at_field n.factor2) n.shows
+
+abbrev pub move_from : Side → Numbers → Action ℕ
+move_from side n = actions.Move side (at_field n.factor2) (at_field n.result)
+
+abbrev pub action_by : Operation → Numbers → Action ℕ
+action_by op.Add n = compute operators.Add n
+action_by op.Subtract n = compute operators.Subtract n
+action_by op.Multiply n = compute operators.Multiply n
+action_by op.Divide n = divide n
+action_by op.ZeroAdd n = assign false n
+action_by op.ZeroSubtract n = assign true n
+action_by op.TakeRemainder n = take_remainder n
+action_by op.Compare n = compare n
+action_by op.MoveRight n = move_from sides.Right n
+action_by op.MoveLeft n = move_from sides.Left n
+
+-- the operation with the operands that numbers name
+abbrev pub action_of : Numbers → Action ℕ
+action_of n = action_by n.operation n
+
+abbrev pub computing : Operator → Operation
+computing operators.Add = op.Add
+computing operators.Subtract = op.Subtract
+computing operators.Multiply = op.Multiply
+
+abbrev pub assigning : Bool → Operation
+assigning true = op.ZeroSubtract
+assigning false = op.ZeroAdd
+
+abbrev pub moving : Side → Operation
+moving sides.Right = op.MoveRight
+moving sides.Left = op.MoveLeft
+
+abbrev pub no_shows : Shows
+no_shows = record { plus = None; minus = None; zero = None }
+
+-- the numbers of an operation, 0 for what it doesn't use
+abbrev pub numbers_of : Action ℕ → Numbers
+numbers_of (actions.Compute f half a b r s) =
+    record { operation = computing f; half = half; factor1 = a.field; factor2 = b.field; result = r.field; shows = s }
+numbers_of (actions.Divide half a b r s) =
+    record { operation = op.Divide; half = half; factor1 = a.field; factor2 = b.field; result = r.field; shows = s }
+numbers_of (actions.Assign negated half b r s) =
+    record { operation = assigning negated; half = half; factor1 = 0; factor2 = b.field; result = r.field; shows = s }
+numbers_of (actions.TakeRemainder r s) =
+    record { operation = op.TakeRemainder; half = false; factor1 = 0; factor2 = 0; result = r.field; shows = s }
+numbers_of (actions.Compare a b s) =
+    record { operation = op.Compare; half = false; factor1 = a.field; factor2 = b.field; result = 0; shows = s }
+numbers_of (actions.Move side b r) =
+    record { operation = moving side; half = false; factor1 = 0; factor2 = b.field; result = r.field; shows = no_shows }
 
 abbrev pub InstructionParts : Type 0
-InstructionParts = Operation × (Unit {0} × (ℕ × (ℕ × (ℕ × (Unit {0} × (Unit {0} × (Unit {0} × (Unit {0} × Unit {0}))))))))
+InstructionParts = Operation × (Bool × (ℕ × (ℕ × (ℕ × (Shows × (Unit {0} × Unit {0}))))))
 
--- the numbers of an operation and its operands
-abbrev pub numbers : Operation → ℕ → ℕ → ℕ → InstructionParts
-numbers o factor1 factor2 res = (o, (tt, (factor1, (factor2, (res, (tt, (tt, (tt, (tt, tt)))))))))
+abbrev pub joined : InstructionParts → Numbers
+joined p = record { operation = p.0; half = p.1.0; factor1 = p.1.1.0; factor2 = p.1.1.1.0; result = p.1.1.1.1.0; shows = p.1.1.1.1.1.0 }
 
-abbrev pub action_of : Operation → ℕ → ℕ → ℕ → Action ℕ
-action_of op.Add factor1 factor2 res = actions.Add (record { field = factor1 }) (record { field = factor2 }) (record { field = res })
-action_of op.ZeroAdd factor1 factor2 res = actions.ZeroAdd (record { field = factor2 }) (record { field = res })
+abbrev pub apart : Numbers → InstructionParts
+apart n = (n.operation, (n.half, (n.factor1, (n.factor2, (n.result, (n.shows, (tt, tt)))))))
 
-abbrev pub numbers_of : Instruction ℕ → InstructionParts
-numbers_of (Act (actions.Add factor1 factor2 res)) = numbers op.Add factor1.field factor2.field res.field
-numbers_of (Act (actions.ZeroAdd factor2 res)) = numbers op.ZeroAdd 0 factor2.field res.field
+abbrev pub action_in : Instruction ℕ → Action ℕ
+action_in (Act a) = a
 
 -- operation, half adjust, factor 1, factor 2, result, three indicators, target, N bits
 unfoldable pub instruction : Format (Instruction ℕ)
 instruction = row
-    (λ p. Act (action_of p.0 p.1.1.0 p.1.1.1.0 p.1.1.1.1.0))
-    numbers_of
+    (λ p. Act (action_of (joined p)))
+    (λ i. apart (numbers_of (action_in i)))
     (pair (byte operation_of operation_number) (λ o.
-    pair no_byte (λ half.
-    pair (operand (has_factor1 o)) (λ factor1. pair (operand true) (λ factor2. pair (operand true) (λ res.
-    pair no_byte (λ first. pair no_byte (λ second. pair no_byte (λ third.
-    pair unused_number (λ target. unused_byte))))))))))
+    pair (byte (half_of (columns_of o).half) flag_number) (λ half.
+    pair (operand (columns_of o).factor1) (λ factor1. pair (operand (columns_of o).factor2) (λ factor2. pair (operand (columns_of o).result) (λ res.
+    pair (shows (columns_of o).indicators) (λ shown.
+    pair unused_number (λ target. unused_byte))))))))

@@ -11,7 +11,7 @@ use rpg_effect::line::{Condition, Conditions};
 use rpg_format::fault::{Code, ReadFault};
 use rpg_format::number::byte_at;
 
-fn indicator_of(n: u8) -> Result<Option<u8>, Code>
+pub fn indicator_of(n: u8) -> Result<Option<u8>, Code>
     ensures { result ≡ indicator_of n }
 {
     match n {

@@ -8,6 +8,7 @@ mod first_value;
 mod indicator;
 mod instruction;
 pub mod laws;
+mod operation;
 mod output_line;
 pub mod program;
 mod record_type;

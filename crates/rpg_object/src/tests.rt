@@ -1,7 +1,7 @@
 //! Objects by hand, byte by byte.
 
 use super::{DecodeFault, decode, encode};
-use rpg_effect::operation::{Action, Instruction};
+use rpg_effect::operation::{Action, Instruction, Operator};
 use rpg_effect::value::Value;
 use std::alloc::{AllocError, Global};
 use std::process::Abort;
@@ -90,8 +90,24 @@ fn object_a_has_these_rows(rt: HostRuntime) -> Result<(), Fail> {
     assert_eq!(rt; rows.detail.len(), 2);
     let Instruction::Act(first) = rows.detail[0];
     let Instruction::Act(second) = rows.detail[1];
-    assert!(rt; matches!(&first, Action::ZeroAdd { .. }));
-    assert!(rt; matches!(&second, Action::Add { .. }));
+    assert!(rt;
+        matches!(
+            &first,
+            Action::Assign {
+                is_negated: false,
+                ..
+            }
+        )
+    );
+    assert!(rt;
+        matches!(
+            &second,
+            Action::Compute {
+                operator: Operator::Add,
+                ..
+            }
+        )
+    );
     Ok(())
 }
 
@@ -160,14 +176,46 @@ fn the_first_damaged_number_is_answered(rt: HostRuntime) -> Result<(), Fail> {
     check(&rt, &OBJECT_L, &in_l)?;
     let in_a: [Case; 7] = [
         (5, b"X", "B1 at 0"),
-        (117, &[2], "B5 at 117"),
-        (118, &[1], "B5 at 118"),
+        (117, &[20], "B5 at 117"),
+        (118, &[2], "B5 at 118"),
         (119, &[0, 1], "B6 at 119"),
         (121, &[0, 1], "B6 at 121"),
         (134, &[0, 1], "B6 at 134"),
         (136, &[1], "B6 at 136"),
     ];
     check(&rt, &OBJECT_A, &in_a)?;
+    Ok(())
+}
+
+#[test]
+fn an_operation_uses_these_numbers(rt: HostRuntime) -> Result<(), Fail> {
+    // The first instruction is Z-ADD of field 1 to field 3.
+    let cases: [Case; 19] = [
+        (117, &[2], "a program"),
+        (117, &[0], "B5 at 117"),
+        (117, &[11], "B5 at 117"),
+        (118, &[1], "a program"),
+        (131, &[20, 129, 20], "a program"),
+        (133, &[130], "B5 at 133"),
+        (117, &[1, 1, 0, 9, 0, 0, 0, 1], "a program"),
+        (117, &[1, 0, 0, 9, 0, 1], "B5 at 121"),
+        (117, &[7], "B6 at 123"),
+        (117, &[7, 1], "B6 at 118"),
+        (117, &[7, 0, 0, 0, 0, 0, 0, 0], "a program"),
+        (117, &[8, 1], "B6 at 118"),
+        (117, &[8], "B6 at 127"),
+        (117, &[8, 0, 0, 2, 0, 0, 0, 1, 0, 0, 0, 0], "a program"),
+        (117, &[9], "a program"),
+        (117, &[10], "a program"),
+        (117, &[10, 1], "B6 at 118"),
+        (117, &[9, 0, 0, 1], "B6 at 119"),
+        (
+            117,
+            &[9, 0, 0, 0, 0, 0, 0, 1, 0, 0, 0, 3, 0, 0, 20],
+            "B6 at 131",
+        ),
+    ];
+    check(&rt, &OBJECT_A, &cases)?;
     Ok(())
 }
 

@@ -72,7 +72,7 @@ fn each_fault_of_a_file_has_its_line(rt: HostRuntime) -> Result<(), Fail> {
     let none = path(&rt, "faults_none")?;
     let nowhere = path(&rt, "faults_none/print")?;
     fs::write(&rt, total.as_str(), TOTAL)?;
-    fs::write(&rt, damaged.as_str(), &changed(rt.alloc(), &[(117, 2)])?)?;
+    fs::write(&rt, damaged.as_str(), &changed(rt.alloc(), &[(117, 20)])?)?;
     fs::write(&rt, large.as_str(), &vec![in rt.alloc(); 0u8; 16_777_217]?)?;
     fs::write(
         &rt,

@@ -129,7 +129,7 @@ fn rows_give_their_lines_and_prints(rt: HostRuntime) -> Result<(), Fail> {
         },
         Row {
             name: "an operation that isn't there",
-            changes: &[(117, 2)],
+            changes: &[(117, 20)],
             line: b"refused: B5 at 117",
             status: 4,
             print: b"",
@@ -153,7 +153,7 @@ fn rows_give_their_lines_and_prints(rt: HostRuntime) -> Result<(), Fail> {
         },
         Row {
             name: "the object is refused before the date",
-            changes: &[(117, 2)],
+            changes: &[(117, 20)],
             date: b"1576",
             line: b"refused: B5 at 117",
             status: 4,

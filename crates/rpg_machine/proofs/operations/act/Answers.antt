@@ -1,38 +1,54 @@
-use Rattle.std.proofs.Common.{ap, sym, ◌∙◌}
-use Rattle.rpg_effect.specs.Act.{act}
-use Rattle.rpg_machine.specs.Memory.{world_of}
 use Rattle.rpg_machine.specs.Tables.{form_at}
-use Rattle.rpg_machine.proofs.Doing.{add_kinds, add_done, zero_add_kinds, zero_add_done}
+use Rattle.rpg_machine.proofs.Doing.{compute_kinds, divide_kinds, assign_kinds, remainder_kinds, compare_kinds, move_kinds}
 use Rattle.rpg_machine.proofs.operations.act.Goals as goal
 
-pub add_to-requires-clause-factor1 : goal.add_to-requires-clause-factor1
-add_to-requires-clause-factor1 c =
-    (add_kinds (form_at c.args.rows.now.fields.items) c.in-Add.factor1 c.in-Add.factor2 c.in-Add.to (rw c.in-Add.is at c.requires.kinds)).0
+pub computed-n-requires-clause-factor1 : goal.computed-n-requires-clause-factor1
+computed-n-requires-clause-factor1 c = (compute_kinds (form_at c.args.rows.now.fields.items) _ _ _ _ _ _ (rw c.in-Compute.is at c.requires.kinds)).0
 
-pub add_to-requires-clause-factor2 : goal.add_to-requires-clause-factor2
-add_to-requires-clause-factor2 c =
-    (add_kinds (form_at c.args.rows.now.fields.items) c.in-Add.factor1 c.in-Add.factor2 c.in-Add.to (rw c.in-Add.is at c.requires.kinds)).1
+pub computed-n-requires-clause-factor2 : goal.computed-n-requires-clause-factor2
+computed-n-requires-clause-factor2 c = (compute_kinds (form_at c.args.rows.now.fields.items) _ _ _ _ _ _ (rw c.in-Compute.is at c.requires.kinds)).1.0
 
-pub add_to-requires-clause-to : goal.add_to-requires-clause-to
-add_to-requires-clause-to c =
-    (add_kinds (form_at c.args.rows.now.fields.items) c.in-Add.factor1 c.in-Add.factor2 c.in-Add.to (rw c.in-Add.is at c.requires.kinds)).2
+pub computed-n-requires-clause-to : goal.computed-n-requires-clause-to
+computed-n-requires-clause-to c = (compute_kinds (form_at c.args.rows.now.fields.items) _ _ _ _ _ _ (rw c.in-Compute.is at c.requires.kinds)).1.1
 
-pub zero_add_to-requires-clause-factor2 : goal.zero_add_to-requires-clause-factor2
-zero_add_to-requires-clause-factor2 c =
-    (zero_add_kinds (form_at c.args.rows.now.fields.items) c.in-ZeroAdd.factor2 c.in-ZeroAdd.to (rw c.in-ZeroAdd.is at c.requires.kinds)).0
+pub store-requires-clause-to : goal.store-requires-clause-to
+store-requires-clause-to c = (compute_kinds (form_at c.args.rows.now.fields.items) _ _ _ _ _ _ (rw c.in-Compute.is at c.requires.kinds)).1.1
 
-pub zero_add_to-requires-clause-to : goal.zero_add_to-requires-clause-to
-zero_add_to-requires-clause-to c =
-    (zero_add_kinds (form_at c.args.rows.now.fields.items) c.in-ZeroAdd.factor2 c.in-ZeroAdd.to (rw c.in-ZeroAdd.is at c.requires.kinds)).1
+pub divide-requires-clause-factor1 : goal.divide-requires-clause-factor1
+divide-requires-clause-factor1 c = (divide_kinds (form_at c.args.rows.now.fields.items) _ _ _ _ _ (rw c.in-Divide.is at c.requires.kinds)).0
 
-pub returns-in-Add-clause-done : goal.returns-in-Add-clause-done
-returns-in-Add-clause-done c =
-    let forms = form_at c.args.rows.now.fields.items in
-    add_done forms c.in-Add.factor1 c.in-Add.factor2 c.in-Add.to (world_of c.args.memory.now) (world_of c.add_to.new.memory) c.add_to.ensures.world
-    ∙ ap (λ a. act forms a (world_of c.args.memory.now)) (sym c.in-Add.is)
+pub divide-requires-clause-factor2 : goal.divide-requires-clause-factor2
+divide-requires-clause-factor2 c = (divide_kinds (form_at c.args.rows.now.fields.items) _ _ _ _ _ (rw c.in-Divide.is at c.requires.kinds)).1.0
 
-pub returns-in-ZeroAdd-clause-done : goal.returns-in-ZeroAdd-clause-done
-returns-in-ZeroAdd-clause-done c =
-    let forms = form_at c.args.rows.now.fields.items in
-    zero_add_done forms c.in-ZeroAdd.factor2 c.in-ZeroAdd.to (world_of c.args.memory.now) (world_of c.zero_add_to.new.memory) c.zero_add_to.ensures.world
-    ∙ ap (λ a. act forms a (world_of c.args.memory.now)) (sym c.in-ZeroAdd.is)
+pub divide-requires-clause-to : goal.divide-requires-clause-to
+divide-requires-clause-to c = (divide_kinds (form_at c.args.rows.now.fields.items) _ _ _ _ _ (rw c.in-Divide.is at c.requires.kinds)).1.1
+
+pub store-requires-in-Some-clause-to : goal.store-requires-in-Some-clause-to
+store-requires-in-Some-clause-to c = (divide_kinds (form_at c.args.rows.now.fields.items) _ _ _ _ _ (rw c.in-Divide.is at c.requires.kinds)).1.1
+
+pub assigned-n-requires-clause-factor2 : goal.assigned-n-requires-clause-factor2
+assigned-n-requires-clause-factor2 c = (assign_kinds (form_at c.args.rows.now.fields.items) _ _ _ _ _ (rw c.in-Assign.is at c.requires.kinds)).0
+
+pub assigned-n-requires-clause-to : goal.assigned-n-requires-clause-to
+assigned-n-requires-clause-to c = (assign_kinds (form_at c.args.rows.now.fields.items) _ _ _ _ _ (rw c.in-Assign.is at c.requires.kinds)).1
+
+pub store-requires-in-Assign-clause-to : goal.store-requires-in-Assign-clause-to
+store-requires-in-Assign-clause-to c = (assign_kinds (form_at c.args.rows.now.fields.items) _ _ _ _ _ (rw c.in-Assign.is at c.requires.kinds)).1
+
+pub kept_remainder-n-requires-clause-to : goal.kept_remainder-n-requires-clause-to
+kept_remainder-n-requires-clause-to c = remainder_kinds (form_at c.args.rows.now.fields.items) _ _ (rw c.in-TakeRemainder.is at c.requires.kinds)
+
+pub store-requires-in-TakeRemainder-clause-to : goal.store-requires-in-TakeRemainder-clause-to
+store-requires-in-TakeRemainder-clause-to c = remainder_kinds (form_at c.args.rows.now.fields.items) _ _ (rw c.in-TakeRemainder.is at c.requires.kinds)
+
+pub compared-order-requires-clause-factor1 : goal.compared-order-requires-clause-factor1
+compared-order-requires-clause-factor1 c = (compare_kinds (form_at c.args.rows.now.fields.items) _ _ _ (rw c.in-Compare.is at c.requires.kinds)).0
+
+pub compared-order-requires-clause-factor2 : goal.compared-order-requires-clause-factor2
+compared-order-requires-clause-factor2 c = (compare_kinds (form_at c.args.rows.now.fields.items) _ _ _ (rw c.in-Compare.is at c.requires.kinds)).1
+
+pub move_places-requires-clause-factor2 : goal.move_places-requires-clause-factor2
+move_places-requires-clause-factor2 c = (move_kinds (form_at c.args.rows.now.fields.items) _ _ _ (rw c.in-Move.is at c.requires.kinds)).0
+
+pub move_places-requires-clause-to : goal.move_places-requires-clause-to
+move_places-requires-clause-to c = (move_kinds (form_at c.args.rows.now.fields.items) _ _ _ (rw c.in-Move.is at c.requires.kinds)).1
