@@ -30,7 +30,7 @@ use Rattle.rpg_object.proofs.ConditionLaws.{passed}
 use Rattle.rpg_object.specs.declared.row.Move.{Move}
 use Rattle.rpg_object.specs.Object.{TypeRow, LineRow, Object}
 use Rattle.rpg_object.specs.Program.{parts, body, IsProgram}
-use Rattle.rpg_object.specs.Rows.{kind_number, kind_of, class_number, class_of, shortest, longest, most_decimals, sequence_of, is_decimals, entries_within, field, storage_after, fields, HasDigits, IsValueOf, AreValuesOf, value, next_kind, next_length, later_fields, values, indicator_of, indicator_number, move_row, type_parts, record_type, file_number, file_of, time_number, time_of, condition, alternative, indicator_in, conditions, line_field, alternative_count, line_parts, line, operand, instruction, shows, columns_of, computing}
+use Rattle.rpg_object.specs.Rows.{class_number, class_of, shortest, longest, most_decimals, sequence_of, is_decimals, entries_within, field, storage_after, fields, HasDigits, IsValueOf, AreValuesOf, value, next_kind, next_length, later_fields, values, indicator_of, indicator_number, move_row, type_parts, record_type, file_number, file_of, time_number, time_of, condition, alternative, indicator_in, conditions, line_field, alternative_count, line_parts, line, operand, instruction, shows, columns_of, computing}
 use Rattle.rpg_object.specs.Kept.{IsNumberForm, IsTextForm, IsDateForm, IsFieldRow, IsMoveRow, IsTypeRow, IsConditionRow, IsAlternativeRow, IsLineFieldRow, IsLineRow, IsInstructionRow, storage_of, IsPlainProgram, IsOperandRow, AreIndicators}
 
 -- ---- tables

@@ -1,5 +1,5 @@
 -- The laws of the formats of rows.
-use Rattle.std.proofs.Common.{◌≡◌, ℕ, ◌*◌, Bool, true, false, cond, List, [], ◌∷◌, length, Some, None, Err, refl, sym, ap, ◌∙◌, inl, inr, eqb, leb, ltb, eqb-true, Ok, Option}
+use Rattle.std.proofs.Common.{◌≡◌, ℕ, ◌*◌, Bool, true, false, cond, List, [], ◌∷◌, length, None, Err, refl, sym, ap, ◌∙◌, inl, inr, eqb, leb, ltb, eqb-true, Ok, Option}
 use Rattle.rpg_effect.specs.declared.form.Kind.TheVariants as kind
 use Rattle.rpg_effect.specs.declared.line.File.TheVariants.{Printer}
 use Rattle.rpg_effect.specs.declared.line.Time.TheVariants as time
@@ -15,7 +15,7 @@ use Rattle.rpg_format.specs.Numbers.{is_between, flag_number, up_to, count}
 use Rattle.rpg_format.proofs.Laws.{IsFormat, IsRule, byte_law, two_law, pair_law, row_law, times_law, table_law}
 use Rattle.rpg_format.proofs.Rules.{chosen, stands_for, value_is, guarded, choice_rule, up_to_rule, number_law, any_number_law, byte_where_law, yes_or_no_law, count_law, only_byte_law, only_number_law}
 use Rattle.rpg_object.proofs.ConditionLaws.{indicator_rule, conditions_law}
-use Rattle.rpg_object.specs.Rows.{kind_number, class_number, classes_of, shortest, longest, most_decimals, is_decimals, entries_within, field, storage_after, fields, indicator_of, indicator_number, move_row, TypeParts, type_parts, record_type, file_number, time_number, condition, counted_rows, alternative, line_field, alternative_count, LineParts, line_parts, line, operation_number, used, operand, action_of, numbers_of, instruction, operations, columns_of, other_code, half_of, shown_of, shows, no_shows, InstructionParts, joined, apart, action_in}
+use Rattle.rpg_object.specs.Rows.{kind_number, class_number, classes_of, shortest, longest, most_decimals, is_decimals, entries_within, field, storage_after, fields, indicator_number, move_row, TypeParts, type_parts, record_type, file_number, time_number, condition, counted_rows, alternative, line_field, alternative_count, LineParts, line_parts, line, operation_number, used, operand, action_of, numbers_of, instruction, operations, columns_of, other_code, half_of, shown_of, shows, no_shows, InstructionParts, joined, apart, action_in}
 use Rattle.rpg_object.specs.declared.operation.Operation.{Operation}
 use Rattle.rpg_object.specs.declared.operation.Operation.TheVariants as op
 
