@@ -128,6 +128,8 @@ fn a_refused_source_writes_no_object(rt: HostRuntime) -> Result<(), Fail> {
     let none = path(&rt, "refused_none.obj")?;
     let old = b"what stood here before stays";
     fs::write(&rt, object.as_str(), old)?;
+    let over_old = ["rpg2", "compile", source.as_str(), object.as_str()];
+    let over_none = ["rpg2", "compile", source.as_str(), none.as_str()];
     for (text, wanted) in [
         (UNDEFINED, "card 5: F1\n"),
         (OUT_OF_ORDER, "card 7: S4\n"),
@@ -135,12 +137,12 @@ fn a_refused_source_writes_no_object(rt: HostRuntime) -> Result<(), Fail> {
         (b"".as_slice(), "card 0: F7\n"),
     ] {
         fs::write(&rt, source.as_str(), text)?;
-        for object in [&object, &none] {
-            let list = ["rpg2", "compile", source.as_str(), object.as_str()];
-            let (line, status) = said(&rt, &list)?;
-            assert_eq!(rt; line.as_slice(), wanted.as_bytes());
-            assert_eq!(rt; status, 3, "{wanted}");
-        }
+        let (line, status) = said(&rt, &over_old)?;
+        assert_eq!(rt; line.as_slice(), wanted.as_bytes());
+        assert_eq!(rt; status, 3, "{wanted}");
+        let (line, status) = said(&rt, &over_none)?;
+        assert_eq!(rt; line.as_slice(), wanted.as_bytes());
+        assert_eq!(rt; status, 3, "{wanted}");
         assert_eq!(rt; fs::read(&rt, object.as_str())?.as_slice(), old.as_slice());
         assert!(rt; !fs::exists(&rt, none.as_str())?);
     }
