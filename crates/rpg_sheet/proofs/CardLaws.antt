@@ -1,7 +1,7 @@
 -- The law of each card, one line for each range of columns.
 use Rattle.std.proofs.Common.{ℕ, ◌+◌, ◌≤◌, lit≤}
 use Rattle.rpg_sheet.specs.Columns.{Columns, also, past}
-use Rattle.rpg_sheet.specs.Tables.{header, file, type_card, field_card, is_field_card, input_card, calculation_card, no_conditions, no_resulting_indicators, conditions, record_card, output_field_card, output_card}
+use Rattle.rpg_sheet.specs.Tables.{header, file, type_card, field_card, is_field_card, input_card, calculation_card, no_conditions, resulting_indicators, conditions, record_card, output_field_card, output_card}
 use Rattle.rpg_sheet.proofs.Laws.{IsTable, values_law, at_law, blank_law, also_law, past_law, where_law}
 
 infixl 7 ◌⊛◌
@@ -72,12 +72,12 @@ no_conditions_law = values_law _ 9
     ⊘ at_law _ (lit≤ tt) (lit≤ tt)
     ⊘ at_law _ (lit≤ tt) (lit≤ tt)
 
-no_resulting_indicators_law : IsTable no_resulting_indicators 54 60
-unfolding no_resulting_indicators
-no_resulting_indicators_law = values_law _ 54
-    ⊘ at_law _ (lit≤ tt) (lit≤ tt)
-    ⊘ at_law _ (lit≤ tt) (lit≤ tt)
-    ⊘ at_law _ (lit≤ tt) (lit≤ tt)
+resulting_indicators_law : IsTable resulting_indicators 54 60
+unfolding resulting_indicators
+resulting_indicators_law = values_law _ 54
+    ⊛ at_law _ (lit≤ tt) (lit≤ tt)
+    ⊛ at_law _ (lit≤ tt) (lit≤ tt)
+    ⊛ at_law _ (lit≤ tt) (lit≤ tt)
 
 pub calculation_card_law : IsTable calculation_card 7 60
 unfolding calculation_card
@@ -90,8 +90,8 @@ calculation_card_law = values_law _ 7
     ⊛ at_law _ (lit≤ tt) (lit≤ tt)
     ⊛ at_law _ (lit≤ tt) (lit≤ tt)
     ⊛ at_law _ (lit≤ tt) (lit≤ tt)
-    ⊘ at_law _ (lit≤ tt) (lit≤ tt)
-    ⊘ no_resulting_indicators_law
+    ⊛ at_law _ (lit≤ tt) (lit≤ tt)
+    ⊛ resulting_indicators_law
 
 record_card_law : IsTable record_card 7 71
 unfolding record_card
@@ -116,7 +116,7 @@ output_field_card_law = values_law _ 7
     ⊘ at_law _ (lit≤ tt) (lit≤ tt)
     ⊛ at_law _ (lit≤ tt) (lit≤ tt)
     ⊘ blank_law (lit≤ tt) (lit≤ tt) (lit≤ tt)
-    ⊘ at_law _ (lit≤ tt) (lit≤ tt)
+    ⊛ at_law _ (lit≤ tt) (lit≤ tt)
 
 pub input_card_law : IsTable input_card 7 75
 unfolding input_card

@@ -4,3 +4,5 @@ pub mod Digits
 pub mod Padding
 pub mod LineLemmas
 pub mod SheetLemmas
+pub mod LiteralLemmas
+pub mod Characters

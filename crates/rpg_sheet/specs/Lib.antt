@@ -1,4 +1,5 @@
 pub mod Columns
+pub mod Numeral
 pub mod Values
 pub mod Tables
 pub mod Sheet

@@ -1,6 +1,6 @@
 -- The cards, one line for each range of columns: `⊛` a range that gives the next member of the spec, `⊘` one that only has to be good.
 -- 1-5 and 75-80 are free on every card, and further columns where a sheet's headline says so.
-use Rattle.std.specs.Prelude.{ℕ, List, [], ◌∷◌, Bool, Option, Some, if◌then◌else◌, codes}
+use Rattle.std.specs.Prelude.{ℕ, List, [], ◌∷◌, Bool, Option, None, Some, if◌then◌else◌, codes}
 use Rattle.std.specs.Str.{bytes_eq}
 use Rattle.rpg_sheet.specs.declared.indicator.Three.{Three}
 use Rattle.rpg_sheet.specs.declared.indicator.Condition.{Condition}
@@ -14,6 +14,7 @@ use Rattle.rpg_sheet.specs.declared.input.RecordType.{RecordType}
 use Rattle.rpg_sheet.specs.declared.input.InputField.{InputField}
 use Rattle.rpg_sheet.specs.declared.input.InputSpec.{InputSpec}
 use Rattle.rpg_sheet.specs.declared.input.InputSpec.TheVariants as input
+use Rattle.rpg_sheet.specs.declared.literal.Factor.{Factor}
 use Rattle.rpg_sheet.specs.declared.calculation.Operation.{Operation}
 use Rattle.rpg_sheet.specs.declared.calculation.Operation.TheVariants as op
 use Rattle.rpg_sheet.specs.declared.calculation.CalculationSpec.{CalculationSpec}
@@ -24,7 +25,7 @@ use Rattle.rpg_sheet.specs.declared.output.OutputField.{OutputField}
 use Rattle.rpg_sheet.specs.declared.output.OutputSpec.{OutputSpec}
 use Rattle.rpg_sheet.specs.declared.output.OutputSpec.TheVariants as output
 use Rattle.rpg_sheet.specs.Columns.{Columns, cols, values, at, at_with, blank, where_card, ◌⊛◌, ◌⊘◌}
-use Rattle.rpg_sheet.specs.Values.{all_blank, one_of, only, unused, blank_or, marked, number, digits, name, name_but, letters, indicator, condition}
+use Rattle.rpg_sheet.specs.Values.{all_blank, one_of, only, unused, blank_or, marked, number, digits, name, name_but, letters, quoted, factor, indicator, condition}
 
 abbrev pub three : {X : Type 0} → X → X → X → Three X
 three a b c = record { first = a; second = b; third = c }
@@ -106,30 +107,33 @@ input_card = where_card is_field_card (values input.Field ⊛ field_card) (value
 -- ---- C; free: 60-74
 
 abbrev pub operation : List ℕ → Option Operation
-operation = one_of ((codes "ADD  ", op.Add) ∷ (codes "Z-ADD", op.ZeroAdd) ∷ [])
+operation = one_of (
+    (codes "ADD  ", op.Add) ∷ (codes "SUB  ", op.Subtract) ∷ (codes "MULT ", op.Multiply) ∷ (codes "DIV  ", op.Divide) ∷ (codes "MVR  ", op.MoveRemainder)
+    ∷ (codes "Z-ADD", op.ZeroAdd) ∷ (codes "Z-SUB", op.ZeroSubtract) ∷ (codes "COMP ", op.Compare) ∷ (codes "MOVE ", op.Move) ∷ (codes "MOVEL", op.MoveLeft) ∷ [])
 
-abbrev pub calculation_spec : Option (List ℕ) → Option Operation → Option (List ℕ) → Option (List ℕ) → Option ℕ → Option ℕ → CalculationSpec
-calculation_spec f o g r l d = record { factor_1 = f; operation = o; factor_2 = g; result_field = r; length = l; decimals = d }
+abbrev pub calculation_spec : Option Factor → Option Operation → Option Factor → Option (List ℕ) → Option ℕ → Option ℕ → Bool → Three (Option ℕ) → CalculationSpec
+calculation_spec f o g r l d h i = record { factor_1 = f; operation = o; factor_2 = g; result_field = r; length = l; decimals = d; half_adjust = h; resulting_indicators = i }
 
--- the conditions of a calculation, and its resulting indicators
+-- the conditions of a calculation
 unfoldable pub no_conditions : Columns (Unit {0})
 no_conditions = values tt ⊘ at 9 11 unused ⊘ at 12 14 unused ⊘ at 15 17 unused
 
-unfoldable pub no_resulting_indicators : Columns (Unit {0})
-no_resulting_indicators = values tt ⊘ at 54 55 unused ⊘ at 56 57 unused ⊘ at 58 59 unused
+-- plus or high, minus or low, zero or equal
+unfoldable pub resulting_indicators : Columns (Three (Option ℕ))
+resulting_indicators = values three ⊛ at 54 55 (blank_or indicator) ⊛ at 56 57 (blank_or indicator) ⊛ at 58 59 (blank_or indicator)
 
 unfoldable pub calculation_card : Columns CalculationSpec
 calculation_card = values calculation_spec
     ⊘ at 7 8 unused
     ⊘ no_conditions
-    ⊛ at 18 27 (blank_or (name 6))
+    ⊛ at 18 27 (blank_or factor)
     ⊛ at 28 32 (blank_or operation)
-    ⊛ at 33 42 (blank_or (name 6))
+    ⊛ at 33 42 (blank_or factor)
     ⊛ at 43 48 (blank_or (name 6))
     ⊛ at 49 51 (blank_or number)
     ⊛ at 52 52 (blank_or digits)
-    ⊘ at 53 53 unused
-    ⊘ no_resulting_indicators
+    ⊛ at 53 53 (marked (codes "H"))
+    ⊛ resulting_indicators
 
 -- ---- O; free: 71-74
 
@@ -158,8 +162,12 @@ record_card = values output_record
     ⊛ conditions 23 25 26 28 29 31
     ⊘ blank 32 70
 
-abbrev pub output_field : Three (Option Condition) → Option (List ℕ) → ℕ → OutputField
-output_field c n e = record { conditions = c; name = n; end = e }
+-- blank, or a text where no field is named
+abbrev pub constant : List ℕ → List ℕ → Option (Option (List ℕ))
+constant card text = blank_or (λ t. if all_blank (cols 32 37 card) then quoted t else None) text
+
+abbrev pub output_field : Three (Option Condition) → Option (List ℕ) → ℕ → Option (List ℕ) → OutputField
+output_field c n e t = record { conditions = c; name = n; end = e; constant = t }
 
 unfoldable pub output_field_card : Columns OutputField
 output_field_card = values output_field
@@ -170,7 +178,7 @@ output_field_card = values output_field
     ⊘ at 39 39 unused
     ⊛ at 40 43 number
     ⊘ blank 44 44
-    ⊘ at 45 70 unused
+    ⊛ at_with 45 70 constant
 
 unfoldable pub output_card : Columns OutputSpec
 output_card = where_card is_field_card (values output.Field ⊛ output_field_card) (values output.Record ⊛ record_card)

@@ -1,11 +1,16 @@
 -- What the text of a range of columns stands for.
-use Rattle.std.specs.Prelude.{ℕ, ◌+◌, ◌-◌, ◌*◌, List, [], ◌∷◌, length, take, drop, Bool, true, false, Option, None, Some, if◌then◌else◌, ◌==◌, ◌&&◌, ◌||◌, not, nat_le, nat_lt, codes}
-use Rattle.std.specs.List.{list_all, prefix_len, suffix_len}
-use Rattle.std.specs.Option.{option_map, option_and_then}
+use Rattle.std.specs.Prelude.{ℕ, ◌+◌, ◌-◌, ◌*◌, ℤ, pos, neg_ℤ, List, [], ◌∷◌, ◌++◌, length, take, drop, slice_index, slice_range, Bool, true, false, Option, None, Some, if◌then◌else◌, ◌==◌, ◌&&◌, ◌||◌, not, nat_le, nat_lt, codes}
+use Rattle.std.specs.List.{list_all, prefix_len, suffix_len, before_first, after_first}
+use Rattle.std.specs.Option.{option_map, option_and_then, option_or}
 use Rattle.std.specs.Char.{is_ascii_digit, is_ascii_uppercase}
 use Rattle.std.specs.Str.{bytes_eq}
-use Rattle.std.specs.Str.Parse.{digits_value}
+use Rattle.std.specs.Str.Parse.{digits_value, starts_with_minus, without_leading_sign}
 use Rattle.rpg_sheet.specs.declared.indicator.Condition.{Condition}
+use Rattle.rpg_sheet.specs.declared.literal.Literal.{Literal}
+use Rattle.rpg_sheet.specs.declared.literal.Literal.TheVariants as literals
+use Rattle.rpg_sheet.specs.declared.literal.Factor.{Factor}
+use Rattle.rpg_sheet.specs.declared.literal.Factor.TheVariants as factors
+use Rattle.rpg_sheet.specs.Numeral.{Numeral}
 
 -- what may stand in a column
 abbrev pub is_character : ℕ → Bool
@@ -86,6 +91,68 @@ name_but other most text = option_and_then (λ n. when (not (bytes_eq n other)) 
 -- a letter in every column
 abbrev pub letters : List ℕ → Option (List ℕ)
 letters text = when (list_all is_ascii_uppercase text) text
+
+-- ---- literals, from the first column on
+
+abbrev pub is_point : ℕ → Bool
+is_point c = c == 46
+
+abbrev pub with_sign : Bool → ℕ → ℤ
+with_sign minus n = if minus then neg_ℤ (pos n) else pos n
+
+-- the number of these digits before its point and these behind it, of which there must be one
+abbrev pub numeral : Bool → List ℕ → List ℕ → Option Numeral
+numeral minus whole behind = when (all_digits (whole ++ behind)) (record {
+  value = with_sign minus (digits_value 10 (whole ++ behind));
+  length = length (whole ++ behind);
+  decimals = length behind;
+})
+
+-- a sign or none, and digits with a point or none
+abbrev pub numeral_of : List ℕ → Option Numeral
+numeral_of text = numeral (starts_with_minus text) (before_first is_point (without_leading_sign text)) (after_first is_point (without_leading_sign text))
+
+abbrev pub is_apostrophe : ℕ → Bool
+is_apostrophe c = c == 39
+
+-- every apostrophe twice
+abbrev pub doubled : List ℕ → List ℕ
+doubled [] = []
+doubled (c ∷ cs) = if is_apostrophe c then 39 ∷ 39 ∷ doubled cs else c ∷ doubled cs
+
+-- as a card writes a text
+abbrev pub in_apostrophes : List ℕ → List ℕ
+in_apostrophes text = 39 ∷ doubled text ++ 39 ∷ []
+
+-- the text whose apostrophes are written twice: none where one of them stands alone
+abbrev pub undoubled : List ℕ → Option (List ℕ)
+undoubled [] = Some []
+undoubled (c ∷ []) = when (not (is_apostrophe c)) (c ∷ [])
+undoubled (c ∷ d ∷ cs) =
+    if not (is_apostrophe c) then option_map (λ t. c ∷ t) (undoubled (d ∷ cs))
+    else if is_apostrophe d then option_map (λ t. 39 ∷ t) (undoubled cs)
+    else None
+
+-- begins and ends with an apostrophe, and has something between them
+abbrev pub is_enclosed : List ℕ → Bool
+is_enclosed text = nat_lt 2 (length text) && is_apostrophe (slice_index text 0) && is_apostrophe (slice_index text (length text - 1))
+
+-- what stands between the apostrophes
+abbrev pub quoted_of : List ℕ → Option (List ℕ)
+quoted_of text = if is_enclosed text then undoubled (slice_range text 1 (length text - 1)) else None
+
+abbrev pub numeric_literal : List ℕ → Option Numeral
+numeric_literal text = numeral_of (trimmed text)
+
+abbrev pub quoted : List ℕ → Option (List ℕ)
+quoted text = quoted_of (trimmed text)
+
+abbrev pub literal : List ℕ → Option Literal
+literal text = option_or (option_map literals.Number (numeric_literal text)) (option_map literals.Text (quoted text))
+
+-- a name of at most six characters, or a literal
+abbrev pub factor : List ℕ → Option Factor
+factor text = option_or (option_map factors.Name (name 6 text)) (option_map factors.Literal (literal text))
 
 -- ---- indicators
 

@@ -6,25 +6,38 @@ ghost use Rattle.rpg_sheet.specs.Tables as tables;
 
 use crate::card::{Card, ColumnFault};
 use crate::columns::at;
+use crate::indicator::{Indicator, Three};
+use crate::literal::{self, Factor};
 use crate::values;
 use crate::word::Word;
 
 #[derive(Clone, Copy, Debug, PartialEq, Eq)]
 pub enum Operation {
     Add,
+    Subtract,
+    Multiply,
+    Divide,
+    MoveRemainder,
     ZeroAdd,
+    ZeroSubtract,
+    Compare,
+    Move,
+    MoveLeft,
 }
 
 /// A C card.
 #[derive(Drop)]
 pub struct CalculationSpec {
-    pub factor_1: Option<Word<6>>,
+    pub factor_1: Option<Factor>,
     pub operation: Option<Operation>,
-    pub factor_2: Option<Word<6>>,
+    pub factor_2: Option<Factor>,
     pub result_field: Option<Word<6>>,
     /// Length and decimals of the result field, where the card defines it.
     pub length: Option<u16>,
     pub decimals: Option<u8>,
+    pub half_adjust: bool,
+    /// Plus or high, minus or low, zero or equal.
+    pub resulting_indicators: Three<Option<Indicator>>,
 }
 
 impl CalculationSpec {
@@ -34,15 +47,15 @@ impl CalculationSpec {
     {
         card.unused(7, 8)?;
         no_conditions(card)?;
-        let factor_1 = card.optional_name(18, 27)?;
+        let factor_1 = card.optional_factor(18, 27)?;
         let operation = card.columns(28, 32);
         let operation = at(28, values::blank_or(operation, operation_of(operation)))?;
-        let factor_2 = card.optional_name(33, 42)?;
+        let factor_2 = card.optional_factor(33, 42)?;
         let result_field = card.optional_name(43, 48)?;
         let length = card.optional_number(49, 51)?;
         let decimals = card.optional_digit(52, 52)?;
-        card.unused(53, 53)?;
-        no_resulting_indicators(card)?;
+        let half_adjust = at(53, values::marked(b"H", card.columns(53, 53)))?;
+        let resulting_indicators = resulting_indicators(card)?;
         Ok(CalculationSpec {
             factor_1,
             operation,
@@ -50,6 +63,8 @@ impl CalculationSpec {
             result_field,
             length,
             decimals,
+            half_adjust,
+            resulting_indicators,
         })
     }
 }
@@ -70,8 +85,24 @@ fn operation_of(text: &[u8]) -> Option<Operation>
 {
     if text == b"ADD  ".as_slice() {
         Some(Operation::Add)
+    } else if text == b"SUB  ".as_slice() {
+        Some(Operation::Subtract)
+    } else if text == b"MULT ".as_slice() {
+        Some(Operation::Multiply)
+    } else if text == b"DIV  ".as_slice() {
+        Some(Operation::Divide)
+    } else if text == b"MVR  ".as_slice() {
+        Some(Operation::MoveRemainder)
     } else if text == b"Z-ADD".as_slice() {
         Some(Operation::ZeroAdd)
+    } else if text == b"Z-SUB".as_slice() {
+        Some(Operation::ZeroSubtract)
+    } else if text == b"COMP ".as_slice() {
+        Some(Operation::Compare)
+    } else if text == b"MOVE ".as_slice() {
+        Some(Operation::Move)
+    } else if text == b"MOVEL".as_slice() {
+        Some(Operation::MoveLeft)
     } else {
         None
     }
@@ -86,11 +117,16 @@ fn no_conditions(card: &Card) -> Result<(), ColumnFault>
     card.unused(15, 17)
 }
 
-#[tactic(auto, unfolding(crate::specs::Tables::no_resulting_indicators, crate::specs::Columns::values, crate::specs::Columns::at_with, crate::specs::Columns::past))]
-fn no_resulting_indicators(card: &Card) -> Result<(), ColumnFault>
-    ensures { result ≡ tables.no_resulting_indicators.reading card.now }
+#[tactic(auto, unfolding(crate::specs::Tables::resulting_indicators, crate::specs::Columns::values, crate::specs::Columns::at_with, crate::specs::Columns::also))]
+fn resulting_indicators(card: &Card) -> Result<Three<Option<Indicator>>, ColumnFault>
+    ensures { result ≡ tables.resulting_indicators.reading card.now }
 {
-    card.unused(54, 55)?;
-    card.unused(56, 57)?;
-    card.unused(58, 59)
+    let first = card.optional_indicator(54, 55)?;
+    let second = card.optional_indicator(56, 57)?;
+    let third = card.optional_indicator(58, 59)?;
+    Ok(Three {
+        first,
+        second,
+        third,
+    })
 }

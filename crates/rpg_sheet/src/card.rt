@@ -67,6 +67,7 @@ impl Card {
         requires ordered { first ≤ last }
         ensures value { result.now ≡ cols first last self.now }
         ensures len { length result.now ≡ last + 1 - first }
+        ensures characters { IsTrue (list_all is_character result.now) }
     {
         &self.characters.as_slice()[first as usize - 1..last as usize]
     }

@@ -6,6 +6,7 @@ ghost use Rattle.rpg_sheet.specs.Values as values;
 
 use crate::card::{Card, ColumnFault};
 use crate::indicator::{Condition, Indicator};
+use crate::literal::{self, Factor};
 use crate::values;
 use crate::word::Word;
 
@@ -50,6 +51,18 @@ impl Card {
     {
         let text = self.columns(first, last);
         at(first, values::blank_or(text, values::name(text)))
+    }
+
+    /// Blank or a factor.
+    pub(crate) fn optional_factor(&self, first: u8, last: u8) -> Result<Option<Factor>, ColumnFault>
+        requires within { last ≤ 80 }
+        requires counted { 1 ≤ first }
+        requires ordered { first ≤ last }
+        requires short { last ≤ first + 9 }
+        ensures { result ≡ ok_or (values.blank_or values.factor (cols first last self.now)) (fault_at first) }
+    {
+        let text = self.columns(first, last);
+        at(first, values::blank_or(text, literal::factor_of(text)))
     }
 
     /// Right-aligned digits after blanks.

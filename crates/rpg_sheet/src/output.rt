@@ -1,13 +1,14 @@
 //! The output sheet (O).
 
 ghost use Rattle.std.specs.Prelude.{◌≡◌, [], OnOk, IfErr};
-ghost use Rattle.rpg_sheet.specs.Columns.{IsLeast};
+ghost use Rattle.rpg_sheet.specs.Columns.{IsLeast, cols};
 ghost use Rattle.rpg_sheet.specs.Tables as tables;
 
 use crate::card::{Card, ColumnFault};
 use crate::columns::at;
 use crate::indicator::{Condition, Three};
 use crate::input::is_field_card;
+use crate::literal::{self, TextLiteral};
 use crate::values;
 use crate::word::Word;
 
@@ -35,6 +36,8 @@ pub struct OutputField {
     pub name: Option<Word<6>>,
     /// The field's last column in the line, from 1.
     pub end: u16,
+    /// What is printed where no field is named.
+    pub constant: Option<TextLiteral<24>>,
 }
 
 /// An O card.
@@ -105,11 +108,12 @@ impl OutputField {
         card.unused(39, 39)?;
         let end = card.number(40, 43)?;
         card.blank(44, 44)?;
-        card.unused(45, 70)?;
+        let constant = at(45, constant(card))?;
         Ok(OutputField {
             conditions,
             name,
             end,
+            constant,
         })
     }
 }
@@ -127,6 +131,18 @@ fn conditions(card: &Card) -> Result<Three<Option<Condition>>, ColumnFault>
         second,
         third,
     })
+}
+
+/// Blank, or a text where no field is named.
+fn constant(card: &Card) -> Option<Option<TextLiteral<24>>>
+    ensures { result ≡ tables.constant card.now (cols 45 70 card.now) }
+{
+    let text = card.columns(45, 70);
+    if values::is_blank(card.columns(32, 37)) {
+        values::blank_or(text, literal::quoted(text))
+    } else {
+        values::blank_or(text, None)
+    }
 }
 
 fn line_time(text: &[u8]) -> Option<LineTime>

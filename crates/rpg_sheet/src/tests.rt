@@ -1,6 +1,7 @@
 //! Cards and sources with what they stand for, from the printed sheets.
 
 mod columns;
+mod literals;
 mod sources;
 mod specs;
 

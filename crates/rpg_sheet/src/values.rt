@@ -1,9 +1,9 @@
 //! What the text of a range of columns stands for.
 
-ghost use Rattle.std.specs.Prelude.{◌≡◌, ◌+◌, ◌-◌, ◌≤◌, ◌<◌, length, drop, take, if◌then◌else◌, IsTrue, codes, option_map, IfSome};
+ghost use Rattle.std.specs.Prelude.{◌≡◌, ◌+◌, ◌-◌, ◌^◌, ◌≤◌, ◌<◌, length, drop, take, if◌then◌else◌, IsTrue, codes, option_map, IfSome};
 ghost use Rattle.std.specs.List.{list_all};
 ghost use Rattle.std.specs.Char.{is_ascii_digit};
-ghost use Rattle.std.specs.Str.Parse.{digits_value};
+ghost use Rattle.std.specs.Str.Parse.{digits_value_after};
 ghost use Rattle.rpg_sheet.specs.Values as values;
 
 use crate::indicator::{Condition, Indicator};
@@ -16,7 +16,7 @@ pub(crate) fn is_blank(text: &[u8]) -> bool
 }
 
 /// A text without the blanks at its end.
-fn trimmed(text: &[u8]) -> &[u8]
+pub(crate) fn trimmed(text: &[u8]) -> &[u8]
     ensures { result.now ≡ values.trimmed text.now }
 {
     let mut end = text.len();
@@ -75,21 +75,22 @@ pub(crate) fn marked(mark: &[u8], text: &[u8]) -> Option<bool>
     }
 }
 
-fn has_only_digits(text: &[u8]) -> bool
+pub(crate) fn has_only_digits(text: &[u8]) -> bool
     ensures { result ≡ list_all is_ascii_digit text.now }
 {
     text.iter().all(|c| c.is_ascii_digit())
 }
 
-/// The number that digits write.
-fn value_of(digits: &[u8]) -> u16
+/// The number that digits write behind those of `before`.
+pub(crate) fn value_after(before: u64, digits: &[u8]) -> u64
     requires digits { IsTrue (list_all is_ascii_digit digits.now) }
-    requires short { length digits.now ≤ 4 }
-    ensures { result ≡ digits_value 10 digits.now }
+    requires short { length digits.now ≤ 10 }
+    requires room { before < 10 ^ (10 - length digits.now) }
+    ensures value { result ≡ digits_value_after 10 before digits.now }
 {
-    let mut value = 0;
+    let mut value = before;
     for digit in digits {
-        value = value * 10 + (*digit - b'0') as u16;
+        value = value * 10 + (*digit - b'0') as u64;
     }
     value
 }
@@ -100,7 +101,7 @@ pub(crate) fn digits(text: &[u8]) -> Option<u16>
     ensures { result ≡ values.digits text.now }
 {
     if !text.is_empty() && has_only_digits(text) {
-        Some(value_of(text))
+        Some(value_after(0, text) as u16)
     } else {
         None
     }

@@ -1,6 +1,6 @@
 //! Short texts.
 
-ghost use Rattle.std.specs.Prelude.{◌≡◌, ◌≤◌, length, nat_eq};
+ghost use Rattle.std.specs.Prelude.{◌≡◌, ◌≤◌, ◌<◌, [], ◌∷◌, ◌++◌, length, nat_eq};
 ghost use Rattle.std.proofs.Common.{rules};
 ghost use Rattle.std.specs.Cmp.{partial_equiv_from_equiv};
 ghost use Rattle.std.specs.Cmp.Lexicographic.{pointwise, nat_list_eq_equiv};
@@ -35,6 +35,13 @@ impl<const N: usize> Word<N> {
             characters.push(*c);
         }
         Word { characters }
+    }
+
+    pub(crate) fn push(&mut self, character: u8)
+        requires { length self.old < N }
+        ensures { self.new ≡ self.old ++ character ∷ [] }
+    {
+        self.characters.push(character);
     }
 
     pub fn as_slice(&self) -> &[u8]

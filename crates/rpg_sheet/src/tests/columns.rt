@@ -17,6 +17,8 @@ const LINE: &str = "     OPRINT   D  1     01N02 LR                             
 
 const OUTPUT_FIELD: &str = "     O                 01N02 LRREC        5";
 
+const CONSTANT: &str = "     O                 01                 4 'TEXT'                    any";
+
 #[test]
 fn header_columns(rt: HostRuntime) {
     assert!(rt; changed(&rt, "     H any", 75, "ANY").h().is_ok());
@@ -125,6 +127,10 @@ fn calculation_columns(rt: HostRuntime) {
         CALCULATION,
         "     C",
         "     C                     Z-ADDUDATE     A      99",
+        "     C           A         DIV  3         Q       32H010203",
+        "     C                     MVR            R       32     LR",
+        "     C           'A'       COMP '1'                  20  L1",
+        "     C                     MOVEL-12       TEXT",
     ] {
         assert!(rt; changed(&rt, good, 75, "ANY").c().is_ok(), "{good}");
     }
@@ -136,19 +142,31 @@ fn calculation_columns(rt: HostRuntime) {
         (16, "01", 15),
         (18, "TOT,1", 18),
         (18, "SEVENTH", 18),
-        (28, "SUB  ", 28),
+        (28, "SUBT ", 28),
+        (28, "ZSUB ", 28),
+        (28, "MOVER", 28),
+        (28, "XFOOT", 28),
+        (28, "LOKUP", 28),
+        (28, "SETON", 28),
         (28, " ADD ", 28),
         (28, "add  ", 28),
-        (33, "1  ", 33),
-        (33, "'A'", 33),
+        (33, "1  A", 33),
+        (33, " 1 ", 33),
+        (33, "AMT,1", 33),
+        (43, "5     ", 43),
+        (43, "'A'   ", 43),
+        (43, "TOT,1 ", 43),
         (43, "TO T", 43),
         (49, "5  ", 49),
         (49, " x ", 49),
         (52, "-", 52),
-        (53, "H", 53),
-        (54, "01", 54),
+        (53, "h", 53),
+        (53, "N", 53),
+        (54, "00", 54),
+        (54, "1 ", 54),
         (57, "1", 56),
-        (58, "LR", 58),
+        (58, "+ ", 58),
+        (53, "X1", 53),
         (8, "1 01", 7),
         (32, "X1", 28),
     ] {
@@ -168,6 +186,7 @@ fn output_columns(rt: HostRuntime) {
         OUTPUT_FIELD,
         "     O        D",
         "     O                                  132",
+        CONSTANT,
     ] {
         assert!(rt; changed(&rt, good, 75, "ANY").o().is_ok(), "{good}");
     }
@@ -197,6 +216,15 @@ fn output_columns(rt: HostRuntime) {
         (OUTPUT_FIELD, 44, "x", 44),
         (OUTPUT_FIELD, 45, "'TEXT'", 45),
         (OUTPUT_FIELD, 70, "x", 45),
+        (CONSTANT, 45, "TEXT  ", 45),
+        (CONSTANT, 45, "''    ", 45),
+        (CONSTANT, 45, "'TEXT ", 45),
+        (CONSTANT, 45, " 'TEXT'", 45),
+        (CONSTANT, 45, "'DON'T'", 45),
+        (CONSTANT, 45, "'ABCDEFGHIJKLMNOPQRSTUVWXY", 45),
+        (CONSTANT, 70, "x", 45),
+        (CONSTANT, 38, "1B", 38),
+        (CONSTANT, 39, "B", 39),
         (OUTPUT_FIELD, 37, "A1", 32),
     ] {
         let read = changed(&rt, card, column, text).o();

@@ -2,7 +2,8 @@
 
 use super::{card, changed};
 use crate::{
-    Condition, Device, Direction, Indicator, InputSpec, LineTime, Operation, OutputSpec, Three,
+    Condition, Device, Direction, Factor, Indicator, InputSpec, LineTime, Operation, OutputSpec,
+    Three,
 };
 use std::test::Fail;
 
@@ -50,35 +51,95 @@ fn record_types_and_their_fields(rt: HostRuntime) -> Result<(), Fail> {
     Ok(())
 }
 
+fn is_name(factor: Option<Factor>, name: &[u8]) -> bool {
+    match factor {
+        Some(Factor::Name(word)) => word.as_slice() == name,
+        Some(Factor::Literal(_)) | None => false,
+    }
+}
+
 #[test]
 fn calculations(rt: HostRuntime) -> Result<(), Fail> {
     let add = card(&rt, "     C           TOT       ADD  AMT       TOT     50").c()?;
     assert_eq!(rt; add.operation, Some(Operation::Add));
-    assert_eq!(rt;
-        add.factor_1.map(|f| f.as_slice() == b"TOT".as_slice()),
-        Some(true)
-    );
-    assert_eq!(rt;
-        add.factor_2.map(|f| f.as_slice() == b"AMT".as_slice()),
-        Some(true)
-    );
+    assert!(rt; is_name(add.factor_1, b"TOT"));
+    assert!(rt; is_name(add.factor_2, b"AMT"));
     assert_eq!(rt;
         add.result_field.map(|f| f.as_slice() == b"TOT".as_slice()),
         Some(true)
     );
     assert_eq!(rt; add.length, Some(5));
     assert_eq!(rt; add.decimals, Some(0));
+    assert_eq!(rt; add.half_adjust, false);
+    assert_eq!(rt; add.resulting_indicators, no_indicators());
     let zero_add = card(&rt, "     C                     Z-ADD$#@A12    B").c()?;
     assert_eq!(rt; zero_add.operation, Some(Operation::ZeroAdd));
     assert_eq!(rt; zero_add.factor_1.is_none(), true);
-    assert_eq!(rt;
-        zero_add
-            .factor_2
-            .map(|f| f.as_slice() == b"$#@A12".as_slice()),
-        Some(true)
-    );
+    assert!(rt; is_name(zero_add.factor_2, b"$#@A12"));
     assert_eq!(rt; zero_add.length, None);
     assert_eq!(rt; zero_add.decimals, None);
+    Ok(())
+}
+
+fn no_indicators() -> Three<Option<Indicator>> {
+    Three {
+        first: None,
+        second: None,
+        third: None,
+    }
+}
+
+#[test]
+fn operations(rt: HostRuntime) -> Result<(), Fail> {
+    for (text, operation) in [
+        ("ADD  ", Operation::Add),
+        ("SUB  ", Operation::Subtract),
+        ("MULT ", Operation::Multiply),
+        ("DIV  ", Operation::Divide),
+        ("MVR  ", Operation::MoveRemainder),
+        ("Z-ADD", Operation::ZeroAdd),
+        ("Z-SUB", Operation::ZeroSubtract),
+        ("COMP ", Operation::Compare),
+        ("MOVE ", Operation::Move),
+        ("MOVEL", Operation::MoveLeft),
+    ] {
+        let spec = changed(&rt, "     C", 28, text).c()?;
+        assert_eq!(rt; spec.operation, Some(operation), "{text}");
+    }
+    assert_eq!(rt; card(&rt, "     C").c()?.operation, None);
+    Ok(())
+}
+
+#[test]
+fn half_adjust_and_resulting_indicators(rt: HostRuntime) -> Result<(), Fail> {
+    let divide = card(
+        &rt,
+        "     C           A         DIV  3         Q       32H01H1LR",
+    )
+    .c()?;
+    assert_eq!(rt; divide.half_adjust, true);
+    assert_eq!(rt;
+        divide.resulting_indicators,
+        Three {
+            first: Some(Indicator::new(1)),
+            second: Some(Indicator::new(120)),
+            third: Some(Indicator::new(110))
+        }
+    );
+    let compare = card(
+        &rt,
+        "     C           N         COMP 4                      20",
+    )
+    .c()?;
+    assert_eq!(rt; compare.half_adjust, false);
+    assert_eq!(rt;
+        compare.resulting_indicators,
+        Three {
+            first: None,
+            second: Some(Indicator::new(20)),
+            third: None
+        }
+    );
     Ok(())
 }
 
@@ -129,6 +190,7 @@ fn lines_and_their_fields(rt: HostRuntime) -> Result<(), Fail> {
         Some(true)
     );
     assert_eq!(rt; field.end, 80);
+    assert_eq!(rt; field.constant.is_none(), true);
     Ok(())
 }
 
