@@ -1,4 +1,5 @@
 pub mod Cards
 pub mod Names
+pub mod Constants
 pub mod Files
 pub mod Operations

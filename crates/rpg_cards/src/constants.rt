@@ -1,0 +1,215 @@
+//! The constants that stand on the cards themselves.
+
+ghost use Rattle.std.specs.Prelude.{◌≡◌, ◌≤◌, length, IsTrue};
+ghost use Rattle.std.specs.List.{list_all};
+ghost use Rattle.rpg_sheet.specs.Values.{is_character};
+ghost use Rattle.rpg_cards.specs.Constants as constants;
+ghost use Rattle.rpg_cards.specs.declared.constants.Constant.TheVariants.{Text};
+
+use crate::names::{Defined, form_of_name};
+use crate::spec_card::SpecCard;
+use rpg_effect::form::{Class, Form, Kind};
+use rpg_sheet::{Factor, Literal, NumericLiteral, TextLiteral, Word};
+use std::marker::Model;
+
+/// A text of 1 to 24 characters.
+#[derive(Drop)]
+pub struct ConstantText {
+    characters: Word<24>,
+}
+
+impl Model for ConstantText {
+    ghost use Rattle.std.specs.Prelude.{ℕ, List, length, ◌≤◌, IsTrue};
+    ghost use Rattle.std.specs.List.{list_all};
+    ghost use Rattle.rpg_sheet.specs.Values.{is_character};
+
+    ghost Value = { List ℕ };
+
+    ghost view = { λ t. t.characters };
+
+    ghost invariant = { λ t. (1 ≤ length t.characters) × (length t.characters ≤ 24) × IsTrue (list_all is_character t.characters) };
+}
+
+impl ConstantText {
+    fn new(text: &[u8]) -> Self
+        requires least { 1 ≤ length text.now }
+        requires most { length text.now ≤ 24 }
+        requires characters { IsTrue (list_all is_character text.now) }
+        ensures { result ≡ text.now }
+    {
+        ConstantText {
+            characters: Word::new(text),
+        }
+    }
+
+    pub fn as_slice(&self) -> &[u8]
+        ensures value { result.now ≡ self.now }
+        ensures least { 1 ≤ length result.now }
+        ensures most { length result.now ≤ 24 }
+        ensures characters { IsTrue (list_all is_character result.now) }
+    {
+        self.characters.as_slice()
+    }
+}
+
+/// A number or a text that a card has in place of a name.
+#[derive(Drop)]
+pub enum Constant {
+    Number(NumericLiteral),
+    Text(ConstantText),
+}
+
+impl Constant {
+    /// The constant of an output field.
+    pub fn of_text(text: &TextLiteral<24>) -> Self
+        ensures { result ≡ Text text.now }
+    {
+        Constant::Text(ConstantText::new(text.as_slice()))
+    }
+
+    #[tactic(auto, unfolding(crate::specs::Constants::constant_form))]
+    pub fn form(&self) -> Form
+        ensures { result ≡ constants.constant_form self.now }
+    {
+        match self {
+            Constant::Number(number) => Form {
+                kind: Kind::Number,
+                class: Class::Constant,
+                length: number.length() as u16,
+                decimals: number.decimals(),
+                is_ascending: false,
+                entries: 1,
+            },
+            Constant::Text(text) => Form {
+                kind: Kind::Text,
+                class: Class::Constant,
+                length: text.as_slice().len() as u16,
+                decimals: 0,
+                is_ascending: false,
+                entries: 1,
+            },
+        }
+    }
+
+    /// What a constant keeps of its digits or characters. It does nothing: its contract is the law.
+    pub fn keeps_limits(&self)
+        ensures { constants.IsConstant self.now }
+    {
+        match self {
+            Constant::Number(number) => {
+                number.value();
+                number.length();
+                number.decimals();
+            }
+            Constant::Text(text) => {
+                text.as_slice();
+            }
+        }
+    }
+
+    /// Whether one field can stand for both: their kind, length, decimals and value are the same.
+    pub fn is_same(&self, other: &Constant) -> bool
+        ensures { result ≡ constants.is_same self.now other.now }
+    {
+        match (self, other) {
+            (Constant::Number(a), Constant::Number(b)) => {
+                a.value() == b.value() && a.length() == b.length() && a.decimals() == b.decimals()
+            }
+            (Constant::Number(_), Constant::Text(_)) => false,
+            (Constant::Text(_), Constant::Number(_)) => false,
+            (Constant::Text(a), Constant::Text(b)) => a.as_slice() == b.as_slice(),
+        }
+    }
+}
+
+/// The constant in place of a name, where it is one.
+pub fn factor_constant(factor: &Factor) -> Option<Constant>
+    ensures { result ≡ constants.factor_constant factor.now }
+{
+    match factor {
+        Factor::Name(_) => None,
+        Factor::Literal(Literal::Number(number)) => Some(Constant::Number(*number)),
+        Factor::Literal(Literal::Text(text)) => Some(Constant::Text(ConstantText::new(
+            text.as_slice(),
+        ))),
+    }
+}
+
+impl SpecCard {
+    /// The constant of an output field, or of factor 1.
+    #[tactic(auto, unfolding(crate::specs::Constants::first_constant))]
+    pub fn first_constant(&self) -> Option<Constant>
+        ensures { result ≡ constants.first_constant self.now.spec }
+    {
+        if let Some(field) = self.output_field() {
+            let text = field.constant.as_ref()?;
+            return Some(Constant::Text(ConstantText::new(text.as_slice())));
+        }
+        factor_constant(self.calculation()?.factor_1.as_ref()?)
+    }
+
+    /// The constant of factor 2.
+    #[tactic(auto, unfolding(crate::specs::Constants::second_constant))]
+    pub fn second_constant(&self) -> Option<Constant>
+        ensures { result ≡ constants.second_constant self.now.spec }
+    {
+        factor_constant(self.calculation()?.factor_2.as_ref()?)
+    }
+}
+
+/// What a card has as factor 1 or in an output field, where no card before it has the same.
+pub fn new_first(before: &[SpecCard], card: &SpecCard) -> Option<Constant>
+    ensures { result ≡ constants.new_first before.now card.now.spec }
+{
+    let constant = card.first_constant()?;
+    if stands_on(&constant, before) {
+        None
+    } else {
+        Some(constant)
+    }
+}
+
+/// What a card has as factor 2, where neither its factor 1 nor a card before it is the same.
+pub fn new_second(before: &[SpecCard], card: &SpecCard) -> Option<Constant>
+    ensures { result ≡ constants.new_second before.now card.now.spec }
+{
+    let constant = card.second_constant()?;
+    if stands_in(&constant, &card.first_constant()) || stands_on(&constant, before) {
+        None
+    } else {
+        Some(constant)
+    }
+}
+
+fn stands_in(constant: &Constant, other: &Option<Constant>) -> bool
+    ensures { result ≡ constants.stands_in constant.now other.now }
+{
+    match other {
+        None => false,
+        Some(other) => constant.is_same(other),
+    }
+}
+
+fn stands_on(constant: &Constant, cards: &[SpecCard]) -> bool
+    ensures { result ≡ constants.stands_on constant.now cards.now }
+{
+    let Some((card, behind)) = cards.split_first() else {
+        return false;
+    };
+    stands_in(constant, &card.first_constant())
+        || stands_in(constant, &card.second_constant())
+        || stands_on(constant, behind)
+}
+
+/// The form of what an operation works with: of a name by its first definition.
+pub fn form_of_factor(factor: &Factor, cards: &[SpecCard]) -> Defined
+    ensures { result ≡ constants.form_of_factor factor.now cards.now }
+{
+    match factor {
+        Factor::Name(name) => form_of_name(name, cards),
+        Factor::Literal(Literal::Number(number)) => Defined::Good(Constant::Number(*number).form()),
+        Factor::Literal(Literal::Text(text)) => {
+            Defined::Good(Constant::Text(ConstantText::new(text.as_slice())).form())
+        }
+    }
+}
