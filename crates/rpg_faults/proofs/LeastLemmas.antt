@@ -6,7 +6,7 @@ use borrow.Author.Tests.{ltb-true, ltb-false}
 use Rattle.rpg_cards.specs.Cards.{Numbered}
 use Rattle.rpg_cards.specs.declared.spec_card.SpecCard.{SpecCard}
 use Rattle.rpg_faults.specs.declared.fault.FaultCode.{FaultCode}
-use Rattle.rpg_faults.specs.declared.fault.FaultCode.TheVariants.{F1, F2, F3, F4, F6, F7, F8, F9, F12, F16}
+use Rattle.rpg_faults.specs.declared.fault.FaultCode.TheVariants.{F1, F2, F3, F4, F6, F7, F8, F9, F12, F15, F16}
 use Rattle.rpg_faults.specs.declared.fault.Fault.{Fault}
 use Rattle.rpg_faults.specs.Cards.{Rule}
 use Rattle.rpg_faults.specs.Faults.{rule, source_rule, place, codes, first_broken, least_card, earlier, least_of, IsBroken, HasFault, NotAfter, IsLeastFault, Faultless}
@@ -207,10 +207,11 @@ all_codes F7 = inr (inr (inr (inr (inr (inl refl)))))
 all_codes F8 = inr (inr (inr (inr (inr (inr (inl refl))))))
 all_codes F9 = inr (inr (inr (inr (inr (inr (inr (inl refl)))))))
 all_codes F12 = inr (inr (inr (inr (inr (inr (inr (inr (inl refl))))))))
-all_codes F16 = inr (inr (inr (inr (inr (inr (inr (inr (inr (inl refl)))))))))
+all_codes F15 = inr (inr (inr (inr (inr (inr (inr (inr (inr (inl refl)))))))))
+all_codes F16 = inr (inr (inr (inr (inr (inr (inr (inr (inr (inr (inl refl))))))))))
 
 codes_ascend : Ascends 0 codes
-codes_ascend = (omega arith, (omega arith, (omega arith, (omega arith, (omega arith, (omega arith, (omega arith, (omega arith, (omega arith, (omega arith, tt))))))))))
+codes_ascend = (omega arith, (omega arith, (omega arith, (omega arith, (omega arith, (omega arith, (omega arith, (omega arith, (omega arith, (omega arith, (omega arith, tt)))))))))))
 
 pub least : (cards : List SpecCard) → Numbered 1 cards → MatchOption (least_of cards None codes) (Faultless cards) (λ f. IsLeastFault cards f)
 least cards numbered = least_from cards numbered 0 None codes codes_ascend (λ k. inr (all_codes k)) (λ g l h. omega arith)

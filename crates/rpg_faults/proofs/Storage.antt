@@ -1,6 +1,6 @@
 -- The fields take no more bytes than all definitions would.
-use Rattle.std.proofs.Common.{◌≡◌, ℕ, ◌+◌, ◌≤◌, List, [], ◌∷◌, ◌++◌, Bool, true, false, cond, Option, None, Some, arith}
-use Rattle.std.proofs.lemmas.Bool.{and_right, le-ltb}
+use Rattle.std.proofs.Common.{◌≡◌, ℕ, ◌+◌, ◌≤◌, List, [], ◌∷◌, ◌++◌, Bool, true, false, cond, Option, None, Some, arith, refl}
+use Rattle.std.proofs.lemmas.Bool.{and_right, le-ltb, leb-true}
 use Rattle.std.proofs.lemmas.List.Sums.{sum_by-cons}
 use Rattle.std.specs.List.{sum_by}
 use Rattle.std.specs.Prelude.{◌&&◌, nat_le, nat_lt}
@@ -33,3 +33,11 @@ pub is_within : (cards : List SpecCard) (most more : ℕ) → most ≡ most_byte
 is_within cards most more e l =
     let few = no_more_bytes cards in
     and_right (nat_le (bytes_in cards) 65535) (nat_lt 65535 (bytes_in cards + more)) (le-ltb 65535 (bytes_in cards + more) (omega arith))
+
+-- where nothing is added, no limit is passed
+pub nothing_passes : (so_far limit more : ℕ) → more ≡ 0 → (nat_le so_far limit && nat_lt limit (so_far + more)) ≡ false
+nothing_passes so_far limit more e = by_cases (nat_le so_far limit) refl
+  where
+    by_cases : (b : Bool) → nat_le so_far limit ≡ b → (b && nat_lt limit (so_far + more)) ≡ false
+    by_cases true l = le-ltb limit (so_far + more) (let k = leb-true so_far limit l in omega arith)
+    by_cases false l = refl

@@ -1,5 +1,5 @@
 -- Rules on cards.
-use Rattle.std.specs.Prelude.{ℕ, Bool, List, Option, None, is_some}
+use Rattle.std.specs.Prelude.{Bool, List, Option, None, is_some}
 use Rattle.rpg_cards.specs.Cards.{type_on, input_field_on, calculation_on, line_on, output_field_on}
 use Rattle.rpg_cards.specs.declared.operations.Need.{Need}
 use Rattle.rpg_cards.specs.declared.operations.Need.TheVariants.{Blank, Free, Filled}
@@ -29,7 +29,7 @@ is_output_field c = is_some (output_field_on c.spec)
 -- ---- operands
 
 -- what stands in a column that the operation has
-abbrev pub operand : Need → Option (List ℕ) → Option (List ℕ)
-operand Blank name = None
-operand Free name = name
-operand Filled name = name
+abbrev pub operand : {X : Type 0} → Need → Option X → Option X
+operand Blank x = None
+operand Free x = x
+operand Filled x = x

@@ -1,19 +1,24 @@
 -- F9: columns of calculations and output fields that are missing or not allowed.
-use Rattle.std.specs.Prelude.{ℕ, List, Bool, true, false, ◌&&◌, ◌||◌, Option, None, Some, is_some, is_none}
-use Rattle.std.specs.Option.{option_map_or}
+use Rattle.std.specs.Prelude.{ℕ, Bool, true, false, ◌&&◌, ◌||◌, Option, None, Some, is_some, is_none}
+use Rattle.std.specs.Option.{option_map_or, option_or}
 use Rattle.rpg_cards.specs.Cards.{calculation_on, output_field_on}
 use Rattle.rpg_cards.specs.Operations.{columns}
 use Rattle.rpg_cards.specs.declared.operations.Need.{Need}
 use Rattle.rpg_cards.specs.declared.operations.Need.TheVariants.{Blank, Free, Filled}
 use Rattle.rpg_sheet.specs.declared.calculation.CalculationSpec.{CalculationSpec}
 use Rattle.rpg_sheet.specs.declared.calculation.Operation.{Operation}
+use Rattle.rpg_sheet.specs.declared.indicator.Three.{Three}
 use Rattle.rpg_sheet.specs.declared.output.OutputField.{OutputField}
 use Rattle.rpg_cards.specs.declared.spec_card.SpecCard.{SpecCard}
 
-abbrev pub misses : Need → Option (List ℕ) → Bool
-misses Blank name = is_some name
-misses Free name = false
-misses Filled name = is_none name
+abbrev pub misses : {X : Type 0} → Need → Option X → Bool
+misses Blank x = is_some x
+misses Free x = false
+misses Filled x = is_none x
+
+-- filled where one of three is
+abbrev pub any_of : Three (Option ℕ) → Option ℕ
+any_of t = option_or t.first (option_or t.second t.third)
 
 -- a calculation has an operation, and what the operation takes
 abbrev pub bad_operation : CalculationSpec → Option Operation → Bool
@@ -22,6 +27,7 @@ bad_operation k (Some op) =
     misses (columns op).factor_1 k.factor_1
     || misses (columns op).factor_2 k.factor_2
     || misses (columns op).result_field k.result_field
+    || misses (columns op).indicators (any_of k.resulting_indicators)
 
 -- a length defines a result field
 abbrev pub bad_calculation : CalculationSpec → Bool
@@ -30,4 +36,4 @@ bad_calculation k = bad_operation k k.operation || (is_some k.length && is_none 
 abbrev pub bad_columns : SpecCard → Bool
 bad_columns c =
     option_map_or bad_calculation (calculation_on c.spec) false
-    || option_map_or (λ (f : OutputField). is_none f.name) (output_field_on c.spec) false
+    || option_map_or (λ (f : OutputField). is_none f.name && is_none f.constant) (output_field_on c.spec) false

@@ -2,7 +2,7 @@
 use Rattle.std.specs.Prelude.{◌≡◌, ℕ, ◌<◌, ◌≤◌, ◌⊎◌, Bool, true, false, List, [], ◌∷◌, ◌++◌, Option, None, Some, if◌then◌else◌, nat_lt}
 use Rattle.rpg_cards.specs.declared.spec_card.SpecCard.{SpecCard}
 use Rattle.rpg_faults.specs.declared.fault.FaultCode.{FaultCode}
-use Rattle.rpg_faults.specs.declared.fault.FaultCode.TheVariants.{F1, F2, F3, F4, F6, F7, F8, F9, F12, F16}
+use Rattle.rpg_faults.specs.declared.fault.FaultCode.TheVariants.{F1, F2, F3, F4, F6, F7, F8, F9, F12, F15, F16}
 use Rattle.rpg_faults.specs.declared.fault.Fault.{Fault}
 use Rattle.rpg_faults.specs.Cards.{Rule}
 use Rattle.rpg_faults.specs.Columns.{bad_columns}
@@ -13,6 +13,7 @@ use Rattle.rpg_faults.specs.Names.{lacks_name, redefines, bad_size}
 use Rattle.rpg_faults.specs.Operands.{wrong_operand}
 use Rattle.rpg_faults.specs.Order.{lacks_heading}
 use Rattle.rpg_faults.specs.Places.{misplaces}
+use Rattle.rpg_faults.specs.Rounding.{bad_rounding}
 
 -- ---- the rules
 
@@ -22,11 +23,12 @@ rule F1 before c after = lacks_name (before ++ c ∷ after) c
 rule F2 before c after = redefines before c
 rule F3 before c after = bad_size c
 rule F4 before c after = wrong_operand (before ++ c ∷ after) c
-rule F6 before c after = passes_limit before c
+rule F6 before c after = passes_limit (before ++ c ∷ after) before c
 rule F7 before c after = breaks_files (before ++ c ∷ after) before c
 rule F8 before c after = bad_indicator c
 rule F9 before c after = bad_columns c
 rule F12 before c after = lacks_heading before c
+rule F15 before c after = bad_rounding before c
 rule F16 before c after = misplaces (before ++ c ∷ after) before c
 
 -- what the source as a whole breaks
@@ -40,6 +42,7 @@ source_rule F7 cards = lacks_input cards
 source_rule F8 cards = false
 source_rule F9 cards = false
 source_rule F12 cards = false
+source_rule F15 cards = false
 source_rule F16 cards = false
 
 -- ---- the set: pairs of a card and a code
@@ -72,6 +75,7 @@ place F7 = 7
 place F8 = 8
 place F9 = 9
 place F12 = 12
+place F15 = 15
 place F16 = 16
 
 abbrev pub NotAfter : Fault → Fault → Type 0
@@ -83,7 +87,7 @@ pub record IsLeastFault (cards : List SpecCard) (f : Fault) : Type 0 where
 
 -- all codes, the least first
 abbrev pub codes : List FaultCode
-codes = F1 ∷ F2 ∷ F3 ∷ F4 ∷ F6 ∷ F7 ∷ F8 ∷ F9 ∷ F12 ∷ F16 ∷ []
+codes = F1 ∷ F2 ∷ F3 ∷ F4 ∷ F6 ∷ F7 ∷ F8 ∷ F9 ∷ F12 ∷ F15 ∷ F16 ∷ []
 
 -- ---- how it is found: the least card of each code, and the least of these
 

@@ -24,12 +24,20 @@ asks_for_mr (Some c) = c.indicator == 129
 abbrev pub bad_in_output : Three (Option Condition) → Bool
 bad_in_output t = asks_for_mr t.first || asks_for_mr t.second || asks_for_mr t.third
 
+-- a result sets all but L0, 1P and MR
+abbrev pub cannot_be_set : Option ℕ → Bool
+cannot_be_set None = false
+cannot_be_set (Some n) = (n == 100) || (n == 111) || (n == 129)
+
+abbrev pub bad_in_result : Three (Option ℕ) → Bool
+bad_in_result t = cannot_be_set t.first || cannot_be_set t.second || cannot_be_set t.third
+
 abbrev pub bad_on_card : Spec → Bool
 bad_on_card (spec.Header h) = false
 bad_on_card (spec.File f) = false
 bad_on_card (spec.Input (input.Type t)) = bad_on_type t.indicator
 bad_on_card (spec.Input (input.Field f)) = false
-bad_on_card (spec.Calculation k) = false
+bad_on_card (spec.Calculation k) = bad_in_result k.resulting_indicators
 bad_on_card (spec.Output (output.Record r)) = bad_in_output r.conditions
 bad_on_card (spec.Output (output.Field f)) = bad_in_output f.conditions
 

@@ -7,4 +7,5 @@ pub mod Indicators
 pub mod Columns
 pub mod Order
 pub mod Places
+pub mod Rounding
 pub mod Faults

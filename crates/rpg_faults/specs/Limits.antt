@@ -1,7 +1,9 @@
 -- F6: limits that are passed, at the card that passes.
-use Rattle.std.specs.Prelude.{ℕ, ◌+◌, Bool, false, ◌&&◌, ◌||◌, ◌==◌, nat_le, nat_lt, List, [], ◌∷◌, ◌++◌, count_by, fold, sum_by, Option, None, Some, if◌then◌else◌}
+use Rattle.std.specs.Prelude.{ℕ, ◌+◌, Bool, false, ◌&&◌, ◌||◌, ◌==◌, nat_le, nat_lt, List, [], ◌∷◌, ◌++◌, length, count_by, fold, sum_by, Option, None, Some, if◌then◌else◌}
 use Rattle.std.specs.Option.{option_and_then}
+use Rattle.rpg_cards.specs.Constants.{constant_form, new_first, new_second}
 use Rattle.rpg_cards.specs.Names.{definition_on, form_of_name}
+use Rattle.rpg_cards.specs.declared.constants.Constant.{Constant}
 use Rattle.rpg_cards.specs.declared.spec_card.SpecCard.{SpecCard}
 use Rattle.rpg_effect.specs.declared.form.Form.{Form}
 use Rattle.rpg_sheet.specs.declared.input.InputSpec.TheVariants as input
@@ -62,5 +64,56 @@ most_bytes_in cards = storage given + sum_by bytes_on cards
 abbrev pub passes_storage : List SpecCard → SpecCard → Bool
 passes_storage before c = nat_le (bytes_in before) 65535 && nat_lt 65535 (bytes_in before + bytes_by before (definition_on c.spec))
 
-abbrev pub passes_limit : List SpecCard → SpecCard → Bool
-passes_limit before c = passes_count before c.spec || passes_storage before c
+-- ---- constants: numbered behind all names, each where it comes first
+
+abbrev pub constant_bytes : Option Constant → ℕ
+constant_bytes None = 0
+constant_bytes (Some c) = size_of (constant_form c)
+
+abbrev pub constant_bytes_by : List SpecCard → SpecCard → ℕ
+constant_bytes_by before c = constant_bytes (new_first before c.spec) + constant_bytes (new_second before c.spec)
+
+-- what cards add up to, each seen with those before it
+abbrev pub total_from : (List SpecCard → SpecCard → ℕ) → List SpecCard → List SpecCard → ℕ
+total_from weight before [] = 0
+total_from weight before (c ∷ cs) = weight before c + total_from weight (before ++ c ∷ []) cs
+
+abbrev pub constant_bytes_from : List SpecCard → List SpecCard → ℕ
+constant_bytes_from before cards = total_from constant_bytes_by before cards
+
+-- the bytes of all names, and of the constants of the cards before
+abbrev pub bytes_up_to : List SpecCard → List SpecCard → ℕ
+bytes_up_to cards before = bytes_in cards + constant_bytes_from [] before
+
+abbrev pub passes_storage_by_constant : List SpecCard → List SpecCard → SpecCard → Bool
+passes_storage_by_constant cards before c = nat_le (bytes_up_to cards before) 65535 && nat_lt 65535 (bytes_up_to cards before + constant_bytes_by before c)
+
+-- ---- 4,000 fields and constants: only a constant can be the one that passes
+
+abbrev pub one_if_some : {X : Type 0} → Option X → ℕ
+one_if_some None = 0
+one_if_some (Some x) = 1
+
+abbrev pub names_by : List SpecCard → Option (List ℕ × Option Form) → ℕ
+names_by before None = 0
+names_by before (Some d) = if is_missing (form_of_name d.0 before) then 1 else 0
+
+abbrev pub names_from : List SpecCard → List SpecCard → ℕ
+names_from before [] = 0
+names_from before (c ∷ cs) = names_by before (definition_on c.spec) + names_from (before ++ c ∷ []) cs
+
+abbrev pub constants_by : List SpecCard → SpecCard → ℕ
+constants_by before c = one_if_some (new_first before c.spec) + one_if_some (new_second before c.spec)
+
+abbrev pub constants_from : List SpecCard → List SpecCard → ℕ
+constants_from before cards = total_from constants_by before cards
+
+-- all names, and the constants of the cards before
+abbrev pub fields_up_to : List SpecCard → List SpecCard → ℕ
+fields_up_to cards before = length given + names_from [] cards + constants_from [] before
+
+abbrev pub passes_fields : List SpecCard → List SpecCard → SpecCard → Bool
+passes_fields cards before c = nat_le (fields_up_to cards before) 4000 && nat_lt 4000 (fields_up_to cards before + constants_by before c)
+
+abbrev pub passes_limit : List SpecCard → List SpecCard → SpecCard → Bool
+passes_limit cards before c = passes_count before c.spec || passes_storage before c || passes_storage_by_constant cards before c || passes_fields cards before c

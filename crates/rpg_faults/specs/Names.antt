@@ -15,6 +15,8 @@ use Rattle.rpg_effect.specs.declared.form.Kind.TheVariants as kind
 use Rattle.rpg_sheet.specs.declared.calculation.CalculationSpec.{CalculationSpec}
 use Rattle.rpg_sheet.specs.declared.calculation.Operation.{Operation}
 use Rattle.rpg_sheet.specs.declared.input.InputField.{InputField}
+use Rattle.rpg_sheet.specs.declared.literal.Factor.{Factor}
+use Rattle.rpg_sheet.specs.declared.literal.Factor.TheVariants as factor
 use Rattle.rpg_sheet.specs.declared.output.OutputField.{OutputField}
 use Rattle.rpg_faults.specs.Cards.{operand}
 
@@ -29,10 +31,16 @@ abbrev pub is_undefined : List SpecCard → Option (List ℕ) → Bool
 is_undefined cards None = false
 is_undefined cards (Some name) = is_missing (form_of_name name cards)
 
+-- a literal is no name
+abbrev pub name_in : Option Factor → Option (List ℕ)
+name_in None = None
+name_in (Some (factor.Name name)) = Some name
+name_in (Some (factor.Literal l)) = None
+
 abbrev pub operation_lacks_name : List SpecCard → CalculationSpec → Operation → Bool
 operation_lacks_name cards k op =
-    is_undefined cards (operand (columns op).factor_1 k.factor_1)
-    || is_undefined cards (operand (columns op).factor_2 k.factor_2)
+    is_undefined cards (name_in (operand (columns op).factor_1 k.factor_1))
+    || is_undefined cards (name_in (operand (columns op).factor_2 k.factor_2))
     || is_undefined cards (operand (columns op).result_field k.result_field)
 
 abbrev pub calculation_lacks_name : List SpecCard → CalculationSpec → Bool

@@ -1,7 +1,8 @@
 -- F4: an operand of the wrong kind, or a result field that can't be written.
-use Rattle.std.specs.Prelude.{ℕ, List, Bool, true, false, ◌||◌, Option}
-use Rattle.std.specs.Option.{option_map_or}
+use Rattle.std.specs.Prelude.{ℕ, List, Bool, true, false, not, ◌||◌, Option, None, Some}
+use Rattle.std.specs.Option.{option_map_or, option_and_then}
 use Rattle.rpg_cards.specs.Cards.{calculation_on}
+use Rattle.rpg_cards.specs.Constants.{form_of_factor}
 use Rattle.rpg_cards.specs.Names.{form_of_name}
 use Rattle.rpg_cards.specs.Operations.{columns}
 use Rattle.rpg_cards.specs.declared.names.Defined.{Defined}
@@ -9,11 +10,17 @@ use Rattle.rpg_cards.specs.declared.names.Defined.TheVariants.{Missing, Bad, Goo
 use Rattle.rpg_cards.specs.declared.spec_card.SpecCard.{SpecCard}
 use Rattle.rpg_effect.specs.declared.form.Class.{Class}
 use Rattle.rpg_effect.specs.declared.form.Class.TheVariants as class
+use Rattle.rpg_cards.specs.declared.operations.Kinds.{Kinds}
+use Rattle.rpg_cards.specs.declared.operations.Kinds.TheVariants.{Numbers, Alike, Any}
+use Rattle.rpg_cards.specs.declared.operations.Need.{Need}
+use Rattle.rpg_effect.specs.declared.form.Form.{Form}
 use Rattle.rpg_effect.specs.declared.form.Kind.{Kind}
 use Rattle.rpg_effect.specs.declared.form.Kind.TheVariants as kind
 use Rattle.rpg_sheet.specs.declared.calculation.CalculationSpec.{CalculationSpec}
 use Rattle.rpg_sheet.specs.declared.calculation.Operation.{Operation}
+use Rattle.rpg_sheet.specs.declared.literal.Factor.{Factor}
 use Rattle.rpg_faults.specs.Cards.{operand}
+use Rattle.rpg_faults.specs.Names.{same_kind}
 
 abbrev pub is_text : Kind → Bool
 is_text kind.Number = false
@@ -28,27 +35,43 @@ is_fixed class.Constant = true
 is_fixed class.Date = true
 
 -- nothing is said of a name without a form
-abbrev pub is_no_number : Defined → Bool
-is_no_number Missing = false
-is_no_number Bad = false
-is_no_number (Good form) = is_text form.kind
+abbrev pub form_in : Defined → Option Form
+form_in Missing = None
+form_in Bad = None
+form_in (Good form) = Some form
 
-abbrev pub is_no_result : Defined → Bool
-is_no_result Missing = false
-is_no_result Bad = false
-is_no_result (Good form) = is_text form.kind || is_fixed form.class
+-- the form of what stands in a column that the operation has
+abbrev pub factor_form : List SpecCard → Need → Option Factor → Option Form
+factor_form cards need factor = option_and_then (λ f. form_in (form_of_factor f cards)) (operand need factor)
 
-abbrev pub wrong_factor : List SpecCard → Option (List ℕ) → Bool
-wrong_factor cards name = option_map_or (λ n. is_no_number (form_of_name n cards)) name false
+abbrev pub result_form : List SpecCard → Need → Option (List ℕ) → Option Form
+result_form cards need name = option_and_then (λ n. form_in (form_of_name n cards)) (operand need name)
 
-abbrev pub wrong_result : List SpecCard → Option (List ℕ) → Bool
-wrong_result cards name = option_map_or (λ n. is_no_result (form_of_name n cards)) name false
+abbrev pub has_text : Option Form → Bool
+has_text None = false
+has_text (Some form) = is_text form.kind
+
+-- a number beside a text
+abbrev pub differ : Option Form → Option Form → Bool
+differ None o = false
+differ (Some f) None = false
+differ (Some f) (Some g) = not (same_kind f.kind g.kind)
+
+abbrev pub wrong_kinds : Kinds → Option Form → Option Form → Option Form → Bool
+wrong_kinds Numbers f g r = has_text f || has_text g || has_text r
+wrong_kinds Alike f g r = differ f g
+wrong_kinds Any f g r = false
+
+abbrev pub is_never_written : Option Form → Bool
+is_never_written None = false
+is_never_written (Some form) = is_fixed form.class
+
+abbrev pub wrong_forms : Kinds → Option Form → Option Form → Option Form → Bool
+wrong_forms kinds f g r = wrong_kinds kinds f g r || is_never_written r
 
 abbrev pub wrong_in_operation : List SpecCard → CalculationSpec → Operation → Bool
 wrong_in_operation cards k op =
-    wrong_factor cards (operand (columns op).factor_1 k.factor_1)
-    || wrong_factor cards (operand (columns op).factor_2 k.factor_2)
-    || wrong_result cards (operand (columns op).result_field k.result_field)
+    wrong_forms (columns op).kinds (factor_form cards (columns op).factor_1 k.factor_1) (factor_form cards (columns op).factor_2 k.factor_2) (result_form cards (columns op).result_field k.result_field)
 
 abbrev pub wrong_in_calculation : List SpecCard → CalculationSpec → Bool
 wrong_in_calculation cards k = option_map_or (wrong_in_operation cards k) k.operation false

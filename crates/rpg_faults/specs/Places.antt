@@ -1,5 +1,5 @@
 -- F16: columns outside the record or the line.
-use Rattle.std.specs.Prelude.{ℕ, List, Bool, false, ◌||◌, ◌==◌, nat_lt, Option, None, Some}
+use Rattle.std.specs.Prelude.{ℕ, List, length, Bool, false, ◌||◌, ◌==◌, nat_lt, Option, None, Some}
 use Rattle.std.specs.Option.{option_map_or, option_and_then}
 use Rattle.rpg_cards.specs.Cards.{input_field_on, output_field_on}
 use Rattle.rpg_cards.specs.Files.{file_named, input_file_name, output_file_name}
@@ -33,9 +33,12 @@ is_wider (Good form) column = nat_lt column form.length
 abbrev pub field_is_wider : List SpecCard → OutputField → Bool
 field_is_wider cards f = option_map_or (λ n. is_wider (form_of_name n cards) f.end) f.name false
 
--- the end 0 or past the line, or the field wider than the places up to its end
+abbrev pub constant_is_wider : OutputField → Bool
+constant_is_wider f = option_map_or (λ (text : List ℕ). nat_lt f.end (length text)) f.constant false
+
+-- the end 0 or past the line, or the field or constant wider than the places up to its end
 abbrev pub outside_line : List SpecCard → Option FileSpec → OutputField → Bool
-outside_line cards file f = f.end == 0 || is_past file f.end || field_is_wider cards f
+outside_line cards file f = f.end == 0 || is_past file f.end || field_is_wider cards f || constant_is_wider f
 
 abbrev pub misplaces : List SpecCard → List SpecCard → SpecCard → Bool
 misplaces cards before c =

@@ -4,8 +4,7 @@ ghost use Rattle.std.specs.Prelude.{◌≡◌};
 ghost use Rattle.rpg_faults.specs.Columns as sheet_columns;
 
 use rpg_cards::{Need, SpecCard, columns};
-use rpg_sheet::CalculationSpec;
-use rpg_symbols::Name;
+use rpg_sheet::{CalculationSpec, Indicator, Three};
 
 pub(crate) fn bad_columns(card: &SpecCard) -> bool
     ensures { result ≡ sheet_columns.bad_columns card.now }
@@ -15,7 +14,7 @@ pub(crate) fn bad_columns(card: &SpecCard) -> bool
     }
     match card.output_field() {
         None => false,
-        Some(field) => field.name.is_none(),
+        Some(field) => field.name.is_none() && field.constant.is_none(),
     }
 }
 
@@ -36,14 +35,25 @@ fn bad_operation(calculation: &CalculationSpec) -> bool
     misses(columns.factor_1, &calculation.factor_1)
         || misses(columns.factor_2, &calculation.factor_2)
         || misses(columns.result_field, &calculation.result_field)
+        || misses(
+            columns.indicators,
+            &any_of(calculation.resulting_indicators),
+        )
 }
 
-fn misses(need: Need, name: &Option<Name>) -> bool
-    ensures { result ≡ sheet_columns.misses need name.now }
+fn misses<X: Drop>(need: Need, x: &Option<X>) -> bool
+    ensures { result ≡ sheet_columns.misses need x.now }
 {
     match need {
-        Need::Blank => name.is_some(),
+        Need::Blank => x.is_some(),
         Need::Free => false,
-        Need::Filled => name.is_none(),
+        Need::Filled => x.is_none(),
     }
+}
+
+/// Filled where one of three is.
+fn any_of(shown: Three<Option<Indicator>>) -> Option<Indicator>
+    ensures { result ≡ sheet_columns.any_of shown }
+{
+    shown.first.or(shown.second.or(shown.third))
 }

@@ -23,6 +23,8 @@ pub enum FaultCode {
     F9,
     /// A line needs one before it.
     F12,
+    /// H isn't allowed, or MVR doesn't stand behind a division without H.
+    F15,
     /// A column is outside the record or the line.
     F16,
 }
@@ -39,6 +41,7 @@ impl FaultCode {
             FaultCode::F8 => "F8",
             FaultCode::F9 => "F9",
             FaultCode::F12 => "F12",
+            FaultCode::F15 => "F15",
             FaultCode::F16 => "F16",
         }
     }

@@ -13,10 +13,11 @@ use crate::names::{bad_size, lacks_name, redefines};
 use crate::operands::wrong_operand;
 use crate::order::lacks_heading;
 use crate::places::misplaces;
+use crate::rounding::bad_rounding;
 use rpg_cards::SpecCard;
 
 /// All codes, the least first.
-const CODES: [FaultCode; 10] = [
+const CODES: [FaultCode; 11] = [
     FaultCode::F1,
     FaultCode::F2,
     FaultCode::F3,
@@ -26,6 +27,7 @@ const CODES: [FaultCode; 10] = [
     FaultCode::F8,
     FaultCode::F9,
     FaultCode::F12,
+    FaultCode::F15,
     FaultCode::F16,
 ];
 
@@ -99,6 +101,7 @@ fn breaks(
     after: &[SpecCard],
 ) -> bool
     requires split { cards.now ≡ before.now ++ card.now ∷ after.now }
+    requires all { length cards.now ≤ 2000 }
     requires few { length before.now ≤ 2000 }
     ensures { result ≡ faults.rule code before.now card.now after.now }
 {
@@ -107,11 +110,12 @@ fn breaks(
         FaultCode::F2 => redefines(before, card),
         FaultCode::F3 => bad_size(card),
         FaultCode::F4 => wrong_operand(cards, card),
-        FaultCode::F6 => passes_limit(before, card),
+        FaultCode::F6 => passes_limit(cards, before, card),
         FaultCode::F7 => breaks_files(cards, before, card),
         FaultCode::F8 => bad_indicator(card),
         FaultCode::F9 => bad_columns(card),
         FaultCode::F12 => lacks_heading(before, card),
+        FaultCode::F15 => bad_rounding(before, card),
         FaultCode::F16 => misplaces(cards, before, card),
     }
 }
@@ -131,6 +135,7 @@ fn breaks_as_whole(code: FaultCode, cards: &[SpecCard]) -> bool
         | FaultCode::F8
         | FaultCode::F9
         | FaultCode::F12
+        | FaultCode::F15
         | FaultCode::F16 => false,
     }
 }

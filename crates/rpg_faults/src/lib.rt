@@ -2,6 +2,7 @@
 #![tactic(auto)]
 
 mod columns;
+mod constants;
 mod fault;
 mod files;
 mod indicators;
@@ -11,6 +12,7 @@ mod names;
 mod operands;
 mod order;
 mod places;
+mod rounding;
 #[cfg(test)]
 mod tests;
 

@@ -5,6 +5,7 @@ ghost use Rattle.rpg_cards.specs.Names.{definition_on};
 ghost use Rattle.rpg_faults.specs.Cards as kinds;
 ghost use Rattle.rpg_faults.specs.Limits as limits;
 
+use crate::constants::{passes_fields, passes_storage_by_constant};
 use crate::names::is_defined;
 use rpg_cards::SpecCard;
 use rpg_sheet::{InputSpec, OutputSpec, Spec};
@@ -25,11 +26,15 @@ const STORAGE: u64 = 65535;
 /// The date's and the page number's bytes.
 const GIVEN_BYTES: u64 = 10;
 
-pub(crate) fn passes_limit(before: &[SpecCard], card: &SpecCard) -> bool
-    requires { length before.now ≤ 2000 }
-    ensures { result ≡ limits.passes_limit before.now card.now }
+pub(crate) fn passes_limit(cards: &[SpecCard], before: &[SpecCard], card: &SpecCard) -> bool
+    requires all { length cards.now ≤ 2000 }
+    requires few { length before.now ≤ 2000 }
+    ensures { result ≡ limits.passes_limit cards.now before.now card.now }
 {
-    passes_count(before, card) || passes_storage(before, card)
+    passes_count(before, card)
+        || passes_storage(before, card)
+        || passes_storage_by_constant(cards, before, card)
+        || passes_fields(cards, before, card)
 }
 
 /// A card passes a limit where as many of its kind come before as there may be.
@@ -129,7 +134,7 @@ fn passes_storage(before: &[SpecCard], card: &SpecCard) -> bool
 }
 
 /// The bytes of all fields that these cards define.
-fn bytes_in(cards: &[SpecCard]) -> u64
+pub(crate) fn bytes_in(cards: &[SpecCard]) -> u64
     requires { length cards.now ≤ 2000 }
     ensures value { result ≡ limits.bytes_in cards.now }
     ensures few { result ≤ 10 + 4294967295 * length cards.now }

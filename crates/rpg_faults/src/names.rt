@@ -8,7 +8,7 @@ ghost use Rattle.rpg_faults.specs.Names as names;
 
 use rpg_cards::{Defined, Need, SpecCard, columns, form_of_name, sized_form};
 use rpg_effect::form::{Class, Form, Kind};
-use rpg_sheet::{CalculationSpec, OutputField};
+use rpg_sheet::{CalculationSpec, Factor, OutputField};
 use rpg_symbols::Name;
 
 /// F1: a name that is used and that no card defines.
@@ -31,12 +31,16 @@ fn calculation_lacks_name(cards: &[SpecCard], calculation: &CalculationSpec) -> 
         return false;
     };
     let columns = columns(operation);
-    is_undefined(cards, operand(columns.factor_1, &calculation.factor_1))
-        || is_undefined(cards, operand(columns.factor_2, &calculation.factor_2))
-        || is_undefined(
-            cards,
-            operand(columns.result_field, &calculation.result_field),
-        )
+    is_undefined(
+        cards,
+        name_in(operand(columns.factor_1, &calculation.factor_1)),
+    ) || is_undefined(
+        cards,
+        name_in(operand(columns.factor_2, &calculation.factor_2)),
+    ) || is_undefined(
+        cards,
+        operand(columns.result_field, &calculation.result_field),
+    )
 }
 
 fn output_lacks_name(cards: &[SpecCard], field: &OutputField) -> bool
@@ -46,12 +50,23 @@ fn output_lacks_name(cards: &[SpecCard], field: &OutputField) -> bool
 }
 
 /// What stands in a column that the operation has.
-pub(crate) fn operand(need: Need, name: &Option<Name>) -> Option<&Name>
-    ensures { option_copied result ≡ operand need name.now }
+pub(crate) fn operand<X: Drop>(need: Need, x: &Option<X>) -> Option<&X>
+    ensures { option_copied result ≡ operand need x.now }
 {
     match need {
         Need::Blank => None,
-        Need::Free | Need::Filled => name.as_ref(),
+        Need::Free | Need::Filled => x.as_ref(),
+    }
+}
+
+/// A literal is no name.
+fn name_in(factor: Option<&Factor>) -> Option<&Name>
+    ensures { option_copied result ≡ names.name_in (option_copied factor.entry) }
+{
+    match factor {
+        None => None,
+        Some(Factor::Name(name)) => Some(name),
+        Some(Factor::Literal(_)) => None,
     }
 }
 
@@ -102,7 +117,7 @@ fn is_same(a: &Form, b: &Form) -> bool
         && a.entries == b.entries
 }
 
-fn is_same_kind(a: Kind, b: Kind) -> bool
+pub(crate) fn is_same_kind(a: Kind, b: Kind) -> bool
     ensures { result ≡ names.same_kind a b }
 {
     match (a, b) {

@@ -1,12 +1,12 @@
 //! F4: an operand of the wrong kind, or a result field that can't be written.
 
-ghost use Rattle.std.specs.Prelude.{◌≡◌, option_copied};
+ghost use Rattle.std.specs.Prelude.{◌≡◌};
 ghost use Rattle.rpg_faults.specs.Operands as operands;
 
-use crate::names::operand;
-use rpg_cards::{Defined, SpecCard, columns, form_of_name};
-use rpg_effect::form::{Class, Kind};
-use rpg_sheet::CalculationSpec;
+use crate::names::{is_same_kind, operand};
+use rpg_cards::{Defined, Kinds, Need, SpecCard, columns, form_of_factor, form_of_name};
+use rpg_effect::form::{Class, Form, Kind};
+use rpg_sheet::{CalculationSpec, Factor};
 use rpg_symbols::Name;
 
 pub(crate) fn wrong_operand(cards: &[SpecCard], card: &SpecCard) -> bool
@@ -25,37 +25,92 @@ fn wrong_in_calculation(cards: &[SpecCard], calculation: &CalculationSpec) -> bo
         return false;
     };
     let columns = columns(operation);
-    wrong_factor(cards, operand(columns.factor_1, &calculation.factor_1))
-        || wrong_factor(cards, operand(columns.factor_2, &calculation.factor_2))
-        || wrong_result(
-            cards,
-            operand(columns.result_field, &calculation.result_field),
-        )
+    are_wrong(
+        columns.kinds,
+        factor_form(cards, columns.factor_1, &calculation.factor_1),
+        factor_form(cards, columns.factor_2, &calculation.factor_2),
+        result_form(cards, columns.result_field, &calculation.result_field),
+    )
 }
 
-fn wrong_factor(cards: &[SpecCard], name: Option<&Name>) -> bool
-    ensures { result ≡ operands.wrong_factor cards.now (option_copied name.entry) }
+/// The form of what stands in a column that the operation has.
+fn factor_form(cards: &[SpecCard], need: Need, factor: &Option<Factor>) -> Option<Form>
+    ensures { result ≡ operands.factor_form cards.now need factor.now }
 {
-    let Some(name) = name else {
-        return false;
-    };
-    match form_of_name(name, cards) {
-        Defined::Missing => false,
-        Defined::Bad => false,
-        Defined::Good(form) => is_text(form.kind),
+    form_in(form_of_factor(operand(need, factor)?, cards))
+}
+
+fn result_form(cards: &[SpecCard], need: Need, name: &Option<Name>) -> Option<Form>
+    ensures { result ≡ operands.result_form cards.now need name.now }
+{
+    form_in(form_of_name(operand(need, name)?, cards))
+}
+
+/// Nothing is said of a name without a form.
+fn form_in(defined: Defined) -> Option<Form>
+    ensures { result ≡ operands.form_in defined }
+{
+    match defined {
+        Defined::Missing => None,
+        Defined::Bad => None,
+        Defined::Good(form) => Some(form),
     }
 }
 
-fn wrong_result(cards: &[SpecCard], name: Option<&Name>) -> bool
-    ensures { result ≡ operands.wrong_result cards.now (option_copied name.entry) }
+fn are_wrong(
+    kinds: Kinds,
+    factor_1: Option<Form>,
+    factor_2: Option<Form>,
+    result_field: Option<Form>,
+) -> bool
+    ensures { result ≡ operands.wrong_forms kinds factor_1 factor_2 result_field }
 {
-    let Some(name) = name else {
+    are_wrong_kinds(kinds, factor_1, factor_2, result_field) || is_never_written(result_field)
+}
+
+fn are_wrong_kinds(
+    kinds: Kinds,
+    factor_1: Option<Form>,
+    factor_2: Option<Form>,
+    result_field: Option<Form>,
+) -> bool
+    ensures { result ≡ operands.wrong_kinds kinds factor_1 factor_2 result_field }
+{
+    match kinds {
+        Kinds::Numbers => has_text(factor_1) || has_text(factor_2) || has_text(result_field),
+        Kinds::Alike => differ(factor_1, factor_2),
+        Kinds::Any => false,
+    }
+}
+
+fn has_text(form: Option<Form>) -> bool
+    ensures { result ≡ operands.has_text form }
+{
+    match form {
+        None => false,
+        Some(form) => is_text(form.kind),
+    }
+}
+
+/// A number beside a text.
+fn differ(first: Option<Form>, second: Option<Form>) -> bool
+    ensures { result ≡ operands.differ first second }
+{
+    let Some(first) = first else {
         return false;
     };
-    match form_of_name(name, cards) {
-        Defined::Missing => false,
-        Defined::Bad => false,
-        Defined::Good(form) => is_text(form.kind) || is_fixed(form.class),
+    match second {
+        None => false,
+        Some(second) => !is_same_kind(first.kind, second.kind),
+    }
+}
+
+fn is_never_written(form: Option<Form>) -> bool
+    ensures { result ≡ operands.is_never_written form }
+{
+    match form {
+        None => false,
+        Some(form) => is_fixed(form.class),
     }
 }
 

@@ -40,7 +40,7 @@ fn outside_record(file: Option<&FileSpec>, field: &InputField) -> bool
 fn outside_line(cards: &[SpecCard], file: Option<&FileSpec>, field: &OutputField) -> bool
     ensures { result ≡ places.outside_line cards.now (option_copied file.entry) field.now }
 {
-    field.end == 0 || is_past(file, field.end) || is_wider(cards, field)
+    field.end == 0 || is_past(file, field.end) || is_wider(cards, field) || constant_is_wider(field)
 }
 
 /// Nothing is held against the length of a file that is unknown.
@@ -50,6 +50,15 @@ fn is_past(file: Option<&FileSpec>, column: u16) -> bool
     match file {
         None => false,
         Some(file) => file.record_length < column,
+    }
+}
+
+fn constant_is_wider(field: &OutputField) -> bool
+    ensures { result ≡ places.constant_is_wider field.now }
+{
+    match &field.constant {
+        None => false,
+        Some(text) => (field.end as usize) < text.as_slice().len(),
     }
 }
 

@@ -44,7 +44,7 @@ fn push_card(text: &mut Vec<u8>, card: &str) -> Result<(), Fail> {
     Ok(())
 }
 
-/// The least fault of a source.
+/// The least fault of a source, as its card and its code's name.
 fn answer(alloc: Global, source: &[u8]) -> Result<Option<Fault>, Fail> {
     let cards = cards(alloc, source)?;
     let known = spec_cards(alloc, &cards)?;

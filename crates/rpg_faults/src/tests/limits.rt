@@ -69,17 +69,18 @@ fn counts(rt: HostRuntime) -> Result<(), Fail> {
     Ok(())
 }
 
-/// The least fault of a source with 255 texts of 256 characters, some defined twice, then one of this size, and then one of 1.
+/// The least fault of a source with 255 texts, each defined twice, of 256 characters, then one of this size, and then one of 1.
 fn fault_behind_texts(alloc: Global, columns: &str) -> Result<Option<Fault>, Fail> {
     let mut text = Vec::new(alloc);
     push_card(&mut text, "F 7=INPUT 15=IPE 19=F 24=9999 40=READ40")?;
     push_card(&mut text, GOOD[2])?;
     for n in 0..255 {
+        if n == 128 {
+            push_card(&mut text, GOOD[2])?;
+        }
         let field = format!(in alloc; "I 47=1 49=256 53=N{n}")?;
         push_card(&mut text, field.as_str())?;
-        if n >= 250 {
-            push_card(&mut text, field.as_str())?;
-        }
+        push_card(&mut text, field.as_str())?;
     }
     for columns in [columns, "47=1 51=1 53=LAST"] {
         push_card(&mut text, GOOD[2])?;
@@ -97,11 +98,11 @@ fn storage(rt: HostRuntime) -> Result<(), Fail> {
     );
     assert_eq!(rt;
         fault_behind_texts(rt.alloc(), "47=1 49=245 53=MORE")?,
-        at(266)
+        at(517)
     );
     assert_eq!(rt;
         fault_behind_texts(rt.alloc(), "47=1 49=246 53=MORE")?,
-        at(264)
+        at(515)
     );
     Ok(())
 }

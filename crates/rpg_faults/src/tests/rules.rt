@@ -245,3 +245,103 @@ fn columns_are_inside_the_record_and_the_line(rt: HostRuntime) -> Result<(), Fai
     }
     Ok(())
 }
+
+#[test]
+fn operands_are_of_the_kinds_that_an_operation_takes(rt: HostRuntime) -> Result<(), Fail> {
+    for (number, card, fault) in [
+        (6, "C 18=AMT 28=COMP 33='A' 54=20", at(6, FaultCode::F4)),
+        (6, "C 18='B' 28=COMP 33='A' 54=20", None),
+        (6, "C 18=AMT 28=COMP 33=-1.5 54=20", None),
+        (6, "C 28=SUB 33='A' 43=TOT", at(6, FaultCode::F4)),
+        (6, "C 28=MOVE 33='A' 43=TOT", None),
+        (6, "C 28=MOVEL 33=TOT 43=LETTER 51=5", None),
+        (6, "C 28=MOVE 33=AMT 43=UDATE", at(6, FaultCode::F4)),
+        (6, "C 28=MULT 33=NONE 43=TOT", at(6, FaultCode::F1)),
+    ] {
+        assert_eq!(rt; fault_with(rt.alloc(), number, card)?, fault, "{card}");
+    }
+    Ok(())
+}
+
+#[test]
+fn results_set_indicators(rt: HostRuntime) -> Result<(), Fail> {
+    for (number, card, fault) in [
+        (6, "C 28=ADD 33=AMT 43=TOT 54=20 56=21 58=22", None),
+        (6, "C 28=ADD 33=AMT 43=TOT 54=LR", None),
+        (6, "C 28=ADD 33=AMT 43=TOT 54=L0", at(6, FaultCode::F8)),
+        (6, "C 28=ADD 33=AMT 43=TOT 56=1P", at(6, FaultCode::F8)),
+        (6, "C 28=ADD 33=AMT 43=TOT 58=MR", at(6, FaultCode::F8)),
+        (6, "C 18=AMT 28=COMP 33=TOT", at(6, FaultCode::F9)),
+        (6, "C 18=AMT 28=COMP 33=TOT 58=20", None),
+        (6, "C 28=COMP 33=TOT 58=20", at(6, FaultCode::F9)),
+        (
+            6,
+            "C 18=AMT 28=COMP 33=TOT 43=TOT 58=20",
+            at(6, FaultCode::F9),
+        ),
+        (6, "C 28=MOVE 33=AMT 43=TOT 58=20", at(6, FaultCode::F9)),
+        (6, "C 18=AMT 28=Z-SUB 33=AMT 43=TOT", at(6, FaultCode::F9)),
+    ] {
+        assert_eq!(rt; fault_with(rt.alloc(), number, card)?, fault, "{card}");
+    }
+    Ok(())
+}
+
+#[test]
+fn results_are_half_adjusted_where_they_are_cut(rt: HostRuntime) -> Result<(), Fail> {
+    for (number, card, fault) in [
+        (6, "C 18=TOT 28=DIV 33=AMT 43=TOT 53=H", None),
+        (6, "C 28=Z-SUB 33=AMT 43=TOT 53=H", None),
+        (6, "C 28=MOVE 33=AMT 43=TOT 53=H", at(6, FaultCode::F15)),
+        (
+            6,
+            "C 18=AMT 28=COMP 33=TOT 53=H 54=20",
+            at(6, FaultCode::F15),
+        ),
+        (6, "C 28=MVR 43=TOT", at(6, FaultCode::F15)),
+    ] {
+        assert_eq!(rt; fault_with(rt.alloc(), number, card)?, fault, "{card}");
+    }
+    Ok(())
+}
+
+#[test]
+fn a_remainder_comes_right_behind_its_division(rt: HostRuntime) -> Result<(), Fail> {
+    for (division, fault) in [
+        ("C 18=AMT 28=DIV 33=3 43=TOT 51=5 52=0", None),
+        (
+            "C 18=AMT 28=DIV 33=3 43=TOT 51=5 52=0 53=H",
+            at(6, FaultCode::F15),
+        ),
+        (
+            "C 18=AMT 28=MULT 33=3 43=TOT 51=5 52=0",
+            at(6, FaultCode::F15),
+        ),
+    ] {
+        let source = [
+            GOOD[0],
+            GOOD[1],
+            GOOD[2],
+            GOOD[3],
+            division,
+            "C 28=MVR 43=TOT",
+            GOOD[6],
+            GOOD[7],
+        ];
+        assert_eq!(rt; fault_of(rt.alloc(), &source)?, fault, "{division}");
+    }
+    Ok(())
+}
+
+#[test]
+fn constants_fit_before_their_end(rt: HostRuntime) -> Result<(), Fail> {
+    for (number, card, fault) in [
+        (8, "O 43=3 45='ABC'", None),
+        (8, "O 43=2 45='ABC'", at(8, FaultCode::F16)),
+        (8, "O 43=3 45='O''C'", None),
+        (8, "O 43=3", at(8, FaultCode::F9)),
+    ] {
+        assert_eq!(rt; fault_with(rt.alloc(), number, card)?, fault, "{card}");
+    }
+    Ok(())
+}

@@ -1,0 +1,13 @@
+use Rattle.std.proofs.Common.{◌≡◌, ◌+◌, ◌*◌, ◌-◌, ◌≤◌, [], length, take, drop}
+use Rattle.rpg_faults.specs.Limits.{constants_from}
+use Rattle.rpg_faults.proofs.constants.constants_in.Given as goal
+
+abbrev pub invariant-loop-i : goal.invariant-loop-i
+invariant-loop-i l = record {
+  so_far : l.constants + constants_from (take l.i l.cards) (drop l.i l.cards) ≡ constants_from [] l.cards;
+  few : l.constants ≤ 2 * l.i;
+  within : l.i ≤ length l.cards;
+}
+
+abbrev pub decreases-loop-i : goal.decreases-loop-i
+decreases-loop-i l = length l.cards - l.i
