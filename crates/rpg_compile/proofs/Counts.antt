@@ -7,6 +7,7 @@ use Rattle.std.specs.Prelude.{All, is_some, count_by}
 use Rattle.std.specs.Option.{option_map}
 use Rattle.rpg_cards.specs.Cards.{type_on, input_field_on, line_on, output_field_on}
 use Rattle.rpg_cards.specs.declared.spec_card.SpecCard.{SpecCard}
+use Rattle.rpg_compile.specs.Fields.{Table}
 use Rattle.rpg_compile.specs.Tables.{with_first, only_with_first, move_of, moves_of, type_of, types_of, line_field_of, line_fields_of, line_of, lines_of}
 use Rattle.rpg_compile.proofs.Walks.{walk, since_within, run_within}
 use Rattle.rpg_faults.specs.Cards.{is_type, is_input_field, is_line, is_output_field}
@@ -19,13 +20,12 @@ use Rattle.rpg_sheet.specs.declared.input.InputSpec.TheVariants as input
 use Rattle.rpg_sheet.specs.declared.output.OutputSpec.TheVariants as output
 use Rattle.rpg_sheet.specs.declared.spec.Spec.{Spec}
 use Rattle.rpg_sheet.specs.declared.spec.Spec.TheVariants as spec
-use Rattle.rpg_symbols.specs.Fields.{Fields}
 
 -- ---- what F6 says of one card
 
 passes_no_count : (cards : List SpecCard) → Faultless cards → (before : List SpecCard) (c : SpecCard) (after : List SpecCard) → cards ≡ before ++ c ∷ after → passes_count before c.spec ≡ false
 unfolding rule
-passes_no_count cards none before c after split = (or_parts _ _ (rule-faultless cards none F6 before c after split)).0
+passes_no_count cards none before c after split = (or_parts _ _ (or_parts _ _ (or_parts _ _ (rule-faultless cards none F6 before c after split)).0).0).0
 
 one_type : (before : List SpecCard) (s : Spec) → passes_count before s ≡ false → count_of is_type before ≤ 200 → count_of is_type before + cond (is_some (type_on s)) 1 0 ≤ 200
 one_type before (spec.Header h) e few = omega arith
@@ -75,7 +75,7 @@ count_by-cons p c cs = sum_by-cons (λ x. cond (p x) 1 0) c cs
 count_by_push : (p : SpecCard → Bool) (cs : List SpecCard) (c : SpecCard) → count_by p (cs ++ c ∷ []) ≡ count_by p cs + cond (p c) 1 0
 count_by_push p cs c = sum_by_push (λ x. cond (p x) 1 0) cs c
 
-types_of-length : (fields : Fields) (cards : List SpecCard) → length (types_of fields cards) ≡ count_by is_type cards
+types_of-length : (fields : Table) (cards : List SpecCard) → length (types_of fields cards) ≡ count_by is_type cards
 types_of-length fields [] = refl
 types_of-length fields (c ∷ cs) =
     let rest = types_of-length fields cs in
@@ -83,7 +83,7 @@ types_of-length fields (c ∷ cs) =
     let count = count_by-cons is_type c cs in
     omega arith
 
-lines_of-length : (fields : Fields) (cards : List SpecCard) → length (lines_of fields cards) ≡ count_by is_line cards
+lines_of-length : (fields : Table) (cards : List SpecCard) → length (lines_of fields cards) ≡ count_by is_line cards
 lines_of-length fields [] = refl
 lines_of-length fields (c ∷ cs) =
     let rest = lines_of-length fields cs in
@@ -93,13 +93,13 @@ lines_of-length fields (c ∷ cs) =
 
 -- ---- types and lines
 
-pub few_types : (fields : Fields) (cards : List SpecCard) → Faultless cards → length (types_of fields cards) ≤ 200
+pub few_types : (fields : Table) (cards : List SpecCard) → Faultless cards → length (types_of fields cards) ≤ 200
 few_types fields cards none =
     let all : count_of is_type cards ≤ 200 = walk (λ cs. count_of is_type cs ≤ 200) cards (omega arith) (λ before c after split few. rw (count_by_push is_type before c) (one_type before c.spec (passes_no_count cards none before c after split) few)) in
     let same = types_of-length fields cards in
     omega arith
 
-pub few_lines : (fields : Fields) (cards : List SpecCard) → Faultless cards → length (lines_of fields cards) ≤ 1000
+pub few_lines : (fields : Table) (cards : List SpecCard) → Faultless cards → length (lines_of fields cards) ≤ 1000
 few_lines fields cards none =
     let all : count_of is_line cards ≤ 1000 = walk (λ cs. count_of is_line cs ≤ 1000) cards (omega arith) (λ before c after split few. rw (count_by_push is_line before c) (one_line before c.spec (passes_no_count cards none before c after split) few)) in
     let same = lines_of-length fields cards in
@@ -115,7 +115,7 @@ all_first P f (Some x) ys here h = all_cons P (f x) ys (here x) h
     all_cons P y ys here h zero d lt = here
     all_cons P y ys here h (suc k) d lt = h k d (omega arith)
 
-module _ (fields : Fields) (cards : List SpecCard) (none : Faultless cards) where
+module _ (fields : Table) (cards : List SpecCard) (none : Faultless cards) where
   moves_over : (before : List SpecCard) (c : SpecCard) (after : List SpecCard) → cards ≡ before ++ c ∷ after → is_input_field c ≡ true → (is_type c ≡ false) × (count_since is_type is_input_field before ≡ 500 → ⊥)
   moves_over before c after split = over_move before c.spec (passes_no_count cards none before c after split)
 

@@ -4,4 +4,5 @@ pub mod Plain
 pub mod Walks
 pub mod Counts
 pub mod Storage
+pub mod Totals
 pub mod Limits

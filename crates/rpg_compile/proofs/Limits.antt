@@ -1,5 +1,5 @@
 -- A faultless source keeps the limits of a program.
-use Rattle.std.proofs.Common.{◌≡◌, ℕ, ◌≤◌, Bool, true, false, List, [], ◌∷◌, ◌++◌, Option, None, Some, refl, sym, ◌∙◌, subst, arith}
+use Rattle.std.proofs.Common.{length, ◌≡◌, ℕ, ◌≤◌, Bool, true, false, List, [], ◌∷◌, ◌++◌, Option, None, Some, refl, sym, ◌∙◌, subst, arith}
 use Rattle.std.proofs.lemmas.Bool.{or_parts, and_parts, leb-true}
 use Rattle.std.proofs.lemmas.List.{append_assoc}
 use Rattle.std.specs.Prelude.{is_none, not, if◌then◌else◌}
@@ -8,10 +8,10 @@ use Rattle.rpg_cards.specs.Cards.{file_on}
 use Rattle.rpg_cards.specs.Files.{first_file, or_later, input_file, output_file, is_input, is_output}
 use Rattle.rpg_cards.specs.Names.{is_between}
 use Rattle.rpg_cards.specs.declared.spec_card.SpecCard.{SpecCard}
-use Rattle.rpg_compile.specs.Fields.{fields_of}
+use Rattle.rpg_compile.specs.Fields.{table_of}
 use Rattle.rpg_compile.specs.Program.{length_of, KeepsLimits}
 use Rattle.rpg_compile.proofs.Counts.{few_types, few_lines, few_moves, few_line_fields}
-use Rattle.rpg_compile.proofs.Storage.{storage_within}
+use Rattle.rpg_compile.proofs.Totals.{all_fields_within, all_storage_within}
 use Rattle.rpg_faults.proofs.LeastLemmas.{rule-faultless, source_rule-faultless}
 use Rattle.rpg_faults.specs.Faults.{rule, source_rule, Faultless}
 use Rattle.rpg_faults.specs.Files.{bad_file, bad_for}
@@ -84,14 +84,15 @@ output_within cards none =
 
 -- ---- all limits
 
-pub faultless_keeps_limits : (cards : List SpecCard) → Faultless cards → KeepsLimits cards
-faultless_keeps_limits cards none = record {
+pub faultless_keeps_limits : (cards : List SpecCard) → Faultless cards → length cards ≤ 2000 → KeepsLimits cards
+faultless_keeps_limits cards none few = record {
   shortest_record = (input_within cards none).0;
   longest_record = (input_within cards none).1;
   widest_line = output_within cards none;
-  storage = storage_within cards none;
-  types = few_types (fields_of cards) cards none;
-  moves = few_moves (fields_of cards) cards none;
-  lines = few_lines (fields_of cards) cards none;
-  line_fields = few_line_fields (fields_of cards) cards none;
+  fields = all_fields_within cards none few;
+  storage = all_storage_within cards none;
+  types = few_types (table_of cards) cards none;
+  moves = few_moves (table_of cards) cards none;
+  lines = few_lines (table_of cards) cards none;
+  line_fields = few_line_fields (table_of cards) cards none;
 }

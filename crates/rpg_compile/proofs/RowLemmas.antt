@@ -6,10 +6,10 @@ use Rattle.std.specs.Prelude.{All}
 use Rattle.std.specs.Option.{option_map}
 use Rattle.rpg_cards.specs.Cards.{type_on, line_on}
 use Rattle.rpg_cards.specs.declared.spec_card.SpecCard.{SpecCard}
+use Rattle.rpg_compile.specs.Fields.{Table}
 use Rattle.rpg_compile.specs.Tables.{with_first, type_of, types_of, line_of, lines_of}
 use Rattle.rpg_sheet.specs.declared.input.RecordType.{RecordType}
 use Rattle.rpg_sheet.specs.declared.output.OutputRecord.{OutputRecord}
-use Rattle.rpg_symbols.specs.Fields.{Fields}
 
 -- ---- all
 
@@ -32,8 +32,8 @@ all_with_one_more row P xs new x pushed h here =
 
 -- ---- the row of a card in front
 
-pub types_of-card : (fields : Fields) (c : SpecCard) (behind rest : List SpecCard) (t : RecordType) → rest ≡ c ∷ behind → Some t ≡ type_on c.spec → types_of fields rest ≡ type_of fields behind t ∷ types_of fields behind
+pub types_of-card : (fields : Table) (c : SpecCard) (behind rest : List SpecCard) (t : RecordType) → rest ≡ c ∷ behind → Some t ≡ type_on c.spec → types_of fields rest ≡ type_of fields behind t ∷ types_of fields behind
 types_of-card fields c behind rest t split on = ap (types_of fields) split ∙ ap (λ o. with_first (option_map (type_of fields behind) o) (types_of fields behind)) (sym on)
 
-pub lines_of-card : (fields : Fields) (c : SpecCard) (behind rest : List SpecCard) (r : OutputRecord) → rest ≡ c ∷ behind → Some r ≡ line_on c.spec → lines_of fields rest ≡ line_of fields behind r ∷ lines_of fields behind
+pub lines_of-card : (fields : Table) (c : SpecCard) (behind rest : List SpecCard) (r : OutputRecord) → rest ≡ c ∷ behind → Some r ≡ line_on c.spec → lines_of fields rest ≡ line_of fields behind r ∷ lines_of fields behind
 lines_of-card fields c behind rest r split on = ap (lines_of fields) split ∙ ap (λ o. with_first (option_map (line_of fields behind) o) (lines_of fields behind)) (sym on)

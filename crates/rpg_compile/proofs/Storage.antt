@@ -1,5 +1,5 @@
 -- A faultless source's fields take no more storage than a program may have.
-use Rattle.std.proofs.Common.{◌≡◌, ℕ, ◌+◌, ◌-◌, ◌≤◌, Bool, true, false, cond, List, [], ◌∷◌, ◌++◌, Option, None, Some, refl, sym, ap, ◌∙◌, subst, arith, leb, ltb, eqb-true}
+use Rattle.std.proofs.Common.{length, length-append, ◌≡◌, ℕ, ◌+◌, ◌-◌, ◌≤◌, Bool, true, false, cond, List, [], ◌∷◌, ◌++◌, Option, None, Some, refl, sym, ap, ◌∙◌, subst, arith, leb, ltb, eqb-true}
 use Rattle.std.proofs.lemmas.Bool.{or_parts, and_parts, ltb-false, le-leb}
 use Rattle.std.proofs.lemmas.List.{append_assoc, append-nil}
 use Rattle.std.proofs.lemmas.List.Sums.{sum_by_push}
@@ -16,7 +16,7 @@ use Rattle.rpg_compile.proofs.Walks.{walk}
 use Rattle.rpg_effect.specs.declared.form.Form.{Form}
 use Rattle.rpg_faults.proofs.LeastLemmas.{rule-faultless}
 use Rattle.rpg_faults.specs.Faults.{rule, Faultless}
-use Rattle.rpg_faults.specs.Limits.{bytes_by, bytes_from, bytes_in, passes_storage}
+use Rattle.rpg_faults.specs.Limits.{bytes_by, bytes_from, bytes_in, names_by, names_from, passes_storage}
 use Rattle.rpg_faults.specs.Names.{is_missing, bad_size_of_field, bad_size_of_result}
 use Rattle.rpg_faults.specs.Places.{outside_record}
 use Rattle.rpg_faults.specs.declared.fault.FaultCode.TheVariants.{F3, F6, F16}
@@ -134,6 +134,17 @@ definition_takes before None has have = omega arith
 definition_takes before (Some (name, None)) has have = absurd (let h : false ≡ true = has in cc)
 definition_takes before (Some (name, Some form)) has have = name_takes (fields_of before) name form (knows (fields_of before) name) (is_missing (form_of_name name before)) (known_is before name have)
 
+name_counts : (fields : Fields) (name : List ℕ) (form : Form) (known missing : Bool) → known ≡ not missing → length (if known then fields else fields ++ (name, form) ∷ []) ≡ length fields + (if missing then 1 else 0)
+name_counts fields name form true true e = absurd cc
+name_counts fields name form true false e = omega arith
+name_counts fields name form false true e = let h = length-append fields ((name, form) ∷ []) in omega arith
+name_counts fields name form false false e = absurd cc
+
+definition_counts : (before : List SpecCard) (d : Definition) → HasForm d → HaveForms before → length (with_definition (fields_of before) d) ≡ length (fields_of before) + names_by before d
+definition_counts before None has have = omega arith
+definition_counts before (Some (name, None)) has have = absurd (let h : false ≡ true = has in cc)
+definition_counts before (Some (name, Some form)) has have = name_counts (fields_of before) name form (knows (fields_of before) name) (is_missing (form_of_name name before)) (known_is before name have)
+
 have_front : (before : List SpecCard) (c : SpecCard) (after : List SpecCard) → HaveForms (before ++ c ∷ after) → HaveForms before × HasForm (definition_on c.spec)
 have_front [] c after have = (tt, have.0)
 have_front (b ∷ bs) c after have = let h = have_front bs c after have.1 in ((have.0, h.0), h.1)
@@ -147,6 +158,17 @@ bytes_are before (c ∷ cs) have =
     let one = ap storage (fields_from-append given before (c ∷ [])) in
     let rest = bytes_are (before ++ c ∷ []) cs (subst HaveForms (sym same) have) in
     let all = ap (λ cards. storage (fields_of cards)) same in
+    omega arith
+
+names_are : (before cards : List SpecCard) → HaveForms (before ++ cards) → length (fields_of before) + names_from before cards ≡ length (fields_of (before ++ cards))
+names_are before [] have = let same = ap (λ cards. length (fields_of cards)) (append-nil before) in omega arith
+names_are before (c ∷ cs) have =
+    let h = have_front before c cs have in
+    let same = append_assoc before (c ∷ []) cs in
+    let here = definition_counts before (definition_on c.spec) h.1 h.0 in
+    let one = ap length (fields_from-append given before (c ∷ [])) in
+    let rest = names_are (before ++ c ∷ []) cs (subst HaveForms (sym same) have) in
+    let all = ap (λ cards. length (fields_of cards)) same in
     omega arith
 
 -- ---- a faultless source
@@ -189,7 +211,7 @@ have_from cards none before [] split = tt
 have_from cards none before (c ∷ cs) split = (definition_has_form cards none before c cs split, have_from cards none (before ++ c ∷ []) cs (split ∙ sym (append_assoc before (c ∷ []) cs)))
 
 -- F6: what is still within the limit with one more card
-within : (a b limit : ℕ) → a ≤ limit → (leb a limit && ltb limit (a + b)) ≡ false → a + b ≤ limit
+pub within : (a b limit : ℕ) → a ≤ limit → (leb a limit && ltb limit (a + b)) ≡ false → a + b ≤ limit
 within a b limit h e = ltb-false limit (a + b) (rw (le-leb a limit h) at e)
 
 one_more : (before : List SpecCard) (c : SpecCard) → HaveForms before → HasForm (definition_on c.spec) → passes_storage before c ≡ false → storage (fields_of before) ≤ 65535 → storage (fields_of (before ++ c ∷ [])) ≤ 65535
@@ -206,4 +228,11 @@ storage_within cards none =
     let have = have_from cards none [] cards refl in
     walk (λ cs. storage (fields_of cs) ≤ 65535) cards (omega arith) (λ before c after split h.
     let parts = have_front before c after (subst HaveForms split have) in
-    one_more before c parts.0 parts.1 (or_parts _ _ (rule-faultless cards none F6 before c after split)).1 h)
+    one_more before c parts.0 parts.1 (or_parts _ _ (or_parts _ _ (or_parts _ _ (rule-faultless cards none F6 before c after split)).0).0).1 h)
+
+-- the same bytes and the same count, as the fault of a limit adds them up
+pub bytes_in_are : (cards : List SpecCard) → Faultless cards → bytes_in cards ≡ storage (fields_of cards)
+bytes_in_are cards none = bytes_are [] cards (have_from cards none [] cards refl)
+
+pub names_in_are : (cards : List SpecCard) → Faultless cards → 2 + names_from [] cards ≡ length (fields_of cards)
+names_in_are cards none = names_are [] cards (have_from cards none [] cards refl)

@@ -1,30 +1,65 @@
 -- The instructions of calculation cards.
-use Rattle.std.specs.Prelude.{ℕ, false, List, [], ◌∷◌, Option}
-use Rattle.std.specs.Option.{option_map, option_and_then, option_or}
+use Rattle.std.specs.Prelude.{ℕ, true, false, List, [], ◌∷◌, Option, None, Some}
+use Rattle.std.specs.Option.{option_map, option_and_then}
 use Rattle.rpg_cards.specs.Cards.{calculation_on}
 use Rattle.rpg_cards.specs.declared.spec_card.SpecCard.{SpecCard}
+use Rattle.rpg_compile.specs.Fields.{Table, factor_number}
 use Rattle.rpg_compile.specs.Tables.{operand_of, with_first}
-use Rattle.rpg_effect.specs.declared.operation.Action.TheVariants as actions
+use Rattle.rpg_effect.specs.declared.operation.Action.{Action}
+use Rattle.rpg_effect.specs.declared.operation.Action.TheVariants.{Compute, Divide, Assign, TakeRemainder, Compare, Move}
 use Rattle.rpg_effect.specs.declared.operation.Instruction.{Instruction}
 use Rattle.rpg_effect.specs.declared.operation.Instruction.TheVariants.{Act}
-use Rattle.rpg_effect.specs.declared.operation.Operator.TheVariants as operators
-use Rattle.rpg_object.specs.Rows.{no_shows}
+use Rattle.rpg_effect.specs.declared.operation.Operand.{Operand}
+use Rattle.rpg_effect.specs.declared.operation.Operator.{Operator}
+use Rattle.rpg_effect.specs.declared.operation.Operator.TheVariants as operator
+use Rattle.rpg_effect.specs.declared.operation.Shows.{Shows}
+use Rattle.rpg_effect.specs.declared.operation.Side.TheVariants.{Right, Left}
 use Rattle.rpg_sheet.specs.declared.calculation.CalculationSpec.{CalculationSpec}
 use Rattle.rpg_sheet.specs.declared.calculation.Operation.{Operation}
 use Rattle.rpg_sheet.specs.declared.calculation.Operation.TheVariants as op
-use Rattle.rpg_symbols.specs.Fields.{Fields}
+use Rattle.rpg_sheet.specs.declared.indicator.Three.{Three}
+use Rattle.rpg_sheet.specs.declared.literal.Factor.{Factor}
 
--- One case an operation, cut and without resulting indicators. A blank factor 1 is the result field.
-abbrev pub instruction_of : Fields → CalculationSpec → Operation → Instruction ℕ
-instruction_of fields c op.Add =
-    Act (actions.Compute operators.Add false (operand_of fields (option_or c.factor_1 c.result_field)) (operand_of fields c.factor_2) (operand_of fields c.result_field) no_shows)
-instruction_of fields c op.ZeroAdd = Act (actions.Assign false false (operand_of fields c.factor_2) (operand_of fields c.result_field) no_shows)
+-- ---- what stands in the columns of a card
+
+abbrev pub factor_of : Table → Option Factor → Operand ℕ
+factor_of table None = record { field = 0 }
+factor_of table (Some f) = record { field = factor_number table f }
+
+abbrev pub result_of : Table → CalculationSpec → Operand ℕ
+result_of table c = operand_of table c.result_field
+
+-- a blank factor 1 is the result field
+abbrev pub first_or_result : Table → Option Factor → Option (List ℕ) → Operand ℕ
+first_or_result table None res = operand_of table res
+first_or_result table (Some f) res = record { field = factor_number table f }
+
+abbrev pub shows_of : Three (Option ℕ) → Shows
+shows_of t = record { plus = t.first; minus = t.second; zero = t.third }
+
+-- ADD, SUB and MULT
+abbrev pub computation : Table → CalculationSpec → Operator → Action ℕ
+computation table c o = Compute o c.half_adjust (first_or_result table c.factor_1 c.result_field) (factor_of table c.factor_2) (result_of table c) (shows_of c.resulting_indicators)
+
+-- ---- one case an operation
+
+abbrev pub instruction_of : Table → CalculationSpec → Operation → Instruction ℕ
+instruction_of table c op.Add = Act (computation table c operator.Add)
+instruction_of table c op.Subtract = Act (computation table c operator.Subtract)
+instruction_of table c op.Multiply = Act (computation table c operator.Multiply)
+instruction_of table c op.Divide = Act (Divide c.half_adjust (first_or_result table c.factor_1 c.result_field) (factor_of table c.factor_2) (result_of table c) (shows_of c.resulting_indicators))
+instruction_of table c op.MoveRemainder = Act (TakeRemainder (result_of table c) (shows_of c.resulting_indicators))
+instruction_of table c op.ZeroAdd = Act (Assign false c.half_adjust (factor_of table c.factor_2) (result_of table c) (shows_of c.resulting_indicators))
+instruction_of table c op.ZeroSubtract = Act (Assign true c.half_adjust (factor_of table c.factor_2) (result_of table c) (shows_of c.resulting_indicators))
+instruction_of table c op.Compare = Act (Compare (factor_of table c.factor_1) (factor_of table c.factor_2) (shows_of c.resulting_indicators))
+instruction_of table c op.Move = Act (Move Right (factor_of table c.factor_2) (result_of table c))
+instruction_of table c op.MoveLeft = Act (Move Left (factor_of table c.factor_2) (result_of table c))
 
 -- what a C card becomes
-abbrev pub instruction_on : Fields → CalculationSpec → Option (Instruction ℕ)
-instruction_on fields c = option_map (instruction_of fields c) c.operation
+abbrev pub instruction_on : Table → CalculationSpec → Option (Instruction ℕ)
+instruction_on table c = option_map (instruction_of table c) c.operation
 
 -- an instruction for each C card
-abbrev pub code_of : Fields → List SpecCard → List (Instruction ℕ)
-code_of fields [] = []
-code_of fields (c ∷ cs) = with_first (option_and_then (instruction_on fields) (calculation_on c.spec)) (code_of fields cs)
+abbrev pub code_of : Table → List SpecCard → List (Instruction ℕ)
+code_of table [] = []
+code_of table (c ∷ cs) = with_first (option_and_then (instruction_on table) (calculation_on c.spec)) (code_of table cs)

@@ -1,11 +1,16 @@
--- The fields of a program: UDATE and PAGE, then the names that cards define, in the order of their first definitions.
-use Rattle.std.specs.Prelude.{ℕ, ◌++◌, List, [], ◌∷◌, Option, None, Some, is_some, unwrap_or, map, replicate, pos, if◌then◌else◌}
+-- The fields of a program: UDATE and PAGE, then the names that cards define, in the order of their first definitions, then the constants.
+use Rattle.std.specs.Option.{option_map}
+use Rattle.std.specs.Prelude.{ℕ, ◌+◌, ◌++◌, length, position, List, [], ◌∷◌, Option, None, Some, is_some, unwrap_or, map, replicate, pos, if◌then◌else◌}
 use Rattle.rpg_cards.specs.declared.spec_card.SpecCard.{SpecCard}
+use Rattle.rpg_cards.specs.Constants.{constant_form, constant_of, constant_value, constants, is_same}
 use Rattle.rpg_cards.specs.Names.{definition_on}
+use Rattle.rpg_cards.specs.declared.constants.Constant.{Constant}
 use Rattle.rpg_effect.specs.declared.form.Form.{Form}
 use Rattle.rpg_effect.specs.declared.form.Kind.{Kind}
 use Rattle.rpg_effect.specs.declared.form.Kind.TheVariants as kind
 use Rattle.rpg_effect.specs.Values.{Value, Number, Text}
+use Rattle.rpg_sheet.specs.declared.literal.Factor.{Factor}
+use Rattle.rpg_sheet.specs.declared.literal.Factor.TheVariants as factor
 use Rattle.rpg_symbols.specs.Fields.{Fields, given, number_of, form_of}
 
 -- a name that isn't known yet is added
@@ -43,3 +48,26 @@ first_value f = first_of_kind f.kind f.length
 
 abbrev pub forms : Fields → List Form
 forms fields = map (λ (f : List ℕ × Form). f.1) fields
+
+-- ---- names, and constants behind them
+
+pub record Table : Type 0 where
+  pub names : Fields
+  pub constants : List Constant
+
+abbrev pub table_of : List SpecCard → Table
+table_of cards = record { names = fields_of cards; constants = constants cards }
+
+abbrev pub all_forms : Table → List Form
+all_forms t = forms t.names ++ map constant_form t.constants
+
+abbrev pub all_values : Table → List Value
+all_values t = map first_value (forms t.names) ++ map constant_value t.constants
+
+-- the number of a constant: its place behind the names
+abbrev pub constant_number : Table → Constant → ℕ
+constant_number t c = unwrap_or (option_map (λ i. length t.names + i + 1) (position (is_same c) t.constants)) 0
+
+abbrev pub factor_number : Table → Factor → ℕ
+factor_number t (factor.Name name) = number_in t.names name
+factor_number t (factor.Literal l) = constant_number t (constant_of l)

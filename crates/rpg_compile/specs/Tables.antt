@@ -3,7 +3,8 @@ use Rattle.std.specs.Prelude.{ℕ, List, [], ◌∷◌, Option, None, Some, slic
 use Rattle.std.specs.Option.{option_map}
 use Rattle.rpg_cards.specs.Cards.{type_on, input_field_on, line_on, output_field_on}
 use Rattle.rpg_cards.specs.declared.spec_card.SpecCard.{SpecCard}
-use Rattle.rpg_compile.specs.Fields.{number_in}
+use Rattle.rpg_cards.specs.declared.constants.Constant.TheVariants.{Text}
+use Rattle.rpg_compile.specs.Fields.{Table, number_in, constant_number}
 use Rattle.rpg_effect.specs.declared.line.Condition.{Condition}
 use Rattle.rpg_effect.specs.declared.line.Conditions.{Conditions}
 use Rattle.rpg_effect.specs.declared.line.File.TheVariants.{Printer}
@@ -18,7 +19,6 @@ use Rattle.rpg_sheet.specs.declared.input.InputField.{InputField}
 use Rattle.rpg_sheet.specs.declared.input.RecordType.{RecordType}
 use Rattle.rpg_sheet.specs.declared.output.OutputField.{OutputField}
 use Rattle.rpg_sheet.specs.declared.output.OutputRecord.{OutputRecord}
-use Rattle.rpg_symbols.specs.Fields.{Fields}
 
 -- ---- cards that belong together
 
@@ -34,22 +34,22 @@ only_with_first (Some x) xs = x ∷ xs
 
 -- ---- record types
 
-abbrev pub move_of : Fields → InputField → Move
-move_of fields f = record { from = f.from; to = f.to; field = number_in fields f.name }
+abbrev pub move_of : Table → InputField → Move
+move_of table f = record { from = f.from; to = f.to; field = number_in table.names f.name }
 
 -- a move for each field card at the front
-abbrev pub moves_of : Fields → List SpecCard → List Move
-moves_of fields [] = []
-moves_of fields (c ∷ cs) = only_with_first (option_map (move_of fields) (input_field_on c.spec)) (moves_of fields cs)
+abbrev pub moves_of : Table → List SpecCard → List Move
+moves_of table [] = []
+moves_of table (c ∷ cs) = only_with_first (option_map (move_of table) (input_field_on c.spec)) (moves_of table cs)
 
 -- a type card, and the cards behind it
-abbrev pub type_of : Fields → List SpecCard → RecordType → TypeRow
-type_of fields behind t = record { indicator = t.indicator; moves = moves_of fields behind }
+abbrev pub type_of : Table → List SpecCard → RecordType → TypeRow
+type_of table behind t = record { indicator = t.indicator; moves = moves_of table behind }
 
 -- a type for each type card
-abbrev pub types_of : Fields → List SpecCard → List TypeRow
-types_of fields [] = []
-types_of fields (c ∷ cs) = with_first (option_map (type_of fields cs) (type_on c.spec)) (types_of fields cs)
+abbrev pub types_of : Table → List SpecCard → List TypeRow
+types_of table [] = []
+types_of table (c ∷ cs) = with_first (option_map (type_of table cs) (type_on c.spec)) (types_of table cs)
 
 -- ---- lines
 
@@ -64,33 +64,40 @@ standing (o ∷ os) = with_first (option_map condition_of o) (standing os)
 abbrev pub conditions_of : Three (Option sheet.Condition) → List Condition
 conditions_of t = standing (t.first ∷ t.second ∷ t.third ∷ [])
 
-abbrev pub operand_of : Fields → Option (List ℕ) → Operand ℕ
-operand_of fields None = record { field = 0 }
-operand_of fields (Some n) = record { field = number_in fields n }
+-- the operand of a name, field 0 where there is none
+abbrev pub operand_of : Table → Option (List ℕ) → Operand ℕ
+operand_of table None = record { field = 0 }
+operand_of table (Some n) = record { field = number_in table.names n }
+
+-- what an output field puts out: a constant where it names no field
+abbrev pub output_operand_of : Table → Option (List ℕ) → Option (List ℕ) → Operand ℕ
+output_operand_of table (Some n) constant = record { field = number_in table.names n }
+output_operand_of table None None = record { field = 0 }
+output_operand_of table None (Some text) = record { field = constant_number table (Text text) }
 
 -- three places, filled from the first on
 abbrev pub in_places : List Condition → Conditions
 in_places cs = record { first = slice_get cs 0; second = slice_get cs 1; third = slice_get cs 2 }
 
-abbrev pub line_field_of : Fields → OutputField → LineField ℕ
-line_field_of fields f = record { operand = operand_of fields f.name; end = f.end; conditions = in_places (conditions_of f.conditions) }
+abbrev pub line_field_of : Table → OutputField → LineField ℕ
+line_field_of table f = record { operand = output_operand_of table f.name f.constant; end = f.end; conditions = in_places (conditions_of f.conditions) }
 
 -- a field for each field card at the front
-abbrev pub line_fields_of : Fields → List SpecCard → List (LineField ℕ)
-line_fields_of fields [] = []
-line_fields_of fields (c ∷ cs) = only_with_first (option_map (line_field_of fields) (output_field_on c.spec)) (line_fields_of fields cs)
+abbrev pub line_fields_of : Table → List SpecCard → List (LineField ℕ)
+line_fields_of table [] = []
+line_fields_of table (c ∷ cs) = only_with_first (option_map (line_field_of table) (output_field_on c.spec)) (line_fields_of table cs)
 
 -- A detail line of the printer, spaced once behind. It has one alternative: all conditions of its card.
-abbrev pub line_of : Fields → List SpecCard → OutputRecord → LineRow
-line_of fields behind r = record {
+abbrev pub line_of : Table → List SpecCard → OutputRecord → LineRow
+line_of table behind r = record {
   file = Printer;
   time = Detail;
   moves = record { space_before = 0; space_after = 1; skip_before = 0; skip_after = 0 };
   alternatives = conditions_of r.conditions ∷ [];
-  fields = line_fields_of fields behind;
+  fields = line_fields_of table behind;
 }
 
 -- a line for each record card
-abbrev pub lines_of : Fields → List SpecCard → List LineRow
-lines_of fields [] = []
-lines_of fields (c ∷ cs) = with_first (option_map (line_of fields cs) (line_on c.spec)) (lines_of fields cs)
+abbrev pub lines_of : Table → List SpecCard → List LineRow
+lines_of table [] = []
+lines_of table (c ∷ cs) = with_first (option_map (line_of table cs) (line_on c.spec)) (lines_of table cs)

@@ -1,4 +1,4 @@
-//! The fields of a program.
+//! The names of a program.
 
 ghost use Rattle.std.specs.Prelude.{◌≡◌, ◌+◌, ◌<◌, ◌≤◌, length, map, IfOk, OnOk};
 ghost use Rattle.rpg_cards.specs.Names.{definition_on};
@@ -12,29 +12,29 @@ use rpg_effect::value::Value;
 use rpg_symbols::{DefineFault, Name, Symbols};
 use std::alloc::{AllocError, Global};
 
-/// The fields of a program: their names with their numbers, and their forms in the order of the numbers.
+/// The names of a program with their numbers, and their forms in the order of the numbers.
 #[derive(Drop)]
-pub(crate) struct FieldTable {
+pub(crate) struct NameTable {
     pub(crate) symbols: Symbols,
     pub(crate) forms: Vec<Form>,
 }
 
-impl FieldTable {
-    /// The fields that cards define.
+impl NameTable {
+    /// The names that cards define.
     pub(crate) fn of_cards(alloc: Global, cards: &[SpecCard]) -> Result<Self, AllocError>
         requires few { length cards.now ≤ 2000 }
         requires storage { storage (fields.fields_of cards.now) ≤ 65535 }
         ensures symbols { IfOk result (λ t. t.symbols ≡ fields.fields_of cards.now) }
         ensures forms { IfOk result (λ t. t.forms.items ≡ fields.forms (fields.fields_of cards.now)) }
     {
-        let mut table = FieldTable::given(alloc)?;
+        let mut table = NameTable::given(alloc)?;
         for card in cards {
             table.define_on(card)?;
         }
         Ok(table)
     }
 
-    /// The fields that every program has.
+    /// The names that every program has.
     fn given(alloc: Global) -> Result<Self, AllocError>
         ensures symbols { IfOk result (λ t. t.symbols ≡ given) }
         ensures forms { IfOk result (λ t. t.forms.items ≡ fields.forms given) }
@@ -45,7 +45,7 @@ impl FieldTable {
         let mut forms = Vec::new(alloc);
         forms.push(symbols.form(1))?;
         forms.push(symbols.form(2))?;
-        Ok(FieldTable { symbols, forms })
+        Ok(NameTable { symbols, forms })
     }
 
     /// One more field, where a card defines a name that isn't known yet.
@@ -85,13 +85,6 @@ impl FieldTable {
             Err(DefineFault::NoMemory) => Err(AllocError),
         }
     }
-}
-
-/// The number of a name; 0 where it isn't defined.
-pub(crate) fn number_in(symbols: &Symbols, name: &Name) -> u16
-    ensures { result ≡ fields.number_in symbols.now name.now }
-{
-    symbols.look(name).unwrap_or(0)
 }
 
 /// Zero or blanks.

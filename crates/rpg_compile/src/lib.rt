@@ -2,11 +2,13 @@
 #![tactic(auto)]
 
 mod code;
+mod constants;
 mod fault;
 mod fields;
 mod lines;
 mod program;
 mod source;
+mod table;
 mod types;
 
 pub use fault::{CompileFault, SourceCode};

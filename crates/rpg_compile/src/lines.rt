@@ -5,30 +5,30 @@ ghost use Rattle.rpg_compile.specs.Tables as tables;
 ghost use Rattle.rpg_object.specs.Kept.{IsAlternativeRow, IsConditionRow, IsLineFieldRow, IsLineRow};
 ghost use Rattle.rpg_object.specs.Object.{line_row};
 
-use crate::fields::number_in;
-use rpg_cards::SpecCard;
+use crate::table::FieldTable;
+use rpg_cards::{Constant, SpecCard};
 use rpg_effect::line::{Condition, Conditions, File, LineField, Moves, Time};
 use rpg_effect::operation::Operand;
 use rpg_object::row::Line;
-use rpg_sheet::{OutputRecord, Three};
-use rpg_symbols::{Name, Symbols};
+use rpg_sheet::{OutputField, OutputRecord, Three};
+use rpg_symbols::Name;
 use std::alloc::{AllocError, Global};
 
 /// A line for each record card.
 pub(crate) fn lines_of(
     alloc: Global,
-    symbols: &Symbols,
+    table: &FieldTable,
     cards: &[SpecCard],
 ) -> Result<Vec<Line>, AllocError>
-    requires { All (λ l. length l.fields ≤ 200) (tables.lines_of symbols.now cards.now) }
-    ensures lines { IfOk result (λ v. map line_row v.items ≡ tables.lines_of symbols.now cards.now) }
+    requires { All (λ l. length l.fields ≤ 200) (tables.lines_of table.now cards.now) }
+    ensures lines { IfOk result (λ v. map line_row v.items ≡ tables.lines_of table.now cards.now) }
     ensures rows { IfOk result (λ v. All IsLineRow (map line_row v.items)) }
 {
     let mut lines = Vec::new(alloc);
     let mut rest = cards;
     while let Some((card, behind)) = rest.split_first() {
         if let Some(output) = card.line() {
-            lines.push(line_of(alloc, symbols, output, behind)?)?;
+            lines.push(line_of(alloc, table, output, behind)?)?;
         }
         rest = behind;
     }
@@ -38,15 +38,15 @@ pub(crate) fn lines_of(
 /// The line of a record card, with the cards behind it.
 fn line_of(
     alloc: Global,
-    symbols: &Symbols,
+    table: &FieldTable,
     output: &OutputRecord,
     behind: &[SpecCard],
 ) -> Result<Line, AllocError>
-    requires { length (tables.line_fields_of symbols.now behind.now) ≤ 200 }
-    ensures row { IfOk result (λ l. line_row l ≡ tables.line_of symbols.now behind.now output.now) }
+    requires { length (tables.line_fields_of table.now behind.now) ≤ 200 }
+    ensures row { IfOk result (λ l. line_row l ≡ tables.line_of table.now behind.now output.now) }
     ensures kept { IfOk result (λ l. IsLineRow (line_row l)) }
 {
-    let fields = line_fields_of(alloc, symbols, behind)?;
+    let fields = line_fields_of(alloc, table, behind)?;
     let conditions = conditions_of(alloc, &output.conditions)?;
     Ok(Line {
         file: File::Printer,
@@ -92,10 +92,10 @@ fn condition_of(condition: rpg_sheet::Condition) -> Condition
 /// A field for each field card at the front.
 fn line_fields_of(
     alloc: Global,
-    symbols: &Symbols,
+    table: &FieldTable,
     cards: &[SpecCard],
 ) -> Result<Vec<LineField<u16>>, AllocError>
-    ensures fields { IfOk result (λ v. v.items ≡ tables.line_fields_of symbols.now cards.now) }
+    ensures fields { IfOk result (λ v. v.items ≡ tables.line_fields_of table.now cards.now) }
     ensures rows { IfOk result (λ v. All IsLineFieldRow v.items) }
 {
     let mut fields = Vec::new(alloc);
@@ -103,7 +103,7 @@ fn line_fields_of(
         let Some(field) = card.output_field() else {
             return Ok(fields);
         };
-        let operand = operand_of(symbols, &field.name);
+        let operand = output_operand_of(table, field);
         let conditions = in_places(field.conditions);
         fields.push(line_field_of(operand, field.end, conditions))?;
     }
@@ -161,14 +161,28 @@ fn in_places(conditions: Three<Option<rpg_sheet::Condition>>) -> Conditions
 }
 
 /// The operand of a name, field 0 where there is none.
-pub(crate) fn operand_of(symbols: &Symbols, name: &Option<Name>) -> Operand<u16>
-    ensures value { result ≡ tables.operand_of symbols.now name.now }
+pub(crate) fn operand_of(table: &FieldTable, name: &Option<Name>) -> Operand<u16>
+    ensures value { result ≡ tables.operand_of table.now name.now }
     ensures kept { result.field < 2 ^ 16 }
 {
     Operand {
         field: match name {
-            Some(name) => number_in(symbols, name),
+            Some(name) => table.number_in(name),
             None => 0,
+        },
+    }
+}
+
+/// What an output field puts out: a constant where it names no field.
+fn output_operand_of(table: &FieldTable, field: &OutputField) -> Operand<u16>
+    ensures value { result ≡ tables.output_operand_of table.now field.now.name field.now.constant }
+    ensures kept { result.field < 2 ^ 16 }
+{
+    Operand {
+        field: match (&field.name, &field.constant) {
+            (Some(name), _) => table.number_in(name),
+            (None, None) => 0,
+            (None, Some(text)) => table.constant_number(&Constant::of_text(text)),
         },
     }
 }

@@ -1,14 +1,22 @@
 //! The program of cards.
 
-ghost use Rattle.std.specs.Prelude.{◌≡◌, ◌<◌, ◌≤◌, length, option_copied, IfOk};
+ghost use Rattle.std.specs.Prelude.{◌≡◌, ◌+◌, ◌<◌, ◌≤◌, All, length, map, option_copied, IfOk};
+ghost use Rattle.rpg_cards.specs.Constants.{IsConstant, constants};
+ghost use Rattle.rpg_compile.specs.Fields as fields;
+ghost use Rattle.rpg_effect.specs.Values.{held};
+ghost use Rattle.rpg_symbols.specs.Fields.{storage};
 ghost use Rattle.rpg_cards.specs.Files as files;
 ghost use Rattle.rpg_compile.specs.Program as programs;
 
 use crate::code::code_of;
-use crate::fields::{FieldTable, first_values};
+use crate::constants::{add_constants, constants_of};
+use crate::fields::{NameTable, first_values};
 use crate::lines::lines_of;
+use crate::table::FieldTable;
 use crate::types::types_of;
 use rpg_cards::{SpecCard, input_file, output_file};
+use rpg_effect::form::Form;
+use rpg_effect::value::Value;
 use rpg_object::Program;
 use rpg_object::laws::plain_rows_are_programs;
 use rpg_object::row::Rows;
@@ -25,6 +33,27 @@ fn length_of(file: Option<&FileSpec>) -> u16
     }
 }
 
+/// The fields of cards: their numbers, their forms and what they hold before the first cycle.
+fn fields_of(
+    alloc: Global,
+    cards: &[SpecCard],
+) -> Result<(FieldTable, Vec<Form>, Vec<Value>), AllocError>
+    requires few { length cards.now ≤ 2000 }
+    requires fields { length (fields.fields_of cards.now) + length (constants cards.now) ≤ 4000 }
+    requires storage { storage (fields.fields_of cards.now) ≤ 65535 }
+    ensures table { IfOk result (λ t. t.0 ≡ fields.table_of cards.now) }
+    ensures forms { IfOk result (λ t. t.1.items ≡ fields.all_forms (fields.table_of cards.now)) }
+    ensures values { IfOk result (λ t. map held t.2.items ≡ fields.all_values (fields.table_of cards.now)) }
+    ensures kept { IfOk result (λ t. All IsConstant (constants cards.now)) }
+{
+    let NameTable { symbols, mut forms } = NameTable::of_cards(alloc, cards)?;
+    let mut values = first_values(alloc, &forms)?;
+    let names = forms.len() as u16;
+    let constants = constants_of(alloc, cards)?;
+    add_constants(alloc, &constants, &mut forms, &mut values)?;
+    Ok((FieldTable::new(symbols, names, constants), forms, values))
+}
+
 /// The program of cards that keep its limits.
 pub(crate) fn program_of(
     alloc: Global,
@@ -36,17 +65,16 @@ pub(crate) fn program_of(
     requires limits { programs.KeepsLimits cards.now }
     ensures { IfOk result (λ p. p ≡ programs.program_of cards.now allowance) }
 {
-    let FieldTable { symbols, forms } = FieldTable::of_cards(alloc, cards)?;
-    let values = first_values(alloc, &forms)?;
-    let types = types_of(alloc, &symbols, cards)?;
-    let lines = lines_of(alloc, &symbols, cards)?;
-    let detail = code_of(alloc, &symbols, cards)?;
+    let (table, fields, values) = fields_of(alloc, cards)?;
+    let types = types_of(alloc, &table, cards)?;
+    let lines = lines_of(alloc, &table, cards)?;
+    let detail = code_of(alloc, &table, cards)?;
     plain_rows_are_programs();
     Ok(Program::build(Rows {
         allowance,
         record_length: length_of(input_file(cards)),
         printer_length: length_of(output_file(cards)),
-        fields: forms,
+        fields,
         values,
         types,
         lines,

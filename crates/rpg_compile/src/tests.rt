@@ -3,7 +3,7 @@
 use crate::{CompileFault, FaultCode, SheetCode, SourceCode, compile};
 use rpg_effect::form::{Class, Kind};
 use rpg_effect::line::{File, Time};
-use rpg_effect::operation::{Action, Instruction, Operator};
+use rpg_effect::operation::{Action, Instruction};
 use rpg_effect::value::Value;
 use rpg_object::Program;
 use std::alloc::Global;
@@ -141,20 +141,43 @@ fn the_running_total_adds(rt: HostRuntime) -> Result<(), Fail> {
     assert_eq!(rt; rows.fields.len(), 4);
     assert_eq!(rt; (rows.fields[2].length, rows.fields[3].length), (3, 5));
     assert_eq!(rt; rows.detail.len(), 1);
-    match rows.detail[0] {
-        Instruction::Act(
-            Action::Compute {
-                operator: Operator::Add,
-                half: false,
-                factor1,
-                factor2,
-                result,
-                ..
-            },
-        ) => assert_eq!(rt; (factor1.field, factor2.field, result.field), (4, 3, 4)),
-        _ => assert!(rt; false),
-    }
+    assert_eq!(rt; operands(rows.detail[0]), (4, 3, 4));
     Ok(())
+}
+
+/// The fields of factor 1, factor 2 and the result, 0 where the operation has none.
+fn operands(instruction: Instruction<u16>) -> (u16, u16, u16) {
+    let Instruction::Act(action) = instruction;
+    match action {
+        Action::Compute {
+            factor1,
+            factor2,
+            result,
+            ..
+        } => (factor1.field, factor2.field, result.field),
+        Action::Divide {
+            factor1,
+            factor2,
+            result,
+            ..
+        } => (factor1.field, factor2.field, result.field),
+        Action::Assign {
+            factor2,
+            result,
+            ..
+        } => (0, factor2.field, result.field),
+        Action::TakeRemainder { result, .. } => (0, 0, result.field),
+        Action::Compare {
+            factor1,
+            factor2,
+            ..
+        } => (factor1.field, factor2.field, 0),
+        Action::Move {
+            factor2,
+            result,
+            ..
+        } => (0, factor2.field, result.field),
+    }
 }
 
 /// A blank factor 1 is the result field, and Z-ADD has none.
@@ -170,33 +193,78 @@ fn operations_have_their_operands(rt: HostRuntime) -> Result<(), Fail> {
     )?;
     let rows = program.rows();
     assert_eq!(rt; rows.detail.len(), 2);
-    match rows.detail[0] {
-        Instruction::Act(
-            Action::Assign {
-                is_negated: false,
-                half: false,
-                factor2,
-                result,
-                ..
-            },
-        ) => {
-            assert_eq!(rt; (factor2.field, result.field), (1, 4));
-        }
-        _ => assert!(rt; false),
-    }
-    match rows.detail[1] {
-        Instruction::Act(
-            Action::Compute {
-                operator: Operator::Add,
-                half: false,
-                factor1,
-                factor2,
-                result,
-                ..
-            },
-        ) => assert_eq!(rt; (factor1.field, factor2.field, result.field), (4, 3, 4)),
-        _ => assert!(rt; false),
-    }
+    assert_eq!(rt; operands(rows.detail[0]), (0, 1, 4));
+    assert_eq!(rt; operands(rows.detail[1]), (4, 3, 4));
+    Ok(())
+}
+
+/// The operands of the instruction at a place, as `operands` tells them.
+fn operands_at(program: &Program, place: usize) -> Option<(u16, u16, u16)> {
+    let instruction = program.rows().detail.get(place)?;
+    Some(operands(*instruction))
+}
+
+/// The class, length and decimals of a field, and its first value where that is a number.
+fn field_at(program: &Program, number: usize) -> Option<(Class, u16, u8, Option<i64>)> {
+    let rows = program.rows();
+    let form = rows.fields.get(number.saturating_sub(1))?;
+    let value = match rows.values.get(number.saturating_sub(1))? {
+        Value::Number(value) => Some(*value),
+        Value::Text(_) => None,
+    };
+    Some((form.class, form.length, form.decimals, value))
+}
+
+#[test]
+fn a_remainder_follows_its_division(rt: HostRuntime) -> Result<(), Fail> {
+    let program = program(
+        rt.alloc(),
+        &[
+            "I 47=1 51=2 52=0 53=A",
+            "C 18=A 28=DIV 33=3 43=Q 51=3 52=2",
+            "C 28=MVR 43=R 51=3 52=2",
+        ],
+    )?;
+    assert_eq!(rt;
+        field_at(&program, 6),
+        Some((Class::Constant, 1, 0, Some(3)))
+    );
+    assert_eq!(rt; field_at(&program, 7), None);
+    assert_eq!(rt; operands_at(&program, 0), Some((3, 6, 4)));
+    assert_eq!(rt; operands_at(&program, 1), Some((0, 0, 5)));
+    Ok(())
+}
+
+/// Constants are numbered behind the names, in the order of the cards; equal ones are one field.
+#[test]
+fn constants_stand_once(rt: HostRuntime) -> Result<(), Fail> {
+    let program = program(
+        rt.alloc(),
+        &[
+            "C 28=Z-ADD 33=05 43=K 51=2 52=0",
+            "C 28=ADD 33=+5 43=K 53=H",
+            "C 18=-.5 28=SUB 33=5 43=K",
+            "C 28=MOVE 33='A''B' 43=T 51=3",
+        ],
+    )?;
+    assert_eq!(rt;
+        field_at(&program, 5),
+        Some((Class::Constant, 2, 0, Some(5)))
+    );
+    assert_eq!(rt;
+        field_at(&program, 6),
+        Some((Class::Constant, 1, 0, Some(5)))
+    );
+    assert_eq!(rt;
+        field_at(&program, 7),
+        Some((Class::Constant, 1, 1, Some(-5)))
+    );
+    assert_eq!(rt; field_at(&program, 8), Some((Class::Constant, 3, 0, None)));
+    assert_eq!(rt; field_at(&program, 9), None);
+    assert_eq!(rt; operands_at(&program, 0), Some((0, 5, 3)));
+    assert_eq!(rt; operands_at(&program, 1), Some((3, 6, 3)));
+    assert_eq!(rt; operands_at(&program, 2), Some((7, 6, 3)));
+    assert_eq!(rt; operands_at(&program, 3), Some((0, 8, 4)));
     Ok(())
 }
 

@@ -5,27 +5,26 @@ ghost use Rattle.rpg_compile.specs.Tables as tables;
 ghost use Rattle.rpg_object.specs.Kept.{IsMoveRow, IsTypeRow};
 ghost use Rattle.rpg_object.specs.Object.{type_row};
 
-use crate::fields::number_in;
+use crate::table::FieldTable;
 use rpg_cards::SpecCard;
 use rpg_object::row::{Move, RecordType};
-use rpg_symbols::Symbols;
 use std::alloc::{AllocError, Global};
 
 /// A type for each type card.
 pub(crate) fn types_of(
     alloc: Global,
-    symbols: &Symbols,
+    table: &FieldTable,
     cards: &[SpecCard],
 ) -> Result<Vec<RecordType>, AllocError>
-    requires { All (λ t. length t.moves ≤ 500) (tables.types_of symbols.now cards.now) }
-    ensures types { IfOk result (λ v. map type_row v.items ≡ tables.types_of symbols.now cards.now) }
+    requires { All (λ t. length t.moves ≤ 500) (tables.types_of table.now cards.now) }
+    ensures types { IfOk result (λ v. map type_row v.items ≡ tables.types_of table.now cards.now) }
     ensures rows { IfOk result (λ v. All IsTypeRow (map type_row v.items)) }
 {
     let mut types = Vec::new(alloc);
     let mut rest = cards;
     while let Some((card, behind)) = rest.split_first() {
         if let Some(record_type) = card.record_type() {
-            types.push(type_of(alloc, symbols, record_type, behind)?)?;
+            types.push(type_of(alloc, table, record_type, behind)?)?;
         }
         rest = behind;
     }
@@ -35,22 +34,22 @@ pub(crate) fn types_of(
 /// The type of a type card, with the cards behind it.
 fn type_of(
     alloc: Global,
-    symbols: &Symbols,
+    table: &FieldTable,
     record_type: &rpg_sheet::RecordType,
     behind: &[SpecCard],
 ) -> Result<RecordType, AllocError>
-    requires { length (tables.moves_of symbols.now behind.now) ≤ 500 }
-    ensures row { IfOk result (λ t. type_row t ≡ tables.type_of symbols.now behind.now record_type.now) }
+    requires { length (tables.moves_of table.now behind.now) ≤ 500 }
+    ensures row { IfOk result (λ t. type_row t ≡ tables.type_of table.now behind.now record_type.now) }
     ensures kept { IfOk result (λ t. IsTypeRow (type_row t)) }
 {
-    let moves = moves_of(alloc, symbols, behind)?;
+    let moves = moves_of(alloc, table, behind)?;
     let indicator = record_type.indicator.map(|indicator| indicator.number());
     Ok(RecordType { indicator, moves })
 }
 
 /// A move for each field card at the front.
-fn moves_of(alloc: Global, symbols: &Symbols, cards: &[SpecCard]) -> Result<Vec<Move>, AllocError>
-    ensures moves { IfOk result (λ v. v.items ≡ tables.moves_of symbols.now cards.now) }
+fn moves_of(alloc: Global, table: &FieldTable, cards: &[SpecCard]) -> Result<Vec<Move>, AllocError>
+    ensures moves { IfOk result (λ v. v.items ≡ tables.moves_of table.now cards.now) }
     ensures rows { IfOk result (λ v. All IsMoveRow v.items) }
 {
     let mut moves = Vec::new(alloc);
@@ -58,7 +57,7 @@ fn moves_of(alloc: Global, symbols: &Symbols, cards: &[SpecCard]) -> Result<Vec<
         let Some(field) = card.input_field() else {
             return Ok(moves);
         };
-        let number = number_in(symbols, &field.name);
+        let number = table.number_in(&field.name);
         moves.push(move_of(field.from, field.to, number))?;
     }
     Ok(moves)

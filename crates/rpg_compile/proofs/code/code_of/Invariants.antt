@@ -6,6 +6,6 @@ use Rattle.rpg_compile.proofs.code.code_of.Given as goal
 
 abbrev pub invariant-loop-card : goal.invariant-loop-card
 invariant-loop-card l = record {
-  so_far : l.code.items ++ code_of l.symbols (drop l.card-index l.cards) ≡ code_of l.symbols l.cards;
+  so_far : l.code.items ++ code_of l.table (drop l.card-index l.cards) ≡ code_of l.table l.cards;
   rows : All IsInstructionRow l.code.items;
 }

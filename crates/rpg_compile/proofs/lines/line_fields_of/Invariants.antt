@@ -6,6 +6,6 @@ use Rattle.rpg_compile.proofs.lines.line_fields_of.Given as goal
 
 abbrev pub invariant-loop-card : goal.invariant-loop-card
 invariant-loop-card l = record {
-  so_far : l.fields.items ++ line_fields_of l.symbols (drop l.card-index l.cards) ≡ line_fields_of l.symbols l.cards;
+  so_far : l.fields.items ++ line_fields_of l.table (drop l.card-index l.cards) ≡ line_fields_of l.table l.cards;
   rows : All IsLineFieldRow l.fields.items;
 }

@@ -7,9 +7,9 @@ use Rattle.rpg_compile.proofs.lines.lines_of.Given as goal
 
 abbrev pub invariant-loop-card : goal.invariant-loop-card
 invariant-loop-card l = record {
-  so_far : map line_row l.lines.items ++ lines_of l.symbols l.rest ≡ lines_of l.symbols l.cards;
+  so_far : map line_row l.lines.items ++ lines_of l.table l.rest ≡ lines_of l.table l.cards;
   rows : All IsLineRow (map line_row l.lines.items);
-  within : All (λ (r : LineRow). length r.fields ≤ 200) (lines_of l.symbols l.rest);
+  within : All (λ (r : LineRow). length r.fields ≤ 200) (lines_of l.table l.rest);
 }
 
 abbrev pub decreases-loop-card : goal.decreases-loop-card

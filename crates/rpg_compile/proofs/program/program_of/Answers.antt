@@ -1,7 +1,6 @@
-use Rattle.std.proofs.Common.{◌∙◌, List, map, sym, ap, subst, arith}
+use Rattle.std.proofs.Common.{◌∙◌, List, sym, ap, subst, arith}
 use Rattle.std.specs.Prelude.{All}
 use Rattle.rpg_compile.specs.Code.{code_of}
-use Rattle.rpg_compile.specs.Fields.{first_value}
 use Rattle.rpg_compile.specs.Program.{length_of}
 use Rattle.rpg_compile.specs.Tables.{types_of, lines_of}
 use Rattle.rpg_compile.proofs.Plain.{plain, made_of}
@@ -13,15 +12,15 @@ use Rattle.rpg_compile.proofs.program.program_of.Goals as goal
 pub build-requires : goal.build-requires
 build-requires c =
     let cards = c.args.cards.now in
-    let fields = c.in_ok-symbols.ensures.symbols in
-    let types = c.in_ok-types.ensures.types ∙ ap (λ s. types_of s cards) fields in
-    let lines = c.in_ok-lines.ensures.lines ∙ ap (λ s. lines_of s cards) fields in
-    let code = c.in_ok-detail.ensures.code ∙ ap (λ s. code_of s cards) fields in
+    let table = c.in_ok-table.ensures.table in
+    let types = c.in_ok-types.ensures.types ∙ ap (λ t. types_of t cards) table in
+    let lines = c.in_ok-lines.ensures.lines ∙ ap (λ t. lines_of t cards) table in
+    let code = c.in_ok-detail.ensures.code ∙ ap (λ t. code_of t cards) table in
     let same = made_of cards c.args.allowance c.length_of.result c.length_of-2.result _ _ _ _ _
     (c.length_of.ensures ∙ ap length_of c.input_file.ensures) (c.length_of-2.ensures ∙ ap length_of c.output_file.ensures)
-    c.in_ok-symbols.ensures.forms (c.in_ok-values.ensures ∙ ap (map first_value) (c.deref.ensures.value ∙ c.in_ok-symbols.ensures.forms)) types lines code in
+    c.in_ok-table.ensures.forms c.in_ok-table.ensures.values types lines code in
     c.plain_rows_are_programs.ensures _ (subst IsPlainProgram (sym same)
-    (plain cards c.args.allowance c.requires.allowed (omega arith) c.requires.few c.requires.limits
+    (plain cards c.args.allowance c.requires.allowed (omega arith) c.requires.few c.requires.limits c.in_ok-table.ensures.kept
     (subst (λ (ts : List TypeRow). All IsTypeRow ts) types c.in_ok-types.ensures.rows)
     (subst (λ (ls : List LineRow). All IsLineRow ls) lines c.in_ok-lines.ensures.rows)
     (subst (λ (is : List (Instruction _)). All IsInstructionRow is) code c.in_ok-detail.ensures.rows)))
@@ -29,8 +28,8 @@ build-requires c =
 pub returns : goal.returns
 returns c =
     let cards = c.args.cards.now in
-    let fields = c.in_ok-symbols.ensures.symbols in
+    let table = c.in_ok-table.ensures.table in
     c.build.ensures ∙ made_of cards c.args.allowance c.length_of.result c.length_of-2.result _ _ _ _ _
     (c.length_of.ensures ∙ ap length_of c.input_file.ensures) (c.length_of-2.ensures ∙ ap length_of c.output_file.ensures)
-    c.in_ok-symbols.ensures.forms (c.in_ok-values.ensures ∙ ap (map first_value) (c.deref.ensures.value ∙ c.in_ok-symbols.ensures.forms))
-    (c.in_ok-types.ensures.types ∙ ap (λ s. types_of s cards) fields) (c.in_ok-lines.ensures.lines ∙ ap (λ s. lines_of s cards) fields) (c.in_ok-detail.ensures.code ∙ ap (λ s. code_of s cards) fields)
+    c.in_ok-table.ensures.forms c.in_ok-table.ensures.values
+    (c.in_ok-types.ensures.types ∙ ap (λ t. types_of t cards) table) (c.in_ok-lines.ensures.lines ∙ ap (λ t. lines_of t cards) table) (c.in_ok-detail.ensures.code ∙ ap (λ t. code_of t cards) table)

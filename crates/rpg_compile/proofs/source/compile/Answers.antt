@@ -1,8 +1,11 @@
-use Rattle.std.proofs.Common.{◌∙◌, sym, ap, subst}
-use Rattle.rpg_cards.specs.Cards.{spec_cards}
+use Rattle.std.proofs.Common.{◌∙◌, ◌≤◌, length, sym, ap, subst}
+use Rattle.rpg_cards.specs.Cards.{spec_cards, Numbered}
 use Rattle.rpg_compile.proofs.Limits.{faultless_keeps_limits}
 use Rattle.rpg_faults.specs.Faults.{Faultless, IsLeastFault}
 use Rattle.rpg_compile.proofs.source.compile.Goals as goal
+
+pub first_fault-requires-clause-numbered : goal.first_fault-requires-clause-numbered
+first_fault-requires-clause-numbered c = subst (Numbered 1) (sym c.deref.ensures.value) c.in_ok-cards-2.ensures.numbered
 
 pub returns-in-Some-clause-err : goal.returns-in-Some-clause-err
 returns-in-Some-clause-err c =
@@ -12,4 +15,4 @@ returns-in-Some-clause-err c =
 pub program_of-requires-clause-limits : goal.program_of-requires-clause-limits
 program_of-requires-clause-limits c =
     let same = c.deref.ensures.value ∙ sym c.deref-2.ensures.value in
-    faultless_keeps_limits c.deref-2.result.now (subst Faultless same c.in_default.ensures)
+    faultless_keeps_limits c.deref-2.result.now (subst Faultless same c.in_default.ensures) (subst (λ cs. length cs ≤ 2000) (sym c.deref-2.ensures.value) c.in_ok-cards-2.ensures.few)

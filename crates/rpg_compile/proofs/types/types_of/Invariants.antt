@@ -7,9 +7,9 @@ use Rattle.rpg_compile.proofs.types.types_of.Given as goal
 
 abbrev pub invariant-loop-card : goal.invariant-loop-card
 invariant-loop-card l = record {
-  so_far : map type_row l.types.items ++ types_of l.symbols l.rest ≡ types_of l.symbols l.cards;
+  so_far : map type_row l.types.items ++ types_of l.table l.rest ≡ types_of l.table l.cards;
   rows : All IsTypeRow (map type_row l.types.items);
-  within : All (λ (t : TypeRow). length t.moves ≤ 500) (types_of l.symbols l.rest);
+  within : All (λ (t : TypeRow). length t.moves ≤ 500) (types_of l.table l.rest);
 }
 
 abbrev pub decreases-loop-card : goal.decreases-loop-card

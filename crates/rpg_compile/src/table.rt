@@ -1,0 +1,80 @@
+//! The numbers of names and constants.
+
+ghost use Rattle.std.specs.Prelude.{◌≡◌, ◌+◌, ◌<◌, ◌≤◌, ◌^◌, length, position, IfSome, option_copied};
+ghost use Rattle.rpg_cards.specs.Constants.{is_same};
+ghost use Rattle.rpg_compile.specs.Fields as fields;
+
+use rpg_cards::{Constant, factor_constant};
+use rpg_sheet::Factor;
+use rpg_symbols::{Name, Symbols};
+use std::marker::Model;
+
+/// The fields of a program: names, and constants behind them.
+#[derive(Drop)]
+pub(crate) struct FieldTable {
+    symbols: Symbols,
+    /// How many names there are.
+    names: u16,
+    constants: Vec<Constant>,
+}
+
+impl Model for FieldTable {
+    ghost use Rattle.std.specs.Prelude.{◌≡◌, ◌+◌, ◌≤◌, length};
+    ghost use Rattle.rpg_compile.specs.Fields.{Table};
+
+    ghost Value = { Table };
+
+    ghost view = { λ t. record { names = t.symbols; constants = t.constants.items } };
+
+    ghost invariant = { λ t. (t.names ≡ length t.symbols) × (length t.symbols + length t.constants.items ≤ 4000) };
+}
+
+impl FieldTable {
+    pub(crate) fn new(symbols: Symbols, names: u16, constants: Vec<Constant>) -> Self
+        requires names { names ≡ length symbols }
+        requires few { length symbols + length constants.items ≤ 4000 }
+        ensures { result ≡ record { names = symbols; constants = constants.items } }
+    {
+        FieldTable {
+            symbols,
+            names,
+            constants,
+        }
+    }
+
+    /// The number of a name; 0 where it isn't defined.
+    pub(crate) fn number_in(&self, name: &Name) -> u16
+        ensures { result ≡ fields.number_in self.now.names name.now }
+    {
+        self.symbols.look(name).unwrap_or(0)
+    }
+
+    /// The number of a constant; 0 where no card has it.
+    pub(crate) fn constant_number(&self, constant: &Constant) -> u16
+        ensures { result ≡ fields.constant_number self.now constant.now }
+    {
+        match place_of(&self.constants, constant) {
+            None => 0,
+            Some(place) => self.names + place as u16 + 1,
+        }
+    }
+
+    pub(crate) fn factor_number(&self, factor: &Factor) -> u16
+        ensures { result ≡ fields.factor_number self.now factor.now }
+    {
+        match factor {
+            Factor::Name(name) => self.number_in(name),
+            Factor::Literal(_) => match factor_constant(factor) {
+                None => 0,
+                Some(constant) => self.constant_number(&constant),
+            },
+        }
+    }
+}
+
+fn place_of(constants: &[Constant], constant: &Constant) -> Option<usize>
+    ensures place { result ≡ position (is_same constant.now) constants.now }
+    ensures within { IfSome result (λ place. place < length constants.now) }
+{
+    constants.iter().position(|other| constant.is_same(other))
+}
