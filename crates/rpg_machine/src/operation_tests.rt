@@ -403,6 +403,45 @@ fn moves_go_by_places(rt: HostRuntime) -> Result<(), Fail> {
     )
 }
 
+/// Shorter, equal and longer sources: numbers and texts to a number, and numbers and texts to a text.
+#[test]
+fn moves_of_each_kind_and_length(rt: HostRuntime) -> Result<(), Fail> {
+    const NUMBER: Field = (1, 3, 0, b"789");
+    const TEXT: Field = (2, 3, 0, b"XYZ");
+    const RIGHT: Step = [9, 0, 0, 1, 2, 0, 0, 0];
+    const LEFT: Step = [10, 0, 0, 1, 2, 0, 0, 0];
+    check(
+        &rt,
+        rt.alloc(),
+        &[
+            (&[(1, 2, 0, b"1K"), NUMBER], &[RIGHT], b"1K71K", NONE),
+            (&[(1, 3, 0, b"12L"), NUMBER], &[RIGHT], b"12L12L", NONE),
+            (&[(1, 4, 0, b"123M"), NUMBER], &[RIGHT], b"123M23M", NONE),
+            (&[(1, 2, 0, b"1K"), NUMBER], &[LEFT], b"1K129", NONE),
+            (&[(1, 3, 0, b"12L"), NUMBER], &[LEFT], b"12L12L", NONE),
+            (&[(1, 4, 0, b"123M"), NUMBER], &[LEFT], b"123M12L", NONE),
+            (&[(1, 2, 0, b"1K"), TEXT], &[RIGHT], b"1KX1K", NONE),
+            (&[(1, 3, 0, b"12L"), TEXT], &[RIGHT], b"12L12L", NONE),
+            (&[(1, 4, 0, b"123M"), TEXT], &[RIGHT], b"123M23M", NONE),
+            (&[(1, 2, 0, b"1K"), TEXT], &[LEFT], b"1K1KZ", NONE),
+            (&[(1, 3, 0, b"12L"), TEXT], &[LEFT], b"12L12L", NONE),
+            (&[(1, 4, 0, b"123M"), TEXT], &[LEFT], b"123M123", NONE),
+            (&[(2, 2, 0, b"1K"), NUMBER], &[RIGHT], b"1K71K", NONE),
+            (&[(2, 3, 0, b"12L"), NUMBER], &[RIGHT], b"12L12L", NONE),
+            (&[(2, 4, 0, b"123M"), NUMBER], &[RIGHT], b"123M23M", NONE),
+            (&[(2, 2, 0, b"12"), NUMBER], &[LEFT], b"12129", NONE),
+            (&[(2, 3, 0, b"12L"), NUMBER], &[LEFT], b"12L12L", NONE),
+            (&[(2, 4, 0, b"123M"), NUMBER], &[LEFT], b"123M123", NONE),
+            (&[(2, 2, 0, b"AB"), TEXT], &[RIGHT], b"ABXAB", NONE),
+            (&[(2, 3, 0, b"ABC"), TEXT], &[RIGHT], b"ABCABC", NONE),
+            (&[(2, 4, 0, b"ABCD"), TEXT], &[RIGHT], b"ABCDBCD", NONE),
+            (&[(2, 2, 0, b"AB"), TEXT], &[LEFT], b"ABABZ", NONE),
+            (&[(2, 3, 0, b"ABC"), TEXT], &[LEFT], b"ABCABC", NONE),
+            (&[(2, 4, 0, b"ABCD"), TEXT], &[LEFT], b"ABCDABC", NONE),
+        ],
+    )
+}
+
 #[test]
 fn numbers_and_texts_are_compared(rt: HostRuntime) -> Result<(), Fail> {
     const SHOWN: Step = [8, 0, 1, 2, 0, 20, 21, 22];
