@@ -3,7 +3,7 @@ use Rattle.std.specs.Prelude.{ℕ, List, codes}
 use Rattle.rpg_compile.specs.declared.fault.SourceCode.{SourceCode}
 use Rattle.rpg_compile.specs.declared.fault.SourceCode.TheVariants.{Sheet, Fault}
 use Rattle.rpg_faults.specs.declared.fault.FaultCode.{FaultCode}
-use Rattle.rpg_faults.specs.declared.fault.FaultCode.TheVariants.{F1, F2, F3, F4, F6, F7, F8, F9, F12, F16}
+use Rattle.rpg_faults.specs.declared.fault.FaultCode.TheVariants.{F1, F2, F3, F4, F6, F7, F8, F9, F12, F15, F16}
 use Rattle.rpg_sheet.specs.declared.sheet.SheetCode.{SheetCode}
 use Rattle.rpg_sheet.specs.declared.sheet.SheetCode.TheVariants.{S1, S2, S3, S4, S5, S6}
 
@@ -25,6 +25,7 @@ fault_code_text F7 = codes "F7"
 fault_code_text F8 = codes "F8"
 fault_code_text F9 = codes "F9"
 fault_code_text F12 = codes "F12"
+fault_code_text F15 = codes "F15"
 fault_code_text F16 = codes "F16"
 
 abbrev pub source_code_text : SourceCode → List ℕ

@@ -33,6 +33,7 @@ fn fault_code_text(code: FaultCode) -> &'static [u8]
         FaultCode::F8 => b"F8",
         FaultCode::F9 => b"F9",
         FaultCode::F12 => b"F12",
+        FaultCode::F15 => b"F15",
         FaultCode::F16 => b"F16",
     }
 }

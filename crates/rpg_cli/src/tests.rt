@@ -1,5 +1,7 @@
 //! The worked rows of the engine, and what no clause says of it.
 
+mod arithmetic;
+mod arithmetic_sources;
 mod compiling;
 mod devices;
 mod files;

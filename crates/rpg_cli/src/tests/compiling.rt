@@ -11,13 +11,13 @@ use std::{env, fs};
 
 /// The source, its input and print, and its run's cycles and most steps.
 #[derive(Drop)]
-struct Row {
-    name: &'static str,
-    source: &'static [u8],
-    records: &'static [&'static [u8]],
-    print: &'static [u8],
-    cycles: u64,
-    most: u64,
+pub struct Row {
+    pub name: &'static str,
+    pub source: &'static [u8],
+    pub records: &'static [&'static [u8]],
+    pub print: &'static [u8],
+    pub cycles: u64,
+    pub most: u64,
 }
 
 const ROWS: [Row; 2] = [
@@ -39,7 +39,7 @@ const ROWS: [Row; 2] = [
     },
 ];
 
-fn copied(alloc: Global, records: &[&[u8]]) -> Result<Vec<Vec<u8>>, AllocError> {
+pub fn copied(alloc: Global, records: &[&[u8]]) -> Result<Vec<Vec<u8>>, AllocError> {
     let mut list = Vec::new(alloc);
     for bytes in records {
         list.push(Vec::from_slice(alloc, bytes)?)?;
