@@ -11,10 +11,10 @@ use Rattle.rpg_cards.specs.declared.constants.Constant.TheVariants.{Number, Text
 use Rattle.rpg_cards.specs.declared.names.Defined.{Defined}
 use Rattle.rpg_cards.specs.declared.names.Defined.TheVariants.{Good}
 use Rattle.rpg_cards.specs.declared.spec_card.SpecCard.{SpecCard}
-use Rattle.rpg_effect.specs.declared.form.Class.TheVariants as class
-use Rattle.rpg_effect.specs.declared.form.Form.{Form}
-use Rattle.rpg_effect.specs.declared.form.Kind.TheVariants as kind
-use Rattle.rpg_effect.specs.Values as value
+use Rattle.old_effect.specs.declared.form.Class.TheVariants as class
+use Rattle.old_effect.specs.declared.form.Form.{Form}
+use Rattle.old_effect.specs.declared.form.Kind.TheVariants as kind
+use Rattle.old_effect.specs.Values as value
 use Rattle.rpg_sheet.specs.declared.literal.Factor.{Factor}
 use Rattle.rpg_sheet.specs.declared.literal.Factor.TheVariants as factor
 use Rattle.rpg_sheet.specs.declared.literal.Literal.{Literal}

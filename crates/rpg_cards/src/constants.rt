@@ -8,7 +8,7 @@ ghost use Rattle.rpg_cards.specs.declared.constants.Constant.TheVariants.{Text};
 
 use crate::names::{Defined, form_of_name};
 use crate::spec_card::SpecCard;
-use rpg_effect::form::{Class, Form, Kind};
+use old_effect::form::{Class, Form, Kind};
 use rpg_sheet::{Factor, Literal, NumericLiteral, TextLiteral, Word};
 use std::marker::Model;
 

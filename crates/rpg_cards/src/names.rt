@@ -6,7 +6,7 @@ ghost use Rattle.rpg_cards.specs.Names as names;
 ghost use Rattle.rpg_symbols.specs.Fields as fields;
 
 use crate::spec_card::SpecCard;
-use rpg_effect::form::{Class, Form, Kind};
+use old_effect::form::{Class, Form, Kind};
 use rpg_sheet::InputField;
 use rpg_symbols::Name;
 

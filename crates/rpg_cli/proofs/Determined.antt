@@ -1,21 +1,21 @@
 -- Two runs of a program over the same records, on the same date, are one.
 use Rattle.std.proofs.Common.{◌≡◌, ℕ, ℤ, zero, suc, ◌+◌, List, [], ◌∷◌, ◌++◌, Option, Some, None, refl, sym, ap, subst, ◌∙◌, arith, inl, inr}
 use Rattle.std.proofs.lemmas.Bool.{cases_Bool}
-use Rattle.rpg_effect.specs.Effect.{Placed}
-use Rattle.rpg_object.specs.Object.{Object}
-use Rattle.rpg_effect.specs.Lines.{disk}
-use Rattle.rpg_machine.specs.Config.{Config}
-use Rattle.rpg_machine.specs.Ends.{ending_of}
-use Rattle.rpg_machine.specs.Start.{start_of}
-use Rattle.rpg_machine.specs.Run.{run, is_end, onward, with_lines}
-use Rattle.rpg_machine.specs.Step.{Outcome, Next, Stop, step}
-use Rattle.rpg_machine.specs.declared.section.SectionEnd.{SectionEnd}
-use Rattle.rpg_cycle.specs.Phases.{Phase, does, from_there, ◌before◌, flow_of, calculations, filled, identified, moves, moves_of_type, after_taking, behind_output, detail_output, Cycle}
-use Rattle.rpg_cycle.specs.Runs.{Course, IsLast, Runs, IsRun, goes_on, printed, with_cycle}
-use Rattle.rpg_cycle.specs.declared.flow.Flow.{Flow}
-use Rattle.rpg_cycle.specs.declared.flow.Flow.TheVariants.{GoesOn, Stops}
-use Rattle.rpg_cycle.specs.declared.flow.JobEnd.{JobEnd}
-use Rattle.rpg_cycle.specs.declared.runs.Run.{Run}
+use Rattle.old_effect.specs.Effect.{Placed}
+use Rattle.old_object.specs.Object.{Object}
+use Rattle.old_effect.specs.Lines.{disk}
+use Rattle.old_machine.specs.Config.{Config}
+use Rattle.old_machine.specs.Ends.{ending_of}
+use Rattle.old_machine.specs.Start.{start_of}
+use Rattle.old_machine.specs.Run.{run, is_end, onward, with_lines}
+use Rattle.old_machine.specs.Step.{Outcome, Next, Stop, step}
+use Rattle.old_machine.specs.declared.section.SectionEnd.{SectionEnd}
+use Rattle.old_cycle.specs.Phases.{Phase, does, from_there, ◌before◌, flow_of, calculations, filled, identified, moves, moves_of_type, after_taking, behind_output, detail_output, Cycle}
+use Rattle.old_cycle.specs.Runs.{Course, IsLast, Runs, IsRun, goes_on, printed, with_cycle}
+use Rattle.old_cycle.specs.declared.flow.Flow.{Flow}
+use Rattle.old_cycle.specs.declared.flow.Flow.TheVariants.{GoesOn, Stops}
+use Rattle.old_cycle.specs.declared.flow.JobEnd.{JobEnd}
+use Rattle.old_cycle.specs.declared.runs.Run.{Run}
 use Rattle.rpg_cli.specs.Engine.{IsSameRun}
 
 -- ---- runs of a section

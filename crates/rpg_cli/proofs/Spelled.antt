@@ -1,9 +1,9 @@
 -- What spells a program is read without a fault.
 use Rattle.std.proofs.Common.{◌≡◌, ℕ, List, None, Result, Ok, Err, refl}
 use Rattle.rpg_format.specs.declared.fault.Fault.{Fault}
-use Rattle.rpg_object.specs.Object.{Object}
-use Rattle.rpg_object.specs.Program.{fault_in, first_fault, reading}
-use Rattle.rpg_object.proofs.ObjectLaws.{no_fault}
+use Rattle.old_object.specs.Object.{Object}
+use Rattle.old_object.specs.Program.{fault_in, first_fault, reading}
+use Rattle.old_object.proofs.ObjectLaws.{no_fault}
 use Rattle.rpg_cli.specs.Engine.{Spells}
 
 read_whole : (bytes : List ℕ) (p : Object) → Spells bytes p → (r : Result Object Fault) → reading bytes ≡ r → fault_in bytes r ≡ None

@@ -3,11 +3,11 @@ use Rattle.std.proofs.Common.{◌≡◌, ℕ, List, [], ◌++◌, Option, Some, 
 use Rattle.std.proofs.lemmas.List.{append-nil}
 use Rattle.std.specs.Io.KnownBytes.{Appends, Consumes, IsAtEnd}
 use Rattle.std.proofs.KnownBytes.{Appends-nil, Consumes-nil}
-use Rattle.rpg_object.specs.Object.{Object}
-use Rattle.rpg_object.specs.declared.decoding.DecodeFault.{DecodeFault}
-use Rattle.rpg_object.specs.declared.decoding.DecodeFault.TheVariants as decoding
-use Rattle.rpg_cycle.specs.Runs.{IsRun}
-use Rattle.rpg_cycle.specs.declared.runs.Run.{Run}
+use Rattle.old_object.specs.Object.{Object}
+use Rattle.old_object.specs.declared.decoding.DecodeFault.{DecodeFault}
+use Rattle.old_object.specs.declared.decoding.DecodeFault.TheVariants as decoding
+use Rattle.old_cycle.specs.Runs.{IsRun}
+use Rattle.old_cycle.specs.declared.runs.Run.{Run}
 use Rattle.rpg_cli.proofs.Determined.{one_run}
 use Rattle.rpg_cli.specs.Receiving.{ConsumesSome}
 use Rattle.rpg_cli.specs.Records.{records}

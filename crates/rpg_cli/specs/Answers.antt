@@ -2,8 +2,8 @@
 use Rattle.std.specs.Prelude.{ℕ, List, ◌++◌, codes, decimal}
 use Rattle.rpg_format.specs.declared.fault.Code.{Code}
 use Rattle.rpg_format.specs.declared.fault.Code.TheVariants.{NoObject, Version, CutShort, LeftOver, NotAllowed, Unused, PastLimit}
-use Rattle.rpg_effect.specs.declared.outcome.Wrong.{Wrong}
-use Rattle.rpg_effect.specs.declared.outcome.Wrong.TheVariants as wrong
+use Rattle.old_effect.specs.declared.outcome.Wrong.{Wrong}
+use Rattle.old_effect.specs.declared.outcome.Wrong.TheVariants as wrong
 use Rattle.rpg_cli.specs.SourceCodes.{source_code_text}
 use Rattle.rpg_cli.specs.declared.answer.Answer.{Answer}
 use Rattle.rpg_cli.specs.declared.answer.Answer.TheVariants as answer

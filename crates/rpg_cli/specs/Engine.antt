@@ -2,12 +2,12 @@
 use Rattle.std.specs.Prelude.{◌≡◌, ℕ, ℤ, Bool, true, List, [], ◌++◌, Option, Some, None, Result, Ok, Err}
 use Rattle.std.specs.Io.KnownBytes.{Appends, Consumes, IsAtEnd}
 use Rattle.rpg_format.specs.declared.fault.Code.{Code}
-use Rattle.rpg_object.specs.Object.{Object}
-use Rattle.rpg_object.specs.Program.{spelling, IsProgram}
-use Rattle.rpg_object.specs.declared.decoding.DecodeFault.{DecodeFault}
-use Rattle.rpg_object.specs.declared.decoding.DecodeFault.TheVariants as decoding
-use Rattle.rpg_cycle.specs.Runs.{IsRun}
-use Rattle.rpg_cycle.specs.declared.runs.Run.{Run}
+use Rattle.old_object.specs.Object.{Object}
+use Rattle.old_object.specs.Program.{spelling, IsProgram}
+use Rattle.old_object.specs.declared.decoding.DecodeFault.{DecodeFault}
+use Rattle.old_object.specs.declared.decoding.DecodeFault.TheVariants as decoding
+use Rattle.old_cycle.specs.Runs.{IsRun}
+use Rattle.old_cycle.specs.declared.runs.Run.{Run}
 use Rattle.rpg_cli.specs.Records.{records}
 use Rattle.rpg_cli.specs.Sending.{AppendsFirst, AppendsPrefix}
 use Rattle.rpg_cli.specs.declared.fault.RunFault.{RunFault}

@@ -2,8 +2,8 @@
 use Rattle.std.specs.Prelude.{ℕ}
 use Rattle.rpg_compile.specs.declared.fault.CompileFault.{CompileFault}
 use Rattle.rpg_compile.specs.declared.fault.CompileFault.TheVariants as source
-use Rattle.rpg_cycle.specs.declared.flow.JobEnd.{JobEnd}
-use Rattle.rpg_cycle.specs.declared.flow.JobEnd.TheVariants as ending
+use Rattle.old_cycle.specs.declared.flow.JobEnd.{JobEnd}
+use Rattle.old_cycle.specs.declared.flow.JobEnd.TheVariants as ending
 use Rattle.rpg_cli.specs.declared.answer.Answer.{Answer}
 use Rattle.rpg_cli.specs.declared.answer.Answer.TheVariants as answer
 use Rattle.rpg_cli.specs.declared.fault.RunFault.{RunFault}

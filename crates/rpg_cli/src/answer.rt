@@ -6,11 +6,11 @@ use crate::fault::RunFault;
 use crate::receiving::ReadFault;
 use crate::report::Report;
 use arrayvec::ArrayVec;
+use old_cycle::JobEnd;
+use old_effect::outcome::Wrong;
+use old_object::DecodeFault;
 use rpg_compile::{CompileFault, SourceCode};
-use rpg_cycle::JobEnd;
-use rpg_effect::outcome::Wrong;
 use rpg_format::fault::Code;
-use rpg_object::DecodeFault;
 
 /// How a command ended.
 #[derive(Clone, Copy, Debug, PartialEq, Eq)]

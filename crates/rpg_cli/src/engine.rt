@@ -2,9 +2,9 @@
 
 ghost use Rattle.std.specs.Prelude.{◌≡◌, IfErr, IfOk, IfSome, IsSome, OnErr, OnOk};
 ghost use Rattle.std.specs.Io.KnownBytes.{Appends};
-ghost use Rattle.rpg_machine.specs.Date.{date_in};
-ghost use Rattle.rpg_object.specs.Object.{Object};
-ghost use Rattle.rpg_object.specs.Program.{first_fault};
+ghost use Rattle.old_machine.specs.Date.{date_in};
+ghost use Rattle.old_object.specs.Object.{Object};
+ghost use Rattle.old_object.specs.Program.{first_fault};
 ghost use Rattle.rpg_cli.specs.Receiving.{ConsumesSome};
 ghost use Rattle.rpg_cli.specs.Engine.{refusal, AnswersRun, HasParts, IsReadOrMemory, IsWriterFault, RefusedBy, Reports, RunsAreOne, SendsParts, Spells, StopsEarly};
 
@@ -13,9 +13,9 @@ use crate::receiving::read_all;
 use crate::records::split_records;
 use crate::report::Report;
 use crate::sending::send;
-use rpg_cycle::{Run, StartFault, run_records};
-use rpg_machine::{Date, Output};
-use rpg_object::{Program, decode};
+use old_cycle::{Run, StartFault, run_records};
+use old_machine::{Date, Output};
+use old_object::{Program, decode};
 use std::alloc::Global;
 use std::io::{Read, Write};
 

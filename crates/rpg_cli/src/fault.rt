@@ -4,8 +4,8 @@ ghost use Rattle.std.specs.Prelude.{◌≡◌};
 
 use crate::receiving::ReadFault;
 use crate::records::SplitFault;
+use old_object::DecodeFault;
 use rpg_format::fault::Code;
-use rpg_object::DecodeFault;
 
 /// Why a run gave no report.
 #[derive(Clone, Copy, Debug, PartialEq, Eq)]

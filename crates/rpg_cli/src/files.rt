@@ -7,7 +7,7 @@ use crate::receiving::read_all;
 use crate::report::Report;
 use crate::sending::send;
 use crate::translation::compile_to_bytes;
-use rpg_object::decode;
+use old_object::decode;
 use std::alloc::Global;
 use std::io::{Error, ErrorKind, Read, Write};
 use std::rt::Files;

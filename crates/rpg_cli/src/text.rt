@@ -9,8 +9,8 @@ use crate::answer::{Answer, Line};
 use crate::source_code::source_code_text;
 use arrayvec::ArrayVec;
 use itoa::Buffer;
+use old_effect::outcome::Wrong;
 use rpg_compile::SourceCode;
-use rpg_effect::outcome::Wrong;
 use rpg_format::fault::Code;
 
 /// A line under construction.

@@ -2,12 +2,12 @@
 
 ghost use Rattle.std.specs.Prelude.{◌≡◌, ◌<◌, None, IfErr, IfOk};
 ghost use Rattle.rpg_compile.specs.Compile.{Compiles, IsRefusal};
-ghost use Rattle.rpg_object.specs.Object.{Object};
-ghost use Rattle.rpg_object.specs.Program.{first_fault};
+ghost use Rattle.old_object.specs.Object.{Object};
+ghost use Rattle.old_object.specs.Program.{first_fault};
 ghost use Rattle.rpg_cli.specs.Engine.{Spells};
 
+use old_object::encode;
 use rpg_compile::{CompileFault, compile};
-use rpg_object::encode;
 use std::alloc::Global;
 
 /// The bytes of the object program that the source is compiled to.

@@ -15,7 +15,7 @@ use Rattle.rpg_faults.proofs.LeastLemmas.{rule-faultless}
 use Rattle.rpg_faults.specs.Faults.{rule, Faultless}
 use Rattle.rpg_faults.specs.Limits.{count_of, count_since, passes_count}
 use Rattle.rpg_faults.specs.declared.fault.FaultCode.TheVariants.{F6}
-use Rattle.rpg_object.specs.Object.{TypeRow, LineRow}
+use Rattle.old_object.specs.Object.{TypeRow, LineRow}
 use Rattle.rpg_sheet.specs.declared.input.InputSpec.TheVariants as input
 use Rattle.rpg_sheet.specs.declared.output.OutputSpec.TheVariants as output
 use Rattle.rpg_sheet.specs.declared.spec.Spec.{Spec}

@@ -5,7 +5,7 @@ use Rattle.std.specs.Prelude.{is_some, if◌then◌else◌}
 use Rattle.rpg_cards.specs.Names.{definition_on}
 use Rattle.rpg_cards.specs.declared.spec_card.SpecCard.{SpecCard}
 use Rattle.rpg_compile.specs.Fields.{with_definition, fields_from}
-use Rattle.rpg_effect.specs.declared.form.Form.{Form}
+use Rattle.old_effect.specs.declared.form.Form.{Form}
 use Rattle.rpg_symbols.specs.Fields.{Fields, form_of, size_of, storage}
 
 -- ---- one definition

@@ -20,13 +20,13 @@ use Rattle.rpg_compile.specs.Fields.{with_definition, fields_from, fields_of, fo
 use Rattle.rpg_compile.specs.Program.{program_of, length_of, constant_size, KeepsLimits}
 use Rattle.rpg_compile.specs.Tables.{with_first, types_of, lines_of}
 use Rattle.rpg_compile.proofs.RowLemmas.{all_head, all_tail}
-use Rattle.rpg_effect.specs.declared.form.Form.{Form}
-use Rattle.rpg_effect.specs.declared.form.Kind.TheVariants as kind
-use Rattle.rpg_effect.specs.declared.operation.Instruction.{Instruction}
-use Rattle.rpg_effect.specs.Values.{Value}
-use Rattle.rpg_object.specs.Kept.{IsFieldRow, IsTypeRow, IsLineRow, IsInstructionRow, storage_of, IsPlainProgram}
-use Rattle.rpg_object.specs.Object.{Object, TypeRow, LineRow}
-use Rattle.rpg_object.specs.Rows.{AreValuesOf, IsValueOf, is_character}
+use Rattle.old_effect.specs.declared.form.Form.{Form}
+use Rattle.old_effect.specs.declared.form.Kind.TheVariants as kind
+use Rattle.old_effect.specs.declared.operation.Instruction.{Instruction}
+use Rattle.old_effect.specs.Values.{Value}
+use Rattle.old_object.specs.Kept.{IsFieldRow, IsTypeRow, IsLineRow, IsInstructionRow, storage_of, IsPlainProgram}
+use Rattle.old_object.specs.Object.{Object, TypeRow, LineRow}
+use Rattle.old_object.specs.Rows.{AreValuesOf, IsValueOf, is_character}
 use Rattle.rpg_sheet.specs.declared.calculation.CalculationSpec.{CalculationSpec}
 use Rattle.rpg_sheet.specs.declared.input.InputField.{InputField}
 use Rattle.rpg_sheet.specs.declared.spec.Spec.{Spec}

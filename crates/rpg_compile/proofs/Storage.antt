@@ -13,7 +13,7 @@ use Rattle.rpg_cards.specs.declared.names.Defined.{Defined}
 use Rattle.rpg_cards.specs.declared.spec_card.SpecCard.{SpecCard}
 use Rattle.rpg_compile.specs.Fields.{with_definition, fields_from, fields_of}
 use Rattle.rpg_compile.proofs.Walks.{walk}
-use Rattle.rpg_effect.specs.declared.form.Form.{Form}
+use Rattle.old_effect.specs.declared.form.Form.{Form}
 use Rattle.rpg_faults.proofs.LeastLemmas.{rule-faultless}
 use Rattle.rpg_faults.specs.Faults.{rule, Faultless}
 use Rattle.rpg_faults.specs.Limits.{bytes_by, bytes_from, bytes_in, names_by, names_from, passes_storage}

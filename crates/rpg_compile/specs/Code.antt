@@ -5,15 +5,15 @@ use Rattle.rpg_cards.specs.Cards.{calculation_on}
 use Rattle.rpg_cards.specs.declared.spec_card.SpecCard.{SpecCard}
 use Rattle.rpg_compile.specs.Fields.{Table, factor_number}
 use Rattle.rpg_compile.specs.Tables.{operand_of, with_first}
-use Rattle.rpg_effect.specs.declared.operation.Action.{Action}
-use Rattle.rpg_effect.specs.declared.operation.Action.TheVariants.{Compute, Divide, Assign, TakeRemainder, Compare, Move}
-use Rattle.rpg_effect.specs.declared.operation.Instruction.{Instruction}
-use Rattle.rpg_effect.specs.declared.operation.Instruction.TheVariants.{Act}
-use Rattle.rpg_effect.specs.declared.operation.Operand.{Operand}
-use Rattle.rpg_effect.specs.declared.operation.Operator.{Operator}
-use Rattle.rpg_effect.specs.declared.operation.Operator.TheVariants as operator
-use Rattle.rpg_effect.specs.declared.operation.Shows.{Shows}
-use Rattle.rpg_effect.specs.declared.operation.Side.TheVariants.{Right, Left}
+use Rattle.old_effect.specs.declared.operation.Action.{Action}
+use Rattle.old_effect.specs.declared.operation.Action.TheVariants.{Compute, Divide, Assign, TakeRemainder, Compare, Move}
+use Rattle.old_effect.specs.declared.operation.Instruction.{Instruction}
+use Rattle.old_effect.specs.declared.operation.Instruction.TheVariants.{Act}
+use Rattle.old_effect.specs.declared.operation.Operand.{Operand}
+use Rattle.old_effect.specs.declared.operation.Operator.{Operator}
+use Rattle.old_effect.specs.declared.operation.Operator.TheVariants as operator
+use Rattle.old_effect.specs.declared.operation.Shows.{Shows}
+use Rattle.old_effect.specs.declared.operation.Side.TheVariants.{Right, Left}
 use Rattle.rpg_sheet.specs.declared.calculation.CalculationSpec.{CalculationSpec}
 use Rattle.rpg_sheet.specs.declared.calculation.Operation.{Operation}
 use Rattle.rpg_sheet.specs.declared.calculation.Operation.TheVariants as op

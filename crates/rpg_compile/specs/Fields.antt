@@ -5,10 +5,10 @@ use Rattle.rpg_cards.specs.declared.spec_card.SpecCard.{SpecCard}
 use Rattle.rpg_cards.specs.Constants.{constant_form, constant_of, constant_value, constants, is_same}
 use Rattle.rpg_cards.specs.Names.{definition_on}
 use Rattle.rpg_cards.specs.declared.constants.Constant.{Constant}
-use Rattle.rpg_effect.specs.declared.form.Form.{Form}
-use Rattle.rpg_effect.specs.declared.form.Kind.{Kind}
-use Rattle.rpg_effect.specs.declared.form.Kind.TheVariants as kind
-use Rattle.rpg_effect.specs.Values.{Value, Number, Text}
+use Rattle.old_effect.specs.declared.form.Form.{Form}
+use Rattle.old_effect.specs.declared.form.Kind.{Kind}
+use Rattle.old_effect.specs.declared.form.Kind.TheVariants as kind
+use Rattle.old_effect.specs.Values.{Value, Number, Text}
 use Rattle.rpg_sheet.specs.declared.literal.Factor.{Factor}
 use Rattle.rpg_sheet.specs.declared.literal.Factor.TheVariants as factor
 use Rattle.rpg_symbols.specs.Fields.{Fields, given, number_of, form_of}

@@ -8,7 +8,7 @@ use Rattle.rpg_cards.specs.declared.spec_card.SpecCard.{SpecCard}
 use Rattle.rpg_compile.specs.Code.{code_of}
 use Rattle.rpg_compile.specs.Fields.{fields_of, table_of, all_forms, all_values}
 use Rattle.rpg_compile.specs.Tables.{types_of, lines_of}
-use Rattle.rpg_object.specs.Object.{Object, TypeRow, LineRow}
+use Rattle.old_object.specs.Object.{Object, TypeRow, LineRow}
 use Rattle.rpg_sheet.specs.declared.file.FileSpec.{FileSpec}
 use Rattle.rpg_symbols.specs.Fields.{storage, size_of}
 

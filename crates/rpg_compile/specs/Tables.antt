@@ -5,14 +5,14 @@ use Rattle.rpg_cards.specs.Cards.{type_on, input_field_on, line_on, output_field
 use Rattle.rpg_cards.specs.declared.spec_card.SpecCard.{SpecCard}
 use Rattle.rpg_cards.specs.declared.constants.Constant.TheVariants.{Text}
 use Rattle.rpg_compile.specs.Fields.{Table, number_in, constant_number}
-use Rattle.rpg_effect.specs.declared.line.Condition.{Condition}
-use Rattle.rpg_effect.specs.declared.line.Conditions.{Conditions}
-use Rattle.rpg_effect.specs.declared.line.File.TheVariants.{Printer}
-use Rattle.rpg_effect.specs.declared.line.LineField.{LineField}
-use Rattle.rpg_effect.specs.declared.line.Time.TheVariants.{Detail}
-use Rattle.rpg_effect.specs.declared.operation.Operand.{Operand}
-use Rattle.rpg_object.specs.Object.{TypeRow, LineRow}
-use Rattle.rpg_object.specs.declared.row.Move.{Move}
+use Rattle.old_effect.specs.declared.line.Condition.{Condition}
+use Rattle.old_effect.specs.declared.line.Conditions.{Conditions}
+use Rattle.old_effect.specs.declared.line.File.TheVariants.{Printer}
+use Rattle.old_effect.specs.declared.line.LineField.{LineField}
+use Rattle.old_effect.specs.declared.line.Time.TheVariants.{Detail}
+use Rattle.old_effect.specs.declared.operation.Operand.{Operand}
+use Rattle.old_object.specs.Object.{TypeRow, LineRow}
+use Rattle.old_object.specs.declared.row.Move.{Move}
 use Rattle.rpg_sheet.specs.declared.indicator.Condition as sheet
 use Rattle.rpg_sheet.specs.declared.indicator.Three.{Three}
 use Rattle.rpg_sheet.specs.declared.input.InputField.{InputField}

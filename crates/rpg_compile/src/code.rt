@@ -2,13 +2,13 @@
 
 ghost use Rattle.std.specs.Prelude.{◌≡◌, ◌<◌, ◌^◌, All, IfOk};
 ghost use Rattle.rpg_compile.specs.Code as code;
-ghost use Rattle.rpg_object.specs.Kept.{AreIndicators, IsIndicator, IsInstructionRow};
-ghost use Rattle.rpg_effect.specs.declared.operation.Instruction.TheVariants.{Act};
+ghost use Rattle.old_object.specs.Kept.{AreIndicators, IsIndicator, IsInstructionRow};
+ghost use Rattle.old_effect.specs.declared.operation.Instruction.TheVariants.{Act};
 
 use crate::lines::operand_of;
 use crate::table::FieldTable;
+use old_effect::operation::{Action, Instruction, Operand, Operator, Shows, Side};
 use rpg_cards::SpecCard;
-use rpg_effect::operation::{Action, Instruction, Operand, Operator, Shows, Side};
 use rpg_sheet::{CalculationSpec, Factor, Indicator, Operation, Three};
 use std::alloc::{AllocError, Global};
 

@@ -4,11 +4,11 @@ ghost use Rattle.std.specs.Prelude.{◌≡◌, ◌++◌, ◌≤◌, All, List, l
 ghost use Rattle.std.specs.Option.{option_to_list};
 ghost use Rattle.rpg_cards.specs.Constants as known;
 ghost use Rattle.rpg_cards.specs.declared.constants.Constant.{Constant};
-ghost use Rattle.rpg_effect.specs.Values.{held};
+ghost use Rattle.old_effect.specs.Values.{held};
 
+use old_effect::form::Form;
+use old_effect::value::Value;
 use rpg_cards::{Constant, SpecCard, new_first, new_second};
-use rpg_effect::form::Form;
-use rpg_effect::value::Value;
 use std::alloc::{AllocError, Global};
 
 /// The constants of cards, equal ones once, in the order in which they come first.

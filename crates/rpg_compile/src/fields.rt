@@ -3,12 +3,12 @@
 ghost use Rattle.std.specs.Prelude.{◌≡◌, ◌+◌, ◌<◌, ◌≤◌, length, map, IfOk, OnOk};
 ghost use Rattle.rpg_cards.specs.Names.{definition_on};
 ghost use Rattle.rpg_compile.specs.Fields as fields;
-ghost use Rattle.rpg_effect.specs.Values.{held};
+ghost use Rattle.old_effect.specs.Values.{held};
 ghost use Rattle.rpg_symbols.specs.Fields.{given, storage};
 
+use old_effect::form::{Form, Kind};
+use old_effect::value::Value;
 use rpg_cards::SpecCard;
-use rpg_effect::form::{Form, Kind};
-use rpg_effect::value::Value;
 use rpg_symbols::{DefineFault, Name, Symbols};
 use std::alloc::{AllocError, Global};
 

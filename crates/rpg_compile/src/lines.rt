@@ -2,14 +2,14 @@
 
 ghost use Rattle.std.specs.Prelude.{◌≡◌, ◌≤◌, ◌<◌, ◌^◌, All, length, map, IfOk, IfSome};
 ghost use Rattle.rpg_compile.specs.Tables as tables;
-ghost use Rattle.rpg_object.specs.Kept.{IsAlternativeRow, IsConditionRow, IsLineFieldRow, IsLineRow};
-ghost use Rattle.rpg_object.specs.Object.{line_row};
+ghost use Rattle.old_object.specs.Kept.{IsAlternativeRow, IsConditionRow, IsLineFieldRow, IsLineRow};
+ghost use Rattle.old_object.specs.Object.{line_row};
 
 use crate::table::FieldTable;
+use old_effect::line::{Condition, Conditions, File, LineField, Moves, Time};
+use old_effect::operation::Operand;
+use old_object::row::Line;
 use rpg_cards::{Constant, SpecCard};
-use rpg_effect::line::{Condition, Conditions, File, LineField, Moves, Time};
-use rpg_effect::operation::Operand;
-use rpg_object::row::Line;
 use rpg_sheet::{OutputField, OutputRecord, Three};
 use rpg_symbols::Name;
 use std::alloc::{AllocError, Global};

@@ -3,7 +3,7 @@
 ghost use Rattle.std.specs.Prelude.{◌≡◌, ◌+◌, ◌<◌, ◌≤◌, All, length, map, option_copied, IfOk};
 ghost use Rattle.rpg_cards.specs.Constants.{IsConstant, constants};
 ghost use Rattle.rpg_compile.specs.Fields as fields;
-ghost use Rattle.rpg_effect.specs.Values.{held};
+ghost use Rattle.old_effect.specs.Values.{held};
 ghost use Rattle.rpg_symbols.specs.Fields.{storage};
 ghost use Rattle.rpg_cards.specs.Files as files;
 ghost use Rattle.rpg_compile.specs.Program as programs;
@@ -14,12 +14,12 @@ use crate::fields::{NameTable, first_values};
 use crate::lines::lines_of;
 use crate::table::FieldTable;
 use crate::types::types_of;
+use old_effect::form::Form;
+use old_effect::value::Value;
+use old_object::Program;
+use old_object::laws::plain_rows_are_programs;
+use old_object::row::Rows;
 use rpg_cards::{SpecCard, input_file, output_file};
-use rpg_effect::form::Form;
-use rpg_effect::value::Value;
-use rpg_object::Program;
-use rpg_object::laws::plain_rows_are_programs;
-use rpg_object::row::Rows;
 use rpg_sheet::FileSpec;
 use std::alloc::{AllocError, Global};
 

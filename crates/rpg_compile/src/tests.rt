@@ -1,11 +1,11 @@
 //! Sources with their programs, row by row, and sources that are refused.
 
 use crate::{CompileFault, FaultCode, SheetCode, SourceCode, compile};
-use rpg_effect::form::{Class, Kind};
-use rpg_effect::line::{File, Time};
-use rpg_effect::operation::{Action, Instruction};
-use rpg_effect::value::Value;
-use rpg_object::Program;
+use old_effect::form::{Class, Kind};
+use old_effect::line::{File, Time};
+use old_effect::operation::{Action, Instruction};
+use old_effect::value::Value;
+use old_object::Program;
 use std::alloc::Global;
 use std::test::Fail;
 use std::vec::Vec;

@@ -2,12 +2,12 @@
 
 ghost use Rattle.std.specs.Prelude.{◌≡◌, ◌≤◌, All, length, map, IfOk};
 ghost use Rattle.rpg_compile.specs.Tables as tables;
-ghost use Rattle.rpg_object.specs.Kept.{IsMoveRow, IsTypeRow};
-ghost use Rattle.rpg_object.specs.Object.{type_row};
+ghost use Rattle.old_object.specs.Kept.{IsMoveRow, IsTypeRow};
+ghost use Rattle.old_object.specs.Object.{type_row};
 
 use crate::table::FieldTable;
+use old_object::row::{Move, RecordType};
 use rpg_cards::SpecCard;
-use rpg_object::row::{Move, RecordType};
 use std::alloc::{AllocError, Global};
 
 /// A type for each type card.

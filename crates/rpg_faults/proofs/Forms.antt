@@ -2,11 +2,11 @@
 use Rattle.std.proofs.Common.{◌≡◌, Bool, true, false, ℕ, refl}
 use Rattle.std.proofs.lemmas.Bool.{and_parts, eqb-true}
 use Rattle.std.specs.Prelude.{◌==◌}
-use Rattle.rpg_effect.specs.declared.form.Class.{Class}
-use Rattle.rpg_effect.specs.declared.form.Class.TheVariants as class
-use Rattle.rpg_effect.specs.declared.form.Form.{Form}
-use Rattle.rpg_effect.specs.declared.form.Kind.{Kind}
-use Rattle.rpg_effect.specs.declared.form.Kind.TheVariants as kind
+use Rattle.old_effect.specs.declared.form.Class.{Class}
+use Rattle.old_effect.specs.declared.form.Class.TheVariants as class
+use Rattle.old_effect.specs.declared.form.Form.{Form}
+use Rattle.old_effect.specs.declared.form.Kind.{Kind}
+use Rattle.old_effect.specs.declared.form.Kind.TheVariants as kind
 use Rattle.rpg_faults.specs.Names.{same_kind, class_number, same_flag, same_form}
 
 kind_equal : (a b : Kind) → same_kind a b ≡ true → a ≡ b

@@ -7,7 +7,7 @@ use Rattle.std.specs.Prelude.{◌&&◌, nat_le, nat_lt}
 use Rattle.std.specs.Option.{option_and_then}
 use Rattle.rpg_cards.specs.Names.{definition_on, form_of_name}
 use Rattle.rpg_cards.specs.declared.spec_card.SpecCard.{SpecCard}
-use Rattle.rpg_effect.specs.declared.form.Form.{Form}
+use Rattle.old_effect.specs.declared.form.Form.{Form}
 use Rattle.rpg_faults.specs.Limits.{bytes_by, bytes_of, bytes_on, bytes_from, bytes_in, most_bytes_in}
 use Rattle.rpg_faults.specs.Names.{is_missing}
 

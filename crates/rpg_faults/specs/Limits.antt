@@ -5,7 +5,7 @@ use Rattle.rpg_cards.specs.Constants.{constant_form, new_first, new_second}
 use Rattle.rpg_cards.specs.Names.{definition_on, form_of_name}
 use Rattle.rpg_cards.specs.declared.constants.Constant.{Constant}
 use Rattle.rpg_cards.specs.declared.spec_card.SpecCard.{SpecCard}
-use Rattle.rpg_effect.specs.declared.form.Form.{Form}
+use Rattle.old_effect.specs.declared.form.Form.{Form}
 use Rattle.rpg_sheet.specs.declared.input.InputSpec.TheVariants as input
 use Rattle.rpg_sheet.specs.declared.output.OutputSpec.TheVariants as output
 use Rattle.rpg_sheet.specs.declared.spec.Spec.{Spec}

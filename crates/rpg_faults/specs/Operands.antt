@@ -8,14 +8,14 @@ use Rattle.rpg_cards.specs.Operations.{columns}
 use Rattle.rpg_cards.specs.declared.names.Defined.{Defined}
 use Rattle.rpg_cards.specs.declared.names.Defined.TheVariants.{Missing, Bad, Good}
 use Rattle.rpg_cards.specs.declared.spec_card.SpecCard.{SpecCard}
-use Rattle.rpg_effect.specs.declared.form.Class.{Class}
-use Rattle.rpg_effect.specs.declared.form.Class.TheVariants as class
+use Rattle.old_effect.specs.declared.form.Class.{Class}
+use Rattle.old_effect.specs.declared.form.Class.TheVariants as class
 use Rattle.rpg_cards.specs.declared.operations.Kinds.{Kinds}
 use Rattle.rpg_cards.specs.declared.operations.Kinds.TheVariants.{Numbers, Alike, Any}
 use Rattle.rpg_cards.specs.declared.operations.Need.{Need}
-use Rattle.rpg_effect.specs.declared.form.Form.{Form}
-use Rattle.rpg_effect.specs.declared.form.Kind.{Kind}
-use Rattle.rpg_effect.specs.declared.form.Kind.TheVariants as kind
+use Rattle.old_effect.specs.declared.form.Form.{Form}
+use Rattle.old_effect.specs.declared.form.Kind.{Kind}
+use Rattle.old_effect.specs.declared.form.Kind.TheVariants as kind
 use Rattle.rpg_sheet.specs.declared.calculation.CalculationSpec.{CalculationSpec}
 use Rattle.rpg_sheet.specs.declared.calculation.Operation.{Operation}
 use Rattle.rpg_sheet.specs.declared.literal.Factor.{Factor}

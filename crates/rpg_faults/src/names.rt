@@ -6,8 +6,8 @@ ghost use Rattle.rpg_cards.specs.Names.{form_of_name};
 ghost use Rattle.rpg_faults.specs.Cards.{operand};
 ghost use Rattle.rpg_faults.specs.Names as names;
 
+use old_effect::form::{Class, Form, Kind};
 use rpg_cards::{Defined, Need, SpecCard, columns, form_of_name, sized_form};
-use rpg_effect::form::{Class, Form, Kind};
 use rpg_sheet::{CalculationSpec, Factor, OutputField};
 use rpg_symbols::Name;
 

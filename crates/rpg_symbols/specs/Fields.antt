@@ -3,10 +3,10 @@ use Rattle.std.specs.Prelude.{◌≡◌, ◌≢◌, ℕ, ◌+◌, ◌*◌, ◌�
 use Rattle.std.specs.Option.{option_map}
 use Rattle.std.specs.Map.{lookup, keys_of}
 use Rattle.std.specs.Cmp.Lexicographic.{pointwise}
-use Rattle.rpg_effect.specs.declared.form.Form.{Form}
-use Rattle.rpg_effect.specs.declared.form.Kind.TheVariants as kind
-use Rattle.rpg_effect.specs.declared.form.Class.{Class}
-use Rattle.rpg_effect.specs.declared.form.Class.TheVariants as class
+use Rattle.old_effect.specs.declared.form.Form.{Form}
+use Rattle.old_effect.specs.declared.form.Kind.TheVariants as kind
+use Rattle.old_effect.specs.declared.form.Class.{Class}
+use Rattle.old_effect.specs.declared.form.Class.TheVariants as class
 use Rattle.rpg_symbols.specs.declared.symbols.DefineFault.{DefineFault}
 use Rattle.rpg_symbols.specs.declared.symbols.DefineFault.TheVariants.{Other, Full, NoMemory}
 

@@ -6,7 +6,7 @@ ghost use Rattle.rpg_symbols.specs.Fields.{given, number_form, number_of, size_o
 ghost use Rattle.rpg_symbols.specs.declared.symbols.DefineFault.TheVariants.{NoMemory};
 
 use indexmap::IndexMap;
-use rpg_effect::form::{Class, Form, Kind};
+use old_effect::form::{Class, Form, Kind};
 use rpg_sheet::Word;
 use std::alloc::{AllocFailed, Global};
 use std::marker::Model;

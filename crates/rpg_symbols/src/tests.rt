@@ -1,7 +1,7 @@
 //! Names, their numbers and the limits.
 
 use crate::symbols::{DefineFault, Name, Symbols};
-use rpg_effect::form::{Class, Form, Kind};
+use old_effect::form::{Class, Form, Kind};
 use std::test::Fail;
 
 fn number(length: u16, entries: u16) -> Form {

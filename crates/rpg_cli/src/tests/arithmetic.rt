@@ -3,9 +3,9 @@
 use crate::tests::arithmetic_sources::{BY_ZERO, HALVES, LARGEST, PLACES, ROUNDED_THIRDS, THIRDS};
 use crate::tests::compiling::{Row, copied};
 use crate::{compile_to_bytes, run_records};
+use old_cycle::JobEnd;
+use old_object::decode;
 use rpg_compile::{CompileFault, FaultCode, SourceCode};
-use rpg_cycle::JobEnd;
-use rpg_object::decode;
 use std::test::Fail;
 
 /// Negative numbers have a letter in their last place: N is a negative 5, P 7, Q 8, K 2.

@@ -3,8 +3,8 @@
 use crate::tests::files::{path, said};
 use crate::tests::sources::{LISTER, LONG_CARD, OUT_OF_ORDER, TOTAL, UNDEFINED};
 use crate::{compile_to_bytes, run_records};
-use rpg_cycle::JobEnd;
-use rpg_object::decode;
+use old_cycle::JobEnd;
+use old_object::decode;
 use std::alloc::{AllocError, Global};
 use std::test::Fail;
 use std::{env, fs};

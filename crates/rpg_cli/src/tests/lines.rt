@@ -1,8 +1,8 @@
 //! The line and the status of each answer.
 
 use crate::{Answer, line};
+use old_effect::outcome::Wrong;
 use rpg_compile::{FaultCode, SheetCode, SourceCode};
-use rpg_effect::outcome::Wrong;
 use rpg_format::fault::Code;
 use std::test::Fail;
 

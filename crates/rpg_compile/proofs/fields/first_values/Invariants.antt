@@ -1,6 +1,6 @@
 use Rattle.std.proofs.Common.{◌≡◌, ◌++◌, drop, map}
 use Rattle.rpg_compile.specs.Fields.{first_value}
-use Rattle.rpg_effect.specs.Values.{held}
+use Rattle.old_effect.specs.Values.{held}
 use Rattle.rpg_compile.proofs.fields.first_values.Given as goal
 
 abbrev pub invariant-loop-form : goal.invariant-loop-form

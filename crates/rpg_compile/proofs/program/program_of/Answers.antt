@@ -4,9 +4,9 @@ use Rattle.rpg_compile.specs.Code.{code_of}
 use Rattle.rpg_compile.specs.Program.{length_of}
 use Rattle.rpg_compile.specs.Tables.{types_of, lines_of}
 use Rattle.rpg_compile.proofs.Plain.{plain, made_of}
-use Rattle.rpg_effect.specs.declared.operation.Instruction.{Instruction}
-use Rattle.rpg_object.specs.Kept.{IsTypeRow, IsLineRow, IsInstructionRow, IsPlainProgram}
-use Rattle.rpg_object.specs.Object.{TypeRow, LineRow}
+use Rattle.old_effect.specs.declared.operation.Instruction.{Instruction}
+use Rattle.old_object.specs.Kept.{IsTypeRow, IsLineRow, IsInstructionRow, IsPlainProgram}
+use Rattle.old_object.specs.Object.{TypeRow, LineRow}
 use Rattle.rpg_compile.proofs.program.program_of.Goals as goal
 
 pub build-requires : goal.build-requires

@@ -1,8 +1,8 @@
 use Rattle.std.proofs.Common.{◌≤◌, length}
 use Rattle.rpg_compile.proofs.RowLemmas.{all_head, all_tail, one_more_row, all_with_one_more, types_of-card}
 use Rattle.rpg_compile.specs.Tables.{type_of, types_of}
-use Rattle.rpg_object.specs.Kept.{IsTypeRow}
-use Rattle.rpg_object.specs.Object.{type_row, TypeRow}
+use Rattle.old_object.specs.Kept.{IsTypeRow}
+use Rattle.old_object.specs.Object.{type_row, TypeRow}
 use Rattle.rpg_compile.proofs.types.types_of.Goals as goal
 
 pub type_of-requires : goal.type_of-requires

@@ -1,8 +1,8 @@
 use Rattle.std.proofs.Common.{◌≡◌, ◌≤◌, ◌++◌, map, length}
 use Rattle.std.specs.Prelude.{All}
 use Rattle.rpg_compile.specs.Tables.{types_of}
-use Rattle.rpg_object.specs.Kept.{IsTypeRow}
-use Rattle.rpg_object.specs.Object.{type_row, TypeRow}
+use Rattle.old_object.specs.Kept.{IsTypeRow}
+use Rattle.old_object.specs.Object.{type_row, TypeRow}
 use Rattle.rpg_compile.proofs.types.types_of.Given as goal
 
 abbrev pub invariant-loop-card : goal.invariant-loop-card

@@ -1,5 +1,0 @@
-use Rattle.rpg_object.proofs.ObjectLaws.{same_spelling}
-use Rattle.rpg_object.proofs.laws.a_spelling_is_of_one_program.Goals as goal
-
-pub returns : goal.returns
-returns c = same_spelling
