@@ -13,8 +13,6 @@ mod records;
 mod report;
 mod sending;
 mod source_code;
-#[cfg(test)]
-mod tests;
 mod text;
 mod translation;
 

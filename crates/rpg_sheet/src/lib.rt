@@ -13,8 +13,6 @@ mod output;
 mod sheet;
 mod source;
 mod spec;
-#[cfg(test)]
-mod tests;
 mod values;
 mod word;
 
