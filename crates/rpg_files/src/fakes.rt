@@ -1,6 +1,6 @@
 //! Readers and writers for tests: they cut, interrupt and fail.
 
-ghost use Rattle.std.specs.Prelude.{Some, replicate, []};
+ghost use Rattle.std.specs.Prelude.{◌≡◌, ◌<◌, ◌↔◌, IsTrue, Some, replicate, []};
 
 use std::io::{self, ErrorKind, Read, Write};
 
@@ -95,26 +95,17 @@ impl Write for FullWriter {
 /// Interrupts so many times before each call of the device.
 #[derive(Drop)]
 pub struct Interrupting<T> {
-    device: T,
-    times: u32,
+    pub device: T,
+    pub times: u32,
     /// How many times since the last call of the device.
-    interrupted: u32,
+    pub interrupted: u32,
 }
 
 impl<T> Interrupting<T> {
-    pub fn new(device: T, times: u32) -> Interrupting<T> {
-        Interrupting {
-            device,
-            times,
-            interrupted: 0,
-        }
-    }
-
-    pub fn into_device(self) -> T {
-        self.device
-    }
-
-    fn interrupts(&mut self) -> bool {
+    fn interrupts(&mut self) -> bool
+        ensures device { self.new.device ≡ self.old.device }
+        ensures while_few { IsTrue result ↔ (self.old.interrupted < self.old.times) }
+    {
         if self.interrupted >= self.times {
             self.interrupted = 0;
             return false;
@@ -125,6 +116,8 @@ impl<T> Interrupting<T> {
 }
 
 impl<R: Read> Read for Interrupting<R> {
+    ghost remaining = { λ r. R.remaining r.device };
+
     fn read(&mut self, buf: &mut [u8]) -> io::Result<usize> {
         if self.interrupts() {
             return Err(io::Error::from(ErrorKind::Interrupted));
@@ -134,6 +127,8 @@ impl<R: Read> Read for Interrupting<R> {
 }
 
 impl<W: Write> Write for Interrupting<W> {
+    ghost contents = { λ w. W.contents w.device };
+
     fn write(&mut self, buf: &[u8]) -> io::Result<usize> {
         if self.interrupts() {
             return Err(io::Error::from(ErrorKind::Interrupted));
