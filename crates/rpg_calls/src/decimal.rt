@@ -2,7 +2,7 @@
 ghost use Rattle.std.specs.Prelude.{◌≡◌, ◌↔◌, ◌<◌, ◌≤◌, ◌^◌, pos, length, unsigned_abs, false, IfOk, IfErr, Err};
 ghost use Rattle.std.specs.Bool.{OnTrue};
 ghost use Rattle.std.specs.Result.{result_ok};
-ghost use Rattle.rpg_decimal.specs.Fraction.{Fraction, aligned_number, fraction_cmp, over, rest_decimals, rest_of, stored_number, with_decimals};
+ghost use Rattle.rpg_decimal.specs.Fraction.{aligned_number, fraction_cmp, over, rest_decimals, rest_of, stored_number};
 ghost use Rattle.rpg_decimal.specs.Num.{value_of};
 ghost use Rattle.rpg_decimal.specs.Order.{text_cmp};
 ghost use Rattle.rpg_decimal.specs.Whole as whole;
