@@ -1,9 +1,8 @@
 -- A call of a reader of records, from what it read.
-use Rattle.std.proofs.Common.{◌≡◌, ℕ, ◌+◌, ◌<◌, ◌≤◌, Bool, true, false, List, [], ◌∷◌, ◌++◌, length, Option, refl, sym, ap, subst, ◌∙◌, append_assoc}
-use Rattle.std.specs.Io.KnownBytes.{Consumes, IsAtEnd}
+use Rattle.std.proofs.Common.{◌≡◌, ℕ, Bool, List, ◌++◌, Option, sym, ap, subst, ◌∙◌, append_assoc}
 use Rattle.rpg_files.specs.NextLine.{CanFollow}
 use Rattle.rpg_files.specs.Reads.{Reads}
-use Rattle.rpg_files.specs.Reading.{Advances, Input}
+use Rattle.rpg_files.specs.Reading.{Advances}
 
 pub advances : (a b : Option (List ℕ)) (old mid whole new : List ℕ) (ended ended' : Bool) (Fact : List ℕ → List ℕ → Type 0) → mid ≡ old → Reads a b mid whole ended ended'
     → ((more : List ℕ) → CanFollow ended' more → Fact (whole ++ more) (new ++ more))

@@ -1,12 +1,12 @@
 -- The answers of a reader in a row.
-use Rattle.std.proofs.Common.{◌≡◌, ℕ, zero, suc, ◌+◌, ◌-◌, ◌<◌, ◌≤◌, Bool, true, false, ◌&&◌, nat_lt, if◌then◌else◌, List, [], ◌∷◌, ◌++◌, length, take, take_while, Option, Some, None, Result, Ok, Err, refl, sym, ap, subst, ◌∙◌, arith, inl, inr}
+use Rattle.std.proofs.Common.{◌≡◌, ℕ, zero, suc, ◌+◌, ◌-◌, ◌<◌, true, false, nat_lt, if◌then◌else◌, List, [], ◌∷◌, ◌++◌, length, take, take_while, Option, Some, None, Result, Ok, Err, refl, sym, ap, subst, ◌∙◌, arith, inl, inr}
 use Rattle.std.specs.List.{list_all, prefix_len}
 use Rattle.std.specs.Io.KnownBytes.{Consumes, IsAtEnd}
 use Rattle.std.proofs.lemmas.Bool.{cases_Bool, lt-ltb, le-ltb, ltb-true, ltb-false, ne_eqb}
 use Rattle.std.proofs.lemmas.List.{append-nil}
 use Rattle.rpg_files.specs.Answers.{GivesAll, is_device_fault, given_records, input_with, last_answer}
 use Rattle.rpg_files.specs.NextLine.{CanFollow}
-use Rattle.rpg_files.specs.Records.{records, is_good, max_records, BeginsBad}
+use Rattle.rpg_files.specs.Records.{records, is_good, max_records}
 use Rattle.rpg_files.specs.Reading.{Advances, Gives, Input, is_record}
 use Rattle.rpg_files.proofs.Lines.{some_record}
 use Rattle.rpg_files.specs.declared.reader.Next.{Next}

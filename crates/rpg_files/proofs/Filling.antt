@@ -1,8 +1,7 @@
 -- A buffer whose front was given, and one that was filled.
-use Rattle.std.proofs.Common.{◌≡◌, ℕ, zero, suc, ◌+◌, ◌-◌, ◌<◌, ◌≤◌, List, [], ◌++◌, length, take, drop, slice_range, Option, Some, None, Result, Ok, Err, refl, sym, ap, subst, ◌∙◌, arith, length-take, length-drop}
-use Rattle.std.specs.Io.KnownBytes.{Consumes, IsAtEnd, Keeps, ReadConsumes}
-use Rattle.std.proofs.KnownBytes.{Consumes-nil, Consumes-kept, Consumes-trans}
-use Rattle.std.proofs.lemmas.List.{drop-take, drop-drop, length-take-le, take_all, append-nil}
+use Rattle.std.proofs.Common.{◌≡◌, ℕ, ◌+◌, ◌-◌, ◌<◌, ◌≤◌, List, ◌++◌, length, take, drop, slice_range, Option, Ok, sym, ap, ◌∙◌, arith, length-take, length-drop}
+use Rattle.std.specs.Io.KnownBytes.{ReadConsumes}
+use Rattle.std.proofs.lemmas.List.{drop-take, drop-drop, length-take-le}
 use Rattle.std.proofs.Math.Seq.{take-add}
 use Rattle.std.proofs.Math.Nat.{sub-zero}
 use Rattle.rpg_files.specs.Reads.{Fills}

@@ -5,4 +5,4 @@ pub mod Characters
 pub mod Filling
 pub mod FirstLines
 pub mod Lines
-pub mod Searching
+pub mod NextLines

@@ -1,5 +1,5 @@
 -- All answers of a reader of records, over a whole input.
-use Rattle.std.specs.Prelude.{◌≡◌, ℕ, ◌+◌, Bool, true, false, nat_lt, if◌then◌else◌, List, [], ◌∷◌, ◌++◌, length, take, take_while, Option, Some, Result, Ok, Err}
+use Rattle.std.specs.Prelude.{◌≡◌, ℕ, ◌+◌, Bool, true, false, nat_lt, if◌then◌else◌, List, [], ◌∷◌, ◌++◌, length, take, take_while, Some, Result, Ok, Err}
 use Rattle.std.specs.List.{list_all}
 use Rattle.rpg_files.specs.Records.{records, is_good, max_records}
 use Rattle.rpg_files.specs.Reading.{Advances, Gives, Input, is_record}

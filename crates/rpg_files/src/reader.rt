@@ -10,10 +10,10 @@ use crate::input::{NextLine, has_more, read_line};
 use std::alloc::{AllocError, Global};
 use std::io::Read;
 
-/// The most bytes of one read.
-const PIECE: usize = 65_536;
+/// Each read has room for this many bytes at least.
+const READ_ROOM: usize = 65_536;
 
-/// The most records of an input (this profile).
+/// The most records of an input.
 const MAX_RECORDS: u32 = 10_000_000;
 
 /// What stands next in an input.
@@ -80,7 +80,7 @@ impl<'a, R> RecordReader<'a, R> {
         ensures untouched { IfOk result (λ r. source_of r ≡ reader.old) }
         ensures fresh { IfOk result (λ r. IsFresh limit r) }
     {
-        let buffer = Buffer::with_capacity(alloc, PIECE + limit as usize + 1)?;
+        let buffer = Buffer::with_capacity(alloc, READ_ROOM + limit as usize + 1)?;
         Ok(RecordReader {
             reader,
             buffer,

@@ -1,4 +1,4 @@
-use Rattle.std.proofs.Common.{◌<◌, ◌≢◌, length, arith}
+use Rattle.std.proofs.Common.{arith}
 use Rattle.rpg_files.proofs.FirstLines.{whole_at_end, return_at_end}
 use Rattle.rpg_files.proofs.input.last_line.Goals as goal
 

@@ -1,6 +1,6 @@
-use Rattle.std.proofs.Common.{◌≡◌, ◌+◌, ◌≤◌, true, length, arith, sym}
+use Rattle.std.proofs.Common.{◌≡◌, ◌+◌, ◌≤◌, length, arith}
 use Rattle.rpg_files.specs.Buffers.{bytes_of, capacity_of}
-use Rattle.rpg_files.proofs.Searching.{open_short, reads_longer, comes_nearer, found_at_end}
+use Rattle.rpg_files.proofs.NextLines.{open_short, reads_longer, comes_nearer, found_at_end}
 use Rattle.rpg_files.proofs.input.read_line.Goals as goal
 
 pub returns-in-Bad-clause-ok : goal.returns-in-Bad-clause-ok

@@ -1,4 +1,4 @@
-use Rattle.std.proofs.Common.{◌≡◌, ◌+◌, ◌-◌, ◌<◌, ◌≤◌, true, length, take, if◌then◌else◌}
+use Rattle.std.proofs.Common.{◌≡◌, ◌+◌, ◌-◌, ◌≤◌, true, length, take, if◌then◌else◌}
 use Rattle.std.specs.List.{list_all}
 use Rattle.rpg_files.specs.Counting.{device_of, faults_of}
 use Rattle.rpg_files.specs.Reads.{Reads}

@@ -1,4 +1,4 @@
-use Rattle.std.proofs.Common.{ℕ, ◌+◌, arith, length-drop}
+use Rattle.std.proofs.Common.{◌+◌, arith, length-drop}
 use Rattle.std.proofs.lemmas.List.{take_rest}
 use Rattle.rpg_files.proofs.FirstLines.{joined, too_long, open_whole}
 use Rattle.rpg_files.proofs.line.first_line.Goals as goal

@@ -1,5 +1,5 @@
-use Rattle.std.proofs.Common.{◌≡◌, ◌≢◌, ◌+◌, ◌<◌, get_or, length, sym, ◌∙◌, arith, rules}
-use Rattle.rpg_files.proofs.FirstLines.{line_feed_ends, return_ends, neither_ends, lone_return_ends, open_at_return}
+use Rattle.std.proofs.Common.{◌≢◌, get_or, sym, ◌∙◌, arith, rules}
+use Rattle.rpg_files.proofs.FirstLines.{line_feed_ends, return_ends, neither_ends, lone_return_ends}
 use Rattle.rpg_files.proofs.line.line_ended_at.Goals as goal
 
 pub returns-in-10 : goal.returns-in-10

@@ -1,4 +1,4 @@
-use Rattle.std.proofs.Common.{◌≡◌, ℕ, ◌+◌, ◌≤◌, Bool, true, false, Result, Ok, Err, inl, inr, arith, ap}
+use Rattle.std.proofs.Common.{ℕ, ◌+◌, ◌≤◌, Result, Ok, Err, inl, inr, arith, ap}
 use Rattle.std.proofs.lemmas.Bool.{cases_Bool}
 use Rattle.rpg_files.specs.Counting.{faults_of}
 use Rattle.rpg_files.specs.Reading.{answer_of, device_faults_after, is_record, source_of}

@@ -1,4 +1,4 @@
-use Rattle.std.proofs.Common.{◌≡◌, ◌<◌, ◌≤◌, length, slice_range, sym, subst, arith, rules, List, ℕ, take, drop}
+use Rattle.std.proofs.Common.{◌≡◌, ◌<◌, length, rules, take, drop}
 use Rattle.std.proofs.lemmas.List.{with_items_is}
 use Rattle.rpg_files.proofs.Filling.{filled}
 use Rattle.rpg_files.proofs.buffer.Buffer.fill.Goals as goal

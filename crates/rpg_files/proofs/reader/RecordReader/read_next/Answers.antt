@@ -1,4 +1,4 @@
-use Rattle.std.proofs.Common.{◌≡◌, ◌<◌, ◌≤◌, refl, arith}
+use Rattle.std.proofs.Common.{◌<◌, ◌≤◌, refl, arith}
 use Rattle.rpg_files.proofs.Advancing.{advances}
 use Rattle.rpg_files.proofs.reader.RecordReader.read_next.Goals as goal
 

@@ -1,5 +1,5 @@
--- How far a search of the front can go on.
-use Rattle.std.proofs.Common.{◌≡◌, ℕ, ◌+◌, ◌-◌, ◌<◌, ◌≤◌, Bool, true, false, if◌then◌else◌, List, [], ◌∷◌, ◌++◌, length, drop, Option, refl, sym, ap, subst, arith, length-append, length-drop, inl, inr}
+-- How far the reading of a line can go on, and what it is at the end of the input.
+use Rattle.std.proofs.Common.{◌≡◌, ℕ, ◌+◌, ◌-◌, ◌<◌, ◌≤◌, Bool, true, false, if◌then◌else◌, List, length, drop, Option, refl, sym, ap, subst, arith, length-append, length-drop, inl, inr}
 use Rattle.rpg_files.specs.NextLine.{IsNextLine}
 use Rattle.rpg_files.specs.FirstLine.{IsIncomplete}
 use Rattle.rpg_files.specs.declared.input.NextLine.{NextLine}
