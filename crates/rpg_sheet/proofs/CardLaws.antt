@@ -1,7 +1,7 @@
 -- The law of each card, one line for each range of columns.
 use Rattle.std.proofs.Common.{ℕ, ◌+◌, ◌≤◌, lit≤}
-use Rattle.rpg_sheet.specs.Columns.{Columns, also, past}
-use Rattle.rpg_sheet.specs.Tables.{header, file, type_card, field_card, is_field_card, input_card, calculation_card, no_conditions, resulting_indicators, conditions, record_card, output_field_card, output_card}
+use Rattle.rpg_spec.specs.Columns.{Columns, also, past}
+use Rattle.rpg_spec.specs.Tables.{header, file, type_card, field_card, is_field_card, input_card, calculation_card, no_conditions, resulting_indicators, conditions, record_card, output_field_card, output_card}
 use Rattle.rpg_sheet.proofs.Laws.{IsTable, values_law, at_law, blank_law, also_law, past_law, where_law}
 
 infixl 7 ◌⊛◌

@@ -3,7 +3,7 @@
 
 mod symbols;
 
-pub use rpg_sheet::Indicator;
+pub use rpg_spec::Indicator;
 pub use symbols::{DefineFault, Name, Symbols};
 
 #[cfg(test)]

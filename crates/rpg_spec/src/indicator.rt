@@ -1,10 +1,11 @@
 //! Indicators, and the conditions that name them.
 
+use std::alloc::AllocError;
 use std::marker::Model;
 
 /// An indicator by its number: 1 to 99, L0 to L9 (100 to 109), LR (110), 1P (111), OA to OG and OV
 /// (112 to 119), H1 to H9 (120 to 128), MR (129).
-#[derive(Clone, Copy, Debug, PartialEq, Eq)]
+#[derive(Clone, Copy)]
 pub struct Indicator {
     number: u8,
 }
@@ -42,16 +43,22 @@ impl Indicator {
 }
 
 /// An indicator that must be on, or off where it is negated.
-#[derive(Clone, Copy, Debug, PartialEq, Eq)]
+#[derive(Clone, Copy)]
 pub struct Condition {
     pub negated: bool,
     pub indicator: Indicator,
 }
 
 /// Three of a kind, in the order of their columns.
-#[derive(Clone, Copy, Debug, PartialEq, Eq, Drop)]
+#[derive(Copy, Drop)]
 pub struct Three<T> {
     pub first: T,
     pub second: T,
     pub third: T,
+}
+
+impl<T: Copy> Clone for Three<T> {
+    fn clone(&self) -> Result<Self, AllocError> {
+        Ok(*self)
+    }
 }

@@ -1,12 +1,12 @@
 -- What a card stands for.
 use Rattle.std.specs.Prelude.{List, ℕ, Option, option_map, option_and_then}
 use Rattle.std.specs.Result.{result_ok}
-use Rattle.rpg_sheet.specs.declared.sheet.FormType.{FormType}
-use Rattle.rpg_sheet.specs.declared.sheet.FormType.TheVariants as form
-use Rattle.rpg_sheet.specs.declared.spec.Spec.{Spec}
-use Rattle.rpg_sheet.specs.declared.spec.Spec.TheVariants as spec
-use Rattle.rpg_sheet.specs.Sheet.{sheet_of}
-use Rattle.rpg_sheet.specs.Tables.{header, file, input_card, calculation_card, output_card}
+use Rattle.rpg_spec.specs.declared.form_type.FormType.{FormType}
+use Rattle.rpg_spec.specs.declared.form_type.FormType.TheVariants as form
+use Rattle.rpg_spec.specs.declared.spec.Spec.{Spec}
+use Rattle.rpg_spec.specs.declared.spec.Spec.TheVariants as spec
+use Rattle.rpg_spec.specs.Cards.{sheet_of}
+use Rattle.rpg_spec.specs.Tables.{header, file, input_card, calculation_card, output_card}
 
 -- what a card on a sheet stands for: nothing where a column is bad
 abbrev pub spec_on : List ℕ → FormType → Option Spec

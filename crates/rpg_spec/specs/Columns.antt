@@ -1,7 +1,7 @@
 -- What the columns of a card hold: one line for each range of columns.
 use Rattle.std.specs.Prelude.{◌≡◌, ◌≤◌, ◌<◌, length, slice_index, ℕ, ◌+◌, ◌-◌, List, [], ◌∷◌, ◌++◌, Bool, Option, None, Some, Result, Ok, Err, slice_range, position, if◌then◌else◌, ◌==◌, not}
 use Rattle.std.specs.Option.{ok_or}
-use Rattle.rpg_sheet.specs.declared.card.ColumnFault.{ColumnFault}
+use Rattle.rpg_spec.specs.declared.column.ColumnFault.{ColumnFault}
 
 -- the columns from a to b of a card
 abbrev pub cols : ℕ → ℕ → List ℕ → List ℕ

@@ -2,8 +2,8 @@
 use Rattle.std.proofs.Common.{ℕ, suc, ◌+◌, ◌≤◌, List, [], ◌∷◌, length, Option, None, Some, arith}
 use Rattle.rpg_cards.specs.declared.spec_card.SpecCard.{SpecCard}
 use Rattle.rpg_cards.specs.Cards.{with_spec, numbered_from, Numbered}
-use Rattle.rpg_sheet.specs.Specs.{spec_of}
-use Rattle.rpg_sheet.specs.declared.spec.Spec.{Spec}
+use Rattle.rpg_spec.specs.Specs.{spec_of}
+use Rattle.rpg_spec.specs.declared.spec.Spec.{Spec}
 
 -- a lower bound may be lowered
 lower : (low more : ℕ) (cs : List SpecCard) → Numbered more cs → low ≤ more → Numbered low cs

@@ -1,6 +1,6 @@
 use Rattle.std.proofs.Common.{◌≡◌, ◌≤◌, ◌+◌, ◌++◌, length}
 use Rattle.rpg_cards.specs.Cards as cards_of
-use Rattle.rpg_cards.proofs.spec_card.numbered.Given as goal
+use Rattle.rpg_compile.proofs.cards.numbered.Given as goal
 
 -- the cards that are done, and those left
 abbrev pub invariant-loop-card : goal.invariant-loop-card

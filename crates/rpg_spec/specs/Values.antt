@@ -1,32 +1,19 @@
 -- What the text of a range of columns stands for.
 use Rattle.std.specs.Prelude.{ℕ, ◌+◌, ◌-◌, ◌*◌, ℤ, pos, neg_ℤ, List, [], ◌∷◌, ◌++◌, length, take, drop, slice_index, slice_range, Bool, true, false, Option, None, Some, if◌then◌else◌, ◌==◌, ◌&&◌, ◌||◌, not, nat_le, nat_lt, codes}
-use Rattle.std.specs.List.{list_all, prefix_len, suffix_len, before_first, after_first}
+use Rattle.std.specs.List.{list_all, prefix_len, before_first, after_first}
 use Rattle.std.specs.Option.{option_map, option_and_then, option_or}
 use Rattle.std.specs.Char.{is_ascii_digit, is_ascii_uppercase}
 use Rattle.std.specs.Str.{bytes_eq}
 use Rattle.std.specs.Str.Parse.{digits_value, starts_with_minus, without_leading_sign}
-use Rattle.rpg_sheet.specs.declared.indicator.Condition.{Condition}
-use Rattle.rpg_sheet.specs.declared.literal.Literal.{Literal}
-use Rattle.rpg_sheet.specs.declared.literal.Literal.TheVariants as literals
-use Rattle.rpg_sheet.specs.declared.literal.Factor.{Factor}
-use Rattle.rpg_sheet.specs.declared.literal.Factor.TheVariants as factors
-use Rattle.rpg_sheet.specs.Numeral.{Numeral}
-
--- what may stand in a column
-abbrev pub is_character : ℕ → Bool
-is_character c = nat_le 32 c && nat_le c 126
+use Rattle.rpg_spec.specs.declared.indicator.Condition.{Condition}
+use Rattle.rpg_spec.specs.declared.literal.Literal.{Literal}
+use Rattle.rpg_spec.specs.declared.literal.Literal.TheVariants as literals
+use Rattle.rpg_spec.specs.declared.literal.Factor.{Factor}
+use Rattle.rpg_spec.specs.declared.literal.Factor.TheVariants as factors
+use Rattle.rpg_spec.specs.Numeral.{Numeral}
+use Rattle.rpg_text.specs.Texts.{is_blank, all_blank, trimmed}
 
 -- ---- texts
-
-abbrev pub is_blank : ℕ → Bool
-is_blank c = c == 32
-
-abbrev pub all_blank : List ℕ → Bool
-all_blank text = list_all is_blank text
-
--- without the blanks at the end
-abbrev pub trimmed : List ℕ → List ℕ
-trimmed text = take (length text - suffix_len is_blank text) text
 
 -- without the blanks at the front
 abbrev pub right_part : List ℕ → List ℕ

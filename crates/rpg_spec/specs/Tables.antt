@@ -2,30 +2,31 @@
 -- 1-5 and 75-80 are free on every card, and further columns where a sheet's headline says so.
 use Rattle.std.specs.Prelude.{ℕ, List, [], ◌∷◌, Bool, Option, None, Some, if◌then◌else◌, codes}
 use Rattle.std.specs.Str.{bytes_eq}
-use Rattle.rpg_sheet.specs.declared.indicator.Three.{Three}
-use Rattle.rpg_sheet.specs.declared.indicator.Condition.{Condition}
-use Rattle.rpg_sheet.specs.declared.header.HeaderSpec.{HeaderSpec}
-use Rattle.rpg_sheet.specs.declared.file.FileSpec.{FileSpec}
-use Rattle.rpg_sheet.specs.declared.file.Direction.{Direction}
-use Rattle.rpg_sheet.specs.declared.file.Direction.TheVariants.{Input, Output}
-use Rattle.rpg_sheet.specs.declared.file.Device.{Device}
-use Rattle.rpg_sheet.specs.declared.file.Device.TheVariants as device
-use Rattle.rpg_sheet.specs.declared.input.RecordType.{RecordType}
-use Rattle.rpg_sheet.specs.declared.input.InputField.{InputField}
-use Rattle.rpg_sheet.specs.declared.input.InputSpec.{InputSpec}
-use Rattle.rpg_sheet.specs.declared.input.InputSpec.TheVariants as input
-use Rattle.rpg_sheet.specs.declared.literal.Factor.{Factor}
-use Rattle.rpg_sheet.specs.declared.calculation.Operation.{Operation}
-use Rattle.rpg_sheet.specs.declared.calculation.Operation.TheVariants as op
-use Rattle.rpg_sheet.specs.declared.calculation.CalculationSpec.{CalculationSpec}
-use Rattle.rpg_sheet.specs.declared.output.LineTime.{LineTime}
-use Rattle.rpg_sheet.specs.declared.output.LineTime.TheVariants as time
-use Rattle.rpg_sheet.specs.declared.output.OutputRecord.{OutputRecord}
-use Rattle.rpg_sheet.specs.declared.output.OutputField.{OutputField}
-use Rattle.rpg_sheet.specs.declared.output.OutputSpec.{OutputSpec}
-use Rattle.rpg_sheet.specs.declared.output.OutputSpec.TheVariants as output
-use Rattle.rpg_sheet.specs.Columns.{Columns, cols, values, at, at_with, blank, where_card, ◌⊛◌, ◌⊘◌}
-use Rattle.rpg_sheet.specs.Values.{all_blank, one_of, only, unused, blank_or, marked, number, digits, name, name_but, letters, quoted, factor, indicator, condition}
+use Rattle.rpg_spec.specs.declared.indicator.Three.{Three}
+use Rattle.rpg_spec.specs.declared.indicator.Condition.{Condition}
+use Rattle.rpg_spec.specs.declared.header.HeaderSpec.{HeaderSpec}
+use Rattle.rpg_spec.specs.declared.file.FileSpec.{FileSpec}
+use Rattle.rpg_spec.specs.declared.file.Direction.{Direction}
+use Rattle.rpg_spec.specs.declared.file.Direction.TheVariants.{Input, Output}
+use Rattle.rpg_spec.specs.declared.file.Device.{Device}
+use Rattle.rpg_spec.specs.declared.file.Device.TheVariants as device
+use Rattle.rpg_spec.specs.declared.input.RecordType.{RecordType}
+use Rattle.rpg_spec.specs.declared.input.InputField.{InputField}
+use Rattle.rpg_spec.specs.declared.input.InputSpec.{InputSpec}
+use Rattle.rpg_spec.specs.declared.input.InputSpec.TheVariants as input
+use Rattle.rpg_spec.specs.declared.literal.Factor.{Factor}
+use Rattle.rpg_spec.specs.declared.calculation.Operation.{Operation}
+use Rattle.rpg_spec.specs.declared.calculation.Operation.TheVariants as op
+use Rattle.rpg_spec.specs.declared.calculation.CalculationSpec.{CalculationSpec}
+use Rattle.rpg_spec.specs.declared.output.LineTime.{LineTime}
+use Rattle.rpg_spec.specs.declared.output.LineTime.TheVariants as time
+use Rattle.rpg_spec.specs.declared.output.OutputRecord.{OutputRecord}
+use Rattle.rpg_spec.specs.declared.output.OutputField.{OutputField}
+use Rattle.rpg_spec.specs.declared.output.OutputSpec.{OutputSpec}
+use Rattle.rpg_spec.specs.declared.output.OutputSpec.TheVariants as output
+use Rattle.rpg_spec.specs.Columns.{Columns, cols, values, at, at_with, blank, where_card, ◌⊛◌, ◌⊘◌}
+use Rattle.rpg_text.specs.Texts.{all_blank}
+use Rattle.rpg_spec.specs.Values.{one_of, only, unused, blank_or, marked, number, digits, name, name_but, letters, quoted, factor, indicator, condition}
 
 abbrev pub three : {X : Type 0} → X → X → X → Three X
 three a b c = record { first = a; second = b; third = c }

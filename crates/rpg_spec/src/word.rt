@@ -37,7 +37,7 @@ impl<const N: usize> Word<N> {
         Word { characters }
     }
 
-    pub(crate) fn push(&mut self, character: u8)
+    pub fn push(&mut self, character: u8)
         requires { length self.old < N }
         ensures { self.new ≡ self.old ++ character ∷ [] }
     {
