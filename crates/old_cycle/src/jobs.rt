@@ -13,7 +13,7 @@ use std::marker::Model;
 use thiserror::Error;
 
 /// Why a job didn't start.
-#[derive(Clone, Copy, Debug, PartialEq, Eq, Error)]
+#[derive(Clone, Copy, Debug, Error)]
 pub enum StartFault {
     #[error("the date is not six digits")]
     BadDate,
@@ -32,7 +32,7 @@ impl From<AllocError> for StartFault {
 }
 
 /// What a cycle led to.
-#[derive(Clone, Copy, Debug, PartialEq, Eq)]
+#[derive(Clone, Copy)]
 pub enum CycleEnd {
     GoesOn,
     EndOfJob,

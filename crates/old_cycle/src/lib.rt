@@ -11,6 +11,3 @@ mod runs;
 pub use flow::JobEnd;
 pub use jobs::{CycleEnd, Job, StartFault};
 pub use runs::{Run, run_records};
-
-#[cfg(test)]
-mod tests;

@@ -10,8 +10,6 @@ mod line;
 mod machine;
 mod memory;
 mod moving;
-#[cfg(test)]
-mod operation_tests;
 mod operations;
 mod output;
 mod places;
@@ -20,10 +18,6 @@ mod reading;
 mod section;
 mod showing;
 mod start;
-#[cfg(test)]
-mod tests;
-#[cfg(test)]
-mod text_tests;
 mod values;
 
 pub use date::Date;

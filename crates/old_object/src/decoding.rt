@@ -21,7 +21,7 @@ use std::error::Error;
 use std::fmt;
 
 /// Why bytes weren't decoded.
-#[derive(Clone, Copy, Debug, PartialEq, Eq)]
+#[derive(Clone, Copy, Debug)]
 pub enum DecodeFault {
     /// The first number that breaks its rule: where its first byte stands, counted from 0, and how it breaks it. A
     /// number that is cut short stands at the end of the bytes.

@@ -19,8 +19,3 @@ pub use decoding::{DecodeFault, decode};
 pub use encoding::encode;
 pub use program::Program;
 pub use rpg_format::fault::Code;
-
-#[cfg(test)]
-mod tests;
-#[cfg(test)]
-mod text_tests;

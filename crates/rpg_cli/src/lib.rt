@@ -5,8 +5,6 @@ mod answer;
 mod files;
 mod program;
 mod source_code;
-#[cfg(test)]
-mod tests;
 mod text;
 mod translation;
 

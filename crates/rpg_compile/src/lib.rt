@@ -16,6 +16,3 @@ pub use fault::{CompileFault, SourceCode};
 pub use rpg_faults::FaultCode;
 pub use rpg_sheet::SheetCode;
 pub use source::compile;
-
-#[cfg(test)]
-mod tests;

@@ -1,8 +1,10 @@
 //! Laws of the definitions that the other contracts cite. The functions do nothing: each is called for its contract alone.
-ghost use Rattle.std.specs.Prelude.{◌≡◌, ◌↔◌, ℕ, ◌^◌, ◌<◌, ◌≤◌, ℤ, Bool, List, length, unsigned_abs, Some};
+ghost use Rattle.std.specs.Prelude.{◌≡◌, ◌↔◌, ℕ, ◌^◌, ◌<◌, ◌≤◌, ℤ, Bool, List, length, nat_lt, unsigned_abs, IsTrue, Some};
+ghost use Rattle.std.specs.List.{list_all, range_with_len};
 ghost use Rattle.rpg_decimal.specs.Fraction.{Fraction, stored_number};
 ghost use Rattle.rpg_decimal.specs.Laws.{MovesFromRight, MovesFromLeft, MovesDigitsFromRight, MovesDigitsFromLeft, SpellsByPlaces, SpellsPlainly};
 ghost use Rattle.rpg_decimal.specs.Move.{overlay_right, overlay_left, number_moved_right, number_moved_left};
+ghost use Rattle.rpg_decimal.specs.Order.{collating_sequence, rank};
 ghost use Rattle.rpg_decimal.specs.Source.{moved_right, moved_left};
 ghost use Rattle.rpg_decimal.specs.Zoned.{zoned_text, number_in, Spells};
 ghost use Rattle.rpg_decimal.specs.declared.moves.Source.{Source};
@@ -30,4 +32,11 @@ pub fn stored_numbers_fit()
     ensures stored { (half : Bool) (dec len : ℕ) (p : Fraction) → unsigned_abs (stored_number half dec len p) < 10 ^ len }
     ensures right { (source : Source) (len : ℕ) (old n : ℤ) → 1 ≤ len → moved_right source len old ≡ Some n → unsigned_abs n < 10 ^ len }
     ensures left { (source : Source) (len : ℕ) (old n : ℤ) → 1 ≤ len → moved_left source len old ≡ Some n → unsigned_abs n < 10 ^ len }
+{}
+
+/// The collating sequence has each of the 95 characters, from the blank to `~`, once.
+#[tactic(auto, unfolding(crate::specs::Order::rank, crate::specs::Order::collating_sequence))]
+pub fn each_character_has_one_place()
+    ensures count { length collating_sequence ≡ 95 }
+    ensures every { IsTrue (list_all (λ c. nat_lt (rank c) 95) (range_with_len 32 95)) }
 {}

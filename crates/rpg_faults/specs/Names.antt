@@ -89,7 +89,7 @@ redefines_as before name (Some form) = is_other form (form_of_name name before)
 abbrev pub redefines : List SpecCard → SpecCard → Bool
 redefines before c = option_map_or (λ d. redefines_as before d.0 d.1) (definition_on c.spec) false
 
--- ---- F3: a length or decimals past their limit, or decimals without a length
+-- ---- F3: a field that is too long or has too many decimals, and decimals where no length is given
 
 abbrev pub bad_size_of_field : InputField → Bool
 bad_size_of_field f = nat_le f.from f.to && is_none (field_form f)

@@ -13,8 +13,6 @@ mod operands;
 mod order;
 mod places;
 mod rounding;
-#[cfg(test)]
-mod tests;
 
 pub use fault::{Fault, FaultCode};
 pub use least::first_fault;

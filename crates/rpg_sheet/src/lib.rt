@@ -12,8 +12,6 @@ mod output;
 mod sheet;
 mod source;
 mod spec;
-#[cfg(test)]
-mod tests;
 mod values;
 
 pub use card::Card;

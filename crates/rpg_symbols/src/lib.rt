@@ -5,6 +5,3 @@ mod symbols;
 
 pub use rpg_spec::Indicator;
 pub use symbols::{DefineFault, Name, Symbols};
-
-#[cfg(test)]
-mod tests;

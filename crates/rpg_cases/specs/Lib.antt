@@ -1,0 +1,2 @@
+-- What a run gave beside what its case wants.
+pub mod Outcome

@@ -1,0 +1,167 @@
+//! A case: a source or an object, and what a run of it is given and is to give.
+
+use crate::mark::{Mark, mark_of};
+use std::alloc::{AllocError, Global};
+
+#[derive(Clone, Copy)]
+pub enum Kind {
+    Source,
+    Object,
+}
+
+/// What the next lines are.
+#[derive(Clone, Copy)]
+enum Part {
+    /// Prose, which nothing reads.
+    Prose,
+    /// Cards of the source, or hex of the object.
+    Text,
+    /// What stands for this card or for the bytes from this one on.
+    Change(usize),
+    Input,
+    Print,
+    Disk,
+    /// Hex of the object that the source is compiled to.
+    Compiled,
+}
+
+/// A line that stands for another card, or for the bytes from `at` on.
+#[derive(Clone, Copy)]
+pub struct Change<'a> {
+    pub at: usize,
+    pub line: &'a str,
+}
+
+/// What is asked of an object's bytes.
+#[derive(Clone, Copy)]
+pub enum Spelling {
+    Unasked,
+    /// They are those that the case has.
+    Given,
+    /// They are spelled as they were read.
+    Again,
+}
+
+/// A case, as far as it was read. The source or object stays for the cases behind it; its changes are the case's own.
+#[derive(Drop)]
+pub struct Case<'a> {
+    pub name: &'a str,
+    pub kind: Kind,
+    pub text: Vec<&'a str>,
+    pub changes: Vec<Change<'a>>,
+    pub allowance: u16,
+    pub date: &'a str,
+    /// Whether the case has an input: a source that has none is only compiled.
+    pub is_run: bool,
+    pub input: Vec<&'a str>,
+    pub print: Vec<&'a str>,
+    pub disk: Vec<&'a str>,
+    pub spelling: Spelling,
+    pub compiled: Vec<&'a str>,
+    pub steps: Option<usize>,
+    /// Whether a mark of the case isn't known.
+    pub is_bad: bool,
+    part: Part,
+}
+
+impl<'a> Case<'a> {
+    pub fn new(alloc: Global) -> Case<'a> {
+        Case {
+            name: "",
+            kind: Kind::Source,
+            text: Vec::new(alloc),
+            changes: Vec::new(alloc),
+            allowance: 1_000,
+            date: "010576",
+            is_run: false,
+            input: Vec::new(alloc),
+            print: Vec::new(alloc),
+            disk: Vec::new(alloc),
+            spelling: Spelling::Unasked,
+            compiled: Vec::new(alloc),
+            steps: None,
+            is_bad: false,
+            part: Part::Prose,
+        }
+    }
+
+    /// Takes the next line of the file, and answers the line that is wanted where it ends a run.
+    pub fn take(&mut self, line: &'a str) -> Result<Option<&'a str>, AllocError> {
+        match mark_of(line) {
+            None => self.add(line)?,
+            Some(Mark::Answer(answer)) => return Ok(Some(answer)),
+            Some(mark) => self.begin(mark),
+        }
+        Ok(None)
+    }
+
+    /// Forgets what belongs to one run alone.
+    pub fn end_run(&mut self) {
+        self.is_run = false;
+        self.input.clear();
+        self.print.clear();
+        self.disk.clear();
+        self.compiled.clear();
+        self.spelling = Spelling::Unasked;
+        self.steps = None;
+        self.part = Part::Prose;
+    }
+
+    fn add(&mut self, line: &'a str) -> Result<(), AllocError> {
+        match self.part {
+            Part::Prose => {}
+            Part::Text => self.text.push(line)?,
+            Part::Change(at) => {
+                self.changes.push(Change { at, line })?;
+                self.part = Part::Change(at.saturating_add(1));
+            }
+            Part::Input => self.input.push(line)?,
+            Part::Print => self.print.push(line)?,
+            Part::Disk => self.disk.push(line)?,
+            Part::Compiled => self.compiled.push(line)?,
+        }
+        Ok(())
+    }
+
+    fn begin(&mut self, mark: Mark<'a>) {
+        match mark {
+            Mark::Case(name) => self.begin_case(name),
+            Mark::Source => self.begin_text(Kind::Source),
+            Mark::Object => self.begin_text(Kind::Object),
+            Mark::Change(at) => self.part = Part::Change(at),
+            Mark::Allowance(number) => self.allowance = u16::try_from(number).unwrap_or(0),
+            Mark::Date(date) => self.date = date,
+            Mark::Input => {
+                self.is_run = true;
+                self.part = Part::Input;
+            }
+            Mark::Print => self.part = Part::Print,
+            Mark::Disk => self.part = Part::Disk,
+            Mark::Compiled => {
+                self.spelling = Spelling::Given;
+                self.part = Part::Compiled;
+            }
+            Mark::Again => {
+                self.spelling = Spelling::Again;
+                self.part = Part::Prose;
+            }
+            Mark::Steps(steps) => self.steps = Some(steps),
+            Mark::Answer(_) | Mark::Unknown => self.is_bad = true,
+        }
+    }
+
+    fn begin_case(&mut self, name: &'a str) {
+        self.end_run();
+        self.name = name;
+        self.changes.clear();
+        self.allowance = 1_000;
+        self.date = "010576";
+        self.is_bad = false;
+    }
+
+    fn begin_text(&mut self, kind: Kind) {
+        self.kind = kind;
+        self.text.clear();
+        self.part = Part::Text;
+    }
+}

@@ -1,0 +1,51 @@
+//! Cases as data: compiles and runs each case of the files that its words name, and prints a line for each run.
+//!
+//! README.md says how a file of cases is written.
+#![tactic(auto)]
+
+mod case;
+mod mark;
+mod outcome;
+mod spelling;
+mod trial;
+
+use case::Case;
+use outcome::write_report;
+use std::alloc::Global;
+use std::io::{self, Write};
+use std::{env, fs};
+use trial::{told_of, wanted_of};
+
+/// Runs a case that is to answer this, and writes the line that tells what came of it.
+fn run_case<W: Write>(alloc: Global, out: &mut W, case: &Case<'_>, answer: &str) -> io::Result<()> {
+    if case.is_bad {
+        out.write_all(b"BAD: ")?;
+        out.write_all(case.name.as_bytes())?;
+        return out.write_all(b": a mark that isn't known\n");
+    }
+    let told = told_of(alloc, case)?;
+    let wanted = wanted_of(alloc, case, answer)?;
+    write_report(alloc, out, case.name, &told, &wanted)
+}
+
+/// Runs the cases of a file.
+fn run_all<W: Write>(alloc: Global, out: &mut W, text: &str) -> io::Result<()> {
+    let mut case = Case::new(alloc);
+    for line in text.lines() {
+        if let Some(answer) = case.take(line)? {
+            run_case(alloc, out, &case, answer)?;
+            case.end_run();
+        }
+    }
+    Ok(())
+}
+
+fn main(rt: HostRuntime) -> io::Result<()> {
+    let words: Vec<String> = env::args(&rt)?.collect(rt.alloc())?;
+    let mut out = io::writer(&rt);
+    for path in words.iter().skip(1) {
+        let text = fs::read_to_string(&rt, path.as_str())?;
+        run_all(rt.alloc(), &mut out, text.as_str())?;
+    }
+    Ok(())
+}

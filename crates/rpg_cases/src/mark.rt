@@ -1,0 +1,56 @@
+//! The lines of a file of cases that say what the lines behind them are.
+
+/// What a marking line says.
+#[derive(Clone, Copy)]
+pub enum Mark<'a> {
+    /// `=== NAME` begins a case.
+    Case(&'a str),
+    /// `--- source`: cards follow.
+    Source,
+    /// `--- object`: bytes in hex follow.
+    Object,
+    /// `--- card N`: what stands for card N and those behind it follows. `--- byte N`: hex for the bytes from N on follows.
+    Change(usize),
+    /// `--- allowance N`
+    Allowance(usize),
+    /// `--- date DIGITS`
+    Date(&'a str),
+    /// `--- input`, `--- print` and `--- disk`: text follows.
+    Input,
+    Print,
+    Disk,
+    /// `--- compiled`: the object's bytes in hex follow.
+    Compiled,
+    /// `--- again`: the object is to be spelled as it was read.
+    Again,
+    /// `--- steps N`
+    Steps(usize),
+    /// `--- answer LINE` ends a run.
+    Answer(&'a str),
+    /// Some other word.
+    Unknown,
+}
+
+/// What the line says, if it is a marking line.
+pub fn mark_of(line: &str) -> Option<Mark<'_>> {
+    if let Some(name) = line.strip_prefix("=== ") {
+        return Some(Mark::Case(name));
+    }
+    let said = line.strip_prefix("--- ")?;
+    let (word, value) = said.split_once(' ').unwrap_or((said, ""));
+    Some(match (word, value.parse()) {
+        ("source", _) => Mark::Source,
+        ("object", _) => Mark::Object,
+        ("input", _) => Mark::Input,
+        ("print", _) => Mark::Print,
+        ("disk", _) => Mark::Disk,
+        ("compiled", _) => Mark::Compiled,
+        ("again", _) => Mark::Again,
+        ("date", _) => Mark::Date(value),
+        ("answer", _) => Mark::Answer(value),
+        ("card" | "byte", Ok(at)) => Mark::Change(at),
+        ("allowance", Ok(number)) => Mark::Allowance(number),
+        ("steps", Ok(number)) => Mark::Steps(number),
+        _ => Mark::Unknown,
+    })
+}

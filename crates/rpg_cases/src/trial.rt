@@ -1,0 +1,157 @@
+//! What a case gives when it is compiled and run in memory, and what it wants.
+
+use crate::case::{Case, Change, Kind, Spelling};
+use crate::outcome::{Told, Wanted};
+use crate::spelling::{push_hex, push_text};
+use old_object::{decode, encode};
+use rpg_cli::{Answer, compile_to_bytes, execute, line};
+use std::alloc::{AllocError, Global};
+
+/// The source, a card a line.
+fn source_of(alloc: Global, cards: &[&str]) -> Result<Vec<u8>, AllocError> {
+    let mut source = Vec::new(alloc);
+    for card in cards {
+        source.extend_from_slice(card.as_bytes())?;
+        source.push(b'\n')?;
+    }
+    Ok(source)
+}
+
+/// The cards, with the changed ones in the place of theirs or behind the last.
+fn cards_of<'a>(alloc: Global, case: &Case<'a>) -> Result<Vec<&'a str>, AllocError> {
+    let mut cards = Vec::from_slice(alloc, case.text.as_slice())?;
+    for change in case.changes.iter() {
+        match cards.get_mut(change.at.saturating_sub(1)) {
+            Some(card) => *card = change.line,
+            None => cards.push(change.line)?,
+        }
+    }
+    Ok(cards)
+}
+
+/// Puts the bytes of a change over those that stand there, or behind the last.
+fn put_over(alloc: Global, object: &mut Vec<u8>, change: Change<'_>) -> Result<(), AllocError> {
+    let mut bytes = Vec::new(alloc);
+    push_hex(&mut bytes, change.line)?;
+    let mut at = change.at;
+    for byte in bytes.iter() {
+        match object.get_mut(at) {
+            Some(there) => *there = *byte,
+            None => object.push(*byte)?,
+        }
+        at = at.saturating_add(1);
+    }
+    Ok(())
+}
+
+fn hex_of(alloc: Global, lines: &[&str]) -> Result<Vec<u8>, AllocError> {
+    let mut bytes = Vec::new(alloc);
+    for line in lines {
+        push_hex(&mut bytes, line)?;
+    }
+    Ok(bytes)
+}
+
+fn object_of(alloc: Global, case: &Case<'_>) -> Result<Vec<u8>, AllocError> {
+    let mut object = hex_of(alloc, case.text.as_slice())?;
+    for change in case.changes.iter() {
+        put_over(alloc, &mut object, *change)?;
+    }
+    Ok(object)
+}
+
+fn text_of(alloc: Global, lines: &[&str]) -> Result<Vec<u8>, AllocError> {
+    let mut bytes = Vec::new(alloc);
+    for line in lines {
+        push_text(&mut bytes, line)?;
+    }
+    Ok(bytes)
+}
+
+/// What is told where nothing runs.
+fn answered(alloc: Global, answer: Answer, object: Vec<u8>) -> Result<Told, AllocError> {
+    Ok(Told {
+        answer: Vec::from_slice(alloc, line(&answer).text.as_slice())?,
+        print: Vec::new(alloc),
+        disk: Vec::new(alloc),
+        steps: 0,
+        object,
+    })
+}
+
+/// What the object gives when it runs over the case's input.
+fn run(alloc: Global, case: &Case<'_>, object: Vec<u8>) -> Result<Told, AllocError> {
+    let bytes = text_of(alloc, case.input.as_slice())?;
+    let mut input = bytes.as_slice();
+    let mut print = Vec::new(alloc);
+    let mut disk = Vec::new(alloc);
+    let date = case.date.as_bytes();
+    let report = execute(alloc, &object, date, &mut input, &mut print, &mut disk);
+    let (answer, steps) = match report {
+        Ok(report) => (Answer::from(report), report.most),
+        Err(fault) => (Answer::from(fault), 0),
+    };
+    Ok(Told {
+        answer: Vec::from_slice(alloc, line(&answer).text.as_slice())?,
+        print,
+        disk,
+        steps,
+        object,
+    })
+}
+
+/// The bytes that spell the object's program, or none where it is refused.
+fn spelled_again(alloc: Global, object: &[u8]) -> Result<Vec<u8>, AllocError> {
+    match decode(alloc, object) {
+        Ok(program) => encode(alloc, &program),
+        Err(_) => Ok(Vec::new(alloc)),
+    }
+}
+
+fn told_of_object(alloc: Global, case: &Case<'_>) -> Result<Told, AllocError> {
+    let mut told = run(alloc, case, object_of(alloc, case)?)?;
+    if let Spelling::Again = case.spelling {
+        told.object = spelled_again(alloc, &told.object)?;
+    }
+    Ok(told)
+}
+
+fn told_of_source(alloc: Global, case: &Case<'_>) -> Result<Told, AllocError> {
+    let cards = cards_of(alloc, case)?;
+    let source = source_of(alloc, &cards)?;
+    match compile_to_bytes(alloc, &source, case.allowance.max(1)) {
+        Err(fault) => answered(alloc, Answer::from(fault), Vec::new(alloc)),
+        Ok(object) if case.is_run => run(alloc, case, object),
+        Ok(object) => answered(alloc, Answer::Compiled, object),
+    }
+}
+
+/// Compiles and runs the case.
+pub fn told_of(alloc: Global, case: &Case<'_>) -> Result<Told, AllocError> {
+    match case.kind {
+        Kind::Object => told_of_object(alloc, case),
+        Kind::Source => told_of_source(alloc, case),
+    }
+}
+
+fn wanted_object(alloc: Global, case: &Case<'_>) -> Result<Option<Vec<u8>>, AllocError> {
+    match case.spelling {
+        Spelling::Unasked => Ok(None),
+        Spelling::Given => Ok(Some(hex_of(alloc, case.compiled.as_slice())?)),
+        Spelling::Again => Ok(Some(object_of(alloc, case)?)),
+    }
+}
+
+/// What the case wants, with this line of `rpg2`.
+pub fn wanted_of(alloc: Global, case: &Case<'_>, answer: &str) -> Result<Wanted, AllocError> {
+    Ok(Wanted {
+        answer: Vec::from_slice(alloc, answer.as_bytes())?,
+        print: text_of(alloc, case.print.as_slice())?,
+        disk: text_of(alloc, case.disk.as_slice())?,
+        steps: match case.steps {
+            None => None,
+            Some(steps) => Some(steps as u64),
+        },
+        object: wanted_object(alloc, case)?,
+    })
+}

@@ -1,0 +1,27 @@
+-- How far a search of the front can go on.
+use Rattle.std.proofs.Common.{◌≡◌, ℕ, ◌+◌, ◌-◌, ◌<◌, ◌≤◌, Bool, true, false, if◌then◌else◌, List, [], ◌∷◌, ◌++◌, length, drop, Option, refl, sym, ap, subst, arith, length-append, length-drop, inl, inr}
+use Rattle.rpg_files.specs.NextLine.{IsNextLine}
+use Rattle.rpg_files.specs.FirstLine.{IsIncomplete}
+use Rattle.rpg_files.specs.declared.input.NextLine.{NextLine}
+use Rattle.rpg_files.specs.Reads.{Reads}
+
+-- a line without an end is at most one byte longer than the limit
+pub open_short : (limit : ℕ) (xs : List ℕ) (n : ℕ) → IsIncomplete limit xs n → length xs ≤ limit + 1
+open_short limit xs n is = elim is.behind [
+  | inl none ↦ let rest : length (drop n xs) ≡ 0 = ap length none in omega (arith, is.short, is.within, length-drop n xs, rest)
+  | inr one ↦ let rest : length (drop n xs) ≡ 1 = ap length one in omega (arith, is.short, is.within, length-drop n xs, rest)
+]
+
+pub reads_longer : (a b : Option (List ℕ)) (old new : List ℕ) (ended ended' : Bool) → Reads a b old new ended ended' → length old ≤ length new
+reads_longer a b old new ended ended' reads = omega (arith, ap length reads.bytes, length-append old reads.read)
+
+-- each read of a line without an end brings bytes, or the end of the input
+pub comes_nearer : (limit before after : ℕ) (ended ended' : Bool) → ended ≡ false → before ≤ limit + 1 → before ≤ after → (ended' ≡ false → before < after)
+    → (limit + 2 - after) + (if ended' then 0 else 1) < (limit + 2 - before) + (if ended then 0 else 1)
+comes_nearer limit before after true ended' is short longer more = absurd cc
+comes_nearer limit before after false true is short longer more = omega arith
+comes_nearer limit before after false false is short longer more = let further = more refl in omega arith
+
+pub found_at_end : (limit : ℕ) (xs ys : List ℕ) (ended : Bool) (found : NextLine) → ys ≡ xs → ended ≡ true → IsNextLine limit ys true found → IsNextLine limit xs ended found
+found_at_end limit xs ys ended found same is has =
+    subst (λ (e : Bool). IsNextLine limit xs e found) (sym is) (subst (λ (bytes : List ℕ). IsNextLine limit bytes true found) same has)

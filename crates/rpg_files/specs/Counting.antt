@@ -1,0 +1,16 @@
+-- What a counted reader or writer is to its callers.
+use Rattle.std.specs.Prelude.{ℕ, ◌+◌, Result, Ok, Err}
+use Rattle.rpg_files.specs.declared.counting.Counted.{Counted}
+
+-- the reader or the writer itself
+abbrev pub device_of : {T : Type 0} → Counted T → T
+device_of c = c.device
+
+-- how many of its calls failed
+abbrev pub faults_of : {T : Type 0} → Counted T → ℕ
+faults_of c = c.faults
+
+-- one more where the call failed
+abbrev pub faults_after : {X E : Type 0} → ℕ → Result X E → ℕ
+faults_after n (Ok x) = n
+faults_after n (Err e) = n + 1

@@ -1,0 +1,25 @@
+-- The next line of an input of which some bytes were read.
+use Rattle.std.specs.Prelude.{◌≡◌, ℕ, ◌<◌, ◌≤◌, Bool, true, false, List, [], ◌∷◌, ◌++◌, length, take, drop}
+use Rattle.rpg_files.specs.Records.{records, is_good, BeginsBad}
+use Rattle.rpg_files.specs.declared.input.NextLine.{NextLine}
+use Rattle.rpg_files.specs.declared.input.NextLine.TheVariants as next
+
+-- what may stand behind the bytes that were read: nothing where the end of the input was seen
+abbrev pub CanFollow : Bool → List ℕ → Type 0
+CanFollow ended more = ended ≡ true → more ≡ []
+
+pub record IsNextRecord (limit : ℕ) (bytes : List ℕ) (ended : Bool) (len line_len : ℕ) : Type 0 where
+  pub ordered : len ≤ line_len
+  pub within : line_len ≤ length bytes
+  pub good : is_good limit (take len bytes) ≡ true
+  pub first : (more : List ℕ) → CanFollow ended more → records (bytes ++ more) ≡ take len bytes ∷ records (drop line_len bytes ++ more)
+
+abbrev pub IsNextLine : ℕ → List ℕ → Bool → NextLine → Type 0
+IsNextLine limit bytes ended (next.Record len line_len) = IsNextRecord limit bytes ended len line_len
+IsNextLine limit bytes ended next.Bad = (more : List ℕ) → CanFollow ended more → BeginsBad limit (bytes ++ more)
+IsNextLine limit bytes ended next.End = (bytes ≡ []) × (ended ≡ true)
+
+-- there are bytes, or there are none and the input has ended
+abbrev pub HasMore : Bool → List ℕ → Bool → Type 0
+HasMore true bytes ended = 0 < length bytes
+HasMore false bytes ended = (bytes ≡ []) × (ended ≡ true)

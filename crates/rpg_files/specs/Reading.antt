@@ -1,0 +1,107 @@
+-- What a reader of records is to its callers.
+use Rattle.std.specs.Prelude.{◌≡◌, ℕ, ◌+◌, ◌<◌, Bool, true, false, List, [], ◌∷◌, ◌++◌, length, take, drop, Option, Result, Ok, Err}
+use Rattle.std.specs.Io.KnownBytes.{Consumes, IsAtEnd}
+use Rattle.rpg_files.specs.Buffers.{bytes_of}
+use Rattle.rpg_files.specs.Counting.{device_of, faults_of}
+use Rattle.rpg_files.specs.NextLine.{CanFollow}
+use Rattle.rpg_files.specs.Records.{records, is_good, BeginsBad, max_records}
+use Rattle.rpg_files.specs.declared.counting.Counted.{Counted}
+use Rattle.rpg_files.specs.declared.reader.Next.{Next}
+use Rattle.rpg_files.specs.declared.reader.Next.TheVariants as next
+use Rattle.rpg_files.specs.declared.reader.ReadFault.{ReadFault}
+use Rattle.rpg_files.specs.declared.reader.ReadFault.TheVariants as fault
+use Rattle.rpg_files.specs.declared.reader.RecordReader.{RecordReader}
+
+-- ---- its state
+
+-- the reader that it reads from
+abbrev pub source_of : {R : Type 0} → RecordReader R → Counted R
+source_of r = r.reader.now
+
+-- the last record
+abbrev pub record_of : {R : Type 0} → RecordReader R → List ℕ
+record_of r = take r.len (bytes_of r.buffer)
+
+-- the most bytes of a record
+abbrev pub limit_of : {R : Type 0} → RecordReader R → ℕ
+limit_of r = r.limit
+
+-- how many records it has given
+abbrev pub count_of : {R : Type 0} → RecordReader R → ℕ
+count_of r = r.count
+
+-- what it answered last
+abbrev pub answer_of : {R : Type 0} → RecordReader R → Result Next ReadFault
+answer_of r = r.answer
+
+-- the bytes that were read and not yet given
+abbrev pub buffered_of : {R : Type 0} → RecordReader R → List ℕ
+buffered_of r = drop r.line_len (bytes_of r.buffer)
+
+-- whether it has seen the end of the input
+abbrev pub has_ended : {R : Type 0} → RecordReader R → Bool
+has_ended r = r.is_ended
+
+-- what is still to come of an input: the bytes that were read and not yet given, whether the end was seen, and what the
+-- device has left, where it tells its bytes
+pub record Input : Type 0 where
+  pub buffered : List ℕ
+  pub ended : Bool
+  pub remaining : Option (List ℕ)
+
+abbrev pub input_of : {R : Type 0} → (R → Option (List ℕ)) → RecordReader R → Input
+input_of remaining r = record { buffered = buffered_of r; ended = has_ended r; remaining = remaining (device_of (source_of r)) }
+
+-- ---- a call
+
+abbrev pub is_record : Result Next ReadFault → Bool
+is_record (Ok next.Record) = true
+is_record (Ok next.Bad) = false
+is_record (Ok next.End) = false
+is_record (Err e) = false
+
+-- With so many records before, a call gave this record and this answer: these bytes were to come before it, and these
+-- are to come behind it.
+abbrev pub Gives : ℕ → ℕ → List ℕ → Result Next ReadFault → List ℕ → List ℕ → Type 0
+Gives limit count record_bytes (Ok next.Record) old new = (count < max_records) × (is_good limit record_bytes ≡ true) × (records old ≡ record_bytes ∷ records new)
+Gives limit count record_bytes (Ok next.Bad) old new = (count < max_records) × BeginsBad limit old
+Gives limit count record_bytes (Ok next.End) old new = old ≡ []
+Gives limit count record_bytes (Err fault.TooMany) old new = (count ≡ max_records) × (0 < length old)
+Gives limit count record_bytes (Err fault.Device) old new = Unit {0}
+
+-- Some bytes were read behind the buffered ones, none once the end was seen. Whatever follows these, Fact holds of all the
+-- bytes that were to come before and of those that are to come now.
+pub record Advances (old new : Input) (Fact : List ℕ → List ℕ → Type 0) : Type 0 where
+  pub read : List ℕ
+  pub consumed : Consumes old.remaining new.remaining read
+  pub none_at_end : old.ended ≡ true → (read ≡ []) × (new.ended ≡ true)
+  pub at_end : new.ended ≡ true → (old.ended ≡ true → IsAtEnd old.remaining) → IsAtEnd new.remaining
+  pub fact : (more : List ℕ) → CanFollow new.ended more → Fact (old.buffered ++ (read ++ more)) (new.buffered ++ more)
+
+-- one more where a record was given
+abbrev pub count_after : ℕ → Result Next ReadFault → ℕ
+count_after n (Ok next.Record) = n + 1
+count_after n (Ok next.Bad) = n
+count_after n (Ok next.End) = n
+count_after n (Err e) = n
+
+-- one more where the device failed
+abbrev pub device_faults_after : ℕ → Result Next ReadFault → ℕ
+device_faults_after n (Ok x) = n
+device_faults_after n (Err fault.Device) = n + 1
+device_faults_after n (Err fault.TooMany) = n
+
+-- a call of `next` behind a record
+pub record ReadsNext {R : Type 0} (remaining : R → Option (List ℕ)) (old : RecordReader R) (answer : Result Next ReadFault) (new : RecordReader R) : Type 0 where
+  pub limit : limit_of new ≡ limit_of old
+  pub count : count_of new ≡ count_after (count_of old) answer
+  pub faults : faults_of (source_of new) ≡ device_faults_after (faults_of (source_of old)) answer
+  pub input : Advances (input_of remaining old) (input_of remaining new) (Gives (limit_of old) (count_of old) (record_of new) answer)
+
+-- a reader that has read nothing, for records of so many bytes at most
+pub record IsFresh {R : Type 0} (bytes : ℕ) (r : RecordReader R) : Type 0 where
+  pub limit : limit_of r ≡ bytes
+  pub count : count_of r ≡ 0
+  pub buffered : buffered_of r ≡ []
+  pub ended : has_ended r ≡ false
+  pub answer : is_record (answer_of r) ≡ true

@@ -1,0 +1,18 @@
+-- What was read of a device.
+use Rattle.std.specs.Prelude.{◌≡◌, ℕ, ◌<◌, Bool, true, false, List, [], ◌++◌, length, Option, Result, IfOk}
+use Rattle.std.specs.Io.KnownBytes.{Consumes, IsAtEnd}
+
+-- One read: so many bytes came behind those that were there, none only at the end of the input.
+pub record Fills {E : Type 0} (before after : Option (List ℕ)) (old new : List ℕ) (result : Result ℕ E) : Type 0 where
+  pub read : List ℕ
+  pub consumed : Consumes before after read
+  pub bytes : new ≡ old ++ read
+  pub count : IfOk result (λ n. (n ≡ length read) × (n ≡ 0 → IsAtEnd after))
+
+-- Some reads: these bytes came behind those that were there. Once the end of the input was seen nothing more is read.
+pub record Reads (before after : Option (List ℕ)) (old new : List ℕ) (ended ended' : Bool) : Type 0 where
+  pub read : List ℕ
+  pub consumed : Consumes before after read
+  pub bytes : new ≡ old ++ read
+  pub none_at_end : ended ≡ true → (read ≡ []) × (ended' ≡ true)
+  pub at_end : ended' ≡ true → (ended ≡ true → IsAtEnd before) → IsAtEnd after

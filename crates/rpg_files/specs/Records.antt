@@ -1,0 +1,87 @@
+-- The records of an input.
+use Rattle.std.specs.Prelude.{◌≡◌, ◌==◌, ◌&&◌, ℕ, Bool, true, false, not, nat_le, if◌then◌else◌, List, [], ◌∷◌, ◌++◌, length, map, codes, refl}
+use Rattle.std.specs.List.{flat_map, list_all}
+
+abbrev pub begins_with_line_feed : List ℕ → Bool
+begins_with_line_feed [] = false
+begins_with_line_feed (b ∷ bytes) = b == 10
+
+-- one more byte before the first record
+abbrev pub onto_first : ℕ → List (List ℕ) → List (List ℕ)
+onto_first b [] = (b ∷ []) ∷ []
+onto_first b (record_bytes ∷ rest) = (b ∷ record_bytes) ∷ rest
+
+-- A line feed ends a record, and one carriage return before it is dropped. What stands behind the last line feed is a
+-- record where it isn't empty.
+abbrev pub records : List ℕ → List (List ℕ)
+records [] = []
+records (b ∷ bytes) =
+    if b == 10 then [] ∷ records bytes
+    else (if b == 13 && begins_with_line_feed bytes then records bytes else onto_first b (records bytes))
+
+-- the most records of an input
+abbrev pub max_records : ℕ
+max_records = 10000000
+
+-- ---- records that a program can take
+
+abbrev pub is_character : ℕ → Bool
+is_character b = nat_le 32 b && nat_le b 126
+
+-- a record of characters that is no longer than the limit
+abbrev pub is_good : ℕ → List ℕ → Bool
+is_good limit r = nat_le (length r) limit && list_all is_character r
+
+-- the first record of these bytes is none that a program can take
+abbrev pub BeginsBad : ℕ → List ℕ → Type 0
+BeginsBad limit bytes = (r : List ℕ) × (rest : List (List ℕ)) × (records bytes ≡ r ∷ rest) × (is_good limit r ≡ false)
+
+-- ---- lines
+
+-- a line without a carriage return at its end
+abbrev pub without_return : List ℕ → List ℕ
+without_return [] = []
+without_return (b ∷ []) = if b == 13 then [] else b ∷ []
+without_return (b ∷ c ∷ bytes) = b ∷ without_return (c ∷ bytes)
+
+-- ---- the same, by lines
+
+-- bytes with no line feed among them
+abbrev pub is_line : List ℕ → Bool
+is_line = list_all (λ b. not (b == 10))
+
+abbrev pub with_line_feed : List ℕ → List ℕ
+with_line_feed text = text ++ 10 ∷ []
+
+abbrev pub unless_empty : List ℕ → List (List ℕ)
+unless_empty [] = []
+unless_empty (b ∷ bytes) = (b ∷ bytes) ∷ []
+
+-- Lines, each with its line feed, and then a part without one: the records are the lines without the carriage return at
+-- their end, and that part as it is, where it isn't empty. All bytes are such lines and such a part.
+abbrev pub RecordsAreLines : Type 0
+RecordsAreLines = (lines : List (List ℕ)) (rest : List ℕ) → list_all is_line lines ≡ true → is_line rest ≡ true
+    → records (flat_map with_line_feed lines ++ rest) ≡ map without_return lines ++ unless_empty rest
+
+-- ---- examples
+
+nothing : records [] ≡ []
+nothing = refl
+
+two_lines : records (codes "007\n35\n") ≡ codes "007" ∷ codes "35" ∷ []
+two_lines = refl
+
+without_line_feed_at_the_end : records (codes "007\n35") ≡ codes "007" ∷ codes "35" ∷ []
+without_line_feed_at_the_end = refl
+
+empty_lines : records (codes "\n\n") ≡ [] ∷ [] ∷ []
+empty_lines = refl
+
+carriage_return_before_line_feed : records (codes "007\r\n35") ≡ codes "007" ∷ codes "35" ∷ []
+carriage_return_before_line_feed = refl
+
+two_carriage_returns : records (codes "7\r\r\n") ≡ codes "7\r" ∷ []
+two_carriage_returns = refl
+
+carriage_return_elsewhere : records (codes "7\r5\r") ≡ codes "7\r5\r" ∷ []
+carriage_return_elsewhere = refl

@@ -1,0 +1,124 @@
+//! The bytes that were read and not yet given.
+
+ghost use Rattle.std.specs.Prelude.{◌≡◌, ◌+◌, ◌-◌, ◌^◌, ◌<◌, ◌≤◌, drop, length, slice_range, take, vec_len, IfOk};
+ghost use Rattle.std.specs.Io.KnownBytes.{ReadConsumes};
+ghost use Rattle.rpg_files.specs.Counting.{faults_after, device_of, faults_of};
+
+use crate::counting::{Counted, DeviceFault};
+use std::alloc::{AllocError, Global};
+use std::io::Read;
+
+/// The bytes `buf[start..end]`.
+#[derive(Drop)]
+pub(crate) struct Buffer {
+    buf: Vec<u8>,
+    start: usize,
+    end: usize,
+    ghost ordered: { start ≤ end },
+    ghost in_bounds: { end ≤ vec_len buf },
+}
+
+impl Buffer {
+    ghost use Rattle.std.specs.Prelude.{[], IsTrue, ◌↔◌};
+    ghost use Rattle.rpg_files.specs.Reads.{Fills};
+    ghost use Rattle.rpg_files.specs.Buffers.{bytes_of, capacity_of};
+
+    /// No bytes yet, and room for so many.
+    pub fn with_capacity(alloc: Global, capacity: usize) -> Result<Buffer, AllocError>
+        ensures bytes { IfOk result (λ w. bytes_of w ≡ []) }
+        ensures capacity { IfOk result (λ w. capacity_of w ≡ capacity) }
+    {
+        Ok(Buffer {
+            buf: vec![in alloc; 0; capacity]?,
+            start: 0,
+            end: 0,
+        })
+    }
+
+    pub fn bytes(&self) -> &[u8]
+        ensures { result.now ≡ bytes_of self.now }
+    {
+        let all = self.buf.as_slice();
+        &all[self.start..self.end]
+    }
+
+    /// How many bytes there are.
+    pub fn len(&self) -> usize
+        ensures { result ≡ length (bytes_of self.now) }
+    {
+        self.end - self.start
+    }
+
+    pub fn consume(&mut self, n: usize)
+        requires { n ≤ length (bytes_of self.old) }
+        ensures bytes { bytes_of self.new ≡ drop n (bytes_of self.old) }
+        ensures capacity { capacity_of self.new ≡ capacity_of self.old }
+    {
+        self.start += n;
+    }
+
+    /// Moves the bytes to the front of the room, and reads some behind them: none where the input ends.
+    pub fn fill<R: Read>(&mut self, reader: &mut Counted<R>) -> Result<usize, DeviceFault>
+        requires faults { faults_of reader.old < 2 ^ 64 - 1 }
+        requires room { length (bytes_of self.old) < capacity_of self.old }
+        ensures bytes { Fills (R.remaining (device_of reader.old)) (R.remaining (device_of reader.new)) (bytes_of self.old) (bytes_of self.new) result }
+        ensures capacity { capacity_of self.new ≡ capacity_of self.old }
+        ensures faults { faults_of reader.new ≡ faults_after (faults_of reader.old) result }
+    {
+        let (start, len) = (self.start, self.len());
+        self.start = 0;
+        self.end = len;
+        let n = refill(reader, self.buf.as_mut_slice(), start, len)?;
+        self.end += n;
+        Ok(n)
+    }
+}
+
+/// Moves `len` bytes from `start` on to the front, and reads some behind them.
+fn refill<R: Read>(
+    reader: &mut Counted<R>,
+    buf: &mut [u8],
+    start: usize,
+    len: usize,
+) -> Result<usize, DeviceFault>
+    requires faults { faults_of reader.old < 2 ^ 64 - 1 }
+    requires inside { start + len ≤ length buf.old }
+    requires room { len < length buf.old }
+    ensures moved { take len buf.new ≡ take len (drop start buf.old) }
+    ensures within { IfOk result (λ n. len + n ≤ length buf.new) }
+    ensures bytes { ReadConsumes (R.remaining (device_of reader.old)) (R.remaining (device_of reader.new)) result (drop len buf.new) }
+    ensures faults { faults_of reader.new ≡ faults_after (faults_of reader.old) result }
+{
+    move_to_front(buf, start, len);
+    read_behind(reader, buf, len)
+}
+
+/// Moves `len` bytes from `start` on to the front.
+fn move_to_front(buf: &mut [u8], start: usize, len: usize)
+    requires { start + len ≤ length buf.old }
+    ensures { take len buf.new ≡ take len (drop start buf.old) }
+{
+    if start == 0 {
+        return;
+    }
+    for i in 0..len {
+        buf[i] = buf[start + i];
+    }
+}
+
+/// Reads some bytes behind the first `len`.
+fn read_behind<R: Read>(
+    reader: &mut Counted<R>,
+    buf: &mut [u8],
+    len: usize,
+) -> Result<usize, DeviceFault>
+    requires faults { faults_of reader.old < 2 ^ 64 - 1 }
+    requires room { len < length buf.old }
+    ensures kept { take len buf.new ≡ take len buf.old }
+    ensures within { IfOk result (λ n. len + n ≤ length buf.new) }
+    ensures bytes { ReadConsumes (R.remaining (device_of reader.old)) (R.remaining (device_of reader.new)) result (drop len buf.new) }
+    ensures faults { faults_of reader.new ≡ faults_after (faults_of reader.old) result }
+{
+    let (_kept, room) = buf.split_at_mut(len);
+    reader.read(room)
+}

@@ -1,0 +1,92 @@
+//! Readers and writers whose faults are faults_after.
+
+ghost use Rattle.std.specs.Prelude.{◌≡◌, ◌+◌, ◌-◌, ◌^◌, ◌<◌, ◌≤◌, length, IfOk};
+ghost use Rattle.std.specs.Io.KnownBytes.{ReadConsumes, WriteAppends};
+ghost use Rattle.rpg_files.specs.Counting.{faults_after, device_of, faults_of};
+
+use std::io::{ErrorKind, Read, Write};
+
+/// A read or a write that is interrupted this many times running has failed.
+const TRIES: u32 = 1_000;
+
+/// The device failed.
+#[derive(Clone, Copy)]
+pub struct DeviceFault;
+
+/// A reader or a writer, and how many of its calls failed.
+#[derive(Drop)]
+pub struct Counted<T> {
+    device: T,
+    faults: u64,
+}
+
+impl<T> Counted<T> {
+    pub fn new(device: T) -> Counted<T>
+        ensures device { device_of result ≡ device }
+        ensures faults { faults_of result ≡ 0 }
+    {
+        Counted { device, faults: 0 }
+    }
+
+    /// How many calls failed.
+    pub fn faults(&self) -> u64
+        ensures { result ≡ faults_of self.now }
+    {
+        self.faults
+    }
+
+    /// The reader or the writer itself.
+    pub fn into_device(self) -> T
+        ensures { result ≡ device_of self }
+    {
+        self.device
+    }
+}
+
+impl<R: Read> Counted<R> {
+    /// Reads some bytes; 0 where the input ends, or where `buf` is empty.
+    pub fn read(&mut self, buf: &mut [u8]) -> Result<usize, DeviceFault>
+        requires { faults_of self.old < 2 ^ 64 - 1 }
+        ensures within { IfOk result (λ n. n ≤ length buf.new) }
+        ensures bytes { ReadConsumes (R.remaining (device_of self.old)) (R.remaining (device_of self.new)) result buf.new }
+        ensures faults { faults_of self.new ≡ faults_after (faults_of self.old) result }
+    {
+        for _ in 0..TRIES {
+            match self.device.read(buf) {
+                Ok(n) => return Ok(n),
+                Err(error) => {
+                    if error.kind() != ErrorKind::Interrupted {
+                        break;
+                    }
+                }
+            }
+        }
+        self.faults += 1;
+        Err(DeviceFault)
+    }
+}
+
+impl<W: Write> Counted<W> {
+    /// Writes some bytes of `buf`, at least one where there is one: a write of 0 bytes is a fault.
+    pub fn write(&mut self, buf: &[u8]) -> Result<usize, DeviceFault>
+        requires { faults_of self.old < 2 ^ 64 - 1 }
+        ensures within { IfOk result (λ n. n ≤ length buf.now) }
+        ensures some { IfOk result (λ n. 0 < length buf.now → 0 < n) }
+        ensures bytes { WriteAppends (W.contents (device_of self.old)) (W.contents (device_of self.new)) result buf.now }
+        ensures faults { faults_of self.new ≡ faults_after (faults_of self.old) result }
+    {
+        for _ in 0..TRIES {
+            match self.device.write(buf) {
+                Ok(0) if !buf.is_empty() => break,
+                Ok(n) => return Ok(n),
+                Err(error) => {
+                    if error.kind() != ErrorKind::Interrupted {
+                        break;
+                    }
+                }
+            }
+        }
+        self.faults += 1;
+        Err(DeviceFault)
+    }
+}

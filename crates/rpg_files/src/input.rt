@@ -1,0 +1,106 @@
+//! Reads until it is certain what comes next.
+
+ghost use Rattle.std.specs.Prelude.{◌≡◌, ◌+◌, ◌-◌, ◌^◌, ◌<◌, false, length, OnOk, IfOk, true};
+ghost use Rattle.rpg_files.specs.Counting.{faults_after, device_of, faults_of};
+ghost use Rattle.rpg_files.specs.Reads.{Reads};
+ghost use Rattle.rpg_files.specs.FirstLine.{IsIncomplete};
+ghost use Rattle.rpg_files.specs.NextLine.{HasMore, IsNextLine};
+ghost use Rattle.rpg_files.specs.Buffers.{bytes_of, capacity_of};
+
+use crate::buffer::Buffer;
+use crate::counting::{Counted, DeviceFault};
+use crate::line::{FirstLine, first_line};
+use std::io::Read;
+
+/// What comes next.
+#[derive(Clone, Copy)]
+pub(crate) enum NextLine {
+    /// A record of `len` bytes, `line_len` with the end of its line.
+    Record { len: usize, line_len: usize },
+    /// A record that no program can take.
+    Bad,
+    End,
+}
+
+/// Reads some bytes, or sees the end of the input.
+fn read_more<R: Read>(
+    reader: &mut Counted<R>,
+    buffer: &mut Buffer,
+    is_ended: &mut bool,
+) -> Result<(), DeviceFault>
+    requires faults { faults_of reader.old < 2 ^ 64 - 1 }
+    requires room { length (bytes_of buffer.old) < capacity_of buffer.old }
+    requires open { is_ended.old ≡ false }
+    ensures read { Reads (R.remaining (device_of reader.old)) (R.remaining (device_of reader.new)) (bytes_of buffer.old) (bytes_of buffer.new) is_ended.old is_ended.new }
+    ensures more { OnOk result (is_ended.new ≡ false → length (bytes_of buffer.old) < length (bytes_of buffer.new)) }
+    ensures capacity { capacity_of buffer.new ≡ capacity_of buffer.old }
+    ensures faults { faults_of reader.new ≡ faults_after (faults_of reader.old) result }
+{
+    let n = buffer.fill(reader)?;
+    if n == 0 {
+        *is_ended = true;
+    }
+    Ok(())
+}
+
+/// Whether there are bytes, or some come.
+pub(crate) fn has_more<R: Read>(
+    reader: &mut Counted<R>,
+    buffer: &mut Buffer,
+    is_ended: &mut bool,
+) -> Result<bool, DeviceFault>
+    requires faults { faults_of reader.old < 2 ^ 64 - 1 }
+    requires room { 0 < capacity_of buffer.old }
+    ensures read { Reads (R.remaining (device_of reader.old)) (R.remaining (device_of reader.new)) (bytes_of buffer.old) (bytes_of buffer.new) is_ended.old is_ended.new }
+    ensures ok { IfOk result (λ more. HasMore more (bytes_of buffer.new) is_ended.new) }
+    ensures capacity { capacity_of buffer.new ≡ capacity_of buffer.old }
+    ensures faults { faults_of reader.new ≡ faults_after (faults_of reader.old) result }
+{
+    if buffer.len() == 0 && !*is_ended {
+        read_more(reader, buffer, is_ended)?;
+    }
+    Ok(buffer.len() != 0)
+}
+
+/// What the bytes are that have no end of a line, and end the input.
+fn last_line(bytes: &[u8], scanned: usize, limit: usize) -> NextLine
+    requires { IsIncomplete limit bytes.now scanned }
+    ensures { IsNextLine limit bytes.now true result }
+{
+    let len = bytes.len();
+    if len == 0 {
+        NextLine::End
+    } else if scanned == len {
+        NextLine::Record { len, line_len: len }
+    } else {
+        NextLine::Bad
+    }
+}
+
+/// Reads until it is certain what comes next.
+pub(crate) fn read_line<R: Read>(
+    reader: &mut Counted<R>,
+    buffer: &mut Buffer,
+    is_ended: &mut bool,
+    limit: usize,
+) -> Result<NextLine, DeviceFault>
+    requires faults { faults_of reader.old < 2 ^ 64 - 1 }
+    requires room { limit + 1 < capacity_of buffer.old }
+    ensures read { Reads (R.remaining (device_of reader.old)) (R.remaining (device_of reader.new)) (bytes_of buffer.old) (bytes_of buffer.new) is_ended.old is_ended.new }
+    ensures ok { IfOk result (λ line. IsNextLine limit (bytes_of buffer.new) is_ended.new line) }
+    ensures capacity { capacity_of buffer.new ≡ capacity_of buffer.old }
+    ensures faults { faults_of reader.new ≡ faults_after (faults_of reader.old) result }
+{
+    let mut scanned = 0;
+    'reading: loop {
+        match first_line(buffer.bytes(), scanned, limit) {
+            FirstLine::Record { len, line_len } => return Ok(NextLine::Record { len, line_len }),
+            FirstLine::Bad => return Ok(NextLine::Bad),
+            FirstLine::Incomplete { scanned: known } => scanned = known,
+        }
+        if *is_ended {
+            return Ok(last_line(buffer.bytes(), scanned, limit));
+        }
+        read_more(reader, buffer, is_ended)?;
+    }
+}

@@ -1,0 +1,79 @@
+//! What stands at the front of some bytes: a record, a bad one, or neither yet.
+
+ghost use Rattle.std.specs.Prelude.{◌≡◌, ◌+◌, ◌<◌, ◌≤◌, false, length, slice_index, take, true};
+ghost use Rattle.std.specs.List.{list_all};
+ghost use Rattle.rpg_files.specs.FirstLine.{IsFirstLine};
+ghost use Rattle.rpg_files.specs.Records.{is_character};
+
+/// What stands at the front of some bytes.
+#[derive(Clone, Copy)]
+pub(crate) enum FirstLine {
+    /// A record of `len` bytes, `line_len` with the end of its line.
+    Record { len: usize, line_len: usize },
+    /// A record that no program can take.
+    Bad,
+    /// The line has no end yet: its first `scanned` bytes are characters, and only a carriage return may stand behind
+    /// them.
+    Incomplete { scanned: usize },
+}
+
+fn is_character(b: u8) -> bool
+    ensures { result ≡ is_character b }
+{
+    0x20 <= b && b <= 0x7E
+}
+
+/// How many bytes are characters before the first that is none.
+fn characters(bytes: &[u8]) -> usize
+    ensures within { result ≤ length bytes.now }
+    ensures all { list_all is_character (take result bytes.now) ≡ true }
+    ensures other { result < length bytes.now → is_character (slice_index bytes.now result) ≡ false }
+{
+    for (i, b) in bytes.iter().enumerate() {
+        if !is_character(*b) {
+            return i;
+        }
+    }
+    bytes.len()
+}
+
+/// What the byte that is no character makes of the characters before it.
+fn line_ended_at(bytes: &[u8], len: usize, limit: usize) -> FirstLine
+    requires inside { len < length bytes.now }
+    requires short { len ≤ limit }
+    requires scanned { list_all is_character (take len bytes.now) ≡ true }
+    requires other { is_character (slice_index bytes.now len) ≡ false }
+    ensures { IsFirstLine limit bytes.now result }
+{
+    match bytes[len] {
+        b'\n' => FirstLine::Record {
+            len,
+            line_len: len + 1,
+        },
+        b'\r' => match bytes.get(len + 1) {
+            None => FirstLine::Incomplete { scanned: len },
+            Some(b'\n') => FirstLine::Record {
+                len,
+                line_len: len + 2,
+            },
+            Some(_) => FirstLine::Bad,
+        },
+        _ => FirstLine::Bad,
+    }
+}
+
+/// What stands at the front of the bytes, the first `scanned` of which are known to be characters.
+pub(crate) fn first_line(bytes: &[u8], scanned: usize, limit: usize) -> FirstLine
+    requires inside { scanned ≤ length bytes.now }
+    requires scanned { list_all is_character (take scanned bytes.now) ≡ true }
+    ensures { IsFirstLine limit bytes.now result }
+{
+    let len = scanned + characters(&bytes[scanned..]);
+    if len > limit {
+        return FirstLine::Bad;
+    }
+    if len == bytes.len() {
+        return FirstLine::Incomplete { scanned: len };
+    }
+    line_ended_at(bytes, len, limit)
+}

@@ -1,0 +1,152 @@
+//! Records from a reader, one at a time.
+
+ghost use Rattle.std.specs.Prelude.{◌≡◌, ◌+◌, ◌<◌, ◌≤◌, length};
+ghost use Rattle.rpg_files.specs.Buffers.{bytes_of, capacity_of};
+ghost use Rattle.rpg_files.specs.Records.{max_records};
+
+use crate::buffer::Buffer;
+use crate::counting::{Counted, DeviceFault};
+use crate::input::{NextLine, has_more, read_line};
+use std::alloc::{AllocError, Global};
+use std::io::Read;
+
+/// The most bytes of one read.
+const PIECE: usize = 65_536;
+
+/// The most records of an input (this profile).
+const MAX_RECORDS: u32 = 10_000_000;
+
+/// What stands next in an input.
+#[derive(Clone, Copy)]
+pub enum Next {
+    /// A record, which `record` lends until the next call.
+    Record,
+    /// A record that is longer than the limit, or has a byte that is no character.
+    Bad,
+    End,
+}
+
+/// Why nothing more is read of an input.
+#[derive(Clone, Copy)]
+pub enum ReadFault {
+    /// The reader failed.
+    Device,
+    /// The input has more than 10,000,000 records.
+    TooMany,
+}
+
+impl From<DeviceFault> for ReadFault {
+    ghost use Rattle.rpg_files.specs.declared.reader.ReadFault.TheVariants.{Device};
+
+    ghost from_gives = { λ _ e. e ≡ Device };
+
+    fn from(_: DeviceFault) -> ReadFault {
+        ReadFault::Device
+    }
+}
+
+/// The records of a reader's input.
+#[derive(Drop)]
+pub struct RecordReader<'a, R> {
+    reader: &'a mut Counted<R>,
+    buffer: Buffer,
+    /// The last record's bytes at the front of the buffer.
+    len: usize,
+    /// The same with the end of its line.
+    line_len: usize,
+    /// The most bytes of a record.
+    limit: u16,
+    is_ended: bool,
+    /// How many records were given.
+    count: u32,
+    answer: Result<Next, ReadFault>,
+    ghost ordered: { len ≤ line_len },
+    ghost within: { line_len ≤ length (bytes_of buffer) },
+    ghost room: { limit + 1 < capacity_of buffer },
+    ghost few: { count ≤ max_records },
+}
+
+impl<'a, R> RecordReader<'a, R> {
+    ghost use Rattle.std.specs.Prelude.{IfOk};
+    ghost use Rattle.rpg_files.specs.Reading.{IsFresh, record_of, source_of};
+
+    /// A reader of records of at most `limit` bytes.
+    pub fn new(
+        alloc: Global,
+        reader: &'a mut Counted<R>,
+        limit: u16,
+    ) -> Result<RecordReader<'a, R>, AllocError>
+        ensures same_reader { IfOk result (λ r. r.reader.ghost_name ≡ reader.entry.ghost_name) }
+        ensures untouched { IfOk result (λ r. source_of r ≡ reader.old) }
+        ensures fresh { IfOk result (λ r. IsFresh limit r) }
+    {
+        let buffer = Buffer::with_capacity(alloc, PIECE + limit as usize + 1)?;
+        Ok(RecordReader {
+            reader,
+            buffer,
+            len: 0,
+            line_len: 0,
+            limit,
+            is_ended: false,
+            count: 0,
+            answer: Ok(Next::Record),
+        })
+    }
+
+    /// The record that was given last.
+    pub fn record(&self) -> &[u8]
+        ensures { result.now ≡ record_of self.now }
+    {
+        &self.buffer.bytes()[..self.len]
+    }
+}
+
+impl<'a, R: Read> RecordReader<'a, R> {
+    ghost use Rattle.std.specs.Prelude.{◌-◌, ◌^◌, true, false};
+    ghost use Rattle.rpg_files.specs.Counting.{faults_of};
+    ghost use Rattle.rpg_files.specs.Reading.{ReadsNext, answer_of, is_record, source_of};
+
+    /// What stands next in the input. An answer other than a record is repeated from then on.
+    pub fn next(&mut self) -> Result<Next, ReadFault>
+        requires { faults_of (source_of self.old) < 2 ^ 64 - 1 }
+        ensures same_reader { self.new.reader.ghost_name ≡ self.old.reader.ghost_name }
+        ensures answer { answer_of self.new ≡ result }
+        ensures behind_record { is_record (answer_of self.old) ≡ true → ReadsNext R.remaining self.old result self.new }
+        ensures repeated { is_record (answer_of self.old) ≡ false → (result ≡ answer_of self.old) × (self.new ≡ self.old) }
+    {
+        if let Ok(Next::Record) = self.answer {
+            self.answer = self.read_next();
+        }
+        self.answer
+    }
+
+    /// What stands behind the last record.
+    fn read_next(&mut self) -> Result<Next, ReadFault>
+        requires { faults_of (source_of self.old) < 2 ^ 64 - 1 }
+        ensures same_reader { self.new.reader.ghost_name ≡ self.old.reader.ghost_name }
+        ensures next { ReadsNext R.remaining self.old result self.new }
+    {
+        let line_len = self.line_len;
+        self.len = 0;
+        self.line_len = 0;
+        self.buffer.consume(line_len);
+        if self.count == MAX_RECORDS {
+            return if has_more(self.reader, &mut self.buffer, &mut self.is_ended)? {
+                Err(ReadFault::TooMany)
+            } else {
+                Ok(Next::End)
+            };
+        }
+        let limit = self.limit as usize;
+        match read_line(self.reader, &mut self.buffer, &mut self.is_ended, limit)? {
+            NextLine::Record { len, line_len } => {
+                self.len = len;
+                self.line_len = line_len;
+                self.count += 1;
+                Ok(Next::Record)
+            }
+            NextLine::Bad => Ok(Next::Bad),
+            NextLine::End => Ok(Next::End),
+        }
+    }
+}

@@ -1,0 +1,4 @@
+pub mod Constants
+pub mod Kept
+pub mod Object
+pub mod Sections
