@@ -11,7 +11,7 @@ use rpg_engine::{ReadFault, Report, RunFault};
 use rpg_format::fault::Code;
 
 /// How a command ended.
-#[derive(Clone, Copy, Debug, PartialEq, Eq)]
+#[derive(Clone, Copy)]
 pub enum Answer {
     /// The source was compiled to an object program.
     Compiled,

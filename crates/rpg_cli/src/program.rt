@@ -1,6 +1,5 @@
 //! The program `rpg2`.
 
-ghost use Rattle.std.specs.Prelude.{◌≤◌};
 ghost use Rattle.rpg_cli.specs.Saying.{PrintsALine, Says};
 
 use crate::answer::Answer;

@@ -8,7 +8,7 @@ use old_object::DecodeFault;
 use rpg_format::fault::Code;
 
 /// Why a run gave no report.
-#[derive(Clone, Copy, Debug, PartialEq, Eq)]
+#[derive(Clone, Copy)]
 pub enum RunFault {
     /// The bytes are no object program: the first fault.
     Object { offset: usize, code: Code },

@@ -10,7 +10,7 @@ use crate::values;
 use rpg_spec::{CalculationSpec, ColumnFault, Indicator, Operation, Three};
 
 #[tactic(auto, unfolding(rpg_spec::specs::Tables::calculation_card, rpg_spec::specs::Columns::values, rpg_spec::specs::Columns::at_with, rpg_spec::specs::Columns::also, rpg_spec::specs::Columns::past, rpg_spec::specs::Columns::blank))]
-fn calculation_card(card: &Card) -> Result<CalculationSpec, ColumnFault>
+pub(crate) fn calculation_card(card: &Card) -> Result<CalculationSpec, ColumnFault>
     ensures { result ≡ tables.calculation_card.reading card.now }
 {
     card.unused(7, 8)?;

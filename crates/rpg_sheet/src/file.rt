@@ -10,7 +10,7 @@ use crate::values;
 use rpg_spec::{ColumnFault, Device, Direction, FileSpec};
 
 #[tactic(auto, unfolding(rpg_spec::specs::Tables::file, rpg_spec::specs::Columns::values, rpg_spec::specs::Columns::at_with, rpg_spec::specs::Columns::also, rpg_spec::specs::Columns::past, rpg_spec::specs::Columns::blank))]
-fn file(card: &Card) -> Result<FileSpec, ColumnFault>
+pub(crate) fn file(card: &Card) -> Result<FileSpec, ColumnFault>
     ensures { result ≡ tables.file.reading card.now }
 {
     let name = card.name(7, 14)?;
@@ -20,9 +20,7 @@ fn file(card: &Card) -> Result<FileSpec, ColumnFault>
     let ascending = at(18, values::marked(b"A", card.columns(18, 18)))?;
     at(19, values::only(b"F", card.columns(19, 19)))?;
     let record_length = card.number(24, 27)?;
-    card.blank(28, 32)?;
-    card.unused(33, 34)?;
-    card.blank(35, 39)?;
+    file_unread(card)?;
     let device = device_of(card.columns(40, 46));
     card.blank(47, 74)?;
     Ok(FileSpec {
@@ -33,6 +31,15 @@ fn file(card: &Card) -> Result<FileSpec, ColumnFault>
         record_length,
         device,
     })
+}
+
+#[tactic(auto, unfolding(rpg_spec::specs::Tables::file_unread, rpg_spec::specs::Columns::values, rpg_spec::specs::Columns::at_with, rpg_spec::specs::Columns::past, rpg_spec::specs::Columns::blank))]
+fn file_unread(card: &Card) -> Result<(), ColumnFault>
+    ensures { result ≡ tables.file_unread.reading card.now }
+{
+    card.blank(28, 32)?;
+    card.unused(33, 34)?;
+    card.blank(35, 39)
 }
 
 impl Card {

@@ -8,7 +8,7 @@ use crate::card::Card;
 use rpg_spec::{ColumnFault, HeaderSpec};
 
 #[tactic(auto, unfolding(rpg_spec::specs::Tables::header, rpg_spec::specs::Columns::values, rpg_spec::specs::Columns::past, rpg_spec::specs::Columns::blank))]
-fn header(card: &Card) -> Result<HeaderSpec, ColumnFault>
+pub(crate) fn header(card: &Card) -> Result<HeaderSpec, ColumnFault>
     ensures { result ≡ tables.header.reading card.now }
 {
     card.blank(15, 74)?;

@@ -11,7 +11,7 @@ use rpg_spec::{ColumnFault, InputField, InputSpec, RecordType};
 use rpg_text::is_blank;
 
 #[tactic(auto, unfolding(rpg_spec::specs::Tables::input_card, rpg_spec::specs::Columns::values, rpg_spec::specs::Columns::also, rpg_spec::specs::Columns::where_card))]
-fn input_card(card: &Card) -> Result<InputSpec, ColumnFault>
+pub(crate) fn input_card(card: &Card) -> Result<InputSpec, ColumnFault>
     ensures { result ≡ tables.input_card.reading card.now }
 {
     if is_field_card(card) {
@@ -46,9 +46,7 @@ fn type_card(card: &Card) -> Result<RecordType, ColumnFault>
     let sequence = at(15, values::letters(card.columns(15, 16)))?;
     card.blank(17, 18)?;
     let indicator = card.optional_indicator(19, 20)?;
-    card.unused(21, 27)?;
-    card.unused(28, 34)?;
-    card.unused(35, 41)?;
+    no_identification(card)?;
     card.blank(42, 74)?;
     Ok(RecordType {
         file,
@@ -66,16 +64,32 @@ fn field_card(card: &Card) -> Result<InputField, ColumnFault>
     let to = card.number(48, 51)?;
     let decimals = card.optional_digit(52, 52)?;
     let name = card.name(53, 58)?;
-    card.unused(59, 60)?;
-    card.blank(61, 64)?;
-    card.unused(65, 66)?;
-    card.unused(67, 68)?;
-    card.unused(69, 70)?;
-    card.blank(71, 74)?;
+    field_unread(card)?;
     Ok(InputField {
         from,
         to,
         decimals,
         name,
     })
+}
+
+#[tactic(auto, unfolding(rpg_spec::specs::Tables::no_identification, rpg_spec::specs::Columns::values, rpg_spec::specs::Columns::at_with, rpg_spec::specs::Columns::past))]
+fn no_identification(card: &Card) -> Result<(), ColumnFault>
+    ensures { result ≡ tables.no_identification.reading card.now }
+{
+    card.unused(21, 27)?;
+    card.unused(28, 34)?;
+    card.unused(35, 41)
+}
+
+#[tactic(auto, unfolding(rpg_spec::specs::Tables::field_unread, rpg_spec::specs::Columns::values, rpg_spec::specs::Columns::at_with, rpg_spec::specs::Columns::past, rpg_spec::specs::Columns::blank))]
+fn field_unread(card: &Card) -> Result<(), ColumnFault>
+    ensures { result ≡ tables.field_unread.reading card.now }
+{
+    card.unused(59, 60)?;
+    card.blank(61, 64)?;
+    card.unused(65, 66)?;
+    card.unused(67, 68)?;
+    card.unused(69, 70)?;
+    card.blank(71, 74)
 }

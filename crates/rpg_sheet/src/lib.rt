@@ -15,5 +15,10 @@ mod spec;
 mod values;
 
 pub use card::Card;
+pub use rpg_spec::{
+    CalculationSpec, ColumnFault, Condition, Device, Direction, Factor, FileSpec, FormType,
+    HeaderSpec, Indicator, InputField, InputSpec, LineTime, Literal, NumericLiteral, Operation,
+    OutputField, OutputRecord, OutputSpec, RecordType, Spec, TextLiteral, Three, Word,
+};
 pub use sheet::{Cards, SheetCode, SheetFault};
 pub use source::cards;

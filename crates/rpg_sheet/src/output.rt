@@ -14,7 +14,7 @@ use rpg_spec::{
 use rpg_text::is_blank;
 
 #[tactic(auto, unfolding(rpg_spec::specs::Tables::output_card, rpg_spec::specs::Columns::values, rpg_spec::specs::Columns::also, rpg_spec::specs::Columns::where_card))]
-fn output_card(card: &Card) -> Result<OutputSpec, ColumnFault>
+pub(crate) fn output_card(card: &Card) -> Result<OutputSpec, ColumnFault>
     ensures { result ≡ tables.output_card.reading card.now }
 {
     if is_field_card(card) {
@@ -42,11 +42,7 @@ fn record_card(card: &Card) -> Result<OutputRecord, ColumnFault>
     let file = card.optional_name(7, 14)?;
     let time = at(15, line_time(card.columns(15, 15)))?;
     card.blank(16, 16)?;
-    card.unused(17, 17)?;
-    let space_after = card.columns(18, 18);
-    let space_after = at(18, values::blank_or(space_after, one_space(space_after)))?;
-    card.unused(19, 20)?;
-    card.unused(21, 22)?;
+    let space_after = form_movement(card)?;
     let conditions = conditions(card)?;
     card.blank(32, 70)?;
     Ok(OutputRecord {
@@ -76,6 +72,19 @@ fn output_field_card(card: &Card) -> Result<OutputField, ColumnFault>
         end,
         constant,
     })
+}
+
+/// How the form moves: the space after the line.
+#[tactic(auto, unfolding(rpg_spec::specs::Tables::form_movement, rpg_spec::specs::Columns::values, rpg_spec::specs::Columns::at_with, rpg_spec::specs::Columns::also, rpg_spec::specs::Columns::past))]
+fn form_movement(card: &Card) -> Result<Option<u8>, ColumnFault>
+    ensures { result ≡ tables.form_movement.reading card.now }
+{
+    card.unused(17, 17)?;
+    let space_after = card.columns(18, 18);
+    let space_after = at(18, values::blank_or(space_after, one_space(space_after)))?;
+    card.unused(19, 20)?;
+    card.unused(21, 22)?;
+    Ok(space_after)
 }
 
 /// The conditions in columns 23 to 31.

@@ -7,7 +7,12 @@ ghost use Rattle.std.specs.List.{list_all};
 ghost use Rattle.rpg_sheet.specs.Seen.{sheet_code};
 ghost use Rattle.rpg_sheet.specs.declared.sheet.SheetFault.TheVariants.{NoMemory};
 
+use crate::calculation::calculation_card;
 use crate::card::Card;
+use crate::file::file;
+use crate::header::header;
+use crate::input::input_card;
+use crate::output::output_card;
 use rpg_spec::FormType;
 use rpg_text::is_blank;
 use std::alloc::AllocFailed;
@@ -197,10 +202,10 @@ fn has_bad_column(sheet: FormType, card: &Card) -> bool
     ensures { result ≡ sheets.has_bad_column sheet card.now }
 {
     match sheet {
-        FormType::Header => card.h().is_err(),
-        FormType::File => card.f().is_err(),
-        FormType::Input => card.i().is_err(),
-        FormType::Calculation => card.c().is_err(),
-        FormType::Output => card.o().is_err(),
+        FormType::Header => header(card).is_err(),
+        FormType::File => file(card).is_err(),
+        FormType::Input => input_card(card).is_err(),
+        FormType::Calculation => calculation_card(card).is_err(),
+        FormType::Output => output_card(card).is_err(),
     }
 }

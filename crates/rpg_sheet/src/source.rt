@@ -1,6 +1,6 @@
 //! From the bytes of a source to its cards.
 
-ghost use Rattle.std.specs.Prelude.{◌≡◌, ℕ, ◌<◌, ◌||◌, ◌∷◌, None, Some, length, map, nat_lt, OnOk, IfOk, IfErr, IfSome, position};
+ghost use Rattle.std.specs.Prelude.{◌≡◌, ℕ, ◌<◌, ◌||◌, None, Some, map, nat_lt, OnOk, IfOk, IfErr};
 ghost use Rattle.rpg_sheet.specs.Seen as seen;
 ghost use Rattle.rpg_sheet.specs.Sheet as sheets;
 ghost use Rattle.rpg_spec.specs.Cards.{card_of};

@@ -48,6 +48,10 @@ designation card = only (if bytes_eq (cols 15 15 card) (codes "I") then codes "P
 abbrev pub device_of : List ℕ → Option Device
 device_of text = Some (if bytes_eq text (codes "PRINTER") then device.Printer else device.Other)
 
+-- between the record length and the device
+unfoldable pub file_unread : Columns (Unit {0})
+file_unread = values tt ⊘ blank 28 32 ⊘ at 33 34 unused ⊘ blank 35 39
+
 abbrev pub file_spec : List ℕ → Direction → Bool → Bool → ℕ → Device → FileSpec
 file_spec n d e a l v = record { name = n; direction = d; ends_job = e; ascending = a; record_length = l; device = v }
 
@@ -60,9 +64,7 @@ file = values file_spec
     ⊛ at 18 18 (marked (codes "A"))
     ⊘ at 19 19 (only (codes "F"))
     ⊛ at 24 27 number
-    ⊘ blank 28 32
-    ⊘ at 33 34 unused
-    ⊘ blank 35 39
+    ⊘ file_unread
     ⊛ at 40 46 device_of
     ⊘ blank 47 74
 
@@ -71,19 +73,25 @@ file = values file_spec
 abbrev pub record_type : Option (List ℕ) → List ℕ → Option ℕ → RecordType
 record_type f s i = record { file = f; sequence = s; indicator = i }
 
+-- the three sets of what identifies a record
+unfoldable pub no_identification : Columns (Unit {0})
+no_identification = values tt ⊘ at 21 27 unused ⊘ at 28 34 unused ⊘ at 35 41 unused
+
 unfoldable pub type_card : Columns RecordType
 type_card = values record_type
     ⊛ at 7 14 (blank_or (name 8))
     ⊛ at 15 16 letters
     ⊘ blank 17 18
     ⊛ at 19 20 (blank_or indicator)
-    ⊘ at 21 27 unused
-    ⊘ at 28 34 unused
-    ⊘ at 35 41 unused
+    ⊘ no_identification
     ⊘ blank 42 74
 
 abbrev pub input_field : ℕ → ℕ → Option ℕ → List ℕ → InputField
 input_field f t d n = record { from = f; to = t; decimals = d; name = n }
+
+-- behind a field's name
+unfoldable pub field_unread : Columns (Unit {0})
+field_unread = values tt ⊘ at 59 60 unused ⊘ blank 61 64 ⊘ at 65 66 unused ⊘ at 67 68 unused ⊘ at 69 70 unused ⊘ blank 71 74
 
 unfoldable pub field_card : Columns InputField
 field_card = values input_field
@@ -92,12 +100,7 @@ field_card = values input_field
     ⊛ at 48 51 number
     ⊛ at 52 52 (blank_or digits)
     ⊛ at 53 58 (name 6)
-    ⊘ at 59 60 unused
-    ⊘ blank 61 64
-    ⊘ at 65 66 unused
-    ⊘ at 67 68 unused
-    ⊘ at 69 70 unused
-    ⊘ blank 71 74
+    ⊘ field_unread
 
 abbrev pub is_field_card : List ℕ → Bool
 is_field_card card = all_blank (cols 7 16 card)
@@ -151,15 +154,16 @@ space_after = one_of ((codes "1", 1) ∷ [])
 abbrev pub output_record : Option (List ℕ) → LineTime → Option ℕ → Three (Option Condition) → OutputRecord
 output_record f t a c = record { file = f; time = t; space_after = a; conditions = c }
 
+-- how the form moves
+unfoldable pub form_movement : Columns (Option ℕ)
+form_movement = values (λ s. s) ⊘ at 17 17 unused ⊛ at 18 18 (blank_or space_after) ⊘ at 19 20 unused ⊘ at 21 22 unused
+
 unfoldable pub record_card : Columns OutputRecord
 record_card = values output_record
     ⊛ at 7 14 (blank_or (name 8))
     ⊛ at 15 15 line_time
     ⊘ blank 16 16
-    ⊘ at 17 17 unused
-    ⊛ at 18 18 (blank_or space_after)
-    ⊘ at 19 20 unused
-    ⊘ at 21 22 unused
+    ⊛ form_movement
     ⊛ conditions 23 25 26 28 29 31
     ⊘ blank 32 70
 

@@ -1,6 +1,6 @@
 //! Literals: numbers and texts that stand on the card itself.
 
-ghost use Rattle.std.specs.Prelude.{◌≡◌, ℤ, ◌^◌, ◌≤◌, ◌<◌, length, unsigned_abs, IsTrue};
+ghost use Rattle.std.specs.Prelude.{◌≡◌, ◌^◌, ◌≤◌, ◌<◌, length, unsigned_abs, IsTrue};
 ghost use Rattle.std.specs.List.{list_all};
 ghost use Rattle.rpg_spec.specs.Numeral.{IsNumeral};
 ghost use Rattle.rpg_text.specs.Texts.{is_character};
