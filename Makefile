@@ -2,9 +2,19 @@
 
 EXAMPLE := examples/invoices
 RPG2 := crates/rpg2/out/rpg2
-SOURCES := $(shell find crates -path '*/out' -prune -o \( -name '*.rt' -o -name '*.antt' \) -print)
 
-.PHONY: run test bench
+# The processors that one proof takes. Two crates are proved side by side, each with so many; on two processors, `make JOBS=1`.
+JOBS := 2
+MAKEFLAGS += -j2
+
+# crates.txt says which crate stands on which.
+CRATES := $(shell sed -n 's/[: ].*//p' crates.txt)
+PROGRAMS := $(patsubst crates/%/src/main.rt,%,$(wildcard crates/*/src/main.rt))
+below = $(filter $(CRATES),$(shell sed -n 's/^$(1)[^:]*://p' crates.txt))
+sources = $(shell find crates/$(1)/src crates/$(1)/specs crates/$(1)/proofs \( -name '*.rt' -o -name '*.antt' \) 2>/dev/null)
+library = crates/$(1)/out/rlib/stamp
+
+.PHONY: run test bench examples
 
 # Builds rpg2, shows the example report's source, compiles it and runs it: what rpg2 says of each, and the printed form between.
 run: $(RPG2)
@@ -20,14 +30,25 @@ run: $(RPG2)
 	@cmp out/invoices.print $(EXAMPLE)/invoices.expected
 
 # The gate: every proof from nothing, every must-fail edit, every test, every program as two compilers build it.
-test:
+test: examples
 	rt ci
+
+# The gate runs the examples as rpg_examples has them: these are the files that a person finds in examples/.
+examples:
+	@for file in crates/rpg_examples/data/*; do cmp examples/*/$$(basename $$file) $$file || exit 1; done
 
 # The example's total over 1,000,000 records, beside the same total made by awk.
 bench: $(RPG2)
 	bench/run.sh
 
-# Only what is proved is built: the first build takes some minutes.
-$(RPG2): $(SOURCES) crates.txt
-	cd crates/rpg2 && rt run -- --help > /dev/null
+# A target a library: it is proved once those below it are.
+define library_rule
+$(call library,$(1)): $(foreach it,$(call below,$(1)),$(call library,$(it))) $(call sources,$(1))
+	build/library.sh $(1) $(JOBS)
+endef
+$(foreach it,$(filter-out $(PROGRAMS),$(CRATES)),$(eval $(call library_rule,$(it))))
+
+# Only what is proved is built: README says how long the first build takes.
+$(RPG2): $(foreach it,$(call below,rpg2),$(call library,$(it))) $(call sources,rpg2)
+	cd crates/rpg2 && rt run --jobs $(JOBS) -- --help > /dev/null
 	@touch $(RPG2)

@@ -1,17 +1,17 @@
 -- The cards of a source that are on a sheet, and what each stands for.
 use Rattle.std.specs.Prelude.{ℕ, ◌+◌, ◌≤◌, List, [], ◌∷◌, Option, None, Some}
 use Rattle.rpg_cards.specs.declared.spec_card.SpecCard.{SpecCard}
-use Rattle.rpg_sheet.specs.Specs.{spec_of}
-use Rattle.rpg_sheet.specs.declared.calculation.CalculationSpec.{CalculationSpec}
-use Rattle.rpg_sheet.specs.declared.file.FileSpec.{FileSpec}
-use Rattle.rpg_sheet.specs.declared.input.InputField.{InputField}
-use Rattle.rpg_sheet.specs.declared.input.InputSpec.TheVariants as input
-use Rattle.rpg_sheet.specs.declared.input.RecordType.{RecordType}
-use Rattle.rpg_sheet.specs.declared.output.OutputField.{OutputField}
-use Rattle.rpg_sheet.specs.declared.output.OutputRecord.{OutputRecord}
-use Rattle.rpg_sheet.specs.declared.output.OutputSpec.TheVariants as output
-use Rattle.rpg_sheet.specs.declared.spec.Spec.{Spec}
-use Rattle.rpg_sheet.specs.declared.spec.Spec.TheVariants as spec
+use Rattle.rpg_spec.specs.Specs.{spec_of}
+use Rattle.rpg_spec.specs.declared.calculation.CalculationSpec.{CalculationSpec}
+use Rattle.rpg_spec.specs.declared.file.FileSpec.{FileSpec}
+use Rattle.rpg_spec.specs.declared.input.InputField.{InputField}
+use Rattle.rpg_spec.specs.declared.input.InputSpec.TheVariants as input
+use Rattle.rpg_spec.specs.declared.input.RecordType.{RecordType}
+use Rattle.rpg_spec.specs.declared.output.OutputField.{OutputField}
+use Rattle.rpg_spec.specs.declared.output.OutputRecord.{OutputRecord}
+use Rattle.rpg_spec.specs.declared.output.OutputSpec.TheVariants as output
+use Rattle.rpg_spec.specs.declared.spec.Spec.{Spec}
+use Rattle.rpg_spec.specs.declared.spec.Spec.TheVariants as spec
 
 -- ---- cards with their numbers; skipped cards and the last one stand for nothing
 

@@ -15,12 +15,12 @@ use Rattle.old_effect.specs.declared.form.Class.TheVariants as class
 use Rattle.old_effect.specs.declared.form.Form.{Form}
 use Rattle.old_effect.specs.declared.form.Kind.TheVariants as kind
 use Rattle.old_effect.specs.Values as value
-use Rattle.rpg_sheet.specs.declared.literal.Factor.{Factor}
-use Rattle.rpg_sheet.specs.declared.literal.Factor.TheVariants as factor
-use Rattle.rpg_sheet.specs.declared.literal.Literal.{Literal}
-use Rattle.rpg_sheet.specs.declared.literal.Literal.TheVariants as literal
-use Rattle.rpg_sheet.specs.declared.spec.Spec.{Spec}
-use Rattle.rpg_sheet.specs.Values.{is_character}
+use Rattle.rpg_spec.specs.declared.literal.Factor.{Factor}
+use Rattle.rpg_spec.specs.declared.literal.Factor.TheVariants as factor
+use Rattle.rpg_spec.specs.declared.literal.Literal.{Literal}
+use Rattle.rpg_spec.specs.declared.literal.Literal.TheVariants as literal
+use Rattle.rpg_spec.specs.declared.spec.Spec.{Spec}
+use Rattle.rpg_text.specs.Texts.{is_character}
 
 abbrev pub constant_of : Literal → Constant
 constant_of (literal.Number n) = Number n

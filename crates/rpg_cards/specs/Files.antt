@@ -4,10 +4,10 @@ use Rattle.std.specs.Option.{option_and_then, option_or}
 use Rattle.std.specs.Cmp.Lexicographic.{pointwise}
 use Rattle.rpg_cards.specs.Cards.{file_on, type_on, line_on}
 use Rattle.rpg_cards.specs.declared.spec_card.SpecCard.{SpecCard}
-use Rattle.rpg_sheet.specs.declared.file.Direction.{Direction}
-use Rattle.rpg_sheet.specs.declared.file.Direction.TheVariants.{Input, Output}
-use Rattle.rpg_sheet.specs.declared.file.FileSpec.{FileSpec}
-use Rattle.rpg_sheet.specs.declared.spec.Spec.{Spec}
+use Rattle.rpg_spec.specs.declared.file.Direction.{Direction}
+use Rattle.rpg_spec.specs.declared.file.Direction.TheVariants.{Input, Output}
+use Rattle.rpg_spec.specs.declared.file.FileSpec.{FileSpec}
+use Rattle.rpg_spec.specs.declared.spec.Spec.{Spec}
 
 abbrev pub is_input : Direction → Bool
 is_input Input = true

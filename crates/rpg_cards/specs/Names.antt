@@ -10,15 +10,13 @@ use Rattle.old_effect.specs.declared.form.Class.TheVariants as class
 use Rattle.old_effect.specs.declared.form.Form.{Form}
 use Rattle.old_effect.specs.declared.form.Kind.{Kind}
 use Rattle.old_effect.specs.declared.form.Kind.TheVariants as kind
-use Rattle.rpg_sheet.specs.declared.calculation.CalculationSpec.{CalculationSpec}
-use Rattle.rpg_sheet.specs.declared.input.InputField.{InputField}
-use Rattle.rpg_sheet.specs.declared.spec.Spec.{Spec}
+use Rattle.rpg_spec.specs.declared.calculation.CalculationSpec.{CalculationSpec}
+use Rattle.rpg_spec.specs.declared.input.InputField.{InputField}
+use Rattle.rpg_spec.specs.declared.spec.Spec.{Spec}
 use Rattle.rpg_symbols.specs.Fields.{given, form_of}
+use Rattle.rpg_text.specs.Texts.{is_between}
 
 -- ---- forms
-
-abbrev pub is_between : ℕ → ℕ → ℕ → Bool
-is_between low high n = nat_le low n && nat_le n high
 
 -- a plain field
 abbrev pub plain_form : Kind → ℕ → ℕ → Form

@@ -5,8 +5,8 @@ use Rattle.rpg_cards.specs.declared.operations.Need.TheVariants.{Blank, Free, Fi
 use Rattle.rpg_cards.specs.declared.operations.Kinds.{Kinds}
 use Rattle.rpg_cards.specs.declared.operations.Kinds.TheVariants.{Numbers, Alike, Any}
 use Rattle.rpg_cards.specs.declared.operations.OperationColumns.{OperationColumns}
-use Rattle.rpg_sheet.specs.declared.calculation.Operation.{Operation}
-use Rattle.rpg_sheet.specs.declared.calculation.Operation.TheVariants as op
+use Rattle.rpg_spec.specs.declared.calculation.Operation.{Operation}
+use Rattle.rpg_spec.specs.declared.calculation.Operation.TheVariants as op
 
 abbrev pub has : Need → Need → Need → Bool → Need → Kinds → OperationColumns
 has f g r h i k = record { factor_1 = f; factor_2 = g; result_field = r; may_half_adjust = h; indicators = i; kinds = k }

@@ -2,14 +2,14 @@
 
 ghost use Rattle.std.specs.Prelude.{◌≡◌, ◌≤◌, length, IsTrue};
 ghost use Rattle.std.specs.List.{list_all};
-ghost use Rattle.rpg_sheet.specs.Values.{is_character};
+ghost use Rattle.rpg_text.specs.Texts.{is_character};
 ghost use Rattle.rpg_cards.specs.Constants as constants;
 ghost use Rattle.rpg_cards.specs.declared.constants.Constant.TheVariants.{Text};
 
 use crate::names::{Defined, form_of_name};
 use crate::spec_card::SpecCard;
 use old_effect::form::{Class, Form, Kind};
-use rpg_sheet::{Factor, Literal, NumericLiteral, TextLiteral, Word};
+use rpg_spec::{Factor, Literal, NumericLiteral, TextLiteral, Word};
 use std::marker::Model;
 
 /// A text of 1 to 24 characters.
@@ -21,7 +21,7 @@ pub struct ConstantText {
 impl Model for ConstantText {
     ghost use Rattle.std.specs.Prelude.{ℕ, List, length, ◌≤◌, IsTrue};
     ghost use Rattle.std.specs.List.{list_all};
-    ghost use Rattle.rpg_sheet.specs.Values.{is_character};
+    ghost use Rattle.rpg_text.specs.Texts.{is_character};
 
     ghost Value = { List ℕ };
 

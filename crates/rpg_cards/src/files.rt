@@ -5,7 +5,7 @@ ghost use Rattle.std.specs.Option.{option_map};
 ghost use Rattle.rpg_cards.specs.Files as files;
 
 use crate::spec_card::SpecCard;
-use rpg_sheet::{Direction, FileSpec, Word};
+use rpg_spec::{Direction, FileSpec, Word};
 
 /// The first F card of that file.
 pub fn file_named<'a>(name: &Word<8>, cards: &'a [SpecCard]) -> Option<&'a FileSpec>

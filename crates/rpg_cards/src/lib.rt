@@ -13,4 +13,4 @@ pub use constants::{
 pub use files::{file_named, input_file, input_file_name, output_file, output_file_name};
 pub use names::{Defined, form_of_name, sized_form};
 pub use operations::{Kinds, Need, OperationColumns, columns};
-pub use spec_card::{SpecCard, spec_cards};
+pub use spec_card::SpecCard;

@@ -7,7 +7,7 @@ ghost use Rattle.rpg_symbols.specs.Fields as fields;
 
 use crate::spec_card::SpecCard;
 use old_effect::form::{Class, Form, Kind};
-use rpg_sheet::InputField;
+use rpg_spec::InputField;
 use rpg_symbols::Name;
 
 /// What the first definition of a name says of its form.

@@ -3,10 +3,10 @@
 ghost use Rattle.std.specs.Prelude.{◌≡◌};
 ghost use Rattle.rpg_cards.specs.Operations as operations;
 
-use rpg_sheet::Operation;
+use rpg_spec::Operation;
 
 /// Whether a column of a calculation card is filled.
-#[derive(Clone, Copy, Debug, PartialEq, Eq)]
+#[derive(Clone, Copy)]
 pub enum Need {
     Blank,
     /// Blank or filled.
@@ -15,7 +15,7 @@ pub enum Need {
 }
 
 /// What the operands of an operation hold.
-#[derive(Clone, Copy, Debug, PartialEq, Eq)]
+#[derive(Clone, Copy)]
 pub enum Kinds {
     Numbers,
     /// Numbers all, or texts all.
@@ -24,7 +24,7 @@ pub enum Kinds {
 }
 
 /// What an operation has on its card. Resulting indicators are filled where at least one is.
-#[derive(Clone, Copy, Debug, PartialEq, Eq)]
+#[derive(Clone, Copy)]
 pub struct OperationColumns {
     pub factor_1: Need,
     pub factor_2: Need,

@@ -1,7 +1,2 @@
--- Lemmas on records, on parts of an output, on a run that stops early, and on spelled programs.
-pub mod Determined
-pub mod Lines
-pub mod Parts
-pub mod Returns
+-- Lemmas on spelled programs.
 pub mod Spelled
-pub mod Stops

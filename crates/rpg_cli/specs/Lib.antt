@@ -1,9 +1,6 @@
--- The records of an input, what a reader and a writer did, what the engine answers, and the lines of answers.
+-- The answer to each outcome, the lines of answers, and what the program prints.
+pub use Rattle.rpg_engine.specs.Engine
 pub mod Answers
-pub mod Engine
 pub mod Outcomes
-pub mod Receiving
-pub mod Records
 pub mod Saying
-pub mod Sending
 pub mod SourceCodes

@@ -1,13 +1,10 @@
 //! The files of a command.
 
 use crate::answer::Answer;
-use crate::command_line::{CompileWords, RunWords};
-use crate::engine::execute;
-use crate::receiving::read_all;
-use crate::report::Report;
-use crate::sending::send;
 use crate::translation::compile_to_bytes;
 use old_object::decode;
+use rpg_engine::{Report, execute, read_all, send};
+use rpg_words::{CompileWords, RunWords};
 use std::alloc::Global;
 use std::io::{Error, ErrorKind, Read, Write};
 use std::rt::Files;

@@ -1,15 +1,12 @@
 //! The program `rpg2`.
 
-ghost use Rattle.std.specs.Prelude.{◌≤◌};
 ghost use Rattle.rpg_cli.specs.Saying.{PrintsALine, Says};
 
 use crate::answer::Answer;
-use crate::command_line::{Request, request_of};
 use crate::files::{compile_files, run_files};
-use crate::sending::send_line;
 use crate::text::line;
-use clap::Error;
-use clap::error::ErrorKind;
+use rpg_engine::send_line;
+use rpg_words::{Request, request_of};
 use std::io::Write;
 use std::process::ExitCode;
 use std::rt::{Env, Files};
@@ -40,18 +37,6 @@ fn say<W: Write>(out: &mut W, answer: &Answer) -> u8
     }
 }
 
-/// Prints clap's text on a fault of the command line, or help that was asked for, and answers the exit status.
-fn explain<R: Print + Eprint + AllocGlobal>(rt: &R, error: &Error) -> u8
-    ensures { result ≤ 2 }
-{
-    let is_fault = error.use_stderr();
-    match error.print(rt) {
-        Ok(()) if is_fault => 2,
-        Ok(()) => 0,
-        Err(_) => 1,
-    }
-}
-
 /// Does what the words ask, prints one line to `out`, and answers the exit status.
 ///
 /// The first word is the program's name. A fault of the command line prints clap's text on standard error, and help that
@@ -65,11 +50,11 @@ pub fn run<R: Files + Print + Eprint + AllocGlobal, W: Write>(
 {
     match request_of(rt.alloc(), words) {
         Ok(request) => say(out, &answer_to(rt, &request)),
-        Err(error) => {
-            if error.kind() == ErrorKind::OutOfMemory {
+        Err(refusal) => {
+            if refusal.is_no_memory() {
                 say(out, &Answer::NoMemory)
             } else {
-                explain(rt, &error)
+                refusal.explain(rt)
             }
         }
     }

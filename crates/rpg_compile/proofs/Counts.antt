@@ -16,10 +16,10 @@ use Rattle.rpg_faults.specs.Faults.{rule, Faultless}
 use Rattle.rpg_faults.specs.Limits.{count_of, count_since, passes_count}
 use Rattle.rpg_faults.specs.declared.fault.FaultCode.TheVariants.{F6}
 use Rattle.old_object.specs.Object.{TypeRow, LineRow}
-use Rattle.rpg_sheet.specs.declared.input.InputSpec.TheVariants as input
-use Rattle.rpg_sheet.specs.declared.output.OutputSpec.TheVariants as output
-use Rattle.rpg_sheet.specs.declared.spec.Spec.{Spec}
-use Rattle.rpg_sheet.specs.declared.spec.Spec.TheVariants as spec
+use Rattle.rpg_spec.specs.declared.input.InputSpec.TheVariants as input
+use Rattle.rpg_spec.specs.declared.output.OutputSpec.TheVariants as output
+use Rattle.rpg_spec.specs.declared.spec.Spec.{Spec}
+use Rattle.rpg_spec.specs.declared.spec.Spec.TheVariants as spec
 
 -- ---- what F6 says of one card
 

@@ -6,3 +6,4 @@ pub mod Counts
 pub mod Storage
 pub mod Totals
 pub mod Limits
+pub mod Numbering

@@ -6,7 +6,7 @@ use Rattle.std.specs.Prelude.{is_none, not, if◌then◌else◌}
 use Rattle.std.specs.Option.{option_map_or}
 use Rattle.rpg_cards.specs.Cards.{file_on}
 use Rattle.rpg_cards.specs.Files.{first_file, or_later, input_file, output_file, is_input, is_output}
-use Rattle.rpg_cards.specs.Names.{is_between}
+use Rattle.rpg_text.specs.Texts.{is_between}
 use Rattle.rpg_cards.specs.declared.spec_card.SpecCard.{SpecCard}
 use Rattle.rpg_compile.specs.Fields.{table_of}
 use Rattle.rpg_compile.specs.Program.{length_of, KeepsLimits}
@@ -16,9 +16,9 @@ use Rattle.rpg_faults.proofs.LeastLemmas.{rule-faultless, source_rule-faultless}
 use Rattle.rpg_faults.specs.Faults.{rule, source_rule, Faultless}
 use Rattle.rpg_faults.specs.Files.{bad_file, bad_for}
 use Rattle.rpg_faults.specs.declared.fault.FaultCode.TheVariants.{F7}
-use Rattle.rpg_sheet.specs.declared.file.Direction.{Direction}
-use Rattle.rpg_sheet.specs.declared.file.Direction.TheVariants.{Input, Output}
-use Rattle.rpg_sheet.specs.declared.file.FileSpec.{FileSpec}
+use Rattle.rpg_spec.specs.declared.file.Direction.{Direction}
+use Rattle.rpg_spec.specs.declared.file.Direction.TheVariants.{Input, Output}
+use Rattle.rpg_spec.specs.declared.file.FileSpec.{FileSpec}
 
 -- ---- files
 

@@ -27,10 +27,10 @@ use Rattle.old_effect.specs.Values.{Value}
 use Rattle.old_object.specs.Kept.{IsFieldRow, IsTypeRow, IsLineRow, IsInstructionRow, storage_of, IsPlainProgram}
 use Rattle.old_object.specs.Object.{Object, TypeRow, LineRow}
 use Rattle.old_object.specs.Rows.{AreValuesOf, IsValueOf, is_character}
-use Rattle.rpg_sheet.specs.declared.calculation.CalculationSpec.{CalculationSpec}
-use Rattle.rpg_sheet.specs.declared.input.InputField.{InputField}
-use Rattle.rpg_sheet.specs.declared.spec.Spec.{Spec}
-use Rattle.rpg_sheet.specs.Values.{is_character as is_card_character}
+use Rattle.rpg_spec.specs.declared.calculation.CalculationSpec.{CalculationSpec}
+use Rattle.rpg_spec.specs.declared.input.InputField.{InputField}
+use Rattle.rpg_spec.specs.declared.spec.Spec.{Spec}
+use Rattle.rpg_text.specs.Texts.{is_character as is_card_character}
 use Rattle.rpg_symbols.specs.Fields.{Fields, given, form_of, size_of, storage}
 
 -- ---- forms

@@ -8,8 +8,8 @@ use Rattle.rpg_cards.specs.Cards.{type_on, line_on}
 use Rattle.rpg_cards.specs.declared.spec_card.SpecCard.{SpecCard}
 use Rattle.rpg_compile.specs.Fields.{Table}
 use Rattle.rpg_compile.specs.Tables.{with_first, type_of, types_of, line_of, lines_of}
-use Rattle.rpg_sheet.specs.declared.input.RecordType.{RecordType}
-use Rattle.rpg_sheet.specs.declared.output.OutputRecord.{OutputRecord}
+use Rattle.rpg_spec.specs.declared.input.RecordType.{RecordType}
+use Rattle.rpg_spec.specs.declared.output.OutputRecord.{OutputRecord}
 
 -- ---- all
 

@@ -20,9 +20,9 @@ use Rattle.rpg_faults.specs.Limits.{bytes_by, bytes_from, bytes_in, names_by, na
 use Rattle.rpg_faults.specs.Names.{is_missing, bad_size_of_field, bad_size_of_result}
 use Rattle.rpg_faults.specs.Places.{outside_record}
 use Rattle.rpg_faults.specs.declared.fault.FaultCode.TheVariants.{F3, F6, F16}
-use Rattle.rpg_sheet.specs.declared.calculation.CalculationSpec.{CalculationSpec}
-use Rattle.rpg_sheet.specs.declared.file.FileSpec.{FileSpec}
-use Rattle.rpg_sheet.specs.declared.input.InputField.{InputField}
+use Rattle.rpg_spec.specs.declared.calculation.CalculationSpec.{CalculationSpec}
+use Rattle.rpg_spec.specs.declared.file.FileSpec.{FileSpec}
+use Rattle.rpg_spec.specs.declared.input.InputField.{InputField}
 use Rattle.rpg_symbols.specs.Fields.{Fields, given, form_of, size_of, storage}
 
 -- ---- names that are known

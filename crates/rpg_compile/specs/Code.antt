@@ -14,11 +14,11 @@ use Rattle.old_effect.specs.declared.operation.Operator.{Operator}
 use Rattle.old_effect.specs.declared.operation.Operator.TheVariants as operator
 use Rattle.old_effect.specs.declared.operation.Shows.{Shows}
 use Rattle.old_effect.specs.declared.operation.Side.TheVariants.{Right, Left}
-use Rattle.rpg_sheet.specs.declared.calculation.CalculationSpec.{CalculationSpec}
-use Rattle.rpg_sheet.specs.declared.calculation.Operation.{Operation}
-use Rattle.rpg_sheet.specs.declared.calculation.Operation.TheVariants as op
-use Rattle.rpg_sheet.specs.declared.indicator.Three.{Three}
-use Rattle.rpg_sheet.specs.declared.literal.Factor.{Factor}
+use Rattle.rpg_spec.specs.declared.calculation.CalculationSpec.{CalculationSpec}
+use Rattle.rpg_spec.specs.declared.calculation.Operation.{Operation}
+use Rattle.rpg_spec.specs.declared.calculation.Operation.TheVariants as op
+use Rattle.rpg_spec.specs.declared.indicator.Three.{Three}
+use Rattle.rpg_spec.specs.declared.literal.Factor.{Factor}
 
 -- ---- what stands in the columns of a card
 

@@ -8,7 +8,8 @@ use Rattle.rpg_compile.specs.declared.fault.CompileFault.TheVariants.{At, NoMemo
 use Rattle.rpg_compile.specs.declared.fault.SourceCode.TheVariants.{Sheet, Fault}
 use Rattle.rpg_faults.specs.Faults.{Faultless, IsLeastFault}
 use Rattle.old_object.specs.Object.{Object}
-use Rattle.rpg_sheet.specs.Sheet.{card_of, first_fault, source}
+use Rattle.rpg_spec.specs.Cards.{card_of}
+use Rattle.rpg_sheet.specs.Sheet.{first_fault, source}
 use Rattle.rpg_sheet.specs.declared.sheet.SheetFault.{SheetFault}
 use Rattle.rpg_sheet.specs.declared.sheet.SheetFault.TheVariants as sheet
 

@@ -9,8 +9,8 @@ use Rattle.old_effect.specs.declared.form.Form.{Form}
 use Rattle.old_effect.specs.declared.form.Kind.{Kind}
 use Rattle.old_effect.specs.declared.form.Kind.TheVariants as kind
 use Rattle.old_effect.specs.Values.{Value, Number, Text}
-use Rattle.rpg_sheet.specs.declared.literal.Factor.{Factor}
-use Rattle.rpg_sheet.specs.declared.literal.Factor.TheVariants as factor
+use Rattle.rpg_spec.specs.declared.literal.Factor.{Factor}
+use Rattle.rpg_spec.specs.declared.literal.Factor.TheVariants as factor
 use Rattle.rpg_symbols.specs.Fields.{Fields, given, number_of, form_of}
 
 -- a name that isn't known yet is added

@@ -9,7 +9,7 @@ use Rattle.rpg_compile.specs.Code.{code_of}
 use Rattle.rpg_compile.specs.Fields.{fields_of, table_of, all_forms, all_values}
 use Rattle.rpg_compile.specs.Tables.{types_of, lines_of}
 use Rattle.old_object.specs.Object.{Object, TypeRow, LineRow}
-use Rattle.rpg_sheet.specs.declared.file.FileSpec.{FileSpec}
+use Rattle.rpg_spec.specs.declared.file.FileSpec.{FileSpec}
 use Rattle.rpg_symbols.specs.Fields.{storage, size_of}
 
 -- the record length of a file, 0 where there is none

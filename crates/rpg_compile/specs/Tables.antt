@@ -13,12 +13,12 @@ use Rattle.old_effect.specs.declared.line.Time.TheVariants.{Detail}
 use Rattle.old_effect.specs.declared.operation.Operand.{Operand}
 use Rattle.old_object.specs.Object.{TypeRow, LineRow}
 use Rattle.old_object.specs.declared.row.Move.{Move}
-use Rattle.rpg_sheet.specs.declared.indicator.Condition as sheet
-use Rattle.rpg_sheet.specs.declared.indicator.Three.{Three}
-use Rattle.rpg_sheet.specs.declared.input.InputField.{InputField}
-use Rattle.rpg_sheet.specs.declared.input.RecordType.{RecordType}
-use Rattle.rpg_sheet.specs.declared.output.OutputField.{OutputField}
-use Rattle.rpg_sheet.specs.declared.output.OutputRecord.{OutputRecord}
+use Rattle.rpg_spec.specs.declared.indicator.Condition as sheet
+use Rattle.rpg_spec.specs.declared.indicator.Three.{Three}
+use Rattle.rpg_spec.specs.declared.input.InputField.{InputField}
+use Rattle.rpg_spec.specs.declared.input.RecordType.{RecordType}
+use Rattle.rpg_spec.specs.declared.output.OutputField.{OutputField}
+use Rattle.rpg_spec.specs.declared.output.OutputRecord.{OutputRecord}
 
 -- ---- cards that belong together
 

@@ -9,7 +9,7 @@ use crate::lines::operand_of;
 use crate::table::FieldTable;
 use old_effect::operation::{Action, Instruction, Operand, Operator, Shows, Side};
 use rpg_cards::SpecCard;
-use rpg_sheet::{CalculationSpec, Factor, Indicator, Operation, Three};
+use rpg_spec::{CalculationSpec, Factor, Indicator, Operation, Three};
 use std::alloc::{AllocError, Global};
 
 /// An instruction for each C card.

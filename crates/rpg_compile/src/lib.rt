@@ -1,6 +1,7 @@
 //! The compiler: from the cards of a source to an object program.
 #![tactic(auto)]
 
+mod cards;
 mod code;
 mod constants;
 mod fault;

@@ -10,7 +10,7 @@ use old_effect::line::{Condition, Conditions, File, LineField, Moves, Time};
 use old_effect::operation::Operand;
 use old_object::row::Line;
 use rpg_cards::{Constant, SpecCard};
-use rpg_sheet::{OutputField, OutputRecord, Three};
+use rpg_spec::{OutputField, OutputRecord, Three};
 use rpg_symbols::Name;
 use std::alloc::{AllocError, Global};
 
@@ -65,7 +65,7 @@ fn line_of(
 /// The conditions that stand, in the order of their columns.
 fn conditions_of(
     alloc: Global,
-    conditions: &Three<Option<rpg_sheet::Condition>>,
+    conditions: &Three<Option<rpg_spec::Condition>>,
 ) -> Result<Vec<Condition>, AllocError>
     ensures value { IfOk result (λ v. v.items ≡ tables.conditions_of conditions.now) }
     ensures rows { IfOk result (λ v. IsAlternativeRow v.items) }
@@ -79,7 +79,7 @@ fn conditions_of(
     Ok(standing)
 }
 
-fn condition_of(condition: rpg_sheet::Condition) -> Condition
+fn condition_of(condition: rpg_spec::Condition) -> Condition
     ensures value { result ≡ tables.condition_of condition }
     ensures kept { IsConditionRow result }
 {
@@ -127,7 +127,7 @@ fn line_field_of(operand: Operand<u16>, end: u16, conditions: Conditions) -> Lin
 }
 
 /// Conditions in three places, filled from the first on.
-fn in_places(conditions: Three<Option<rpg_sheet::Condition>>) -> Conditions
+fn in_places(conditions: Three<Option<rpg_spec::Condition>>) -> Conditions
     ensures value { result ≡ tables.in_places (tables.conditions_of conditions) }
     ensures first { IfSome result.first IsConditionRow }
     ensures second { IfSome result.second IsConditionRow }

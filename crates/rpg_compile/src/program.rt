@@ -20,7 +20,7 @@ use old_object::Program;
 use old_object::laws::plain_rows_are_programs;
 use old_object::row::Rows;
 use rpg_cards::{SpecCard, input_file, output_file};
-use rpg_sheet::FileSpec;
+use rpg_spec::FileSpec;
 use std::alloc::{AllocError, Global};
 
 /// The record length of a file, 0 where there is none.

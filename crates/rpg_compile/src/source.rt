@@ -3,10 +3,10 @@
 ghost use Rattle.std.specs.Prelude.{◌<◌, IfOk, IfErr};
 ghost use Rattle.rpg_compile.specs.Compile as compiling;
 
+use crate::cards::spec_cards;
 use crate::fault::{CompileFault, SourceCode};
 use crate::program::program_of;
 use old_object::Program;
-use rpg_cards::spec_cards;
 use rpg_faults::first_fault;
 use std::alloc::Global;
 

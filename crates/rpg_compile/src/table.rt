@@ -5,7 +5,7 @@ ghost use Rattle.rpg_cards.specs.Constants.{is_same};
 ghost use Rattle.rpg_compile.specs.Fields as fields;
 
 use rpg_cards::{Constant, factor_constant};
-use rpg_sheet::Factor;
+use rpg_spec::Factor;
 use rpg_symbols::{Name, Symbols};
 use std::marker::Model;
 

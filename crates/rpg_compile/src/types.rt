@@ -35,7 +35,7 @@ pub(crate) fn types_of(
 fn type_of(
     alloc: Global,
     table: &FieldTable,
-    record_type: &rpg_sheet::RecordType,
+    record_type: &rpg_spec::RecordType,
     behind: &[SpecCard],
 ) -> Result<RecordType, AllocError>
     requires { length (tables.moves_of table.now behind.now) ≤ 500 }

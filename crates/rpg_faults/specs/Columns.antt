@@ -5,10 +5,10 @@ use Rattle.rpg_cards.specs.Cards.{calculation_on, output_field_on}
 use Rattle.rpg_cards.specs.Operations.{columns}
 use Rattle.rpg_cards.specs.declared.operations.Need.{Need}
 use Rattle.rpg_cards.specs.declared.operations.Need.TheVariants.{Blank, Free, Filled}
-use Rattle.rpg_sheet.specs.declared.calculation.CalculationSpec.{CalculationSpec}
-use Rattle.rpg_sheet.specs.declared.calculation.Operation.{Operation}
-use Rattle.rpg_sheet.specs.declared.indicator.Three.{Three}
-use Rattle.rpg_sheet.specs.declared.output.OutputField.{OutputField}
+use Rattle.rpg_spec.specs.declared.calculation.CalculationSpec.{CalculationSpec}
+use Rattle.rpg_spec.specs.declared.calculation.Operation.{Operation}
+use Rattle.rpg_spec.specs.declared.indicator.Three.{Three}
+use Rattle.rpg_spec.specs.declared.output.OutputField.{OutputField}
 use Rattle.rpg_cards.specs.declared.spec_card.SpecCard.{SpecCard}
 
 abbrev pub misses : {X : Type 0} → Need → Option X → Bool

@@ -4,13 +4,13 @@ use Rattle.std.specs.Option.{option_map_or}
 use Rattle.std.specs.List.{list_any}
 use Rattle.rpg_cards.specs.Cards.{file_on, type_on, line_on}
 use Rattle.rpg_cards.specs.Files.{file_named, input_file, output_file, is_input, is_output}
-use Rattle.rpg_cards.specs.Names.{is_between}
+use Rattle.rpg_text.specs.Texts.{is_between}
 use Rattle.rpg_cards.specs.declared.spec_card.SpecCard.{SpecCard}
-use Rattle.rpg_sheet.specs.declared.file.Device.{Device}
-use Rattle.rpg_sheet.specs.declared.file.Device.TheVariants.{Printer, Other}
-use Rattle.rpg_sheet.specs.declared.file.Direction.{Direction}
-use Rattle.rpg_sheet.specs.declared.file.Direction.TheVariants.{Input, Output}
-use Rattle.rpg_sheet.specs.declared.file.FileSpec.{FileSpec}
+use Rattle.rpg_spec.specs.declared.file.Device.{Device}
+use Rattle.rpg_spec.specs.declared.file.Device.TheVariants.{Printer, Other}
+use Rattle.rpg_spec.specs.declared.file.Direction.{Direction}
+use Rattle.rpg_spec.specs.declared.file.Direction.TheVariants.{Input, Output}
+use Rattle.rpg_spec.specs.declared.file.FileSpec.{FileSpec}
 use Rattle.rpg_faults.specs.Cards.{is_type, is_line}
 
 -- ---- F cards

@@ -1,11 +1,11 @@
 -- F8: indicators that are not allowed.
 use Rattle.std.specs.Prelude.{ℕ, Bool, false, not, ◌&&◌, ◌||◌, ◌==◌, nat_le, Option, None, Some}
-use Rattle.rpg_sheet.specs.declared.indicator.Condition.{Condition}
-use Rattle.rpg_sheet.specs.declared.indicator.Three.{Three}
-use Rattle.rpg_sheet.specs.declared.input.InputSpec.TheVariants as input
-use Rattle.rpg_sheet.specs.declared.output.OutputSpec.TheVariants as output
-use Rattle.rpg_sheet.specs.declared.spec.Spec.{Spec}
-use Rattle.rpg_sheet.specs.declared.spec.Spec.TheVariants as spec
+use Rattle.rpg_spec.specs.declared.indicator.Condition.{Condition}
+use Rattle.rpg_spec.specs.declared.indicator.Three.{Three}
+use Rattle.rpg_spec.specs.declared.input.InputSpec.TheVariants as input
+use Rattle.rpg_spec.specs.declared.output.OutputSpec.TheVariants as output
+use Rattle.rpg_spec.specs.declared.spec.Spec.{Spec}
+use Rattle.rpg_spec.specs.declared.spec.Spec.TheVariants as spec
 use Rattle.rpg_cards.specs.declared.spec_card.SpecCard.{SpecCard}
 
 -- a record type has 01 to 99, L1 to L9, LR or H1 to H9

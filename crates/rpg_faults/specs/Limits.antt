@@ -6,10 +6,10 @@ use Rattle.rpg_cards.specs.Names.{definition_on, form_of_name}
 use Rattle.rpg_cards.specs.declared.constants.Constant.{Constant}
 use Rattle.rpg_cards.specs.declared.spec_card.SpecCard.{SpecCard}
 use Rattle.old_effect.specs.declared.form.Form.{Form}
-use Rattle.rpg_sheet.specs.declared.input.InputSpec.TheVariants as input
-use Rattle.rpg_sheet.specs.declared.output.OutputSpec.TheVariants as output
-use Rattle.rpg_sheet.specs.declared.spec.Spec.{Spec}
-use Rattle.rpg_sheet.specs.declared.spec.Spec.TheVariants as spec
+use Rattle.rpg_spec.specs.declared.input.InputSpec.TheVariants as input
+use Rattle.rpg_spec.specs.declared.output.OutputSpec.TheVariants as output
+use Rattle.rpg_spec.specs.declared.spec.Spec.{Spec}
+use Rattle.rpg_spec.specs.declared.spec.Spec.TheVariants as spec
 use Rattle.rpg_symbols.specs.Fields.{given, size_of, storage}
 use Rattle.rpg_faults.specs.Cards.{is_type, is_input_field, is_calculation, is_line, is_output_field}
 use Rattle.rpg_faults.specs.Names.{is_missing}

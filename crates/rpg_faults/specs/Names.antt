@@ -12,12 +12,12 @@ use Rattle.old_effect.specs.declared.form.Class.TheVariants as class
 use Rattle.old_effect.specs.declared.form.Form.{Form}
 use Rattle.old_effect.specs.declared.form.Kind.{Kind}
 use Rattle.old_effect.specs.declared.form.Kind.TheVariants as kind
-use Rattle.rpg_sheet.specs.declared.calculation.CalculationSpec.{CalculationSpec}
-use Rattle.rpg_sheet.specs.declared.calculation.Operation.{Operation}
-use Rattle.rpg_sheet.specs.declared.input.InputField.{InputField}
-use Rattle.rpg_sheet.specs.declared.literal.Factor.{Factor}
-use Rattle.rpg_sheet.specs.declared.literal.Factor.TheVariants as factor
-use Rattle.rpg_sheet.specs.declared.output.OutputField.{OutputField}
+use Rattle.rpg_spec.specs.declared.calculation.CalculationSpec.{CalculationSpec}
+use Rattle.rpg_spec.specs.declared.calculation.Operation.{Operation}
+use Rattle.rpg_spec.specs.declared.input.InputField.{InputField}
+use Rattle.rpg_spec.specs.declared.literal.Factor.{Factor}
+use Rattle.rpg_spec.specs.declared.literal.Factor.TheVariants as factor
+use Rattle.rpg_spec.specs.declared.output.OutputField.{OutputField}
 use Rattle.rpg_faults.specs.Cards.{operand}
 
 -- ---- F1: a name that is used and that no card defines, before or behind

@@ -16,9 +16,9 @@ use Rattle.rpg_cards.specs.declared.operations.Need.{Need}
 use Rattle.old_effect.specs.declared.form.Form.{Form}
 use Rattle.old_effect.specs.declared.form.Kind.{Kind}
 use Rattle.old_effect.specs.declared.form.Kind.TheVariants as kind
-use Rattle.rpg_sheet.specs.declared.calculation.CalculationSpec.{CalculationSpec}
-use Rattle.rpg_sheet.specs.declared.calculation.Operation.{Operation}
-use Rattle.rpg_sheet.specs.declared.literal.Factor.{Factor}
+use Rattle.rpg_spec.specs.declared.calculation.CalculationSpec.{CalculationSpec}
+use Rattle.rpg_spec.specs.declared.calculation.Operation.{Operation}
+use Rattle.rpg_spec.specs.declared.literal.Factor.{Factor}
 use Rattle.rpg_faults.specs.Cards.{operand}
 use Rattle.rpg_faults.specs.Names.{same_kind}
 

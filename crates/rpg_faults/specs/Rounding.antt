@@ -4,9 +4,9 @@ use Rattle.std.specs.Option.{option_map_or}
 use Rattle.rpg_cards.specs.Cards.{calculation_on}
 use Rattle.rpg_cards.specs.Operations.{columns}
 use Rattle.rpg_cards.specs.declared.spec_card.SpecCard.{SpecCard}
-use Rattle.rpg_sheet.specs.declared.calculation.CalculationSpec.{CalculationSpec}
-use Rattle.rpg_sheet.specs.declared.calculation.Operation.{Operation}
-use Rattle.rpg_sheet.specs.declared.calculation.Operation.TheVariants as op
+use Rattle.rpg_spec.specs.declared.calculation.CalculationSpec.{CalculationSpec}
+use Rattle.rpg_spec.specs.declared.calculation.Operation.{Operation}
+use Rattle.rpg_spec.specs.declared.calculation.Operation.TheVariants as op
 
 -- H where the operation doesn't round
 abbrev pub cannot_half_adjust : Option Operation → Bool

@@ -4,7 +4,7 @@ ghost use Rattle.std.specs.Prelude.{◌≡◌};
 ghost use Rattle.rpg_faults.specs.Columns as sheet_columns;
 
 use rpg_cards::{Need, SpecCard, columns};
-use rpg_sheet::{CalculationSpec, Indicator, Three};
+use rpg_spec::{CalculationSpec, Indicator, Three};
 
 pub(crate) fn bad_columns(card: &SpecCard) -> bool
     ensures { result ≡ sheet_columns.bad_columns card.now }

@@ -6,7 +6,7 @@ ghost use Rattle.rpg_cards.specs.Files as known;
 
 use crate::order::{has_line, has_type};
 use rpg_cards::{SpecCard, file_named, input_file, output_file};
-use rpg_sheet::{Device, Direction, FileSpec, Word};
+use rpg_spec::{Device, Direction, FileSpec, Word};
 
 pub(crate) fn breaks_files(cards: &[SpecCard], before: &[SpecCard], card: &SpecCard) -> bool
     ensures { result ≡ files.breaks_files cards.now before.now card.now }

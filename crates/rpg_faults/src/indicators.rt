@@ -4,7 +4,7 @@ ghost use Rattle.std.specs.Prelude.{◌≡◌};
 ghost use Rattle.rpg_faults.specs.Indicators as indicators;
 
 use rpg_cards::SpecCard;
-use rpg_sheet::{Condition, Indicator, InputSpec, OutputSpec, Spec, Three};
+use rpg_spec::{Condition, Indicator, InputSpec, OutputSpec, Spec, Three};
 
 pub(crate) fn bad_indicator(card: &SpecCard) -> bool
     ensures { result ≡ indicators.bad_indicator card.now }

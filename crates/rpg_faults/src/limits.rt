@@ -8,7 +8,7 @@ ghost use Rattle.rpg_faults.specs.Limits as limits;
 use crate::constants::{passes_fields, passes_storage_by_constant};
 use crate::names::is_defined;
 use rpg_cards::SpecCard;
-use rpg_sheet::{InputSpec, OutputSpec, Spec};
+use rpg_spec::{InputSpec, OutputSpec, Spec};
 
 const CALCULATIONS: usize = 1000;
 

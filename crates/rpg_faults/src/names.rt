@@ -8,7 +8,7 @@ ghost use Rattle.rpg_faults.specs.Names as names;
 
 use old_effect::form::{Class, Form, Kind};
 use rpg_cards::{Defined, Need, SpecCard, columns, form_of_name, sized_form};
-use rpg_sheet::{CalculationSpec, Factor, OutputField};
+use rpg_spec::{CalculationSpec, Factor, OutputField};
 use rpg_symbols::Name;
 
 /// F1: a name that is used and that no card defines.

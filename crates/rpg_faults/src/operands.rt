@@ -6,7 +6,7 @@ ghost use Rattle.rpg_faults.specs.Operands as operands;
 use crate::names::{is_same_kind, operand};
 use old_effect::form::{Class, Form, Kind};
 use rpg_cards::{Defined, Kinds, Need, SpecCard, columns, form_of_factor, form_of_name};
-use rpg_sheet::{CalculationSpec, Factor};
+use rpg_spec::{CalculationSpec, Factor};
 use rpg_symbols::Name;
 
 pub(crate) fn wrong_operand(cards: &[SpecCard], card: &SpecCard) -> bool

@@ -5,7 +5,7 @@ ghost use Rattle.rpg_cards.specs.Files as known;
 ghost use Rattle.rpg_faults.specs.Places as places;
 
 use rpg_cards::{Defined, SpecCard, file_named, form_of_name, input_file_name, output_file_name};
-use rpg_sheet::{FileSpec, InputField, OutputField};
+use rpg_spec::{FileSpec, InputField, OutputField};
 
 pub(crate) fn misplaces(cards: &[SpecCard], before: &[SpecCard], card: &SpecCard) -> bool
     ensures { result ≡ places.misplaces cards.now before.now card.now }

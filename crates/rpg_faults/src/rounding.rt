@@ -4,7 +4,7 @@ ghost use Rattle.std.specs.Prelude.{◌≡◌, option_copied};
 ghost use Rattle.rpg_faults.specs.Rounding as rounding;
 
 use rpg_cards::{SpecCard, columns};
-use rpg_sheet::{CalculationSpec, Operation};
+use rpg_spec::{CalculationSpec, Operation};
 
 pub(crate) fn bad_rounding(before: &[SpecCard], card: &SpecCard) -> bool
     ensures { result ≡ rounding.bad_rounding before.now card.now }

@@ -1,7 +1,7 @@
 -- The law of each card, one line for each range of columns.
 use Rattle.std.proofs.Common.{ℕ, ◌+◌, ◌≤◌, lit≤}
-use Rattle.rpg_sheet.specs.Columns.{Columns, also, past}
-use Rattle.rpg_sheet.specs.Tables.{header, file, type_card, field_card, is_field_card, input_card, calculation_card, no_conditions, resulting_indicators, conditions, record_card, output_field_card, output_card}
+use Rattle.rpg_spec.specs.Columns.{Columns, also, past}
+use Rattle.rpg_spec.specs.Tables.{header, file, file_unread, type_card, no_identification, field_card, field_unread, is_field_card, input_card, calculation_card, no_conditions, resulting_indicators, conditions, record_card, form_movement, output_field_card, output_card}
 use Rattle.rpg_sheet.proofs.Laws.{IsTable, values_law, at_law, blank_law, also_law, past_law, where_law}
 
 infixl 7 ◌⊛◌
@@ -22,6 +22,13 @@ unfolding header
 header_law = values_law _ 7
     ⊘ blank_law (lit≤ tt) (lit≤ tt) (lit≤ tt)
 
+file_unread_law : IsTable file_unread 28 40
+unfolding file_unread
+file_unread_law = values_law _ 28
+    ⊘ blank_law (lit≤ tt) (lit≤ tt) (lit≤ tt)
+    ⊘ at_law _ (lit≤ tt) (lit≤ tt)
+    ⊘ blank_law (lit≤ tt) (lit≤ tt) (lit≤ tt)
+
 pub file_law : IsTable file 7 75
 unfolding file
 file_law = values_law _ 7
@@ -32,11 +39,16 @@ file_law = values_law _ 7
     ⊛ at_law _ (lit≤ tt) (lit≤ tt)
     ⊘ at_law _ (lit≤ tt) (lit≤ tt)
     ⊛ at_law _ (lit≤ tt) (lit≤ tt)
-    ⊘ blank_law (lit≤ tt) (lit≤ tt) (lit≤ tt)
-    ⊘ at_law _ (lit≤ tt) (lit≤ tt)
-    ⊘ blank_law (lit≤ tt) (lit≤ tt) (lit≤ tt)
+    ⊘ file_unread_law
     ⊛ at_law _ (lit≤ tt) (lit≤ tt)
     ⊘ blank_law (lit≤ tt) (lit≤ tt) (lit≤ tt)
+
+no_identification_law : IsTable no_identification 21 42
+unfolding no_identification
+no_identification_law = values_law _ 21
+    ⊘ at_law _ (lit≤ tt) (lit≤ tt)
+    ⊘ at_law _ (lit≤ tt) (lit≤ tt)
+    ⊘ at_law _ (lit≤ tt) (lit≤ tt)
 
 type_card_law : IsTable type_card 7 75
 unfolding type_card
@@ -45,6 +57,14 @@ type_card_law = values_law _ 7
     ⊛ at_law _ (lit≤ tt) (lit≤ tt)
     ⊘ blank_law (lit≤ tt) (lit≤ tt) (lit≤ tt)
     ⊛ at_law _ (lit≤ tt) (lit≤ tt)
+    ⊘ no_identification_law
+    ⊘ blank_law (lit≤ tt) (lit≤ tt) (lit≤ tt)
+
+field_unread_law : IsTable field_unread 59 75
+unfolding field_unread
+field_unread_law = values_law _ 59
+    ⊘ at_law _ (lit≤ tt) (lit≤ tt)
+    ⊘ blank_law (lit≤ tt) (lit≤ tt) (lit≤ tt)
     ⊘ at_law _ (lit≤ tt) (lit≤ tt)
     ⊘ at_law _ (lit≤ tt) (lit≤ tt)
     ⊘ at_law _ (lit≤ tt) (lit≤ tt)
@@ -58,12 +78,7 @@ field_card_law = values_law _ 7
     ⊛ at_law _ (lit≤ tt) (lit≤ tt)
     ⊛ at_law _ (lit≤ tt) (lit≤ tt)
     ⊛ at_law _ (lit≤ tt) (lit≤ tt)
-    ⊘ at_law _ (lit≤ tt) (lit≤ tt)
-    ⊘ blank_law (lit≤ tt) (lit≤ tt) (lit≤ tt)
-    ⊘ at_law _ (lit≤ tt) (lit≤ tt)
-    ⊘ at_law _ (lit≤ tt) (lit≤ tt)
-    ⊘ at_law _ (lit≤ tt) (lit≤ tt)
-    ⊘ blank_law (lit≤ tt) (lit≤ tt) (lit≤ tt)
+    ⊘ field_unread_law
 
 no_conditions_law : IsTable no_conditions 9 18
 unfolding no_conditions
@@ -93,16 +108,21 @@ calculation_card_law = values_law _ 7
     ⊛ at_law _ (lit≤ tt) (lit≤ tt)
     ⊛ resulting_indicators_law
 
+form_movement_law : IsTable form_movement 17 23
+unfolding form_movement
+form_movement_law = values_law _ 17
+    ⊘ at_law _ (lit≤ tt) (lit≤ tt)
+    ⊛ at_law _ (lit≤ tt) (lit≤ tt)
+    ⊘ at_law _ (lit≤ tt) (lit≤ tt)
+    ⊘ at_law _ (lit≤ tt) (lit≤ tt)
+
 record_card_law : IsTable record_card 7 71
 unfolding record_card
 record_card_law = values_law _ 7
     ⊛ at_law _ (lit≤ tt) (lit≤ tt)
     ⊛ at_law _ (lit≤ tt) (lit≤ tt)
     ⊘ blank_law (lit≤ tt) (lit≤ tt) (lit≤ tt)
-    ⊘ at_law _ (lit≤ tt) (lit≤ tt)
-    ⊛ at_law _ (lit≤ tt) (lit≤ tt)
-    ⊘ at_law _ (lit≤ tt) (lit≤ tt)
-    ⊘ at_law _ (lit≤ tt) (lit≤ tt)
+    ⊛ form_movement_law
     ⊛ conditions_law (lit≤ tt) (lit≤ tt) (lit≤ tt) (lit≤ tt) (lit≤ tt) (lit≤ tt)
     ⊘ blank_law (lit≤ tt) (lit≤ tt) (lit≤ tt)
 

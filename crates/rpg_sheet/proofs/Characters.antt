@@ -3,7 +3,8 @@ use Rattle.std.proofs.Common.{◌≡◌, ℕ, zero, suc, ◌-◌, ◌≤◌, Boo
 use Rattle.std.specs.Prelude.{if◌then◌else◌, ◌&&◌, slice_range}
 use Rattle.std.specs.List.{list_all, suffix_len}
 use Rattle.std.proofs.lemmas.Grind.{common_steps}
-use Rattle.rpg_sheet.specs.Values.{is_character, is_blank, trimmed, is_apostrophe, doubled, undoubled, is_enclosed}
+use Rattle.rpg_text.specs.Texts.{is_character, is_blank, trimmed}
+use Rattle.rpg_spec.specs.Values.{is_apostrophe, doubled, undoubled, is_enclosed}
 use Rattle.rpg_sheet.proofs.LiteralLemmas.{enclosed_is, doubled-undoubled}
 
 both : (a b : Bool) → (a && b) ≡ true → (a ≡ true) × (b ≡ true)

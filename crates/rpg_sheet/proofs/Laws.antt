@@ -5,8 +5,8 @@ use Rattle.std.specs.Option.{ok_or}
 use Rattle.std.specs.List.{prefix_len}
 use Rattle.std.proofs.lemmas.Grind.{common_steps}
 use Rattle.std.proofs.lemmas.List.{length-take}
-use Rattle.rpg_sheet.specs.declared.card.ColumnFault.{ColumnFault}
-use Rattle.rpg_sheet.specs.Columns.{IsLeast, Columns, cols, values, at_with, blank, where_card, also, past, applied, kept, fault_at, fault_if_some, bad_if_none, filled_from, is_filled}
+use Rattle.rpg_spec.specs.declared.column.ColumnFault.{ColumnFault}
+use Rattle.rpg_spec.specs.Columns.{IsLeast, Columns, cols, values, at_with, blank, where_card, also, past, applied, kept, fault_at, fault_if_some, bad_if_none, filled_from, is_filled}
 
 -- columns that rise, from low on and below high
 abbrev pub Rises : ℕ → List ℕ → ℕ → Type 0

@@ -2,7 +2,6 @@ pub mod Laws
 pub mod CardLaws
 pub mod Digits
 pub mod Padding
-pub mod LineLemmas
 pub mod SheetLemmas
 pub mod LiteralLemmas
 pub mod Characters

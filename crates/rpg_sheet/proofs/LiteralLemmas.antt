@@ -9,7 +9,7 @@ use Rattle.std.proofs.lemmas.Grind.{common_steps}
 use Rattle.std.proofs.Math.Seq.{take-suc, take-append_seam, get_or-append_seam}
 use Rattle.std.proofs.lemmas.List.{take_all, drop_all, length-take}
 use Rattle.std.proofs.lemmas.List.Folds.{list_all-append}
-use Rattle.rpg_sheet.specs.Values.{with_sign, numeral, all_digits, when, is_apostrophe, doubled, undoubled, is_enclosed, quoted_of, in_apostrophes}
+use Rattle.rpg_spec.specs.Values.{with_sign, numeral, all_digits, when, is_apostrophe, doubled, undoubled, is_enclosed, quoted_of, in_apostrophes}
 
 -- ---- around the first item that passes
 

@@ -4,7 +4,7 @@ use Rattle.std.specs.Prelude.{IsTrue, replicate}
 use Rattle.std.specs.List.{list_all}
 use Rattle.std.proofs.lemmas.List.{length-replicate, take_all}
 use Rattle.std.proofs.lemmas.List.Folds.{list_all-append}
-use Rattle.rpg_sheet.specs.Values.{is_character}
+use Rattle.rpg_text.specs.Texts.{is_character}
 
 blank_characters : (n : ℕ) → list_all is_character (replicate n 32) ≡ true
 blank_characters zero = refl

@@ -6,12 +6,13 @@ use Rattle.std.specs.Option.{option_map_or, option_or}
 use Rattle.std.specs.Str.Lines.{lines}
 use Rattle.std.proofs.lemmas.List.Folds.{list_any-append}
 use Rattle.std.proofs.lemmas.Grind.{common_steps}
-use Rattle.rpg_sheet.specs.declared.sheet.FormType.{FormType}
+use Rattle.rpg_spec.specs.declared.form_type.FormType.{FormType}
 use Rattle.rpg_sheet.specs.declared.sheet.SheetCode.{SheetCode}
 use Rattle.rpg_sheet.specs.declared.sheet.SheetCode.TheVariants.{S1, S2, S3, S4, S5, S6}
 use Rattle.rpg_sheet.specs.declared.sheet.SheetFault.TheVariants.{At}
-use Rattle.rpg_sheet.specs.Values.{is_character}
-use Rattle.rpg_sheet.specs.Sheet.{card_of, ends_source, is_sheet, form_type, place_of, comes_after, has_bad_column, is_readable, code_of, fault_behind, source}
+use Rattle.rpg_text.specs.Texts.{is_character}
+use Rattle.rpg_spec.specs.Cards.{card_of, ends_source, is_sheet, form_type, place_of}
+use Rattle.rpg_sheet.specs.Sheet.{comes_after, has_bad_column, is_readable, code_of, fault_behind, source}
 use Rattle.rpg_sheet.specs.Seen.{IsSeen, form_code, sheet_code, code_seen}
 
 -- which of six tests is the first that passes

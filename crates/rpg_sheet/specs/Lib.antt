@@ -1,7 +1,6 @@
-pub mod Columns
-pub mod Numeral
-pub mod Values
-pub mod Tables
+pub use Rattle.rpg_spec.specs.Cards
+pub use Rattle.rpg_spec.specs.Columns
+pub use Rattle.rpg_spec.specs.Tables
+pub use Rattle.rpg_spec.specs.Values
 pub mod Sheet
 pub mod Seen
-pub mod Specs

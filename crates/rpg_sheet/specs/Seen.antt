@@ -2,11 +2,12 @@
 use Rattle.std.specs.Prelude.{◌≡◌, ℕ, List, length, Option, None, Some, if◌then◌else◌, not, nat_le, nat_lt}
 use Rattle.std.specs.List.{list_all, list_any}
 use Rattle.std.specs.Option.{option_or}
-use Rattle.rpg_sheet.specs.declared.sheet.FormType.{FormType}
+use Rattle.rpg_spec.specs.declared.form_type.FormType.{FormType}
 use Rattle.rpg_sheet.specs.declared.sheet.SheetCode.{SheetCode}
 use Rattle.rpg_sheet.specs.declared.sheet.SheetCode.TheVariants.{S1, S2, S3, S4, S5, S6}
-use Rattle.rpg_sheet.specs.Values.{is_character}
-use Rattle.rpg_sheet.specs.Sheet.{card_of, is_sheet, form_type, place_of, comes_after, has_bad_column}
+use Rattle.rpg_spec.specs.Cards.{card_of, is_sheet, form_type, place_of}
+use Rattle.rpg_text.specs.Texts.{is_character}
+use Rattle.rpg_sheet.specs.Sheet.{comes_after, has_bad_column}
 
 -- their count, and the place of the latest sheet among them
 pub record IsSeen (earlier : List (List ℕ)) (count latest : ℕ) : Type 0 where

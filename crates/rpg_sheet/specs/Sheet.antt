@@ -1,71 +1,27 @@
--- The cards of a source, and what is wrong with them as cards.
+-- The lines of a source that are cards, and what is wrong with them.
 use Rattle.std.specs.Prelude.{◌≡◌, ℕ, ◌+◌, ◌-◌, List, [], ◌∷◌, ◌++◌, length, take, Bool, true, false, Option, None, Some, is_err, if◌then◌else◌, ◌==◌, ◌&&◌, ◌||◌, not, nat_le, nat_lt, codes, replicate, find}
 use Rattle.std.specs.List.{list_all, list_any}
 use Rattle.std.specs.Option.{is_none, option_map, option_map_or, option_or}
 use Rattle.std.specs.Str.{bytes_eq}
 use Rattle.std.specs.Str.Lines.{lines}
-use Rattle.rpg_sheet.specs.declared.sheet.FormType.{FormType}
-use Rattle.rpg_sheet.specs.declared.sheet.FormType.TheVariants as form
+use Rattle.rpg_spec.specs.declared.form_type.FormType.{FormType}
+use Rattle.rpg_spec.specs.declared.form_type.FormType.TheVariants as form
 use Rattle.rpg_sheet.specs.declared.sheet.SheetCode.{SheetCode}
 use Rattle.rpg_sheet.specs.declared.sheet.SheetCode.TheVariants.{S1, S2, S3, S4, S5, S6}
 use Rattle.rpg_sheet.specs.declared.sheet.SheetFault.{SheetFault}
 use Rattle.rpg_sheet.specs.declared.sheet.SheetFault.TheVariants.{At, NoMemory}
-use Rattle.rpg_sheet.specs.Columns.{cols}
-use Rattle.rpg_sheet.specs.Values.{is_character, all_blank, one_of}
-use Rattle.rpg_sheet.specs.Tables.{header, file, input_card, calculation_card, output_card}
-
--- ---- cards: a line of the source with blanks behind its end
-
-abbrev pub card_of : List ℕ → List ℕ
-card_of line = take 80 line ++ replicate (80 - length line) 32
-
--- the card that ends the source
-abbrev pub ends_source : List ℕ → Bool
-ends_source card = bytes_eq (cols 1 3 card) (codes "/* ")
-
--- a card that begins a table's data, which no sheet has yet
-abbrev pub begins_data : List ℕ → Bool
-begins_data card = bytes_eq (cols 1 3 card) (codes "** ")
-
--- a blank card or a comment
-abbrev pub is_skipped : List ℕ → Bool
-is_skipped card = all_blank card || (bytes_eq (cols 7 7 card) (codes "*") && not (begins_data card))
+use Rattle.rpg_spec.specs.Cards.{card_of, ends_source, is_sheet, form_type, sheet_of, place_of}
+use Rattle.rpg_spec.specs.Tables.{header, file, input_card, calculation_card, output_card}
+use Rattle.rpg_text.specs.Texts.{is_character}
 
 -- the items up to the first that passes, and this one
 abbrev pub through : {X : Type 0} → (X → Bool) → List X → List X
 through test [] = []
 through test (x ∷ xs) = if test x then x ∷ [] else x ∷ through test xs
 
-abbrev pub is_newline : ℕ → Bool
-is_newline b = b == 10
-
 -- the lines that are read: nothing behind the card that ends the source
 abbrev pub source : List ℕ → List (List ℕ)
 source text = through (λ line. ends_source (card_of line)) (lines text)
-
--- ---- form types
-
-abbrev pub form_type_of : List ℕ → Option FormType
-form_type_of = one_of ((codes "H", form.Header) ∷ (codes "F", form.File) ∷ (codes "I", form.Input) ∷ (codes "C", form.Calculation) ∷ (codes "O", form.Output) ∷ [])
-
-abbrev pub form_type : List ℕ → Option FormType
-form_type card = if begins_data card then None else form_type_of (cols 6 6 card)
-
--- a card that must have a form type
-abbrev pub is_sheet : List ℕ → Bool
-is_sheet card = not (ends_source card || is_skipped card)
-
--- the sheet that a card is on
-abbrev pub sheet_of : List ℕ → Option FormType
-sheet_of card = if is_sheet card then form_type card else None
-
--- the order of the sheets
-abbrev pub place_of : FormType → ℕ
-place_of form.Header = 0
-place_of form.File = 1
-place_of form.Input = 3
-place_of form.Calculation = 4
-place_of form.Output = 5
 
 -- ---- what is wrong with a line that comes behind others
 

@@ -1,72 +1,39 @@
 //! The calculation sheet (C).
 
 ghost use Rattle.std.specs.Prelude.{◌≡◌, [], OnOk, IfErr};
-ghost use Rattle.rpg_sheet.specs.Columns.{IsLeast};
-ghost use Rattle.rpg_sheet.specs.Tables as tables;
+ghost use Rattle.rpg_spec.specs.Columns.{IsLeast};
+ghost use Rattle.rpg_spec.specs.Tables as tables;
 
-use crate::card::{Card, ColumnFault};
+use crate::card::Card;
 use crate::columns::at;
-use crate::indicator::{Indicator, Three};
-use crate::literal::{self, Factor};
 use crate::values;
-use crate::word::Word;
+use rpg_spec::{CalculationSpec, ColumnFault, Indicator, Operation, Three};
 
-#[derive(Clone, Copy, Debug, PartialEq, Eq)]
-pub enum Operation {
-    Add,
-    Subtract,
-    Multiply,
-    Divide,
-    MoveRemainder,
-    ZeroAdd,
-    ZeroSubtract,
-    Compare,
-    Move,
-    MoveLeft,
-}
-
-/// A C card.
-#[derive(Drop)]
-pub struct CalculationSpec {
-    pub factor_1: Option<Factor>,
-    pub operation: Option<Operation>,
-    pub factor_2: Option<Factor>,
-    pub result_field: Option<Word<6>>,
-    /// Length and decimals of the result field, where the card defines it.
-    pub length: Option<u16>,
-    pub decimals: Option<u8>,
-    pub half_adjust: bool,
-    /// Plus or high, minus or low, zero or equal.
-    pub resulting_indicators: Three<Option<Indicator>>,
-}
-
-impl CalculationSpec {
-    #[tactic(auto, unfolding(crate::specs::Tables::calculation_card, crate::specs::Columns::values, crate::specs::Columns::at_with, crate::specs::Columns::also, crate::specs::Columns::past, crate::specs::Columns::blank))]
-    fn read(card: &Card) -> Result<Self, ColumnFault>
-        ensures { result ≡ tables.calculation_card.reading card.now }
-    {
-        card.unused(7, 8)?;
-        no_conditions(card)?;
-        let factor_1 = card.optional_factor(18, 27)?;
-        let operation = card.columns(28, 32);
-        let operation = at(28, values::blank_or(operation, operation_of(operation)))?;
-        let factor_2 = card.optional_factor(33, 42)?;
-        let result_field = card.optional_name(43, 48)?;
-        let length = card.optional_number(49, 51)?;
-        let decimals = card.optional_digit(52, 52)?;
-        let half_adjust = at(53, values::marked(b"H", card.columns(53, 53)))?;
-        let resulting_indicators = resulting_indicators(card)?;
-        Ok(CalculationSpec {
-            factor_1,
-            operation,
-            factor_2,
-            result_field,
-            length,
-            decimals,
-            half_adjust,
-            resulting_indicators,
-        })
-    }
+#[tactic(auto, unfolding(rpg_spec::specs::Tables::calculation_card, rpg_spec::specs::Columns::values, rpg_spec::specs::Columns::at_with, rpg_spec::specs::Columns::also, rpg_spec::specs::Columns::past, rpg_spec::specs::Columns::blank))]
+pub(crate) fn calculation_card(card: &Card) -> Result<CalculationSpec, ColumnFault>
+    ensures { result ≡ tables.calculation_card.reading card.now }
+{
+    card.unused(7, 8)?;
+    no_conditions(card)?;
+    let factor_1 = card.optional_factor(18, 27)?;
+    let operation = card.columns(28, 32);
+    let operation = at(28, values::blank_or(operation, operation_of(operation)))?;
+    let factor_2 = card.optional_factor(33, 42)?;
+    let result_field = card.optional_name(43, 48)?;
+    let length = card.optional_number(49, 51)?;
+    let decimals = card.optional_digit(52, 52)?;
+    let half_adjust = at(53, values::marked(b"H", card.columns(53, 53)))?;
+    let resulting_indicators = resulting_indicators(card)?;
+    Ok(CalculationSpec {
+        factor_1,
+        operation,
+        factor_2,
+        result_field,
+        length,
+        decimals,
+        half_adjust,
+        resulting_indicators,
+    })
 }
 
 impl Card {
@@ -76,7 +43,7 @@ impl Card {
         ensures good { OnOk result (tables.calculation_card.bad self.now ≡ []) }
         ensures least { IfErr result (λ fault. IsLeast (tables.calculation_card.bad self.now) fault.column) }
     {
-        CalculationSpec::read(self)
+        calculation_card(self)
     }
 }
 
@@ -108,7 +75,7 @@ fn operation_of(text: &[u8]) -> Option<Operation>
     }
 }
 
-#[tactic(auto, unfolding(crate::specs::Tables::no_conditions, crate::specs::Columns::values, crate::specs::Columns::at_with, crate::specs::Columns::past))]
+#[tactic(auto, unfolding(rpg_spec::specs::Tables::no_conditions, rpg_spec::specs::Columns::values, rpg_spec::specs::Columns::at_with, rpg_spec::specs::Columns::past))]
 fn no_conditions(card: &Card) -> Result<(), ColumnFault>
     ensures { result ≡ tables.no_conditions.reading card.now }
 {
@@ -117,7 +84,7 @@ fn no_conditions(card: &Card) -> Result<(), ColumnFault>
     card.unused(15, 17)
 }
 
-#[tactic(auto, unfolding(crate::specs::Tables::resulting_indicators, crate::specs::Columns::values, crate::specs::Columns::at_with, crate::specs::Columns::also))]
+#[tactic(auto, unfolding(rpg_spec::specs::Tables::resulting_indicators, rpg_spec::specs::Columns::values, rpg_spec::specs::Columns::at_with, rpg_spec::specs::Columns::also))]
 fn resulting_indicators(card: &Card) -> Result<Three<Option<Indicator>>, ColumnFault>
     ensures { result ≡ tables.resulting_indicators.reading card.now }
 {

@@ -2,20 +2,12 @@
 
 ghost use Rattle.std.specs.Prelude.{◌≡◌, ◌+◌, ◌-◌, ◌≤◌, ◌++◌, length, take, replicate, position, IsTrue};
 ghost use Rattle.std.specs.List.{list_all};
-ghost use Rattle.rpg_sheet.specs.Columns.{cols, is_filled, fault_if_some};
-ghost use Rattle.rpg_sheet.specs.Values.{is_character};
+ghost use Rattle.rpg_spec.specs.Columns.{cols, is_filled, fault_if_some};
+ghost use Rattle.rpg_text.specs.Texts.{is_character};
 
-use crate::values;
 use arrayvec::ArrayVec;
+use rpg_spec::ColumnFault;
 use std::marker::Model;
-use thiserror::Error;
-
-/// A column, from 1 to 80, whose value is bad.
-#[derive(Clone, Copy, Debug, PartialEq, Eq, Error)]
-#[error("column {column}")]
-pub struct ColumnFault {
-    pub column: u8,
-}
 
 /// A card: its 80 columns, each with a character.
 #[derive(Drop)]
@@ -26,7 +18,7 @@ pub struct Card {
 impl Model for Card {
     ghost use Rattle.std.specs.Prelude.{ℕ, List, length, ◌≡◌, IsTrue};
     ghost use Rattle.std.specs.List.{list_all};
-    ghost use Rattle.rpg_sheet.specs.Values.{is_character};
+    ghost use Rattle.rpg_text.specs.Texts.{is_character};
 
     ghost Value = { List ℕ };
 

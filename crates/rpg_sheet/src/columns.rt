@@ -1,14 +1,12 @@
 //! What ranges of columns hold, each range read by one call. An error names the range's first column.
 
 ghost use Rattle.std.specs.Prelude.{◌≡◌, ◌+◌, ◌≤◌, ok_or};
-ghost use Rattle.rpg_sheet.specs.Columns.{cols, fault_at};
-ghost use Rattle.rpg_sheet.specs.Values as values;
+ghost use Rattle.rpg_spec.specs.Columns.{cols, fault_at};
+ghost use Rattle.rpg_spec.specs.Values as values;
 
-use crate::card::{Card, ColumnFault};
-use crate::indicator::{Condition, Indicator};
-use crate::literal::{self, Factor};
-use crate::values;
-use crate::word::Word;
+use crate::card::Card;
+use crate::{literal, values};
+use rpg_spec::{ColumnFault, Condition, Factor, Indicator, Word};
 
 /// The value of the columns from `column` on.
 pub(crate) fn at<T>(column: u8, value: Option<T>) -> Result<T, ColumnFault>

@@ -1,65 +1,45 @@
 //! The file description sheet (F).
 
 ghost use Rattle.std.specs.Prelude.{◌≡◌, [], Some, OnOk, IfErr};
-ghost use Rattle.rpg_sheet.specs.Columns.{IsLeast, cols};
-ghost use Rattle.rpg_sheet.specs.Tables as tables;
+ghost use Rattle.rpg_spec.specs.Columns.{IsLeast, cols};
+ghost use Rattle.rpg_spec.specs.Tables as tables;
 
-use crate::card::{Card, ColumnFault};
+use crate::card::Card;
 use crate::columns::at;
 use crate::values;
-use crate::word::Word;
+use rpg_spec::{ColumnFault, Device, Direction, FileSpec};
 
-/// Whether a file is read or written.
-#[derive(Clone, Copy, Debug, PartialEq, Eq)]
-pub enum Direction {
-    Input,
-    Output,
+#[tactic(auto, unfolding(rpg_spec::specs::Tables::file, rpg_spec::specs::Columns::values, rpg_spec::specs::Columns::at_with, rpg_spec::specs::Columns::also, rpg_spec::specs::Columns::past, rpg_spec::specs::Columns::blank))]
+pub(crate) fn file(card: &Card) -> Result<FileSpec, ColumnFault>
+    ensures { result ≡ tables.file.reading card.now }
+{
+    let name = card.name(7, 14)?;
+    let direction = at(15, direction_of(card.columns(15, 15)))?;
+    at(16, designation(card))?;
+    let ends_job = at(17, values::marked(b"E", card.columns(17, 17)))?;
+    let ascending = at(18, values::marked(b"A", card.columns(18, 18)))?;
+    at(19, values::only(b"F", card.columns(19, 19)))?;
+    let record_length = card.number(24, 27)?;
+    file_unread(card)?;
+    let device = device_of(card.columns(40, 46));
+    card.blank(47, 74)?;
+    Ok(FileSpec {
+        name,
+        direction,
+        ends_job,
+        ascending,
+        record_length,
+        device,
+    })
 }
 
-#[derive(Clone, Copy, Debug, PartialEq, Eq)]
-pub enum Device {
-    Printer,
-    Other,
-}
-
-/// An F card.
-#[derive(Drop)]
-pub struct FileSpec {
-    pub name: Word<8>,
-    pub direction: Direction,
-    /// E: the job ends once the file is at its end.
-    pub ends_job: bool,
-    pub ascending: bool,
-    pub record_length: u16,
-    pub device: Device,
-}
-
-impl FileSpec {
-    #[tactic(auto, unfolding(crate::specs::Tables::file, crate::specs::Columns::values, crate::specs::Columns::at_with, crate::specs::Columns::also, crate::specs::Columns::past, crate::specs::Columns::blank))]
-    fn read(card: &Card) -> Result<Self, ColumnFault>
-        ensures { result ≡ tables.file.reading card.now }
-    {
-        let name = card.name(7, 14)?;
-        let direction = at(15, direction_of(card.columns(15, 15)))?;
-        at(16, designation(card))?;
-        let ends_job = at(17, values::marked(b"E", card.columns(17, 17)))?;
-        let ascending = at(18, values::marked(b"A", card.columns(18, 18)))?;
-        at(19, values::only(b"F", card.columns(19, 19)))?;
-        let record_length = card.number(24, 27)?;
-        card.blank(28, 32)?;
-        card.unused(33, 34)?;
-        card.blank(35, 39)?;
-        let device = device_of(card.columns(40, 46));
-        card.blank(47, 74)?;
-        Ok(FileSpec {
-            name,
-            direction,
-            ends_job,
-            ascending,
-            record_length,
-            device,
-        })
-    }
+#[tactic(auto, unfolding(rpg_spec::specs::Tables::file_unread, rpg_spec::specs::Columns::values, rpg_spec::specs::Columns::at_with, rpg_spec::specs::Columns::past, rpg_spec::specs::Columns::blank))]
+fn file_unread(card: &Card) -> Result<(), ColumnFault>
+    ensures { result ≡ tables.file_unread.reading card.now }
+{
+    card.blank(28, 32)?;
+    card.unused(33, 34)?;
+    card.blank(35, 39)
 }
 
 impl Card {
@@ -69,7 +49,7 @@ impl Card {
         ensures good { OnOk result (tables.file.bad self.now ≡ []) }
         ensures least { IfErr result (λ fault. IsLeast (tables.file.bad self.now) fault.column) }
     {
-        FileSpec::read(self)
+        file(self)
     }
 }
 

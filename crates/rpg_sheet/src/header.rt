@@ -1,23 +1,18 @@
 //! The header sheet (H).
 
 ghost use Rattle.std.specs.Prelude.{◌≡◌, [], OnOk, IfErr};
-ghost use Rattle.rpg_sheet.specs.Columns.{IsLeast};
-ghost use Rattle.rpg_sheet.specs.Tables as tables;
+ghost use Rattle.rpg_spec.specs.Columns.{IsLeast};
+ghost use Rattle.rpg_spec.specs.Tables as tables;
 
-use crate::card::{Card, ColumnFault};
+use crate::card::Card;
+use rpg_spec::{ColumnFault, HeaderSpec};
 
-/// An H card.
-#[derive(Clone, Copy)]
-pub struct HeaderSpec;
-
-impl HeaderSpec {
-    #[tactic(auto, unfolding(crate::specs::Tables::header, crate::specs::Columns::values, crate::specs::Columns::past, crate::specs::Columns::blank))]
-    fn read(card: &Card) -> Result<Self, ColumnFault>
-        ensures { result ≡ tables.header.reading card.now }
-    {
-        card.blank(15, 74)?;
-        Ok(HeaderSpec)
-    }
+#[tactic(auto, unfolding(rpg_spec::specs::Tables::header, rpg_spec::specs::Columns::values, rpg_spec::specs::Columns::past, rpg_spec::specs::Columns::blank))]
+pub(crate) fn header(card: &Card) -> Result<HeaderSpec, ColumnFault>
+    ensures { result ≡ tables.header.reading card.now }
+{
+    card.blank(15, 74)?;
+    Ok(HeaderSpec)
 }
 
 impl Card {
@@ -27,6 +22,6 @@ impl Card {
         ensures good { OnOk result (tables.header.bad self.now ≡ []) }
         ensures least { IfErr result (λ fault. IsLeast (tables.header.bad self.now) fault.column) }
     {
-        HeaderSpec::read(self)
+        header(self)
     }
 }

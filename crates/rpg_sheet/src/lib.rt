@@ -1,4 +1,4 @@
-//! RPG II sheets: the cards of a source, and what their columns stand for.
+//! The cards of a source: the readers of their columns, and what is wrong with them as cards.
 #![tactic(auto)]
 
 mod calculation;
@@ -6,7 +6,6 @@ mod card;
 mod columns;
 mod file;
 mod header;
-mod indicator;
 mod input;
 mod literal;
 mod output;
@@ -14,17 +13,12 @@ mod sheet;
 mod source;
 mod spec;
 mod values;
-mod word;
 
-pub use calculation::{CalculationSpec, Operation};
-pub use card::{Card, ColumnFault};
-pub use file::{Device, Direction, FileSpec};
-pub use header::HeaderSpec;
-pub use indicator::{Condition, Indicator, Three};
-pub use input::{InputField, InputSpec, RecordType};
-pub use literal::{Factor, Literal, NumericLiteral, TextLiteral};
-pub use output::{LineTime, OutputField, OutputRecord, OutputSpec};
-pub use sheet::{Cards, FormType, SheetCode, SheetFault};
+pub use card::Card;
+pub use rpg_spec::{
+    CalculationSpec, ColumnFault, Condition, Device, Direction, Factor, FileSpec, FormType,
+    HeaderSpec, Indicator, InputField, InputSpec, LineTime, Literal, NumericLiteral, Operation,
+    OutputField, OutputRecord, OutputSpec, RecordType, Spec, TextLiteral, Three, Word,
+};
+pub use sheet::{Cards, SheetCode, SheetFault};
 pub use source::cards;
-pub use spec::Spec;
-pub use word::Word;

@@ -1,109 +1,18 @@
 //! Literals: numbers and texts that stand on the card itself, from the first column of their range on.
 
-ghost use Rattle.std.specs.Prelude.{◌≡◌, ◌≢◌, ℕ, ◌+◌, ◌-◌, ◌^◌, ◌≤◌, ◌<◌, ◌↔◌, ℤ, List, [], length, unsigned_abs, position, IfSome, IsTrue};
+ghost use Rattle.std.specs.Prelude.{◌≡◌, ◌≢◌, ℕ, ◌+◌, ◌-◌, ◌^◌, ◌≤◌, ◌<◌, ◌↔◌, List, [], length, position, IfSome, IsTrue};
 ghost use Rattle.std.specs.List.{list_all, before_first, after_first};
 ghost use Rattle.std.specs.Str.Parse.{starts_with_minus, without_leading_sign};
-ghost use Rattle.rpg_sheet.specs.Numeral.{IsNumeral};
-ghost use Rattle.rpg_sheet.specs.Values as values;
+ghost use Rattle.rpg_spec.specs.Values as values;
+ghost use Rattle.rpg_text.specs.Texts.{is_character, trimmed};
 
-use crate::values::{has_only_digits, name, trimmed, value_after};
-use crate::word::Word;
-use std::marker::Model;
-
-/// A number of at most 10 digits.
-#[derive(Clone, Copy, Debug, PartialEq, Eq)]
-pub struct NumericLiteral {
-    value: i64,
-    digits: u8,
-    decimals: u8,
-}
-
-impl Model for NumericLiteral {
-    ghost use Rattle.rpg_sheet.specs.Numeral.{Numeral, IsNumeral};
-
-    ghost Value = { Numeral };
-
-    ghost view = { λ n. record { value = n.value; length = n.digits; decimals = n.decimals } };
-
-    ghost invariant = { λ n. IsNumeral n.value n.digits n.decimals };
-
-    ghost inverse = { λ n. record { value = n.value; digits = n.length; decimals = n.decimals } };
-}
-
-impl NumericLiteral {
-    /// The number without its point: 125 for `1.25`.
-    pub fn value(self) -> i64
-        ensures value { result ≡ self.value }
-        ensures fits { unsigned_abs result < 10 ^ self.length }
-    {
-        self.value
-    }
-
-    /// How many digits it is written with, zeros at the front too.
-    pub fn length(self) -> u8
-        ensures value { result ≡ self.length }
-        ensures least { 1 ≤ result }
-        ensures most { result ≤ 10 }
-    {
-        self.digits
-    }
-
-    /// How many of its digits stand behind the point.
-    pub fn decimals(self) -> u8
-        ensures value { result ≡ self.decimals }
-        ensures within { result ≤ self.length }
-        ensures most { result ≤ 9 }
-    {
-        self.decimals
-    }
-}
-
-/// A text of at least one character and at most `N`.
-#[derive(Drop)]
-pub struct TextLiteral<const N: usize> {
-    word: Word<N>,
-}
-
-impl<const N: usize> Model for TextLiteral<N> {
-    ghost use Rattle.std.specs.Prelude.{ℕ, List, length, ◌≤◌, IsTrue};
-    ghost use Rattle.std.specs.List.{list_all};
-
-    ghost Value = { List ℕ };
-
-    ghost use Rattle.rpg_sheet.specs.Values.{is_character};
-
-    ghost view = { λ t. t.word };
-
-    ghost invariant = { λ t. (1 ≤ length t.word) × IsTrue (list_all is_character t.word) };
-}
-
-impl<const N: usize> TextLiteral<N> {
-    pub fn as_slice(&self) -> &[u8]
-        ensures value { result.now ≡ self.now }
-        ensures least { 1 ≤ length result.now }
-        ensures most { length result.now ≤ N }
-        ensures characters { IsTrue (list_all values.is_character result.now) }
-    {
-        self.word.as_slice()
-    }
-}
-
-#[derive(Drop)]
-pub enum Literal {
-    Number(NumericLiteral),
-    Text(TextLiteral<8>),
-}
-
-/// What a calculation works with.
-#[derive(Drop)]
-pub enum Factor {
-    Name(Word<6>),
-    Literal(Literal),
-}
+use crate::values::{has_only_digits, name, value_after};
+use rpg_spec::{Factor, Literal, NumericLiteral, TextLiteral, Word};
+use rpg_text::trimmed;
 
 pub(crate) fn factor_of(text: &[u8]) -> Option<Factor>
     requires short { length text.now ≤ 10 }
-    requires characters { IsTrue (list_all values.is_character text.now) }
+    requires characters { IsTrue (list_all is_character text.now) }
     ensures { result ≡ values.factor text.now }
 {
     match name(text) {
@@ -114,7 +23,7 @@ pub(crate) fn factor_of(text: &[u8]) -> Option<Factor>
 
 fn literal_of(text: &[u8]) -> Option<Literal>
     requires short { length text.now ≤ 10 }
-    requires characters { IsTrue (list_all values.is_character text.now) }
+    requires characters { IsTrue (list_all is_character text.now) }
     ensures { result ≡ values.literal text.now }
 {
     match numeric_literal(text) {
@@ -179,11 +88,7 @@ fn numeral(minus: bool, whole: &[u8], behind: &[u8]) -> Option<NumericLiteral>
         return None;
     }
     let size = value_after(value_after(0, whole), behind);
-    Some(NumericLiteral {
-        value: with_sign(minus, size),
-        digits: digits as u8,
-        decimals: behind.len() as u8,
-    })
+    Some(NumericLiteral::new(with_sign(minus, size), digits as u8, behind.len() as u8))
 }
 
 fn with_sign(minus: bool, size: u64) -> i64
@@ -197,16 +102,16 @@ fn with_sign(minus: bool, size: u64) -> i64
 /// A text in apostrophes, each apostrophe in it doubled.
 pub(crate) fn quoted<const N: usize>(text: &[u8]) -> Option<TextLiteral<N>>
     requires short { length text.now ≤ N + 2 }
-    requires characters { IsTrue (list_all values.is_character text.now) }
+    requires characters { IsTrue (list_all is_character text.now) }
     ensures value { result ≡ values.quoted text.now }
-    ensures written { (t : List ℕ) → (result ≡ Some t) ↔ ((values.trimmed text.now ≡ values.in_apostrophes t) × (t ≢ [])) }
+    ensures written { (t : List ℕ) → (result ≡ Some t) ↔ ((trimmed text.now ≡ values.in_apostrophes t) × (t ≢ [])) }
 {
     let text = trimmed(text);
     if !is_enclosed(text) {
         return None;
     }
     let word = undoubled(&text[1..text.len() - 1])?;
-    Some(TextLiteral { word })
+    Some(TextLiteral::new(word))
 }
 
 /// Begins and ends with an apostrophe, and has something between them.

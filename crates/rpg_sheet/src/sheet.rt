@@ -2,39 +2,34 @@
 
 ghost use Rattle.std.specs.Prelude.{◌≡◌, ◌≤◌, length, IsTrue, vec_len};
 ghost use Rattle.rpg_sheet.specs.Sheet as sheets;
+ghost use Rattle.rpg_spec.specs.Cards as cards;
 ghost use Rattle.std.specs.List.{list_all};
 ghost use Rattle.rpg_sheet.specs.Seen.{sheet_code};
 ghost use Rattle.rpg_sheet.specs.declared.sheet.SheetFault.TheVariants.{NoMemory};
 
+use crate::calculation::calculation_card;
 use crate::card::Card;
-use crate::values;
+use crate::file::file;
+use crate::header::header;
+use crate::input::input_card;
+use crate::output::output_card;
+use rpg_spec::FormType;
+use rpg_text::is_blank;
 use std::alloc::AllocFailed;
 use std::marker::Model;
 use thiserror::Error;
 
-/// The sheet that a card is on, by its form type in column 6. The sheets come in this order.
-#[derive(Clone, Copy, Debug, PartialEq, Eq)]
-pub enum FormType {
-    Header,
-    File,
-    Input,
-    Calculation,
-    Output,
-}
-
-impl FormType {
-    /// Its place among the sheets of a source.
-    pub(crate) fn place(self) -> u8
-        ensures value { result ≡ sheets.place_of self }
-        ensures few { result ≤ 5 }
-    {
-        match self {
-            FormType::Header => 0,
-            FormType::File => 1,
-            FormType::Input => 3,
-            FormType::Calculation => 4,
-            FormType::Output => 5,
-        }
+/// A sheet's place among the sheets of a source.
+pub(crate) fn place(sheet: FormType) -> u8
+    ensures value { result ≡ cards.place_of sheet }
+    ensures few { result ≤ 5 }
+{
+    match sheet {
+        FormType::Header => 0,
+        FormType::File => 1,
+        FormType::Input => 3,
+        FormType::Calculation => 4,
+        FormType::Output => 5,
     }
 }
 
@@ -118,35 +113,34 @@ impl Cards {
 impl Card {
     /// Whether it is the last card of its source.
     pub fn ends_source(&self) -> bool
-        ensures { result ≡ sheets.ends_source self.now }
+        ensures { result ≡ cards.ends_source self.now }
     {
         self.columns(1, 3) == b"/* ".as_slice()
     }
 
     /// Whether it begins a table's data, which no sheet has yet.
     fn begins_data(&self) -> bool
-        ensures { result ≡ sheets.begins_data self.now }
+        ensures { result ≡ cards.begins_data self.now }
     {
         self.columns(1, 3) == b"** ".as_slice()
     }
 
     /// Whether it is blank or a comment.
     pub fn is_skipped(&self) -> bool
-        ensures { result ≡ sheets.is_skipped self.now }
+        ensures { result ≡ cards.is_skipped self.now }
     {
-        values::is_blank(self.as_slice())
-            || (self.columns(7, 7) == b"*".as_slice() && !self.begins_data())
+        is_blank(self.as_slice()) || (self.columns(7, 7) == b"*".as_slice() && !self.begins_data())
     }
 
     /// Whether it must have a form type.
     pub(crate) fn is_sheet(&self) -> bool
-        ensures { result ≡ sheets.is_sheet self.now }
+        ensures { result ≡ cards.is_sheet self.now }
     {
         !(self.ends_source() || self.is_skipped())
     }
 
     pub(crate) fn form_type(&self) -> Option<FormType>
-        ensures { result ≡ sheets.form_type self.now }
+        ensures { result ≡ cards.form_type self.now }
     {
         if self.begins_data() {
             return None;
@@ -156,7 +150,7 @@ impl Card {
 
     /// The sheet that the card is on: none where it is skipped or ends the source.
     pub fn sheet(&self) -> Option<FormType>
-        ensures { result ≡ sheets.sheet_of self.now }
+        ensures { result ≡ cards.sheet_of self.now }
     {
         if self.is_sheet() {
             self.form_type()
@@ -175,7 +169,7 @@ impl Card {
         let Some(sheet) = self.form_type() else {
             return Some(SheetCode::S3);
         };
-        if sheet.place() < latest {
+        if place(sheet) < latest {
             Some(SheetCode::S4)
         } else if has_bad_column(sheet, self) {
             Some(SheetCode::S5)
@@ -186,7 +180,7 @@ impl Card {
 }
 
 fn form_type_of(text: &[u8]) -> Option<FormType>
-    ensures { result ≡ sheets.form_type_of text.now }
+    ensures { result ≡ cards.form_type_of text.now }
 {
     if text == b"H".as_slice() {
         Some(FormType::Header)
@@ -208,10 +202,10 @@ fn has_bad_column(sheet: FormType, card: &Card) -> bool
     ensures { result ≡ sheets.has_bad_column sheet card.now }
 {
     match sheet {
-        FormType::Header => card.h().is_err(),
-        FormType::File => card.f().is_err(),
-        FormType::Input => card.i().is_err(),
-        FormType::Calculation => card.c().is_err(),
-        FormType::Output => card.o().is_err(),
+        FormType::Header => header(card).is_err(),
+        FormType::File => file(card).is_err(),
+        FormType::Input => input_card(card).is_err(),
+        FormType::Calculation => calculation_card(card).is_err(),
+        FormType::Output => output_card(card).is_err(),
     }
 }

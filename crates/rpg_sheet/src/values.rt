@@ -1,30 +1,14 @@
 //! What the text of a range of columns stands for.
 
-ghost use Rattle.std.specs.Prelude.{◌≡◌, ◌+◌, ◌-◌, ◌^◌, ◌≤◌, ◌<◌, length, drop, take, if◌then◌else◌, IsTrue, codes, option_map, IfSome};
+ghost use Rattle.std.specs.Prelude.{◌≡◌, ◌+◌, ◌-◌, ◌^◌, ◌≤◌, ◌<◌, length, if◌then◌else◌, IsTrue, option_map};
 ghost use Rattle.std.specs.List.{list_all};
 ghost use Rattle.std.specs.Char.{is_ascii_digit};
 ghost use Rattle.std.specs.Str.Parse.{digits_value_after};
-ghost use Rattle.rpg_sheet.specs.Values as values;
+ghost use Rattle.rpg_spec.specs.Values as values;
+ghost use Rattle.rpg_text.specs.Texts.{all_blank};
 
-use crate::indicator::{Condition, Indicator};
-use crate::word::Word;
-
-pub(crate) fn is_blank(text: &[u8]) -> bool
-    ensures { result ≡ values.all_blank text.now }
-{
-    text.iter().all(|c| *c == b' ')
-}
-
-/// A text without the blanks at its end.
-pub(crate) fn trimmed(text: &[u8]) -> &[u8]
-    ensures { result.now ≡ values.trimmed text.now }
-{
-    let mut end = text.len();
-    while end > 0 && text[end - 1] == b' ' {
-        end -= 1;
-    }
-    &text[..end]
-}
+use rpg_spec::{Condition, Indicator, Word};
+use rpg_text::{is_blank, trimmed};
 
 /// A text without the blanks at its front.
 fn right_part(text: &[u8]) -> &[u8]
@@ -53,7 +37,7 @@ pub(crate) fn unused(text: &[u8]) -> Option<()>
 
 /// Blank, or the value of the text.
 pub(crate) fn blank_or<T: Drop>(text: &[u8], value: Option<T>) -> Option<Option<T>>
-    ensures { result ≡ (if values.all_blank text.now then Some None else option_map Some value) }
+    ensures { result ≡ (if all_blank text.now then Some None else option_map Some value) }
 {
     if is_blank(text) {
         Some(None)

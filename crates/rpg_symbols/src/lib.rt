@@ -3,5 +3,5 @@
 
 mod symbols;
 
-pub use rpg_sheet::Indicator;
+pub use rpg_spec::Indicator;
 pub use symbols::{DefineFault, Name, Symbols};

@@ -7,7 +7,7 @@ ghost use Rattle.rpg_symbols.specs.declared.symbols.DefineFault.TheVariants.{NoM
 
 use indexmap::IndexMap;
 use old_effect::form::{Class, Form, Kind};
-use rpg_sheet::Word;
+use rpg_spec::Word;
 use std::alloc::{AllocFailed, Global};
 use std::marker::Model;
 use thiserror::Error;

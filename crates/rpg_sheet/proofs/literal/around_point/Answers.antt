@@ -1,7 +1,7 @@
 use Rattle.std.proofs.Common.{sym, ◌+◌, arith, refl, length-drop}
 use Rattle.std.proofs.lemmas.List.{take_all}
 use Rattle.std.specs.Prelude.{drop}
-use Rattle.rpg_sheet.specs.Values.{is_point}
+use Rattle.rpg_spec.specs.Values.{is_point}
 use Rattle.rpg_sheet.proofs.LiteralLemmas.{first_place, before_none, after_none}
 use Rattle.rpg_sheet.proofs.literal.around_point.Goals as goal
 

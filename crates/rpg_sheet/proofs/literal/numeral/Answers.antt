@@ -1,5 +1,5 @@
 use Rattle.std.proofs.Common.{◌+◌, length, sym, ◌∙◌, ap, arith, FitsSigned, to_z-of_z, w64, rules}
-use Rattle.rpg_sheet.specs.Values.{with_sign}
+use Rattle.rpg_spec.specs.Values.{with_sign}
 use Rattle.rpg_sheet.proofs.Digits.{has_room, nothing_has_room, both_fit, ten_digits_fit, digits_value_after-append}
 use Rattle.rpg_sheet.proofs.LiteralLemmas.{size_of_sign, numeral_is}
 use Rattle.rpg_sheet.proofs.literal.numeral.Goals as goal
@@ -21,8 +21,8 @@ with_sign-requires c =
     let below = ten_digits_fit (length whole + length behind) _ c.requires.short (both_fit whole behind all more) in
     rw (c.value_after-size.ensures.value, c.value_after.ensures.value, sym (digits_value_after-append whole behind 0)) below
 
-pub invariant_of-result : goal.invariant_of-result
-invariant_of-result c =
+pub new-requires : goal.new-requires
+new-requires c =
     let whole = c.args.whole.now in
     let behind = c.args.behind.now in
     let all = sym c.has_only_digits.ensures ∙ c.if-not-has_only_digits.false in
@@ -45,6 +45,6 @@ returns c =
     let all = sym c.has_only_digits.ensures ∙ c.if-not-has_only_digits.false in
     let more = sym c.has_only_digits-else-not-has_only_digits.ensures ∙ c.if-not-has_only_digits-2.false in
     let fits : FitsSigned w64 c.with_sign.result = search rules in
-    rw (to_z-of_z fits)
+    rw (c.new.ensures, to_z-of_z fits)
     (sym (numeral_is c.args.minus whole behind c.with_sign.result all more (omega arith)
     (c.with_sign.ensures ∙ ap (with_sign c.args.minus) (c.value_after-size.ensures.value ∙ rw c.value_after.ensures.value (sym (digits_value_after-append whole behind 0))))))

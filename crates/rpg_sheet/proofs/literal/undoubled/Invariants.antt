@@ -1,6 +1,6 @@
 use Rattle.std.proofs.Common.{◌≡◌, ℕ, ◌+◌, ◌≤◌, ◌++◌, List, length}
 use Rattle.std.specs.Option.{option_map}
-use Rattle.rpg_sheet.specs.Values.{undoubled}
+use Rattle.rpg_spec.specs.Values.{undoubled}
 use Rattle.rpg_sheet.proofs.literal.undoubled.Given as goal
 
 -- what is done, before what the rest stands for

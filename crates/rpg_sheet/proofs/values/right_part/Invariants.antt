@@ -1,6 +1,6 @@
 use Rattle.std.proofs.Common.{◌≡◌, ◌+◌, ◌-◌, ◌≤◌, length, drop}
 use Rattle.std.specs.List.{prefix_len}
-use Rattle.rpg_sheet.specs.Values.{is_blank}
+use Rattle.rpg_text.specs.Texts.{is_blank}
 use Rattle.rpg_sheet.proofs.values.right_part.Given as goal
 
 abbrev pub invariant-loop-start : goal.invariant-loop-start

@@ -1,6 +1,6 @@
 use Rattle.std.proofs.Common.{◌-◌}
 use Rattle.std.specs.Prelude.{drop}
-use Rattle.rpg_sheet.specs.Values.{is_character}
+use Rattle.rpg_text.specs.Texts.{is_character}
 use Rattle.rpg_sheet.proofs.Characters.{all-take, all-drop}
 use Rattle.rpg_sheet.proofs.card.Card.columns.Goals as goal
 

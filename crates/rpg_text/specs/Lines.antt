@@ -1,0 +1,47 @@
+-- The lines of a text are std's `lines`. What that says of a text that is put together of lines:
+use Rattle.std.specs.Prelude.{◌≡◌, ◌==◌, ℕ, Bool, true, not, List, [], ◌∷◌, ◌++◌, map, codes, refl}
+use Rattle.std.specs.List.{flat_map, list_all}
+use Rattle.std.specs.Str.Lines.{lines, strip_carriage_return}
+
+abbrev pub is_line_feed : ℕ → Bool
+is_line_feed b = b == 10
+
+-- bytes with no line feed among them
+abbrev pub is_line : List ℕ → Bool
+is_line = list_all (λ b. not (is_line_feed b))
+
+abbrev pub with_line_feed : List ℕ → List ℕ
+with_line_feed text = text ++ 10 ∷ []
+
+abbrev pub unless_empty : List ℕ → List (List ℕ)
+unless_empty [] = []
+unless_empty (b ∷ bytes) = (b ∷ bytes) ∷ []
+
+-- Parts, each with its line feed, and then one without: the lines are the parts, each without the one carriage return at its
+-- end, and the last one as it is, where it isn't empty. Every text is such parts.
+abbrev pub LinesEndAtLineFeeds : Type 0
+LinesEndAtLineFeeds = (parts : List (List ℕ)) (rest : List ℕ) → list_all is_line parts ≡ true → is_line rest ≡ true
+    → lines (flat_map with_line_feed parts ++ rest) ≡ map strip_carriage_return parts ++ unless_empty rest
+
+-- ---- examples
+
+nothing : lines [] ≡ []
+nothing = refl
+
+two_lines : lines (codes "007\n35\n") ≡ codes "007" ∷ codes "35" ∷ []
+two_lines = refl
+
+without_line_feed_at_the_end : lines (codes "007\n35") ≡ codes "007" ∷ codes "35" ∷ []
+without_line_feed_at_the_end = refl
+
+empty_lines : lines (codes "\n\n") ≡ [] ∷ [] ∷ []
+empty_lines = refl
+
+carriage_return_before_line_feed : lines (codes "007\r\n35") ≡ codes "007" ∷ codes "35" ∷ []
+carriage_return_before_line_feed = refl
+
+two_carriage_returns : lines (codes "7\r\r\n") ≡ codes "7\r" ∷ []
+two_carriage_returns = refl
+
+carriage_return_elsewhere : lines (codes "7\r5\r") ≡ codes "7\r5\r" ∷ []
+carriage_return_elsewhere = refl

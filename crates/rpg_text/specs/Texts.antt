@@ -1,0 +1,21 @@
+-- Characters and blanks.
+use Rattle.std.specs.Prelude.{ℕ, ◌-◌, List, length, take, Bool, ◌==◌, ◌&&◌, nat_le}
+use Rattle.std.specs.List.{list_all, suffix_len}
+
+-- neither below low nor above high
+abbrev pub is_between : ℕ → ℕ → ℕ → Bool
+is_between low high n = nat_le low n && nat_le n high
+
+-- what may stand in a column, from the blank to `~`
+abbrev pub is_character : ℕ → Bool
+is_character c = is_between 32 126 c
+
+abbrev pub is_blank : ℕ → Bool
+is_blank c = c == 32
+
+abbrev pub all_blank : List ℕ → Bool
+all_blank text = list_all is_blank text
+
+-- without the blanks at the end
+abbrev pub trimmed : List ℕ → List ℕ
+trimmed text = take (length text - suffix_len is_blank text) text

@@ -1,0 +1,10 @@
+//! Characters, blanks and lines: what the texts of sources, object programs and inputs are made of.
+#![tactic(auto)]
+
+mod blank;
+mod character;
+mod line;
+
+pub use blank::{is_blank, trimmed};
+pub use character::has_only_characters;
+pub use line::{first_line, lines_end_at_line_feeds};

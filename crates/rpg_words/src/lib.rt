@@ -1,0 +1,7 @@
+//! The words of the command line, read by clap.
+#![tactic(auto)]
+
+mod command;
+mod request;
+
+pub use request::{CompileWords, Refusal, Request, RunWords, request_of};
