@@ -1,0 +1,3 @@
+pub mod Store
+pub mod First
+pub mod Fits
