@@ -1,5 +1,5 @@
 -- Values in the order of the entries, as a finite map.
-use Rattle.std.proofs.Common.{◌≡◌, ◌≢◌, ℕ, zero, suc, ◌+◌, ◌-◌, ◌<◌, ◌≤◌, ◌⊎◌, inl, inr, Bool, true, false, ◌&&◌, cond, eqb, List, [], ◌∷◌, ◌++◌, length, zip, Option, None, Some, slice_get, refl, sym, ap, ◌∙◌, subst, arith, eq-eqb, eqb-true, nat_cmp, Ordering, Less, Equal, Greater}
+use Rattle.std.proofs.Common.{◌≡◌, ℕ, zero, suc, ◌+◌, ◌-◌, ◌<◌, ◌≤◌, ◌⊎◌, inl, inr, Bool, true, false, ◌&&◌, cond, eqb, List, [], ◌∷◌, ◌++◌, length, zip, Option, Some, slice_get, refl, sym, ap, ◌∙◌, arith, eq-eqb, eqb-true, nat_cmp, Ordering, Less, Equal, Greater}
 use Rattle.std.proofs.Math.ListN.{set}
 use Rattle.std.proofs.lemmas.Map.Lookups.{exact_pairs, exact_unsigned}
 use Rattle.std.proofs.lemmas.Option.{same_Some, some_pair_parts}
@@ -8,8 +8,7 @@ use Rattle.std.specs.FinMap as maps
 use Rattle.std.specs.Ordering.{eq_by_cmp, is_eq, ordering_then}
 use Rattle.rpg_effect.specs.Values.{Value, entry_cmp}
 use Rattle.rpg_effect.specs.declared.form.FieldForm.{FieldForm}
-use Rattle.rpg_store.specs.Contents.{IsEntry, by_entry, entries_from, positions_from}
-use Rattle.rpg_store.specs.Store.{Values}
+use Rattle.rpg_store.specs.Contents.{by_entry, entries_from, positions_from}
 
 -- ---- the order of entries
 
@@ -157,7 +156,7 @@ by_entry-set fs vs n p v h l = maps.same_map entries_total entries_same _ _ (λ 
     get-by_entry fs (set vs n v) q ∙ finding-set (entries_from 1 fs) vs n p v q h (only_once fs 1 p n h) l
     ∙ sym (maps.get-insert entries_total (by_entry fs vs) p v q ∙ ap (λ o. cond (ties q p) (Some v) o) (get-by_entry fs vs q)))
 
-at_only : (b : Bool) (x : Value) (o r : Option Value) → (b ≡ true → ⊥) → o ≡ r → cond b (Some x) o ≡ r
+pub at_only : (b : Bool) (x : Value) (o r : Option Value) → (b ≡ true → ⊥) → o ≡ r → cond b (Some x) o ≡ r
 at_only true x o r h e = absurd (h refl)
 at_only false x o r h e = e
 

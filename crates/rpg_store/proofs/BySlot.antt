@@ -1,13 +1,12 @@
 -- Entries by the table of slots.
-use Rattle.std.proofs.Common.{◌≡◌, ℕ, zero, suc, ◌+◌, ◌-◌, ◌<◌, ◌≤◌, List, [], ◌∷◌, length, get_or, map, Option, None, Some, slice_get, refl, sym, ap, ◌∙◌, subst, arith}
+use Rattle.std.proofs.Common.{◌≡◌, ℕ, zero, suc, ◌+◌, ◌-◌, ◌<◌, ◌≤◌, List, [], ◌∷◌, length, Some, slice_get, refl, sym, ap, ◌∙◌, subst, arith}
 use Rattle.std.proofs.Math.ListN.{set}
-use Rattle.std.proofs.lemmas.Option.{same_Some, slice_get-map, slice_get_within, slice_get-get_or, get_or_from_slice_get}
-use Rattle.std.specs.Option.{option_map}
+use Rattle.std.proofs.lemmas.Option.{same_Some, slice_get_within}
 use Rattle.rpg_effect.specs.declared.form.FieldForm.{FieldForm}
 use Rattle.rpg_store.specs.Contents.{IsEntry, entries_from}
 use Rattle.rpg_store.specs.Slots.{forms_of, first_of, slot_at, spot, AreInOrder}
 use Rattle.rpg_store.specs.declared.slot.Slot.{Slot}
-use Rattle.rpg_store.proofs.ByEntry.{before, stands, Stands}
+use Rattle.rpg_store.proofs.ByEntry.{before, stands}
 
 -- an entry with the slot of its field
 pub record HasSlot (slots : List Slot) (q e : ℕ) : Type 0 where

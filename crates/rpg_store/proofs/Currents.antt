@@ -1,11 +1,10 @@
 -- The current entries of tables, as a finite map.
-use Rattle.std.proofs.Common.{◌≡◌, ◌≢◌, ℕ, zero, suc, ◌+◌, ◌-◌, ◌<◌, ◌≤◌, Bool, true, false, ◌&&◌, cond, eqb, List, [], ◌∷◌, length, Option, None, Some, IsSome, slice_get, refl, sym, ap, ◌∙◌, subst, arith, eq-eqb, ne_eqb, eqb-true, nat_cmp}
+use Rattle.std.proofs.Common.{◌≡◌, ◌≢◌, ℕ, zero, suc, ◌+◌, ◌-◌, ◌<◌, ◌≤◌, Bool, true, false, cond, eqb, List, [], ◌∷◌, length, Option, None, Some, slice_get, refl, sym, ap, ◌∙◌, arith, eq-eqb, ne_eqb, eqb-true, nat_cmp}
 use Rattle.std.proofs.Math.ListN.{set}
 use Rattle.std.proofs.lemmas.Option.{slice_get-map}
 use Rattle.std.specs.Cmp.{nat_cmp_total, unsigned_tied}
 use Rattle.std.specs.FinMap as maps
 use Rattle.std.specs.Option.{option_map}
-use Rattle.std.specs.Ordering.{eq_by_cmp}
 use Rattle.rpg_effect.specs.Forms.{form_at, is_table, is_table_form}
 use Rattle.rpg_store.specs.Slots.{currents, currents_from, forms_of}
 use Rattle.rpg_store.specs.declared.slot.Slot.{Slot}

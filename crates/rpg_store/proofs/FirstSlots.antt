@@ -1,5 +1,5 @@
 -- The table that a store starts with.
-use Rattle.std.proofs.Common.{◌≡◌, ℕ, ◌+◌, ◌*◌, ◌≤◌, Bool, true, false, cond, List, [], ◌∷◌, refl, ap, ◌∙◌, arith}
+use Rattle.std.proofs.Common.{◌≡◌, ℕ, ◌+◌, ◌*◌, ◌≤◌, cond, List, [], ◌∷◌, refl, ap, ◌∙◌, arith}
 use Rattle.std.proofs.Math.Nat.{mul-le-mul_right}
 use Rattle.std.proofs.lemmas.List.Elements.{All-head, All-tail}
 use Rattle.std.specs.FinMap as maps
@@ -10,7 +10,6 @@ use Rattle.rpg_program.specs.Kept.{IsFieldRow, storage_of}
 use Rattle.rpg_program.specs.Object.{Object}
 use Rattle.rpg_store.specs.First.{first_currents, tables_from}
 use Rattle.rpg_store.specs.Slots.{currents, currents_from, entries_count, forms_of, slots_from, AreInOrder}
-use Rattle.rpg_store.specs.declared.slot.Slot.{Slot}
 
 pub forms_from : (at : ℕ) (fs : List FieldForm) → forms_of (slots_from at fs) ≡ fs
 forms_from at [] = refl

@@ -5,3 +5,7 @@ pub mod Fits
 pub mod Slots
 pub mod Listed
 pub mod Characters
+pub mod Written
+pub mod Area
+pub mod Flat
+pub mod Filling

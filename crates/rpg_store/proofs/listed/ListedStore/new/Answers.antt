@@ -1,10 +1,9 @@
 use Rattle.std.proofs.Common.{◌≡◌, ◌≤◌, List, map, sym, ap, ◌∙◌, subst, arith}
-use Rattle.rpg_effect.specs.Values.{Value, held}
+use Rattle.rpg_effect.specs.Values.{held}
 use Rattle.rpg_effect.specs.declared.form.FieldForm.{FieldForm}
-use Rattle.rpg_program.specs.Kept.{storage_of}
 use Rattle.rpg_program.specs.Object.{Object}
 use Rattle.rpg_store.specs.Contents.{by_entry}
-use Rattle.rpg_store.specs.First.{first_currents, joined}
+use Rattle.rpg_store.specs.First.{joined}
 use Rattle.rpg_store.specs.Slots.{currents, entries_count, forms_of, AreInOrder}
 use Rattle.rpg_store.specs.declared.slot.Slot.{Slot}
 use Rattle.rpg_store.proofs.FirstSlots.{currents_first, entries_few, forms_from, order_from}

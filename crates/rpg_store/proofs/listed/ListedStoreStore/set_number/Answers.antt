@@ -1,9 +1,9 @@
-use Rattle.std.proofs.Common.{◌≡◌, ◌<◌, ◌≤◌, ℕ, List, sym, ap, ◌∙◌, subst, arith, Option, Some, rules}
+use Rattle.std.proofs.Common.{◌≡◌, List, sym, ap, ◌∙◌, subst, arith}
 use Rattle.std.proofs.Math.Facts.{to_z-of_z}
 use mir.Syntax.{w64}
 use mir.Val.{to_z, of_z}
 use Rattle.std.specs.FinMap as maps
-use Rattle.rpg_effect.specs.Values.{Value, Number, Text, held}
+use Rattle.rpg_effect.specs.Values.{Number}
 use Rattle.rpg_store.specs.Contents.{IsEntry}
 use Rattle.rpg_store.specs.Listed.{Listed, contents_of}
 use Rattle.rpg_store.specs.Slots.{currents, forms_of, spot}

@@ -1,10 +1,9 @@
-use Rattle.std.proofs.Common.{◌≡◌, ◌<◌, ◌≤◌, ℕ, List, sym, ap, ◌∙◌, subst, arith, Option, Some, rules}
-use Rattle.rpg_effect.specs.Values.{Value, Number, Text, held}
+use Rattle.std.proofs.Common.{◌≡◌, List, sym, ap, ◌∙◌, subst, arith, Some}
+use Rattle.rpg_effect.specs.Values.{Number, Text, held}
 use Rattle.rpg_store.specs.Contents.{IsEntry}
-use Rattle.rpg_store.specs.Store.{IsNumber, IsText}
 use Rattle.rpg_store.specs.Slots.{forms_of, spot}
 use Rattle.rpg_store.specs.declared.slot.Slot.{Slot}
-use Rattle.rpg_store.proofs.Listing.{number_there, text_there, of_store, read_there}
+use Rattle.rpg_store.proofs.Listing.{text_there, of_store, read_there}
 use Rattle.rpg_store.proofs.listed.ListedStoreStore.text.Goals as goal
 
 pub place-requires : goal.place-requires

@@ -1,6 +1,6 @@
-use Rattle.std.proofs.Common.{◌≡◌, ◌<◌, ◌≤◌, ℕ, List, length, refl, sym, ap, ◌∙◌, subst, arith, Option, Some, IsSome}
+use Rattle.std.proofs.Common.{◌≡◌, List, length, refl, sym, ap, ◌∙◌, subst, arith, Some}
 use Rattle.std.specs.FinMap as maps
-use Rattle.rpg_effect.specs.Values.{Value, Number, Text, characters_of, held}
+use Rattle.rpg_effect.specs.Values.{Value, Text, characters_of}
 use Rattle.rpg_store.specs.Contents.{IsEntry}
 use Rattle.rpg_store.specs.Store.{IsText}
 use Rattle.rpg_store.specs.Listed.{Listed, contents_of, with_text}
