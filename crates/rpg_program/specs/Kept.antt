@@ -1,5 +1,5 @@
 -- What the rows of an object program keep, in plain words.
-use Rattle.std.specs.Prelude.{◌≡◌, ◌≢◌, ℕ, ◌+◌, ◌*◌, ◌^◌, ◌<◌, ◌≤◌, Bool, true, false, ◌||◌, List, [], ◌∷◌, length, All, Option, None, Some, unsigned_abs}
+use Rattle.std.specs.Prelude.{◌≡◌, ◌≢◌, ℕ, ◌+◌, ◌*◌, ◌^◌, ◌<◌, ◌≤◌, Bool, false, ◌||◌, List, [], ◌∷◌, length, All, Option, None, Some, unsigned_abs}
 use Rattle.std.specs.Option.{ForSome}
 use Rattle.rpg_effect.specs.Forms.{is_array, is_table}
 use Rattle.rpg_effect.specs.Input.{TypeRow}

@@ -1,0 +1,237 @@
+-- One cycle of a job: its nine phases, one after another.
+use Rattle.std.specs.Prelude.{◌≡◌, ℕ, Bool, true, false, not, ◌&&◌, ◌||◌, List, [], ◌∷◌, length, slice_get, Option, None, Some, is_none, if◌then◌else◌}
+use Rattle.std.specs.List.{list_all}
+use Rattle.std.specs.Ordering.{nat_cmp}
+use Rattle.rpg_cycle.specs.Earlier.{Left, Selected, control_fields, is_any, last_of_level, left_by}
+use Rattle.rpg_cycle.specs.Ends.{End, GoesOn, EndOfJob, Halt, Wrong, end_of}
+use Rattle.rpg_cycle.specs.Identifying.{Trial, IsOf, IsOfNone, Misplaced, filled, identified, is_good, trial_weight}
+use Rattle.rpg_cycle.specs.Indicators.{any_on, first_page, halt_indicators, is_on, last_record, level_indicators, with_all, with_levels, with_one, with_type, without_types}
+use Rattle.rpg_cycle.specs.Levels.{bytes_of, differs, highest_broken, is_inside}
+use Rattle.rpg_cycle.specs.declared.time.OutputTime.{OutputTime}
+use Rattle.rpg_cycle.specs.declared.time.OutputTime.TheVariants as times
+use Rattle.rpg_effect.specs.Effect.{Effect}
+use Rattle.rpg_effect.specs.Ends as effects
+use Rattle.rpg_effect.specs.Forms.{form_at}
+use Rattle.rpg_effect.specs.Input.{TypeRow, record_in}
+use Rattle.rpg_effect.specs.Lines.{detail_output, overflow_output, total_output}
+use Rattle.rpg_effect.specs.Weights.{detail_weight, overflow_weight, total_weight}
+use Rattle.rpg_effect.specs.World.{World}
+use Rattle.rpg_effect.specs.declared.input.InputField.{InputField}
+use Rattle.rpg_machine.specs.Config.{Config, Output, charged, no_output, with_more}
+use Rattle.rpg_machine.specs.Run as machine
+use Rattle.rpg_program.specs.Constants.{word_at}
+use Rattle.rpg_program.specs.Object.{Object, lines_of}
+use Rattle.rpg_program.specs.declared.section.Section.{Section}
+use Rattle.rpg_program.specs.declared.section.Section.TheVariants as sections
+
+-- A cycle under way: the configuration, and the record that phase 4 selected, if it has selected one.
+pub record UnderWay : Type 0 where
+  pub config : Config
+  pub selected : Option Selected
+
+-- A phase leads from one to another; it goes on or ends the job, and it puts something out.
+abbrev pub Phase : Type 1
+Phase = UnderWay → End → UnderWay → Output → Type 0
+
+-- a phase from where the one before has led, unless that ended the job
+abbrev pub from_there : Phase → End → UnderWay → Output → End → UnderWay → Output → Type 0
+from_there Q GoesOn m put e d out = (more : Output) × Q m e d more × (out ≡ with_more put more)
+from_there Q EndOfJob m put e d out = (e ≡ EndOfJob) × (d ≡ m) × (out ≡ put)
+from_there Q (Halt k) m put e d out = (e ≡ Halt k) × (d ≡ m) × (out ≡ put)
+from_there Q (Wrong f) m put e d out = (e ≡ Wrong f) × (d ≡ m) × (out ≡ put)
+
+-- the one phase and then the other
+infixr 5 ◌before◌
+abbrev pub ◌before◌ : Phase → Phase → Phase
+(P before Q) c e d out = (f : End) × (m : UnderWay) × (put : Output) × P c f m put × from_there Q f m put e d out
+
+-- ---- kinds of phases
+
+-- with the configuration changed
+abbrev pub with_config : (Config → Config) → UnderWay → UnderWay
+with_config f c = record c { config = f c.config }
+
+-- an effect on the world, which weighs so much
+abbrev pub by_effect : ℕ → (World nat_cmp → Effect nat_cmp) → Phase
+by_effect weight effect c e d out =
+    let after = effect c.config.world in
+    (e ≡ end_of after.ending)
+    × (d ≡ with_config (λ a. record (charged weight a) { world = after.world }) c)
+    × (out ≡ record { lines = after.lines; records = after.records })
+
+-- the lines of an output; that of detail time settles the overflow indicator, that of a full page marks itself
+abbrev pub output_effect : Object → OutputTime → World nat_cmp → Effect nat_cmp
+output_effect p times.Detail w = detail_output (form_at p.fields) (word_at p) p.overflow (lines_of p) w
+output_effect p times.Total w = total_output (form_at p.fields) (word_at p) p.overflow (lines_of p) w
+output_effect p times.Overflow w = overflow_output (form_at p.fields) (word_at p) p.overflow (lines_of p) w
+
+-- all lines of the time, tested or placed
+abbrev pub output_weight : Object → OutputTime → ℕ
+output_weight p times.Detail = detail_weight (lines_of p)
+output_weight p times.Total = total_weight (lines_of p)
+output_weight p times.Overflow = overflow_weight (lines_of p)
+
+abbrev pub output : Object → OutputTime → Phase
+output p time = by_effect (output_weight p time) (output_effect p time)
+
+-- a section of calculations, in as many steps as it takes
+abbrev pub section : Object → Section → Phase
+section p s c e d out =
+    (last : effects.End) × machine.RunsTo p s c.config last d.config out × (e ≡ end_of last) × (d.selected ≡ c.selected)
+
+-- how a phase without output ends, and where it leads
+pub record Done : Type 0 where
+  pub end : End
+  pub leads : UnderWay
+
+abbrev pub done : End → UnderWay → Done
+done e c = record { end = e; leads = c }
+
+abbrev pub does : (UnderWay → Done) → Phase
+does f c e d out = (e ≡ (f c).end) × (d ≡ (f c).leads) × (out ≡ no_output)
+
+-- nothing is done
+abbrev pub passes : Phase
+passes = does (done GoesOn)
+
+abbrev pub either : Bool → Phase → Phase → Phase
+either true P Q = P
+either false P Q = Q
+
+-- a phase, unless the test holds
+abbrev pub unless : (Config → Bool) → Phase → Phase
+unless test P c = either (test c.config) passes P c
+
+-- ---- 1 heading and detail lines of the cycle before, and at first those of the first page
+
+abbrev pub detail_lines : Object → Phase
+detail_lines p = output p times.Detail
+
+-- ---- 2 halt 6 where a halt indicator is on
+
+abbrev pub halt_where_asked : Phase
+halt_where_asked = does (λ c. done (if any_on c.config halt_indicators then Halt 6 else GoesOn) c)
+
+-- ---- 3 the indicators of record types, L1 to L9 and 1P go off
+
+abbrev pub all_off : Object → Config → Config
+all_off p c = with_one first_page false (with_all level_indicators false (without_types p.types c))
+
+abbrev pub set_off : Object → Phase
+set_off p = does (λ c. done GoesOn (with_config (all_off p) c))
+
+-- ---- 4 a record is read and identified, and its control fields are compared
+
+-- the highest level that this record breaks, 0 where it breaks none
+abbrev pub broken_level : Object → Left → Selected → ℕ
+broken_level p left s = highest_broken (λ level. differs (last_of_level left level) (bytes_of (control_fields p s.type) s.text level)) 9
+
+-- the control fields are compared; with n the highest level that is broken, L1 to Ln go on
+abbrev pub compare : Object → Left → Selected → Config → Done
+compare p left s c =
+    if list_all (is_inside (length s.text)) (control_fields p s.type)
+    then done GoesOn (record { config = with_levels (broken_level p left s) (charged (length (control_fields p s.type)) c); selected = Some s })
+    else done (Wrong effects.Storage) (record { config = charged (length (control_fields p s.type)) c; selected = None })
+
+-- the indicator of a type
+abbrev pub indicator_of : Option (TypeRow ℕ) → Option ℕ
+indicator_of None = None
+indicator_of (Some t) = t.indicator
+
+-- an identified record's indicator goes on; a record of no type is halt 3
+abbrev pub take_type : Object → Left → List ℕ → Trial → Config → Done
+take_type p left text (IsOf t) c = compare p left (record { type = t; text = text }) (with_type (indicator_of (slice_get p.types t)) c)
+take_type p left text IsOfNone c = done (Halt 3) (record { config = c; selected = None })
+take_type p left text Misplaced c = done (Wrong effects.Storage) (record { config = c; selected = None })
+
+-- types are tried, which weighs the codes of all that are
+abbrev pub identify : Object → Left → List ℕ → Config → Done
+identify p left text c = take_type p left text (identified 0 p.types text) (charged (trial_weight p.types text) c)
+
+-- a record is identified, unless it is a bad one, which is halt 7; at the end of the file LR and L1 to L9 go on
+abbrev pub read_record : Object → Left → Option (List ℕ) → Config → Done
+read_record p left None c = done GoesOn (record { config = with_all level_indicators true (with_one last_record true c); selected = None })
+read_record p left (Some text) c = if is_good p text then identify p left (filled p text) c else done (Halt 7) (record { config = c; selected = None })
+
+-- where LR is on no record is read, and L1 to L9 go on
+abbrev pub select_record : Object → Left → Option (List ℕ) → Phase
+select_record p left next = does (λ c.
+    if is_on c.config last_record then done GoesOn (record { config = with_all level_indicators true c.config; selected = None })
+    else read_record p left next c.config)
+
+-- ---- 5 total calculations and total output, unless they are bypassed
+
+-- some type has control fields
+abbrev pub has_control_fields : List (TypeRow ℕ) → Bool
+has_control_fields [] = false
+has_control_fields (t ∷ ts) = is_any t.levels || has_control_fields ts
+
+-- in the first cycle, and until a record with control fields was selected, if types have them; never where LR is on
+abbrev pub is_bypassed : Object → Bool → Bool → Config → Bool
+is_bypassed p any control c = not (is_on c last_record) && (not any || (has_control_fields p.types && not control))
+
+abbrev pub total_time : Object → Left → Phase
+total_time p left = unless (is_bypassed p left.any left.control) (section p sections.Total before output p times.Total)
+
+-- ---- 6 the job ends where LR is on, or where no record was selected
+
+abbrev pub end_where_last : Phase
+end_where_last = does (λ c. done (if is_on c.config last_record || is_none c.selected then EndOfJob else GoesOn) c)
+
+-- ---- 7 overflow output, where the printer's overflow indicator is on
+
+abbrev pub has_no_overflow : Option ℕ → Config → Bool
+has_no_overflow None c = true
+has_no_overflow (Some n) c = not (is_on c n)
+
+abbrev pub overflow_lines : Object → Phase
+overflow_lines p = unless (has_no_overflow p.overflow) (output p times.Overflow)
+
+-- ---- 8 the columns of the record become values of fields
+
+-- the input fields of a type
+abbrev pub inputs_of : Option (TypeRow ℕ) → List (InputField ℕ)
+inputs_of None = []
+inputs_of (Some t) = t.inputs
+
+-- those of the selected record's type, all of which are charged
+abbrev pub fill_from : Object → Option Selected → Phase
+fill_from p None = passes
+fill_from p (Some s) =
+    let inputs = inputs_of (slice_get p.types s.type) in
+    by_effect (length inputs) (record_in (form_at p.fields) s.text inputs)
+
+abbrev pub fill_fields : Object → Phase
+fill_fields p c = fill_from p c.selected c
+
+-- ---- 9 detail calculations
+
+abbrev pub detail_calculations : Object → Phase
+detail_calculations p = section p sections.Detail
+
+-- ---- the cycle
+
+-- a cycle with what earlier records leave
+abbrev pub CycleOn : Object → Left → Option (List ℕ) → Phase
+CycleOn p left next =
+    detail_lines p
+    before halt_where_asked
+    before set_off p
+    before select_record p left next
+    before total_time p left
+    before end_where_last
+    before overflow_lines p
+    before fill_fields p
+    before detail_calculations p
+
+-- a cycle behind those that selected the earlier records, the last of these first, with the record that is next, or none at the end of the file
+abbrev pub Cycle : Object → List Selected → Option (List ℕ) → Phase
+Cycle p earlier next = CycleOn p (left_by p earlier) next
+
+-- the allowance full, no steps, and nothing selected
+abbrev pub begun : Object → Config → UnderWay
+begun p c = record { config = record c { allowance = p.allowance; steps = 0 }; selected = None }
+
+-- the next cycle takes a record: neither LR nor one of H1 to H9 is on
+abbrev pub needs_record : Config → Bool
+needs_record c = not (is_on c last_record || any_on c halt_indicators)

@@ -1,0 +1,41 @@
+-- What a job starts with.
+use Rattle.std.specs.Prelude.{ℕ, ℤ, pos, ◌+◌, false, List, [], ◌∷◌, if◌then◌else◌}
+use Rattle.std.specs.FinMap as map
+use Rattle.std.specs.FinSet as set
+use Rattle.std.specs.Ordering.{nat_cmp}
+use Rattle.rpg_cycle.specs.Indicators.{first_page, level_zero}
+use Rattle.rpg_decimal.specs.Fraction.{with_decimals}
+use Rattle.rpg_effect.specs.Forms.{is_date}
+use Rattle.rpg_effect.specs.Values.{Value, Number}
+use Rattle.rpg_effect.specs.World.{Fields, World, with_value}
+use Rattle.rpg_effect.specs.declared.form.FieldForm.{FieldForm}
+use Rattle.rpg_machine.specs.Config.{Config}
+use Rattle.rpg_program.specs.Object.{Object}
+use Rattle.rpg_program.specs.declared.section.Section.TheVariants.{Detail}
+
+-- the date goes into each date field; the first of these has that number
+abbrev pub dated : ℤ → ℕ → List FieldForm → Fields nat_cmp → Fields nat_cmp
+dated date field [] fields = fields
+dated date field (f ∷ fs) fields = dated date (field + 1) fs (if is_date f.class then with_value (field, 1) (Number date) fields else fields)
+
+-- L0 and 1P are on, no division has left anything, and the form is at line 1 of page 1
+abbrev pub first_world : Fields nat_cmp → World nat_cmp
+first_world fields = record {
+  fields = fields;
+  on = set.from_list (level_zero ∷ first_page ∷ []);
+  remainder = with_decimals (pos 0) 0;
+  here = record { page = 1; line = 1 };
+  was_overflow = false;
+  has_turned_on = false;
+}
+
+-- a job's configuration before its first cycle, over these values and current entries
+abbrev pub start_of : Object → ℤ → Fields nat_cmp → Config
+start_of p date fields = record {
+  world = first_world (dated date 1 p.fields fields);
+  section = Detail;
+  place = 0;
+  cells = map.empty;
+  allowance = p.allowance;
+  steps = 0;
+}

@@ -1,0 +1,4 @@
+//! The fixed program cycle, and whole runs.
+#![tactic(auto)]
+
+pub mod time;

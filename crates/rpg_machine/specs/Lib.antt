@@ -1,0 +1,6 @@
+pub mod Chain
+pub mod Config
+pub mod Control
+pub mod Potential
+pub mod Run
+pub mod Step

@@ -1,0 +1,4 @@
+//! The written machine's steps and sections.
+#![tactic(auto)]
+
+pub mod control;

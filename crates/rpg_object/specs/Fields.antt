@@ -1,0 +1,86 @@
+-- The format of fields, 8 bytes each.
+use Rattle.std.specs.Prelude.{ℕ, ◌-◌, ◌*◌, List, [], ◌∷◌, Bool, true, false, ◌&&◌, nat_le, if◌then◌else◌, Result, Ok, Err}
+use Rattle.rpg_effect.specs.Forms.{is_date}
+use Rattle.rpg_effect.specs.declared.form.Class.{Class}
+use Rattle.rpg_effect.specs.declared.form.Class.TheVariants as classes
+use Rattle.rpg_effect.specs.declared.form.FieldForm.{FieldForm}
+use Rattle.rpg_effect.specs.declared.form.Kind.{Kind}
+use Rattle.rpg_effect.specs.declared.form.Kind.TheVariants as kinds
+use Rattle.rpg_format.specs.declared.fault.Code.{Code}
+use Rattle.rpg_format.specs.declared.fault.Code.TheVariants.{NotAllowed, PastLimit}
+use Rattle.rpg_format.specs.Format.{Format, byte, two_bytes, pair, row, times_with}
+use Rattle.rpg_format.specs.Numbers.{is_between, choice, flag_number, number_where, byte_where}
+use Rattle.rpg_program.specs.Kept.{has_entries, length_limit}
+
+abbrev pub kind_number : Kind → ℕ
+kind_number kinds.Number = 1
+kind_number kinds.Text = 2
+
+abbrev pub class_number : Class → ℕ
+class_number classes.Plain = 0
+class_number classes.Array = 1
+class_number classes.Table = 2
+class_number classes.Constant = 3
+class_number classes.Date = 4
+
+abbrev pub kind_of : ℕ → Result Kind Code
+kind_of = choice (kinds.Number ∷ kinds.Text ∷ []) kind_number
+
+-- the date is a number
+abbrev pub classes_of : Kind → List Class
+classes_of kinds.Number = classes.Plain ∷ classes.Array ∷ classes.Table ∷ classes.Constant ∷ classes.Date ∷ []
+classes_of kinds.Text = classes.Plain ∷ classes.Array ∷ classes.Table ∷ classes.Constant ∷ []
+
+abbrev pub class_of : Kind → ℕ → Result Class Code
+class_of k = choice (classes_of k) class_number
+
+-- the date has 6 digits
+abbrev pub shortest : Class → ℕ
+shortest c = if is_date c then 6 else 1
+
+abbrev pub longest : Kind → Class → ℕ
+longest k c = if is_date c then 6 else length_limit k
+
+-- the date and texts have no decimals
+abbrev pub most_decimals : Kind → Class → ℕ
+most_decimals kinds.Number c = if is_date c then 0 else 9
+most_decimals kinds.Text c = 0
+
+-- so many at most, and no more than digits
+abbrev pub is_decimals : ℕ → ℕ → ℕ → Bool
+is_decimals most digits n = nat_le n most && nat_le n digits
+
+-- only the entries of arrays and tables may stand in ascending sequence
+abbrev pub sequences_of : Class → List Bool
+sequences_of c = if has_entries c then false ∷ true ∷ [] else false ∷ []
+
+abbrev pub sequence_of : Class → ℕ → Result Bool Code
+sequence_of c = choice (sequences_of c) flag_number
+
+abbrev pub most_entries : Class → ℕ
+most_entries c = if has_entries c then 9999 else 1
+
+-- the entries, whose bytes must lie within the storage that is left
+abbrev pub entries_within : ℕ → ℕ → ℕ → ℕ → Result ℕ Code
+entries_within most len storage n =
+    if is_between 1 most n then (if nat_le (len * n) storage then Ok n else Err PastLimit) else Err NotAllowed
+
+-- kind, class, length, decimals, sequence, entries, with the storage that the fields before it leave
+unfoldable pub field : ℕ → Format FieldForm
+field storage = row
+    (λ p. record { kind = p.0; class = p.1.0; length = p.1.1.0; decimals = p.1.1.1.0; is_ascending = p.1.1.1.1.0; entries = p.1.1.1.1.1 })
+    (λ f. (f.kind, (f.class, (f.length, (f.decimals, (f.is_ascending, f.entries))))))
+    (pair (byte kind_of kind_number) (λ k.
+    pair (byte (class_of k) class_number) (λ c.
+    pair (number_where (is_between (shortest c) (longest k c))) (λ len.
+    pair (byte_where (is_decimals (most_decimals k c) len)) (λ decimals.
+    pair (byte (sequence_of c) flag_number) (λ is_ascending.
+    two_bytes (entries_within (most_entries c) len storage) (λ n. n)))))))
+
+-- a field takes the bytes of its entries from the storage that is left
+abbrev pub storage_after : ℕ → FieldForm → ℕ
+storage_after storage f = storage - f.length * f.entries
+
+-- n fields, of 65,535 bytes in all
+unfoldable pub fields : ℕ → Format (List FieldForm)
+fields n = times_with field storage_after n 65535

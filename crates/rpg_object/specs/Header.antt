@@ -1,0 +1,47 @@
+-- The format of the header: the numbers before the tables.
+use Rattle.std.specs.Prelude.{ℕ, ◌-◌, ◌==◌, if◌then◌else◌, Option, Some, None, Result, Ok, Err}
+use Rattle.rpg_format.specs.declared.fault.Code.{Code}
+use Rattle.rpg_format.specs.declared.fault.Code.TheVariants.{NotAllowed, Unused, Version}
+use Rattle.rpg_format.specs.Format.{Format, two_bytes, pair, row}
+use Rattle.rpg_format.specs.Numbers.{is_between, number_where, count, only_number}
+use Rattle.rpg_object.specs.declared.header.Counts.{Counts}
+use Rattle.rpg_object.specs.declared.header.Header.{Header}
+use Rattle.rpg_object.specs.declared.header.Settings.{Settings}
+
+-- 0 for none
+abbrev pub overflow_of : ℕ → Result (Option ℕ) Code
+overflow_of n = if n == 0 then Ok None else (if is_between 112 119 n then Ok (Some n) else Err NotAllowed)
+
+abbrev pub overflow_number : Option ℕ → ℕ
+overflow_number None = 0
+overflow_number (Some n) = n
+
+-- allowance, lengths of records, lines and disk records, overflow indicator
+unfoldable pub settings : Format Settings
+settings = row
+    (λ p. record { allowance = p.0; record_length = p.1.0; printer_length = p.1.1.0; disk_length = p.1.1.1.0; overflow = p.1.1.1.1 })
+    (λ s. (s.allowance, (s.record_length, (s.printer_length, (s.disk_length, s.overflow)))))
+    (pair (number_where (is_between 1 65535)) (λ allowance.
+    pair (number_where (is_between 1 9999)) (λ record_length.
+    pair (number_where (is_between 0 132)) (λ printer_length.
+    pair (number_where (is_between 0 9999)) (λ disk_length.
+    two_bytes overflow_of overflow_number)))))
+
+-- the most instructions that a program has
+abbrev pub most_instructions : ℕ
+most_instructions = 8192
+
+-- fields, types, lines, detail instructions, total instructions, subroutines
+unfoldable pub counts : Format Counts
+counts = row
+    (λ p. record { fields = p.0; types = p.1.0; lines = p.1.1.0; detail = p.1.1.1.0; total = p.1.1.1.1.0; subroutines = p.1.1.1.1.1 })
+    (λ c. (c.fields, (c.types, (c.lines, (c.detail, (c.total, c.subroutines))))))
+    (pair (count 4000) (λ f. pair (count 200) (λ t. pair (count 1000) (λ l.
+    pair (count most_instructions) (λ d. pair (count (most_instructions - d)) (λ n. count 100))))))
+
+-- version, settings, counts, 0
+unfoldable pub header : Format Header
+header = row
+    (λ p. record { settings = p.1.0; counts = p.1.1.0 })
+    (λ h. (tt, (h.settings, (h.counts, tt))))
+    (pair (only_number 1 Version) (λ version. pair settings (λ s. pair counts (λ c. only_number 0 Unused))))

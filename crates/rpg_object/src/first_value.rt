@@ -1,0 +1,180 @@
+//! First values of fields, each in as many bytes as its field has digits or characters.
+
+ghost use Rattle.std.specs.Prelude.{◌≡◌, ◌++◌, ◌≤◌, All, length, map, OnOk};
+ghost use Rattle.std.specs.List.{list_all};
+ghost use Rattle.rpg_decimal.specs.Zoned.{number_in};
+ghost use Rattle.rpg_effect.specs.declared.form.Kind.TheVariants as kinds;
+ghost use Rattle.rpg_effect.specs.Values.{held};
+ghost use Rattle.rpg_format.specs.Format.{table};
+ghost use Rattle.rpg_format.specs.Reading.{Gives};
+ghost use Rattle.rpg_program.specs.Kept.{AreEntriesOf, AreValuesOf, IsValueOf};
+ghost use Rattle.rpg_object.specs.FirstValues as spec;
+ghost use Rattle.rpg_object.specs.FirstValues.{as_written, is_character, read_value, value, value_in, value_text, values, HasLength};
+
+use rpg_decimal::{read_zoned, write_zoned};
+use rpg_effect::form::{FieldForm, Kind};
+use rpg_effect::value::Value;
+use rpg_format::fault::{Code, ReadFault};
+use rpg_format::number::{ends_early, fault_at};
+use std::alloc::{AllocError, Global};
+
+/// The most digits that a number has.
+const DIGITS: usize = 15;
+
+/// The number that the text is written for: no blank stands for a zero in it, no letter for a plus sign, and a zero
+/// has no minus sign.
+fn number_written(text: &[u8]) -> Result<i64, Code>
+    requires low { 1 ≤ length text.now }
+    requires high { length text.now ≤ 15 }
+    ensures { result ≡ as_written text.now (number_in text.now) }
+{
+    let Ok(number) = read_zoned(text) else {
+        return Err(Code::NotAllowed);
+    };
+    let mut places = [0u8; DIGITS];
+    let written = &mut places[..text.len()];
+    write_zoned(number, written);
+    if &*written == text {
+        Ok(number)
+    } else {
+        Err(Code::NotAllowed)
+    }
+}
+
+fn are_characters(text: &[u8]) -> bool
+    ensures { result ≡ list_all is_character text.now }
+{
+    text.iter().all(|c| 32 <= *c && *c <= 126)
+}
+
+/// Reads the number that the first bytes are written for.
+fn number_value_at(bytes: &[u8], len: u16) -> Result<(Value, &[u8]), ReadFault>
+    requires low { 1 ≤ len }
+    requires high { len ≤ 15 }
+    ensures { Gives (λ x. (held x.0, x.1.now)) result (read_value kinds.Number len bytes.now) }
+{
+    let len = len as usize;
+    if bytes.len() < len {
+        return Err(ends_early());
+    }
+    let (text, rest) = bytes.split_at(len);
+    match number_written(text) {
+        Ok(number) => Ok((Value::Number(number), rest)),
+        Err(code) => Err(fault_at(bytes, code)),
+    }
+}
+
+/// Reads the characters of a text.
+fn text_value_at(alloc: Global, bytes: &[u8], len: u16) -> Result<(Value, &[u8]), ReadFault>
+    ensures { Gives (λ x. (held x.0, x.1.now)) result (read_value kinds.Text len bytes.now) }
+{
+    let len = len as usize;
+    if bytes.len() < len {
+        return Err(ends_early());
+    }
+    let (text, rest) = bytes.split_at(len);
+    if !are_characters(text) {
+        return Err(fault_at(bytes, Code::NotAllowed));
+    }
+    let characters = Vec::from_slice(alloc, text)?;
+    Ok((Value::Text(characters), rest))
+}
+
+#[tactic(auto, unfolding(crate::specs::FirstValues::value))]
+fn value_at(alloc: Global, bytes: &[u8], form: FieldForm) -> Result<(Value, &[u8]), ReadFault>
+    requires { HasLength form }
+    ensures { Gives (λ x. (held x.0, x.1.now)) result ((value form.kind form.length).reading bytes.now) }
+{
+    match form.kind {
+        Kind::Number => number_value_at(bytes, form.length),
+        Kind::Text => text_value_at(alloc, bytes, form.length),
+    }
+}
+
+/// Reads a value for each entry of a field.
+fn entries_at(
+    alloc: Global,
+    form: FieldForm,
+    bytes: &[u8],
+) -> Result<(Vec<Value>, &[u8]), ReadFault>
+    requires { HasLength form }
+    ensures { Gives (λ x. (map held x.0.items, x.1.now)) result ((spec.entries form).reading bytes.now) }
+{
+    let mut entries = Vec::with_capacity(alloc, form.entries as usize)?;
+    let mut rest = bytes;
+    for _ in 0..form.entries {
+        let (value, after) = value_at(alloc, rest, form)?;
+        entries.push(value)?;
+        rest = after;
+    }
+    Ok((entries, rest))
+}
+
+/// Reads the values of each field.
+pub fn values_at<'a>(
+    alloc: Global,
+    fields: &[FieldForm],
+    bytes: &'a [u8],
+) -> Result<(Vec<Vec<Value>>, &'a [u8]), ReadFault>
+    requires { All HasLength fields.now }
+    ensures { Gives (λ x. (map (λ vs. map held vs.items) x.0.items, x.1.now)) result ((values fields.now).reading bytes.now) }
+{
+    let mut values = Vec::with_capacity(alloc, fields.len())?;
+    let mut rest = bytes;
+    for field in fields {
+        let (entries, after) = entries_at(alloc, *field, rest)?;
+        values.push(entries)?;
+        rest = after;
+    }
+    Ok((values, rest))
+}
+
+/// Writes a value in as many bytes as its field is long.
+fn put_value(out: &mut Vec<u8>, value: &Value, form: FieldForm) -> Result<(), AllocError>
+    requires length { HasLength form }
+    requires value { IsValueOf form.kind form.length (held value.now) }
+    ensures { OnOk result (out.new.items ≡ out.old.items ++ value_text form.length (held value.now)) }
+{
+    match value {
+        Value::Number(number) => {
+            let mut places = [0u8; DIGITS];
+            let written = &mut places[..form.length as usize];
+            write_zoned(*number, written);
+            out.extend_from_slice(written)?;
+            Ok(())
+        }
+        Value::Text(text) => {
+            out.extend_from_slice(text)?;
+            Ok(())
+        }
+    }
+}
+
+/// Writes the values of a field's entries.
+fn put_entries(out: &mut Vec<u8>, entries: &[Value], form: FieldForm) -> Result<(), AllocError>
+    requires length { HasLength form }
+    requires entries { AreEntriesOf form (map held entries.now) }
+    ensures { OnOk result (out.new.items ≡ out.old.items ++ (spec.entries form).spelling (map held entries.now)) }
+{
+    for value in entries {
+        put_value(out, value, form)?;
+    }
+    Ok(())
+}
+
+/// Writes the values of each field.
+pub fn put_values(
+    out: &mut Vec<u8>,
+    fields: &[FieldForm],
+    list: &[Vec<Value>],
+) -> Result<(), AllocError>
+    requires lengths { All HasLength fields.now }
+    requires number { length list.now ≡ length fields.now }
+    requires values { AreValuesOf fields.now (map (λ vs. map held vs.items) list.now) }
+    ensures { OnOk result (out.new.items ≡ out.old.items ++ (values fields.now).spelling (map (λ vs. map held vs.items) list.now)) }
+{
+    for (i, field) in fields.iter().enumerate() {
+        put_entries(out, &list[i], *field)?;
+    }
+    Ok(())
+}

@@ -1,0 +1,150 @@
+//! The header: the numbers of a program before its tables.
+
+ghost use Rattle.std.specs.Prelude.{◌≡◌, ◌++◌, Result, OnOk};
+ghost use Rattle.rpg_format.specs.declared.fault.Code.{Code};
+ghost use Rattle.rpg_format.specs.Format.{read_two};
+ghost use Rattle.rpg_format.specs.Reading.{Gives};
+ghost use Rattle.rpg_object.specs.Header as spec;
+ghost use Rattle.rpg_object.specs.Header.{overflow_of, overflow_number};
+
+use rpg_format::fault::{Code, ReadFault};
+use rpg_format::number::{count_at, number_at, number_between_at, only_number_at, put_numbers};
+use std::alloc::AllocError;
+
+/// The most instructions that a program has, of all its sections together.
+pub const INSTRUCTIONS: u16 = 8_192;
+
+/// What a program runs with: its allowance, the lengths of its files, and its overflow indicator.
+#[derive(Clone, Copy)]
+pub struct Settings {
+    pub allowance: u16,
+    pub record_length: u16,
+    pub printer_length: u16,
+    pub disk_length: u16,
+    pub overflow: Option<u8>,
+}
+
+/// How many rows each table has.
+#[derive(Clone, Copy)]
+pub struct Counts {
+    pub fields: u16,
+    pub types: u16,
+    pub lines: u16,
+    pub detail: u16,
+    pub total: u16,
+    pub subroutines: u16,
+}
+
+/// The header of an object program, 32 bytes with the name before it.
+#[derive(Clone, Copy)]
+pub struct Header {
+    pub settings: Settings,
+    pub counts: Counts,
+}
+
+fn overflow_of(n: u16) -> Result<Option<u8>, Code>
+    ensures { result ≡ overflow_of n }
+{
+    match n {
+        0 => Ok(None),
+        112..=119 => Ok(Some(n as u8)),
+        _ => Err(Code::NotAllowed),
+    }
+}
+
+fn overflow_number(overflow: Option<u8>) -> u16
+    ensures { result ≡ overflow_number overflow }
+{
+    match overflow {
+        None => 0,
+        Some(n) => n as u16,
+    }
+}
+
+#[tactic(auto, unfolding(rpg_format::specs::Format::read_two))]
+fn overflow_at(bytes: &[u8]) -> Result<(Option<u8>, &[u8]), ReadFault>
+    ensures { Gives (λ x. (x.0, x.1.now)) result (read_two overflow_of bytes.now) }
+{
+    number_at(bytes, |n| overflow_of(n))
+}
+
+#[tactic(auto, unfolding(rpg_format::specs::Format::two_bytes, rpg_format::specs::Format::pair, rpg_format::specs::Format::row, crate::specs::Header::settings))]
+fn settings_at(bytes: &[u8]) -> Result<(Settings, &[u8]), ReadFault>
+    ensures { Gives (λ x. (x.0, x.1.now)) result (spec.settings.reading bytes.now) }
+{
+    let (allowance, rest) = number_between_at(bytes, 1, 65_535)?;
+    let (record_length, rest) = number_between_at(rest, 1, 9_999)?;
+    let (printer_length, rest) = number_between_at(rest, 0, 132)?;
+    let (disk_length, rest) = number_between_at(rest, 0, 9_999)?;
+    let (overflow, rest) = overflow_at(rest)?;
+    Ok((
+        Settings {
+            allowance,
+            record_length,
+            printer_length,
+            disk_length,
+            overflow,
+        },
+        rest,
+    ))
+}
+
+#[tactic(auto, unfolding(rpg_format::specs::Format::two_bytes, rpg_format::specs::Format::pair, rpg_format::specs::Format::row, crate::specs::Header::counts))]
+fn counts_at(bytes: &[u8]) -> Result<(Counts, &[u8]), ReadFault>
+    ensures { Gives (λ x. (x.0, x.1.now)) result (spec.counts.reading bytes.now) }
+{
+    let (fields, rest) = count_at(bytes, 4_000)?;
+    let (types, rest) = count_at(rest, 200)?;
+    let (lines, rest) = count_at(rest, 1_000)?;
+    let (detail, rest) = count_at(rest, INSTRUCTIONS)?;
+    let (total, rest) = count_at(rest, INSTRUCTIONS.saturating_sub(detail))?;
+    let (subroutines, rest) = count_at(rest, 100)?;
+    Ok((
+        Counts {
+            fields,
+            types,
+            lines,
+            detail,
+            total,
+            subroutines,
+        },
+        rest,
+    ))
+}
+
+/// Reads the header behind the name.
+#[tactic(auto, unfolding(rpg_format::specs::Format::two_bytes, rpg_format::specs::Format::pair, rpg_format::specs::Format::row, crate::specs::Header::header))]
+pub fn header_at(bytes: &[u8]) -> Result<(Header, &[u8]), ReadFault>
+    ensures { Gives (λ x. (x.0, x.1.now)) result (spec.header.reading bytes.now) }
+{
+    let ((), rest) = only_number_at(bytes, 1, Code::Version)?;
+    let (settings, rest) = settings_at(rest)?;
+    let (counts, rest) = counts_at(rest)?;
+    let ((), rest) = only_number_at(rest, 0, Code::Unused)?;
+    Ok((Header { settings, counts }, rest))
+}
+
+/// Writes the header behind the name.
+#[tactic(auto, unfolding(rpg_format::specs::Format::two_bytes, rpg_format::specs::Format::pair, rpg_format::specs::Format::row, crate::specs::Header::settings, crate::specs::Header::counts, crate::specs::Header::header))]
+pub fn put_header(out: &mut Vec<u8>, header: Header) -> Result<(), AllocError>
+    ensures { OnOk result (out.new.items ≡ out.old.items ++ spec.header.spelling header) }
+{
+    let settings = header.settings;
+    let counts = header.counts;
+    let numbers = [
+        1,
+        settings.allowance,
+        settings.record_length,
+        settings.printer_length,
+        settings.disk_length,
+        overflow_number(settings.overflow),
+        counts.fields,
+        counts.types,
+        counts.lines,
+        counts.detail,
+        counts.total,
+        counts.subroutines,
+        0,
+    ];
+    put_numbers(out, &numbers)
+}

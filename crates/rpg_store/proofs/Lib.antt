@@ -1,0 +1,17 @@
+pub mod ByEntry
+pub mod Places
+pub mod Currents
+pub mod BySlot
+pub mod Listing
+pub mod FirstSlots
+pub mod Bytes
+pub mod ByPart
+pub mod InArea
+pub mod Storage
+pub mod Zeros
+pub mod FirstArea
+pub mod Filling
+pub mod FirstValues
+pub mod Reading
+pub mod FirstFits
+pub mod Fitting

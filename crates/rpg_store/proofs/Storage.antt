@@ -1,0 +1,16 @@
+-- The bytes of numbers and of texts.
+use Rattle.std.proofs.Common.{◌≡◌, ℕ, ◌+◌, List, [], ◌∷◌, arith}
+use Rattle.rpg_effect.specs.declared.form.FieldForm.{FieldForm}
+use Rattle.rpg_effect.specs.declared.form.Kind.{Kind}
+use Rattle.rpg_effect.specs.declared.form.Kind.TheVariants as kinds
+use Rattle.rpg_program.specs.Kept.{storage_of}
+use Rattle.rpg_store.specs.Area.{all_characters, all_digits, bytes_of, characters_of, digits_of}
+
+pub either : (k : Kind) (n : ℕ) → digits_of k n + characters_of k n ≡ n
+either kinds.Number n = omega arith
+either kinds.Text n = omega arith
+
+-- each byte is one or the other
+pub all_bytes : (fs : List FieldForm) → all_digits fs + all_characters fs ≡ storage_of fs
+all_bytes [] = omega arith
+all_bytes (f ∷ fs) = let t = all_bytes fs in let u = either f.kind (bytes_of f) in omega arith

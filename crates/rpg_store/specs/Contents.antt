@@ -1,0 +1,24 @@
+-- Values in the order of the entries.
+use Rattle.std.specs.Prelude.{◌≡◌, ℕ, zero, suc, ◌+◌, List, [], ◌∷◌, ◌++◌, zip, slice_get, Some}
+use Rattle.std.specs.FinMap as map
+use Rattle.rpg_effect.specs.Values.{Value}
+use Rattle.rpg_effect.specs.declared.form.FieldForm.{FieldForm}
+use Rattle.rpg_store.specs.Store.{Values}
+
+-- so many positions of a field, from that one on
+abbrev pub positions_from : ℕ → ℕ → ℕ → List (ℕ × ℕ)
+positions_from field position zero = []
+positions_from field position (suc n) = (field, position) ∷ positions_from field (position + 1) n
+
+-- all entries, in the order of the fields and then of the positions; the first field has that number
+abbrev pub entries_from : ℕ → List FieldForm → List (ℕ × ℕ)
+entries_from field [] = []
+entries_from field (f ∷ fs) = positions_from field 1 f.entries ++ entries_from (field + 1) fs
+
+-- the entry is there
+abbrev pub IsEntry : List FieldForm → ℕ × ℕ → Type 0
+IsEntry forms entry = (n : ℕ) × (slice_get (entries_from 1 forms) n ≡ Some entry)
+
+-- values in the order of the entries, each at its entry
+unfoldable pub by_entry : List FieldForm → List Value → Values
+by_entry forms vs = map.from_entries (zip (entries_from 1 forms) vs)

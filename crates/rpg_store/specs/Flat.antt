@@ -1,0 +1,24 @@
+-- A store in one area of bytes.
+use Rattle.std.specs.Prelude.{ℕ, List, map, take, drop, ◌++◌, length}
+use Rattle.rpg_store.specs.Area.{parts, start, value_of}
+use Rattle.rpg_store.specs.Contents.{by_entry}
+use Rattle.rpg_store.specs.Slots.{forms_of}
+use Rattle.rpg_store.specs.Store.{Values}
+use Rattle.rpg_store.specs.declared.slot.Slot.{Slot}
+
+pub record Flat : Type 0 where
+  pub slots : List Slot
+  pub area : List ℕ
+
+abbrev pub contents_of : Flat → Values
+contents_of s = by_entry (forms_of s.slots) (map (value_of s.area) (parts s.slots))
+
+-- bytes from there on, as far as the area goes
+abbrev pub written_at : List ℕ → ℕ → List ℕ → List ℕ
+written_at area at w =
+    let all = take at area ++ (w ++ drop (length w) (drop at area)) in
+    take (length area) (all ++ drop (length all) area)
+
+-- these bytes over the text of an entry
+abbrev pub with_text : Flat → ℕ → ℕ → List ℕ → Flat
+with_text s field position w = record s { area = written_at s.area (start s.slots (field, position)) w }

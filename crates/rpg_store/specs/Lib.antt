@@ -1,0 +1,11 @@
+pub mod Store
+pub mod Contents
+pub mod First
+pub mod Fits
+pub mod Slots
+pub mod Listed
+pub mod Characters
+pub mod Written
+pub mod Area
+pub mod Flat
+pub mod Filling

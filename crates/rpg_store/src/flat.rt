@@ -1,0 +1,245 @@
+//! A store in one area of bytes.
+ghost use Rattle.std.specs.Prelude.{◌≡◌, ◌+◌, ◌≤◌, All, length, map as along, slice_range, IfOk};
+ghost use Rattle.std.specs.FinMap as map;
+ghost use Rattle.rpg_effect.specs.Values.{held};
+ghost use Rattle.rpg_program.specs.Kept.{IsFieldRow, storage_of};
+ghost use Rattle.rpg_program.specs.Object.{Object};
+ghost use Rattle.rpg_store.specs.Area.{all_digits, area_slots, length_in, start, zeros};
+ghost use Rattle.rpg_store.specs.Contents.{IsEntry};
+ghost use Rattle.rpg_store.specs.Filling.{with_fields, with_positions, MayTake, MayTakeAll, MayTakeFields};
+ghost use Rattle.rpg_store.specs.First.{first_contents, first_currents};
+ghost use Rattle.rpg_store.specs.Flat.{contents_of, with_text};
+ghost use Rattle.rpg_store.specs.Slots.{currents, forms_of, slot_at};
+
+use crate::slot::Slot;
+use crate::store::Store;
+use crate::written::read_written;
+use rpg_decimal::write_zoned;
+use rpg_effect::form::{FieldForm, Kind};
+use rpg_effect::value::Value;
+use rpg_program::Program;
+use std::alloc::{AllocError, Global};
+use std::marker::Model;
+
+/// All entries in one area: first the numbers, each as the text that is written for it, then the texts. A text that is lent
+/// has no number behind it, so whatever is said of the bytes written through it, all numbers stay what they are.
+#[derive(Drop)]
+pub struct FlatStore {
+    slots: Vec<Slot>,
+    area: Vec<u8>,
+}
+
+impl Model for FlatStore {
+    ghost use Rattle.rpg_store.specs.Area.{parts, IsArea};
+    ghost use Rattle.rpg_store.specs.Flat.{Flat};
+
+    ghost Value = { Flat };
+
+    ghost view = { λ s. record { slots = s.slots.items; area = s.area.items } };
+
+    ghost invariant = { λ s. IsArea (parts s.slots.items) s.area.items };
+}
+
+/// The bytes of all numbers.
+#[tactic(auto, using(crate::proofs::Storage::all_bytes))]
+fn digits_in(fields: &[FieldForm]) -> usize
+    requires { storage_of fields.now ≤ 65535 }
+    ensures { result ≡ all_digits fields.now }
+{
+    let mut total = 0;
+    for form in fields {
+        match form.kind {
+            Kind::Number => total += form.length as usize * form.entries as usize,
+            Kind::Text => {}
+        }
+    }
+    total
+}
+
+/// The bytes of all entries.
+fn bytes_in(fields: &[FieldForm]) -> usize
+    requires { storage_of fields.now ≤ 65535 }
+    ensures { result ≡ storage_of fields.now }
+{
+    let mut total = 0;
+    for form in fields {
+        total += form.length as usize * form.entries as usize;
+    }
+    total
+}
+
+/// The table of these fields, the numbers before the texts.
+#[tactic(auto, using(crate::proofs::Storage::all_bytes))]
+fn area_slots_of(
+    alloc: Global,
+    fields: &[FieldForm],
+    digits: usize,
+) -> Result<Vec<Slot>, AllocError>
+    requires few { storage_of fields.now ≤ 65535 }
+    requires digits { digits ≡ all_digits fields.now }
+    ensures { IfOk result (λ slots. slots.items ≡ area_slots 0 digits fields.now) }
+{
+    let mut slots = Vec::new(alloc);
+    let mut number = 0;
+    let mut text = digits;
+    for form in fields {
+        let bytes = form.length as usize * form.entries as usize;
+        let form = *form;
+        match form.kind {
+            Kind::Number => {
+                let first = number as u16;
+                slots.push(Slot {
+                    form,
+                    first,
+                    current: 1,
+                })?;
+                number += bytes;
+            }
+            Kind::Text => {
+                let first = text as u16;
+                slots.push(Slot {
+                    form,
+                    first,
+                    current: 1,
+                })?;
+                text += bytes;
+            }
+        }
+    }
+    Ok(slots)
+}
+
+/// A store of these fields in which each byte is a zero.
+fn zeroed(alloc: Global, fields: &[FieldForm]) -> Result<FlatStore, AllocError>
+    requires rows { All IsFieldRow fields.now }
+    requires few { storage_of fields.now ≤ 65535 }
+    ensures slots { IfOk result (λ s. s.slots ≡ area_slots 0 (all_digits fields.now) fields.now) }
+    ensures area { IfOk result (λ s. s.area ≡ zeros (storage_of fields.now)) }
+{
+    let digits = digits_in(fields);
+    let slots = area_slots_of(alloc, fields, digits)?;
+    let area = vec![in alloc; b'0'; bytes_in(fields)]?;
+    Ok(FlatStore { slots, area })
+}
+
+/// Puts a value into an entry.
+fn put(store: &mut FlatStore, field: u16, position: u16, value: &Value)
+    requires { MayTake (forms_of store.old.slots) (contents_of store.old) field position (held value.now) }
+    ensures contents { contents_of store.new ≡ map.insert (contents_of store.old) (field, position) (held value.now) }
+    ensures currents { currents store.new.slots ≡ currents store.old.slots }
+    ensures forms { forms_of store.new.slots ≡ forms_of store.old.slots }
+{
+    match value {
+        Value::Number(n) => store.set_number(field, position, *n),
+        Value::Text(text) => store.text_mut(field, position).copy_from_slice(text),
+    }
+}
+
+/// Puts values into the positions of a field.
+fn put_field(store: &mut FlatStore, field: u16, values: &[Value])
+    requires { MayTakeAll (forms_of store.old.slots) (contents_of store.old) field (along held values.now) }
+    ensures contents { contents_of store.new ≡ with_positions (contents_of store.old) field 1 (along held values.now) }
+    ensures currents { currents store.new.slots ≡ currents store.old.slots }
+    ensures forms { forms_of store.new.slots ≡ forms_of store.old.slots }
+{
+    let mut position = 1u16;
+    for value in values {
+        put(store, field, position, value);
+        position += 1;
+    }
+}
+
+/// Puts values into all fields.
+fn put_all(store: &mut FlatStore, values: &[Vec<Value>])
+    requires few { length values.now ≤ 4000 }
+    requires like { MayTakeFields (forms_of store.old.slots) (contents_of store.old) (along (λ vs. along held vs.items) values.now) }
+    ensures contents { contents_of store.new ≡ with_fields (contents_of store.old) 1 (along (λ vs. along held vs.items) values.now) }
+    ensures currents { currents store.new.slots ≡ currents store.old.slots }
+    ensures forms { forms_of store.new.slots ≡ forms_of store.old.slots }
+{
+    let mut field = 1u16;
+    for of_field in values {
+        put_field(store, field, of_field);
+        field += 1;
+    }
+}
+
+impl FlatStore {
+    /// The first values of a program, and the first entry of each table current.
+    pub fn new(alloc: Global, program: &Program) -> Result<FlatStore, AllocError>
+        ensures forms { IfOk result (λ s. forms_of s.slots ≡ program.now.fields) }
+        ensures contents { IfOk result (λ s. contents_of s ≡ first_contents program.now) }
+        ensures currents { IfOk result (λ s. currents s.slots ≡ first_currents program.now) }
+    {
+        let tables = program.rows();
+        let mut store = zeroed(alloc, &tables.fields)?;
+        put_all(&mut store, &tables.values);
+        Ok(store)
+    }
+
+    /// The bytes of all entries: the numbers, and then the texts.
+    pub fn bytes(&self) -> &[u8]
+        ensures { result.now ≡ self.now.area }
+    {
+        &self.area
+    }
+}
+
+/// Where the bytes of an entry begin, and where they end.
+fn part_of(slots: &[Slot], field: u16, position: u16) -> (usize, usize)
+    requires { IsEntry (forms_of slots.now) (field, position) }
+    ensures from { result.0 ≡ start slots.now (field, position) }
+    ensures to { result.1 ≡ start slots.now (field, position) + length_in (slot_at slots.now field) }
+{
+    let slot = &slots[field as usize - 1];
+    let length = slot.form.length as usize;
+    let from = slot.first as usize + (position as usize - 1) * length;
+    (from, from + length)
+}
+
+/// The bytes from there to there.
+fn bytes_between(area: &[u8], from: usize, to: usize) -> &[u8]
+    requires low { from ≤ to }
+    requires high { to ≤ length area.now }
+    ensures { result.now ≡ slice_range area.now from to }
+{
+    &area[from..to]
+}
+
+impl Store for FlatStore {
+    ghost forms = { λ s. forms_of s.slots };
+
+    ghost contents = { contents_of };
+
+    ghost currents = { λ s. currents s.slots };
+
+    ghost written = { with_text };
+
+    fn number(&self, field: u16, position: u16) -> i64 {
+        let (from, to) = part_of(&self.slots, field, position);
+        read_written(bytes_between(&self.area, from, to))
+    }
+
+    fn set_number(&mut self, field: u16, position: u16, n: i64) {
+        let (from, to) = part_of(&self.slots, field, position);
+        write_zoned(n, self.area.slice_mut(from..to));
+    }
+
+    fn text(&self, field: u16, position: u16) -> &[u8] {
+        let (from, to) = part_of(&self.slots, field, position);
+        bytes_between(&self.area, from, to)
+    }
+
+    fn text_mut(&mut self, field: u16, position: u16) -> &mut [u8] {
+        let (from, to) = part_of(&self.slots, field, position);
+        self.area.slice_mut(from..to)
+    }
+
+    fn current(&self, table: u16) -> u16 {
+        self.slots[table as usize - 1].current
+    }
+
+    fn set_current(&mut self, table: u16, position: u16) {
+        self.slots[table as usize - 1].current = position;
+    }
+}

@@ -1,0 +1,15 @@
+//! Laws of the definitions.
+ghost use Rattle.rpg_store.specs.First.{first_contents, first_currents};
+ghost use Rattle.rpg_store.specs.Fits.{Fits, KeepsConstants};
+ghost use Rattle.rpg_program.specs.Object.{Object};
+
+use rpg_program::Program;
+
+/// What a program starts with fits its fields, and constants have their first values.
+#[tactic(auto, using(crate::proofs::FirstFits::first_fits))]
+pub fn first_values_fit(program: &Program)
+    ensures fits { Fits program.now.fields (first_contents program.now) (first_currents program.now) }
+    ensures constants { KeepsConstants program.now (first_contents program.now) }
+{
+    let _kept = program.rows();
+}

@@ -1,0 +1,42 @@
+//! The table of fields: where the entries of each lie.
+ghost use Rattle.std.specs.Prelude.{◌≡◌, ◌≤◌, IfOk};
+ghost use Rattle.rpg_store.specs.Contents.{IsEntry};
+ghost use Rattle.rpg_store.specs.Slots.{entries_count, forms_of, slots_from, spot};
+
+use rpg_effect::form::FieldForm;
+use std::alloc::{AllocError, Global};
+
+/// A field, with the place of its first entry (the others lie behind it) and, of a table, its current entry.
+#[derive(Clone, Copy)]
+pub struct Slot {
+    pub form: FieldForm,
+    pub first: u16,
+    pub current: u16,
+}
+
+/// The place of an entry among all entries.
+pub fn place(slots: &[Slot], field: u16, position: u16) -> usize
+    requires { IsEntry (forms_of slots.now) (field, position) }
+    ensures { result ≡ spot slots.now (field, position) }
+{
+    let slot = &slots[field as usize - 1];
+    slot.first as usize + (position as usize - 1)
+}
+
+/// The table of these fields by the order of their entries.
+pub fn slots_of(alloc: Global, fields: &[FieldForm]) -> Result<Vec<Slot>, AllocError>
+    requires { entries_count fields.now ≤ 65535 }
+    ensures { IfOk result (λ slots. slots.items ≡ slots_from 0 fields.now) }
+{
+    let mut slots = Vec::new(alloc);
+    let mut first = 0u16;
+    for form in fields {
+        slots.push(Slot {
+            form: *form,
+            first,
+            current: 1,
+        })?;
+        first += form.entries;
+    }
+    Ok(slots)
+}
