@@ -1,0 +1,7 @@
+pub mod Entries
+pub mod Rights
+pub mod Values
+pub mod Keeping
+pub mod Finding
+pub mod Overlays
+pub mod Doing
