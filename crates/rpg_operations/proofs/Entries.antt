@@ -6,7 +6,8 @@ use Rattle.rpg_effect.specs.Values.{Value, Number, Text}
 use Rattle.rpg_effect.specs.declared.form.FieldForm.{FieldForm}
 use Rattle.rpg_effect.specs.declared.form.Kind.{Kind}
 use Rattle.rpg_effect.specs.declared.form.Kind.TheVariants as kinds
-use Rattle.rpg_operations.specs.Good.{AreForms, Fits, HasForm}
+use Rattle.rpg_operations.specs.Good.{AreForms}
+use Rattle.rpg_store.specs.Fits.{Fits, HasForm}
 use Rattle.rpg_effect.specs.Forms.{form_at}
 use Rattle.rpg_store.specs.Store.{Values, Currents, IsNumber}
 

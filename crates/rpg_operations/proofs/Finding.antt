@@ -20,7 +20,8 @@ use Rattle.rpg_effect.specs.declared.operation.Index.{Index}
 use Rattle.rpg_effect.specs.declared.operation.Index.TheVariants.{Blank, Literal, Field}
 use Rattle.rpg_effect.specs.declared.operation.Shows.{Shows}
 use Rattle.rpg_effect.specs.Ends.{Fault, GoesOn}
-use Rattle.rpg_operations.specs.Good.{AreForms, Fits, FitsPosition, HasPosition, IsValue, reads_index}
+use Rattle.rpg_operations.specs.Good.{AreForms, FitsPosition, HasPosition, IsValue, reads_index}
+use Rattle.rpg_store.specs.Fits.{Fits}
 use Rattle.rpg_operations.proofs.Entries.{and_true, kinds_same}
 use Rattle.rpg_effect.proofs.Searches.{reverse_more}
 use Rattle.rpg_operations.proofs.Values.{length_low, number_there}

@@ -3,5 +3,6 @@ pub mod Rights
 pub mod Values
 pub mod Keeping
 pub mod Finding
+pub mod Characters
 pub mod Overlays
 pub mod Doing

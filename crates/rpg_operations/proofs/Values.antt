@@ -9,7 +9,8 @@ use Rattle.rpg_effect.specs.Values.{Value, Number, Text, characters_of, number_o
 use Rattle.rpg_effect.specs.declared.form.FieldForm.{FieldForm}
 use Rattle.rpg_effect.specs.declared.form.Kind.{Kind}
 use Rattle.rpg_effect.specs.declared.form.Kind.TheVariants as kinds
-use Rattle.rpg_operations.specs.Good.{AreForms, Fits, HasForm, IsValue}
+use Rattle.rpg_operations.specs.Good.{AreForms, IsValue}
+use Rattle.rpg_store.specs.Fits.{Fits, HasForm}
 use Rattle.rpg_operations.proofs.Entries.{number_in_form, text_in_form}
 use Rattle.rpg_effect.specs.Forms.{form_at}
 use Rattle.rpg_store.specs.Store.{Values, Currents, IsNumber, IsText}

@@ -7,7 +7,8 @@ use Rattle.rpg_effect.specs.declared.form.FieldForm.{FieldForm}
 use Rattle.rpg_effect.specs.declared.operation.Entry.{Entry}
 use Rattle.rpg_effect.specs.declared.operation.Operand.{Operand}
 use Rattle.rpg_memory.specs.declared.memory.Memory.{Memory}
-use Rattle.rpg_operations.specs.Good.{AreForms, Fits}
+use Rattle.rpg_operations.specs.Good.{AreForms}
+use Rattle.rpg_store.specs.Fits.{Fits}
 use Rattle.rpg_store.specs.Store.{Values, Currents}
 
 module _ {S : Type 0} (store_forms : S → List FieldForm) (contents : S → Values) (currents : S → Currents) where

@@ -1,5 +1,5 @@
 //! MOVE and MOVEL: places of factor 2 over those of the result field.
-ghost use Rattle.std.specs.Prelude.{◌≡◌, ℕ, ℤ, ◌<◌, ◌^◌, true, unsigned_abs, IfSome};
+ghost use Rattle.std.specs.Prelude.{◌≡◌, ℕ, ℤ, ◌<◌, ◌^◌, true, unsigned_abs, All, IfSome};
 ghost use Rattle.rpg_decimal.specs.Source as sources;
 ghost use Rattle.rpg_effect.specs.Act as acts;
 ghost use Rattle.rpg_effect.specs.Effect.{quiet};
@@ -9,6 +9,7 @@ ghost use Rattle.rpg_effect.specs.Ends.{end_of, GoesOn};
 ghost use Rattle.rpg_effect.specs.declared.operation.Side.TheVariants as sides;
 ghost use Rattle.rpg_effect.specs.World.{number_at};
 ghost use Rattle.rpg_operations.specs.Good.{IsValue, IsRightEnd};
+ghost use Rattle.rpg_program.specs.Kept.{IsCharacter};
 ghost use Rattle.rpg_memory.specs.Memory.{world_of};
 ghost use Rattle.rpg_operations.specs.Ready.{IsReady};
 
@@ -35,6 +36,7 @@ fn figure_at<S: Store + Drop>(rows: &Rows, memory: &Memory<S>, operand: Entry<u1
 }
 
 /// What is moved: the value of a field.
+#[tactic(auto, using(crate::proofs::Characters::written))]
 fn source_at<'m, S: Store + Drop>(
     rows: &Rows,
     memory: &'m Memory<S>,
@@ -43,6 +45,7 @@ fn source_at<'m, S: Store + Drop>(
     requires ready { IsReady S.forms S.contents S.currents rows.now.fields.items memory.now }
     requires kind { IsValue rows.now.fields.items (forms_of.kind_of (forms_of.form_at rows.now.fields.items factor2.field)) factor2.field factor2.position }
     ensures text { sources.text_of result ≡ acts.source_text (forms_of.form_at rows.now.fields.items) (forms_of.kind_of (forms_of.form_at rows.now.fields.items factor2.field)) (world_of S.contents S.currents memory.now) factor2 }
+    ensures characters { All IsCharacter (sources.text_of result) }
     ensures right { (len : ℕ) (old : ℤ) → sources.moved_right result len old ≡ acts.number_after (forms_of.form_at rows.now.fields.items) (forms_of.kind_of (forms_of.form_at rows.now.fields.items factor2.field)) sides.Right (world_of S.contents S.currents memory.now) factor2 len old }
     ensures left { (len : ℕ) (old : ℤ) → sources.moved_left result len old ≡ acts.number_after (forms_of.form_at rows.now.fields.items) (forms_of.kind_of (forms_of.form_at rows.now.fields.items factor2.field)) sides.Left (world_of S.contents S.currents memory.now) factor2 len old }
 {
