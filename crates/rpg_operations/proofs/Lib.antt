@@ -5,4 +5,5 @@ pub mod Keeping
 pub mod Finding
 pub mod Characters
 pub mod Overlays
+pub mod Programs
 pub mod Doing

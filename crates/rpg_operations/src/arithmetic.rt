@@ -11,15 +11,15 @@ ghost use Rattle.rpg_effect.specs.declared.form.Kind.TheVariants as kinds;
 ghost use Rattle.rpg_effect.specs.Ends.{end_of, GoesOn};
 ghost use Rattle.rpg_operations.specs.Good.{IsValue};
 ghost use Rattle.rpg_memory.specs.Memory.{rest_value, world_of};
-ghost use Rattle.rpg_operations.specs.Ready.{IsReady};
+ghost use Rattle.rpg_operations.specs.Ready.{IsReady, forms_in};
 
 use crate::reading::{number_at, target_of};
-use crate::rows::Rows;
 use crate::showing::show;
 use rpg_decimal::{Num, Rest, Scale, Target, add, div, keep, mult, remainder, sub};
 use rpg_effect::operation::{Entry, Operator, Shows};
 use rpg_effect::outcome::End;
 use rpg_memory::memory::Memory;
+use rpg_program::row::Rows;
 use rpg_store::store::Store;
 
 /// Stores a number, and lets the indicators follow it.
@@ -33,7 +33,7 @@ pub fn store<S: Store + Drop>(
 ) -> End
     requires ready { IsReady S.forms S.contents S.currents rows.now.fields.items memory.old }
     requires to { IsValue rows.now.fields.items kinds.Number to.field to.position }
-    requires length { unsigned_abs n < 10 ^ forms_of.length_of (forms_of.form_at rows.now.fields.items to.field) }
+    requires length { unsigned_abs n < 10 ^ forms_of.length_of (forms_in rows.now to.field) }
     ensures goes { end_of result ≡ GoesOn }
     ensures world { world_of S.contents S.currents memory.new ≡ acts.store (world_of S.contents S.currents memory.old) to shows n }
     ensures ready { IsReady S.forms S.contents S.currents rows.now.fields.items memory.new }
@@ -69,8 +69,8 @@ pub fn computed<S: Store + Drop>(
     requires factor1 { IsValue rows.now.fields.items kinds.Number factor1.field factor1.position }
     requires factor2 { IsValue rows.now.fields.items kinds.Number factor2.field factor2.position }
     requires to { IsValue rows.now.fields.items kinds.Number to.field to.position }
-    ensures value { result ≡ acts.kept half (forms_of.form_at rows.now.fields.items to.field) (acts.computed operator (acts.exact (forms_of.form_at rows.now.fields.items) (world_of S.contents S.currents memory.now) factor1) (acts.exact (forms_of.form_at rows.now.fields.items) (world_of S.contents S.currents memory.now) factor2)) }
-    ensures length { unsigned_abs result < 10 ^ forms_of.length_of (forms_of.form_at rows.now.fields.items to.field) }
+    ensures value { result ≡ acts.kept half (forms_in rows.now to.field) (acts.computed operator (acts.exact (forms_in rows.now) (world_of S.contents S.currents memory.now) factor1) (acts.exact (forms_in rows.now) (world_of S.contents S.currents memory.now) factor2)) }
+    ensures length { unsigned_abs result < 10 ^ forms_of.length_of (forms_in rows.now to.field) }
 {
     let a = number_at(rows, memory, factor1);
     let b = number_at(rows, memory, factor2);
@@ -89,8 +89,8 @@ pub fn assigned<S: Store + Drop>(
     requires ready { IsReady S.forms S.contents S.currents rows.now.fields.items memory.now }
     requires factor2 { IsValue rows.now.fields.items kinds.Number factor2.field factor2.position }
     requires to { IsValue rows.now.fields.items kinds.Number to.field to.position }
-    ensures value { result ≡ acts.kept half (forms_of.form_at rows.now.fields.items to.field) (with_decimals (acts.assigned is_negated (number_at (world_of S.contents S.currents memory.now) factor2.field factor2.position)) (forms_of.decimals_of (forms_of.form_at rows.now.fields.items factor2.field))) }
-    ensures length { unsigned_abs result < 10 ^ forms_of.length_of (forms_of.form_at rows.now.fields.items to.field) }
+    ensures value { result ≡ acts.kept half (forms_in rows.now to.field) (with_decimals (acts.assigned is_negated (number_at (world_of S.contents S.currents memory.now) factor2.field factor2.position)) (forms_of.decimals_of (forms_in rows.now factor2.field))) }
+    ensures length { unsigned_abs result < 10 ^ forms_of.length_of (forms_in rows.now to.field) }
 {
     let b = number_at(rows, memory, factor2);
     let scale = Scale { value: b.dec };
@@ -148,9 +148,9 @@ pub fn divide<S: Store + Drop>(
     requires factor1 { IsValue rows.now.fields.items kinds.Number factor1.field factor1.position }
     requires factor2 { IsValue rows.now.fields.items kinds.Number factor2.field factor2.position }
     requires to { IsValue rows.now.fields.items kinds.Number to.field to.position }
-    ensures quotient { result ≡ option_map (acts.kept half (forms_of.form_at rows.now.fields.items to.field)) (acts.divided (acts.exact (forms_of.form_at rows.now.fields.items) (world_of S.contents S.currents memory.old) factor1) (acts.exact (forms_of.form_at rows.now.fields.items) (world_of S.contents S.currents memory.old) factor2)) }
-    ensures length { IfSome result (λ n. unsigned_abs n < 10 ^ forms_of.length_of (forms_of.form_at rows.now.fields.items to.field)) }
-    ensures world { IfSome result (λ n. world_of S.contents S.currents memory.new ≡ record (world_of S.contents S.currents memory.old) { remainder = acts.remainder_after (forms_of.form_at rows.now.fields.items) half (world_of S.contents S.currents memory.old) factor1 factor2 to }) }
+    ensures quotient { result ≡ option_map (acts.kept half (forms_in rows.now to.field)) (acts.divided (acts.exact (forms_in rows.now) (world_of S.contents S.currents memory.old) factor1) (acts.exact (forms_in rows.now) (world_of S.contents S.currents memory.old) factor2)) }
+    ensures length { IfSome result (λ n. unsigned_abs n < 10 ^ forms_of.length_of (forms_in rows.now to.field)) }
+    ensures world { IfSome result (λ n. world_of S.contents S.currents memory.new ≡ record (world_of S.contents S.currents memory.old) { remainder = acts.remainder_after (forms_in rows.now) half (world_of S.contents S.currents memory.old) factor1 factor2 to }) }
     ensures none { result ≡ None → memory.new ≡ memory.old }
     ensures ready { IsReady S.forms S.contents S.currents rows.now.fields.items memory.new }
 {
@@ -170,8 +170,8 @@ pub fn divide<S: Store + Drop>(
 pub fn kept_remainder<S: Store + Drop>(rows: &Rows, memory: &Memory<S>, to: Entry<u16>) -> i64
     requires ready { IsReady S.forms S.contents S.currents rows.now.fields.items memory.now }
     requires to { IsValue rows.now.fields.items kinds.Number to.field to.position }
-    ensures value { result ≡ acts.kept false (forms_of.form_at rows.now.fields.items to.field) (world_of S.contents S.currents memory.now).remainder }
-    ensures length { unsigned_abs result < 10 ^ forms_of.length_of (forms_of.form_at rows.now.fields.items to.field) }
+    ensures value { result ≡ acts.kept false (forms_in rows.now to.field) (world_of S.contents S.currents memory.now).remainder }
+    ensures length { unsigned_abs result < 10 ^ forms_of.length_of (forms_in rows.now to.field) }
 {
     let rest = memory.remainder;
     keep(rest.value, rest.dec, target_of(rows, to, false))

@@ -4,13 +4,13 @@ ghost use Rattle.rpg_effect.specs.Entries as of;
 ghost use Rattle.rpg_effect.specs.declared.operation.Index.TheVariants as indexes;
 ghost use Rattle.rpg_operations.specs.Good.{reads_index};
 ghost use Rattle.rpg_memory.specs.Memory.{world_of};
-ghost use Rattle.rpg_operations.specs.Ready.{IsReady};
+ghost use Rattle.rpg_operations.specs.Ready.{IsReady, forms_in};
 ghost use Rattle.rpg_effect.specs.Forms as forms_of;
 
 use crate::reading::{entries_of, form_at, is_table};
-use crate::rows::Rows;
 use rpg_effect::operation::{Entry, Index, Operand};
 use rpg_memory::memory::Memory;
+use rpg_program::row::Rows;
 use rpg_store::store::Store;
 
 /// A number as a position, where it is one of the entries.
@@ -31,7 +31,7 @@ fn in_range(entries: u16, n: i64) -> Option<u16>
 /// The current entry of a table, the only entry of another field, or the first one of an array.
 fn blank_position<S: Store + Drop>(rows: &Rows, memory: &Memory<S>, field: u16) -> u16
     requires ready { IsReady S.forms S.contents S.currents rows.now.fields.items memory.now }
-    ensures { Some result ≡ of.position_by (forms_of.form_at rows.now.fields.items) (world_of S.contents S.currents memory.now).fields field indexes.Blank }
+    ensures { Some result ≡ of.position_by (forms_in rows.now) (world_of S.contents S.currents memory.now).fields field indexes.Blank }
 {
     if is_table(form_at(rows, field)) {
         memory.store.current(field)
@@ -50,7 +50,7 @@ fn indexed_position<S: Store + Drop>(
 ) -> Option<u16>
     requires ready { IsReady S.forms S.contents S.currents rows.now.fields.items memory.now }
     requires index { reads_index rows.now.fields.items (indexes.Field by) ≡ true }
-    ensures { result ≡ of.position_by (forms_of.form_at rows.now.fields.items) (world_of S.contents S.currents memory.now).fields field (indexes.Field by) }
+    ensures { result ≡ of.position_by (forms_in rows.now) (world_of S.contents S.currents memory.now).fields field (indexes.Field by) }
 {
     in_range(entries_of(form_at(rows, field)), memory.store.number(by, 1))
 }
@@ -64,7 +64,7 @@ fn position_of<S: Store + Drop>(
 ) -> Option<u16>
     requires ready { IsReady S.forms S.contents S.currents rows.now.fields.items memory.now }
     requires index { reads_index rows.now.fields.items operand.index ≡ true }
-    ensures { result ≡ of.position_of (forms_of.form_at rows.now.fields.items) (world_of S.contents S.currents memory.now).fields operand }
+    ensures { result ≡ of.position_of (forms_in rows.now) (world_of S.contents S.currents memory.now).fields operand }
 {
     match operand.index {
         Index::Blank => Some(blank_position(rows, memory, operand.field)),
@@ -82,7 +82,7 @@ pub fn entry_of<S: Store + Drop>(
 ) -> Option<Entry<u16>>
     requires ready { IsReady S.forms S.contents S.currents rows.now.fields.items memory.now }
     requires index { reads_index rows.now.fields.items operand.index ≡ true }
-    ensures { result ≡ (if is_some (of.position_of (forms_of.form_at rows.now.fields.items) (world_of S.contents S.currents memory.now).fields operand) then Some (of.entry_of (forms_of.form_at rows.now.fields.items) (world_of S.contents S.currents memory.now).fields operand) else None) }
+    ensures { result ≡ (if is_some (of.position_of (forms_in rows.now) (world_of S.contents S.currents memory.now).fields operand) then Some (of.entry_of (forms_in rows.now) (world_of S.contents S.currents memory.now).fields operand) else None) }
 {
     match position_of(rows, memory, operand) {
         None => None,

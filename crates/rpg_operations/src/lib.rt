@@ -4,11 +4,11 @@
 pub mod arithmetic;
 pub mod comparing;
 pub mod entry;
+pub mod laws;
 pub mod operations;
 pub mod places;
 pub mod reading;
 pub mod resolving;
-pub mod rows;
 pub mod searching;
 pub mod showing;
 pub mod summing;

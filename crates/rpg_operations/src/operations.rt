@@ -10,26 +10,26 @@ ghost use Rattle.rpg_effect.specs.Showing.{shown};
 ghost use Rattle.rpg_effect.specs.Ends.{end_of, GoesOn};
 ghost use Rattle.rpg_operations.specs.Good.{AreEntries, IsRight, IsValue, IsRightEnd};
 ghost use Rattle.rpg_memory.specs.Memory.{world_of};
-ghost use Rattle.rpg_operations.specs.Ready.{IsReady};
+ghost use Rattle.rpg_operations.specs.Ready.{IsReady, forms_in};
 
 use crate::arithmetic::{assigned, computed, divide, kept_remainder, store};
 use crate::comparing::compared;
 use crate::places::move_places;
 use crate::reading::{entries_of, form_at, kind_of};
 use crate::resolving::resolved;
-use crate::rows::Rows;
 use crate::searching::look_up;
 use crate::showing::{set, show};
 use crate::summing::summed;
 use rpg_effect::operation::{Action, Entry, Operand, Shows};
 use rpg_effect::outcome::End;
 use rpg_memory::memory::Memory;
+use rpg_program::row::Rows;
 use rpg_store::store::Store;
 
 /// The weight of an operation: one, and the entries that XFOOT and LOKUP go through.
 #[tactic(auto, unfolding(rpg_effect::specs::Weights::row_weight, rpg_effect::specs::Rows::row_of))]
 pub fn weight(rows: &Rows, action: Action<Operand<u16>>) -> u32
-    ensures { result ≡ weights.row_weight (forms_of.form_at rows.now.fields.items) (rows_of.row_of (rows_of.form_of (forms_of.form_at rows.now.fields.items)) action) }
+    ensures { result ≡ weights.row_weight (forms_in rows.now) (rows_of.row_of (rows_of.form_of (forms_in rows.now)) action) }
 {
     match action {
         Action::CrossFoot { factor2, .. } => 1
@@ -54,10 +54,10 @@ fn compare<S: Store + Drop>(
     shows: Shows,
 ) -> End
     requires ready { IsReady S.forms S.contents S.currents rows.now.fields.items memory.old }
-    requires factor1 { IsValue rows.now.fields.items (forms_of.kind_of (forms_of.form_at rows.now.fields.items factor1.field)) factor1.field factor1.position }
-    requires factor2 { IsValue rows.now.fields.items (forms_of.kind_of (forms_of.form_at rows.now.fields.items factor1.field)) factor2.field factor2.position }
+    requires factor1 { IsValue rows.now.fields.items (forms_of.kind_of (forms_in rows.now factor1.field)) factor1.field factor1.position }
+    requires factor2 { IsValue rows.now.fields.items (forms_of.kind_of (forms_in rows.now factor1.field)) factor2.field factor2.position }
     ensures goes { end_of result ≡ GoesOn }
-    ensures world { world_of S.contents S.currents memory.new ≡ record (world_of S.contents S.currents memory.old) { on = shown shows (acts.order_by (forms_of.form_at rows.now.fields.items) (forms_of.kind_of (forms_of.form_at rows.now.fields.items factor1.field)) (world_of S.contents S.currents memory.old) factor1 factor2) (world_of S.contents S.currents memory.old).on } }
+    ensures world { world_of S.contents S.currents memory.new ≡ record (world_of S.contents S.currents memory.old) { on = shown shows (acts.order_by (forms_in rows.now) (forms_of.kind_of (forms_in rows.now factor1.field)) (world_of S.contents S.currents memory.old) factor1 factor2) (world_of S.contents S.currents memory.old).on } }
     ensures ready { IsReady S.forms S.contents S.currents rows.now.fields.items memory.new }
 {
     let kind = kind_of(form_at(rows, factor1.field));
@@ -71,7 +71,7 @@ fn compare<S: Store + Drop>(
 pub fn act<S: Store + Drop>(rows: &Rows, memory: &mut Memory<S>, action: Action<Entry<u16>>) -> End
     requires ready { IsReady S.forms S.contents S.currents rows.now.fields.items memory.old }
     requires entries { AreEntries rows.now.fields.items action }
-    ensures done { quiet (end_of result) (world_of S.contents S.currents memory.new) ≡ acts.act (forms_of.form_at rows.now.fields.items) action (world_of S.contents S.currents memory.old) }
+    ensures done { quiet (end_of result) (world_of S.contents S.currents memory.new) ≡ acts.act (forms_in rows.now) action (world_of S.contents S.currents memory.old) }
     ensures ends { IsRightEnd (end_of result) }
     ensures ready { IsReady S.forms S.contents S.currents rows.now.fields.items memory.new }
 {
@@ -152,7 +152,7 @@ pub fn operate<S: Store + Drop>(
 ) -> End
     requires ready { IsReady S.forms S.contents S.currents rows.now.fields.items memory.old }
     requires right { IsRight rows.now.fields.items action }
-    ensures done { quiet (end_of result) (world_of S.contents S.currents memory.new) ≡ of.operate (forms_of.form_at rows.now.fields.items) action (world_of S.contents S.currents memory.old) }
+    ensures done { quiet (end_of result) (world_of S.contents S.currents memory.new) ≡ of.operate (forms_in rows.now) action (world_of S.contents S.currents memory.old) }
     ensures ends { IsRightEnd (end_of result) }
     ensures ready { IsReady S.forms S.contents S.currents rows.now.fields.items memory.new }
 {

@@ -11,15 +11,15 @@ ghost use Rattle.rpg_effect.specs.World.{number_at};
 ghost use Rattle.rpg_operations.specs.Good.{IsValue, IsRightEnd};
 ghost use Rattle.rpg_program.specs.Kept.{IsCharacter};
 ghost use Rattle.rpg_memory.specs.Memory.{world_of};
-ghost use Rattle.rpg_operations.specs.Ready.{IsReady};
+ghost use Rattle.rpg_operations.specs.Ready.{IsReady, forms_in};
 
 use crate::reading::{form_at, kind_of, length_of};
-use crate::rows::Rows;
 use rpg_decimal::{Figure, Source, move_left, move_left_text, move_right, move_right_text};
 use rpg_effect::form::Kind;
 use rpg_effect::operation::{Entry, Side};
 use rpg_effect::outcome::End;
 use rpg_memory::memory::Memory;
+use rpg_program::row::Rows;
 use rpg_store::store::{Store, set_text};
 
 /// The digits of a number field.
@@ -28,7 +28,7 @@ fn figure_at<S: Store + Drop>(rows: &Rows, memory: &Memory<S>, operand: Entry<u1
     requires ready { IsReady S.forms S.contents S.currents rows.now.fields.items memory.now }
     requires kind { IsValue rows.now.fields.items kinds.Number operand.field operand.position }
     ensures value { result.value ≡ number_at (world_of S.contents S.currents memory.now) operand.field operand.position }
-    ensures length { result.len ≡ forms_of.length_of (forms_of.form_at rows.now.fields.items operand.field) }
+    ensures length { result.len ≡ forms_of.length_of (forms_in rows.now operand.field) }
 {
     let value = memory.store.number(operand.field, operand.position);
     let len = length_of(form_at(rows, operand.field)) as u8;
@@ -43,11 +43,11 @@ fn source_at<'m, S: Store + Drop>(
     factor2: Entry<u16>,
 ) -> Source<'m>
     requires ready { IsReady S.forms S.contents S.currents rows.now.fields.items memory.now }
-    requires kind { IsValue rows.now.fields.items (forms_of.kind_of (forms_of.form_at rows.now.fields.items factor2.field)) factor2.field factor2.position }
-    ensures text { sources.text_of result ≡ acts.source_text (forms_of.form_at rows.now.fields.items) (forms_of.kind_of (forms_of.form_at rows.now.fields.items factor2.field)) (world_of S.contents S.currents memory.now) factor2 }
+    requires kind { IsValue rows.now.fields.items (forms_of.kind_of (forms_in rows.now factor2.field)) factor2.field factor2.position }
+    ensures text { sources.text_of result ≡ acts.source_text (forms_in rows.now) (forms_of.kind_of (forms_in rows.now factor2.field)) (world_of S.contents S.currents memory.now) factor2 }
     ensures characters { All IsCharacter (sources.text_of result) }
-    ensures right { (len : ℕ) (old : ℤ) → sources.moved_right result len old ≡ acts.number_after (forms_of.form_at rows.now.fields.items) (forms_of.kind_of (forms_of.form_at rows.now.fields.items factor2.field)) sides.Right (world_of S.contents S.currents memory.now) factor2 len old }
-    ensures left { (len : ℕ) (old : ℤ) → sources.moved_left result len old ≡ acts.number_after (forms_of.form_at rows.now.fields.items) (forms_of.kind_of (forms_of.form_at rows.now.fields.items factor2.field)) sides.Left (world_of S.contents S.currents memory.now) factor2 len old }
+    ensures right { (len : ℕ) (old : ℤ) → sources.moved_right result len old ≡ acts.number_after (forms_in rows.now) (forms_of.kind_of (forms_in rows.now factor2.field)) sides.Right (world_of S.contents S.currents memory.now) factor2 len old }
+    ensures left { (len : ℕ) (old : ℤ) → sources.moved_left result len old ≡ acts.number_after (forms_in rows.now) (forms_of.kind_of (forms_in rows.now factor2.field)) sides.Left (world_of S.contents S.currents memory.now) factor2 len old }
 {
     match kind_of(form_at(rows, factor2.field)) {
         Kind::Number => Source::Number(figure_at(rows, memory, factor2)),
@@ -64,10 +64,10 @@ fn number_after<S: Store + Drop>(
     to: Entry<u16>,
 ) -> Option<i64>
     requires ready { IsReady S.forms S.contents S.currents rows.now.fields.items memory.now }
-    requires factor2 { IsValue rows.now.fields.items (forms_of.kind_of (forms_of.form_at rows.now.fields.items factor2.field)) factor2.field factor2.position }
+    requires factor2 { IsValue rows.now.fields.items (forms_of.kind_of (forms_in rows.now factor2.field)) factor2.field factor2.position }
     requires to { IsValue rows.now.fields.items kinds.Number to.field to.position }
-    ensures value { result ≡ acts.number_after (forms_of.form_at rows.now.fields.items) (forms_of.kind_of (forms_of.form_at rows.now.fields.items factor2.field)) side (world_of S.contents S.currents memory.now) factor2 (forms_of.length_of (forms_of.form_at rows.now.fields.items to.field)) (number_at (world_of S.contents S.currents memory.now) to.field to.position) }
-    ensures length { IfSome result (λ n. unsigned_abs n < 10 ^ forms_of.length_of (forms_of.form_at rows.now.fields.items to.field)) }
+    ensures value { result ≡ acts.number_after (forms_in rows.now) (forms_of.kind_of (forms_in rows.now factor2.field)) side (world_of S.contents S.currents memory.now) factor2 (forms_of.length_of (forms_in rows.now to.field)) (number_at (world_of S.contents S.currents memory.now) to.field to.position) }
+    ensures length { IfSome result (λ n. unsigned_abs n < 10 ^ forms_of.length_of (forms_in rows.now to.field)) }
 {
     let before = figure_at(rows, memory, to);
     let source = source_at(rows, memory, factor2);
@@ -87,9 +87,9 @@ fn move_to_number<S: Store + Drop>(
     to: Entry<u16>,
 ) -> End
     requires ready { IsReady S.forms S.contents S.currents rows.now.fields.items memory.old }
-    requires factor2 { IsValue rows.now.fields.items (forms_of.kind_of (forms_of.form_at rows.now.fields.items factor2.field)) factor2.field factor2.position }
+    requires factor2 { IsValue rows.now.fields.items (forms_of.kind_of (forms_in rows.now factor2.field)) factor2.field factor2.position }
     requires to { IsValue rows.now.fields.items kinds.Number to.field to.position }
-    ensures done { quiet (end_of result) (world_of S.contents S.currents memory.new) ≡ acts.moved (forms_of.form_at rows.now.fields.items) (forms_of.kind_of (forms_of.form_at rows.now.fields.items factor2.field)) kinds.Number side (world_of S.contents S.currents memory.old) factor2 to }
+    ensures done { quiet (end_of result) (world_of S.contents S.currents memory.new) ≡ acts.moved (forms_in rows.now) (forms_of.kind_of (forms_in rows.now factor2.field)) kinds.Number side (world_of S.contents S.currents memory.old) factor2 to }
     ensures ends { IsRightEnd (end_of result) }
     ensures ready { IsReady S.forms S.contents S.currents rows.now.fields.items memory.new }
 {
@@ -121,9 +121,9 @@ fn move_to_text<S: Store + Drop>(
     to: Entry<u16>,
 )
     requires ready { IsReady S.forms S.contents S.currents rows.now.fields.items memory.old }
-    requires factor2 { IsValue rows.now.fields.items (forms_of.kind_of (forms_of.form_at rows.now.fields.items factor2.field)) factor2.field factor2.position }
+    requires factor2 { IsValue rows.now.fields.items (forms_of.kind_of (forms_in rows.now factor2.field)) factor2.field factor2.position }
     requires to { IsValue rows.now.fields.items kinds.Text to.field to.position }
-    ensures world { quiet GoesOn (world_of S.contents S.currents memory.new) ≡ acts.moved (forms_of.form_at rows.now.fields.items) (forms_of.kind_of (forms_of.form_at rows.now.fields.items factor2.field)) kinds.Text side (world_of S.contents S.currents memory.old) factor2 to }
+    ensures world { quiet GoesOn (world_of S.contents S.currents memory.new) ≡ acts.moved (forms_in rows.now) (forms_of.kind_of (forms_in rows.now factor2.field)) kinds.Text side (world_of S.contents S.currents memory.old) factor2 to }
     ensures ready { IsReady S.forms S.contents S.currents rows.now.fields.items memory.new }
 {
     let mut places = [0; 256];
@@ -143,9 +143,9 @@ pub fn move_places<S: Store + Drop>(
     to: Entry<u16>,
 ) -> End
     requires ready { IsReady S.forms S.contents S.currents rows.now.fields.items memory.old }
-    requires factor2 { IsValue rows.now.fields.items (forms_of.kind_of (forms_of.form_at rows.now.fields.items factor2.field)) factor2.field factor2.position }
-    requires to { IsValue rows.now.fields.items (forms_of.kind_of (forms_of.form_at rows.now.fields.items to.field)) to.field to.position }
-    ensures done { quiet (end_of result) (world_of S.contents S.currents memory.new) ≡ acts.moved (forms_of.form_at rows.now.fields.items) (forms_of.kind_of (forms_of.form_at rows.now.fields.items factor2.field)) (forms_of.kind_of (forms_of.form_at rows.now.fields.items to.field)) side (world_of S.contents S.currents memory.old) factor2 to }
+    requires factor2 { IsValue rows.now.fields.items (forms_of.kind_of (forms_in rows.now factor2.field)) factor2.field factor2.position }
+    requires to { IsValue rows.now.fields.items (forms_of.kind_of (forms_in rows.now to.field)) to.field to.position }
+    ensures done { quiet (end_of result) (world_of S.contents S.currents memory.new) ≡ acts.moved (forms_in rows.now) (forms_of.kind_of (forms_in rows.now factor2.field)) (forms_of.kind_of (forms_in rows.now to.field)) side (world_of S.contents S.currents memory.old) factor2 to }
     ensures ends { IsRightEnd (end_of result) }
     ensures ready { IsReady S.forms S.contents S.currents rows.now.fields.items memory.new }
 {

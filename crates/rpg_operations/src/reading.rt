@@ -5,18 +5,18 @@ ghost use Rattle.rpg_effect.specs.World as worlds;
 ghost use Rattle.rpg_effect.specs.declared.form.Kind.TheVariants as kinds;
 ghost use Rattle.rpg_operations.specs.Good.{AreForms, IsValue};
 ghost use Rattle.rpg_memory.specs.Memory.{world_of};
-ghost use Rattle.rpg_operations.specs.Ready.{IsReady};
+ghost use Rattle.rpg_operations.specs.Ready.{IsReady, forms_in};
 
-use crate::rows::Rows;
 use rpg_decimal::{Num, Target};
 use rpg_effect::form::{Class, FieldForm, Kind};
 use rpg_effect::operation::Entry;
 use rpg_memory::memory::Memory;
+use rpg_program::row::Rows;
 use rpg_store::store::Store;
 
 /// The form of a field, if there is one; the first field is 1.
 pub fn form_at(rows: &Rows, field: u16) -> Option<FieldForm>
-    ensures { result ≡ forms_of.form_at rows.now.fields.items field }
+    ensures { result ≡ forms_in rows.now field }
 {
     if field == 0 {
         return None;
@@ -78,7 +78,7 @@ pub fn number_at<S: Store + Drop>(rows: &Rows, memory: &Memory<S>, e: Entry<u16>
     requires ready { IsReady S.forms S.contents S.currents rows.now.fields.items memory.now }
     requires entry { IsValue rows.now.fields.items kinds.Number e.field e.position }
     ensures value { result.value ≡ worlds.number_at (world_of S.contents S.currents memory.now) e.field e.position }
-    ensures decimals { result.dec ≡ forms_of.decimals_of (forms_of.form_at rows.now.fields.items e.field) }
+    ensures decimals { result.dec ≡ forms_of.decimals_of (forms_in rows.now e.field) }
 {
     Num {
         value: memory.store.number(e.field, e.position),
@@ -91,8 +91,8 @@ pub fn number_at<S: Store + Drop>(rows: &Rows, memory: &Memory<S>, e: Entry<u16>
 pub fn target_of(rows: &Rows, e: Entry<u16>, half: bool) -> Target
     requires forms { AreForms rows.now.fields.items }
     requires entry { IsValue rows.now.fields.items kinds.Number e.field e.position }
-    ensures length { result.len ≡ forms_of.length_of (forms_of.form_at rows.now.fields.items e.field) }
-    ensures decimals { result.dec ≡ forms_of.decimals_of (forms_of.form_at rows.now.fields.items e.field) }
+    ensures length { result.len ≡ forms_of.length_of (forms_in rows.now e.field) }
+    ensures decimals { result.dec ≡ forms_of.decimals_of (forms_in rows.now e.field) }
     ensures half { result.half ≡ half }
 {
     let form = form_at(rows, e.field);

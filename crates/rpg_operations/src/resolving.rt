@@ -4,13 +4,13 @@ ghost use Rattle.rpg_effect.specs.Operate as of;
 ghost use Rattle.rpg_operations.specs.Good.{AreEntries, IsRight, reads_if_any};
 ghost use Rattle.rpg_operations.specs.Ready.{entry_if_any};
 ghost use Rattle.rpg_memory.specs.Memory.{world_of};
-ghost use Rattle.rpg_operations.specs.Ready.{IsReady};
+ghost use Rattle.rpg_operations.specs.Ready.{IsReady, forms_in};
 ghost use Rattle.rpg_effect.specs.Forms as forms_of;
 
 use crate::entry::entry_of;
-use crate::rows::Rows;
 use rpg_effect::operation::{Action, Entry, Operand};
 use rpg_memory::memory::Memory;
+use rpg_program::row::Rows;
 use rpg_store::store::Store;
 
 /// The result's table of LOKUP, if there is one, with the entry that is current there.
@@ -21,7 +21,7 @@ fn entry_if_any<S: Store + Drop>(
 ) -> Option<Option<Entry<u16>>>
     requires ready { IsReady S.forms S.contents S.currents rows.now.fields.items memory.now }
     requires index { reads_if_any rows.now.fields.items operand ≡ true }
-    ensures { result ≡ entry_if_any (forms_of.form_at rows.now.fields.items) (world_of S.contents S.currents memory.now).fields operand }
+    ensures { result ≡ entry_if_any (forms_in rows.now) (world_of S.contents S.currents memory.now).fields operand }
 {
     match operand {
         None => Some(None),
@@ -41,7 +41,7 @@ fn with_entries<S: Store + Drop>(
 ) -> Option<Action<Entry<u16>>>
     requires ready { IsReady S.forms S.contents S.currents rows.now.fields.items memory.now }
     requires right { IsRight rows.now.fields.items action }
-    ensures { result ≡ of.resolved (forms_of.form_at rows.now.fields.items) (world_of S.contents S.currents memory.now).fields action }
+    ensures { result ≡ of.resolved (forms_in rows.now) (world_of S.contents S.currents memory.now).fields action }
 {
     match action {
         Action::Compute {
@@ -173,7 +173,7 @@ pub fn resolved<S: Store + Drop>(
 ) -> Option<Action<Entry<u16>>>
     requires ready { IsReady S.forms S.contents S.currents rows.now.fields.items memory.now }
     requires right { IsRight rows.now.fields.items action }
-    ensures value { result ≡ of.resolved (forms_of.form_at rows.now.fields.items) (world_of S.contents S.currents memory.now).fields action }
+    ensures value { result ≡ of.resolved (forms_in rows.now) (world_of S.contents S.currents memory.now).fields action }
     ensures entries { IfSome result (λ a. AreEntries rows.now.fields.items a) }
 {
     with_entries(rows, memory, action)

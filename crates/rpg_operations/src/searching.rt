@@ -10,15 +10,15 @@ ghost use Rattle.rpg_effect.specs.Rows as rows_of;
 ghost use Rattle.rpg_effect.specs.Search as of;
 ghost use Rattle.rpg_operations.specs.Good.{FitsPosition, HasPosition, IsValue, reads_index, IsRightEnd};
 ghost use Rattle.rpg_memory.specs.Memory.{world_of};
-ghost use Rattle.rpg_operations.specs.Ready.{IsReady};
+ghost use Rattle.rpg_operations.specs.Ready.{IsReady, forms_in};
 
 use crate::comparing::compared;
 use crate::reading::{entries_of, form_at, is_table, kind_of};
-use crate::rows::Rows;
 use crate::showing::show_if_any;
 use rpg_effect::operation::{Entry, Found, Index, Shows};
 use rpg_effect::outcome::End;
 use rpg_memory::memory::Memory;
+use rpg_program::row::Rows;
 use rpg_store::store::Store;
 use std::cmp::Ordering;
 
@@ -55,11 +55,11 @@ fn stands<S: Store + Drop>(
     position: u16,
 ) -> bool
     requires ready { IsReady S.forms S.contents S.currents rows.now.fields.items memory.now }
-    requires factor1 { IsValue rows.now.fields.items (forms_of.kind_of (forms_of.form_at rows.now.fields.items factor1.field)) factor1.field factor1.position }
-    requires factor2 { IsValue rows.now.fields.items (forms_of.kind_of (forms_of.form_at rows.now.fields.items factor1.field)) factor2.field factor2.position }
+    requires factor1 { IsValue rows.now.fields.items (forms_of.kind_of (forms_in rows.now factor1.field)) factor1.field factor1.position }
+    requires factor2 { IsValue rows.now.fields.items (forms_of.kind_of (forms_in rows.now factor1.field)) factor2.field factor2.position }
     requires low { 1 ≤ position }
-    requires high { position ≤ forms_of.entries_of (forms_of.form_at rows.now.fields.items factor2.field) }
-    ensures { result ≡ of.stands (acts.standing (forms_of.form_at rows.now.fields.items) (world_of S.contents S.currents memory.now) factor1 factor2) order position }
+    requires high { position ≤ forms_of.entries_of (forms_in rows.now factor2.field) }
+    ensures { result ≡ of.stands (acts.standing (forms_in rows.now) (world_of S.contents S.currents memory.now) factor1 factor2) order position }
 {
     let kind = kind_of(form_at(rows, factor1.field));
     let entry = Entry {
@@ -81,12 +81,12 @@ fn first_one<S: Store + Drop>(
     last: u16,
 ) -> Option<u16>
     requires ready { IsReady S.forms S.contents S.currents rows.now.fields.items memory.now }
-    requires factor1 { IsValue rows.now.fields.items (forms_of.kind_of (forms_of.form_at rows.now.fields.items factor1.field)) factor1.field factor1.position }
-    requires factor2 { IsValue rows.now.fields.items (forms_of.kind_of (forms_of.form_at rows.now.fields.items factor1.field)) factor2.field factor2.position }
+    requires factor1 { IsValue rows.now.fields.items (forms_of.kind_of (forms_in rows.now factor1.field)) factor1.field factor1.position }
+    requires factor2 { IsValue rows.now.fields.items (forms_of.kind_of (forms_in rows.now factor1.field)) factor2.field factor2.position }
     requires low { 1 ≤ from }
-    requires last { last ≡ forms_of.entries_of (forms_of.form_at rows.now.fields.items factor2.field) }
+    requires last { last ≡ forms_of.entries_of (forms_in rows.now factor2.field) }
     requires few { last ≤ 9999 }
-    ensures { result ≡ of.first_one (acts.standing (forms_of.form_at rows.now.fields.items) (world_of S.contents S.currents memory.now) factor1 factor2) order (of.positions from last) }
+    ensures { result ≡ of.first_one (acts.standing (forms_in rows.now) (world_of S.contents S.currents memory.now) factor1 factor2) order (of.positions from last) }
 {
     'positions: for position in from..last + 1 {
         if stands(rows, memory, factor1, factor2, order, position) {
@@ -107,13 +107,13 @@ fn last_one<S: Store + Drop>(
     last: u16,
 ) -> Option<u16>
     requires ready { IsReady S.forms S.contents S.currents rows.now.fields.items memory.now }
-    requires factor1 { IsValue rows.now.fields.items (forms_of.kind_of (forms_of.form_at rows.now.fields.items factor1.field)) factor1.field factor1.position }
-    requires factor2 { IsValue rows.now.fields.items (forms_of.kind_of (forms_of.form_at rows.now.fields.items factor1.field)) factor2.field factor2.position }
+    requires factor1 { IsValue rows.now.fields.items (forms_of.kind_of (forms_in rows.now factor1.field)) factor1.field factor1.position }
+    requires factor2 { IsValue rows.now.fields.items (forms_of.kind_of (forms_in rows.now factor1.field)) factor2.field factor2.position }
     requires low { 1 ≤ from }
     requires some { from ≤ last }
-    requires last { last ≡ forms_of.entries_of (forms_of.form_at rows.now.fields.items factor2.field) }
+    requires last { last ≡ forms_of.entries_of (forms_in rows.now factor2.field) }
     requires few { last ≤ 9999 }
-    ensures { result ≡ of.last_one (acts.standing (forms_of.form_at rows.now.fields.items) (world_of S.contents S.currents memory.now) factor1 factor2) order (of.positions from last) }
+    ensures { result ≡ of.last_one (acts.standing (forms_in rows.now) (world_of S.contents S.currents memory.now) factor1 factor2) order (of.positions from last) }
 {
     'positions: for back in 0..last + 1 - from {
         let position = last - back;
@@ -145,9 +145,9 @@ fn nearest<S: Store + Drop>(
     order: Ordering,
 ) -> Option<u16>
     requires ready { IsReady S.forms S.contents S.currents rows.now.fields.items memory.now }
-    requires factor1 { IsValue rows.now.fields.items (forms_of.kind_of (forms_of.form_at rows.now.fields.items factor1.field)) factor1.field factor1.position }
-    requires factor2 { IsValue rows.now.fields.items (forms_of.kind_of (forms_of.form_at rows.now.fields.items factor1.field)) factor2.field factor2.position }
-    ensures { result ≡ of.nearest (acts.standing (forms_of.form_at rows.now.fields.items) (world_of S.contents S.currents memory.now) factor1 factor2) order (of.positions (acts.start_of factor2) (forms_of.entries_of (forms_of.form_at rows.now.fields.items factor2.field))) }
+    requires factor1 { IsValue rows.now.fields.items (forms_of.kind_of (forms_in rows.now factor1.field)) factor1.field factor1.position }
+    requires factor2 { IsValue rows.now.fields.items (forms_of.kind_of (forms_in rows.now factor1.field)) factor2.field factor2.position }
+    ensures { result ≡ of.nearest (acts.standing (forms_in rows.now) (world_of S.contents S.currents memory.now) factor1 factor2) order (of.positions (acts.start_of factor2) (forms_of.entries_of (forms_in rows.now factor2.field))) }
 {
     let from = start_of(factor2);
     let last = entries_of(form_at(rows, factor2.field));
@@ -168,9 +168,9 @@ fn nearest_if_asked<S: Store + Drop>(
     indicator: Option<u8>,
 ) -> Option<Found>
     requires ready { IsReady S.forms S.contents S.currents rows.now.fields.items memory.now }
-    requires factor1 { IsValue rows.now.fields.items (forms_of.kind_of (forms_of.form_at rows.now.fields.items factor1.field)) factor1.field factor1.position }
-    requires factor2 { IsValue rows.now.fields.items (forms_of.kind_of (forms_of.form_at rows.now.fields.items factor1.field)) factor2.field factor2.position }
-    ensures { result ≡ of.if_asked indicator (of.found_as order (of.nearest (acts.standing (forms_of.form_at rows.now.fields.items) (world_of S.contents S.currents memory.now) factor1 factor2) order (of.positions (acts.start_of factor2) (forms_of.entries_of (forms_of.form_at rows.now.fields.items factor2.field))))) }
+    requires factor1 { IsValue rows.now.fields.items (forms_of.kind_of (forms_in rows.now factor1.field)) factor1.field factor1.position }
+    requires factor2 { IsValue rows.now.fields.items (forms_of.kind_of (forms_in rows.now factor1.field)) factor2.field factor2.position }
+    ensures { result ≡ of.if_asked indicator (of.found_as order (of.nearest (acts.standing (forms_in rows.now) (world_of S.contents S.currents memory.now) factor1 factor2) order (of.positions (acts.start_of factor2) (forms_of.entries_of (forms_in rows.now factor2.field))))) }
 {
     match indicator {
         None => None,
@@ -191,9 +191,9 @@ fn search<S: Store + Drop>(
     shows: Shows,
 ) -> Option<Found>
     requires ready { IsReady S.forms S.contents S.currents rows.now.fields.items memory.now }
-    requires factor1 { IsValue rows.now.fields.items (forms_of.kind_of (forms_of.form_at rows.now.fields.items factor1.field)) factor1.field factor1.position }
-    requires factor2 { IsValue rows.now.fields.items (forms_of.kind_of (forms_of.form_at rows.now.fields.items factor1.field)) factor2.field factor2.position }
-    ensures { result ≡ acts.found_in (forms_of.form_at rows.now.fields.items) (world_of S.contents S.currents memory.now) factor1 factor2 shows }
+    requires factor1 { IsValue rows.now.fields.items (forms_of.kind_of (forms_in rows.now factor1.field)) factor1.field factor1.position }
+    requires factor2 { IsValue rows.now.fields.items (forms_of.kind_of (forms_in rows.now factor1.field)) factor2.field factor2.position }
+    ensures { result ≡ acts.found_in (forms_in rows.now) (world_of S.contents S.currents memory.now) factor1 factor2 shows }
 {
     match nearest_if_asked(rows, memory, factor1, factor2, Ordering::Equal, shows.zero) {
         Some(found) => return Some(found),
@@ -218,7 +218,7 @@ fn search<S: Store + Drop>(
 fn set_index<S: Store + Drop>(rows: &Rows, memory: &mut Memory<S>, index: Index<u16>, position: u16)
     requires ready { IsReady S.forms S.contents S.currents rows.now.fields.items memory.old }
     requires reads { reads_index rows.now.fields.items index ≡ true }
-    requires holds { rows_of.can_hold (forms_of.form_at rows.now.fields.items) index position ≡ true }
+    requires holds { rows_of.can_hold (forms_in rows.now) index position ≡ true }
     ensures world { (world_of S.contents S.currents memory.new) ≡ acts.index_set index position (world_of S.contents S.currents memory.old) }
     ensures ready { IsReady S.forms S.contents S.currents rows.now.fields.items memory.new }
 {
@@ -233,8 +233,8 @@ fn set_index<S: Store + Drop>(rows: &Rows, memory: &mut Memory<S>, index: Index<
 fn make_current<S: Store + Drop>(rows: &Rows, memory: &mut Memory<S>, field: u16, position: u16)
     requires ready { IsReady S.forms S.contents S.currents rows.now.fields.items memory.old }
     requires low { 1 ≤ position }
-    requires high { position ≤ forms_of.entries_of (forms_of.form_at rows.now.fields.items field) }
-    ensures world { (world_of S.contents S.currents memory.new) ≡ acts.made_current (forms_of.form_at rows.now.fields.items) field position (world_of S.contents S.currents memory.old) }
+    requires high { position ≤ forms_of.entries_of (forms_in rows.now field) }
+    ensures world { (world_of S.contents S.currents memory.new) ≡ acts.made_current (forms_in rows.now) field position (world_of S.contents S.currents memory.old) }
     ensures ready { IsReady S.forms S.contents S.currents rows.now.fields.items memory.new }
 {
     if is_table(form_at(rows, field)) {
@@ -252,7 +252,7 @@ fn make_current_if_any<S: Store + Drop>(
     requires ready { IsReady S.forms S.contents S.currents rows.now.fields.items memory.old }
     requires low { 1 ≤ position }
     requires high { HasPosition rows.now.fields.items table position }
-    ensures world { (world_of S.contents S.currents memory.new) ≡ acts.made_current_if_any (forms_of.form_at rows.now.fields.items) table position (world_of S.contents S.currents memory.old) }
+    ensures world { (world_of S.contents S.currents memory.new) ≡ acts.made_current_if_any (forms_in rows.now) table position (world_of S.contents S.currents memory.old) }
     ensures ready { IsReady S.forms S.contents S.currents rows.now.fields.items memory.new }
 {
     match table {
@@ -273,7 +273,7 @@ fn place<S: Store + Drop>(
     requires ready { IsReady S.forms S.contents S.currents rows.now.fields.items memory.old }
     requires reads { reads_index rows.now.fields.items factor2.index ≡ true }
     requires fits { IfSome found (λ f. FitsPosition rows.now.fields.items factor2 table f.position) }
-    ensures world { (world_of S.contents S.currents memory.new) ≡ acts.placed (forms_of.form_at rows.now.fields.items) factor2 table found (world_of S.contents S.currents memory.old) }
+    ensures world { (world_of S.contents S.currents memory.new) ≡ acts.placed (forms_in rows.now) factor2 table found (world_of S.contents S.currents memory.old) }
     ensures ready { IsReady S.forms S.contents S.currents rows.now.fields.items memory.new }
 {
     match found {
@@ -315,11 +315,11 @@ pub fn look_up<S: Store + Drop>(
     shows: Shows,
 ) -> End
     requires ready { IsReady S.forms S.contents S.currents rows.now.fields.items memory.old }
-    requires factor1 { IsValue rows.now.fields.items (forms_of.kind_of (forms_of.form_at rows.now.fields.items factor1.field)) factor1.field factor1.position }
-    requires factor2 { IsValue rows.now.fields.items (forms_of.kind_of (forms_of.form_at rows.now.fields.items factor1.field)) factor2.field factor2.position }
+    requires factor1 { IsValue rows.now.fields.items (forms_of.kind_of (forms_in rows.now factor1.field)) factor1.field factor1.position }
+    requires factor2 { IsValue rows.now.fields.items (forms_of.kind_of (forms_in rows.now factor1.field)) factor2.field factor2.position }
     requires reads { reads_index rows.now.fields.items factor2.index ≡ true }
-    requires positions { rows_of.holds_position (forms_of.form_at rows.now.fields.items) factor2.index (option_map acts.field_of_entry to) (forms_of.entries_of (forms_of.form_at rows.now.fields.items factor2.field)) ≡ true }
-    ensures done { quiet (end_of result) (world_of S.contents S.currents memory.new) ≡ acts.looked_up (forms_of.form_at rows.now.fields.items) (world_of S.contents S.currents memory.old) factor2 (option_map acts.field_of_entry to) shows (acts.found_in (forms_of.form_at rows.now.fields.items) (world_of S.contents S.currents memory.old) factor1 factor2 shows) }
+    requires positions { rows_of.holds_position (forms_in rows.now) factor2.index (option_map acts.field_of_entry to) (forms_of.entries_of (forms_in rows.now factor2.field)) ≡ true }
+    ensures done { quiet (end_of result) (world_of S.contents S.currents memory.new) ≡ acts.looked_up (forms_in rows.now) (world_of S.contents S.currents memory.old) factor2 (option_map acts.field_of_entry to) shows (acts.found_in (forms_in rows.now) (world_of S.contents S.currents memory.old) factor1 factor2 shows) }
     ensures ends { IsRightEnd (end_of result) }
     ensures ready { IsReady S.forms S.contents S.currents rows.now.fields.items memory.new }
 {
