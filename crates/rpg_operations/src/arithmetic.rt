@@ -1,0 +1,178 @@
+//! Arithmetic: what a result is, and what becomes of it.
+ghost use Rattle.std.specs.Prelude.{◌≡◌, ◌≢◌, ◌<◌, ◌≤◌, ◌^◌, ℤ, pos, true, false, None, if◌then◌else◌, unsigned_abs, IfSome};
+ghost use Rattle.std.specs.Option.{option_map};
+ghost use Rattle.rpg_decimal.specs.Fraction.{stored_number, with_decimals};
+ghost use Rattle.rpg_decimal.specs.Num.{value_of};
+ghost use Rattle.rpg_effect.specs.Act as acts;
+ghost use Rattle.rpg_effect.specs.Effect.{quiet};
+ghost use Rattle.rpg_effect.specs.Forms as forms_of;
+ghost use Rattle.rpg_effect.specs.World.{number_at};
+ghost use Rattle.rpg_effect.specs.declared.form.Kind.TheVariants as kinds;
+ghost use Rattle.rpg_effect.specs.Ends.{end_of, GoesOn};
+ghost use Rattle.rpg_operations.specs.Good.{IsValue};
+ghost use Rattle.rpg_memory.specs.Memory.{rest_value, world_of};
+ghost use Rattle.rpg_operations.specs.Ready.{IsReady, forms_in};
+
+use crate::reading::{number_at, target_of};
+use crate::showing::show;
+use rpg_decimal::{Num, Rest, Scale, Target, add, div, keep, mult, remainder, sub};
+use rpg_effect::operation::{Entry, Operator, Shows};
+use rpg_effect::outcome::End;
+use rpg_memory::memory::Memory;
+use rpg_program::row::Rows;
+use rpg_store::store::Store;
+
+/// Stores a number, and lets the indicators follow it.
+#[tactic(auto, using(crate::proofs::Values::numbers))]
+pub fn store<S: Store + Drop>(
+    rows: &Rows,
+    memory: &mut Memory<S>,
+    to: Entry<u16>,
+    shows: Shows,
+    n: i64,
+) -> End
+    requires ready { IsReady S.forms S.contents S.currents rows.now.fields.items memory.old }
+    requires to { IsValue rows.now.fields.items kinds.Number to.field to.position }
+    requires length { unsigned_abs n < 10 ^ forms_of.length_of (forms_in rows.now to.field) }
+    ensures goes { end_of result ≡ GoesOn }
+    ensures world { world_of S.contents S.currents memory.new ≡ acts.store (world_of S.contents S.currents memory.old) to shows n }
+    ensures ready { IsReady S.forms S.contents S.currents rows.now.fields.items memory.new }
+{
+    memory.store.set_number(to.field, to.position, n);
+    show(&mut memory.on, shows, n.cmp(&0));
+    End::GoesOn
+}
+
+/// What an operator makes of two numbers.
+fn operated(operator: Operator, a: Num, b: Num, target: Target) -> i64
+    ensures value { result ≡ stored_number target.half target.dec target.len (acts.computed operator (value_of a) (value_of b)) }
+    ensures length { unsigned_abs result < 10 ^ target.len }
+{
+    match operator {
+        Operator::Add => add(a, b, target),
+        Operator::Subtract => sub(a, b, target),
+        Operator::Multiply => mult(a, b, target),
+    }
+}
+
+/// The result of ADD, SUB and MULT.
+pub fn computed<S: Store + Drop>(
+    rows: &Rows,
+    memory: &Memory<S>,
+    operator: Operator,
+    half: bool,
+    factor1: Entry<u16>,
+    factor2: Entry<u16>,
+    to: Entry<u16>,
+) -> i64
+    requires ready { IsReady S.forms S.contents S.currents rows.now.fields.items memory.now }
+    requires factor1 { IsValue rows.now.fields.items kinds.Number factor1.field factor1.position }
+    requires factor2 { IsValue rows.now.fields.items kinds.Number factor2.field factor2.position }
+    requires to { IsValue rows.now.fields.items kinds.Number to.field to.position }
+    ensures value { result ≡ acts.kept half (forms_in rows.now to.field) (acts.computed operator (acts.exact (forms_in rows.now) (world_of S.contents S.currents memory.now) factor1) (acts.exact (forms_in rows.now) (world_of S.contents S.currents memory.now) factor2)) }
+    ensures length { unsigned_abs result < 10 ^ forms_of.length_of (forms_in rows.now to.field) }
+{
+    let a = number_at(rows, memory, factor1);
+    let b = number_at(rows, memory, factor2);
+    operated(operator, a, b, target_of(rows, to, half))
+}
+
+/// The result of Z-ADD and Z-SUB.
+pub fn assigned<S: Store + Drop>(
+    rows: &Rows,
+    memory: &Memory<S>,
+    is_negated: bool,
+    half: bool,
+    factor2: Entry<u16>,
+    to: Entry<u16>,
+) -> i64
+    requires ready { IsReady S.forms S.contents S.currents rows.now.fields.items memory.now }
+    requires factor2 { IsValue rows.now.fields.items kinds.Number factor2.field factor2.position }
+    requires to { IsValue rows.now.fields.items kinds.Number to.field to.position }
+    ensures value { result ≡ acts.kept half (forms_in rows.now to.field) (with_decimals (acts.assigned is_negated (number_at (world_of S.contents S.currents memory.now) factor2.field factor2.position)) (forms_of.decimals_of (forms_in rows.now factor2.field))) }
+    ensures length { unsigned_abs result < 10 ^ forms_of.length_of (forms_in rows.now to.field) }
+{
+    let b = number_at(rows, memory, factor2);
+    let scale = Scale { value: b.dec };
+    keep(
+        signed(is_negated, b.value),
+        scale,
+        target_of(rows, to, half),
+    )
+}
+
+/// The number, with its sign turned where so asked.
+fn signed(is_negated: bool, n: i64) -> i128
+    requires { unsigned_abs n < 10 ^ 15 }
+    ensures value { result ≡ acts.assigned is_negated n }
+    ensures bound { unsigned_abs result < 10 ^ 36 }
+{
+    if is_negated {
+        -i128::from(n)
+    } else {
+        i128::from(n)
+    }
+}
+
+/// What a division leaves.
+fn left_over(a: Num, b: Num, dec: u8) -> Rest
+    requires divisor { b.value ≢ pos 0 }
+    requires decimals { dec ≤ 9 }
+    ensures { rest_value result ≡ acts.left_over (value_of a) a.dec (value_of b) b.dec dec }
+{
+    match remainder(a, b, dec) {
+        Ok(rest) => rest,
+        Err(_) => unreachable!(),
+    }
+}
+
+/// What is left once a division is done: where its quotient is half adjusted, what was left before.
+fn left_after(before: Rest, half: bool, a: Num, b: Num, dec: u8) -> Rest
+    requires divisor { b.value ≢ pos 0 }
+    requires decimals { dec ≤ 9 }
+    ensures { rest_value result ≡ (if half then rest_value before else acts.left_over (value_of a) a.dec (value_of b) b.dec dec) }
+{
+    if half { before } else { left_over(a, b, dec) }
+}
+
+/// Divides: the quotient as the result field keeps it, and the remainder kept. None by a zero divisor.
+pub fn divide<S: Store + Drop>(
+    rows: &Rows,
+    memory: &mut Memory<S>,
+    half: bool,
+    factor1: Entry<u16>,
+    factor2: Entry<u16>,
+    to: Entry<u16>,
+) -> Option<i64>
+    requires ready { IsReady S.forms S.contents S.currents rows.now.fields.items memory.old }
+    requires factor1 { IsValue rows.now.fields.items kinds.Number factor1.field factor1.position }
+    requires factor2 { IsValue rows.now.fields.items kinds.Number factor2.field factor2.position }
+    requires to { IsValue rows.now.fields.items kinds.Number to.field to.position }
+    ensures quotient { result ≡ option_map (acts.kept half (forms_in rows.now to.field)) (acts.divided (acts.exact (forms_in rows.now) (world_of S.contents S.currents memory.old) factor1) (acts.exact (forms_in rows.now) (world_of S.contents S.currents memory.old) factor2)) }
+    ensures length { IfSome result (λ n. unsigned_abs n < 10 ^ forms_of.length_of (forms_in rows.now to.field)) }
+    ensures world { IfSome result (λ n. world_of S.contents S.currents memory.new ≡ record (world_of S.contents S.currents memory.old) { remainder = acts.remainder_after (forms_in rows.now) half (world_of S.contents S.currents memory.old) factor1 factor2 to }) }
+    ensures none { result ≡ None → memory.new ≡ memory.old }
+    ensures ready { IsReady S.forms S.contents S.currents rows.now.fields.items memory.new }
+{
+    let a = number_at(rows, memory, factor1);
+    let b = number_at(rows, memory, factor2);
+    let target = target_of(rows, to, half);
+    match div(a, b, target) {
+        Err(_) => None,
+        Ok(quotient) => {
+            memory.remainder = left_after(memory.remainder, half, a, b, target.dec);
+            Some(quotient)
+        }
+    }
+}
+
+/// The result of MVR: what the last division left.
+pub fn kept_remainder<S: Store + Drop>(rows: &Rows, memory: &Memory<S>, to: Entry<u16>) -> i64
+    requires ready { IsReady S.forms S.contents S.currents rows.now.fields.items memory.now }
+    requires to { IsValue rows.now.fields.items kinds.Number to.field to.position }
+    ensures value { result ≡ acts.kept false (forms_in rows.now to.field) (world_of S.contents S.currents memory.now).remainder }
+    ensures length { unsigned_abs result < 10 ^ forms_of.length_of (forms_in rows.now to.field) }
+{
+    let rest = memory.remainder;
+    keep(rest.value, rest.dec, target_of(rows, to, false))
+}

@@ -1,0 +1,330 @@
+//! LOKUP.
+ghost use Rattle.std.specs.Prelude.{◌≡◌, ◌≤◌, true, IfSome};
+ghost use Rattle.rpg_effect.specs.Act as acts;
+ghost use Rattle.rpg_effect.specs.Effect.{quiet};
+ghost use Rattle.rpg_effect.specs.Ends.{end_of};
+ghost use Rattle.rpg_effect.specs.declared.operation.Found.{Found};
+ghost use Rattle.std.specs.Option.{option_map};
+ghost use Rattle.rpg_effect.specs.Forms as forms_of;
+ghost use Rattle.rpg_effect.specs.Rows as rows_of;
+ghost use Rattle.rpg_effect.specs.Search as of;
+ghost use Rattle.rpg_operations.specs.Good.{FitsPosition, HasPosition, IsValue, reads_index, IsRightEnd};
+ghost use Rattle.rpg_memory.specs.Memory.{world_of};
+ghost use Rattle.rpg_operations.specs.Ready.{IsReady, forms_in};
+
+use crate::comparing::compared;
+use crate::reading::{entries_of, form_at, is_table, kind_of};
+use crate::showing::show_if_any;
+use rpg_effect::operation::{Entry, Found, Index, Shows};
+use rpg_effect::outcome::End;
+use rpg_memory::memory::Memory;
+use rpg_program::row::Rows;
+use rpg_store::store::Store;
+use std::cmp::Ordering;
+
+fn same_order(a: Ordering, b: Ordering) -> bool
+    ensures { result ≡ of.same_order a b }
+{
+    match a {
+        Ordering::Less => match b {
+            Ordering::Less => true,
+            Ordering::Equal => false,
+            Ordering::Greater => false,
+        },
+        Ordering::Equal => match b {
+            Ordering::Less => false,
+            Ordering::Equal => true,
+            Ordering::Greater => false,
+        },
+        Ordering::Greater => match b {
+            Ordering::Less => false,
+            Ordering::Equal => false,
+            Ordering::Greater => true,
+        },
+    }
+}
+
+/// Whether the entry at a position of factor 2 stands so to factor 1.
+#[tactic(auto, using(crate::proofs::Values::other_value))]
+fn stands<S: Store + Drop>(
+    rows: &Rows,
+    memory: &Memory<S>,
+    factor1: Entry<u16>,
+    factor2: Entry<u16>,
+    order: Ordering,
+    position: u16,
+) -> bool
+    requires ready { IsReady S.forms S.contents S.currents rows.now.fields.items memory.now }
+    requires factor1 { IsValue rows.now.fields.items (forms_of.kind_of (forms_in rows.now factor1.field)) factor1.field factor1.position }
+    requires factor2 { IsValue rows.now.fields.items (forms_of.kind_of (forms_in rows.now factor1.field)) factor2.field factor2.position }
+    requires low { 1 ≤ position }
+    requires high { position ≤ forms_of.entries_of (forms_in rows.now factor2.field) }
+    ensures { result ≡ of.stands (acts.standing (forms_in rows.now) (world_of S.contents S.currents memory.now) factor1 factor2) order position }
+{
+    let kind = kind_of(form_at(rows, factor1.field));
+    let entry = Entry {
+        field: factor2.field,
+        index: factor2.index,
+        position,
+    };
+    same_order(order, compared(rows, memory, kind, entry, factor1))
+}
+
+/// The first position, from one to the last, whose entry stands so to factor 1.
+fn first_one<S: Store + Drop>(
+    rows: &Rows,
+    memory: &Memory<S>,
+    factor1: Entry<u16>,
+    factor2: Entry<u16>,
+    order: Ordering,
+    from: u16,
+    last: u16,
+) -> Option<u16>
+    requires ready { IsReady S.forms S.contents S.currents rows.now.fields.items memory.now }
+    requires factor1 { IsValue rows.now.fields.items (forms_of.kind_of (forms_in rows.now factor1.field)) factor1.field factor1.position }
+    requires factor2 { IsValue rows.now.fields.items (forms_of.kind_of (forms_in rows.now factor1.field)) factor2.field factor2.position }
+    requires low { 1 ≤ from }
+    requires last { last ≡ forms_of.entries_of (forms_in rows.now factor2.field) }
+    requires few { last ≤ 9999 }
+    ensures { result ≡ of.first_one (acts.standing (forms_in rows.now) (world_of S.contents S.currents memory.now) factor1 factor2) order (of.positions from last) }
+{
+    'positions: for position in from..last + 1 {
+        if stands(rows, memory, factor1, factor2, order, position) {
+            return Some(position);
+        }
+    }
+    None
+}
+
+/// The last position, from one to the last, whose entry stands so to factor 1.
+fn last_one<S: Store + Drop>(
+    rows: &Rows,
+    memory: &Memory<S>,
+    factor1: Entry<u16>,
+    factor2: Entry<u16>,
+    order: Ordering,
+    from: u16,
+    last: u16,
+) -> Option<u16>
+    requires ready { IsReady S.forms S.contents S.currents rows.now.fields.items memory.now }
+    requires factor1 { IsValue rows.now.fields.items (forms_of.kind_of (forms_in rows.now factor1.field)) factor1.field factor1.position }
+    requires factor2 { IsValue rows.now.fields.items (forms_of.kind_of (forms_in rows.now factor1.field)) factor2.field factor2.position }
+    requires low { 1 ≤ from }
+    requires some { from ≤ last }
+    requires last { last ≡ forms_of.entries_of (forms_in rows.now factor2.field) }
+    requires few { last ≤ 9999 }
+    ensures { result ≡ of.last_one (acts.standing (forms_in rows.now) (world_of S.contents S.currents memory.now) factor1 factor2) order (of.positions from last) }
+{
+    'positions: for back in 0..last + 1 - from {
+        let position = last - back;
+        if stands(rows, memory, factor1, factor2, order, position) {
+            return Some(position);
+        }
+    }
+    None
+}
+
+/// From where a search goes: the first entry, or the one that its index names.
+fn start_of(factor2: Entry<u16>) -> u16
+    ensures { result ≡ acts.start_of factor2 }
+{
+    match factor2.index {
+        Index::Blank => 1,
+        Index::Literal(_) => factor2.position,
+        Index::Field(_) => factor2.position,
+    }
+}
+
+/// Of the entries that stand so to factor 1 the first one, of smaller ones the last.
+#[tactic(auto, using(crate::proofs::Finding::start_within, crate::proofs::Values::entries_high))]
+fn nearest<S: Store + Drop>(
+    rows: &Rows,
+    memory: &Memory<S>,
+    factor1: Entry<u16>,
+    factor2: Entry<u16>,
+    order: Ordering,
+) -> Option<u16>
+    requires ready { IsReady S.forms S.contents S.currents rows.now.fields.items memory.now }
+    requires factor1 { IsValue rows.now.fields.items (forms_of.kind_of (forms_in rows.now factor1.field)) factor1.field factor1.position }
+    requires factor2 { IsValue rows.now.fields.items (forms_of.kind_of (forms_in rows.now factor1.field)) factor2.field factor2.position }
+    ensures { result ≡ of.nearest (acts.standing (forms_in rows.now) (world_of S.contents S.currents memory.now) factor1 factor2) order (of.positions (acts.start_of factor2) (forms_of.entries_of (forms_in rows.now factor2.field))) }
+{
+    let from = start_of(factor2);
+    let last = entries_of(form_at(rows, factor2.field));
+    match order {
+        Ordering::Less => last_one(rows, memory, factor1, factor2, order, from, last),
+        Ordering::Equal => first_one(rows, memory, factor1, factor2, order, from, last),
+        Ordering::Greater => first_one(rows, memory, factor1, factor2, order, from, last),
+    }
+}
+
+/// The same, where an indicator asks for it.
+fn nearest_if_asked<S: Store + Drop>(
+    rows: &Rows,
+    memory: &Memory<S>,
+    factor1: Entry<u16>,
+    factor2: Entry<u16>,
+    order: Ordering,
+    indicator: Option<u8>,
+) -> Option<Found>
+    requires ready { IsReady S.forms S.contents S.currents rows.now.fields.items memory.now }
+    requires factor1 { IsValue rows.now.fields.items (forms_of.kind_of (forms_in rows.now factor1.field)) factor1.field factor1.position }
+    requires factor2 { IsValue rows.now.fields.items (forms_of.kind_of (forms_in rows.now factor1.field)) factor2.field factor2.position }
+    ensures { result ≡ of.if_asked indicator (of.found_as order (of.nearest (acts.standing (forms_in rows.now) (world_of S.contents S.currents memory.now) factor1 factor2) order (of.positions (acts.start_of factor2) (forms_of.entries_of (forms_in rows.now factor2.field))))) }
+{
+    match indicator {
+        None => None,
+        Some(_) => match nearest(rows, memory, factor1, factor2, order) {
+            None => None,
+            Some(position) => Some(Found { order, position }),
+        },
+    }
+}
+
+/// What a search finds: an equal entry first, where it is asked for.
+#[tactic(auto, unfolding(rpg_effect::specs::Act::found_in, rpg_effect::specs::Search::search_of))]
+fn search<S: Store + Drop>(
+    rows: &Rows,
+    memory: &Memory<S>,
+    factor1: Entry<u16>,
+    factor2: Entry<u16>,
+    shows: Shows,
+) -> Option<Found>
+    requires ready { IsReady S.forms S.contents S.currents rows.now.fields.items memory.now }
+    requires factor1 { IsValue rows.now.fields.items (forms_of.kind_of (forms_in rows.now factor1.field)) factor1.field factor1.position }
+    requires factor2 { IsValue rows.now.fields.items (forms_of.kind_of (forms_in rows.now factor1.field)) factor2.field factor2.position }
+    ensures { result ≡ acts.found_in (forms_in rows.now) (world_of S.contents S.currents memory.now) factor1 factor2 shows }
+{
+    match nearest_if_asked(rows, memory, factor1, factor2, Ordering::Equal, shows.zero) {
+        Some(found) => return Some(found),
+        None => {}
+    }
+    match nearest_if_asked(
+        rows,
+        memory,
+        factor1,
+        factor2,
+        Ordering::Greater,
+        shows.plus,
+    ) {
+        Some(found) => return Some(found),
+        None => {}
+    }
+    nearest_if_asked(rows, memory, factor1, factor2, Ordering::Less, shows.minus)
+}
+
+/// Puts a position into an index field.
+#[tactic(auto, using(crate::proofs::Finding::indexing))]
+fn set_index<S: Store + Drop>(rows: &Rows, memory: &mut Memory<S>, index: Index<u16>, position: u16)
+    requires ready { IsReady S.forms S.contents S.currents rows.now.fields.items memory.old }
+    requires reads { reads_index rows.now.fields.items index ≡ true }
+    requires holds { rows_of.can_hold (forms_in rows.now) index position ≡ true }
+    ensures world { (world_of S.contents S.currents memory.new) ≡ acts.index_set index position (world_of S.contents S.currents memory.old) }
+    ensures ready { IsReady S.forms S.contents S.currents rows.now.fields.items memory.new }
+{
+    match index {
+        Index::Blank => {}
+        Index::Literal(_) => {}
+        Index::Field(by) => memory.store.set_number(by, 1, i64::from(position)),
+    }
+}
+
+/// Makes an entry of a table its current one; of another field nothing is changed.
+fn make_current<S: Store + Drop>(rows: &Rows, memory: &mut Memory<S>, field: u16, position: u16)
+    requires ready { IsReady S.forms S.contents S.currents rows.now.fields.items memory.old }
+    requires low { 1 ≤ position }
+    requires high { position ≤ forms_of.entries_of (forms_in rows.now field) }
+    ensures world { (world_of S.contents S.currents memory.new) ≡ acts.made_current (forms_in rows.now) field position (world_of S.contents S.currents memory.old) }
+    ensures ready { IsReady S.forms S.contents S.currents rows.now.fields.items memory.new }
+{
+    if is_table(form_at(rows, field)) {
+        memory.store.set_current(field, position);
+    }
+}
+
+/// Makes it current in the result's table, if there is one.
+fn make_current_if_any<S: Store + Drop>(
+    rows: &Rows,
+    memory: &mut Memory<S>,
+    table: Option<u16>,
+    position: u16,
+)
+    requires ready { IsReady S.forms S.contents S.currents rows.now.fields.items memory.old }
+    requires low { 1 ≤ position }
+    requires high { HasPosition rows.now.fields.items table position }
+    ensures world { (world_of S.contents S.currents memory.new) ≡ acts.made_current_if_any (forms_in rows.now) table position (world_of S.contents S.currents memory.old) }
+    ensures ready { IsReady S.forms S.contents S.currents rows.now.fields.items memory.new }
+{
+    match table {
+        None => {}
+        Some(table) => make_current(rows, memory, table, position),
+    }
+}
+
+/// Puts a position that was found where it goes; where nothing was found the index field gets 1.
+#[tactic(auto, unfolding(rpg_effect::specs::Act::placed))]
+fn place<S: Store + Drop>(
+    rows: &Rows,
+    memory: &mut Memory<S>,
+    factor2: Entry<u16>,
+    table: Option<u16>,
+    found: Option<Found>,
+)
+    requires ready { IsReady S.forms S.contents S.currents rows.now.fields.items memory.old }
+    requires reads { reads_index rows.now.fields.items factor2.index ≡ true }
+    requires fits { IfSome found (λ f. FitsPosition rows.now.fields.items factor2 table f.position) }
+    ensures world { (world_of S.contents S.currents memory.new) ≡ acts.placed (forms_in rows.now) factor2 table found (world_of S.contents S.currents memory.old) }
+    ensures ready { IsReady S.forms S.contents S.currents rows.now.fields.items memory.new }
+{
+    match found {
+        None => set_index(rows, memory, factor2.index, 1),
+        Some(found) => {
+            set_index(rows, memory, factor2.index, found.position);
+            make_current(rows, memory, factor2.field, found.position);
+            make_current_if_any(rows, memory, table, found.position);
+        }
+    }
+}
+
+fn field_of(to: Option<Entry<u16>>) -> Option<u16>
+    ensures { result ≡ option_map acts.field_of_entry to }
+{
+    match to {
+        None => None,
+        Some(to) => Some(to.field),
+    }
+}
+
+fn order_of(found: Option<Found>) -> Option<Ordering>
+    ensures { result ≡ option_map (λ (f : Found). f.order) found }
+{
+    match found {
+        None => None,
+        Some(found) => Some(found.order),
+    }
+}
+
+/// LOKUP: searches factor 1 among the entries of factor 2, puts the position where it goes, and shows what was found.
+#[tactic(auto, unfolding(rpg_effect::specs::Act::looked_up), using(crate::proofs::Finding::found_fits, crate::proofs::Finding::no_position_fault))]
+pub fn look_up<S: Store + Drop>(
+    rows: &Rows,
+    memory: &mut Memory<S>,
+    factor1: Entry<u16>,
+    factor2: Entry<u16>,
+    to: Option<Entry<u16>>,
+    shows: Shows,
+) -> End
+    requires ready { IsReady S.forms S.contents S.currents rows.now.fields.items memory.old }
+    requires factor1 { IsValue rows.now.fields.items (forms_of.kind_of (forms_in rows.now factor1.field)) factor1.field factor1.position }
+    requires factor2 { IsValue rows.now.fields.items (forms_of.kind_of (forms_in rows.now factor1.field)) factor2.field factor2.position }
+    requires reads { reads_index rows.now.fields.items factor2.index ≡ true }
+    requires positions { rows_of.holds_position (forms_in rows.now) factor2.index (option_map acts.field_of_entry to) (forms_of.entries_of (forms_in rows.now factor2.field)) ≡ true }
+    ensures done { quiet (end_of result) (world_of S.contents S.currents memory.new) ≡ acts.looked_up (forms_in rows.now) (world_of S.contents S.currents memory.old) factor2 (option_map acts.field_of_entry to) shows (acts.found_in (forms_in rows.now) (world_of S.contents S.currents memory.old) factor1 factor2 shows) }
+    ensures ends { IsRightEnd (end_of result) }
+    ensures ready { IsReady S.forms S.contents S.currents rows.now.fields.items memory.new }
+{
+    let found = search(rows, memory, factor1, factor2, shows);
+    place(rows, memory, factor2, field_of(to), found);
+    show_if_any(&mut memory.on, shows, order_of(found));
+    End::GoesOn
+}
