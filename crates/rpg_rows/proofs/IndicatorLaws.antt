@@ -1,5 +1,5 @@
 -- The laws of indicators and of conditions.
-use Rattle.std.proofs.Common.{◌≡◌, ℕ, zero, suc, ◌+◌, ◌≤◌, Bool, true, false, ◌&&◌, cond, Option, Some, None, Ok, Err, refl, sym, ap, ◌∙◌, arith, inl, inr, eqb, leb, eqb-true}
+use Rattle.std.proofs.Common.{◌≡◌, ℕ, zero, suc, ◌+◌, ◌≤◌, Bool, true, false, cond, Option, Some, None, Err, refl, sym, ap, ◌∙◌, arith, inl, inr, eqb, leb, eqb-true}
 use Rattle.std.proofs.lemmas.Bool.{leb-true, and_parts}
 use Rattle.rpg_effect.specs.declared.condition.Condition.{Condition}
 use Rattle.rpg_effect.specs.declared.condition.Conditions.{Conditions}

@@ -1,5 +1,5 @@
 -- What indicators and conditions keep, in plain words, and back.
-use Rattle.std.proofs.Common.{◌≡◌, ℕ, ◌<◌, ◌≤◌, ◌^◌, Bool, true, false, not, ◌&&◌, cond, List, length, Option, Some, None, Ok, Err, refl, sym, ap, ◌∙◌, arith, inl, inr, eqb, leb, ne_eqb}
+use Rattle.std.proofs.Common.{◌≡◌, ℕ, ◌<◌, Bool, true, not, cond, List, length, Option, Some, None, Ok, Err, refl, ap, arith, inl, inr, eqb, leb, ne_eqb}
 use Rattle.std.specs.Option.{ForSome}
 use Rattle.std.proofs.lemmas.Bool.{and_from, eqb-false, le-leb, leb-true}
 use Rattle.rpg_effect.specs.declared.condition.Condition.{Condition}
@@ -10,7 +10,7 @@ use Rattle.rpg_format.specs.Format.{byte, pair, row, two_bytes}
 use Rattle.rpg_format.specs.Numbers.{allowed}
 use Rattle.rpg_format.proofs.Rules.{chosen, stands_for}
 use Rattle.rpg_program.specs.Kept.{AreConditions, AreIndicators, IsAlternativeRow, IsConditionRow, IsIndicator}
-use Rattle.rpg_rows.specs.Indicators.{alternative, are_negations, condition, conditions, has_bit, indicator, indicator_in, indicator_number, indicator_of, indicators_of, is_negation, may_negate, negations_of, shows}
+use Rattle.rpg_rows.specs.Indicators.{alternative, are_negations, condition, conditions, has_bit, indicator, indicator_in, indicator_of, indicators_of, is_negation, may_negate, negations_of, shows}
 use Rattle.rpg_rows.proofs.Choices.{all_from_table, between, counted, few, flag_from, some_is, table_from_all, taken, within}
 use Rattle.rpg_rows.proofs.IndicatorLaws.{has_bits}
 

@@ -1,26 +1,23 @@
 -- What instructions keep, in plain words, and back.
-use Rattle.std.proofs.Common.{◌≡◌, ℕ, ◌<◌, ◌^◌, Bool, true, false, Option, Some, None, Ok, refl, ap, arith}
+use Rattle.std.proofs.Common.{◌≡◌, ℕ, ◌<◌, ◌^◌, Bool, true, false, Option, Some, None, Ok, refl, arith}
 use Rattle.std.specs.Option.{ForSome}
 use Rattle.rpg_effect.specs.declared.condition.Conditions.{Conditions}
 use Rattle.rpg_effect.specs.declared.operation.Action.TheVariants as actions
 use Rattle.rpg_effect.specs.declared.operation.Instruction.{Instruction}
 use Rattle.rpg_effect.specs.declared.operation.Instruction.TheVariants.{Act, Except, Branch, Call, Return}
 use Rattle.rpg_effect.specs.declared.operation.Operand.{Operand}
-use Rattle.rpg_effect.specs.declared.operation.Operator.{Operator}
 use Rattle.rpg_effect.specs.declared.operation.Operator.TheVariants as operators
 use Rattle.rpg_effect.specs.declared.operation.Shows.{Shows}
-use Rattle.rpg_effect.specs.declared.operation.Side.{Side}
 use Rattle.rpg_effect.specs.declared.operation.Side.TheVariants as sides
 use Rattle.rpg_format.specs.Format.{byte, pair, row, two_bytes}
-use Rattle.rpg_format.specs.Numbers.{flag, flag_number}
 use Rattle.rpg_program.specs.Kept.{AreConditions, AreIndicators, IsAnOperand, IsInstructionRow, IsOperandRow, IsOptionalRow, IsTwoBytes}
 use Rattle.rpg_rows.specs.declared.operation.Columns.{Columns}
 use Rattle.rpg_rows.specs.declared.operation.Numbers.{Numbers}
 use Rattle.rpg_rows.specs.declared.operation.Operation.{Operation}
 use Rattle.rpg_rows.specs.declared.operation.Operation.TheVariants as op
-use Rattle.rpg_rows.specs.Indicators.{indicators_of, negations_of, shows}
+use Rattle.rpg_rows.specs.Indicators.{indicators_of, negations_of}
 use Rattle.rpg_rows.specs.Instructions.{arithmetic, assignment, bare, branch, call, columns, columns_of, comparison, half_column, indicators_column, instruction, move, negations_column, no_shows, nothing, numbers, operand_column, operation_number, operation_of, remainder, search, setting, target_column, unused_shows}
-use Rattle.rpg_rows.specs.Operands.{no_operand, operand, operand_or_none, unused_operand}
+use Rattle.rpg_rows.specs.Operands.{no_operand, operand_or_none, unused_operand}
 use Rattle.rpg_rows.specs.Shapes.{row_where}
 use Rattle.rpg_rows.proofs.Choices.{flag_from, some_is}
 use Rattle.rpg_rows.proofs.IndicatorsKept.{are_conditions, indicators_in, negations_hold, shows_from, shows_kept}

@@ -1,8 +1,6 @@
 -- The law of instructions.
-use Rattle.std.proofs.Common.{◌≡◌, ℕ, Bool, true, false, List, [], ◌∷◌, Option, Some, None, refl, sym, ap, ◌∙◌}
-use Rattle.std.specs.Option.{ForSome}
+use Rattle.std.proofs.Common.{◌≡◌, ℕ, Bool, true, false, Option, refl, ap, ◌∙◌}
 use Rattle.rpg_effect.specs.declared.condition.Conditions.{Conditions}
-use Rattle.rpg_effect.specs.declared.operation.Action.{Action}
 use Rattle.rpg_effect.specs.declared.operation.Action.TheVariants as actions
 use Rattle.rpg_effect.specs.declared.operation.Instruction.{Instruction}
 use Rattle.rpg_effect.specs.declared.operation.Instruction.TheVariants.{Act, Except, Branch, Call, Return}
@@ -10,18 +8,17 @@ use Rattle.rpg_effect.specs.declared.operation.Operand.{Operand}
 use Rattle.rpg_effect.specs.declared.operation.Operator.TheVariants as operators
 use Rattle.rpg_effect.specs.declared.operation.Shows.{Shows}
 use Rattle.rpg_effect.specs.declared.operation.Side.TheVariants as sides
-use Rattle.rpg_format.specs.Format.{Format, byte, pair, row}
+use Rattle.rpg_format.specs.Format.{byte, pair, row}
 use Rattle.rpg_format.specs.Numbers.{any_number, byte_where, yes_or_no}
 use Rattle.rpg_format.proofs.Laws.{IsFormat, byte_law, pair_law, row_law}
 use Rattle.rpg_format.proofs.Rules.{any_number_law, byte_where_law, choice_rule, yes_or_no_law}
-use Rattle.rpg_program.specs.Kept.{IsAnOperand}
 use Rattle.rpg_rows.specs.declared.operation.Columns.{Columns}
 use Rattle.rpg_rows.specs.declared.operation.Numbers.{Numbers}
 use Rattle.rpg_rows.specs.declared.operation.Operation.{Operation}
 use Rattle.rpg_rows.specs.declared.operation.Operation.TheVariants as op
 use Rattle.rpg_rows.specs.Indicators.{are_negations, conditions_of, indicators_of, negations_of, shows}
 use Rattle.rpg_rows.specs.Instructions.{HasOneSpelling, columns, columns_of, instruction, instruction_of, no_shows, numbers, numbers_of, operation_number, operations, unused_shows}
-use Rattle.rpg_rows.specs.Operands.{no_operand, operand, operand_or_none, optional_of, unused_operand}
+use Rattle.rpg_rows.specs.Operands.{no_operand, operand, unused_operand}
 use Rattle.rpg_rows.specs.Shapes.{unused_byte, unused_number}
 use Rattle.rpg_rows.proofs.Choices.{passed}
 use Rattle.rpg_rows.proofs.IndicatorLaws.{conditions_back, indicators_there, negations_there, shows_law}

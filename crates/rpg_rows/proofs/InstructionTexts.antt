@@ -2,11 +2,9 @@
 use Rattle.std.proofs.Common.{◌≡◌, ℕ, Bool, true, false, Option, Some, None, refl}
 use Rattle.rpg_effect.specs.declared.operation.Action.{Action}
 use Rattle.rpg_effect.specs.declared.operation.Action.TheVariants as actions
-use Rattle.rpg_effect.specs.declared.operation.Index.{Index}
 use Rattle.rpg_effect.specs.declared.operation.Instruction.{Instruction}
 use Rattle.rpg_effect.specs.declared.operation.Instruction.TheVariants.{Act, Except, Branch, Call, Return}
 use Rattle.rpg_effect.specs.declared.operation.Operand.{Operand}
-use Rattle.rpg_effect.specs.declared.operation.Operator.{Operator}
 use Rattle.rpg_effect.specs.declared.operation.Operator.TheVariants as operators
 use Rattle.rpg_effect.specs.declared.operation.Shows.{Shows}
 use Rattle.rpg_effect.specs.declared.operation.Side.TheVariants as sides
@@ -15,7 +13,7 @@ use Rattle.rpg_program.specs.Kept.{IsIndexRow, IsInstructionRow, IsOptionalRow}
 use Rattle.rpg_rows.specs.declared.operation.Numbers.{Numbers}
 use Rattle.rpg_rows.specs.declared.operation.Operation.{Operation}
 use Rattle.rpg_rows.specs.Indicators.{shows}
-use Rattle.rpg_rows.specs.Instructions.{action_numbers, columns, columns_of, instruction, numbers, numbers_of, numbers_text, operation_number, unused_shows}
+use Rattle.rpg_rows.specs.Instructions.{action_numbers, columns, instruction, numbers, numbers_of, numbers_text, unused_shows}
 use Rattle.rpg_rows.specs.Operands.{operand, operand_or_none, unused_operand}
 use Rattle.rpg_rows.specs.Shapes.{row_where}
 

@@ -1,5 +1,5 @@
 -- The letters of edited fields.
-use Rattle.std.proofs.Common.{◌≡◌, ℕ, ◌<◌, ◌^◌, Bool, true, false, cond, List, [], ◌∷◌, Option, Some, None, Ok, refl, sym, ap, ◌∙◌, arith, inl, inr, eqb, eqb-true, eq-eqb}
+use Rattle.std.proofs.Common.{◌≡◌, ℕ, ◌<◌, ◌^◌, true, false, cond, List, [], ◌∷◌, Option, Some, None, Ok, refl, sym, ap, ◌∙◌, arith, inl, inr, eqb, eqb-true}
 use Rattle.std.specs.Prelude.{find, option_map}
 use Rattle.rpg_edit.specs.Code.{code_of, table_of_codes}
 use Rattle.rpg_edit.specs.declared.code.EditCode.{EditCode}

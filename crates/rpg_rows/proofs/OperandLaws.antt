@@ -1,5 +1,5 @@
 -- The laws of operands, and what they keep.
-use Rattle.std.proofs.Common.{◌≡◌, ℕ, ◌+◌, ◌-◌, ◌<◌, ◌≤◌, true, false, cond, Option, Some, None, Ok, refl, sym, ap, ◌∙◌, arith, inl, inr, eqb, leb, eqb-true, ne_eqb}
+use Rattle.std.proofs.Common.{◌≡◌, ℕ, ◌+◌, ◌-◌, ◌<◌, cond, Option, Some, None, Ok, refl, sym, ap, ◌∙◌, arith, inl, inr, eqb, leb, eqb-true, ne_eqb}
 use Rattle.std.specs.Option.{ForSome}
 use Rattle.std.proofs.lemmas.Bool.{leb-false, leb-true, le-leb, lt-leb, eqb-false}
 use Rattle.rpg_effect.specs.declared.operation.Index.{Index}
@@ -8,7 +8,7 @@ use Rattle.rpg_effect.specs.declared.operation.Operand.{Operand}
 use Rattle.rpg_format.specs.Format.{pair, row, two_bytes}
 use Rattle.rpg_format.proofs.Laws.{IsFormat, IsRule, pair_law, row_law, two_law}
 use Rattle.rpg_format.proofs.Rules.{any_number_law, value_is}
-use Rattle.rpg_program.specs.Kept.{IsAnOperand, IsIndexRow, IsOperandRow, IsOptionalRow}
+use Rattle.rpg_program.specs.Kept.{IsAnOperand, IsIndexRow, IsOperandRow}
 use Rattle.rpg_rows.specs.Operands.{if_operand, index_number, index_of, index_rule, no_operand, operand, operand_or_none, optional_of, unused_operand}
 use Rattle.rpg_rows.proofs.Choices.{decided, some_is}
 use Rattle.rpg_rows.proofs.ShapeLaws.{unused_number_law}

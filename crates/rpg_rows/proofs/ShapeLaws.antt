@@ -2,7 +2,7 @@
 use Rattle.std.proofs.Common.{◌≡◌, ℕ, ◌≤◌, Bool, true, false, List, ◌++◌, length, Ok, Err, refl, sym, ap, subst, inl, inr}
 use Rattle.rpg_format.specs.declared.fault.Code.TheVariants.{CutShort, Unused}
 use Rattle.rpg_format.specs.declared.fault.Fault.{Fault}
-use Rattle.rpg_format.specs.Format.{Format, ◌>>=◌, made, pair, row, table, times_with}
+use Rattle.rpg_format.specs.Format.{Format, ◌>>=◌, made, pair, table, times_with}
 use Rattle.rpg_format.specs.Numbers.{count, is_any}
 use Rattle.rpg_format.proofs.Laws.{IsBytes, IsFormat, Takes, bind_err, bind_ok, further, ok_is, pair_law, row_law, table_law}
 use Rattle.rpg_format.proofs.Rules.{byte_where_law, count_law, only_byte_law, only_number_law}

@@ -1,5 +1,5 @@
 -- The bytes of record types and lines: their numbers, then their tables.
-use Rattle.std.proofs.Common.{◌≡◌, ℕ, List, ◌++◌, length, map, refl, sym, ap, ◌∙◌, append_assoc}
+use Rattle.std.proofs.Common.{◌≡◌, ℕ, List, ◌++◌, map, refl, sym, ap, ◌∙◌, append_assoc}
 use Rattle.std.proofs.lemmas.List.{map-id}
 use Rattle.rpg_effect.specs.Input.{TypeRow}
 use Rattle.rpg_format.specs.Format.{byte, keep, pair, row, spelled_along, times_with, two_bytes}

@@ -23,7 +23,7 @@ use Rattle.rpg_effect.specs.declared.operation.Operand.{Operand}
 use Rattle.rpg_format.specs.declared.fault.Code.{Code}
 use Rattle.rpg_format.specs.declared.fault.Code.TheVariants.{NotAllowed}
 use Rattle.rpg_format.specs.Format.{Format, byte, two_bytes, pair, row, table}
-use Rattle.rpg_format.specs.Numbers.{any_number, choice, count, flag_number, number_where, one_of, up_to, yes_or_no}
+use Rattle.rpg_format.specs.Numbers.{any_number, choice, count, number_where, up_to, yes_or_no}
 use Rattle.rpg_program.specs.Object.{LineRow}
 use Rattle.rpg_rows.specs.declared.letter.Letter.{Letter}
 use Rattle.rpg_rows.specs.declared.letter.Letter.TheVariants as letters

@@ -1,4 +1,3 @@
-use Rattle.std.proofs.Common.{refl}
 use Rattle.rpg_rows.proofs.InstructionTexts.{by_columns}
 use Rattle.rpg_rows.proofs.instruction.action_numbers.Goals as goal
 

@@ -1,7 +1,7 @@
 use Rattle.std.proofs.Common.{[], ◌∷◌, map}
 use Rattle.std.proofs.lemmas.List.{map-append}
 use Rattle.std.proofs.lemmas.Result.{err_from_is_err_and}
-use Rattle.rpg_format.specs.Format.{keep, read_times}
+use Rattle.rpg_format.specs.Format.{keep}
 use Rattle.rpg_format.proofs.Loop.{goes_on, ends, is_done}
 use Rattle.rpg_rows.proofs.table.rows_at.Goals as goal
 

@@ -1,0 +1,14 @@
+-- Programs that keep all rules.
+use Rattle.std.specs.Prelude.{ℕ}
+use Rattle.rpg_program.specs.Object.{Object}
+use Rattle.rpg_rules.specs.Least.{IsFaultless, IsLeast}
+use Rattle.rpg_rules.specs.Rules.{broken, number}
+use Rattle.rpg_rules.specs.declared.rule.BrokenRule.{BrokenRule}
+
+-- no row breaks a rule
+abbrev pub IsAccepted : Object → Type 0
+IsAccepted p = IsFaultless number (broken p)
+
+-- the least broken rule, and its first row
+abbrev pub IsLeastBroken : Object → BrokenRule → Type 0
+IsLeastBroken p b = IsLeast number (broken p) b.rule b.row

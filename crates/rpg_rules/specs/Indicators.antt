@@ -1,0 +1,37 @@
+-- Which indicators may stand where: 1 to 99, L0 (100), L1 to LR (101 to 110), 1P (111), overflow (112 to 119), H1 to H9 (120 to 128), MR (129).
+use Rattle.std.specs.Prelude.{ℕ, Bool, true, ◌&&◌, ◌||◌, nat_le, Option, None, Some, is_some}
+use Rattle.rpg_effect.specs.declared.condition.Condition.{Condition}
+use Rattle.rpg_effect.specs.declared.condition.Conditions.{Conditions}
+use Rattle.rpg_effect.specs.declared.operation.Shows.{Shows}
+
+abbrev pub is_within : ℕ → ℕ → ℕ → Bool
+is_within low high n = nat_le low n && nat_le n high
+
+-- all but L0, 1P and MR
+abbrev pub is_settable : ℕ → Bool
+is_settable n = is_within 1 99 n || (is_within 101 110 n || is_within 112 128 n)
+
+-- what a record type may turn on: all that may be set but overflow
+abbrev pub is_of_type : ℕ → Bool
+is_of_type n = is_within 1 99 n || (is_within 101 110 n || is_within 120 128 n)
+
+-- it passes, if it stands
+abbrev pub if_any : {X : Type 0} → (X → Bool) → Option X → Bool
+if_any test None = true
+if_any test (Some x) = test x
+
+-- each of three passes that stands
+abbrev pub are_settable : Shows → Bool
+are_settable s = if_any is_settable s.plus && (if_any is_settable s.minus && if_any is_settable s.zero)
+
+-- one of three stands
+abbrev pub has_shows : Shows → Bool
+has_shows s = is_some s.plus || (is_some s.minus || is_some s.zero)
+
+-- MR is asked nowhere
+abbrev pub may_be_asked : Condition → Bool
+may_be_asked c = nat_le c.indicator 128
+
+-- each of three that stands may be asked
+abbrev pub all_asked : Conditions → Bool
+all_asked cs = if_any may_be_asked cs.first && (if_any may_be_asked cs.second && if_any may_be_asked cs.third)

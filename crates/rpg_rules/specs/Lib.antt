@@ -1,0 +1,9 @@
+pub mod Indicators
+pub mod Least
+pub mod TypeRules
+pub mod LineRules
+pub mod PlaceRules
+pub mod Rules
+pub mod Spans
+pub mod Accepted
+pub mod Sound

@@ -1,0 +1,11 @@
+-- What is known of a section while its instructions are judged.
+use Rattle.std.specs.Prelude.{◌≡◌}
+use Rattle.rpg_program.specs.Object.{Object}
+use Rattle.rpg_program.specs.Sections.{end_of, first_of, level_of}
+use Rattle.rpg_rules.specs.declared.spans.Span.{Span}
+
+-- its first place, its end and its level
+pub record IsSpan (p : Object) (s : Span) : Type 0 where
+  pub level : s.level ≡ level_of p s.section
+  pub first : s.first ≡ first_of p s.section
+  pub end : s.end ≡ end_of p s.section

@@ -1,0 +1,16 @@
+//! The rules that an object program keeps before it is run.
+#![tactic(auto)]
+
+mod indicators;
+pub mod laws;
+mod least;
+mod lines;
+mod places;
+mod rule;
+mod spans;
+mod subroutines;
+mod types;
+mod words;
+
+pub use least::first_broken;
+pub use rule::{BrokenRule, LineRule, PlaceRule, Rule, SubroutineRule, TypeRule};

@@ -1,0 +1,85 @@
+//! The rules.
+
+/// A rule of record types.
+#[derive(Clone, Copy)]
+pub enum TypeRule {
+    /// The positions of codes are in the record.
+    V3,
+    /// The indicator is none, 01 to 99, L1 to LR or H1 to H9.
+    V4,
+    /// Control fields are in the record, and a level's are as long as in the first type that has it, 256 at most.
+    V5,
+    /// As many columns of the record are moved as the field has.
+    V6,
+    /// Indicators of moves can be set, and a text has one for blanks alone.
+    V7,
+}
+
+/// A rule of output lines.
+#[derive(Clone, Copy)]
+pub enum LineRule {
+    /// The program has the line's file.
+    V2,
+    /// Spaces of 0 to 3 and skips to 66 at most, on the printer alone.
+    V8,
+    /// Conditions of alternatives are on indicators up to 128.
+    V9,
+    /// What is put out is there.
+    V10,
+    /// What is edited is a number that the code fits, and a fill stands where it may.
+    V11,
+    /// An edit word is a text constant of 1 to 24 characters that fits the number.
+    V12,
+    /// The text ends inside the line, and begins there.
+    V13,
+    /// What is blanked afterwards may be written.
+    V14,
+    /// Conditions of fields are on indicators up to 128.
+    V15,
+}
+
+/// A rule of instructions.
+#[derive(Clone, Copy)]
+pub enum PlaceRule {
+    /// Operands are there, with an index that they may have.
+    V16,
+    /// Operands are of the kinds that the table of operations wants.
+    V17,
+    /// Results may be written.
+    V18,
+    /// Indicators are there where they must be, and are those that may be.
+    V19,
+    /// What a search makes current is there, and its index holds what is found.
+    V20,
+    /// Branches stay in their section.
+    V21,
+    /// Calls go to a subroutine of a higher level.
+    V22,
+}
+
+/// A rule of subroutines.
+#[derive(Clone, Copy)]
+pub enum SubroutineRule {
+    /// A subroutine ends in its own return, and has no other's; detail and total calculations have none.
+    V23,
+    /// Levels are 1 to 100.
+    V24,
+}
+
+/// A rule, by the table of which rows it speaks.
+#[derive(Clone, Copy)]
+pub enum Rule {
+    /// V1: an overflow indicator wants a printer.
+    Overflow,
+    Type(TypeRule),
+    Line(LineRule),
+    Place(PlaceRule),
+    Subroutine(SubroutineRule),
+}
+
+/// A rule that a row breaks. Rows are counted from 0 in the rule's table.
+#[derive(Clone, Copy)]
+pub struct BrokenRule {
+    pub rule: Rule,
+    pub row: usize,
+}
