@@ -1,4 +1,5 @@
 pub mod Choices
+pub mod Examples
 pub mod IndicatorLaws
 pub mod IndicatorsKept
 pub mod InstructionKept

@@ -56,96 +56,6 @@ pub struct Numbers {
     pub negations: u8,
 }
 
-const ARITHMETIC: Columns = Columns {
-    half: true,
-    factor1: true,
-    factor2: true,
-    result: true,
-    indicators: true,
-    target: false,
-    negations: false,
-};
-
-const ASSIGNMENT: Columns = Columns {
-    half: true,
-    factor1: false,
-    factor2: true,
-    result: true,
-    indicators: true,
-    target: false,
-    negations: false,
-};
-
-const REMAINDER: Columns = Columns {
-    half: false,
-    factor1: false,
-    factor2: false,
-    result: true,
-    indicators: true,
-    target: false,
-    negations: false,
-};
-
-const COMPARISON: Columns = Columns {
-    half: false,
-    factor1: true,
-    factor2: true,
-    result: false,
-    indicators: true,
-    target: false,
-    negations: false,
-};
-
-const SEARCH: Columns = Columns {
-    half: false,
-    factor1: true,
-    factor2: true,
-    result: true,
-    indicators: true,
-    target: false,
-    negations: false,
-};
-
-const MOVE: Columns = Columns {
-    half: false,
-    factor1: false,
-    factor2: true,
-    result: true,
-    indicators: false,
-    target: false,
-    negations: false,
-};
-
-const SETTING: Columns = Columns {
-    half: false,
-    factor1: false,
-    factor2: false,
-    result: false,
-    indicators: true,
-    target: false,
-    negations: false,
-};
-
-const BRANCH: Columns = Columns {
-    half: false,
-    factor1: false,
-    factor2: false,
-    result: false,
-    indicators: true,
-    target: true,
-    negations: true,
-};
-
-const CALL: Columns = Columns {
-    half: false,
-    factor1: false,
-    factor2: false,
-    result: false,
-    indicators: false,
-    target: true,
-    negations: false,
-};
-
 const NOTHING: Columns = Columns {
     half: false,
     factor1: false,
@@ -154,6 +64,67 @@ const NOTHING: Columns = Columns {
     indicators: false,
     target: false,
     negations: false,
+};
+
+const ARITHMETIC: Columns = Columns {
+    half: true,
+    factor1: true,
+    factor2: true,
+    result: true,
+    indicators: true,
+    ..NOTHING
+};
+
+const ASSIGNMENT: Columns = Columns {
+    half: true,
+    factor2: true,
+    result: true,
+    indicators: true,
+    ..NOTHING
+};
+
+const REMAINDER: Columns = Columns {
+    result: true,
+    indicators: true,
+    ..NOTHING
+};
+
+const COMPARISON: Columns = Columns {
+    factor1: true,
+    factor2: true,
+    indicators: true,
+    ..NOTHING
+};
+
+const SEARCH: Columns = Columns {
+    factor1: true,
+    factor2: true,
+    result: true,
+    indicators: true,
+    ..NOTHING
+};
+
+const MOVE: Columns = Columns {
+    factor2: true,
+    result: true,
+    ..NOTHING
+};
+
+const SETTING: Columns = Columns {
+    indicators: true,
+    ..NOTHING
+};
+
+const BRANCH: Columns = Columns {
+    indicators: true,
+    target: true,
+    negations: true,
+    ..NOTHING
+};
+
+const CALL: Columns = Columns {
+    target: true,
+    ..NOTHING
 };
 
 pub fn operation_of(n: u8) -> Result<Operation, Code>

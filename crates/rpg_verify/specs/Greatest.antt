@@ -1,0 +1,21 @@
+-- What path costs and the bound are, place by place.
+use Rattle.std.specs.Prelude.{ℕ, Bool, ◌<◌, ◌≤◌, ◌^◌}
+use Rattle.rpg_effect.specs.declared.condition.Conditions.{Conditions}
+use Rattle.rpg_effect.specs.declared.operation.Instruction.TheVariants.{Branch, Call}
+use Rattle.rpg_program.specs.Object.{Object}
+use Rattle.rpg_program.specs.Sections.{first_of}
+use Rattle.rpg_program.specs.declared.section.Place.{Place}
+use Rattle.rpg_program.specs.declared.section.Section.TheVariants.{Subroutine}
+use Rattle.rpg_rules.specs.Sound.{IsAt}
+use Rattle.rpg_verify.specs.Bound.{bound, cost, most, stretch}
+use Rattle.rpg_verify.specs.Paths.{IsCost}
+use Rattle.rpg_verify.specs.Weighing.{weight}
+
+-- Each place from its section's first on has the greatest sum of weights along a forward path from it, and `most` is no less than the
+-- costs that a spend leads to: those of the targets of branches to a place not later than their own, and of first places of
+-- subroutines that are called.
+pub record AreGreatest (p : Object) : Type 0 where
+  pub each : (x : Place) → first_of p x.section ≤ x.number → IsCost (weight p) (stretch p x.section) x.number (cost p x)
+  pub back : (x : Place) (is_taken_where : Bool) (cs : Conditions) (target : ℕ) → IsAt p x (Branch is_taken_where cs target) → target ≤ x.number → cost p (record { section = x.section; number = target }) ≤ most p
+  pub calls : (n : ℕ) → cost p (record { section = Subroutine n; number = first_of p (Subroutine n) }) ≤ most p
+  pub few : bound p < 2 ^ 48

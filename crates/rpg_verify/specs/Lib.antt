@@ -1,0 +1,5 @@
+pub mod Paths
+pub mod Weighing
+pub mod Bound
+pub mod Verified
+pub mod Greatest

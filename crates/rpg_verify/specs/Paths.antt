@@ -1,0 +1,82 @@
+-- Forward paths inside a section, and the cost of a place: the greatest sum of weights along one.
+use Rattle.std.specs.Prelude.{◌≡◌, ℕ, ◌+◌, ◌-◌, ◌<◌, ◌≤◌, ◌⊎◌, Bool, false, List, [], ◌∷◌, Option, None, Some, max, nat_le, nat_lt, slice_get, slice_index, if◌then◌else◌}
+use Rattle.rpg_effect.specs.declared.operation.Instruction.{Instruction}
+use Rattle.rpg_effect.specs.declared.operation.Instruction.TheVariants.{Act, Except, Branch, Call, Return}
+use Rattle.rpg_effect.specs.Control.{always_goes}
+
+-- a section as it lies: its first place, and its instructions
+pub record Stretch : Type 0 where
+  pub first : ℕ
+  pub code : List (Instruction ℕ)
+
+-- what stands at a place of the section
+abbrev pub at_place : Stretch → ℕ → Option (Instruction ℕ)
+at_place s place = if nat_le s.first place then slice_get s.code (place - s.first) else None
+
+-- Whether a place can come right after another that has this instruction, and is later. A call goes on behind itself, and a return
+-- nowhere. A jump without conditions has its target alone.
+abbrev pub Follows : ℕ → Instruction ℕ → ℕ → Type 0
+Follows place (Act a) next = next ≡ place + 1
+Follows place Except next = next ≡ place + 1
+Follows place (Branch is_taken_where cs target) next = (place < next) × ((next ≡ target) ⊎ ((next ≡ place + 1) × (always_goes is_taken_where cs ≡ false)))
+Follows place (Call s) next = next ≡ place + 1
+Follows place (Return s) next = ⊥
+
+abbrev pub IsPlace : Stretch → ℕ → Type 0
+IsPlace s place = (i : Instruction ℕ) × (at_place s place ≡ Some i)
+
+abbrev pub Leads : Stretch → ℕ → ℕ → Type 0
+Leads s place next = (i : Instruction ℕ) × (at_place s place ≡ Some i) × Follows place i next
+
+-- places of the section, each of which can come right after the one before
+abbrev pub IsPath : Stretch → List ℕ → Type 0
+IsPath s [] = Unit {0}
+IsPath s (x ∷ []) = IsPlace s x
+IsPath s (x ∷ y ∷ rest) = Leads s x y × IsPath s (y ∷ rest)
+
+abbrev pub IsFrom : ℕ → List ℕ → Type 0
+IsFrom place [] = Unit {0}
+IsFrom place (x ∷ xs) = x ≡ place
+
+-- ---- how it is found: one pass from the last place down
+
+-- the cost of a later place, from the costs of the places behind a place; behind the end it is 0
+abbrev pub cost_ahead : ℕ → List ℕ → ℕ → ℕ
+cost_ahead place costs next = if nat_lt place next then slice_index costs (next - (place + 1)) else 0
+
+-- of the place behind, where a branch can be passed
+abbrev pub cost_passed : Bool → List ℕ → ℕ
+cost_passed always costs = if always then 0 else slice_index costs 0
+
+abbrev pub cost_onward : ℕ → Instruction ℕ → List ℕ → ℕ
+cost_onward place (Act a) costs = slice_index costs 0
+cost_onward place Except costs = slice_index costs 0
+cost_onward place (Branch is_taken_where cs target) costs = max (cost_ahead place costs target) (cost_passed (always_goes is_taken_where cs) costs)
+cost_onward place (Call s) costs = slice_index costs 0
+cost_onward place (Return s) costs = 0
+
+module _ (weight : Instruction ℕ → ℕ) where
+  abbrev pub weight_in : Option (Instruction ℕ) → ℕ
+  weight_in None = 0
+  weight_in (Some i) = weight i
+
+  abbrev pub weight_along : Stretch → List ℕ → ℕ
+  weight_along s [] = 0
+  weight_along s (x ∷ xs) = weight_in (at_place s x) + weight_along s xs
+
+  -- the greatest sum along a path from a place
+  pub record IsCost (s : Stretch) (place cost : ℕ) : Type 0 where
+    pub above : (path : List ℕ) → IsPath s path → IsFrom place path → weight_along s path ≤ cost
+    pub reached : (path : List ℕ) × IsPath s path × IsFrom place path × (weight_along s path ≡ cost)
+
+  -- the costs of places one behind the other
+  abbrev pub with_cost : ℕ → Instruction ℕ → List ℕ → List ℕ
+  with_cost place i costs = (weight i + cost_onward place i costs) ∷ costs
+
+  abbrev pub costs_from : ℕ → List (Instruction ℕ) → List ℕ
+  costs_from place [] = []
+  costs_from place (i ∷ is) = with_cost place i (costs_from (place + 1) is)
+
+  -- the cost of each place of a section, in their order; 0 at its end and behind it
+  abbrev pub AreCosts : Stretch → List ℕ → Type 0
+  AreCosts s costs = (x : ℕ) → s.first ≤ x → IsCost s x (slice_index costs (x - s.first))

@@ -1,0 +1,22 @@
+-- What a verified program keeps beside its rows, and what a refusal tells.
+use Rattle.std.specs.Prelude.{◌≡◌, ℕ, List}
+use Rattle.rpg_program.specs.Kept.{IsProgram}
+use Rattle.rpg_program.specs.Object.{Object}
+use Rattle.rpg_rules.specs.Accepted.{IsAccepted}
+use Rattle.rpg_rules.specs.Least.{IsLeast}
+use Rattle.rpg_rules.specs.Rules.{broken, number}
+use Rattle.rpg_verify.specs.Bound.{bound, costs}
+use Rattle.rpg_verify.specs.declared.verified.VerifyFault.{VerifyFault}
+use Rattle.rpg_verify.specs.declared.verified.VerifyFault.TheVariants.{Refused, NoMemory}
+
+-- it keeps all rules, and its costs and its bound are stored
+pub record IsVerified (p : Object) (stored : List ℕ) (most_steps : ℕ) : Type 0 where
+  pub program : IsProgram p
+  pub accepted : IsAccepted p
+  pub costs : stored ≡ costs p
+  pub bound : most_steps ≡ bound p
+
+-- the least broken rule and its first row; memory is wanted for accepted programs alone
+abbrev pub IsRefusal : Object → VerifyFault → Type 0
+IsRefusal p (Refused rule row) = IsLeast number (broken p) rule row
+IsRefusal p NoMemory = IsAccepted p

@@ -1,0 +1,10 @@
+//! Object programs that may be run: they keep all rules, and a cycle of one takes a bounded number of steps.
+#![tactic(auto)]
+
+mod bound;
+mod costs;
+mod verified;
+mod weights;
+
+pub use rpg_rules::{BrokenRule, LineRule, PlaceRule, Rule, SubroutineRule, TypeRule};
+pub use verified::{Verified, VerifyFault, verify};

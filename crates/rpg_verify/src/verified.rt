@@ -1,0 +1,112 @@
+//! Programs that may be run.
+
+ghost use Rattle.std.specs.Prelude.{◌≡◌, ◌<◌, ◌≤◌, ◌^◌, IfErr, IfOk};
+ghost use Rattle.rpg_program.specs.Kept.{IsProgram};
+ghost use Rattle.rpg_program.specs.Sections.{end_of, first_of};
+ghost use Rattle.rpg_rules.specs.Accepted.{IsAccepted};
+ghost use Rattle.rpg_rules.specs.Sound.{IsSound};
+ghost use Rattle.rpg_verify.specs.Bound as words;
+ghost use Rattle.rpg_verify.specs.Greatest.{AreGreatest};
+ghost use Rattle.rpg_verify.specs.Paths.{IsCost};
+ghost use Rattle.rpg_verify.specs.Verified.{IsRefusal};
+ghost use Rattle.rpg_verify.specs.Weighing.{weight};
+
+use crate::bound::{Measured, measure};
+use rpg_program::Program;
+use rpg_program::section::Place;
+use rpg_rules::{Rule, first_broken};
+use std::alloc::Global;
+use std::marker::Model;
+
+/// A program that keeps all rules, with the costs of its places and its bound. Only `verify` makes one.
+#[derive(Drop)]
+pub struct Verified {
+    program: Program,
+    costs: Vec<u64>,
+    bound: u64,
+}
+
+impl Model for Verified {
+    ghost use Rattle.rpg_program.specs.Object.{Object};
+    ghost use Rattle.rpg_verify.specs.Verified.{IsVerified};
+
+    ghost Value = { Object };
+
+    ghost view = { λ v. v.program };
+
+    ghost invariant = { λ v. IsVerified v.program v.costs.items v.bound };
+}
+
+/// Why a program isn't verified.
+pub enum VerifyFault {
+    /// The least rule that a row breaks, and the first such row. Rows are counted from 0 in the rule's table.
+    Refused { rule: Rule, row: usize },
+    /// There was no memory for the costs of an accepted program.
+    NoMemory,
+}
+
+/// The program, where it keeps all rules; else the program as it was, with the least rule that it breaks.
+pub fn verify(alloc: Global, program: Program) -> Result<Verified, (Program, VerifyFault)>
+    ensures accepted { IfOk result (λ v. v ≡ program) }
+    ensures unchanged { IfErr result (λ e. e.0 ≡ program) }
+    ensures refused { IfErr result (λ e. IsRefusal program e.1) }
+{
+    if let Some(broken) = first_broken(program.rows()) {
+        let fault = VerifyFault::Refused {
+            rule: broken.rule,
+            row: broken.row,
+        };
+        return Err((program, fault));
+    }
+    match measure(alloc, program.rows()) {
+        Ok(Measured { costs, bound }) => Ok(Verified {
+            program,
+            costs,
+            bound,
+        }),
+        Err(_) => Err((program, VerifyFault::NoMemory)),
+    }
+}
+
+impl Verified {
+    /// The program, as it was handed in.
+    pub fn program(&self) -> &Program
+        ensures same { result.now ≡ self.now }
+        ensures program { IsProgram self.now }
+        ensures accepted { IsAccepted self.now }
+    {
+        &self.program
+    }
+
+    /// The most steps that a cycle can take.
+    pub fn bound(&self) -> u64
+        ensures bound { result ≡ words.bound self.now }
+        ensures few { result < 2 ^ 48 }
+    {
+        self.bound
+    }
+
+    /// The greatest sum of weights along a forward path from a place where an instruction stands.
+    pub fn path_cost(&self, place: Place) -> u64
+        requires first { first_of self.now place.section ≤ place.number }
+        requires last { place.number < end_of self.now place.section }
+        ensures cost { result ≡ words.cost self.now place }
+        ensures greatest { IsCost (weight self.now) (words.stretch self.now place.section) place.number result }
+    {
+        self.costs[usize::from(place.number)]
+    }
+
+    /// What the rules give: no operand, line or input field is wrong, and control goes where it may.
+    pub fn is_sound(&self)
+        ensures { IsSound self.now }
+    {
+        let _ = &self.program;
+    }
+
+    /// What the costs are.
+    pub fn has_greatest_costs(&self)
+        ensures { AreGreatest self.now }
+    {
+        let _ = &self.program;
+    }
+}
