@@ -3,7 +3,7 @@ use Rattle.std.specs.Prelude.{ℕ, zero, suc, ◌+◌, ◌-◌, Bool, true, fals
 use Rattle.std.specs.List.{list_any}
 use Rattle.rpg_effect.specs.declared.input.ControlField.{ControlField}
 
--- the digit that a byte of a numeric control field stands for: a sign makes no difference, and a blank is a zero
+-- the character of the digit that a byte of a numeric control field stands for: a sign makes no difference, and a blank is a zero; any other byte is itself
 abbrev pub digit_of : ℕ → ℕ
 digit_of b =
     if (b == 32) || ((b == 123) || (b == 125)) then 48

@@ -112,7 +112,7 @@ detail_lines p = output p times.Detail
 abbrev pub halt_where_asked : Phase
 halt_where_asked = does (λ c. done (if any_on c.config halt_indicators then Halt 6 else GoesOn) c)
 
--- ---- 3 the indicators of record types, L1 to L9 and 1P go off
+-- ---- 3 1P, L1 to L9 and the indicators of record types but LR go off
 
 abbrev pub all_off : Object → Config → Config
 all_off p c = with_one first_page false (with_all level_indicators false (without_types p.types c))
@@ -126,7 +126,7 @@ set_off p = does (λ c. done GoesOn (with_config (all_off p) c))
 abbrev pub broken_level : Object → Left → Selected → ℕ
 broken_level p left s = highest_broken (λ level. differs (last_of_level left level) (bytes_of (control_fields p s.type) s.text level)) 9
 
--- the control fields are compared; with n the highest level that is broken, L1 to Ln go on
+-- the control fields are compared; the highest level that is broken goes on with all below it
 abbrev pub compare : Object → Left → Selected → Config → Done
 compare p left s c =
     if list_all (is_inside (length s.text)) (control_fields p s.type)
@@ -148,7 +148,7 @@ take_type p left text Misplaced c = done (Wrong effects.Storage) (record { confi
 abbrev pub identify : Object → Left → List ℕ → Config → Done
 identify p left text c = take_type p left text (identified 0 p.types text) (charged (trial_weight p.types text) c)
 
--- a record is identified, unless it is a bad one, which is halt 7; at the end of the file LR and L1 to L9 go on
+-- a good record is identified, a bad one is halt 7; where there is none LR and all levels go on
 abbrev pub read_record : Object → Left → Option (List ℕ) → Config → Done
 read_record p left None c = done GoesOn (record { config = with_all level_indicators true (with_one last_record true c); selected = None })
 read_record p left (Some text) c = if is_good p text then identify p left (filled p text) c else done (Halt 7) (record { config = c; selected = None })
@@ -178,7 +178,7 @@ total_time p left = unless (is_bypassed p left.any left.control) (section p sect
 abbrev pub end_where_last : Phase
 end_where_last = does (λ c. done (if is_on c.config last_record || is_none c.selected then EndOfJob else GoesOn) c)
 
--- ---- 7 overflow output, where the printer's overflow indicator is on
+-- ---- 7 all lines of a new page, where the overflow indicator asks for one
 
 abbrev pub has_no_overflow : Option ℕ → Config → Bool
 has_no_overflow None c = true
@@ -232,6 +232,6 @@ Cycle p earlier next = CycleOn p (left_by p earlier) next
 abbrev pub begun : Object → Config → UnderWay
 begun p c = record { config = record c { allowance = p.allowance; steps = 0 }; selected = None }
 
--- the next cycle takes a record: neither LR nor one of H1 to H9 is on
+-- of a job that goes on: whether its next cycle takes a record, which it does unless LR or one of H1 to H9 is on
 abbrev pub needs_record : Config → Bool
 needs_record c = not (is_on c last_record || any_on c halt_indicators)
