@@ -11,13 +11,13 @@ use Rattle.rpg_format.proofs.Laws.{IsRule}
 use Rattle.rpg_format.proofs.Rules.{chosen, stands_for, value_is}
 use Rattle.rpg_rows.specs.declared.letter.Letter.{Letter}
 use Rattle.rpg_rows.specs.declared.letter.Letter.TheVariants.{Plain, Code, Word}
-use Rattle.rpg_rows.specs.Lines.{code_number, editing_of, is_word_field, known_code, letter_in, letter_number, letter_of, word_in}
+use Rattle.rpg_rows.specs.Lines.{edit_code_number, editing_of, is_word_field, known_edit_code, letter_in, letter_number, letter_of, word_in}
 use Rattle.rpg_rows.proofs.Choices.{decided, some_is}
 
 -- each code with its number
 abbrev AreNumbered : List (ℕ × EditCode) → Type 0
 AreNumbered [] = Unit {0}
-AreNumbered (r ∷ rows) = (code_number r.1 ≡ r.0) × AreNumbered rows
+AreNumbered (r ∷ rows) = (edit_code_number r.1 ≡ r.0) × AreNumbered rows
 
 codes_numbered : AreNumbered table_of_codes
 codes_numbered = (refl, (refl, (refl, (refl, (refl, (refl, (refl, (refl, (refl, (refl, (refl, (refl, (refl, (refl, (refl, tt)))))))))))))))
@@ -25,23 +25,23 @@ codes_numbered = (refl, (refl, (refl, (refl, (refl, (refl, (refl, (refl, (refl, 
 abbrev code_in : List (ℕ × EditCode) → ℕ → Option EditCode
 code_in rows n = option_map (λ row. row.1) (find (λ row. eqb row.0 n) rows)
 
-code_is : (rows : List (ℕ × EditCode)) → AreNumbered rows → (n : ℕ) (c : EditCode) → code_in rows n ≡ Some c → code_number c ≡ n
+code_is : (rows : List (ℕ × EditCode)) → AreNumbered rows → (n : ℕ) (c : EditCode) → code_in rows n ≡ Some c → edit_code_number c ≡ n
 code_is [] h n c e = absurd (let k = e in cc)
 code_is (r ∷ rows) h n c e =
     elim (decided (eqb r.0 n) (Some r) (find (λ row. eqb row.0 n) rows)) [
-      | inl w ↦ ap code_number (sym (some_is r.1 c (sym (ap (λ (o : Option (ℕ × EditCode)). option_map (λ row. row.1) o) w.1) ∙ e))) ∙ h.0 ∙ eqb-true _ _ w.0
+      | inl w ↦ ap edit_code_number (sym (some_is r.1 c (sym (ap (λ (o : Option (ℕ × EditCode)). option_map (λ row. row.1) o) w.1) ∙ e))) ∙ h.0 ∙ eqb-true _ _ w.0
       | inr w ↦ code_is rows h.1 n c (sym (ap (λ (o : Option (ℕ × EditCode)). option_map (λ row. row.1) o) w.1) ∙ e)
     ]
 
-known_is : (n : ℕ) (o : Option EditCode) (x : Letter) → code_of n ≡ o → known_code o ≡ stands_for x → letter_number x ≡ n
+known_is : (n : ℕ) (o : Option EditCode) (x : Letter) → code_of n ≡ o → known_edit_code o ≡ stands_for x → letter_number x ≡ n
 known_is n None x e h = absurd (let k = h in cc)
 known_is n (Some c) x e h = ap letter_number (sym (value_is (Code c) x h)) ∙ code_is table_of_codes codes_numbered n c e
 
 pub letter_rule : IsRule letter_of letter_number
 letter_rule n x e =
-    elim (chosen (eqb n 0) (stands_for Plain) (cond (eqb n 87) (stands_for Word) (known_code (code_of n))) (stands_for x) e) [
+    elim (chosen (eqb n 0) (stands_for Plain) (cond (eqb n 87) (stands_for Word) (known_edit_code (code_of n))) (stands_for x) e) [
       | inl w ↦ ap letter_number (sym (value_is Plain x w.1)) ∙ sym (eqb-true _ _ w.0)
-      | inr w ↦ elim (chosen (eqb n 87) (stands_for Word) (known_code (code_of n)) (stands_for x) w.1) [
+      | inr w ↦ elim (chosen (eqb n 87) (stands_for Word) (known_edit_code (code_of n)) (stands_for x) w.1) [
         | inl u ↦ ap letter_number (sym (value_is Word x u.1)) ∙ sym (eqb-true _ _ u.0)
         | inr u ↦ known_is n (code_of n) x refl u.1
       ]

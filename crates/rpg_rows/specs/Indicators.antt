@@ -76,7 +76,7 @@ abbrev pub is_negation : Option Condition → Bool
 is_negation None = false
 is_negation (Some c) = c.is_negated
 
--- the indicators of three conditions
+-- the indicators of three conditions, each in its place
 abbrev pub indicators_of : Conditions → Shows
 indicators_of cs = record { plus = indicator_in cs.first; minus = indicator_in cs.second; zero = indicator_in cs.third }
 

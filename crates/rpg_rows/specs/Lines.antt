@@ -72,30 +72,30 @@ alternative_count n = if nat_lt 0 n then up_to 50 n else Err NotAllowed
 -- ---- how a field is edited
 
 -- the first code with that ending: 1 to 4, A to D, J to M
-abbrev pub first_code : Ending → ℕ
-first_code endings.Unsigned = 49
-first_code endings.Credit = 65
-first_code endings.Minus = 74
+abbrev pub first_edit_code : Ending → ℕ
+first_edit_code endings.Unsigned = 49
+first_edit_code endings.Credit = 65
+first_edit_code endings.Minus = 74
 
 -- the character of a code
-abbrev pub code_number : EditCode → ℕ
-code_number (Combination commas zeros ending) = first_code ending + (if commas then 0 else 2) + (if zeros then 0 else 1)
-code_number X = 88
-code_number Y = 89
-code_number Z = 90
+abbrev pub edit_code_number : EditCode → ℕ
+edit_code_number (Combination commas zeros ending) = first_edit_code ending + (if commas then 0 else 2) + (if zeros then 0 else 1)
+edit_code_number X = 88
+edit_code_number Y = 89
+edit_code_number Z = 90
 
 -- 0, the character of a code, or `W`
 abbrev pub letter_number : Letter → ℕ
 letter_number letters.Plain = 0
-letter_number (letters.Code code) = code_number code
+letter_number (letters.Code code) = edit_code_number code
 letter_number letters.Word = 87
 
-abbrev pub known_code : Option EditCode → Result Letter Code
-known_code None = Err NotAllowed
-known_code (Some code) = Ok (letters.Code code)
+abbrev pub known_edit_code : Option EditCode → Result Letter Code
+known_edit_code None = Err NotAllowed
+known_edit_code (Some code) = Ok (letters.Code code)
 
 abbrev pub letter_of : ℕ → Result Letter Code
-letter_of n = if n == 0 then Ok letters.Plain else (if n == 87 then Ok letters.Word else known_code (code_of n))
+letter_of n = if n == 0 then Ok letters.Plain else (if n == 87 then Ok letters.Word else known_edit_code (code_of n))
 
 abbrev pub is_word : Letter → Bool
 is_word letters.Plain = false

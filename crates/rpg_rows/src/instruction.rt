@@ -357,7 +357,8 @@ fn numbers_of(instruction: Instruction<u16>) -> Numbers
 
 // ---- rows
 
-/// Reads an instruction.
+/// Reads an instruction, 20 bytes. An operation that isn't known is B5, a number that its operation doesn't use and that isn't 0
+/// is B6.
 #[tactic(auto, unfolding(crate::specs::Shapes::row_where, crate::specs::Instructions::instruction))]
 pub fn instruction_at(bytes: &[u8]) -> Result<(Instruction<u16>, &[u8]), ReadFault>
     ensures { Gives (λ x. (x.0, x.1.now)) result (rows.instruction.reading bytes.now) }
@@ -402,7 +403,7 @@ fn put_numbers(out: &mut Vec<u8>, numbers: Numbers) -> Result<(), AllocError>
     Ok(())
 }
 
-/// Writes an instruction.
+/// Writes an instruction, 20 bytes.
 pub fn put_instruction(out: &mut Vec<u8>, instruction: Instruction<u16>) -> Result<(), AllocError>
     requires { IsInstructionRow instruction }
     ensures { OnOk result (out.new.items ≡ out.old.items ++ rows.instruction.spelling instruction) }
@@ -430,7 +431,7 @@ impl Row for Instruction<u16> {
     }
 }
 
-/// Reads so many instructions.
+/// Reads so many instructions. How many there may be is the caller's to test.
 #[tactic(auto, unfolding(rpg_format::specs::Format::times_with))]
 pub fn instructions_at(
     alloc: Global,

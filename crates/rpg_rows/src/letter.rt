@@ -32,8 +32,8 @@ fn letter_of(n: u8) -> Result<Letter, Code>
     }
 }
 
-fn first_code(ending: Ending) -> u8
-    ensures { result ≡ rows.first_code ending }
+fn first_edit_code(ending: Ending) -> u8
+    ensures { result ≡ rows.first_edit_code ending }
 {
     match ending {
         Ending::Unsigned => b'1',
@@ -43,15 +43,15 @@ fn first_code(ending: Ending) -> u8
 }
 
 /// The character of an edit code.
-fn code_number(code: EditCode) -> u8
-    ensures { result ≡ rows.code_number code }
+fn edit_code_number(code: EditCode) -> u8
+    ensures { result ≡ rows.edit_code_number code }
 {
     match code {
         EditCode::Combination {
             commas,
             zeros,
             ending,
-        } => first_code(ending) + if commas { 0 } else { 2 } + if zeros { 0 } else { 1 },
+        } => first_edit_code(ending) + if commas { 0 } else { 2 } + if zeros { 0 } else { 1 },
         EditCode::X => b'X',
         EditCode::Y => b'Y',
         EditCode::Z => b'Z',
@@ -63,7 +63,7 @@ pub fn letter_number(letter: Letter) -> u8
 {
     match letter {
         Letter::Plain => 0,
-        Letter::Code(code) => code_number(code),
+        Letter::Code(code) => edit_code_number(code),
         Letter::Word => b'W',
     }
 }

@@ -147,7 +147,7 @@ impl Row for Vec<Condition> {
 
 // ---- lines
 
-/// Reads a line.
+/// Reads a line. No alternative is B5; more than 50, more than 60 conditions of one, or more than 200 fields are B7.
 #[tactic(auto, unfolding(rpg_format::specs::Format::byte, rpg_format::specs::Format::two_bytes, rpg_format::specs::Format::pair, rpg_format::specs::Format::row, rpg_format::specs::Format::times_with, crate::specs::Lines::line_parts, crate::specs::Lines::line))]
 pub fn line_at(alloc: Global, bytes: &[u8]) -> Result<(Line, &[u8]), ReadFault>
     ensures { Gives (λ x. (line_row x.0, x.1.now)) result (rows.line.reading bytes.now) }
@@ -228,7 +228,7 @@ impl Row for Line {
     }
 }
 
-/// Reads so many lines.
+/// Reads so many lines. How many there may be is the caller's to test.
 #[tactic(auto, unfolding(rpg_format::specs::Format::times_with))]
 pub fn lines_at(alloc: Global, count: u16, bytes: &[u8]) -> Result<(Vec<Line>, &[u8]), ReadFault>
     ensures { Gives (λ x. (map line_row x.0.items, x.1.now)) result ((table count rows.line).reading bytes.now) }

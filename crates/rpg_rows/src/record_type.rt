@@ -152,7 +152,7 @@ impl Row for InputField<u16> {
     }
 }
 
-/// Reads a record type.
+/// Reads a record type. More than 100 codes, 100 control fields or 500 input fields are B7.
 #[tactic(auto, unfolding(rpg_format::specs::Format::byte, rpg_format::specs::Format::two_bytes, rpg_format::specs::Format::pair, rpg_format::specs::Format::row, rpg_format::specs::Format::times_with, crate::specs::Types::type_parts, crate::specs::Types::record_type))]
 pub fn record_type_at(alloc: Global, bytes: &[u8]) -> Result<(RecordType, &[u8]), ReadFault>
     ensures { Gives (λ x. (type_row x.0, x.1.now)) result (rows.record_type.reading bytes.now) }
@@ -230,7 +230,7 @@ impl Row for RecordType {
     }
 }
 
-/// Reads so many record types.
+/// Reads so many record types. How many there may be is the caller's to test.
 #[tactic(auto, unfolding(rpg_format::specs::Format::times_with))]
 pub fn record_types_at(
     alloc: Global,

@@ -1,8 +1,8 @@
 -- All rules, in the order of their numbers.
-use Rattle.std.proofs.Common.{◌≡◌, ℕ, ◌+◌, ◌<◌, ◌≤◌, inl, inr, Bool, List, [], ◌∷◌, Option, Some, None, MatchOption, refl, arith}
+use Rattle.std.proofs.Common.{inl, inr, Bool, List, MatchOption, refl, arith}
 use Rattle.rpg_program.specs.Object.{Object}
-use Rattle.rpg_rules.specs.Accepted.{IsAccepted, IsLeastBroken}
-use Rattle.rpg_rules.specs.Least.{IsFaultless, IsLeast, first_broken}
+use Rattle.rpg_rules.specs.Accepted.{IsAccepted}
+use Rattle.rpg_rules.specs.Least.{IsLeast, first_broken}
 use Rattle.rpg_rules.specs.Rules.{broken, number, all_rules}
 use Rattle.rpg_rules.specs.declared.rule.Rule.{Rule}
 use Rattle.rpg_rules.specs.declared.rule.Rule.TheVariants as rules

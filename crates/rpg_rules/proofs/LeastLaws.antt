@@ -1,5 +1,5 @@
 -- The first rule that is broken, with its first row, is the least.
-use Rattle.std.proofs.Common.{◌≡◌, ℕ, zero, suc, ◌+◌, ◌<◌, ◌≤◌, ◌⊎◌, inl, inr, Bool, true, false, cond, List, [], ◌∷◌, Option, Some, None, MatchOption, slice_get, refl, sym, ap, ◌∙◌, subst, arith}
+use Rattle.std.proofs.Common.{◌≡◌, ℕ, zero, suc, ◌+◌, ◌≤◌, ◌⊎◌, inl, inr, Bool, true, false, List, [], ◌∷◌, Option, Some, None, MatchOption, slice_get, refl, sym, ap, ◌∙◌, arith}
 use Rattle.rpg_rules.specs.Least.{first_true, IsBroken, IsFaultless, NotAfter, IsLeast, or_later, first_broken}
 
 -- ---- the first row

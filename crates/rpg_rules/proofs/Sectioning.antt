@@ -1,7 +1,6 @@
 -- The first instruction that breaks a rule, section by section.
-use Rattle.std.proofs.Common.{◌≡◌, ℕ, zero, suc, ◌+◌, ◌<◌, ◌≤◌, Bool, true, false, List, [], ◌∷◌, ◌++◌, map, length, drop, get_or, Option, Some, None, refl, sym, ap, ◌∙◌, subst, arith, add-one, drop-cons}
+use Rattle.std.proofs.Common.{◌≡◌, ℕ, suc, ◌+◌, ◌<◌, Bool, List, ◌∷◌, ◌++◌, map, length, drop, get_or, Some, None, sym, ap, ◌∙◌, add-one, drop-cons}
 use Rattle.std.specs.List.{position}
-use Rattle.rpg_effect.specs.declared.operation.Instruction.{Instruction}
 use Rattle.rpg_program.specs.declared.row.Subroutine.{Subroutine}
 use Rattle.rpg_program.specs.Object.{Object, SubroutineRow, subroutine_row}
 use Rattle.rpg_program.specs.Sections.{instructions_in}

@@ -1,15 +1,15 @@
 -- What the rules give to whoever runs an accepted program.
-use Rattle.std.proofs.Common.{◌≡◌, ℕ, zero, suc, ◌+◌, ◌-◌, ◌<◌, ◌≤◌, Bool, true, false, not, ◌&&◌, ◌||◌, cond, List, [], ◌∷◌, length, All, Option, Some, None, slice_get, refl, sym, ap, ◌∙◌, subst, arith}
-use Rattle.std.specs.Prelude.{get_or, nat_le, nat_lt, ◌==◌}
-use Rattle.std.proofs.lemmas.Bool.{and_from, and_parts, eqb-false, eqb-true, le-leb, lt-ltb, ltb-true, not-false, not-true, or_parts}
+use Rattle.std.proofs.Common.{◌≡◌, ℕ, zero, suc, ◌-◌, ◌<◌, ◌≤◌, Bool, true, false, not, ◌&&◌, cond, List, [], ◌∷◌, length, All, Option, Some, None, slice_get, refl, sym, ap, ◌∙◌, arith}
+use Rattle.std.specs.Prelude.{get_or, nat_le, ◌==◌}
+use Rattle.std.proofs.lemmas.Bool.{and_from, and_parts, eqb-true, le-leb, lt-ltb, ltb-true, not-false, not-true, or_parts, true≢false}
 use Rattle.std.proofs.lemmas.Option.{slice_get-get_or, slice_get_within}
 use Rattle.std.specs.List.{list_all, list_any}
 use Rattle.rpg_edit.specs.declared.code.Fill.{Fill}
 use Rattle.rpg_effect.proofs.Rules.{right_field, right_row}
 use Rattle.rpg_effect.specs.Ends.{Fault, Storage}
 use Rattle.rpg_effect.specs.Forms.{form_at, kind_of, length_of}
-use Rattle.rpg_effect.specs.Input.{TypeRow, fits_columns, fits_shows, input_fault}
-use Rattle.rpg_effect.specs.LineFaults.{blanks_writable, field_fault, fits_editing, has_room, is_spacing, line_fault}
+use Rattle.rpg_effect.specs.Input.{TypeRow, fits_shows, input_fault}
+use Rattle.rpg_effect.specs.LineFaults.{blanks_writable, field_fault, fits_editing, is_spacing, line_fault}
 use Rattle.rpg_effect.specs.declared.form.FieldForm.{FieldForm}
 use Rattle.rpg_effect.specs.declared.input.InputField.{InputField}
 use Rattle.rpg_effect.specs.declared.line.Editing.{Editing}
@@ -29,11 +29,11 @@ use Rattle.rpg_program.specs.declared.section.Section.TheVariants.{Detail, Total
 use Rattle.rpg_rules.proofs.Kept.{body_kept, line_kept, no_stray, place_kept, type_kept}
 use Rattle.rpg_rules.specs.Accepted.{IsAccepted}
 use Rattle.rpg_rules.specs.LineRules.{edits_form, has_width, is_field_edited, is_field_there, is_field_worded, is_spaced_on, is_unspaced, is_word_for, lacks_room, lacks_word, line_breaks}
-use Rattle.rpg_rules.specs.PlaceRules.{ends_in_return, is_body, is_own, is_return, place_breaks}
+use Rattle.rpg_rules.specs.PlaceRules.{ends_in_return, is_own, is_return, place_breaks}
 use Rattle.rpg_rules.specs.Sound.{IsAt, IsSound, IsSoundInstruction, IsSoundLine, IsSoundType, LeadsWell}
 use Rattle.rpg_rules.specs.TypeRules.{is_code_in, is_control_in, is_input_in, is_input_shown, type_breaks}
 use Rattle.rpg_rules.specs.declared.rule.LineRule.{LineRule}
-use Rattle.rpg_rules.specs.declared.rule.LineRule.TheVariants.{V2, V8, V9, V10, V11, V12, V13, V14, V15}
+use Rattle.rpg_rules.specs.declared.rule.LineRule.TheVariants.{V2, V8, V10, V11, V12, V13, V14}
 use Rattle.rpg_rules.specs.declared.rule.PlaceRule.{PlaceRule}
 use Rattle.rpg_rules.specs.declared.rule.PlaceRule.TheVariants.{V16, V17, V18, V19, V20, V21, V22}
 use Rattle.rpg_rules.specs.declared.rule.TypeRule.{TypeRule}
@@ -80,8 +80,8 @@ own_at p h m n k (Some s) e at =
     (lt-ltb n (length p.subroutines) (omega (arith, same, there)), ap Subroutine (sym same))
 
 return_well : (p : Object) → IsAccepted p → (s : Section) (k n : ℕ) → slice_get (code_of p s) k ≡ Some (Return n) → (has_subroutine p n ≡ true) × (s ≡ Subroutine n)
-return_well p h Detail k n at = let none : true ≡ false = none_at is_return p.detail (or_parts _ _ (no_stray p h)).0 k (Return n) at in cc
-return_well p h Total k n at = let none : true ≡ false = none_at is_return p.total (or_parts _ _ (no_stray p h)).1 k (Return n) at in cc
+return_well p h Detail k n at = absurd (true≢false (none_at is_return p.detail (or_parts (list_any is_return p.detail) (list_any is_return p.total) (no_stray p h)).0 k (Return n) at))
+return_well p h Total k n at = absurd (true≢false (none_at is_return p.total (or_parts (list_any is_return p.detail) (list_any is_return p.total) (no_stray p h)).1 k (Return n) at))
 return_well p h (Subroutine m) k n at = own_at p h m n k (slice_get p.subroutines m) refl at
 
 leads_well : (p : Object) → IsAccepted p → (s : Section) (k : ℕ) (i : Instruction ℕ) → slice_get (code_of p s) k ≡ Some i → ((r : PlaceRule) → place_breaks r p s i ≡ false) → LeadsWell p s i

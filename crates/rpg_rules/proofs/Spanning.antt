@@ -1,14 +1,12 @@
 -- First places, ends and levels of the sections, as they are found one behind the other.
-use Rattle.std.proofs.Common.{◌≡◌, ℕ, zero, suc, ◌+◌, ◌<◌, Bool, true, false, List, [], ◌∷◌, map, length, get_or, Option, None, Some, slice_get, refl, sym, ap, ◌∙◌, subst, arith, add-one}
+use Rattle.std.proofs.Common.{◌≡◌, ℕ, zero, suc, ◌+◌, ◌<◌, List, [], ◌∷◌, map, length, get_or, Some, slice_get, refl, sym, ap, ◌∙◌, arith, add-one}
 use Rattle.std.proofs.lemmas.Option.{slice_get-get_or, slice_get-map}
 use Rattle.std.specs.Option.{option_map}
 use Rattle.rpg_program.specs.Object.{Object, SubroutineRow, subroutine_row}
-use Rattle.rpg_program.specs.Sections.{body_of, code_of, end_of, first_in, first_of, level_in, level_of}
+use Rattle.rpg_program.specs.Sections.{body_of, end_of, first_in, first_of, level_in}
 use Rattle.rpg_program.specs.declared.row.Subroutine.{Subroutine}
-use Rattle.rpg_program.specs.declared.section.Section.{Section}
 use Rattle.rpg_program.specs.declared.section.Section.TheVariants as sections
 use Rattle.rpg_rules.specs.Spans.{IsSpan}
-use Rattle.rpg_rules.specs.declared.spans.Span.{Span}
 
 pub detail_span : (p : Object) (n : ℕ) → n ≡ length p.detail → IsSpan p (record { section = sections.Detail; level = 0; first = 0; end = n })
 unfolding first_of end_of

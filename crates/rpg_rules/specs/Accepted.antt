@@ -1,5 +1,4 @@
 -- Programs that keep all rules.
-use Rattle.std.specs.Prelude.{ℕ}
 use Rattle.rpg_program.specs.Object.{Object}
 use Rattle.rpg_rules.specs.Least.{IsFaultless, IsLeast}
 use Rattle.rpg_rules.specs.Rules.{broken, number}

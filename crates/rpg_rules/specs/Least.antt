@@ -1,5 +1,5 @@
 -- Rules that rows of tables break, as a set of pairs, and the least of them: by rule, then by row.
-use Rattle.std.specs.Prelude.{◌≡◌, ℕ, ◌+◌, ◌<◌, ◌≤◌, ◌⊎◌, Bool, true, false, List, [], ◌∷◌, Option, None, Some, slice_get, if◌then◌else◌}
+use Rattle.std.specs.Prelude.{◌≡◌, ℕ, ◌+◌, ◌<◌, ◌≤◌, ◌⊎◌, Bool, true, List, [], ◌∷◌, Option, None, Some, slice_get, if◌then◌else◌}
 
 -- the first row that is broken, counted from n
 abbrev pub first_true : ℕ → List Bool → Option ℕ

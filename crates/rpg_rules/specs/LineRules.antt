@@ -1,5 +1,5 @@
 -- The rules of output lines.
-use Rattle.std.specs.Prelude.{ℕ, Bool, true, false, not, ◌&&◌, ◌||◌, ◌==◌, List, Option, None, Some}
+use Rattle.std.specs.Prelude.{ℕ, Bool, true, not, ◌&&◌, ◌==◌, Option}
 use Rattle.std.specs.List.{list_all, list_any}
 use Rattle.rpg_edit.specs.declared.code.Fill.{Fill}
 use Rattle.rpg_effect.specs.Forms.{decimals_of, form_at, is_text_constant, kind_of, length_of, same_kind}

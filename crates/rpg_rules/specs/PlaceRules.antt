@@ -1,5 +1,5 @@
 -- The rules of instructions, and of the subroutines that they stand in.
-use Rattle.std.specs.Prelude.{ℕ, ◌+◌, ◌-◌, Bool, true, false, not, ◌&&◌, ◌||◌, ◌==◌, nat_le, nat_lt, List, [], ◌∷◌, ◌++◌, map, length, Option, None, Some, is_some, slice_get}
+use Rattle.std.specs.Prelude.{ℕ, ◌+◌, ◌-◌, Bool, true, false, not, ◌&&◌, ◌||◌, ◌==◌, nat_lt, List, [], ◌∷◌, ◌++◌, map, length, Option, None, Some, is_some, slice_get}
 use Rattle.std.specs.List.{list_all, list_any}
 use Rattle.rpg_effect.specs.Control.{has_conditions}
 use Rattle.rpg_effect.specs.Forms.{form_at}
@@ -7,7 +7,7 @@ use Rattle.rpg_effect.specs.Instructions.{columns_of}
 use Rattle.rpg_effect.specs.Rows.{all_of, all_used, has_kind, holds_positions, is_current_table, is_good, is_two_sided, is_writable_use}
 use Rattle.rpg_effect.specs.declared.form.FieldForm.{FieldForm}
 use Rattle.rpg_effect.specs.declared.operation.Instruction.{Instruction}
-use Rattle.rpg_effect.specs.declared.operation.Instruction.TheVariants.{Act, Except, Branch, Call, Return}
+use Rattle.rpg_effect.specs.declared.operation.Instruction.TheVariants.{Branch, Call, Return}
 use Rattle.rpg_effect.specs.declared.operation.Operand.{Operand}
 use Rattle.rpg_effect.specs.declared.row.Marks.{Marks}
 use Rattle.rpg_effect.specs.declared.row.Marks.TheVariants.{Unmarked, Shown, Wanted, Sought}

@@ -1,6 +1,5 @@
 -- What the rules give to whoever runs an accepted program.
-use Rattle.std.specs.Prelude.{◌≡◌, ℕ, ◌-◌, ◌<◌, ◌≤◌, ◌&&◌, true, false, All, Option, None, Some, slice_get}
-use Rattle.std.specs.Option.{ForSome}
+use Rattle.std.specs.Prelude.{◌≡◌, ℕ, ◌<◌, ◌≤◌, true, All, None, Some}
 use Rattle.rpg_effect.specs.Forms.{form_at}
 use Rattle.rpg_effect.specs.Input.{TypeRow, input_fault}
 use Rattle.rpg_effect.specs.LineFaults.{AreRight, line_fault}

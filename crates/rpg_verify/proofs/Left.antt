@@ -1,5 +1,5 @@
 -- Rows of which some are left.
-use Rattle.std.proofs.Common.{◌≡◌, ℕ, suc, ◌+◌, ◌<◌, Bool, true, false, not, cond, List, ◌∷◌, map, drop, length, get_or, refl, sym, ap, ◌∙◌, add-one, drop-cons}
+use Rattle.std.proofs.Common.{◌≡◌, ℕ, suc, ◌+◌, ◌<◌, Bool, not, cond, List, ◌∷◌, map, drop, length, get_or, refl, sym, ap, ◌∙◌, add-one, drop-cons}
 use Rattle.rpg_effect.specs.Weights.{is_exception, is_in_cycle, lines_weight, type_weight, types_weight}
 use Rattle.rpg_effect.specs.declared.line.Time.{Time}
 use Rattle.rpg_effect.specs.declared.line.Time.TheVariants as times

@@ -1,5 +1,5 @@
 -- Path costs are the greatest sums, and `most` is above the costs that a spend leads to.
-use Rattle.std.proofs.Common.{◌≡◌, ℕ, zero, suc, ◌+◌, ◌-◌, ◌<◌, ◌≤◌, max, Bool, true, false, cond, List, [], ◌∷◌, length, Option, None, Some, slice_get, refl, sym, ap, ◌∙◌, subst, arith}
+use Rattle.std.proofs.Common.{◌≡◌, ℕ, zero, suc, ◌+◌, ◌-◌, ◌≤◌, Bool, true, false, cond, List, [], ◌∷◌, length, Some, slice_get, refl, sym, ap, ◌∙◌, subst, arith}
 use Rattle.std.specs.Prelude.{nat_le, slice_index}
 use Rattle.std.proofs.lemmas.Bool.{le-leb}
 use Rattle.rpg_effect.specs.declared.condition.Conditions.{Conditions}
@@ -15,7 +15,7 @@ use Rattle.rpg_rules.specs.Sound.{IsAt}
 use Rattle.rpg_verify.proofs.PathCosts.{costs_are}
 use Rattle.rpg_verify.proofs.Placing.{cost_there}
 use Rattle.rpg_verify.proofs.Sizes.{bound_few}
-use Rattle.rpg_verify.specs.Bound.{back_cost, bound, cost, cost_in, costs_at, main_most, most, most_at, most_back, most_called, most_in, stretch}
+use Rattle.rpg_verify.specs.Bound.{back_cost, cost, cost_in, costs_at, most, most_at, most_back, most_called, most_in, stretch}
 use Rattle.rpg_verify.specs.Greatest.{AreGreatest}
 use Rattle.rpg_verify.specs.Paths.{IsCost}
 use Rattle.rpg_verify.specs.Weighing.{weight}

@@ -1,5 +1,5 @@
 -- The cost of a place among the costs of all places.
-use Rattle.std.proofs.Common.{◌≡◌, ℕ, zero, suc, ◌+◌, ◌-◌, ◌<◌, ◌≤◌, Bool, true, false, cond, List, [], ◌∷◌, ◌++◌, length, Option, None, Some, slice_get, refl, sym, ap, ◌∙◌, subst, arith, length-append}
+use Rattle.std.proofs.Common.{◌≡◌, ℕ, zero, suc, ◌+◌, ◌-◌, ◌<◌, ◌≤◌, Bool, true, false, cond, List, [], ◌∷◌, ◌++◌, length, slice_get, refl, sym, ap, ◌∙◌, arith, length-append}
 use Rattle.std.specs.Prelude.{nat_le, slice_index}
 use Rattle.std.proofs.lemmas.Bool.{le-leb}
 use Rattle.std.proofs.lemmas.List.{get_or_append_left, get_or-append_right}
@@ -9,7 +9,7 @@ use Rattle.rpg_program.specs.Sections.{body_of, code_of, end_of, first_in, first
 use Rattle.rpg_program.specs.declared.section.Place.{Place}
 use Rattle.rpg_program.specs.declared.section.Section.{Section}
 use Rattle.rpg_program.specs.declared.section.Section.TheVariants.{Detail, Total, Subroutine}
-use Rattle.rpg_verify.specs.Bound.{cost, cost_in, costs, costs_at, costs_in, main_costs}
+use Rattle.rpg_verify.specs.Bound.{cost, costs, costs_at, costs_in, main_costs}
 use Rattle.rpg_verify.specs.Paths.{costs_from}
 use Rattle.rpg_verify.specs.Weighing.{weight}
 

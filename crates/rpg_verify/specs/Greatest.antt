@@ -1,7 +1,7 @@
 -- What path costs and the bound are, place by place.
 use Rattle.std.specs.Prelude.{ℕ, Bool, ◌<◌, ◌≤◌, ◌^◌}
 use Rattle.rpg_effect.specs.declared.condition.Conditions.{Conditions}
-use Rattle.rpg_effect.specs.declared.operation.Instruction.TheVariants.{Branch, Call}
+use Rattle.rpg_effect.specs.declared.operation.Instruction.TheVariants.{Branch}
 use Rattle.rpg_program.specs.Object.{Object}
 use Rattle.rpg_program.specs.Sections.{first_of}
 use Rattle.rpg_program.specs.declared.section.Place.{Place}

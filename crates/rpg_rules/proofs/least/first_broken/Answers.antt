@@ -1,4 +1,4 @@
-use Rattle.std.proofs.Common.{◌≡◌, ℕ, Option, Some, None, MatchOption, sym, ap, ◌∙◌, subst}
+use Rattle.std.proofs.Common.{◌≡◌, ℕ, Option, Some, None, MatchOption, sym, subst}
 use Rattle.std.specs.Option.{option_map}
 use Rattle.rpg_program.specs.Object.{Object, seen}
 use Rattle.rpg_rules.specs.Accepted.{IsAccepted, IsLeastBroken}

@@ -1,4 +1,4 @@
-use Rattle.std.proofs.Common.{rules, ◌≡◌, ◌+◌, length, Some, sym, ap, ◌∙◌, arith}
+use Rattle.std.proofs.Common.{rules, ◌≡◌, ◌+◌, length, Some, sym, ap, ◌∙◌}
 use Rattle.rpg_program.specs.Object.{seen}
 use Rattle.rpg_program.specs.declared.section.Section.TheVariants.{Total}
 use Rattle.rpg_rules.specs.Least.{first_true}

@@ -1,4 +1,4 @@
-use Rattle.std.proofs.Common.{rules, ◌≡◌, ◌+◌, ◌<◌, ◌≤◌, map, length, drop, get_or, Some, refl, sym, ap, ◌∙◌, subst, arith}
+use Rattle.std.proofs.Common.{rules, ◌≡◌, ◌+◌, ◌<◌, ◌≤◌, map, length, get_or, refl, sym, ap, ◌∙◌, subst, arith}
 use Rattle.rpg_program.specs.Object.{seen, subroutine_row}
 use Rattle.rpg_program.specs.Sections.{first_in, instructions_in}
 use Rattle.rpg_program.specs.declared.section.Section.TheVariants as sections

@@ -1,4 +1,4 @@
-use Rattle.std.proofs.Common.{◌≡◌, ◌-◌, map, slice_get, Option, None, Some, refl, sym, ap, ◌∙◌, arith}
+use Rattle.std.proofs.Common.{◌≡◌, ◌-◌, map, slice_get, None, Some, refl, sym, ap, ◌∙◌, arith}
 use Rattle.rpg_effect.specs.Values.{characters_of, held}
 use Rattle.rpg_program.specs.Object.{seen}
 use Rattle.rpg_rules.proofs.Values.{found_at, missing_at, word_found, word_missing}

@@ -1,4 +1,4 @@
-use Rattle.std.proofs.Common.{◌≡◌, ◌+◌, ◌*◌, ◌≤◌, ap, ◌∙◌, arith}
+use Rattle.std.proofs.Common.{◌≡◌, ◌*◌, ap, ◌∙◌, arith}
 use Rattle.rpg_program.specs.Object.{seen}
 use Rattle.rpg_verify.proofs.Sizes.{once_few, output_few, paid_by, types_light}
 use Rattle.rpg_verify.specs.Bound.{bound, most}

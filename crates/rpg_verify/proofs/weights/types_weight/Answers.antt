@@ -1,4 +1,4 @@
-use Rattle.std.proofs.Common.{◌≡◌, ◌+◌, ◌<◌, ◌≤◌, map, drop, length, get_or, sym, ap, ◌∙◌, subst, arith}
+use Rattle.std.proofs.Common.{◌≡◌, ◌+◌, ◌<◌, map, drop, length, get_or, subst, arith}
 use Rattle.rpg_effect.specs.Weights.{types_weight}
 use Rattle.rpg_program.specs.Object.{seen, type_row}
 use Rattle.rpg_verify.proofs.Left.{type_left}

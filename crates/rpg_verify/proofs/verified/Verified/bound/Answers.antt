@@ -1,4 +1,4 @@
-use Rattle.std.proofs.Common.{◌<◌, arith}
+use Rattle.std.proofs.Common.{arith}
 use Rattle.rpg_verify.proofs.Sizes.{bound_few}
 use Rattle.rpg_verify.proofs.verified.Verified.bound.Goals as goal
 
