@@ -1,8 +1,7 @@
 -- The laws of the format of the header, and what its numbers keep.
-use Rattle.std.proofs.Common.{◌≡◌, ℕ, ◌-◌, ◌^◌, ◌<◌, ◌≤◌, Bool, true, false, cond, Option, Some, None, Result, Ok, Err, refl, sym, ap, ◌∙◌, arith, inl, inr, leb, eqb, eqb-true, ne_eqb}
+use Rattle.std.proofs.Common.{◌≡◌, ℕ, ◌-◌, ◌^◌, ◌<◌, ◌≤◌, cond, Option, Some, None, Ok, Err, refl, sym, ap, ◌∙◌, arith, inl, inr, leb, eqb, eqb-true, ne_eqb}
 use Rattle.std.proofs.lemmas.Bool.{leb-true, le-leb, and_parts, and_from}
 use Rattle.std.specs.Option.{ForSome}
-use Rattle.rpg_format.specs.declared.fault.Code.{Code}
 use Rattle.rpg_format.specs.declared.fault.Code.TheVariants.{NotAllowed, Unused, Version}
 use Rattle.rpg_format.specs.Format.{two_bytes, pair, row}
 use Rattle.rpg_format.specs.Numbers.{is_between}

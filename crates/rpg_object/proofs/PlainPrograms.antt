@@ -1,6 +1,5 @@
 -- What the format of programs holds is a program in plain words, and back.
-use Rattle.std.proofs.Common.{◌≡◌, ℕ, ◌+◌, ◌-◌, ◌≤◌, List, length, refl, arith}
-use Rattle.std.specs.Prelude.{All}
+use Rattle.std.proofs.Common.{◌-◌, length, arith}
 use Rattle.rpg_format.specs.Format.{pair, row}
 use Rattle.rpg_program.specs.Kept.{IsInstructionRow, IsLineRow, IsProgram, IsTypeRow}
 use Rattle.rpg_program.specs.Object.{Object}

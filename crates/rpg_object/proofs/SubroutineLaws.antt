@@ -1,8 +1,8 @@
 -- The laws of the format of subroutines, and what subroutines keep in plain words.
-use Rattle.std.proofs.Common.{◌≡◌, ℕ, ◌+◌, ◌-◌, ◌<◌, ◌≤◌, zero, suc, List, [], ◌∷◌, ◌++◌, length, refl, sym, ap, ◌∙◌, append_assoc, arith}
+use Rattle.std.proofs.Common.{◌≡◌, ℕ, ◌≤◌, zero, suc, List, [], ◌∷◌, ◌++◌, length, refl, ap, ◌∙◌, append_assoc, arith}
 use Rattle.std.specs.Prelude.{All}
 use Rattle.rpg_effect.specs.declared.operation.Instruction.{Instruction}
-use Rattle.rpg_format.specs.Format.{Format, two_bytes, pair, row, table, times_with, keep, spelled_along, AllAlong}
+use Rattle.rpg_format.specs.Format.{two_bytes, pair, row, table, times_with, keep, spelled_along, AllAlong}
 use Rattle.rpg_format.specs.Numbers.{any_number, count, two}
 use Rattle.rpg_format.proofs.Laws.{IsFormat, pair_law, row_law, times_law, table_law}
 use Rattle.rpg_format.proofs.Rules.{any_number_law, count_law}

@@ -1,5 +1,5 @@
 -- The text of a program, table by table.
-use Rattle.std.proofs.Common.{◌≡◌, ℕ, List, ◌++◌, length, refl, sym, ap, ◌∙◌, append_assoc}
+use Rattle.std.proofs.Common.{◌≡◌, ℕ, List, ◌++◌, length, sym, ap, ◌∙◌, append_assoc}
 use Rattle.rpg_format.specs.Format.{pair, row, table}
 use Rattle.rpg_program.specs.Object.{Object}
 use Rattle.rpg_rows.specs.Instructions.{instruction}
