@@ -1,9 +1,7 @@
 -- The fields whose values are still to come, and those whose values are still to be written.
 use Rattle.std.proofs.Common.{◌≡◌, ℕ, zero, suc, ◌+◌, ◌<◌, List, [], ◌∷◌, length, drop, get_or, refl, sym, ap, ◌∙◌, add-one, drop-cons, arith}
-use Rattle.std.specs.Prelude.{All}
 use Rattle.rpg_effect.specs.declared.form.FieldForm.{FieldForm}
 use Rattle.rpg_effect.specs.Values.{Value}
-use Rattle.rpg_format.specs.Format.{Format}
 use Rattle.rpg_program.specs.Kept.{AreEntriesOf, AreValuesOf}
 use Rattle.rpg_object.specs.FirstValues.{entries, next_entries, later_fields}
 

@@ -1,6 +1,11 @@
 pub mod FieldLaws
 pub mod FieldTexts
 pub mod FieldsLeft
+pub mod HeaderLaws
+pub mod ObjectLaws
+pub mod PlainPrograms
+pub mod SubroutineLaws
 pub mod Tables
+pub mod Texts
 pub mod ValueLaws
 pub mod ZonedTexts

@@ -1,5 +1,5 @@
 -- The laws of the formats of first values, and what first values keep in plain words.
-use Rattle.std.proofs.Common.{◌≡◌, ℕ, zero, suc, ◌+◌, ◌^◌, ◌<◌, ◌≤◌, Bool, true, false, cond, List, [], ◌∷◌, ◌++◌, length, take, drop, Option, Some, None, Result, Ok, Err, ℤ, unsigned_abs, refl, sym, ap, subst, ◌∙◌, arith, inl, inr, leb, ltb, length-append}
+use Rattle.std.proofs.Common.{◌≡◌, ℕ, zero, suc, ◌^◌, ◌<◌, ◌≤◌, Bool, true, false, cond, List, [], ◌∷◌, ◌++◌, length, take, drop, Option, Some, None, Result, Ok, Err, ℤ, unsigned_abs, refl, sym, ap, subst, ◌∙◌, arith, inl, inr, leb, ltb, length-append}
 use Rattle.std.specs.Prelude.{All}
 use Rattle.std.proofs.lemmas.Bool.{le-ltb, ltb-false, leb-true, le-leb, and_parts, and_from}
 use Rattle.std.proofs.lemmas.List.{length-take-le, length_push, take-append-le, drop-append-le, take-append-drop}
@@ -22,7 +22,8 @@ use Rattle.rpg_format.proofs.Laws.{IsBytes, Takes, IsFormat, IsBytes-rest, furth
 use Rattle.rpg_format.proofs.Rules.{chosen, stands_for, value_is}
 use Rattle.rpg_program.specs.Kept.{IsCharacter, IsFieldRow, IsValueOf, AreEntriesOf, AreValuesOf}
 use Rattle.rpg_object.specs.FirstValues.{as_written, as_value, is_character, value_in, read_value, value_text, IsWrittenValue, value, entries, next_entries, later_fields, values}
-use Rattle.rpg_object.proofs.Tables.{all_from_table, table_from_all, all_head, all_tail}
+use Rattle.rpg_rows.proofs.Choices.{all_from_table, table_from_all}
+use Rattle.rpg_object.proofs.Tables.{all_head, all_tail}
 use Rattle.rpg_object.proofs.ZonedTexts.{number_in-zoned, number_in-below}
 
 -- a character passes the test, and back

@@ -1,6 +1,14 @@
 //! Object programs as bytes: what they spell, and which number is the first to break its rule.
 #![tactic(auto)]
 
+mod decoding;
+mod encoding;
 mod field;
 mod first_value;
 mod header;
+pub mod laws;
+mod subroutine;
+
+pub use decoding::{DecodeFault, decode};
+pub use encoding::encode;
+pub use rpg_format::fault::Code;

@@ -1,0 +1,143 @@
+-- The laws of the format of the header, and what its numbers keep.
+use Rattle.std.proofs.Common.{◌≡◌, ℕ, ◌-◌, ◌^◌, ◌<◌, ◌≤◌, cond, Option, Some, None, Ok, Err, refl, sym, ap, ◌∙◌, arith, inl, inr, leb, eqb, eqb-true, ne_eqb}
+use Rattle.std.proofs.lemmas.Bool.{leb-true, le-leb, and_parts, and_from}
+use Rattle.std.specs.Option.{ForSome}
+use Rattle.rpg_format.specs.declared.fault.Code.TheVariants.{NotAllowed, Unused, Version}
+use Rattle.rpg_format.specs.Format.{two_bytes, pair, row}
+use Rattle.rpg_format.specs.Numbers.{is_between}
+use Rattle.rpg_format.proofs.Laws.{IsFormat, IsRule, two_law, pair_law, row_law}
+use Rattle.rpg_format.proofs.Rules.{chosen, stands_for, value_is, guarded, number_law, count_law, only_number_law}
+use Rattle.rpg_program.specs.Kept.{IsOverflowIndicator}
+use Rattle.rpg_object.specs.declared.header.Counts.{Counts}
+use Rattle.rpg_object.specs.declared.header.Header.{Header}
+use Rattle.rpg_object.specs.declared.header.Settings.{Settings}
+use Rattle.rpg_object.specs.Header.{overflow_of, overflow_number, settings, most_instructions, counts, header}
+use Rattle.rpg_rows.proofs.Choices.{within, counted, between, few}
+
+overflow_rule : IsRule overflow_of overflow_number
+overflow_rule n x e =
+    elim (chosen (eqb n 0) (stands_for None) (cond (is_between 112 119 n) (stands_for (Some n)) (Err NotAllowed)) (stands_for x) e) [
+      | inl w ↦ ap overflow_number (sym (value_is None x w.1)) ∙ sym (eqb-true _ _ w.0)
+      | inr w ↦ sym (ap overflow_number (guarded (is_between 112 119 n) NotAllowed (Some n) x w.1))
+    ]
+
+settings_law : IsFormat settings
+unfolding settings
+settings_law =
+    row_law _ _ _ (λ a h. refl) (λ x. refl)
+    (pair_law _ _ (number_law (is_between 1 65535)) (λ allowance.
+    pair_law _ _ (number_law (is_between 1 9999)) (λ record_length.
+    pair_law _ _ (number_law (is_between 0 132)) (λ printer_length.
+    pair_law _ _ (number_law (is_between 0 9999)) (λ disk_length.
+    two_law overflow_of overflow_number overflow_rule)))))
+
+counts_law : IsFormat counts
+unfolding counts
+counts_law =
+    row_law _ _ _ (λ a h. refl) (λ x. refl)
+    (pair_law _ _ (count_law 4000) (λ f. pair_law _ _ (count_law 200) (λ t. pair_law _ _ (count_law 1000) (λ l.
+    pair_law _ _ (count_law most_instructions) (λ d. pair_law _ _ (count_law (most_instructions - d)) (λ n. count_law 100))))))
+
+pub header_law : IsFormat header
+unfolding header
+header_law =
+    row_law _ _ _ (λ a h. refl) (λ x. refl)
+    (pair_law _ _ (only_number_law 1 Version) (λ version. pair_law _ _ settings_law (λ s. pair_law _ _ counts_law (λ c. only_number_law 0 Unused))))
+
+-- ---- what the header keeps
+
+pub record AreSettings (s : Settings) : Type 0 where
+  pub lowest_allowance : 1 ≤ s.allowance
+  pub highest_allowance : s.allowance ≤ 65535
+  pub shortest_record : 1 ≤ s.record_length
+  pub longest_record : s.record_length ≤ 9999
+  pub widest_line : s.printer_length ≤ 132
+  pub longest_disk_record : s.disk_length ≤ 9999
+  pub overflow : ForSome s.overflow IsOverflowIndicator
+
+pub record AreCounts (c : Counts) : Type 0 where
+  pub few_fields : c.fields ≤ 4000
+  pub few_types : c.types ≤ 200
+  pub few_lines : c.lines ≤ 1000
+  pub few_detail : c.detail ≤ 8192
+  pub few_total : c.total ≤ 8192 - c.detail
+  pub few_subroutines : c.subroutines ≤ 100
+
+overflow_kept : (o : Option ℕ) → overflow_of (overflow_number o) ≡ Ok o → ForSome o IsOverflowIndicator
+overflow_kept None e n is = absurd cc
+overflow_kept (Some m) e n is =
+    let same : m ≡ n = cc in
+    elim (chosen (eqb m 0) (stands_for None) (cond (is_between 112 119 m) (stands_for (Some m)) (Err NotAllowed)) (stands_for (Some m)) e) [
+      | inl w ↦ absurd (let k = w.1 in cc)
+      | inr w ↦ elim (chosen (is_between 112 119 m) (stands_for (Some m)) (Err NotAllowed) (stands_for (Some m)) w.1) [
+        | inl u ↦ let k = and_parts (leb 112 m) (leb m 119) u.0 in let low = leb-true _ _ k.0 in let high = leb-true _ _ k.1 in record { lowest = omega arith; highest = omega arith }
+        | inr u ↦ absurd (let k = u.1 in cc)
+      ]
+    ]
+
+pub settings_kept : (s : Settings) → settings.Holds s → AreSettings s
+unfolding settings row pair two_bytes
+settings_kept s h =
+    let allowance = within 1 65535 s.allowance h.0.0 in
+    let record_length = within 1 9999 s.record_length h.1.0.0 in
+    record {
+      lowest_allowance = allowance.0;
+      highest_allowance = allowance.1;
+      shortest_record = record_length.0;
+      longest_record = record_length.1;
+      widest_line = (within 0 132 s.printer_length h.1.1.0.0).1;
+      longest_disk_record = (within 0 9999 s.disk_length h.1.1.1.0.0).1;
+      overflow = overflow_kept s.overflow h.1.1.1.1.0;
+    }
+
+pub counts_kept : (c : Counts) → counts.Holds c → AreCounts c
+unfolding counts row pair two_bytes
+counts_kept c h = record {
+  few_fields = counted 4000 c.fields h.0.0;
+  few_types = counted 200 c.types h.1.0.0;
+  few_lines = counted 1000 c.lines h.1.1.0.0;
+  few_detail = counted 8192 c.detail h.1.1.1.0.0;
+  few_total = counted (8192 - c.detail) c.total h.1.1.1.1.0.0;
+  few_subroutines = counted 100 c.subroutines h.1.1.1.1.1.0;
+}
+
+pub header_kept : (h : Header) → header.Holds h → AreSettings h.settings × AreCounts h.counts
+unfolding header row pair
+header_kept h holds = (settings_kept h.settings holds.1.0, counts_kept h.counts holds.1.1.0)
+
+-- ---- what keeps that is a header
+
+overflow_from : (o : Option ℕ) → ForSome o IsOverflowIndicator → (overflow_of (overflow_number o) ≡ Ok o) × (overflow_number o < 2 ^ 16)
+overflow_from None h = (refl, omega arith)
+overflow_from (Some n) h =
+    let i = h n refl in
+    (rw (ne_eqb n 0 (omega (arith, i.lowest)), and_from (leb 112 n) (leb n 119) (le-leb 112 n i.lowest) (le-leb n 119 i.highest)) refl, omega (arith, i.highest))
+
+settings_from : (s : Settings) → AreSettings s → settings.Holds s
+unfolding settings row pair two_bytes
+settings_from s h =
+    let a = h.highest_allowance in let b = h.longest_record in let c = h.widest_line in let d = h.longest_disk_record in (
+      (between 1 65535 s.allowance h.lowest_allowance h.highest_allowance, omega arith),
+      (
+        (between 1 9999 s.record_length h.shortest_record h.longest_record, omega arith),
+        (
+          (between 0 132 s.printer_length (omega arith) h.widest_line, omega arith),
+          ((between 0 9999 s.disk_length (omega arith) h.longest_disk_record, omega arith), overflow_from s.overflow h.overflow),
+        ),
+      ),
+    )
+
+counts_from : (c : Counts) → AreCounts c → counts.Holds c
+unfolding counts row pair two_bytes
+counts_from c h =
+    let f = h.few_fields in let t = h.few_types in let l = h.few_lines in let d = h.few_detail in let n = h.few_total in let s = h.few_subroutines in (
+      (few 4000 c.fields f, omega arith),
+      (
+        (few 200 c.types t, omega arith),
+        ((few 1000 c.lines l, omega arith), ((few 8192 c.detail d, omega arith), ((few (8192 - c.detail) c.total n, omega arith), (few 100 c.subroutines s, omega arith)))),
+      ),
+    )
+
+pub header_from : (h : Header) → AreSettings h.settings → AreCounts h.counts → header.Holds h
+unfolding header row pair two_bytes
+header_from h s c = ((refl, omega arith), (settings_from h.settings s, (counts_from h.counts c, (refl, omega arith))))

@@ -1,0 +1,103 @@
+-- Whole object programs: the bytes that spell them, and what other bytes are answered.
+use Rattle.std.specs.Prelude.{◌≡◌, ℕ, ◌-◌, ◌≤◌, List, [], ◌∷◌, ◌++◌, length, drop, codes, Bool, true, false, ◌&&◌, ◌==◌, if◌then◌else◌, Option, Some, None, Result, Ok, Err}
+use Rattle.rpg_effect.specs.Input.{TypeRow}
+use Rattle.rpg_effect.specs.Values.{Value}
+use Rattle.rpg_effect.specs.declared.form.FieldForm.{FieldForm}
+use Rattle.rpg_effect.specs.declared.operation.Instruction.{Instruction}
+use Rattle.rpg_format.specs.declared.fault.Code.{Code}
+use Rattle.rpg_format.specs.declared.fault.Code.TheVariants.{NoObject, CutShort, LeftOver}
+use Rattle.rpg_format.specs.declared.fault.Fault.{Fault}
+use Rattle.rpg_format.specs.Format.{Format, pair, row, table, fault_at, ◌>>=◌}
+use Rattle.rpg_program.specs.Object.{LineRow, Object, SubroutineRow}
+use Rattle.rpg_rows.specs.Instructions.{instruction}
+use Rattle.rpg_rows.specs.Lines.{line}
+use Rattle.rpg_rows.specs.Types.{record_type}
+use Rattle.rpg_object.specs.declared.header.Counts.{Counts}
+use Rattle.rpg_object.specs.declared.header.Header.{Header}
+use Rattle.rpg_object.specs.declared.header.Settings.{Settings}
+use Rattle.rpg_object.specs.Fields.{fields}
+use Rattle.rpg_object.specs.FirstValues.{values}
+use Rattle.rpg_object.specs.Header.{header, most_instructions}
+use Rattle.rpg_object.specs.Subroutines.{subroutines}
+
+abbrev pub Tables : Type 0
+Tables = List FieldForm × (List (List Value) × (List (TypeRow ℕ) × (List LineRow × (List (Instruction ℕ) × (List (Instruction ℕ) × List SubroutineRow)))))
+
+-- fields, first values, types, lines, detail, total, subroutines
+unfoldable pub tables : Counts → Format Tables
+tables c =
+    pair (fields c.fields) (λ fs.
+    pair (values fs) (λ vs.
+    pair (table c.types record_type) (λ ts.
+    pair (table c.lines line) (λ ls.
+    pair (table c.detail instruction) (λ detail.
+    pair (table c.total instruction) (λ total.
+    subroutines c.subroutines (most_instructions - c.detail - c.total)))))))
+
+-- the program of a header and its tables
+abbrev pub object_of : Header × Tables → Object
+object_of p = record {
+  allowance = p.0.settings.allowance;
+  record_length = p.0.settings.record_length;
+  printer_length = p.0.settings.printer_length;
+  disk_length = p.0.settings.disk_length;
+  overflow = p.0.settings.overflow;
+  fields = p.1.0;
+  values = p.1.1.0;
+  types = p.1.1.1.0;
+  lines = p.1.1.1.1.0;
+  detail = p.1.1.1.1.1.0;
+  total = p.1.1.1.1.1.1.0;
+  subroutines = p.1.1.1.1.1.1.1;
+}
+
+abbrev pub settings_of : Object → Settings
+settings_of p = record { allowance = p.allowance; record_length = p.record_length; printer_length = p.printer_length; disk_length = p.disk_length; overflow = p.overflow }
+
+abbrev pub counts_of : Object → Counts
+counts_of p = record { fields = length p.fields; types = length p.types; lines = length p.lines; detail = length p.detail; total = length p.total; subroutines = length p.subroutines }
+
+abbrev pub header_of : Object → Header
+header_of p = record { settings = settings_of p; counts = counts_of p }
+
+abbrev pub tables_of : Object → Tables
+tables_of p = (p.fields, (p.values, (p.types, (p.lines, (p.detail, (p.total, p.subroutines))))))
+
+unfoldable pub body : Format Object
+body = row object_of (λ p. (header_of p, tables_of p)) (pair header (λ h. tables h.counts))
+
+-- ---- whole objects
+
+abbrev pub name : List ℕ
+name = codes "RPGOBJ"
+
+-- the bytes of an object program
+abbrev pub spelling : Object → List ℕ
+spelling p = name ++ body.spelling p
+
+abbrev pub ended : Object × List ℕ → Result Object Fault
+ended (p, []) = Ok p
+ended (p, b ∷ rest) = Err (fault_at (b ∷ rest) LeftOver)
+
+abbrev pub begins_with : List ℕ → List ℕ → Bool
+begins_with [] bytes = true
+begins_with (x ∷ xs) [] = false
+begins_with (x ∷ xs) (b ∷ bytes) = x == b && begins_with xs bytes
+
+-- the program that bytes spell, or their first fault
+unfoldable pub reading : List ℕ → Result Object Fault
+reading bytes = if begins_with name bytes then (body.reading (drop 6 bytes) >>= ended) else Err (fault_at bytes NoObject)
+
+-- ---- faults by their offsets
+
+abbrev pub fault_in : List ℕ → Result Object Fault → Option (ℕ × Code)
+fault_in bytes (Ok p) = None
+fault_in bytes (Err f) = Some (length bytes - f.left, f.code)
+
+-- the offset and the code of the first number that breaks its rule
+unfoldable pub first_fault : List ℕ → Option (ℕ × Code)
+first_fault bytes = fault_in bytes (reading bytes)
+
+-- Bytes behind a fault change neither its offset nor its code, unless they may complete a number or the name that is cut short.
+abbrev pub FaultStays : List ℕ → List ℕ → Type 0
+FaultStays bytes more = (offset : ℕ) (code : Code) → first_fault bytes ≡ Some (offset, code) → (code ≡ CutShort → ⊥) → (code ≡ NoObject → 6 ≤ length bytes) → first_fault (bytes ++ more) ≡ Some (offset, code)
