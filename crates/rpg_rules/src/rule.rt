@@ -1,5 +1,7 @@
 //! The rules.
 
+ghost use Rattle.std.specs.Prelude.{◌≡◌};
+
 /// A rule of record types.
 #[derive(Clone, Copy)]
 pub enum TypeRule {
@@ -82,4 +84,40 @@ pub enum Rule {
 pub struct BrokenRule {
     pub rule: Rule,
     pub row: usize,
+}
+
+impl Rule {
+    ghost use Rattle.rpg_rules.specs.Rules as rules;
+
+    /// The number in the rule's name: 21 for V21.
+    pub fn number(self) -> u8
+        ensures { result ≡ rules.number self }
+    {
+        match self {
+            Rule::Overflow => 1,
+            Rule::Line(LineRule::V2) => 2,
+            Rule::Type(TypeRule::V3) => 3,
+            Rule::Type(TypeRule::V4) => 4,
+            Rule::Type(TypeRule::V5) => 5,
+            Rule::Type(TypeRule::V6) => 6,
+            Rule::Type(TypeRule::V7) => 7,
+            Rule::Line(LineRule::V8) => 8,
+            Rule::Line(LineRule::V9) => 9,
+            Rule::Line(LineRule::V10) => 10,
+            Rule::Line(LineRule::V11) => 11,
+            Rule::Line(LineRule::V12) => 12,
+            Rule::Line(LineRule::V13) => 13,
+            Rule::Line(LineRule::V14) => 14,
+            Rule::Line(LineRule::V15) => 15,
+            Rule::Place(PlaceRule::V16) => 16,
+            Rule::Place(PlaceRule::V17) => 17,
+            Rule::Place(PlaceRule::V18) => 18,
+            Rule::Place(PlaceRule::V19) => 19,
+            Rule::Place(PlaceRule::V20) => 20,
+            Rule::Place(PlaceRule::V21) => 21,
+            Rule::Place(PlaceRule::V22) => 22,
+            Rule::Subroutine(SubroutineRule::V23) => 23,
+            Rule::Subroutine(SubroutineRule::V24) => 24,
+        }
+    }
 }

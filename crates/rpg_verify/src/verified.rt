@@ -38,6 +38,7 @@ impl Model for Verified {
 }
 
 /// Why a program isn't verified.
+#[derive(Clone, Copy)]
 pub enum VerifyFault {
     /// The least rule that a row breaks, and the first such row. Rows are counted from 0 in the rule's table.
     Refused { rule: Rule, row: usize },
