@@ -29,6 +29,8 @@ pub struct Case<'a> {
     changes: Vec<Change<'a>>,
     /// Where the bytes are cut off, if they are.
     length: Option<usize>,
+    /// Whether the rules are to be told of the program.
+    pub is_verified: bool,
     part: Part,
 }
 
@@ -39,6 +41,7 @@ impl<'a> Case<'a> {
             object: Vec::new(alloc),
             changes: Vec::new(alloc),
             length: None,
+            is_verified: false,
             part: Part::Prose,
         }
     }
@@ -48,6 +51,7 @@ impl<'a> Case<'a> {
         self.name = name;
         self.changes.clear();
         self.length = None;
+        self.is_verified = false;
         self.part = Part::Prose;
     }
 
@@ -60,7 +64,7 @@ impl<'a> Case<'a> {
         Ok(())
     }
 
-    /// What the lines behind a mark are: `object`, `byte N`, and nothing behind `length N`.
+    /// What the lines behind a mark are: `object`, `byte N`, and nothing behind `length N` and `verify`.
     fn turn(&mut self, mark: &str) {
         let (word, value) = mark.split_once(' ').unwrap_or((mark, ""));
         self.part = Part::Prose;
@@ -71,6 +75,7 @@ impl<'a> Case<'a> {
             }
             ("byte", Ok(at)) => self.part = Part::Change(at),
             ("length", Ok(length)) => self.length = Some(length),
+            ("verify", _) => self.is_verified = true,
             _ => {}
         }
     }

@@ -1,4 +1,4 @@
-//! Object programs by hand, decoded and encoded: prints for each case what decoding answers.
+//! Object programs by hand, decoded and encoded, and verified where a case asks for it: prints for each case what is answered.
 //!
 //! README.md says how a file of cases is written.
 #![tactic(auto)]
@@ -8,20 +8,44 @@ mod hex;
 
 use case::Case;
 use rpg_object::{decode, encode};
+use rpg_program::Program;
+use rpg_verify::{VerifyFault, verify};
 use std::{env, fs, io};
 
-/// What decoding answers, and whether encoding gives the bytes back.
-fn say<R: Print + AllocGlobal>(rt: &R, name: &str, bytes: &[u8]) -> io::Result<()> {
-    match decode(rt.alloc(), bytes) {
-        Ok(program) => {
-            let again = encode(rt.alloc(), &program)?;
-            if again.as_slice() == bytes {
-                println!(rt; "{name}: again")
-            } else {
-                println!(rt; "{name}: other bytes")
-            }
+/// What decoding answers, whether encoding gives the bytes back, and what the rules say where that is asked.
+fn say<R: Print + AllocGlobal>(
+    rt: &R,
+    name: &str,
+    bytes: &[u8],
+    is_verified: bool,
+) -> io::Result<()> {
+    let program = match decode(rt.alloc(), bytes) {
+        Ok(program) => program,
+        Err(fault) => return println!(rt; "{name}: {fault}"),
+    };
+    let again = encode(rt.alloc(), &program)?;
+    if again.as_slice() != bytes {
+        return println!(rt; "{name}: other bytes");
+    }
+    if is_verified {
+        say_rules(rt, name, program)
+    } else {
+        println!(rt; "{name}: again")
+    }
+}
+
+/// What the rules say of a program.
+fn say_rules<R: Print + AllocGlobal>(rt: &R, name: &str, program: Program) -> io::Result<()> {
+    match verify(rt.alloc(), program) {
+        Ok(accepted) => {
+            let bound = accepted.bound();
+            println!(rt; "{name}: again, accepted, bound {bound}")
         }
-        Err(fault) => println!(rt; "{name}: {fault}"),
+        Err((_, VerifyFault::Refused { rule, row })) => {
+            let number = rule.number();
+            println!(rt; "{name}: again, refused: V{number} row {row}")
+        }
+        Err((_, VerifyFault::NoMemory)) => println!(rt; "{name}: no memory"),
     }
 }
 
@@ -46,7 +70,7 @@ fn say_case<R: Print + AllocGlobal>(rt: &R, case: &Case<'_>) -> io::Result<()> {
         return Ok(());
     }
     let bytes = case.bytes(rt.alloc())?;
-    say(rt, case.name, &bytes)
+    say(rt, case.name, &bytes, case.is_verified)
 }
 
 fn main(rt: HostRuntime) -> io::Result<()> {
