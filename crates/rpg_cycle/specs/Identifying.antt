@@ -1,5 +1,5 @@
 -- Which type a record is of.
-use Rattle.std.specs.Prelude.{ℕ, ◌+◌, ◌-◌, Bool, true, false, not, ◌&&◌, ◌==◌, nat_le, List, [], ◌∷◌, ◌++◌, length, replicate, slice_index_or, if◌then◌else◌}
+use Rattle.std.specs.Prelude.{ℕ, ◌+◌, ◌-◌, Bool, not, ◌&&◌, ◌==◌, nat_le, List, [], ◌∷◌, ◌++◌, length, replicate, slice_index_or, if◌then◌else◌}
 use Rattle.std.specs.List.{list_all}
 use Rattle.rpg_effect.specs.Input.{TypeRow}
 use Rattle.rpg_effect.specs.declared.input.RecordCode.{RecordCode}

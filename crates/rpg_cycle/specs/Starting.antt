@@ -6,7 +6,7 @@ use Rattle.std.specs.Ordering.{nat_cmp}
 use Rattle.rpg_cycle.specs.Indicators.{first_page, level_zero}
 use Rattle.rpg_decimal.specs.Fraction.{with_decimals}
 use Rattle.rpg_effect.specs.Forms.{is_date}
-use Rattle.rpg_effect.specs.Values.{Value, Number}
+use Rattle.rpg_effect.specs.Values.{Number}
 use Rattle.rpg_effect.specs.World.{Fields, World, with_value}
 use Rattle.rpg_effect.specs.declared.form.FieldForm.{FieldForm}
 use Rattle.rpg_machine.specs.Config.{Config}

@@ -1,5 +1,4 @@
 -- The world that a memory stands for.
-use Rattle.std.specs.Prelude.{ℕ}
 use Rattle.std.specs.Ordering.{nat_cmp}
 use Rattle.rpg_decimal.specs.Fraction.{Fraction, with_decimals}
 use Rattle.rpg_decimal.specs.declared.num.Rest.{Rest}

@@ -1,7 +1,6 @@
 -- What a search finds is among the positions that it goes through, and fits where it goes.
-use Rattle.std.proofs.Common.{◌≡◌, ℕ, zero, suc, pos, ◌+◌, ◌-◌, ◌≤◌, ◌<◌, ◌^◌, unsigned_abs, Bool, true, false, ◌&&◌, cond, nat_le, List, [], ◌∷◌, reverse, Option, None, Some, IfSome, Ordering, nat_cmp, Less, Equal, Greater, refl, sym, ap, ◌∙◌, subst, arith, leb-true}
+use Rattle.std.proofs.Common.{◌≡◌, ℕ, zero, suc, pos, ◌+◌, ◌-◌, ◌≤◌, ◌<◌, ◌^◌, unsigned_abs, Bool, true, false, ◌&&◌, cond, nat_le, List, reverse, Option, None, Some, IfSome, Ordering, nat_cmp, Less, Equal, Greater, refl, sym, ap, ◌∙◌, subst, arith, leb-true}
 use Rattle.std.proofs.Math.Nat.{pow-le-pow_right}
-use Rattle.std.proofs.lemmas.List.{reverse-append}
 use Rattle.std.proofs.lemmas.Option.{same_Some}
 use Rattle.std.specs.FinMap as map
 use Rattle.std.specs.List.{find, range_with_len}

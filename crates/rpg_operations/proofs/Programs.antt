@@ -1,12 +1,12 @@
 -- The fields of an object program.
-use Rattle.std.proofs.Common.{◌≡◌, ℕ, zero, suc, ◌≤◌, ◌<◌, List, Option, None, Some, slice_get, length, arith, sym, ap, ◌∙◌, subst, refl}
+use Rattle.std.proofs.Common.{◌≡◌, ℕ, zero, suc, ◌≤◌, ◌<◌, List, Some, length, sym, ◌∙◌, subst}
 use Rattle.std.specs.Prelude.{All, slice_index_or}
 use Rattle.std.proofs.lemmas.Option.{same_Some, slice_get_within, slice_get-get_or}
 use Rattle.rpg_effect.specs.Forms.{form_at}
 use Rattle.rpg_effect.specs.declared.form.FieldForm.{FieldForm}
 use Rattle.rpg_effect.specs.declared.form.Kind.{Kind}
 use Rattle.rpg_effect.specs.declared.form.Kind.TheVariants as kinds
-use Rattle.rpg_operations.specs.Good.{AreForms, IsNumeric}
+use Rattle.rpg_operations.specs.Good.{AreForms}
 use Rattle.rpg_program.specs.Kept.{AreDecimals, IsFieldRow, IsProgram, length_limit}
 use Rattle.rpg_program.specs.Object.{Object}
 
