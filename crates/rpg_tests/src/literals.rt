@@ -15,7 +15,7 @@ fn literal(alloc: Global, text: &str) -> Result<Literal, Fail> {
     let [card] = source.as_slice() else {
         return Err("no card".into());
     };
-    match card.c()?.factor_2 {
+    match card.c().ok().ok_or("a bad column")?.factor_2 {
         Some(Factor::Literal(literal)) => Ok(literal),
         Some(Factor::Name(_)) | None => Err("no literal".into()),
     }
@@ -120,7 +120,7 @@ fn constants_stand_where_no_field_is_named(rt: HostRuntime) -> Result<(), Fail> 
         let [card] = source.as_slice() else {
             return Err("no card".into());
         };
-        let OutputSpec::Field(field) = card.o()? else {
+        let OutputSpec::Field(field) = card.o().ok().ok_or("a bad column")? else {
             return Err("no field".into());
         };
         let is_value = match &field.constant {

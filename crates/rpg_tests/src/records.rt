@@ -89,7 +89,7 @@ fn indicators_have_numbers_from_1_to_129(rt: HostRuntime) -> Result<(), Fail> {
         let [card] = source.as_slice() else {
             return Err("no card".into());
         };
-        let InputSpec::Type(record) = card.i()? else {
+        let InputSpec::Type(record) = card.i().ok().ok_or("a bad column")? else {
             return Err("no type".into());
         };
         let Some(indicator) = record.indicator else {
