@@ -1,5 +1,5 @@
 -- The answer to each outcome, the lines of answers, and what the program prints.
-pub use Rattle.rpg_engine.specs.Engine
+pub use Rattle.old_engine.specs.Engine
 pub mod Answers
 pub mod Outcomes
 pub mod Saying

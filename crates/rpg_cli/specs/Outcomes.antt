@@ -6,9 +6,9 @@ use Rattle.old_cycle.specs.declared.flow.JobEnd.{JobEnd}
 use Rattle.old_cycle.specs.declared.flow.JobEnd.TheVariants as ending
 use Rattle.rpg_cli.specs.declared.answer.Answer.{Answer}
 use Rattle.rpg_cli.specs.declared.answer.Answer.TheVariants as answer
-use Rattle.rpg_engine.specs.declared.fault.RunFault.{RunFault}
-use Rattle.rpg_engine.specs.declared.fault.RunFault.TheVariants as faults
-use Rattle.rpg_engine.specs.declared.report.Report.{Report}
+use Rattle.old_engine.specs.declared.fault.RunFault.{RunFault}
+use Rattle.old_engine.specs.declared.fault.RunFault.TheVariants as faults
+use Rattle.old_engine.specs.declared.report.Report.{Report}
 
 abbrev pub answer_to_ending : JobEnd → ℕ → Answer
 answer_to_ending ending.EndOfJob cycles = answer.EndOfJob cycles

@@ -2,7 +2,7 @@
 use Rattle.std.specs.Prelude.{◌≡◌, ℕ, ◌≤◌, ◌⊎◌, List, Option}
 use Rattle.std.specs.Io.KnownBytes.{Appends, Keeps}
 use Rattle.rpg_cli.specs.Answers.{exit_status, line_text}
-use Rattle.rpg_engine.specs.Sending.{AppendsPrefix}
+use Rattle.old_engine.specs.Sending.{AppendsPrefix}
 use Rattle.rpg_text.specs.Lines.{with_line_feed}
 use Rattle.rpg_cli.specs.declared.answer.Answer.{Answer}
 

@@ -7,7 +7,7 @@ use old_cycle::JobEnd;
 use old_effect::outcome::Wrong;
 use old_object::DecodeFault;
 use rpg_compile::{CompileFault, SourceCode};
-use rpg_engine::{ReadFault, Report, RunFault};
+use old_engine::{ReadFault, Report, RunFault};
 use rpg_format::fault::Code;
 
 /// How a command ended.
@@ -75,7 +75,7 @@ impl From<RunFault> for Answer {
 }
 
 impl From<DecodeFault> for Answer {
-    ghost use Rattle.rpg_engine.specs.Engine.{decode_fault};
+    ghost use Rattle.old_engine.specs.Engine.{decode_fault};
     ghost use Rattle.rpg_cli.specs.Outcomes.{answer_to_fault};
 
     ghost from_gives = { λ fault answer. answer ≡ answer_to_fault (decode_fault fault) };
@@ -86,7 +86,7 @@ impl From<DecodeFault> for Answer {
 }
 
 impl From<ReadFault> for Answer {
-    ghost use Rattle.rpg_engine.specs.Engine.{read_fault};
+    ghost use Rattle.old_engine.specs.Engine.{read_fault};
     ghost use Rattle.rpg_cli.specs.Outcomes.{answer_to_fault};
 
     ghost from_gives = { λ fault answer. answer ≡ answer_to_fault (read_fault fault) };

@@ -3,7 +3,7 @@
 use crate::answer::Answer;
 use crate::translation::compile_to_bytes;
 use old_object::decode;
-use rpg_engine::{Report, execute, read_all, send};
+use old_engine::{Report, execute, read_all, send};
 use rpg_words::{CompileWords, RunWords};
 use std::alloc::Global;
 use std::io::{Error, ErrorKind, Read, Write};

@@ -12,7 +12,7 @@ pub use answer::{Answer, Line};
 pub use old_cycle::{Job, run_records};
 pub use program::{main_with, run};
 pub use rpg_compile::{CompileFault, SourceCode};
-pub use rpg_engine::{Report, RunFault, execute, runs_are_one};
+pub use old_engine::{Report, RunFault, execute, runs_are_one};
 pub use rpg_text::lines_end_at_line_feeds;
 pub use text::line;
 pub use translation::compile_to_bytes;

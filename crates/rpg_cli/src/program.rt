@@ -5,7 +5,7 @@ ghost use Rattle.rpg_cli.specs.Saying.{PrintsALine, Says};
 use crate::answer::Answer;
 use crate::files::{compile_files, run_files};
 use crate::text::line;
-use rpg_engine::send_line;
+use old_engine::send_line;
 use rpg_words::{Request, request_of};
 use std::io::Write;
 use std::process::ExitCode;

@@ -4,7 +4,7 @@ ghost use Rattle.std.specs.Prelude.{◌≡◌, ◌<◌, None, IfErr, IfOk};
 ghost use Rattle.rpg_compile.specs.Compile.{Compiles, IsRefusal};
 ghost use Rattle.old_object.specs.Object.{Object};
 ghost use Rattle.old_object.specs.Program.{first_fault};
-ghost use Rattle.rpg_engine.specs.Engine.{Spells};
+ghost use Rattle.old_engine.specs.Engine.{Spells};
 
 use old_object::encode;
 use rpg_compile::{CompileFault, compile};

@@ -1,26 +1,20 @@
 -- One cycle of a job: its nine phases, one after another.
 use Rattle.std.specs.Prelude.{◌≡◌, ℕ, Bool, true, false, not, ◌&&◌, ◌||◌, List, [], ◌∷◌, length, slice_get, Option, None, Some, is_none, if◌then◌else◌}
 use Rattle.std.specs.List.{list_all}
-use Rattle.std.specs.Ordering.{nat_cmp}
 use Rattle.rpg_cycle.specs.Earlier.{Left, Selected, control_fields, is_any, last_of_level, left_by}
 use Rattle.rpg_cycle.specs.Ends.{End, GoesOn, EndOfJob, Halt, Wrong, end_of}
 use Rattle.rpg_cycle.specs.Identifying.{Trial, IsOf, IsOfNone, Misplaced, filled, identified, is_good, trial_weight}
 use Rattle.rpg_cycle.specs.Indicators.{any_on, first_page, halt_indicators, is_on, last_record, level_indicators, with_all, with_levels, with_one, with_type, without_types}
 use Rattle.rpg_cycle.specs.Levels.{bytes_of, differs, highest_broken, is_inside}
-use Rattle.rpg_cycle.specs.declared.time.OutputTime.{OutputTime}
-use Rattle.rpg_cycle.specs.declared.time.OutputTime.TheVariants as times
-use Rattle.rpg_effect.specs.Effect.{Effect}
 use Rattle.rpg_effect.specs.Ends as effects
-use Rattle.rpg_effect.specs.Forms.{form_at}
-use Rattle.rpg_effect.specs.Input.{TypeRow, record_in}
-use Rattle.rpg_effect.specs.Lines.{detail_output, overflow_output, total_output}
-use Rattle.rpg_effect.specs.Weights.{detail_weight, overflow_weight, total_weight}
-use Rattle.rpg_effect.specs.World.{World}
-use Rattle.rpg_effect.specs.declared.input.InputField.{InputField}
+use Rattle.rpg_effect.specs.Input.{TypeRow}
 use Rattle.rpg_machine.specs.Config.{Config, Output, charged, no_output, with_more}
-use Rattle.rpg_machine.specs.Run as machine
-use Rattle.rpg_program.specs.Constants.{word_at}
-use Rattle.rpg_program.specs.Object.{Object, lines_of}
+use Rattle.rpg_machine.specs.Outputs.{FillsFields, PutsOut}
+use Rattle.rpg_machine.specs.Run.{RunsTo}
+use Rattle.rpg_machine.specs.Running.{Act}
+use Rattle.rpg_machine.specs.declared.time.OutputTime.{OutputTime}
+use Rattle.rpg_machine.specs.declared.time.OutputTime.TheVariants as times
+use Rattle.rpg_program.specs.Object.{Object}
 use Rattle.rpg_program.specs.declared.section.Section.{Section}
 use Rattle.rpg_program.specs.declared.section.Section.TheVariants as sections
 
@@ -51,33 +45,17 @@ abbrev pub ◌before◌ : Phase → Phase → Phase
 abbrev pub with_config : (Config → Config) → UnderWay → UnderWay
 with_config f c = record c { config = f c.config }
 
--- an effect on the world, which weighs so much
-abbrev pub by_effect : ℕ → (World nat_cmp → Effect nat_cmp) → Phase
-by_effect weight effect c e d out =
-    let after = effect c.config.world in
-    (e ≡ end_of after.ending)
-    × (d ≡ with_config (λ a. record (charged weight a) { world = after.world }) c)
-    × (out ≡ record { lines = after.lines; records = after.records })
+-- what the machine does, without selecting a record
+abbrev pub by_machine : Act → Phase
+by_machine P c e d out = (last : effects.End) × P c.config last d.config out × (e ≡ end_of last) × (d.selected ≡ c.selected)
 
--- the lines of an output; that of detail time settles the overflow indicator, that of a full page marks itself
-abbrev pub output_effect : Object → OutputTime → World nat_cmp → Effect nat_cmp
-output_effect p times.Detail w = detail_output (form_at p.fields) (word_at p) p.overflow (lines_of p) w
-output_effect p times.Total w = total_output (form_at p.fields) (word_at p) p.overflow (lines_of p) w
-output_effect p times.Overflow w = overflow_output (form_at p.fields) (word_at p) p.overflow (lines_of p) w
-
--- all lines of the time, tested or placed
-abbrev pub output_weight : Object → OutputTime → ℕ
-output_weight p times.Detail = detail_weight (lines_of p)
-output_weight p times.Total = total_weight (lines_of p)
-output_weight p times.Overflow = overflow_weight (lines_of p)
-
+-- the lines of a time
 abbrev pub output : Object → OutputTime → Phase
-output p time = by_effect (output_weight p time) (output_effect p time)
+output p time = by_machine (PutsOut p time)
 
 -- a section of calculations, in as many steps as it takes
 abbrev pub section : Object → Section → Phase
-section p s c e d out =
-    (last : effects.End) × machine.RunsTo p s c.config last d.config out × (e ≡ end_of last) × (d.selected ≡ c.selected)
+section p s = by_machine (RunsTo p s)
 
 -- how a phase without output ends, and where it leads
 pub record Done : Type 0 where
@@ -189,17 +167,10 @@ overflow_lines p = unless (has_no_overflow p.overflow) (output p times.Overflow)
 
 -- ---- 8 the columns of the record become values of fields
 
--- the input fields of a type
-abbrev pub inputs_of : Option (TypeRow ℕ) → List (InputField ℕ)
-inputs_of None = []
-inputs_of (Some t) = t.inputs
-
--- those of the selected record's type, all of which are charged
+-- those of the selected record's type
 abbrev pub fill_from : Object → Option Selected → Phase
 fill_from p None = passes
-fill_from p (Some s) =
-    let inputs = inputs_of (slice_get p.types s.type) in
-    by_effect (length inputs) (record_in (form_at p.fields) s.text inputs)
+fill_from p (Some s) = by_machine (FillsFields p s.type s.text)
 
 abbrev pub fill_fields : Object → Phase
 fill_fields p c = fill_from p c.selected c

@@ -1,4 +1,2 @@
 //! The fixed program cycle, and whole runs.
 #![tactic(auto)]
-
-pub mod time;
