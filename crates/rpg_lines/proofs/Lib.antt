@@ -1,0 +1,11 @@
+pub mod Operands
+pub mod Words
+pub mod Moving
+pub mod Fields
+pub mod Keeping
+pub mod Entering
+pub mod Assembling
+pub mod OneLine
+pub mod AllLines
+pub mod Blanks
+pub mod Weighing
