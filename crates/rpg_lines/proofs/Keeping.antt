@@ -128,6 +128,10 @@ blanked_text fields f e t h = ap (λ (v : Option Value). with_value (f, e) (blan
 
 -- ---- stores
 
+-- values and current entries that are known
+pub fields_are : {S : Type 0} (contents : S → Values) (currents : S → Currents) (t : S) (fields : Fields nat_cmp) → contents t ≡ fields.values → currents t ≡ fields.current → fields_of contents currents t ≡ fields
+fields_are contents currents t fields h k = rw (h, k) refl
+
 module _ {S : Type 0} (store_forms : S → List FieldForm) (contents : S → Values) (currents : S → Currents) (forms : List FieldForm) (s t : S) (has : HasFields store_forms contents currents forms s) (own : store_forms t ≡ store_forms s) where
   -- a store with other values
   kept : (fields : Fields nat_cmp) → fields_of contents currents t ≡ fields → AreFit forms fields → HasFields store_forms contents currents forms t

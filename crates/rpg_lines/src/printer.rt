@@ -117,7 +117,8 @@ fn write_record<S: Store + Drop>(
     ensures done { OnOk result (IsDone (lines.put_on overflow File.Disk spacing text.now)
         (held_of S.contents S.currents memory.now) (bytes_of output.old) GoesOn (held_of S.contents S.currents memory.now) (bytes_of output.new)) }
 {
-    append_record(&mut output.disk, text)
+    append_record(&mut output.disk, text)?;
+    Ok(())
 }
 
 /// Puts a line on its file.

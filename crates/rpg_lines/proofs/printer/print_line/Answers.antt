@@ -14,7 +14,7 @@ returns-clause-done g c =
     let before = c.move_form.new.memory in
     let w = held c.args.memory.now in
     let u = held (record before { form = c.place.new.self }) in
-    let form = c.in_ok-place.ensures.form in
+    let form = c.in-Ok.ensures.form in
     let world = c.move_form.ensures.world in
     print_done c.args.overflow c.args.spacing c.args.text.now w u (held c.move_form-2.new.memory) (bytes_of c.args.output.now)
     (record { print = c.place.new.out.items; disk = c.args.output.now.disk.items })
@@ -22,6 +22,6 @@ returns-clause-done g c =
     (ap (λ (f : Standing). f.last) form ∙ ap (λ (x : World nat_cmp). Some x.here.line) world)
     c.move_form-2.ensures.world
     c.move_form-2.ensures.last
-    (c.in_ok-place.ensures.line
+    (c.in-Ok.ensures.line
         ∙ ap (λ (s : Standing). c.args.output.now.print.items ++ way_of s ++ trimmed c.args.text.now) (ap (λ n. form_of n (world_in before)) c.move_form.ensures.last ∙ ap (form_of w.last) world))
     refl
