@@ -10,7 +10,7 @@ ghost use Rattle.rpg_program.specs.Object.{file_length, line_row, seen};
 
 use crate::assembly::{Entries, assemble};
 use crate::field::{blank_all, blank_text};
-use crate::output::Output;
+use crate::bytes::Output;
 use crate::printer::put_on;
 use rpg_effect::outcome::End;
 use rpg_memory::memory::Memory;

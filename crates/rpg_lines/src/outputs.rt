@@ -11,7 +11,7 @@ ghost use Rattle.rpg_memory.specs.Memory.{held_of, world_of};
 ghost use Rattle.rpg_program.specs.Object.{seen};
 
 use crate::assembly::Entries;
-use crate::output::Output;
+use crate::bytes::Output;
 use crate::passage::put_lines;
 use rpg_effect::line::Pass;
 use rpg_effect::outcome::End;
@@ -143,8 +143,8 @@ pub fn put_overflow<S: Store + Drop>(
     Ok(end)
 }
 
-/// Output at an EXCPT: E lines.
-pub fn put_exception<S: Store + Drop>(
+/// Exception output: E lines, at an EXCPT.
+pub fn put_exceptions<S: Store + Drop>(
     rows: &Rows,
     memory: &mut Memory<S>,
     output: &mut Output,

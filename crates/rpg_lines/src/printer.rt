@@ -10,7 +10,7 @@ ghost use Rattle.rpg_lines.specs.Outputs.{bytes_of};
 ghost use Rattle.rpg_lines.specs.Ready.{IsNear};
 ghost use Rattle.rpg_memory.specs.Memory.{held_of, world_of};
 
-use crate::output::Output;
+use crate::bytes::Output;
 use rpg_effect::line::{File, Spacing};
 use rpg_memory::indicators::Indicators;
 use rpg_memory::memory::Memory;

@@ -68,6 +68,7 @@ fn current_of<S: Store>(rows: &Rows, store: &S, field: u16) -> u16
     }
 }
 
+/// The position that an operand names, whether its field is there or not.
 #[tactic(auto, using(crate::proofs::Operands::indexes), unfolding(rpg_effect::specs::Entries::position_of))]
 fn position_named<S: Store>(rows: &Rows, store: &S, operand: Operand<u16>) -> Option<u16>
     requires fields { HasFields S.forms S.contents S.currents rows.now.fields.items store.now }
