@@ -1,5 +1,5 @@
 -- Writes keep the values fit.
-use Rattle.std.proofs.Common.{◌≡◌, ℕ, zero, suc, ℤ, pos, negsuc, ◌+ℤ◌, ◌<◌, ◌^◌, All, Bool, true, false, ◌&&◌, cond, ◌==◌, eqb-true, List, Option, None, Some, refl, sym, ap, ◌∙◌, subst, arith, length, replicate, get_or, nat_cmp, unsigned_abs}
+use Rattle.std.proofs.Common.{◌≡◌, ℕ, zero, suc, ℤ, pos, negsuc, ◌+ℤ◌, ◌<◌, ◌^◌, All, Bool, true, false, cond, ◌==◌, eqb-true, List, Option, None, Some, refl, sym, ap, ◌∙◌, subst, arith, length, replicate, get_or, nat_cmp, unsigned_abs}
 use Rattle.std.proofs.Math.IntN.{+ℤ_one}
 use Rattle.std.proofs.lemmas.List.{get_or-replicate, length-replicate}
 use Rattle.std.proofs.lemmas.Option.{same_Some}

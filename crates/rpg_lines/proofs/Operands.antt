@@ -1,5 +1,5 @@
 -- What an operand with nothing wrong means.
-use Rattle.std.proofs.Common.{◌≡◌, ℕ, zero, suc, ℤ, pos, negsuc, ◌<◌, ◌≤◌, ◌^◌, All, Bool, true, false, not, ◌&&◌, ◌||◌, cond, nat_le, List, Option, None, Some, refl, sym, ap, ◌∙◌, subst, arith, leb-true, length, IfSome, nat_cmp, unsigned_abs, slice_get, get_or}
+use Rattle.std.proofs.Common.{◌≡◌, ℕ, zero, suc, ℤ, pos, negsuc, ◌≤◌, All, Bool, true, false, not, ◌&&◌, ◌||◌, cond, nat_le, List, Option, None, Some, refl, sym, ap, ◌∙◌, subst, arith, leb-true, IfSome, nat_cmp}
 use Rattle.std.proofs.lemmas.Option.{cond_some, get_or_from_slice_get, same_Some, slice_get_within}
 use Rattle.rpg_effect.specs.Entries.{in_range, position_by, position_of}
 use Rattle.rpg_effect.specs.Forms.{entries_of, form_at, is_array, is_index_form, is_table_form, kind_of, same_kind}

@@ -62,7 +62,7 @@ fn with_field<S: Store>(
     requires entries { AreEntries rows.now.fields.items to_blank.old.items }
     ensures drafted { lines.drafted (end_of result) (draft_of (fields_of S.contents S.currents store.new) text.new to_blank.new.items) ≡
         lines.with_field (form_at rows.now.fields.items) (word_at (seen rows.now)) on.now
-            (length text.old) (draft_of (fields_of S.contents S.currents store.old) text.old to_blank.old.items) field }
+        (length text.old) (draft_of (fields_of S.contents S.currents store.old) text.old to_blank.old.items) field }
     ensures fields { HasFields S.forms S.contents S.currents rows.now.fields.items store.new }
     ensures entries { AreEntries rows.now.fields.items to_blank.new.items }
     ensures few { array_vec_len to_blank.new ≤ array_vec_len to_blank.old + 1 }
@@ -101,7 +101,7 @@ pub fn assemble<S: Store>(
     requires entries { AreEntries rows.now.fields.items to_blank.old.items }
     ensures drafted { lines.drafted (end_of result) (draft_of (fields_of S.contents S.currents store.new) text.new to_blank.new.items) ≡
         lines.assembled (form_at rows.now.fields.items) (word_at (seen rows.now)) on.now
-            (length text.old) fields.now (draft_of (fields_of S.contents S.currents store.old) text.old to_blank.old.items) }
+        (length text.old) fields.now (draft_of (fields_of S.contents S.currents store.old) text.old to_blank.old.items) }
     ensures fields { HasFields S.forms S.contents S.currents rows.now.fields.items store.new }
     ensures entries { AreEntries rows.now.fields.items to_blank.new.items }
 {

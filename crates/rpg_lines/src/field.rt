@@ -90,8 +90,8 @@ pub fn lay_value<S: Store>(
     requires entry { IsEntry rows.now.fields.items field.operand.field entry }
     ensures text { text.new ≡ lines.laid_over text.old field.end
         (edits.text_of (forms.form_at rows.now.fields.items field.operand.field)
-            (edits.how_of (constants.word_at (seen rows.now)) field.editing field.fill)
-            (value_in (fields_of S.contents S.currents store.now) (field.operand.field, entry))) }
+        (edits.how_of (constants.word_at (seen rows.now)) field.editing field.fill)
+        (value_in (fields_of S.contents S.currents store.now) (field.operand.field, entry))) }
 {
     let number = field.operand.field;
     let Some(form) = form_at(rows, number) else {

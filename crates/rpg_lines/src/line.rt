@@ -9,8 +9,8 @@ ghost use Rattle.rpg_memory.specs.Memory.{held_of};
 ghost use Rattle.rpg_program.specs.Object.{file_length, line_row, seen};
 
 use crate::assembly::{Entries, assemble};
-use crate::field::{blank_all, blank_text};
 use crate::bytes::Output;
+use crate::field::{blank_all, blank_text};
 use crate::printer::put_on;
 use rpg_effect::outcome::End;
 use rpg_memory::memory::Memory;
@@ -48,14 +48,7 @@ pub fn put_line<S: Store + Drop>(
         End::GoesOn => {}
         End::Halt(number) => return Ok(End::Halt(number)),
     }
-    put_on(
-        memory,
-        output,
-        rows.overflow,
-        line.file,
-        line.spacing,
-        text,
-    )?;
+    put_on(memory, output, rows.overflow, line.file, line.spacing, text)?;
     blank_all(rows, &mut memory.store, to_blank);
     Ok(End::GoesOn)
 }

@@ -1,11 +1,11 @@
-use Rattle.std.proofs.Common.{◌≡◌, ap, subst, nat_cmp}
+use Rattle.std.proofs.Common.{ap, subst, nat_cmp}
 use Rattle.rpg_effect.proofs.Putting.{halts_done, quiet_done, then_done}
 use Rattle.rpg_effect.specs.Effect.{Effect, Leaves}
 use Rattle.rpg_effect.specs.Lines.{lines_out, marked}
 use Rattle.rpg_effect.specs.Put.{IsDone, on_paper}
 use Rattle.rpg_effect.specs.World.{World}
 use Rattle.rpg_effect.specs.declared.line.Pass.TheVariants as passes
-use Rattle.rpg_effect.specs.Ends.{End, GoesOn, Halt}
+use Rattle.rpg_effect.specs.Ends.{End, GoesOn}
 use Rattle.rpg_effect.specs.Ends.{end_of}
 use Rattle.rpg_effect.specs.Forms.{form_at}
 use Rattle.rpg_lines.specs.Outputs.{bytes_of}

@@ -1,4 +1,4 @@
-use Rattle.std.proofs.Common.{◌≡◌, List, sym, ap, ◌∙◌, map}
+use Rattle.std.proofs.Common.{List, sym, ap, ◌∙◌, map}
 use Rattle.std.specs.Global.{Vec}
 use Rattle.rpg_effect.specs.Ends.{end_of}
 use Rattle.rpg_effect.specs.Lines.{is_asked}
@@ -15,7 +15,7 @@ returns-then-is_asked-clause-done g c =
     let held = held_of g.S.Store.contents g.S.Store.currents in
     asked (seen r) c.args.pass c.args.line.now (held c.args.memory.now) (held c.put_line.new.memory) (bytes_of c.args.output.now) (bytes_of c.put_line.new.output) (end_of c.in_ok-end.end)
     (ap (λ (xs : List (Vec Condition)). is_asked r.overflow c.args.pass c.args.memory.now.on c.args.line.now.time (map (λ (a : Vec Condition). a.items) xs)) (sym c.deref.ensures.value)
-        ∙ sym c.is_asked.ensures ∙ c.if-is_asked.true)
+    ∙ sym c.is_asked.ensures ∙ c.if-is_asked.true)
     c.in_ok-end.ensures.done
 
 pub returns-clause-done : goal.returns-clause-done
@@ -24,4 +24,4 @@ returns-clause-done g c =
     let held = held_of g.S.Store.contents g.S.Store.currents in
     unasked (seen r) c.args.pass c.args.line.now (held c.args.memory.now) (bytes_of c.args.output.now)
     (ap (λ (xs : List (Vec Condition)). is_asked r.overflow c.args.pass c.args.memory.now.on c.args.line.now.time (map (λ (a : Vec Condition). a.items) xs)) (sym c.deref.ensures.value)
-        ∙ sym c.is_asked.ensures ∙ c.if-is_asked.false)
+    ∙ sym c.is_asked.ensures ∙ c.if-is_asked.false)

@@ -1,4 +1,4 @@
-use Rattle.std.proofs.Common.{◌≡◌, ℕ, ◌<◌, ◌≤◌, refl, sym, ap, ◌∙◌, subst, arith, length, get_or}
+use Rattle.std.proofs.Common.{◌≡◌, ◌<◌, ◌≤◌, refl, ap, ◌∙◌, subst, arith, length, get_or}
 use Rattle.rpg_effect.specs.Put.{IsDone}
 use Rattle.rpg_effect.specs.Ends.{End, GoesOn, Halt, end_of}
 use Rattle.rpg_lines.proofs.AllLines.{one, rest_end, rest_halts, rest_next, right_at}
@@ -26,7 +26,7 @@ lines-preserved g c =
     let q = bytes_of c.lines.output in
     let o = bytes_of c.put_if_asked.new.output in
     let step : IsDone (one p c.args.pass l) (held c.lines.memory) q GoesOn (held c.put_if_asked.new.memory) o =
-        subst (λ (x : End). IsDone (one p c.args.pass l) (held c.lines.memory) q x (held c.put_if_asked.new.memory) o) (ap end_of c.in-GoesOn.is) c.in_ok-put_if_asked.ensures.done in
+    subst (λ (x : End). IsDone (one p c.args.pass l) (held c.lines.memory) q x (held c.put_if_asked.new.memory) o) (ap end_of c.in-GoesOn.is) c.in_ok-put_if_asked.ensures.done in
     record {
       ready = c.in_ok-put_if_asked.ensures.ready;
       own = c.put_if_asked.ensures.own ∙ c.lines.invariant.own;
@@ -44,7 +44,7 @@ returns-in-Halt-clause-done g c =
     let q = bytes_of c.lines.output in
     let o = bytes_of c.put_if_asked.new.output in
     let step : IsDone (one p c.args.pass l) (held c.lines.memory) q (Halt c.in-Halt.number) (held c.put_if_asked.new.memory) o =
-        subst (λ (x : End). IsDone (one p c.args.pass l) (held c.lines.memory) q x (held c.put_if_asked.new.memory) o) (ap end_of c.in-Halt.is) c.in_ok-put_if_asked.ensures.done in
+    subst (λ (x : End). IsDone (one p c.args.pass l) (held c.lines.memory) q x (held c.put_if_asked.new.memory) o) (ap end_of c.in-Halt.is) c.in_ok-put_if_asked.ensures.done in
     c.lines.invariant.onward (Halt c.in-Halt.number) _ _ (rest_halts p c.args.pass lines l c.lines.line-index low is (held c.lines.memory) (held c.put_if_asked.new.memory) q o c.in-Halt.number step)
 
 pub returns-clause-done : goal.returns-clause-done

@@ -15,6 +15,6 @@ invariant-lines g l =
       ready : IsReady g.S.Store.forms g.S.Store.contents g.S.Store.currents l.rows.fields.items l.memory;
       own : g.S.Store.forms l.memory.store ≡ g.S.Store.forms l.fn.memory.store;
       onward : (e : End) (v : Held) (o : Bytes) →
-        IsDone (rest (seen l.rows) l.pass (drop l.line-index l.rows.lines.items)) (held l.memory) (bytes_of l.output) e v o →
-        IsDone (rest (seen l.rows) l.pass l.rows.lines.items) (held l.fn.memory) (bytes_of l.fn.output) e v o;
+          IsDone (rest (seen l.rows) l.pass (drop l.line-index l.rows.lines.items)) (held l.memory) (bytes_of l.output) e v o →
+          IsDone (rest (seen l.rows) l.pass l.rows.lines.items) (held l.fn.memory) (bytes_of l.fn.output) e v o;
     }

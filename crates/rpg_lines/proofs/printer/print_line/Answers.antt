@@ -1,4 +1,4 @@
-use Rattle.std.proofs.Common.{◌≡◌, ℕ, ◌++◌, Option, Some, refl, ap, ◌∙◌, nat_cmp}
+use Rattle.std.proofs.Common.{◌++◌, Some, refl, ap, ◌∙◌, nat_cmp}
 use Rattle.rpg_edit.specs.Form.{Standing, here_of, way_of}
 use Rattle.rpg_edit.specs.Paper.{trimmed}
 use Rattle.rpg_effect.proofs.Printing.{form_of, from_line, print_done}
@@ -23,5 +23,5 @@ returns-clause-done g c =
     c.move_form-2.ensures.world
     c.move_form-2.ensures.last
     (c.in-Ok.ensures.line
-        ∙ ap (λ (s : Standing). c.args.output.now.print.items ++ way_of s ++ trimmed c.args.text.now) (ap (λ n. form_of n (world_in before)) c.move_form.ensures.last ∙ ap (form_of w.last) world))
+    ∙ ap (λ (s : Standing). c.args.output.now.print.items ++ way_of s ++ trimmed c.args.text.now) (ap (λ n. form_of n (world_in before)) c.move_form.ensures.last ∙ ap (form_of w.last) world))
     refl
