@@ -1,42 +1,30 @@
-use Rattle.std.proofs.Common.{ap, subst, nat_cmp}
-use Rattle.rpg_effect.proofs.Putting.{halts_done, quiet_done, then_done}
-use Rattle.rpg_effect.specs.Effect.{Effect, Leaves}
-use Rattle.rpg_effect.specs.Lines.{lines_out, settled}
-use Rattle.rpg_effect.specs.Put.{IsDone, on_paper}
-use Rattle.rpg_effect.specs.World.{World}
+use Rattle.std.proofs.Common.{ap}
+use Rattle.rpg_effect.proofs.Putting.{quiet_done}
+use Rattle.rpg_effect.specs.Effect.{Leaves}
+use Rattle.rpg_effect.specs.Ends.{GoesOn}
+use Rattle.rpg_effect.specs.Lines.{settled}
+use Rattle.rpg_effect.specs.Put.{on_paper}
 use Rattle.rpg_effect.specs.declared.line.Pass.TheVariants as passes
-use Rattle.rpg_effect.specs.Ends.{End, GoesOn}
-use Rattle.rpg_effect.specs.Ends.{end_of}
-use Rattle.rpg_effect.specs.Forms.{form_at}
-use Rattle.rpg_lines.specs.Outputs.{bytes_of}
+use Rattle.rpg_lines.proofs.Following.{halted, went_on}
+use Rattle.rpg_lines.specs.Outputs.{bytes_of, passage_effect}
 use Rattle.rpg_memory.specs.Memory.{held_of}
-use Rattle.rpg_program.specs.Constants.{word_at}
-use Rattle.rpg_program.specs.Object.{lines_of, seen}
+use Rattle.rpg_program.specs.Object.{seen}
 use Rattle.rpg_lines.proofs.outputs.put_details.Goals as goal
 
 pub returns-clause-done : goal.returns-clause-done
 returns-clause-done g c =
     let p = seen c.args.rows.now in
     let held = held_of g.S.Store.contents g.S.Store.currents in
-    let first : World nat_cmp → Effect nat_cmp = lines_out (form_at p.fields) (word_at p) p.overflow passes.Detail (lines_of p) in
-    let next : World nat_cmp → Effect nat_cmp = λ x. Leaves (settled p.overflow x) in
-    let w = held c.args.memory.now in
     let v = held c.put_lines.new.memory in
-    let q = bytes_of c.args.output.now in
     let o = bytes_of c.put_lines.new.output in
-    let one : IsDone first w q GoesOn v o = subst (λ (x : End). IsDone first w q x v o) (ap end_of c.in-GoesOn.is) c.in_ok-put_lines.ensures.done in
     let u = held c.settle.new.memory in
-    then_done first next w v u q o o GoesOn one
+    went_on (passage_effect p passes.Detail) (λ x. Leaves (settled p.overflow x)) (held c.args.memory.now) v (bytes_of c.args.output.now) o _ c.in_ok-put_lines.ensures.done u o GoesOn c.in-GoesOn.is
     (quiet_done (settled p.overflow) GoesOn v u o (ap (λ f. f.last) c.settle.ensures.form) (λ x. ap (on_paper x) c.settle.ensures.world))
 
 pub returns-in-Halt-clause-done : goal.returns-in-Halt-clause-done
 returns-in-Halt-clause-done g c =
     let p = seen c.args.rows.now in
     let held = held_of g.S.Store.contents g.S.Store.currents in
-    let first : World nat_cmp → Effect nat_cmp = lines_out (form_at p.fields) (word_at p) p.overflow passes.Detail (lines_of p) in
-    let next : World nat_cmp → Effect nat_cmp = λ x. Leaves (settled p.overflow x) in
-    let w = held c.args.memory.now in
     let v = held c.put_lines.new.memory in
-    let q = bytes_of c.args.output.now in
     let o = bytes_of c.put_lines.new.output in
-    halts_done first next w v q o c.in-Halt.number (subst (λ (x : End). IsDone first w q x v o) (ap end_of c.in-Halt.is) c.in_ok-put_lines.ensures.done)
+    halted (passage_effect p passes.Detail) (λ x. Leaves (settled p.overflow x)) (held c.args.memory.now) v (bytes_of c.args.output.now) o _ c.in_ok-put_lines.ensures.done c.in-Halt.number c.in-Halt.is
