@@ -5,6 +5,7 @@ pub mod Fields
 pub mod Keeping
 pub mod Entering
 pub mod Assembling
+pub mod Left
 pub mod Following
 pub mod OneLine
 pub mod AllLines

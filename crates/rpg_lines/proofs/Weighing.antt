@@ -2,12 +2,10 @@
 use Rattle.std.proofs.Common.{◌≡◌, ℕ, suc, ◌+◌, ◌*◌, ◌<◌, ◌≤◌, All, Bool, true, false, cond, List, [], ◌∷◌, map, drop, length, get_or, sym, ap, ◌∙◌, add-one, drop-cons, arith}
 use Rattle.rpg_effect.specs.Weights.{lines_weight}
 use Rattle.rpg_effect.specs.declared.line.Time.{Time}
+use Rattle.rpg_lines.proofs.Left.{from_named}
 use Rattle.rpg_program.specs.Kept.{IsLineRow, IsProgram}
 use Rattle.rpg_program.specs.Object.{LineRow, Object, line_of, line_row, lines_of}
 use Rattle.rpg_program.specs.declared.row.Line.{Line}
-
-rows_left : (lines : List Line) (i : ℕ) (l : Line) → i < length lines → l ≡ get_or lines i l → map line_row (drop i lines) ≡ line_row l ∷ map line_row (drop (i + 1) lines)
-rows_left lines i l h e = ap (map line_row) (drop-cons lines i l h ∙ ap (λ y. y ∷ drop (suc i) lines) (sym e) ∙ ap (λ k. l ∷ drop k lines) (sym (add-one i)))
 
 -- the weights of the lines that are left
 abbrev pub weight_left : Object → (Time → Bool) → List Line → ℕ → ℕ
@@ -15,7 +13,7 @@ weight_left p meant lines i = lines_weight meant (map (line_of p) (map line_row 
 
 pub line_left : (p : Object) (meant : Time → Bool) (lines : List Line) (i : ℕ) (l : Line) → i < length lines → l ≡ get_or lines i l →
     weight_left p meant lines i ≡ cond (meant l.time) (1 + length l.fields.items) 0 + weight_left p meant lines (i + 1)
-line_left p meant lines i l h e = ap (λ xs. lines_weight meant (map (line_of p) xs)) (rows_left lines i l h e)
+line_left p meant lines i l h e = ap (λ xs. lines_weight meant (map (line_of p) xs)) (ap (map line_row) (from_named lines i l h e))
 
 lines_few : (p : Object) (meant : Time → Bool) (ls : List LineRow) → All IsLineRow ls → lines_weight meant (map (line_of p) ls) ≤ 201 * length ls
 lines_few p meant [] h = omega arith

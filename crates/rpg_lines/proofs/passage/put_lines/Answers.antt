@@ -1,7 +1,6 @@
-use Rattle.std.proofs.Common.{◌≡◌, ◌<◌, ◌≤◌, refl, ap, ◌∙◌, subst, arith, length, get_or}
-use Rattle.rpg_effect.specs.Put.{IsDone}
-use Rattle.rpg_effect.specs.Ends.{End, GoesOn, Halt, end_of}
-use Rattle.rpg_lines.proofs.AllLines.{one, rest_end, rest_halts, rest_next, right_at}
+use Rattle.std.proofs.Common.{◌≡◌, ◌<◌, ◌≤◌, refl, ◌∙◌, arith, length, get_or}
+use Rattle.rpg_effect.specs.Ends.{GoesOn, Halt}
+use Rattle.rpg_lines.proofs.AllLines.{rest_end, rest_halts, rest_next, right_at}
 use Rattle.rpg_lines.specs.Outputs.{bytes_of}
 use Rattle.rpg_memory.specs.Memory.{held_of}
 use Rattle.rpg_program.specs.Object.{seen}
@@ -25,12 +24,12 @@ lines-preserved g c =
     let low : c.lines.line-index < length lines = omega (arith, c.lines-test.true, c.deref-line-items.ensures.len) in
     let q = bytes_of c.lines.output in
     let o = bytes_of c.put_if_asked.new.output in
-    let step : IsDone (one p c.args.pass l) (held c.lines.memory) q GoesOn (held c.put_if_asked.new.memory) o =
-    subst (λ (x : End). IsDone (one p c.args.pass l) (held c.lines.memory) q x (held c.put_if_asked.new.memory) o) (ap end_of c.in-GoesOn.is) c.in_ok-put_if_asked.ensures.done in
     record {
       ready = c.in_ok-put_if_asked.ensures.ready;
       own = c.put_if_asked.ensures.own ∙ c.lines.invariant.own;
-      onward = λ e v r h. c.lines.invariant.onward e v r (rest_next p c.args.pass lines l c.lines.line-index low is (held c.lines.memory) (held c.put_if_asked.new.memory) v q o r e step h);
+      onward = λ e v t h. c.lines.invariant.onward e v t
+          (rest_next p c.args.pass lines l c.lines.line-index low is (held c.lines.memory) (held c.put_if_asked.new.memory) v q o t _ e c.in-GoesOn.is
+              c.in_ok-put_if_asked.ensures.done h);
     }
 
 pub returns-in-Halt-clause-done : goal.returns-in-Halt-clause-done
@@ -41,14 +40,14 @@ returns-in-Halt-clause-done g c =
     let l = c.line-item.result in
     let is : l ≡ get_or lines c.lines.line-index l = rw c.deref-line-items.ensures.value at c.line-item.is in
     let low : c.lines.line-index < length lines = omega (arith, c.lines-test.true, c.deref-line-items.ensures.len) in
-    let q = bytes_of c.lines.output in
-    let o = bytes_of c.put_if_asked.new.output in
-    let step : IsDone (one p c.args.pass l) (held c.lines.memory) q (Halt c.in-Halt.number) (held c.put_if_asked.new.memory) o =
-    subst (λ (x : End). IsDone (one p c.args.pass l) (held c.lines.memory) q x (held c.put_if_asked.new.memory) o) (ap end_of c.in-Halt.is) c.in_ok-put_if_asked.ensures.done in
-    c.lines.invariant.onward (Halt c.in-Halt.number) _ _ (rest_halts p c.args.pass lines l c.lines.line-index low is (held c.lines.memory) (held c.put_if_asked.new.memory) q o c.in-Halt.number step)
+    let k = c.in-Halt.number in
+    c.lines.invariant.onward (Halt k) _ _
+    (rest_halts p c.args.pass lines l c.lines.line-index low is (held c.lines.memory) (held c.put_if_asked.new.memory) (bytes_of c.lines.output)
+        (bytes_of c.put_if_asked.new.output) _ k c.in-Halt.is c.in_ok-put_if_asked.ensures.done)
 
 pub returns-clause-done : goal.returns-clause-done
 returns-clause-done g c =
     let lines = c.args.rows.now.lines.items in
+    let held = held_of g.S.Store.contents g.S.Store.currents in
     let high : length lines ≤ c.lines.line-index = omega (arith, c.lines-test.false, c.deref-line-items.ensures.len) in
-    c.lines.invariant.onward GoesOn _ _ (rest_end (seen c.args.rows.now) c.args.pass lines c.lines.line-index (held_of g.S.Store.contents g.S.Store.currents c.lines.memory) (bytes_of c.lines.output) high)
+    c.lines.invariant.onward GoesOn _ _ (rest_end (seen c.args.rows.now) c.args.pass lines c.lines.line-index (held c.lines.memory) (bytes_of c.lines.output) high)
