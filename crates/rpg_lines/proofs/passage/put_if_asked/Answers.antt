@@ -13,8 +13,11 @@ pub returns-then-is_asked-clause-done : goal.returns-then-is_asked-clause-done
 returns-then-is_asked-clause-done g c =
     let r = c.args.rows.now in
     let held = held_of g.S.Store.contents g.S.Store.currents in
-    asked (seen r) c.args.pass c.args.line.now (held c.args.memory.now) (held c.put_line.new.memory) (bytes_of c.args.output.now) (bytes_of c.put_line.new.output) (end_of c.in_ok-end.end)
-    (ap (λ (xs : List (Vec Condition)). is_asked r.overflow c.args.pass c.args.memory.now.on c.args.line.now.time (map (λ (a : Vec Condition). a.items) xs)) (sym c.deref.ensures.value)
+    let l = c.args.line.now in
+    let v = held c.put_line.new.memory in
+    let o = bytes_of c.put_line.new.output in
+    asked (seen r) c.args.pass l (held c.args.memory.now) v (bytes_of c.args.output.now) o (end_of c.in_ok-end.end)
+    (ap (λ (xs : List (Vec Condition)). is_asked r.overflow c.args.pass c.args.memory.now.on l.time (map (λ (a : Vec Condition). a.items) xs)) (sym c.deref.ensures.value)
     ∙ sym c.is_asked.ensures ∙ c.if-is_asked.true)
     c.in_ok-end.ensures.done
 
@@ -22,6 +25,7 @@ pub returns-clause-done : goal.returns-clause-done
 returns-clause-done g c =
     let r = c.args.rows.now in
     let held = held_of g.S.Store.contents g.S.Store.currents in
-    unasked (seen r) c.args.pass c.args.line.now (held c.args.memory.now) (bytes_of c.args.output.now)
-    (ap (λ (xs : List (Vec Condition)). is_asked r.overflow c.args.pass c.args.memory.now.on c.args.line.now.time (map (λ (a : Vec Condition). a.items) xs)) (sym c.deref.ensures.value)
+    let l = c.args.line.now in
+    unasked (seen r) c.args.pass l (held c.args.memory.now) (bytes_of c.args.output.now)
+    (ap (λ (xs : List (Vec Condition)). is_asked r.overflow c.args.pass c.args.memory.now.on l.time (map (λ (a : Vec Condition). a.items) xs)) (sym c.deref.ensures.value)
     ∙ sym c.is_asked.ensures ∙ c.if-is_asked.false)
