@@ -14,7 +14,7 @@ use Rattle.rpg_effect.specs.declared.form.Kind.{Kind}
 use Rattle.rpg_effect.specs.declared.form.Kind.TheVariants as kinds
 use Rattle.rpg_effect.specs.declared.line.Source.TheVariants as sources
 use Rattle.rpg_lines.proofs.Operands.{and_true, kinds_same, value_there}
-use Rattle.rpg_lines.specs.Good.{IsEntry}
+use Rattle.rpg_lines.specs.Entries.{IsEntry}
 use Rattle.rpg_lines.specs.Ready.{AreFit, HasFields, fields_of}
 use Rattle.rpg_program.specs.Kept.{IsCharacter}
 use Rattle.rpg_store.proofs.Fitting.{fits-insert}

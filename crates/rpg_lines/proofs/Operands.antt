@@ -13,7 +13,7 @@ use Rattle.rpg_effect.specs.declared.operation.Index.{Index}
 use Rattle.rpg_effect.specs.declared.operation.Index.TheVariants as indexed
 use Rattle.rpg_effect.specs.declared.operation.Operand.{Operand}
 use Rattle.rpg_effect.specs.declared.row.Shape.TheVariants as shapes
-use Rattle.rpg_lines.specs.Good.{IsEntry}
+use Rattle.rpg_lines.specs.Entries.{IsEntry}
 use Rattle.rpg_lines.specs.Ready.{AreFit}
 use Rattle.rpg_program.specs.Kept.{IsFieldRow}
 use Rattle.rpg_store.specs.Fits.{HasForm}

@@ -2,7 +2,7 @@ use Rattle.std.proofs.Common.{◌≡◌, ◌≤◌, ◌+◌, drop, length}
 use Rattle.rpg_effect.specs.Lines.{assembled}
 use Rattle.rpg_lines.specs.Drafts.{draft_of}
 use Rattle.rpg_effect.specs.Forms.{form_at}
-use Rattle.rpg_lines.specs.Good.{AreEntries}
+use Rattle.rpg_lines.specs.Entries.{AreEntries}
 use Rattle.rpg_lines.specs.Ready.{HasFields, fields_of}
 use Rattle.rpg_program.specs.Constants.{word_at}
 use Rattle.rpg_program.specs.Object.{seen}
