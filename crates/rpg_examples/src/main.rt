@@ -1,4 +1,4 @@
-//! The examples, compiled and run by the words that a person gives to `rpg2`.
+//! The examples, compiled, verified and run by the words that a person gives to `rpg2`.
 //!
 //! Prints what each command says, its status where that isn't 0, and what each run has printed.
 #![tactic(auto)]
@@ -10,6 +10,8 @@ use std::io::{self, Write};
 use std::rt::Files;
 
 const COMPILE_LISTER: [&str; 4] = ["rpg2", "compile", "lister.rpg", "lister.obj"];
+
+const VERIFY_LISTER: [&str; 3] = ["rpg2", "verify", "lister.obj"];
 
 const RUN_LISTER: [&str; 7] = [
     "rpg2",
@@ -40,6 +42,8 @@ const RUN_INVOICES: [&str; 7] = [
     "010576",
 ];
 
+const VERIFY_NAMES: [&str; 3] = ["rpg2", "verify", "names.txt"];
+
 const COMPILE_NAMES: [&str; 4] = ["rpg2", "compile", "names.txt", "names.obj"];
 
 fn words(alloc: Global, list: &[&str]) -> Result<Vec<String>, AllocError> {
@@ -67,11 +71,13 @@ fn show<R: Files + Print + AllocGlobal>(rt: &R, path: &str) -> io::Result<()> {
 
 fn main(rt: HostRuntime) -> io::Result<()> {
     say(&rt, &COMPILE_LISTER)?;
+    say(&rt, &VERIFY_LISTER)?;
     say(&rt, &RUN_LISTER)?;
     show(&rt, "lister.print")?;
     say(&rt, &COMPILE_INVOICES)?;
     say(&rt, &RUN_INVOICES)?;
     show(&rt, "invoices.print")?;
-    // A text that is no source is refused.
+    // A text that is no object program is refused, and so is one that is no source.
+    say(&rt, &VERIFY_NAMES)?;
     say(&rt, &COMPILE_NAMES)
 }

@@ -1,4 +1,4 @@
-//! `rpg2 run` on real files.
+//! `rpg2 run` and `rpg2 verify` on real files.
 
 use crate::objects::{TOTAL, changed};
 use rpg_cli::run;
@@ -118,6 +118,38 @@ fn each_fault_of_a_file_has_its_line(rt: HostRuntime) -> Result<(), Fail> {
 }
 
 #[test]
+fn a_verification_tells_of_an_object_file(rt: HostRuntime) -> Result<(), Fail> {
+    let total = path(&rt, "verify.obj")?;
+    let unsound = path(&rt, "verify_unsound.obj")?;
+    let damaged = path(&rt, "verify_damaged.obj")?;
+    let large = path(&rt, "verify_large.obj")?;
+    let largest = path(&rt, "verify_largest.obj")?;
+    let none = path(&rt, "verify_none")?;
+    fs::write(&rt, total.as_str(), TOTAL)?;
+    fs::write(&rt, unsound.as_str(), &changed(rt.alloc(), &[(144, 9)])?)?;
+    fs::write(&rt, damaged.as_str(), &changed(rt.alloc(), &[(117, 20)])?)?;
+    fs::write(&rt, large.as_str(), &vec![in rt.alloc(); 0u8; 16_777_217]?)?;
+    fs::write(
+        &rt,
+        largest.as_str(),
+        &vec![in rt.alloc(); 0u8; 16_777_216]?,
+    )?;
+    for (object, wanted, status) in [
+        (&total, "accepted, bound 5\n", 0),
+        (&unsound, "refused: V16 row 1\n", 4),
+        (&damaged, "refused: B5 at 117\n", 4),
+        (&none, "input failed\n", 1),
+        (&large, "file too large\n", 1),
+        (&largest, "refused: B1 at 0\n", 4),
+    ] {
+        let (line, told) = said(&rt, &["rpg2", "verify", object.as_str()])?;
+        assert_eq!(rt; line.as_slice(), wanted.as_bytes());
+        assert_eq!(rt; told, status, "{wanted}");
+    }
+    Ok(())
+}
+
+#[test]
 fn wrong_steps_are_told_of_files(rt: HostRuntime) -> Result<(), Fail> {
     let object = path(&rt, "wrong.obj")?;
     let input = path(&rt, "wrong.txt")?;
@@ -188,10 +220,12 @@ fn a_file_of_67_records_has_two_pages(rt: HostRuntime) -> Result<(), Fail> {
 
 #[test]
 fn a_wrong_command_line_prints_no_line(rt: HostRuntime) -> Result<(), Fail> {
-    let lists: [&[&str]; 5] = [
+    let lists: [&[&str]; 7] = [
         &["rpg2"],
         &["rpg2", "walk"],
         &["rpg2", "compile", "a"],
+        &["rpg2", "verify"],
+        &["rpg2", "verify", "a", "b"],
         &["rpg2", "run", "a", "b", "c"],
         &["rpg2", "run", "a", "b", "--date", "010576"],
     ];
