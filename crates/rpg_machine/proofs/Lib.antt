@@ -1,0 +1,16 @@
+pub mod Ranges
+pub mod Steps
+pub mod Safe
+pub mod Work
+pub mod Bounds
+pub mod Starting
+pub mod Paying
+pub mod ByNumber
+pub mod Leading
+pub mod OnPaper
+pub mod Orderly
+pub mod Making
+pub mod Runs
+pub mod Going
+pub mod Doing
+pub mod Filling
