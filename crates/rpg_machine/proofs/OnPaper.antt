@@ -32,11 +32,11 @@ abbrev pub effect_on : Option Position → Effect nat_cmp → Effect nat_cmp
 effect_on previous e = record e { world = on_paper previous e.world }
 
 module _ (previous : Option Position) where
-  or_halt_on : {A : Type 0} (o : Option A) (k : ℕ) (w : World nat_cmp) (f g : A → Effect nat_cmp) → ((x : A) → f x ≡ effect_on previous (g x)) → or_halt o k (on_paper previous w) f ≡ effect_on previous (or_halt o k w g)
+  pub or_halt_on : {A : Type 0} (o : Option A) (k : ℕ) (w : World nat_cmp) (f g : A → Effect nat_cmp) → ((x : A) → f x ≡ effect_on previous (g x)) → or_halt o k (on_paper previous w) f ≡ effect_on previous (or_halt o k w g)
   or_halt_on None k w f g h = refl
   or_halt_on (Some x) k w f g h = h x
 
-  unless_on : (o : Option Fault) (w : World nat_cmp) (e f : Effect nat_cmp) → e ≡ effect_on previous f → unless_wrong o (on_paper previous w) e ≡ effect_on previous (unless_wrong o w f)
+  pub unless_on : (o : Option Fault) (w : World nat_cmp) (e f : Effect nat_cmp) → e ≡ effect_on previous f → unless_wrong o (on_paper previous w) e ≡ effect_on previous (unless_wrong o w f)
   unless_on None w e f h = h
   unless_on (Some x) w e f h = refl
 
