@@ -16,3 +16,5 @@ pub mod Doing
 pub mod Filling
 pub mod Effects
 pub mod Firsts
+pub mod Readiness
+pub mod Records

@@ -154,6 +154,7 @@ impl<'a, S: Store + Drop> Machine<'a, S> {
         ensures ready { IfOk result (λ e. e ≡ End.GoesOn → IsReady self.new) }
         ensures bound { OnOk result (InBound section self.old self.new) }
     {
+        self.code.is_orderly();
         run_section(&self.code, &mut self.state, section)
     }
 
