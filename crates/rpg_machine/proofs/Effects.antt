@@ -1,7 +1,6 @@
 -- What a call did by an effect on the world.
 use Rattle.std.proofs.Common.{◌≡◌, ℕ, ◌+◌, refl}
 use Rattle.std.specs.Ordering.{nat_cmp}
-use Rattle.rpg_edit.specs.Paper.{end_from}
 use Rattle.rpg_effect.specs.Effect.{Effect}
 use Rattle.rpg_effect.specs.Ends.{End}
 use Rattle.rpg_effect.specs.Put.{Bytes, Held, IsDone, on_paper}
@@ -9,7 +8,7 @@ use Rattle.rpg_effect.specs.World.{World}
 use Rattle.rpg_machine.proofs.Making.{held}
 use Rattle.rpg_machine.proofs.Steps.{output_of}
 use Rattle.rpg_machine.specs.Outputs.{ByEffect}
-use Rattle.rpg_machine.specs.Running.{Did, Running, config_on}
+use Rattle.rpg_machine.specs.Running.{Did, Running}
 
 pub did_effect : (effect : World nat_cmp → Effect nat_cmp) (weight n : ℕ) (r : Running) (v : Held) (q : Bytes) (e : End) → n ≡ r.config.steps + weight → IsDone effect (held r) r.output e v q →
     Did (ByEffect weight effect) r e (record { program = r.program; config = record r.config { steps = n; world = v.world }; last = v.last; output = q })

@@ -4,7 +4,6 @@ use Rattle.std.proofs.lemmas.Option.{slice_get-get_or, slice_get-map}
 use Rattle.std.specs.Option.{option_map}
 use Rattle.rpg_edit.specs.Form.{Standing}
 use Rattle.rpg_effect.specs.Ends.{end_of}
-use Rattle.rpg_effect.specs.Effect.{quiet}
 use Rattle.rpg_effect.specs.Forms.{form_at}
 use Rattle.rpg_effect.specs.Input.{input_fault, record_in}
 use Rattle.rpg_effect.specs.declared.input.InputField.{InputField}

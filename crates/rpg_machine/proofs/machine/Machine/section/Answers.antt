@@ -1,5 +1,4 @@
-use Rattle.std.proofs.Common.{◌≡◌, ◌+◌, ◌*◌, ◌≤◌, ◌<◌, ◌^◌, OnOk, sym, subst, arith}
-use Rattle.rpg_effect.specs.declared.outcome.End.TheVariants as answers
+use Rattle.std.proofs.Common.{◌<◌, ◌^◌, OnOk, sym, subst, arith}
 use Rattle.rpg_machine.proofs.Readiness.{able_of, both_ok, ready_of}
 use Rattle.rpg_machine.specs.Potential.{InBound}
 use Rattle.rpg_machine.specs.Running.{Running}
