@@ -18,3 +18,4 @@ pub mod Effects
 pub mod Firsts
 pub mod Readiness
 pub mod Records
+pub mod OneRun

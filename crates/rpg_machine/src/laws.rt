@@ -1,0 +1,8 @@
+//! Laws of the definitions.
+ghost use Rattle.rpg_machine.specs.Laws.{RunsAreOne};
+
+/// A section has one run from a configuration.
+#[tactic(auto, using(crate::proofs::OneRun::runs_are_one))]
+pub fn runs_are_one()
+    ensures { RunsAreOne }
+{}
