@@ -1,18 +1,23 @@
 -- Operations of a right program are never wrong, and values keep fitting their fields.
-use Rattle.std.proofs.Common.{◌≡◌, ℕ, ℤ, pos, ◌<◌, ◌≤◌, ◌^◌, Bool, true, false, cond, List, Option, None, Some, IfSome, length, refl, sym, ap, ◌∙◌, subst, unsigned_abs}
+use Rattle.std.proofs.Common.{◌≡◌, ℕ, ℤ, pos, ◌<◌, ◌≤◌, ◌^◌, Bool, true, false, cond, List, Option, None, Some, IfSome, get_or, length, map, refl, sym, ap, ◌∙◌, subst, unsigned_abs, inl, inr, arith}
+use Rattle.std.proofs.lemmas.Bool.{cases_lt}
+use Rattle.std.proofs.lemmas.Bool.Decides.{nat_tests}
+use Rattle.std.proofs.lemmas.List.{get_or-map, get_or_past, length-map}
 use Rattle.std.specs.Prelude.{All}
 use Rattle.std.specs.Option.{option_map}
 use Rattle.std.specs.Ordering.{nat_cmp}
-use Rattle.rpg_decimal.proofs.LawLemmas.{left_digits, read_either, right_digits, spelled_by_places}
+use Rattle.rpg_decimal.proofs.LawLemmas.{left_digits, length-zoned, read_either, right_digits, size-signed}
+use Rattle.rpg_decimal.proofs.PlaceLemmas.{place_value-below}
 use Rattle.rpg_decimal.proofs.WholeLemmas.{fit-below}
 use Rattle.rpg_decimal.specs.Fraction.{Fraction, aligned_number}
-use Rattle.rpg_decimal.specs.Zoned.{number_in, zoned_text}
+use Rattle.rpg_decimal.specs.Place.{place_value}
+use Rattle.rpg_decimal.specs.Zoned.{digit_of, is_minus, last_of, number_in, zoned_text}
 use Rattle.rpg_effect.specs.Act.{act, divided, exact, field_of_entry, found_in, found_shown, index_set, kept, looked_up, made_current, made_current_if_any, moved, number_over, placed, source_text, store, text_over}
 use Rattle.rpg_effect.specs.Effect.{Effect, Leaves, or_halt, quiet, unless_wrong}
 use Rattle.rpg_effect.specs.Ends.{End, Fault, GoesOn, Halt, Wrong}
 use Rattle.rpg_effect.specs.Forms.{decimals_of, entries_of, form_at, is_table_form, kind_of, length_of}
 use Rattle.rpg_effect.specs.Operate.{operate, resolved}
-use Rattle.rpg_effect.specs.Rows.{can_hold}
+use Rattle.rpg_effect.specs.Rows.{can_hold, holds_position}
 use Rattle.rpg_effect.specs.Values.{Number, Text}
 use Rattle.rpg_effect.specs.World.{World, characters_at, number_at, set_current, set_value}
 use Rattle.rpg_effect.specs.declared.form.FieldForm.{FieldForm}
@@ -40,6 +45,23 @@ use Rattle.rpg_operations.proofs.Values.{form_there, length_low, text_fits, text
 use Rattle.rpg_operations.specs.Good.{AreEntries, AreForms, FitsPosition, HasPosition, IsRight, IsValue, reads_index}
 use Rattle.rpg_program.specs.Kept.{IsCharacter}
 
+-- ---- digits of characters
+
+digit_of-below : (c : ℕ) → digit_of c < 10
+digit_of-below c = grind (arith, nat_tests)
+
+character_digit : (text : List ℕ) (i : ℕ) → i < length text → get_or (map digit_of text) i 0 ≡ digit_of (get_or text i 0)
+character_digit text i h = get_or-map digit_of text i 0 0 h
+
+characters-below : (text : List ℕ) (i : ℕ) → get_or (map digit_of text) i 0 < 10
+characters-below text i =
+    elim (cases_lt i (length text)) [
+      | inl h ↦ rw (character_digit text i h) (digit_of-below (get_or text i 0))
+      | inr h ↦ rw (get_or_past (map digit_of text) i 0 (omega (arith, length-map text digit_of))) (omega arith)
+    ]
+
+-- ---- what operations do
+
 module _ (forms : List FieldForm) (good : AreForms forms) where
   store_right : (w : World nat_cmp) (r : Entry ℕ) (s : Shows) (n : ℤ) → FitsIn forms w → IsValue forms kinds.Number r.field r.position → unsigned_abs n < 10 ^ length_of (form_at forms r.field) →
       GoesRight forms (Leaves (store w r s n))
@@ -59,7 +81,12 @@ module _ (forms : List FieldForm) (good : AreForms forms) where
   digits_low Left k n len old = (left_digits k n len old).fits
 
   read_low : (text : List ℕ) (len : ℕ) (n : ℤ) → length text ≡ len → number_in text ≡ Some n → unsigned_abs n < 10 ^ len
-  read_low text len n long h = subst (λ m. unsigned_abs n < 10 ^ m) long (spelled_by_places text n ((read_either text n).0 h)).fits
+  read_low text len n long h =
+      let ds = map digit_of text in
+      let size : unsigned_abs n ≡ place_value ds = ap unsigned_abs ((read_either text n).0 h).value ∙ size-signed (is_minus (last_of text)) ds in
+      let low : place_value ds < 10 ^ length ds = place_value-below ds (characters-below text) in
+      let few : unsigned_abs n < 10 ^ length ds = omega (arith, size, low) in
+      subst (λ m. unsigned_abs n < 10 ^ m) (length-map text digit_of ∙ long) few
 
   text_right : (w : World nat_cmp) (r : Entry ℕ) (text : List ℕ) → FitsIn forms w → IsValue forms kinds.Text r.field r.position → length text ≡ length_of (form_at forms r.field) → All IsCharacter text →
       GoesRight forms (Leaves (set_value w r.field r.position (Text text)))
@@ -73,7 +100,7 @@ module _ (forms : List FieldForm) (good : AreForms forms) where
       (ap length is ∙ text_fits forms w.fields.values w.fields.current e.field e.position m.0 fits v m.1, subst (λ (t : List ℕ). All IsCharacter t) (sym is) (fits.characters e.field e.position m.0 m.1))
 
   source_spelled : (k : Kind) (w : World nat_cmp) (b : Entry ℕ) → FitsIn forms w → IsValue forms k b.field b.position → All IsCharacter (source_text (form_at forms) k w b)
-  source_spelled kinds.Number w b fits v = zoned_characters _ _
+  source_spelled kinds.Number w b fits v = zoned_characters (length_of (form_at forms b.field)) (number_at w b.field b.position)
   source_spelled kinds.Text w b fits v = (text_at w b fits v).1
 
   number_moved : (w : World nat_cmp) (r : Entry ℕ) (n : ℤ) → FitsIn forms w → IsValue forms kinds.Number r.field r.position → unsigned_abs n < 10 ^ length_of (form_at forms r.field) →
@@ -88,7 +115,7 @@ module _ (forms : List FieldForm) (good : AreForms forms) where
       let len = length_of (form_at forms r.field) in
       let old = zoned_text len (number_at w r.field r.position) in
       let text = text_over side (characters_at w b.field b.position) old in
-      let long : length text ≡ len = over_length side (characters_at w b.field b.position) old ∙ Rattle.rpg_decimal.proofs.ZonedLemmas.length-zoned len (number_at w r.field r.position) (length_low forms r.field r.position good vr) in
+      let long : length text ≡ len = over_length side (characters_at w b.field b.position) old ∙ length-zoned len (number_at w r.field r.position) (length_low forms r.field r.position good vr) in
       or_halt_right (number_in text) 4 w _ fits (λ n is. number_moved w r n fits vr (read_low text len n long is))
   moved_right kinds.Number kinds.Text side w b r fits vb vr =
       let old = text_at w r fits vr in
@@ -122,7 +149,7 @@ module _ (forms : List FieldForm) (good : AreForms forms) where
       current_if_any table n (made_current (form_at forms) b.field n (index_set b.index n w)) h.low (has_position forms b table n h) two
 
   looked_right : (k : Kind) (w : World nat_cmp) (a b : Entry ℕ) (table : Option ℕ) (s : Shows) → IsValue forms k b.field b.position → reads_index forms b.index ≡ true →
-      Rattle.rpg_effect.specs.Rows.holds_position (form_at forms) b.index table (entries_of (form_at forms b.field)) ≡ true → FitsIn forms w → GoesRight forms (looked_up (form_at forms) w b table s (found_in (form_at forms) w a b s))
+      holds_position (form_at forms) b.index table (entries_of (form_at forms b.field)) ≡ true → FitsIn forms w → GoesRight forms (looked_up (form_at forms) w b table s (found_in (form_at forms) w a b s))
   unfolding looked_up
   looked_right k w a b table s v reads holds fits =
       let o = found_in (form_at forms) w a b s in

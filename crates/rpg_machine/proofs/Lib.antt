@@ -19,3 +19,6 @@ pub mod Firsts
 pub mod Readiness
 pub mod Records
 pub mod OneRun
+pub mod Keeping
+pub mod KeepingLines
+pub mod NeverWrong

@@ -2,7 +2,6 @@
 ghost use Rattle.rpg_machine.specs.Laws.{RunsAreOne};
 
 /// A section has one run from a configuration.
-#[tactic(auto, using(crate::proofs::OneRun::runs_are_one))]
 pub fn runs_are_one()
     ensures { RunsAreOne }
 {}
