@@ -13,8 +13,8 @@ use Rattle.rpg_decimal.specs.Fraction.{Fraction, aligned_number}
 use Rattle.rpg_decimal.specs.Place.{place_value}
 use Rattle.rpg_decimal.specs.Zoned.{digit_of, is_minus, last_of, number_in, zoned_text}
 use Rattle.rpg_effect.specs.Act.{act, divided, exact, field_of_entry, found_in, found_shown, index_set, kept, looked_up, made_current, made_current_if_any, moved, number_over, placed, source_text, store, text_over}
-use Rattle.rpg_effect.specs.Effect.{Effect, Leaves, or_halt, quiet, unless_wrong}
-use Rattle.rpg_effect.specs.Ends.{End, Fault, GoesOn, Halt, Wrong}
+use Rattle.rpg_effect.specs.Effect.{Effect, Leaves, or_halt, unless_wrong}
+use Rattle.rpg_effect.specs.Ends.{Fault}
 use Rattle.rpg_effect.specs.Forms.{decimals_of, entries_of, form_at, is_table_form, kind_of, length_of}
 use Rattle.rpg_effect.specs.Operate.{operate, resolved}
 use Rattle.rpg_effect.specs.Rows.{can_hold, holds_position}

@@ -1,18 +1,18 @@
 -- Lines of a right program are never wrong, and values keep fitting their fields.
-use Rattle.std.proofs.Common.{◌≡◌, ℕ, suc, ◌<◌, Bool, true, false, not, ◌&&◌, cond, eqb, List, [], ◌∷◌, map, Option, None, Some, IfSome, length, refl, sym, ap, ◌∙◌, subst, arith}
+use Rattle.std.proofs.Common.{◌≡◌, ℕ, suc, Bool, true, false, cond, eqb, List, [], ◌∷◌, map, Option, None, Some, IfSome, refl, sym, ◌∙◌, subst, arith}
 use Rattle.std.specs.FinSet as set
 use Rattle.std.specs.Ordering.{nat_cmp}
-use Rattle.std.specs.Prelude.{All, ℤ}
+use Rattle.std.specs.Prelude.{All}
 use Rattle.rpg_edit.specs.Paper.{Position, skipped, spaced, turns_overflow_on}
-use Rattle.rpg_effect.specs.Effect.{Effect, Leaves, go_on, quiet, then_go, unless_wrong}
+use Rattle.rpg_effect.specs.Effect.{Effect, Leaves, go_on, unless_wrong}
 use Rattle.rpg_effect.specs.Ends.{End, Fault, GoesOn, Halt, Wrong}
 use Rattle.rpg_effect.specs.Entries.{position_of}
 use Rattle.rpg_effect.specs.Forms.{form_at}
-use Rattle.rpg_effect.specs.LineFaults.{AreRight, field_fault, fits_source, line_fault}
-use Rattle.rpg_effect.specs.Lines.{Draft, Drafted, after_movement, after_skip, after_space, assembled, blank_line, blanked_all, blanked_at, counted, drafted, exception_output, go_on_with, is_asked, laid, line_out, lines_out, next_page, one_out, put_on, put_out, remembered, spaced_after, spaced_before, unless_faulty, where_asked, with_field}
+use Rattle.rpg_effect.specs.LineFaults.{AreRight, field_fault, fits_source}
+use Rattle.rpg_effect.specs.Lines.{Draft, Drafted, after_movement, after_skip, after_space, assembled, blank_line, blanked_all, blanked_at, counted, drafted, exception_output, go_on_with, is_asked, laid, line_out, lines_out, one_out, put_on, put_out, remembered, spaced_before, unless_faulty, where_asked, with_field}
 use Rattle.rpg_effect.specs.Showing.{turned_on}
 use Rattle.rpg_effect.specs.Values.{Number, Text, Value, number_of}
-use Rattle.rpg_effect.specs.World.{Fields, World, three_hold, value_in, with_value}
+use Rattle.rpg_effect.specs.World.{Fields, World, three_hold, value_in}
 use Rattle.rpg_effect.specs.declared.form.FieldForm.{FieldForm}
 use Rattle.rpg_effect.specs.declared.line.File.{File}
 use Rattle.rpg_effect.specs.declared.line.File.TheVariants.{Printer, Disk}
