@@ -10,9 +10,10 @@ use Rattle.rpg_cycle.specs.Levels.{bytes_of, differs, highest_broken}
 use Rattle.rpg_cycle.specs.Phases.{done, indicator_of, read_record}
 use Rattle.rpg_cycle.specs.Stages.{job_end}
 use Rattle.rpg_cycle.specs.declared.ends.JobEnd.{JobEnd}
+use Rattle.rpg_edit.specs.Paper.{Position}
 use Rattle.rpg_effect.specs.declared.input.ControlField.{ControlField}
 use Rattle.rpg_machine.specs.Config.{Config, charged}
-use Rattle.rpg_machine.specs.Running.{Running}
+use Rattle.rpg_machine.specs.Running.{Running, config_on}
 use Rattle.rpg_program.specs.Object.{Object}
 
 -- the record is of that type, whose indicator went on
@@ -39,8 +40,8 @@ pub record IsCompared (fs : List ControlField) (text : List ℕ) (bytes : List (
   pub kept : now ≡ renewed fs text 9 bytes
   pub inside : All (IsControlIn (length text)) fs
 
--- a record was read, where one was to be read: how that ended, and which was selected
+-- a record was read, where one was to be read: how that ended, and which was selected, wherever the form is
 pub record HasRead (p : Object) (left : Left) (text : List ℕ) (old : Running) (e : End) (new : Running) (s : Option Selected) : Type 0 where
   pub config : Config
-  pub read : read_record p left (Some text) old.config ≡ done e (record { config = config; selected = s })
+  pub read : (previous : Option Position) → read_record p left (Some text) (config_on previous old.config) ≡ done e (record { config = config_on previous config; selected = s })
   pub machine : new ≡ record old { config = config }

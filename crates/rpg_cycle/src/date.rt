@@ -8,6 +8,7 @@ ghost use Rattle.rpg_effect.specs.Forms.{form_at, is_date};
 ghost use Rattle.rpg_program.specs.Kept.{IsFieldRow};
 ghost use Rattle.rpg_store.specs.Fits.{Fits};
 
+use crate::program::forms_of;
 use rpg_decimal::read_zoned;
 use rpg_effect::form::{Class, FieldForm};
 use rpg_store::Store;
@@ -51,31 +52,34 @@ fn has_date(form: FieldForm) -> bool
     }
 }
 
-/// Puts the date into a field, where it is a date field.
-fn put_into<S: Store>(store: &mut S, form: FieldForm, field: u16, date: Date)
+/// Puts a date into a field, where it is a date field.
+fn put_into<S: Store>(store: &mut S, form: FieldForm, field: u16, date: i64)
     requires form { form_at (S.forms store.old) field ≡ Some form }
     requires row { IsFieldRow form }
+    requires date { unsigned_abs date < 10 ^ 6 }
     requires fits { Fits (S.forms store.old) (S.contents store.old) (S.currents store.old) }
-    ensures contents { S.contents store.new ≡ with_date date.value field form (S.contents store.old) }
+    ensures contents { S.contents store.new ≡ with_date date field form (S.contents store.old) }
     ensures currents { S.currents store.new ≡ S.currents store.old }
     ensures forms { S.forms store.new ≡ S.forms store.old }
     ensures fits { Fits (S.forms store.new) (S.contents store.new) (S.currents store.new) }
 {
     if has_date(form) {
-        store.set_number(field, 1, date.value);
+        store.set_number(field, 1, date);
     }
 }
 
-/// Puts the date into all date fields.
-pub(crate) fn put_date<S: Store>(store: &mut S, program: &Verified, date: Date)
+/// Puts a date into all date fields.
+pub(crate) fn put_date<S: Store>(store: &mut S, program: &Verified, date: i64)
+    requires date { unsigned_abs date < 10 ^ 6 }
     requires own { S.forms store.old ≡ program.now.fields }
     requires fits { Fits program.now.fields (S.contents store.old) (S.currents store.old) }
-    ensures fields { fields_in (S.contents store.new) (S.currents store.new) ≡ dated date.value 1 program.now.fields (fields_in (S.contents store.old) (S.currents store.old)) }
+    ensures fields { fields_in (S.contents store.new) (S.currents store.new) ≡ dated date 1 program.now.fields (fields_in (S.contents store.old) (S.currents store.old)) }
     ensures own { S.forms store.new ≡ program.now.fields }
     ensures fits { Fits program.now.fields (S.contents store.new) (S.currents store.new) }
 {
+    let forms = forms_of(program);
     let mut field = 1u16;
-    for form in program.program().rows().fields.as_slice() {
+    for form in forms {
         put_into(store, *form, field, date);
         field += 1;
     }

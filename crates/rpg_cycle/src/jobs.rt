@@ -119,7 +119,7 @@ impl<'a, S: Store + Drop> Job<'a, S> {
         requires fits { Fits program.now.fields (S.contents store) (S.currents store) }
         ensures { IfOk result (λ j. j ≡ of.started program.now date.value (record { values = S.contents store; current = S.currents store })) }
     {
-        put_date(&mut store, program, date);
+        put_date(&mut store, program, date.value);
         let machine = Machine::new(alloc, program, store)?;
         let kept = Kept::new(alloc, program)?;
         Ok(Job {

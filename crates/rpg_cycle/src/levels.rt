@@ -81,6 +81,7 @@ fn behind_level<'a>(
 }
 
 /// Whether these are the bytes of a level.
+#[tactic(auto, using(crate::proofs::Fronts::same_behind))]
 fn is_joined(bytes: &[u8], fields: &[ControlField], text: &[u8], level: u8) -> bool
     requires { All (IsControlIn (length text.now)) fields.now }
     ensures { result ≡ spec.same_bytes bytes.now (spec.joined fields.now text.now level) }

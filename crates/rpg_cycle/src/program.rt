@@ -5,22 +5,25 @@ ghost use Rattle.rpg_cycle.specs.Earlier as earlier;
 ghost use Rattle.rpg_cycle.specs.Fitting.{IsControlIn, IsTypeIn};
 ghost use Rattle.rpg_cycle.specs.Phases as phases;
 ghost use Rattle.rpg_cycle.specs.Spending.{cycle_weight};
-ghost use Rattle.rpg_program.specs.Kept.{IsIndicator};
+ghost use Rattle.rpg_program.specs.Kept.{IsFieldRow, IsIndicator, IsProgram};
 ghost use Rattle.rpg_program.specs.Object.{seen, type_row};
 ghost use Rattle.rpg_verify.specs.Bound as words;
 
+use rpg_effect::form::FieldForm;
 use rpg_effect::input::ControlField;
 use rpg_program::row::{RecordType, Rows};
 use rpg_verify::Verified;
 
 /// The rows of a program.
 fn rows_of(program: &Verified) -> &Rows
-    ensures { seen result.now ≡ program.now }
+    ensures same { seen result.now ≡ program.now }
+    ensures kept { IsProgram program.now }
 {
     program.program().rows()
 }
 
 /// What the rules and the format give of record types: their columns are the record's, and there are few.
+#[tactic(auto, using(crate::proofs::Fitting::types_fit))]
 fn types_fit(program: &Verified)
     ensures fit { All (IsTypeIn program.now.record_length) program.now.types }
     ensures few { length program.now.types ≤ 200 }
@@ -67,6 +70,15 @@ pub(crate) fn indicator_of(program: &Verified, row: usize) -> Option<u8>
     type_at(program, row).indicator
 }
 
+/// The forms of a program's fields.
+pub(crate) fn forms_of(program: &Verified) -> &[FieldForm]
+    ensures same { result.now ≡ program.now.fields }
+    ensures rows { All IsFieldRow result.now }
+    ensures few { length result.now ≤ 4000 }
+{
+    rows_of(program).fields.as_slice()
+}
+
 /// The columns of a record.
 pub(crate) fn record_length(program: &Verified) -> usize
     ensures { result ≡ program.now.record_length }
@@ -83,6 +95,7 @@ pub(crate) fn overflow_of(program: &Verified) -> Option<u8>
 }
 
 /// What all phases weigh together is within the program's bound.
+#[tactic(auto, using(crate::proofs::Spending::within_bound))]
 pub(crate) fn is_bounded(program: &Verified)
     ensures sum { cycle_weight program.now ≤ words.bound program.now }
     ensures few { words.bound program.now < 2 ^ 48 }

@@ -1,8 +1,7 @@
 //! The text of a record.
-ghost use Rattle.std.specs.Prelude.{◌≡◌, ◌≤◌, All, IfOk, length, true};
+ghost use Rattle.std.specs.Prelude.{◌≡◌, ◌≤◌, IfOk, length, true};
 ghost use Rattle.std.specs.List.{list_all};
 ghost use Rattle.rpg_cycle.specs.Identifying as spec;
-ghost use Rattle.rpg_program.specs.Kept.{IsCharacter};
 
 use crate::program::record_length;
 use rpg_verify::Verified;
@@ -26,7 +25,6 @@ pub(crate) fn fill(record: &mut Vec<u8>, program: &Verified, text: &[u8]) -> Res
     requires { spec.is_good program.now text.now ≡ true }
     ensures filled { IfOk result (λ _. record.new.items ≡ spec.filled program.now text.now) }
     ensures whole { IfOk result (λ _. length record.new.items ≡ program.now.record_length) }
-    ensures characters { IfOk result (λ _. All IsCharacter record.new.items) }
 {
     record.clear();
     record.extend_from_slice(text)?;
