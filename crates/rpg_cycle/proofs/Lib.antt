@@ -1,5 +1,7 @@
 pub mod Composing
+pub mod Courses
 pub mod Dating
+pub mod Ending
 pub mod Fitting
 pub mod Fronts
 pub mod Joining
