@@ -9,7 +9,6 @@ mod indicators;
 mod jobs;
 mod kept;
 mod levels;
-mod machine_stub;
 mod phases;
 mod program;
 mod record;
@@ -18,5 +17,5 @@ mod selection;
 
 pub use ends::{CycleEnd, JobEnd, StartFault};
 pub use jobs::Job;
-pub use machine_stub::Output;
+pub use rpg_machine::Output;
 pub use runs::{Run, run_records};
