@@ -34,24 +34,24 @@ HeadCycle p earlier c e d out [] left = Cycle p earlier None (begun p c) e d out
 HeadCycle p earlier c e d out (r ∷ rs) left = Cycle p earlier (Some r) (begun p c) e d out × (e ≡ GoesOn → left ≡ rs)
 
 -- A job behind those earlier records, and behind a line placed before, did a cycle with what stands next in the input, whatever
--- follows the bytes that were read.
+-- follows the bytes that were read; one that goes on took a record.
 pub record TakesNext {R : Type 0} (remaining : R → Option (List ℕ)) (earlier : List Selected) (previous : Option Position) (job : Running)
     (reader : RecordReader R) (e : End) (job' : Running) (reader' : RecordReader R) : Type 0 where
   pub next : Option (List ℕ)
   pub does : DoesCycle job earlier previous next e job'
   pub input : Advances (input_of remaining reader) (input_of remaining reader')
       (λ before after. HeadCycle job.program earlier (config_on previous job.config) e does.there does.out (records before) (records after))
+  pub few : e ≡ GoesOn → count_of reader < max_records
+  pub count : e ≡ GoesOn → count_of reader' ≡ count_of reader + 1
+  pub still : e ≡ GoesOn → is_record (answer_of reader') ≡ true
 
--- the same, whatever the earlier records were and whatever was placed before; one that goes on took a record
+-- the same, whatever the earlier records were and whatever was placed before
 pub record TakesCycle {R : Type 0} (remaining : R → Option (List ℕ)) (job : Running) (reader : RecordReader R) (job' : Running)
     (reader' : RecordReader R) : Type 0 where
   pub program : job'.program ≡ job.program
   pub limit : limit_of reader' ≡ limit_of reader
   pub end : End
   pub stage : job'.stage ≡ stage_at end
-  pub few : end ≡ GoesOn → count_of reader < max_records
-  pub count : end ≡ GoesOn → count_of reader' ≡ count_of reader + 1
-  pub still : end ≡ GoesOn → is_record (answer_of reader') ≡ true
   pub does : (earlier : List Selected) (previous : Option Position) → job.left ≡ left_by job.program earlier → job.last ≡ line_of previous
       → TakesNext remaining earlier previous job reader end job' reader'
 
