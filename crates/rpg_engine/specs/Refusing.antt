@@ -1,8 +1,8 @@
 -- What is refused before anything is read: bytes that are no object program, a program that breaks a rule, a date that is none.
 use Rattle.std.specs.Prelude.{◌≡◌, ℕ, ℤ, List, Option, Some, None, Result, Ok, Err}
-use Rattle.rpg_cycle.specs.Date.{date_in}
-use Rattle.rpg_cycle.specs.declared.jobs.StartFault.{StartFault}
-use Rattle.rpg_cycle.specs.declared.jobs.StartFault.TheVariants as starting
+use Rattle.rpg_cycle.specs.Starting.{date_in}
+use Rattle.rpg_cycle.specs.declared.ends.StartFault.{StartFault}
+use Rattle.rpg_cycle.specs.declared.ends.StartFault.TheVariants as starting
 use Rattle.rpg_object.specs.Program.{first_fault, spelling}
 use Rattle.rpg_object.specs.declared.decoding.DecodeFault.{DecodeFault}
 use Rattle.rpg_object.specs.declared.decoding.DecodeFault.TheVariants as decoding

@@ -1,9 +1,9 @@
 -- What is reported of a run, and what each writer has of its output.
 use Rattle.std.specs.Prelude.{◌≡◌, ℕ, ◌≤◌, ℤ, List, Option}
 use Rattle.std.specs.Io.KnownBytes.{Appends}
-use Rattle.rpg_cycle.specs.Ends.{End, EndOfJob, Halt}
 use Rattle.rpg_cycle.specs.Job.{first_fields}
 use Rattle.rpg_cycle.specs.Runs.{Course, IsRun}
+use Rattle.rpg_cycle.specs.Stages.{job_end}
 use Rattle.rpg_effect.specs.Put.{Bytes}
 use Rattle.rpg_files.specs.Records.{records}
 use Rattle.rpg_files.specs.Sending.{AppendsFirst, AppendsPrefix}
@@ -11,13 +11,7 @@ use Rattle.rpg_program.specs.Object.{Object}
 use Rattle.rpg_verify.specs.Bound.{bound}
 use Rattle.rpg_engine.specs.declared.fault.RunFault.{RunFault}
 use Rattle.rpg_engine.specs.declared.fault.RunFault.TheVariants as faults
-use Rattle.rpg_engine.specs.declared.report.Ending.{Ending}
-use Rattle.rpg_engine.specs.declared.report.Ending.TheVariants as endings
 use Rattle.rpg_engine.specs.declared.report.Report.{Report}
-
-abbrev pub end_of : Ending → End
-end_of endings.EndOfJob = EndOfJob
-end_of (endings.Halt k) = Halt k
 
 -- the run of a program over these records, with a date and with its first values
 abbrev pub IsRunOver : Object → ℤ → List ℕ → Course → Bytes → Type 0
@@ -28,7 +22,7 @@ pub record Reports (p : Object) (day : ℤ) (report : Report) (print print' disk
   pub course : Course
   pub bytes : Bytes
   pub run : IsRunOver p day input course bytes
-  pub ending : end_of report.ending ≡ course.ending
+  pub ending : job_end report.ending ≡ course.ending
   pub cycles : report.cycles ≡ course.cycles
   pub most : report.most ≡ course.most
   pub bound : report.bound ≡ bound p

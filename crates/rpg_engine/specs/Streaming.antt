@@ -3,8 +3,10 @@ use Rattle.std.specs.Prelude.{◌≡◌, ℕ, ◌+◌, ◌<◌, ◌⊎◌, Bool,
 use Rattle.std.specs.Io.KnownBytes.{Appends}
 use Rattle.rpg_cycle.specs.Earlier.{Selected, left_by}
 use Rattle.rpg_cycle.specs.Ends.{End, GoesOn}
-use Rattle.rpg_cycle.specs.Job.{DoesCycle, Ended, Going, Running, Stage, stage_at}
+use Rattle.rpg_cycle.specs.Job.{AtWork, DoesCycle}
 use Rattle.rpg_cycle.specs.Phases.{Cycle, UnderWay, begun}
+use Rattle.rpg_cycle.specs.Stages.{Ended, Going, Stage, job_end}
+use Rattle.rpg_cycle.specs.declared.ends.JobEnd.{JobEnd}
 use Rattle.rpg_edit.specs.Paper.{Position}
 use Rattle.rpg_effect.specs.Put.{Bytes, line_of}
 use Rattle.rpg_files.specs.Reading.{Advances, ReadsNext, answer_of, count_of, input_of, is_record, limit_of}
@@ -16,17 +18,15 @@ use Rattle.rpg_files.specs.declared.reader.RecordReader.{RecordReader}
 use Rattle.rpg_machine.specs.Config.{Config, Output}
 use Rattle.rpg_machine.specs.Running.{config_on}
 use Rattle.rpg_program.specs.Object.{Object}
-use Rattle.rpg_engine.specs.Reporting.{end_of}
 use Rattle.rpg_engine.specs.declared.fault.RunFault.{RunFault}
 use Rattle.rpg_engine.specs.declared.fault.RunFault.TheVariants as faults
-use Rattle.rpg_engine.specs.declared.report.Ending.{Ending}
 
 -- ---- one cycle
 
 -- the stage of a job that goes on, or that has ended so
-abbrev pub stage_of : Option Ending → Stage
+abbrev pub stage_of : Option JobEnd → Stage
 stage_of None = Going
-stage_of (Some e) = Ended (end_of e)
+stage_of (Some e) = Ended (job_end e)
 
 -- a cycle with the first of these records, or with none where there is none; where it goes on, the others are left
 abbrev pub HeadCycle : Object → List Selected → Config → End → UnderWay → Output → List (List ℕ) → List (List ℕ) → Type 0
@@ -35,25 +35,22 @@ HeadCycle p earlier c e d out (r ∷ rs) left = Cycle p earlier (Some r) (begun 
 
 -- A job behind those earlier records, and behind a line placed before, did a cycle with what stands next in the input, whatever
 -- follows the bytes that were read; one that goes on took a record.
-pub record TakesNext {R : Type 0} (remaining : R → Option (List ℕ)) (earlier : List Selected) (previous : Option Position) (job : Running)
-    (reader : RecordReader R) (e : End) (job' : Running) (reader' : RecordReader R) : Type 0 where
+pub record TakesNext {R : Type 0} (remaining : R → Option (List ℕ)) (earlier : List Selected) (previous : Option Position) (job : AtWork)
+    (reader : RecordReader R) (e : End) (job' : AtWork) (reader' : RecordReader R) : Type 0 where
   pub next : Option (List ℕ)
   pub does : DoesCycle job earlier previous next e job'
   pub input : Advances (input_of remaining reader) (input_of remaining reader')
       (λ before after. HeadCycle job.program earlier (config_on previous job.config) e does.there does.out (records before) (records after))
+  pub limit : limit_of reader' ≡ limit_of reader
   pub few : e ≡ GoesOn → count_of reader < max_records
   pub count : e ≡ GoesOn → count_of reader' ≡ count_of reader + 1
   pub still : e ≡ GoesOn → is_record (answer_of reader') ≡ true
 
 -- the same, whatever the earlier records were and whatever was placed before
-pub record TakesCycle {R : Type 0} (remaining : R → Option (List ℕ)) (job : Running) (reader : RecordReader R) (job' : Running)
+pub record TakesCycle {R : Type 0} (remaining : R → Option (List ℕ)) (job : AtWork) (reader : RecordReader R) (job' : AtWork)
     (reader' : RecordReader R) : Type 0 where
-  pub program : job'.program ≡ job.program
-  pub limit : limit_of reader' ≡ limit_of reader
-  pub end : End
-  pub stage : job'.stage ≡ stage_at end
-  pub does : (earlier : List Selected) (previous : Option Position) → job.left ≡ left_by job.program earlier → job.last ≡ line_of previous
-      → TakesNext remaining earlier previous job reader end job' reader'
+  pub does : (earlier : List Selected) → job.left ≡ left_by job.program earlier → (previous : Option Position) → job.last ≡ line_of previous
+      → (e : End) × TakesNext remaining earlier previous job reader e job' reader'
 
 -- no cycle was done: the reader failed, or memory ran out, before or after it was asked
 abbrev pub TakesNone : {R : Type 0} → (R → Option (List ℕ)) → RecordReader R → RunFault → RecordReader R → Type 0

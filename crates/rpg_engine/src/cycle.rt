@@ -2,7 +2,8 @@
 
 ghost use Rattle.std.specs.Prelude.{◌≡◌, ◌-◌, ◌^◌, ◌<◌, ◌≤◌, IfErr, IfOk, OnOk, true};
 ghost use Rattle.std.specs.Option.{option_map};
-ghost use Rattle.rpg_cycle.specs.Job.{Cycles, is_going};
+ghost use Rattle.rpg_cycle.specs.Job.{Cycles};
+ghost use Rattle.rpg_cycle.specs.Stages.{is_going};
 ghost use Rattle.rpg_files.specs.Counting.{faults_of};
 ghost use Rattle.rpg_files.specs.Reading.{answer_of, is_record, limit_of, source_of};
 ghost use Rattle.rpg_program.specs.Kept.{IsProgram};
@@ -10,8 +11,7 @@ ghost use Rattle.rpg_verify.specs.Bound.{bound};
 ghost use Rattle.rpg_engine.specs.Streaming.{TakesCycle, TakesNone, stage_of};
 
 use crate::fault::RunFault;
-use crate::report::Ending;
-use rpg_cycle::{CycleEnd, Job};
+use rpg_cycle::{CycleEnd, Job, JobEnd};
 use rpg_files::{Next, RecordReader};
 use rpg_store::FlatStore;
 use std::io::Read;
@@ -23,7 +23,7 @@ const BAD_RECORD: &[u8] = &[0];
 fn cycle_with(
     job: &mut Job<'_, FlatStore>,
     next: Option<&[u8]>,
-) -> Result<Option<Ending>, RunFault>
+) -> Result<Option<JobEnd>, RunFault>
     requires { is_going job.old.stage ≡ true }
     ensures cycle { IfOk result (λ _. Cycles job.old (option_map (λ t. t.now) next.entry) job.new) }
     ensures told { IfOk result (λ e. job.new.stage ≡ stage_of e) }
@@ -32,8 +32,8 @@ fn cycle_with(
 {
     match job.cycle(next)? {
         CycleEnd::GoesOn => Ok(None),
-        CycleEnd::EndOfJob => Ok(Some(Ending::EndOfJob)),
-        CycleEnd::Halt(number) => Ok(Some(Ending::Halt(number))),
+        CycleEnd::EndOfJob => Ok(Some(JobEnd::EndOfJob)),
+        CycleEnd::Halt(number) => Ok(Some(JobEnd::Halt(number))),
         CycleEnd::Failed => Err(RunFault::NoMemory),
     }
 }
@@ -42,7 +42,7 @@ fn cycle_with(
 pub(crate) fn next_cycle<R: Read>(
     job: &mut Job<'_, FlatStore>,
     records: &mut RecordReader<'_, R>,
-) -> Result<Option<Ending>, RunFault>
+) -> Result<Option<JobEnd>, RunFault>
     requires faults { faults_of (source_of records.old) < 2 ^ 64 - 1 }
     requires going { is_going job.old.stage ≡ true }
     requires behind_record { is_record (answer_of records.old) ≡ true }

@@ -10,4 +10,4 @@ mod sending;
 
 pub use engine::execute;
 pub use fault::RunFault;
-pub use report::{Ending, Report};
+pub use report::Report;

@@ -1,7 +1,7 @@
 //! A whole run, a cycle at a time.
 
 ghost use Rattle.std.specs.Prelude.{◌≡◌, ℤ, ◌-◌, ◌^◌, ◌<◌, IfErr, IfOk, true};
-ghost use Rattle.rpg_cycle.specs.Job.{Starts};
+ghost use Rattle.rpg_cycle.specs.Job.{first_fields, started};
 ghost use Rattle.rpg_files.specs.Counting.{device_of, faults_of};
 ghost use Rattle.rpg_files.specs.Reading.{IsFresh, source_of};
 ghost use Rattle.rpg_program.specs.Kept.{IsProgram};
@@ -30,16 +30,16 @@ pub(crate) fn run<R: Read, W1: Write, W2: Write>(
     requires input { faults_of (source_of records.old) < 2 ^ 64 - 1 }
     requires print { faults_of print.old < 2 ^ 64 - 1 }
     requires disk { faults_of disk.old < 2 ^ 64 - 1 }
-    requires starts { (day : ℤ) × Starts job.old.program day job.old }
+    requires starts { (day : ℤ) × (job.old ≡ started job.old.program day (first_fields job.old.program)) }
     requires program { IsProgram job.old.program }
     requires fresh { IsFresh job.old.program.record_length records.old }
     requires bound { bound ≡ words.bound job.old.program }
     ensures same_reader { records.new.reader.ghost_name ≡ records.old.reader.ghost_name }
-    ensures report { IfOk result (λ report. (day : ℤ) → Starts job.old.program day job.old
+    ensures report { IfOk result (λ report. (day : ℤ) → job.old ≡ started job.old.program day (first_fields job.old.program)
         → OfInput (R.remaining (device_of (source_of records.old))) (R.remaining (device_of (source_of records.new)))
         (Reports job.old.program day report (W1.contents (device_of print.old)) (W1.contents (device_of print.new))
         (W2.contents (device_of disk.old)) (W2.contents (device_of disk.new)))) }
-    ensures early { IfErr result (λ e. (day : ℤ) → Starts job.old.program day job.old
+    ensures early { IfErr result (λ e. (day : ℤ) → job.old ≡ started job.old.program day (first_fields job.old.program)
         → OfInput (R.remaining (device_of (source_of records.old))) (R.remaining (device_of (source_of records.new)))
         (SendsParts job.old.program day e (W1.contents (device_of print.old)) (W1.contents (device_of print.new))
         (W2.contents (device_of disk.old)) (W2.contents (device_of disk.new)))) }
