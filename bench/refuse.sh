@@ -1,5 +1,5 @@
 #!/usr/bin/env bash
-# Compiles an example, and runs one, with each of its allocations refused in turn: the answer must be `no memory`, status 1, and
+# Compiles, verifies and runs an example with each of its allocations refused in turn: the answer must be `no memory`, status 1, and
 # nothing is written.
 set -euo pipefail
 
@@ -54,6 +54,11 @@ void *aligned_alloc(size_t align, size_t size) {
 PROGRAM
 cc -O1 -shared -fPIC -o "$work/refuse.so" "$work/refuse.c" -ldl
 
+# Whether a file is as expected, or isn't there where nothing is expected.
+is_as() {
+    if [ -z "$2" ]; then [ ! -e "$1" ]; else cmp -s "$1" "$2"; fi
+}
+
 # Refuses the allocations of a command in turn, until 100 runs are served one after the other. A served run prints this line and
 # writes this file as expected.
 refuse() {
@@ -63,7 +68,7 @@ refuse() {
         rm -f "$written"
         status=0
         line=$(REFUSED=$nth LD_PRELOAD=$work/refuse.so "$rpg2" "${@:5}") || status=$?
-        if [ "$line" = "$wanted" ] && [ "$status" = 0 ] && cmp -s "$written" "$expected"; then
+        if [ "$line" = "$wanted" ] && [ "$status" = 0 ] && is_as "$written" "$expected"; then
             served=$((served + 1))
             continue
         fi
@@ -81,5 +86,6 @@ lister=$top/examples/lister
 total=$top/examples/total
 "$rpg2" compile "$lister/lister.rpg" "$work/lister.obj" > "$work/line"
 refuse compile "compiled" "$work/refused.obj" "$work/lister.obj" compile "$lister/lister.rpg" "$work/refused.obj"
+refuse verify "accepted, bound 5" "$work/unwritten" "" verify "$total/total.obj"
 refuse run "end of job, cycles 3" "$work/print" "$total/total.expected" \
     run "$total/total.obj" "$total/amounts.txt" "$work/print" --date 010576

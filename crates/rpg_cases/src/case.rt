@@ -9,6 +9,20 @@ pub enum Kind {
     Object,
 }
 
+/// What is done with a source, once it is compiled, or with an object.
+#[derive(Clone, Copy)]
+pub enum Task {
+    Verify,
+    Run,
+}
+
+/// What a case asks: the line of `rpg2` that a task is to answer.
+#[derive(Clone, Copy)]
+pub struct Question<'a> {
+    pub task: Task,
+    pub line: &'a str,
+}
+
 /// What the next lines are.
 #[derive(Clone, Copy)]
 enum Part {
@@ -16,6 +30,8 @@ enum Part {
     Prose,
     /// Cards of the source, or hex of the object.
     Text,
+    /// Hex of the object, each line so many times.
+    Times(usize),
     /// What stands for this card or for the bytes from this one on.
     Change(usize),
     Input,
@@ -85,14 +101,21 @@ impl<'a> Case<'a> {
         }
     }
 
-    /// Takes the next line of the file, and answers the line that is wanted where it ends a run.
-    pub fn take(&mut self, line: &'a str) -> Result<Option<&'a str>, AllocError> {
-        match mark_of(line) {
-            None => self.add(line)?,
-            Some(Mark::Answer(answer)) => return Ok(Some(answer)),
-            Some(mark) => self.begin(mark),
-        }
-        Ok(None)
+    /// Takes the next line of the file, and answers what is asked where it ends a run.
+    pub fn take(&mut self, line: &'a str) -> Result<Option<Question<'a>>, AllocError> {
+        let (task, line) = match mark_of(line) {
+            None => {
+                self.add(line)?;
+                return Ok(None);
+            }
+            Some(Mark::Verify(answer)) => (Task::Verify, answer),
+            Some(Mark::Answer(answer)) => (Task::Run, answer),
+            Some(mark) => {
+                self.begin(mark);
+                return Ok(None);
+            }
+        };
+        Ok(Some(Question { task, line }))
     }
 
     /// Forgets what belongs to one run alone.
@@ -111,6 +134,11 @@ impl<'a> Case<'a> {
         match self.part {
             Part::Prose => {}
             Part::Text => self.text.push(line)?,
+            Part::Times(count) => {
+                for _ in 0..count {
+                    self.text.push(line)?;
+                }
+            }
             Part::Change(at) => {
                 self.changes.push(Change { at, line })?;
                 self.part = Part::Change(at.saturating_add(1));
@@ -128,6 +156,7 @@ impl<'a> Case<'a> {
             Mark::Case(name) => self.begin_case(name),
             Mark::Source => self.begin_text(Kind::Source),
             Mark::Object => self.begin_text(Kind::Object),
+            Mark::Times(count) => self.part = Part::Times(count),
             Mark::Change(at) => self.part = Part::Change(at),
             Mark::Allowance(number) => self.allowance = u16::try_from(number).unwrap_or(0),
             Mark::Date(date) => self.date = date,
@@ -146,7 +175,7 @@ impl<'a> Case<'a> {
                 self.part = Part::Prose;
             }
             Mark::Steps(steps) => self.steps = Some(steps),
-            Mark::Answer(_) | Mark::Unknown => self.is_bad = true,
+            Mark::Verify(_) | Mark::Answer(_) | Mark::Unknown => self.is_bad = true,
         }
     }
 

@@ -9,22 +9,27 @@ mod outcome;
 mod spelling;
 mod trial;
 
-use case::Case;
+use case::{Case, Question};
 use outcome::write_report;
 use std::alloc::Global;
 use std::io::{self, Write};
 use std::{env, fs};
 use trial::{told_of, wanted_of};
 
-/// Runs a case that is to answer this, and writes the line that tells what came of it.
-fn run_case<W: Write>(alloc: Global, out: &mut W, case: &Case<'_>, answer: &str) -> io::Result<()> {
+/// Does what the case asks, and writes the line that tells what came of it.
+fn run_case<W: Write>(
+    alloc: Global,
+    out: &mut W,
+    case: &Case<'_>,
+    question: Question<'_>,
+) -> io::Result<()> {
     if case.is_bad {
         out.write_all(b"BAD: ")?;
         out.write_all(case.name.as_bytes())?;
         return out.write_all(b": a mark that isn't known\n");
     }
-    let told = told_of(alloc, case)?;
-    let wanted = wanted_of(alloc, case, answer)?;
+    let told = told_of(alloc, case, question.task)?;
+    let wanted = wanted_of(alloc, case, question.line)?;
     write_report(alloc, out, case.name, &told, &wanted)
 }
 
@@ -32,8 +37,8 @@ fn run_case<W: Write>(alloc: Global, out: &mut W, case: &Case<'_>, answer: &str)
 fn run_all<W: Write>(alloc: Global, out: &mut W, text: &str) -> io::Result<()> {
     let mut case = Case::new(alloc);
     for line in text.lines() {
-        if let Some(answer) = case.take(line)? {
-            run_case(alloc, out, &case, answer)?;
+        if let Some(question) = case.take(line)? {
+            run_case(alloc, out, &case, question)?;
             case.end_run();
         }
     }

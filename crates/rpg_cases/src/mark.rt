@@ -9,6 +9,8 @@ pub enum Mark<'a> {
     Source,
     /// `--- object`: bytes in hex follow.
     Object,
+    /// `--- times N`: hex follows, each line of which stands N times.
+    Times(usize),
     /// `--- card N`: what stands for card N and those behind it follows. `--- byte N`: hex for the bytes from N on follows.
     Change(usize),
     /// `--- allowance N`
@@ -25,7 +27,9 @@ pub enum Mark<'a> {
     Again,
     /// `--- steps N`
     Steps(usize),
-    /// `--- answer LINE` ends a run.
+    /// `--- verify LINE` ends a run that verifies the object.
+    Verify(&'a str),
+    /// `--- answer LINE` ends a run that runs it.
     Answer(&'a str),
     /// Some other word.
     Unknown,
@@ -47,8 +51,10 @@ pub fn mark_of(line: &str) -> Option<Mark<'_>> {
         ("compiled", _) => Mark::Compiled,
         ("again", _) => Mark::Again,
         ("date", _) => Mark::Date(value),
+        ("verify", _) => Mark::Verify(value),
         ("answer", _) => Mark::Answer(value),
         ("card" | "byte", Ok(at)) => Mark::Change(at),
+        ("times", Ok(count)) => Mark::Times(count),
         ("allowance", Ok(number)) => Mark::Allowance(number),
         ("steps", Ok(number)) => Mark::Steps(number),
         _ => Mark::Unknown,

@@ -1,10 +1,10 @@
 //! What a case gives when it is compiled and run in memory, and what it wants.
 
-use crate::case::{Case, Change, Kind, Spelling};
+use crate::case::{Case, Change, Kind, Spelling, Task};
 use crate::outcome::{Told, Wanted};
 use crate::spelling::{push_hex, push_text};
-use old_object::{decode, encode};
-use rpg_cli::{Answer, compile_to_bytes, execute, line};
+use rpg_cli::{Answer, compile_to_bytes, execute, line, verify_bytes};
+use rpg_object::{decode, encode};
 use std::alloc::{AllocError, Global};
 
 /// The source, a card a line.
@@ -100,6 +100,15 @@ fn run(alloc: Global, case: &Case<'_>, object: Vec<u8>) -> Result<Told, AllocErr
     })
 }
 
+/// What the verifier says of the object.
+fn verified(alloc: Global, object: Vec<u8>) -> Result<Told, AllocError> {
+    let answer = match verify_bytes(alloc, &object) {
+        Ok(bound) => Answer::Accepted { bound },
+        Err(fault) => Answer::from(fault),
+    };
+    answered(alloc, answer, object)
+}
+
 /// The bytes that spell the object's program, or none where it is refused.
 fn spelled_again(alloc: Global, object: &[u8]) -> Result<Vec<u8>, AllocError> {
     match decode(alloc, object) {
@@ -108,29 +117,37 @@ fn spelled_again(alloc: Global, object: &[u8]) -> Result<Vec<u8>, AllocError> {
     }
 }
 
-fn told_of_object(alloc: Global, case: &Case<'_>) -> Result<Told, AllocError> {
-    let mut told = run(alloc, case, object_of(alloc, case)?)?;
+fn told_of_object(alloc: Global, case: &Case<'_>, task: Task) -> Result<Told, AllocError> {
+    let object = object_of(alloc, case)?;
+    let mut told = match task {
+        Task::Verify => verified(alloc, object)?,
+        Task::Run => run(alloc, case, object)?,
+    };
     if let Spelling::Again = case.spelling {
         told.object = spelled_again(alloc, &told.object)?;
     }
     Ok(told)
 }
 
-fn told_of_source(alloc: Global, case: &Case<'_>) -> Result<Told, AllocError> {
+fn told_of_source(alloc: Global, case: &Case<'_>, task: Task) -> Result<Told, AllocError> {
     let cards = cards_of(alloc, case)?;
     let source = source_of(alloc, &cards)?;
-    match compile_to_bytes(alloc, &source, case.allowance.max(1)) {
-        Err(fault) => answered(alloc, Answer::from(fault), Vec::new(alloc)),
-        Ok(object) if case.is_run => run(alloc, case, object),
-        Ok(object) => answered(alloc, Answer::Compiled, object),
+    match (
+        compile_to_bytes(alloc, &source, case.allowance.max(1)),
+        task,
+    ) {
+        (Err(fault), _) => answered(alloc, Answer::from(fault), Vec::new(alloc)),
+        (Ok(object), Task::Verify) => verified(alloc, object),
+        (Ok(object), Task::Run) if case.is_run => run(alloc, case, object),
+        (Ok(object), Task::Run) => answered(alloc, Answer::Compiled, object),
     }
 }
 
-/// Compiles and runs the case.
-pub fn told_of(alloc: Global, case: &Case<'_>) -> Result<Told, AllocError> {
+/// What the case's task gives.
+pub fn told_of(alloc: Global, case: &Case<'_>, task: Task) -> Result<Told, AllocError> {
     match case.kind {
-        Kind::Object => told_of_object(alloc, case),
-        Kind::Source => told_of_source(alloc, case),
+        Kind::Object => told_of_object(alloc, case, task),
+        Kind::Source => told_of_source(alloc, case, task),
     }
 }
 

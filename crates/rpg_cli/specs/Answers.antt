@@ -4,6 +4,7 @@ use Rattle.rpg_format.specs.declared.fault.Code.{Code}
 use Rattle.rpg_format.specs.declared.fault.Code.TheVariants.{NoObject, Version, CutShort, LeftOver, NotAllowed, Unused, PastLimit}
 use Rattle.old_effect.specs.declared.outcome.Wrong.{Wrong}
 use Rattle.old_effect.specs.declared.outcome.Wrong.TheVariants as wrong
+use Rattle.rpg_rules.specs.Rules.{number}
 use Rattle.rpg_cli.specs.SourceCodes.{source_code_text}
 use Rattle.rpg_cli.specs.declared.answer.Answer.{Answer}
 use Rattle.rpg_cli.specs.declared.answer.Answer.TheVariants as answer
@@ -26,10 +27,12 @@ wrong_text wrong.Return = codes "return"
 abbrev pub line_text : Answer → List ℕ
 line_text answer.Compiled = codes "compiled"
 line_text (answer.Source card code) = codes "card " ++ decimal card ++ codes ": " ++ source_code_text code
+line_text (answer.Accepted bound) = codes "accepted, bound " ++ decimal bound
 line_text (answer.EndOfJob cycles) = codes "end of job" ++ codes ", cycles " ++ decimal cycles
 line_text (answer.Halt number cycles) = codes "halt " ++ decimal number ++ codes ", cycles " ++ decimal cycles
 line_text (answer.Wrong wrong cycles) = codes "wrong " ++ wrong_text wrong ++ codes ", cycles " ++ decimal cycles
 line_text (answer.NotAnObject offset code) = codes "refused: " ++ code_text code ++ codes " at " ++ decimal offset
+line_text (answer.Refused rule row) = codes "refused: V" ++ decimal (number rule) ++ codes " row " ++ decimal row
 line_text answer.BadDate = codes "bad date"
 line_text answer.InputFailed = codes "input failed"
 line_text answer.OutputFailed = codes "output failed"
@@ -39,10 +42,12 @@ line_text answer.NoMemory = codes "no memory"
 abbrev pub exit_status : Answer → ℕ
 exit_status answer.Compiled = 0
 exit_status (answer.Source card code) = 3
+exit_status (answer.Accepted bound) = 0
 exit_status (answer.EndOfJob cycles) = 0
 exit_status (answer.Halt number cycles) = 5
 exit_status (answer.Wrong wrong cycles) = 5
 exit_status (answer.NotAnObject offset code) = 4
+exit_status (answer.Refused rule row) = 4
 exit_status answer.BadDate = 2
 exit_status answer.InputFailed = 1
 exit_status answer.OutputFailed = 1

@@ -1,6 +1,7 @@
--- The answer to each outcome, the lines of answers, and what the program prints.
+-- What the verifier says of bytes, the answer to each outcome, the lines of answers, and what the program prints.
 pub use Rattle.old_engine.specs.Engine
 pub mod Answers
 pub mod Outcomes
 pub mod Saying
 pub mod SourceCodes
+pub mod Verification

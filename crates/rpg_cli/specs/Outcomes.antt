@@ -1,4 +1,4 @@
--- The answer to each report and fault of a run, and to each fault of a source.
+-- The answer to each report and fault of a run, and to each fault of a source and of an object program.
 use Rattle.std.specs.Prelude.{ℕ}
 use Rattle.rpg_compile.specs.declared.fault.CompileFault.{CompileFault}
 use Rattle.rpg_compile.specs.declared.fault.CompileFault.TheVariants as source
@@ -9,6 +9,8 @@ use Rattle.rpg_cli.specs.declared.answer.Answer.TheVariants as answer
 use Rattle.old_engine.specs.declared.fault.RunFault.{RunFault}
 use Rattle.old_engine.specs.declared.fault.RunFault.TheVariants as faults
 use Rattle.old_engine.specs.declared.report.Report.{Report}
+use Rattle.rpg_cli.specs.declared.verification.ObjectFault.{ObjectFault}
+use Rattle.rpg_cli.specs.declared.verification.ObjectFault.TheVariants as object
 
 abbrev pub answer_to_ending : JobEnd → ℕ → Answer
 answer_to_ending ending.EndOfJob cycles = answer.EndOfJob cycles
@@ -29,3 +31,8 @@ answer_to_fault faults.NoMemory = answer.NoMemory
 abbrev pub answer_to_source_fault : CompileFault → Answer
 answer_to_source_fault (source.At card code) = answer.Source card code
 answer_to_source_fault source.NoMemory = answer.NoMemory
+
+abbrev pub answer_to_object_fault : ObjectFault → Answer
+answer_to_object_fault (object.NotAnObject offset code) = answer.NotAnObject offset code
+answer_to_object_fault (object.Refused rule row) = answer.Refused rule row
+answer_to_object_fault object.NoMemory = answer.NoMemory

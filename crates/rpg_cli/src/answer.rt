@@ -2,13 +2,14 @@
 
 ghost use Rattle.std.specs.Prelude.{◌≡◌};
 
+use crate::verification::ObjectFault;
 use arrayvec::ArrayVec;
 use old_cycle::JobEnd;
 use old_effect::outcome::Wrong;
-use old_object::DecodeFault;
-use rpg_compile::{CompileFault, SourceCode};
 use old_engine::{ReadFault, Report, RunFault};
+use rpg_compile::{CompileFault, SourceCode};
 use rpg_format::fault::Code;
+use rpg_verify::Rule;
 
 /// How a command ended.
 #[derive(Clone, Copy)]
@@ -17,6 +18,8 @@ pub enum Answer {
     Compiled,
     /// The source is refused: its least fault. Cards are numbered from 1; card 0 is the source as a whole.
     Source { card: u16, code: SourceCode },
+    /// The object program keeps all rules: the most steps that a cycle of it can take.
+    Accepted { bound: u64 },
     /// The job came to its end.
     EndOfJob { cycles: u64 },
     /// The job halted with this number.
@@ -25,6 +28,9 @@ pub enum Answer {
     Wrong { wrong: Wrong, cycles: u64 },
     /// The object file is no object program: its first fault.
     NotAnObject { offset: usize, code: Code },
+    /// The object program breaks a rule: the least one, and the first row that breaks it. Rows are counted from 0 in the
+    /// rule's table.
+    Refused { rule: Rule, row: usize },
     /// The date isn't six digits.
     BadDate,
     /// A file that is read can't be opened or read.
@@ -74,13 +80,13 @@ impl From<RunFault> for Answer {
     }
 }
 
-impl From<DecodeFault> for Answer {
+impl From<old_object::DecodeFault> for Answer {
     ghost use Rattle.old_engine.specs.Engine.{decode_fault};
     ghost use Rattle.rpg_cli.specs.Outcomes.{answer_to_fault};
 
     ghost from_gives = { λ fault answer. answer ≡ answer_to_fault (decode_fault fault) };
 
-    fn from(fault: DecodeFault) -> Answer {
+    fn from(fault: old_object::DecodeFault) -> Answer {
         Answer::from(RunFault::from(fault))
     }
 }
@@ -105,6 +111,20 @@ impl From<CompileFault> for Answer {
         match fault {
             CompileFault::At { card, code } => Answer::Source { card, code },
             CompileFault::NoMemory => Answer::NoMemory,
+        }
+    }
+}
+
+impl From<ObjectFault> for Answer {
+    ghost use Rattle.rpg_cli.specs.Outcomes.{answer_to_object_fault};
+
+    ghost from_gives = { λ fault answer. answer ≡ answer_to_object_fault fault };
+
+    fn from(fault: ObjectFault) -> Answer {
+        match fault {
+            ObjectFault::NotAnObject { offset, code } => Answer::NotAnObject { offset, code },
+            ObjectFault::Refused { rule, row } => Answer::Refused { rule, row },
+            ObjectFault::NoMemory => Answer::NoMemory,
         }
     }
 }

@@ -2,9 +2,9 @@
 
 use crate::answer::Answer;
 use crate::translation::compile_to_bytes;
-use old_object::decode;
+use crate::verification::verify_bytes;
 use old_engine::{Report, execute, read_all, send};
-use rpg_words::{CompileWords, RunWords};
+use rpg_words::{CompileWords, RunWords, VerifyWords};
 use std::alloc::Global;
 use std::io::{Error, ErrorKind, Read, Write};
 use std::rt::Files;
@@ -53,6 +53,15 @@ pub(crate) fn compile_files<R: Files + AllocGlobal>(
     }
 }
 
+/// Verifies an object file: the bound of its program.
+pub(crate) fn verify_file<R: Files + AllocGlobal>(
+    rt: &R,
+    words: &VerifyWords,
+) -> Result<u64, Answer> {
+    let object = file_bytes(rt, words.object)?;
+    Ok(verify_bytes(rt.alloc(), &object)?)
+}
+
 /// Runs an object program over its files.
 ///
 /// The object is read and decoded first; then the input is opened, and then the printer's file made, which empties it.
@@ -61,7 +70,7 @@ pub(crate) fn run_files<R: Files + AllocGlobal>(
     words: &RunWords,
 ) -> Result<Report, Answer> {
     let object = file_bytes(rt, words.object)?;
-    decode(rt.alloc(), &object)?;
+    old_object::decode(rt.alloc(), &object)?;
     let mut input = fs::open(rt, words.input).map_err(input_fault)?;
     let mut print = fs::create(rt, words.print).map_err(output_fault)?;
     let report = execute(

@@ -3,7 +3,7 @@
 ghost use Rattle.rpg_cli.specs.Saying.{PrintsALine, Says};
 
 use crate::answer::Answer;
-use crate::files::{compile_files, run_files};
+use crate::files::{compile_files, run_files, verify_file};
 use crate::text::line;
 use old_engine::send_line;
 use rpg_words::{Request, request_of};
@@ -16,6 +16,10 @@ fn answer_to<R: Files + AllocGlobal>(rt: &R, request: &Request) -> Answer {
     match request {
         Request::Compile(words) => match compile_files(rt, words) {
             Ok(()) => Answer::Compiled,
+            Err(answer) => answer,
+        },
+        Request::Verify(words) => match verify_file(rt, words) {
+            Ok(bound) => Answer::Accepted { bound },
             Err(answer) => answer,
         },
         Request::Run(words) => match run_files(rt, words) {

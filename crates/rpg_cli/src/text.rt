@@ -2,6 +2,7 @@
 
 ghost use Rattle.std.specs.Prelude.{◌≡◌, ◌+◌, ◌≤◌, ◌++◌, length, codes, decimal};
 ghost use Rattle.arrayvec.specs.ArrayVec.{array_vec_len};
+ghost use Rattle.rpg_rules.specs.Rules.{number};
 ghost use Rattle.rpg_cli.specs.Answers.{code_text, exit_status, line_text, wrong_text};
 ghost use Rattle.rpg_cli.specs.SourceCodes.{source_code_text};
 
@@ -12,6 +13,7 @@ use itoa::Buffer;
 use old_effect::outcome::Wrong;
 use rpg_compile::SourceCode;
 use rpg_format::fault::Code;
+use rpg_verify::Rule;
 
 /// A line under construction.
 type Text = ArrayVec<u8, 96>;
@@ -60,6 +62,16 @@ fn put_object_fault(text: &mut Text, offset: usize, code: Code)
     put_number(text, offset as u64);
 }
 
+fn put_broken_rule(text: &mut Text, rule: Rule, row: usize)
+    requires { array_vec_len text.old ≤ 40 }
+    ensures { text.new.items ≡ text.old.items ++ codes "refused: V" ++ decimal (number rule) ++ codes " row " ++ decimal row }
+{
+    put(text, b"refused: V");
+    put_number(text, u64::from(rule.number()));
+    put(text, b" row ");
+    put_number(text, row as u64);
+}
+
 fn code_text(code: Code) -> &'static [u8]
     ensures value { result.now ≡ code_text code }
     ensures len { length result.now ≤ 2 }
@@ -92,11 +104,11 @@ fn exit_status(answer: &Answer) -> u8
     ensures { result ≡ exit_status answer.now }
 {
     match answer {
-        Answer::Compiled | Answer::EndOfJob { .. } => 0,
+        Answer::Compiled | Answer::Accepted { .. } | Answer::EndOfJob { .. } => 0,
         Answer::InputFailed | Answer::OutputFailed | Answer::FileTooLarge | Answer::NoMemory => 1,
         Answer::BadDate => 2,
         Answer::Source { .. } => 3,
-        Answer::NotAnObject { .. } => 4,
+        Answer::NotAnObject { .. } | Answer::Refused { .. } => 4,
         Answer::Halt { .. } | Answer::Wrong { .. } => 5,
     }
 }
@@ -110,6 +122,10 @@ pub fn line(answer: &Answer) -> Line
     match *answer {
         Answer::Compiled => put(&mut text, b"compiled"),
         Answer::Source { card, code } => put_source_fault(&mut text, card, code),
+        Answer::Accepted { bound } => {
+            put(&mut text, b"accepted, bound ");
+            put_number(&mut text, bound);
+        }
         Answer::EndOfJob { cycles } => {
             put(&mut text, b"end of job");
             put_cycles(&mut text, cycles);
@@ -125,6 +141,7 @@ pub fn line(answer: &Answer) -> Line
             put_cycles(&mut text, cycles);
         }
         Answer::NotAnObject { offset, code } => put_object_fault(&mut text, offset, code),
+        Answer::Refused { rule, row } => put_broken_rule(&mut text, rule, row),
         Answer::BadDate => put(&mut text, b"bad date"),
         Answer::InputFailed => put(&mut text, b"input failed"),
         Answer::OutputFailed => put(&mut text, b"output failed"),

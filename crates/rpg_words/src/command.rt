@@ -21,6 +21,14 @@ fn compile_command<'a>(alloc: Global) -> Result<Command<'a>, AllocError> {
         .arg(allowance.help("How many backward branches and calls a cycle may take"))
 }
 
+fn verify_command<'a>(alloc: Global) -> Result<Command<'a>, AllocError> {
+    Command::new(alloc, "verify")
+        .about(
+            "Tells whether the object program OBJ may be run, and the most steps that a cycle can take",
+        )
+        .arg(word(alloc, "OBJ").help("The object program"))
+}
+
 fn run_command<'a>(alloc: Global) -> Result<Command<'a>, AllocError> {
     let date = word(alloc, "date").long("date").value_name("N");
     let disk = Arg::new(alloc, "disk")
@@ -38,11 +46,13 @@ fn run_command<'a>(alloc: Global) -> Result<Command<'a>, AllocError> {
 
 pub(crate) fn command<'a>(alloc: Global) -> Result<Command<'a>, AllocError> {
     let compile = compile_command(alloc)?;
+    let verify = verify_command(alloc)?;
     let run = run_command(alloc)?;
     Command::new(alloc, "rpg2")
         .about("RPG II")
         .subcommand_required(true)
         .arg_required_else_help(true)
         .subcommand(compile)?
+        .subcommand(verify)?
         .subcommand(run)
 }

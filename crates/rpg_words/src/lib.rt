@@ -4,4 +4,4 @@
 mod command;
 mod request;
 
-pub use request::{CompileWords, Refusal, Request, RunWords, request_of};
+pub use request::{CompileWords, Refusal, Request, RunWords, VerifyWords, request_of};

@@ -12,6 +12,8 @@ use std::alloc::Global;
 pub enum Request<'a> {
     /// Compiles a source.
     Compile(CompileWords<'a>),
+    /// Verifies an object program.
+    Verify(VerifyWords<'a>),
     /// Runs an object program.
     Run(RunWords<'a>),
 }
@@ -24,6 +26,12 @@ pub struct CompileWords<'a> {
     /// How many backward branches and calls a cycle may take.
     pub allowance: u16,
     ghost positive: { 0 < allowance },
+}
+
+/// The words of `verify`.
+#[derive(Clone, Copy)]
+pub struct VerifyWords<'a> {
+    pub object: &'a str,
 }
 
 /// The words of `run`.
@@ -71,6 +79,12 @@ fn compile_words<'a>(given: &ArgMatches<'a>) -> Option<CompileWords<'a>> {
     })
 }
 
+fn verify_words<'a>(given: &ArgMatches<'a>) -> Option<VerifyWords<'a>> {
+    Some(VerifyWords {
+        object: given.get_str("OBJ")?,
+    })
+}
+
 fn run_words<'a>(given: &ArgMatches<'a>) -> Option<RunWords<'a>> {
     Some(RunWords {
         object: given.get_str("OBJ")?,
@@ -85,6 +99,7 @@ fn read<'a>(alloc: Global, words: &'a [String]) -> Result<Request<'a>, Error> {
     let matches = command.try_get_matches_from_mut(words)?;
     let request = match matches.subcommand() {
         Some(("compile", given)) => compile_words(given).map(Request::Compile),
+        Some(("verify", given)) => verify_words(given).map(Request::Verify),
         Some(("run", given)) => run_words(given).map(Request::Run),
         _ => None,
     };

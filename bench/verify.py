@@ -1,0 +1,151 @@
+#!/usr/bin/env python3
+"""Measures what `rpg2 verify` takes for the largest programs: decoding and verifying, side by side.
+
+usage: bench/verify.py [ROUNDS]        20 rounds where it isn't given; RPG2 names the program
+
+It makes objects of 8,192 instructions, of 1,000 lines of 200 fields (as they are or by a code; and each by an edit word, which costs
+most), and of 200 record types of 100 control fields and 500 input fields. What decoding takes is what the same object with one byte
+behind it takes, which is refused only once all of it is read, less what an empty file takes; what verifying takes is what the object
+takes beyond that. The wall time is the least of some rounds; instructions are counted by callgrind, where valgrind is there. Each
+verification but that of the words is to take less than 20 ms, or the status is 1.
+"""
+
+import os
+import re
+import shutil
+import struct
+import subprocess
+import sys
+import tempfile
+import time
+
+TOP = os.path.dirname(os.path.dirname(os.path.abspath(__file__)))
+RPG2 = os.environ.get("RPG2", os.path.join(TOP, "crates/rpg2/out/rpg2"))
+LIMIT = 0.020
+BY = 10_000  # an index that is a field: 10,000 and its number
+
+
+def numbers(*values):
+    return struct.pack(f">{len(values)}H", *values)
+
+
+def header(record, printer, fields, types=0, lines=0, detail=0):
+    return b"RPGOBJ" + numbers(1, 1000, record, printer, 0, 0, fields, types, lines, detail, 0, 0, 0)
+
+
+def field(kind, of, length, decimals=0, sequence=0, entries=1):
+    return bytes([kind, of]) + numbers(length) + bytes([decimals, sequence]) + numbers(entries)
+
+
+def instruction(operation, factor1=(0, 0), factor2=(0, 0), result=(0, 0), indicators=(0, 0, 0), target=0):
+    return bytes([operation, 0]) + numbers(*factor1, *factor2, *result) + bytes(indicators) + numbers(target) + b"\0"
+
+
+def instructions():
+    """Arithmetic on entries, searches through arrays, and branches forward and back, 8,192 in all."""
+    count = 8_192
+    rows = []
+    for place in range(0, count, 4):
+        rows.append(instruction(1, (2, BY + 1), (2, 99), (2, BY + 1), (1, 2, 3)))
+        rows.append(instruction(19, (1, 0), (2, BY + 1), indicators=(1, 0, 3)))
+        rows.append(instruction(14, indicators=(1, 2, 3), target=count - 1 - place))
+        rows.append(instruction(9, factor2=(2, 5), result=(1, 0)))
+    forms = field(1, 0, 4) + field(1, 1, 4, sequence=1, entries=99)
+    return header(80, 0, 2, detail=count) + forms + b"0000" * 100 + b"".join(rows)
+
+
+def lines_of(puts):
+    """A thousand lines of 200 fields, each put out in one of these ways: a code or W, the field, the word's field."""
+    fields = [bytes([1, ord(edit) if edit else 0, 0, 0]) + numbers(of, 0, word, 60) + bytes(4) for edit, of, word in puts]
+    row = bytes([1, 2, 0, 1, 0, 0]) + numbers(1, 200, 0) + numbers(1) + bytes([0, 1]) + b"".join(fields[i % len(fields)] for i in range(200))
+    forms = field(2, 0, 20) + field(1, 0, 15, 2) + field(2, 3, 24)
+    values = b" " * 20 + b"0" * 15 + b" ,   ,   ,   ,  0.  -EUR"
+    return header(80, 60, 3, lines=1_000) + forms + values + row * 1_000
+
+
+def lines():
+    """Texts as they are, and numbers by a code."""
+    return lines_of([(None, 1, 0), ("J", 2, 0)])
+
+
+def lines_of_words():
+    """Numbers of 15 digits by a word of 24 characters."""
+    return lines_of([("W", 2, 3)])
+
+
+def record_types():
+    """Control fields of nine levels, and input fields with three indicators."""
+    levels = b"".join(bytes([1 + i % 9, 0]) + numbers(i + 1, i + 1) for i in range(100))
+    inputs = b"".join(numbers(i + 1, i + 15, 1) + bytes([1, 2, 3, 0]) for i in range(500))
+    row = bytes([1, 0]) + numbers(0, 100, 500) + levels + inputs
+    return header(9_999, 0, 1, types=200) + field(1, 0, 15) + b"0" * 15 + row * 200
+
+
+# Each with what its verification may take, if that is limited.
+PROGRAMS = (
+    ("8,192 instructions", instructions, LIMIT),
+    ("1,000 lines of 200 fields", lines, LIMIT),
+    ("the same, each by a word of 24", lines_of_words, None),
+    ("200 types of 100 and 500 fields", record_types, LIMIT),
+)
+
+
+def line_of(path):
+    return subprocess.run([RPG2, "verify", path], stdout=subprocess.PIPE, check=False).stdout.decode()
+
+
+def seconds(path, rounds):
+    least = None
+    for _ in range(rounds):
+        began = time.perf_counter()
+        line_of(path)
+        spent = time.perf_counter() - began
+        least = spent if least is None else min(least, spent)
+    return least
+
+
+def instructions_of(path, folder):
+    """What callgrind counts, or None where it isn't there."""
+    if not shutil.which("valgrind"):
+        return None
+    out = os.path.join(folder, "callgrind")
+    told = subprocess.run(["valgrind", "--tool=callgrind", f"--callgrind-out-file={out}", RPG2, "verify", path], capture_output=True, check=False)
+    found = re.search(r"Collected : (\d+)", told.stderr.decode())
+    return int(found.group(1)) if found else None
+
+
+def write(folder, name, content):
+    path = os.path.join(folder, name)
+    with open(path, "wb") as file:
+        file.write(content)
+    return path
+
+
+def measure(folder, make, rounds):
+    """The line, and for decoding and verifying seconds and instructions."""
+    content = make()
+    empty, longer, whole = (write(folder, name, it) for name, it in (("empty", b""), ("longer", content + b"\0"), ("whole", content)))
+    line = line_of(whole).strip()
+    if not line.startswith("accepted") or line_of(longer) != f"refused: B4 at {len(content)}\n":
+        sys.exit(f"{line}; {line_of(longer)}")
+    times = [seconds(path, rounds) for path in (empty, longer, whole)]
+    counts = [instructions_of(path, folder) for path in (empty, longer, whole)]
+    return line, len(content), times, counts
+
+
+def main(words):
+    rounds = int(words[0]) if words else 20
+    is_slow = False
+    print(f"{'program':32} {'bytes':>9} {'decode/ms':>10} {'verify/ms':>10} {'decode/M instr.':>16} {'verify/M instr.':>16}")
+    with tempfile.TemporaryDirectory() as folder:
+        for name, make, limit in PROGRAMS:
+            line, size, times, counts = measure(folder, make, rounds)
+            spent = [f"{1000 * (b - a):10.2f}" for a, b in zip(times, times[1:])]
+            told = [f"{(b - a) / 1e6:16.2f}" if a else f"{'-':>16}" for a, b in zip(counts, counts[1:])]
+            print(f"{name:32} {size:9} {' '.join(spent)} {' '.join(told)}  {line}")
+            is_slow = is_slow or (limit is not None and times[2] - times[1] >= limit)
+    return 1 if is_slow else 0
+
+
+if __name__ == "__main__":
+    sys.exit(main(sys.argv[1:]))
