@@ -10,19 +10,20 @@ use Rattle.rpg_cycle.specs.Runs.{Course, Runs, last_cycle}
 use Rattle.rpg_cycle.specs.Stages.{Stage, Going, Ended, job_end, stage_at}
 use Rattle.rpg_cycle.specs.declared.ends.JobEnd.{JobEnd}
 use Rattle.rpg_cycle.specs.declared.ends.JobEnd.TheVariants as jobs
-use Rattle.rpg_edit.specs.Paper.{end_from, end_of, paper}
+use Rattle.rpg_edit.specs.Paper.{Position, end_from, end_of, paper}
 use Rattle.rpg_effect.proofs.Putting.{end_from-lines}
 use Rattle.rpg_effect.specs.Put.{Bytes, disk_bytes, line_of, with_output}
 use Rattle.rpg_files.specs.Counting.{device_of}
 use Rattle.rpg_files.specs.NextLine.{CanFollow}
-use Rattle.rpg_files.specs.Reading.{Advances, Input, IsFresh, buffered_of, has_ended, input_of, source_of}
-use Rattle.rpg_files.specs.Records.{records}
+use Rattle.rpg_files.specs.Reading.{Advances, Input, IsFresh, answer_of, buffered_of, count_of, has_ended, input_of, is_record, limit_of, source_of}
+use Rattle.rpg_files.specs.Records.{max_records, records}
 use Rattle.rpg_files.specs.declared.reader.RecordReader.{RecordReader}
 use Rattle.rpg_machine.specs.Config.{Config, Output, no_output, with_more}
 use Rattle.rpg_machine.specs.Running.{config_on, no_bytes}
 use Rattle.rpg_program.specs.Object.{Object}
+use Rattle.rpg_verify.specs.Bound.{bound}
 use Rattle.rpg_engine.specs.Inputs.{OfInput}
-use Rattle.rpg_engine.specs.Streaming.{HeadCycle, TakesNext, stage_of}
+use Rattle.rpg_engine.specs.Streaming.{HeadCycle, TakesCycle, TakesNext, stage_of}
 use Rattle.rpg_engine.proofs.Bytes.{disk_goes_on, print_goes_on, put_by}
 use Rattle.rpg_engine.proofs.Courses.{GoesOnWith, IsLast, IsUnderWay, behind, begins, begins_with, ends, one_more}
 
@@ -134,7 +135,7 @@ output_is job mid earlier out next e does empty =
     ∙ ap (λ (last : Option ℕ). with_feed (feed_at (stage_at e) last) (with_output (end_of out.lines) does.out.lines does.out.records job.output)) does.last
     ∙ ap (λ (bytes : Bytes). with_feed (feed_at (stage_at e) (line_of (end_from (end_of out.lines) does.out.lines))) (with_output (end_of out.lines) does.out.lines does.out.records bytes)) empty
 
-steps_are : (job mid : AtWork) (earlier : List Selected) (out : Output) (next : Option (List ℕ)) (e : End) (does : DoesCycle job earlier (end_of out.lines) next e mid) → does.there.config.steps ≡ mid.config.steps
+pub steps_are : (job mid : AtWork) (earlier : List Selected) (out : Output) (next : Option (List ℕ)) (e : End) (does : DoesCycle job earlier (end_of out.lines) next e mid) → does.there.config.steps ≡ mid.config.steps
 steps_are job mid earlier out next e does = ap (λ (c : Config). c.steps) does.config
 
 pub stream_goes_on : {R : Type 0} (remaining : R → Option (List ℕ)) (first job mid : AtWork) (given : Option (List ℕ)) (reader reader' : RecordReader R) (cycles most greater : ℕ)
@@ -174,3 +175,38 @@ stream_goes_on remaining first job mid given reader reader' cycles most greater 
           (one_more first.program (config_on None first.config) (records (steps.read ++ more)) s.earlier (config_on (end_of s.out.lines) job.config) (steps.rest more) (records (buffered_of reader' ++ more)) cycles most greater s.out does.there does.out
             (steps.under_way more can) head (most_is ∙ ap (max most) (sym (steps_are job mid s.earlier s.out t.next e does))));
     }
+
+-- the reader and the job behind a cycle that went on
+pub record HasGoneOn {R : Type 0} (job mid : AtWork) (reader reader' : RecordReader R) : Type 0 where
+  pub program : mid.program ≡ job.program
+  pub limit : limit_of reader' ≡ limit_of reader
+  pub few : count_of reader < max_records
+  pub count : count_of reader' ≡ count_of reader + 1
+  pub still : is_record (answer_of reader') ≡ true
+
+pub has_gone_on : {R : Type 0} (remaining : R → Option (List ℕ)) (job mid : AtWork) (reader reader' : RecordReader R) (earlier : List Selected) (previous : Option Position)
+    → job.left ≡ left_by job.program earlier → job.last ≡ line_of previous → TakesCycle remaining job reader mid reader' → mid.stage ≡ stage_of None → HasGoneOn job mid reader reader'
+has_gone_on remaining job mid reader reader' earlier previous left last takes stage =
+    let took = takes.does earlier left previous last in
+    let on : took.0 ≡ GoesOn = went took.0 (sym took.1.does.stage ∙ stage) in
+    record { program = took.1.does.program; limit = took.1.limit; few = took.1.few on; count = took.1.count on; still = took.1.still on }
+
+pub stream_on : {R : Type 0} (remaining : R → Option (List ℕ)) (first job mid : AtWork) (given : Option (List ℕ)) (reader reader' : RecordReader R) (cycles most greater : ℕ)
+    (print print' print'' disk disk' disk'' : Option (List ℕ)) (gone_print gone_disk gone_print' gone_disk' : ℕ)
+    → Streams remaining first given job reader cycles most print print' disk disk' gone_print gone_disk → TakesCycle remaining job reader mid reader' → mid.stage ≡ stage_of None
+    → greater ≡ max most mid.config.steps → Appends print' print'' mid.output.print → Appends disk' disk'' mid.output.disk
+    → gone_print' ≡ gone_print + length mid.output.print → gone_disk' ≡ gone_disk + length mid.output.disk
+    → Streams remaining first given (taken mid) reader' (cycles + 1) greater print print'' disk disk'' gone_print' gone_disk'
+stream_on remaining first job mid given reader reader' cycles most greater print print' print'' disk disk' disk'' gone_print gone_disk gone_print' gone_disk' s takes stage most_is sent_print sent_disk print_more disk_more =
+    let took = takes.does s.earlier s.left (end_of s.out.lines) s.last in
+    stream_goes_on remaining first job mid given reader reader' cycles most greater print print' print'' disk disk' disk'' gone_print gone_disk gone_print' gone_disk' took.0 s took.1
+    (went took.0 (sym took.1.does.stage ∙ stage)) most_is sent_print sent_disk print_more disk_more
+
+pub stays_bounded : {R : Type 0} (remaining : R → Option (List ℕ)) (first job mid : AtWork) (given : Option (List ℕ)) (reader reader' : RecordReader R) (cycles most : ℕ)
+    (print print' disk disk' : Option (List ℕ)) (gone_print gone_disk : ℕ)
+    → Streams remaining first given job reader cycles most print print' disk disk' gone_print gone_disk → TakesCycle remaining job reader mid reader'
+    → most ≤ bound first.program → mid.config.steps ≤ bound mid.program → max most mid.config.steps ≤ bound first.program
+stays_bounded remaining first job mid given reader reader' cycles most print print' disk disk' gone_print gone_disk s takes before now =
+    let took = takes.does s.earlier s.left (end_of s.out.lines) s.last in
+    let same : bound mid.program ≡ bound first.program = ap bound (took.1.does.program ∙ s.program) in
+    omega (arith, same)

@@ -30,7 +30,7 @@ on_ok (Ok x) P Q f h = f x h
 on_ok (Err e) P Q f h = tt
 
 -- what is told of the bytes to come, told otherwise
-told_of : (old new : Input) (F G : List ℕ → List ℕ → Type 0) → ((x y : List ℕ) → F x y → G x y) → Advances old new F → Advances old new G
+pub told_of : (old new : Input) (F G : List ℕ → List ℕ → Type 0) → ((x y : List ℕ) → F x y → G x y) → Advances old new F → Advances old new G
 told_of old new F G tells adv = record {
   read = adv.read;
   consumed = adv.consumed;
@@ -40,7 +40,7 @@ told_of old new F G tells adv = record {
 }
 
 -- nothing was read
-stands_still : (i : Input) (F : List ℕ → List ℕ → Type 0) → ((x : List ℕ) → F x x) → Advances i i F
+pub stands_still : (i : Input) (F : List ℕ → List ℕ → Type 0) → ((x : List ℕ) → F x x) → Advances i i F
 stands_still i F holds = record {
   read = [];
   consumed = Consumes-nil i.remaining;

@@ -1,4 +1,4 @@
-use Rattle.std.proofs.Common.{◌≡◌, ◌≤◌, ◌-◌, ◌+◌, ℕ, true}
+use Rattle.std.proofs.Common.{◌≡◌, ◌≤◌, ◌-◌, ◌+◌, ◌*◌, ℕ, true}
 use Rattle.rpg_cycle.specs.Stages.{is_going}
 use Rattle.rpg_files.specs.Counting.{device_of, faults_of}
 use Rattle.rpg_files.specs.Reading.{answer_of, count_of, is_record, limit_of, source_of}
@@ -18,6 +18,8 @@ invariant-cycles g l = record {
   same_reader : l.records.reader.ghost_name ≡ l.initial.records.reader.ghost_name;
   count : l.cycles ≡ count_of l.records;
   few : count_of l.records ≤ max_records;
+  few_printed : l.sent.print ≤ l.cycles * 18446744073709551616;
+  few_stored : l.sent.disk ≤ l.cycles * 18446744073709551616;
   bounded : l.most ≤ bound l.initial.job.program;
   input : faults_of (source_of l.records) ≡ faults_of (source_of l.initial.records);
   print : faults_of l.print ≡ faults_of l.initial.print;
