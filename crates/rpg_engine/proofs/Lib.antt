@@ -3,6 +3,7 @@ pub mod Bytes
 pub mod Courses
 pub mod Determined
 pub mod Passing
+pub mod Refusing
 pub mod Stopping
 pub mod Streams
 pub mod Taking

@@ -44,6 +44,13 @@ IsToldOf (Err (faults.Print sent)) object date = MayRun object date
 IsToldOf (Err (faults.Disk sent)) object date = MayRun object date
 IsToldOf (Err faults.NoMemory) object date = Unit {0}
 
+-- the same of the object alone
+abbrev pub IsObjectFault : RunFault → List ℕ → Type 0
+IsObjectFault (faults.Object offset code) object = first_fault object ≡ Some (offset, code)
+IsObjectFault (faults.Refused rule row) object = (p : Object) × Spells object p × IsLeast number (broken p) rule row
+IsObjectFault faults.NoMemory object = Unit {0}
+IsObjectFault e object = ⊥
+
 -- ---- the faults of decoding, of the rules and of the date
 
 abbrev pub decode_fault : DecodeFault → RunFault

@@ -3,9 +3,10 @@
 ghost use Rattle.std.specs.Prelude.{◌≡◌, ℤ, ◌-◌, ◌^◌, ◌<◌, IfErr, IfOk};
 ghost use Rattle.rpg_files.specs.Counting.{device_of, faults_of};
 ghost use Rattle.rpg_program.specs.Object.{Object};
+ghost use Rattle.rpg_rules.specs.Accepted.{IsAccepted};
 ghost use Rattle.rpg_engine.specs.Faults.{FaultsAre, Counts};
 ghost use Rattle.rpg_engine.specs.Inputs.{OfInput};
-ghost use Rattle.rpg_engine.specs.Refusing.{IsJobOf, IsToldOf, MayRun};
+ghost use Rattle.rpg_engine.specs.Refusing.{IsJobOf, IsObjectFault, IsToldOf, MayRun, Spells};
 ghost use Rattle.rpg_engine.specs.Reporting.{Reports, SendsParts};
 
 use crate::fault::RunFault;
@@ -19,7 +20,11 @@ use std::alloc::Global;
 use std::io::{Read, Write};
 
 /// The program that the bytes spell, if it keeps all rules.
-fn verified(alloc: Global, object: &[u8]) -> Result<Verified, RunFault> {
+fn verified(alloc: Global, object: &[u8]) -> Result<Verified, RunFault>
+    ensures spelled { IfOk result (λ v. Spells object.now v) }
+    ensures accepted { IfOk result (λ v. IsAccepted v) }
+    ensures refused { IfErr result (λ e. IsObjectFault e object.now) }
+{
     let program = decode(alloc, object)?;
     match verify(alloc, program) {
         Ok(verified) => Ok(verified),
