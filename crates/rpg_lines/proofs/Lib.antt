@@ -1,0 +1,13 @@
+pub mod Operands
+pub mod Words
+pub mod Moving
+pub mod Fields
+pub mod Keeping
+pub mod Entering
+pub mod Assembling
+pub mod Left
+pub mod Following
+pub mod OneLine
+pub mod AllLines
+pub mod Blanks
+pub mod Weighing

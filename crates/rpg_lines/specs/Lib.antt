@@ -1,0 +1,6 @@
+pub mod Entries
+pub mod Ready
+pub mod Right
+pub mod Drafts
+pub mod Outputs
+pub mod Weighed
