@@ -1,0 +1,10 @@
+-- Lemmas on cycles, on runs under way, and on what was read and sent.
+pub mod Bytes
+pub mod Courses
+pub mod Determined
+pub mod Passing
+pub mod Refusing
+pub mod Stopping
+pub mod Streams
+pub mod Taking
+pub mod Unneeded

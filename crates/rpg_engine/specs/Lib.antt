@@ -1,0 +1,6 @@
+-- What the engine refuses, what it reports of a run, and what a run does a cycle at a time.
+pub mod Faults
+pub mod Inputs
+pub mod Refusing
+pub mod Reporting
+pub mod Streaming

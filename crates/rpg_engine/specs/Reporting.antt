@@ -1,0 +1,42 @@
+-- What is reported of a run, and what each writer has of its output.
+use Rattle.std.specs.Prelude.{◌≡◌, ℕ, ◌≤◌, ℤ, List, Option}
+use Rattle.std.specs.Io.KnownBytes.{Appends}
+use Rattle.rpg_cycle.specs.Job.{first_fields}
+use Rattle.rpg_cycle.specs.Runs.{Course, IsRun}
+use Rattle.rpg_cycle.specs.Stages.{job_end}
+use Rattle.rpg_effect.specs.Put.{Bytes}
+use Rattle.rpg_files.specs.Records.{records}
+use Rattle.rpg_files.specs.Sending.{AppendsFirst, AppendsPrefix}
+use Rattle.rpg_program.specs.Object.{Object}
+use Rattle.rpg_verify.specs.Bound.{bound}
+use Rattle.rpg_engine.specs.declared.fault.RunFault.{RunFault}
+use Rattle.rpg_engine.specs.declared.fault.RunFault.TheVariants as faults
+use Rattle.rpg_engine.specs.declared.report.Report.{Report}
+
+-- the run of a program over these records, with a date and with its first values
+abbrev pub IsRunOver : Object → ℤ → List ℕ → Course → Bytes → Type 0
+IsRunOver p day input course bytes = IsRun p day (first_fields p) (records input) course bytes
+
+-- the report is that of the run over the input's records, and each writer has all of its bytes
+pub record Reports (p : Object) (day : ℤ) (report : Report) (print print' disk disk' : Option (List ℕ)) (input : List ℕ) : Type 0 where
+  pub course : Course
+  pub bytes : Bytes
+  pub run : IsRunOver p day input course bytes
+  pub ending : job_end report.ending ≡ course.ending
+  pub cycles : report.cycles ≡ course.cycles
+  pub most : report.most ≡ course.most
+  pub bound : report.bound ≡ bound p
+  pub few : report.most ≤ report.bound
+  pub printed : Appends print print' bytes.print
+  pub stored : Appends disk disk' bytes.disk
+
+-- The writer that failed has as many bytes of its output as the fault says, and every other a first part.
+abbrev pub HasParts : RunFault → Option (List ℕ) → Option (List ℕ) → Option (List ℕ) → Option (List ℕ) → Bytes → Type 0
+HasParts (faults.Print sent) print print' disk disk' bytes = AppendsFirst print print' sent bytes.print × AppendsPrefix disk disk' bytes.disk
+HasParts (faults.Disk sent) print print' disk disk' bytes = AppendsPrefix print print' bytes.print × AppendsFirst disk disk' sent bytes.disk
+HasParts e print print' disk disk' bytes = AppendsPrefix print print' bytes.print × AppendsPrefix disk disk' bytes.disk
+
+-- such parts of the bytes of the run over the input's records
+abbrev pub SendsParts : Object → ℤ → RunFault → Option (List ℕ) → Option (List ℕ) → Option (List ℕ) → Option (List ℕ) → List ℕ → Type 0
+SendsParts p day e print print' disk disk' input =
+    (course : Course) (bytes : Bytes) → IsRunOver p day input course bytes → HasParts e print print' disk disk' bytes
