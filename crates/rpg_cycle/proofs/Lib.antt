@@ -1,0 +1,13 @@
+pub mod Composing
+pub mod Dating
+pub mod Fitting
+pub mod Fronts
+pub mod Joining
+pub mod JobCycles
+pub mod Machining
+pub mod Nine
+pub mod Recording
+pub mod Selecting
+pub mod Spending
+pub mod Trying
+pub mod Turning

@@ -1,5 +1,15 @@
-//! The written machine's steps and sections.
+//! The written machine: steps and sections of an accepted program, its outputs, and the input fields of a record.
 #![tactic(auto)]
 
+mod cells;
+mod code;
 pub mod control;
+mod inputs;
+mod machine;
+mod output;
+mod section;
+mod state;
 pub mod time;
+
+pub use machine::Machine;
+pub use rpg_lines::Output;

@@ -37,6 +37,7 @@ pub fn store<S: Store + Drop>(
     ensures goes { end_of result ≡ GoesOn }
     ensures world { world_of S.contents S.currents memory.new ≡ acts.store (world_of S.contents S.currents memory.old) to shows n }
     ensures ready { IsReady S.forms S.contents S.currents rows.now.fields.items memory.new }
+    ensures form { memory.new.form ≡ memory.old.form }
 {
     memory.store.set_number(to.field, to.position, n);
     show(&mut memory.on, shows, n.cmp(&0));
@@ -153,6 +154,7 @@ pub fn divide<S: Store + Drop>(
     ensures world { IfSome result (λ n. world_of S.contents S.currents memory.new ≡ record (world_of S.contents S.currents memory.old) { remainder = acts.remainder_after (forms_in rows.now) half (world_of S.contents S.currents memory.old) factor1 factor2 to }) }
     ensures none { result ≡ None → memory.new ≡ memory.old }
     ensures ready { IsReady S.forms S.contents S.currents rows.now.fields.items memory.new }
+    ensures form { memory.new.form ≡ memory.old.form }
 {
     let a = number_at(rows, memory, factor1);
     let b = number_at(rows, memory, factor2);

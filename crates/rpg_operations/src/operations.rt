@@ -59,6 +59,7 @@ fn compare<S: Store + Drop>(
     ensures goes { end_of result ≡ GoesOn }
     ensures world { world_of S.contents S.currents memory.new ≡ record (world_of S.contents S.currents memory.old) { on = shown shows (acts.order_by (forms_in rows.now) (forms_of.kind_of (forms_in rows.now factor1.field)) (world_of S.contents S.currents memory.old) factor1 factor2) (world_of S.contents S.currents memory.old).on } }
     ensures ready { IsReady S.forms S.contents S.currents rows.now.fields.items memory.new }
+    ensures form { memory.new.form ≡ memory.old.form }
 {
     let kind = kind_of(form_at(rows, factor1.field));
     let order = compared(rows, memory, kind, factor1, factor2);
@@ -74,6 +75,7 @@ pub fn act<S: Store + Drop>(rows: &Rows, memory: &mut Memory<S>, action: Action<
     ensures done { quiet (end_of result) (world_of S.contents S.currents memory.new) ≡ acts.act (forms_in rows.now) action (world_of S.contents S.currents memory.old) }
     ensures ends { IsRightEnd (end_of result) }
     ensures ready { IsReady S.forms S.contents S.currents rows.now.fields.items memory.new }
+    ensures form { memory.new.form ≡ memory.old.form }
 {
     match action {
         Action::Compute {
@@ -155,6 +157,7 @@ pub fn operate<S: Store + Drop>(
     ensures done { quiet (end_of result) (world_of S.contents S.currents memory.new) ≡ of.operate (forms_in rows.now) action (world_of S.contents S.currents memory.old) }
     ensures ends { IsRightEnd (end_of result) }
     ensures ready { IsReady S.forms S.contents S.currents rows.now.fields.items memory.new }
+    ensures form { memory.new.form ≡ memory.old.form }
 {
     match resolved(rows, memory, action) {
         None => End::Halt(2),

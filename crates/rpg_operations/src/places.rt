@@ -92,6 +92,7 @@ fn move_to_number<S: Store + Drop>(
     ensures done { quiet (end_of result) (world_of S.contents S.currents memory.new) ≡ acts.moved (forms_in rows.now) (forms_of.kind_of (forms_in rows.now factor2.field)) kinds.Number side (world_of S.contents S.currents memory.old) factor2 to }
     ensures ends { IsRightEnd (end_of result) }
     ensures ready { IsReady S.forms S.contents S.currents rows.now.fields.items memory.new }
+    ensures form { memory.new.form ≡ memory.old.form }
 {
     match number_after(rows, memory, side, factor2, to) {
         None => End::Halt(4),
@@ -125,6 +126,7 @@ fn move_to_text<S: Store + Drop>(
     requires to { IsValue rows.now.fields.items kinds.Text to.field to.position }
     ensures world { quiet GoesOn (world_of S.contents S.currents memory.new) ≡ acts.moved (forms_in rows.now) (forms_of.kind_of (forms_in rows.now factor2.field)) kinds.Text side (world_of S.contents S.currents memory.old) factor2 to }
     ensures ready { IsReady S.forms S.contents S.currents rows.now.fields.items memory.new }
+    ensures form { memory.new.form ≡ memory.old.form }
 {
     let mut places = [0; 256];
     let old = memory.store.text(to.field, to.position);
@@ -148,6 +150,7 @@ pub fn move_places<S: Store + Drop>(
     ensures done { quiet (end_of result) (world_of S.contents S.currents memory.new) ≡ acts.moved (forms_in rows.now) (forms_of.kind_of (forms_in rows.now factor2.field)) (forms_of.kind_of (forms_in rows.now to.field)) side (world_of S.contents S.currents memory.old) factor2 to }
     ensures ends { IsRightEnd (end_of result) }
     ensures ready { IsReady S.forms S.contents S.currents rows.now.fields.items memory.new }
+    ensures form { memory.new.form ≡ memory.old.form }
 {
     match kind_of(form_at(rows, to.field)) {
         Kind::Number => move_to_number(rows, memory, side, factor2, to),

@@ -221,6 +221,7 @@ fn set_index<S: Store + Drop>(rows: &Rows, memory: &mut Memory<S>, index: Index<
     requires holds { rows_of.can_hold (forms_in rows.now) index position ≡ true }
     ensures world { (world_of S.contents S.currents memory.new) ≡ acts.index_set index position (world_of S.contents S.currents memory.old) }
     ensures ready { IsReady S.forms S.contents S.currents rows.now.fields.items memory.new }
+    ensures form { memory.new.form ≡ memory.old.form }
 {
     match index {
         Index::Blank => {}
@@ -236,6 +237,7 @@ fn make_current<S: Store + Drop>(rows: &Rows, memory: &mut Memory<S>, field: u16
     requires high { position ≤ forms_of.entries_of (forms_in rows.now field) }
     ensures world { (world_of S.contents S.currents memory.new) ≡ acts.made_current (forms_in rows.now) field position (world_of S.contents S.currents memory.old) }
     ensures ready { IsReady S.forms S.contents S.currents rows.now.fields.items memory.new }
+    ensures form { memory.new.form ≡ memory.old.form }
 {
     if is_table(form_at(rows, field)) {
         memory.store.set_current(field, position);
@@ -254,6 +256,7 @@ fn make_current_if_any<S: Store + Drop>(
     requires high { HasPosition rows.now.fields.items table position }
     ensures world { (world_of S.contents S.currents memory.new) ≡ acts.made_current_if_any (forms_in rows.now) table position (world_of S.contents S.currents memory.old) }
     ensures ready { IsReady S.forms S.contents S.currents rows.now.fields.items memory.new }
+    ensures form { memory.new.form ≡ memory.old.form }
 {
     match table {
         None => {}
@@ -275,6 +278,7 @@ fn place<S: Store + Drop>(
     requires fits { IfSome found (λ f. FitsPosition rows.now.fields.items factor2 table f.position) }
     ensures world { (world_of S.contents S.currents memory.new) ≡ acts.placed (forms_in rows.now) factor2 table found (world_of S.contents S.currents memory.old) }
     ensures ready { IsReady S.forms S.contents S.currents rows.now.fields.items memory.new }
+    ensures form { memory.new.form ≡ memory.old.form }
 {
     match found {
         None => set_index(rows, memory, factor2.index, 1),
@@ -322,6 +326,7 @@ pub fn look_up<S: Store + Drop>(
     ensures done { quiet (end_of result) (world_of S.contents S.currents memory.new) ≡ acts.looked_up (forms_in rows.now) (world_of S.contents S.currents memory.old) factor2 (option_map acts.field_of_entry to) shows (acts.found_in (forms_in rows.now) (world_of S.contents S.currents memory.old) factor1 factor2 shows) }
     ensures ends { IsRightEnd (end_of result) }
     ensures ready { IsReady S.forms S.contents S.currents rows.now.fields.items memory.new }
+    ensures form { memory.new.form ≡ memory.old.form }
 {
     let found = search(rows, memory, factor1, factor2, shows);
     place(rows, memory, factor2, field_of(to), found);

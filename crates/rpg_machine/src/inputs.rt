@@ -1,0 +1,159 @@
+//! The columns of a record that become values of fields. No field is tested here: the rules have tested them all.
+ghost use Rattle.std.specs.List.{list_all};
+ghost use Rattle.std.specs.Prelude.{◌≡◌, ◌+◌, ◌-◌, ◌≤◌, ◌==◌, All, length, true, None};
+ghost use Rattle.rpg_effect.specs.Effect.{quiet};
+ghost use Rattle.rpg_effect.specs.Ends.{end_of};
+ghost use Rattle.rpg_effect.specs.Forms.{form_at, kind_of, length_of};
+ghost use Rattle.rpg_effect.specs.Input as of;
+ghost use Rattle.rpg_effect.specs.declared.form.Kind.TheVariants as kinds;
+ghost use Rattle.rpg_machine.specs.Inputs.{filled, order_of_text};
+ghost use Rattle.rpg_memory.specs.Memory.{world_of};
+ghost use Rattle.rpg_operations.specs.Good.{IsValue};
+ghost use Rattle.rpg_operations.specs.Ready.{IsReady};
+ghost use Rattle.rpg_program.specs.Kept.{IsCharacter};
+
+use rpg_columns::forms;
+use rpg_decimal::read_zoned;
+use rpg_effect::form::Kind;
+use rpg_effect::input::InputField;
+use rpg_effect::operation::{Entry, Index};
+use rpg_effect::outcome::End;
+use rpg_memory::memory::Memory;
+use rpg_operations::arithmetic::store;
+use rpg_operations::showing::show_if_any;
+use rpg_program::row::Rows;
+use rpg_store::store::{Store, set_text};
+use std::cmp::Ordering;
+
+/// The halt of a character that is no digit.
+const BAD_DIGIT: u8 = 4;
+
+/// The columns of a record that an input field takes.
+fn columns_of(text: &[u8], input: InputField<u16>) -> &[u8]
+    requires low { 1 ≤ input.from }
+    requires ordered { input.from ≤ input.to }
+    requires high { input.to ≤ length text.now }
+    ensures value { result.now ≡ of.columns input text.now }
+    ensures length { length result.now ≡ input.to + 1 - input.from }
+{
+    &text[usize::from(input.from) - 1..usize::from(input.to)]
+}
+
+fn is_blank(text: &[u8]) -> bool
+    ensures { result ≡ list_all (λ c. c == 32) text.now }
+{
+    'characters: for c in text {
+        if *c != b' ' {
+            return false;
+        }
+    }
+    true
+}
+
+/// How a text stands to zero: only that it is blank is shown.
+fn order_of_text(text: &[u8]) -> Option<Ordering>
+    ensures { result ≡ order_of_text text.now }
+{
+    if is_blank(text) {
+        Some(Ordering::Equal)
+    } else {
+        None
+    }
+}
+
+/// Puts the number that digits spell into a field, if they spell one.
+#[tactic(auto, using(crate::proofs::Filling::numbers), unfolding(rpg_effect::specs::Showing::shown_if_any))]
+fn fill_number<S: Store + Drop>(
+    rows: &Rows,
+    memory: &mut Memory<S>,
+    input: InputField<u16>,
+    digits: &[u8],
+) -> End
+    requires ready { IsReady S.forms S.contents S.currents rows.now.fields.items memory.old }
+    requires field { IsValue rows.now.fields.items kinds.Number input.field 1 }
+    requires long { length digits.now ≡ length_of (form_at rows.now.fields.items input.field) }
+    ensures done { quiet (end_of result) (world_of S.contents S.currents memory.new) ≡
+        filled kinds.Number input digits.now (world_of S.contents S.currents memory.old) }
+    ensures ready { IsReady S.forms S.contents S.currents rows.now.fields.items memory.new }
+    ensures form { memory.new.form ≡ memory.old.form }
+{
+    match read_zoned(digits) {
+        Ok(n) => {
+            let to = Entry {
+                field: input.field,
+                index: Index::Blank,
+                position: 1,
+            };
+            store(rows, memory, to, input.shows, n)
+        }
+        Err(_) => End::Halt(BAD_DIGIT),
+    }
+}
+
+/// Puts characters into a field.
+fn fill_text<S: Store + Drop>(
+    rows: &Rows,
+    memory: &mut Memory<S>,
+    input: InputField<u16>,
+    text: &[u8],
+) -> End
+    requires ready { IsReady S.forms S.contents S.currents rows.now.fields.items memory.old }
+    requires field { IsValue rows.now.fields.items kinds.Text input.field 1 }
+    requires long { length text.now ≡ length_of (form_at rows.now.fields.items input.field) }
+    requires characters { All IsCharacter text.now }
+    ensures done { quiet (end_of result) (world_of S.contents S.currents memory.new) ≡
+        filled kinds.Text input text.now (world_of S.contents S.currents memory.old) }
+    ensures ready { IsReady S.forms S.contents S.currents rows.now.fields.items memory.new }
+    ensures form { memory.new.form ≡ memory.old.form }
+{
+    set_text(&mut memory.store, input.field, 1, text);
+    show_if_any(&mut memory.on, input.shows, order_of_text(text));
+    End::GoesOn
+}
+
+/// Fills one field.
+fn fill_one<S: Store + Drop>(
+    rows: &Rows,
+    memory: &mut Memory<S>,
+    text: &[u8],
+    input: InputField<u16>,
+) -> End
+    requires ready { IsReady S.forms S.contents S.currents rows.now.fields.items memory.old }
+    requires right { of.input_fault (form_at rows.now.fields.items) (length text.now) input ≡ None }
+    requires characters { All IsCharacter text.now }
+    ensures done { quiet (end_of result) (world_of S.contents S.currents memory.new) ≡
+        of.field_in (form_at rows.now.fields.items) text.now input (world_of S.contents S.currents memory.old) }
+    ensures ready { IsReady S.forms S.contents S.currents rows.now.fields.items memory.new }
+    ensures form { memory.new.form ≡ memory.old.form }
+{
+    let part = columns_of(text, input);
+    match forms::kind_of(forms::form_at(rows, input.field)) {
+        Kind::Number => fill_number(rows, memory, input, part),
+        Kind::Text => fill_text(rows, memory, input, part),
+    }
+}
+
+/// Fills the fields of a record, in order, until one halts.
+#[tactic(auto, unfolding(rpg_effect::specs::Input::record_in))]
+pub(crate) fn fill_all<S: Store + Drop>(
+    rows: &Rows,
+    memory: &mut Memory<S>,
+    text: &[u8],
+    inputs: &[InputField<u16>],
+) -> End
+    requires ready { IsReady S.forms S.contents S.currents rows.now.fields.items memory.old }
+    requires right { All (λ f. of.input_fault (form_at rows.now.fields.items) (length text.now) f ≡ None) inputs.now }
+    requires characters { All IsCharacter text.now }
+    ensures done { quiet (end_of result) (world_of S.contents S.currents memory.new) ≡
+        of.record_in (form_at rows.now.fields.items) text.now inputs.now (world_of S.contents S.currents memory.old) }
+    ensures ready { IsReady S.forms S.contents S.currents rows.now.fields.items memory.new }
+    ensures form { memory.new.form ≡ memory.old.form }
+{
+    'fields: for input in inputs {
+        match fill_one(rows, memory, text, *input) {
+            End::GoesOn => {}
+            End::Halt(number) => return End::Halt(number),
+        }
+    }
+    End::GoesOn
+}

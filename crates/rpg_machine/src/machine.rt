@@ -1,0 +1,253 @@
+//! The machine, to its callers.
+ghost use Rattle.std.specs.Prelude.{◌≡◌, ◌≤◌, length, IfOk};
+ghost use Rattle.rpg_machine.specs.Running as of;
+ghost use Rattle.rpg_lines.specs.Right.{HasRoom};
+ghost use Rattle.rpg_machine.specs.State.{running_of};
+ghost use Rattle.rpg_memory.specs.Memory.{rest_value};
+ghost use Rattle.rpg_program.specs.Object.{seen};
+ghost use Rattle.std.specs.FinSet as set;
+ghost use Rattle.std.specs.Prelude.{[], ◌∷◌};
+
+use crate::cells::Cells;
+use crate::code::Code;
+use crate::inputs::fill_all;
+use crate::output::{put_out, weight_of};
+use crate::section::run_section;
+use crate::state::{State, Writer};
+use crate::time::OutputTime;
+use rpg_decimal::{Rest, Scale};
+use rpg_edit::Form;
+use rpg_effect::outcome::End;
+use rpg_lines::{Entries, Output};
+use rpg_memory::indicators::Indicators;
+use rpg_memory::memory::Memory;
+use rpg_program::row::Rows;
+use rpg_program::section::Section;
+use rpg_store::store::Store;
+use rpg_verify::Verified;
+use std::alloc::{AllocError, Global};
+use std::marker::Model;
+
+/// The indicator L0, which is on from the start.
+const LEVEL_ZERO: u8 = 100;
+
+/// The indicator 1P, which is on until the first record.
+const FIRST_PAGE: u8 = 111;
+
+/// An accepted program that is run, with the output since it was taken.
+///
+/// After an `Err` or a halt nothing is known of its values: it takes no further call but for its steps and its output.
+#[derive(Drop)]
+pub struct Machine<'a, S: Store + Drop> {
+    alloc: Global,
+    code: Code<'a>,
+    state: State<S>,
+}
+
+impl<'a, S: Store + Drop> Model for Machine<'a, S> {
+    ghost use Rattle.rpg_machine.specs.Running.{Running};
+    ghost use Rattle.rpg_machine.specs.Codes.{config_code};
+    ghost use Rattle.std.specs.Coded.{codes};
+
+    ghost Value = { Running };
+
+    ghost coded = { Prim.hlevel (codes, config_code) };
+
+    ghost use Rattle.rpg_machine.specs.State.{IsKept, running_of};
+
+    ghost view = { λ m. running_of S.contents S.currents m.code m.state };
+
+    ghost invariant = { λ m. IsKept S.forms m.code m.state };
+}
+
+/// L0 and 1P.
+fn first_on() -> Indicators
+    ensures { result ≡ set.from_list (100 ∷ 111 ∷ []) }
+{
+    let mut on = Indicators::new();
+    on.turn(FIRST_PAGE, true);
+    on.turn(LEVEL_ZERO, true);
+    on
+}
+
+/// Room for a line of either file.
+fn line_room(alloc: Global, rows: &Rows) -> Result<Vec<u8>, AllocError>
+    ensures { IfOk result (λ text. HasRoom (seen rows.now) text.items) }
+{
+    let places = rows.printer_length.max(rows.disk_length);
+    let text = vec![in alloc; b' '; usize::from(places)]?;
+    Ok(text)
+}
+
+/// What a program starts with, over the values in a store.
+fn first_state<S: Store + Drop>(
+    alloc: Global,
+    rows: &Rows,
+    store: S,
+) -> Result<State<S>, AllocError>
+    ensures start { IfOk result (λ s. running_of S.contents S.currents (seen rows.now) s ≡
+        of.started (seen rows.now) (record { values = S.contents store; current = S.currents store })) }
+    ensures room { IfOk result (λ s. HasRoom (seen rows.now) s.writer.text.items) }
+    ensures store { IfOk result (λ s. s.memory.store ≡ store) }
+{
+    let text = line_room(alloc, rows)?;
+    Ok(State {
+        memory: Memory {
+            store,
+            on: first_on(),
+            remainder: Rest {
+                value: 0,
+                dec: Scale { value: 0 },
+            },
+            form: Form::new(),
+            was_overflow: false,
+            has_turned_on: false,
+        },
+        writer: Writer {
+            output: Output {
+                print: Vec::new(alloc),
+                disk: Vec::new(alloc),
+            },
+            text,
+            to_blank: Entries::new(),
+        },
+        section: Section::Detail,
+        place: 0,
+        cells: Cells::new(),
+        allowance: rows.allowance,
+        steps: 0,
+    })
+}
+
+impl<'a, S: Store + Drop> Machine<'a, S> {
+    ghost use Rattle.std.specs.Prelude.{◌≡◌, ◌<◌, ◌≤◌, ◌^◌, All, length, true, IfOk, OnOk};
+    ghost use Rattle.std.specs.FinSet as set;
+    ghost use Rattle.rpg_effect.specs.Ends.{end_of};
+    ghost use Rattle.rpg_machine.specs.Outputs.{FillsFields, PutsOut};
+    ghost use Rattle.rpg_machine.specs.Potential.{InBound};
+    ghost use Rattle.rpg_machine.specs.Ready.{IsReady};
+    ghost use Rattle.rpg_machine.specs.Run.{RunsTo};
+    ghost use Rattle.rpg_machine.specs.Running as of;
+    ghost use Rattle.rpg_machine.specs.Running.{Did};
+    ghost use Rattle.rpg_program.specs.Kept.{IsCharacter};
+    ghost use Rattle.rpg_program.specs.Sections.{has_end};
+    ghost use Rattle.rpg_store.specs.Fits.{Fits};
+
+    /// A machine before its first cycle: no indicator on but L0 and 1P, the form at its first line, and the values that are in the store.
+    pub fn new(alloc: Global, program: &'a Verified, store: S) -> Result<Machine<'a, S>, AllocError>
+        requires own { S.forms store ≡ program.now.fields }
+        requires fits { Fits program.now.fields (S.contents store) (S.currents store) }
+        ensures start { IfOk result (λ m. m ≡ of.started program.now (record { values = S.contents store; current = S.currents store })) }
+        ensures ready { IfOk result (λ m. IsReady m) }
+    {
+        let code = Code::new(alloc, program)?;
+        let state = first_state(alloc, code.rows(), store)?;
+        Ok(Machine { alloc, code, state })
+    }
+
+    /// Runs detail or total calculations from their first place.
+    pub fn section(&mut self, section: Section) -> Result<End, AllocError>
+        requires ready { IsReady self.old }
+        requires section { has_end section ≡ true }
+        requires steps { self.old.config.steps < 2 ^ 63 }
+        ensures done { IfOk result (λ e. Did (RunsTo self.old.program section) self.old (end_of e) self.new) }
+        ensures ready { IfOk result (λ e. e ≡ End.GoesOn → IsReady self.new) }
+        ensures bound { OnOk result (InBound section self.old self.new) }
+    {
+        self.code.is_orderly();
+        run_section(&self.code, &mut self.state, section)
+    }
+
+    /// Puts out the lines of a time that are asked for.
+    pub fn output(&mut self, time: OutputTime) -> Result<End, AllocError>
+        requires ready { IsReady self.old }
+        requires steps { self.old.config.steps < 2 ^ 63 }
+        ensures done { IfOk result (λ e. Did (PutsOut self.old.program time) self.old (end_of e) self.new) }
+        ensures ready { IfOk result (λ e. e ≡ End.GoesOn → IsReady self.new) }
+    {
+        let rows = self.code.rows();
+        self.state.steps += u64::from(weight_of(rows, time));
+        put_out(rows, &mut self.state.memory, &mut self.state.writer, time)
+    }
+
+    /// Fills the fields of a record type, the first of which is 0, from a record that has all its columns.
+    pub fn fill_fields(&mut self, row: usize, text: &[u8]) -> End
+        requires ready { IsReady self.old }
+        requires steps { self.old.config.steps < 2 ^ 63 }
+        requires row { row < length self.old.program.types }
+        requires filled { length text.now ≡ self.old.program.record_length }
+        requires characters { All IsCharacter text.now }
+        ensures done { Did (FillsFields self.old.program row text.now) self.old (end_of result) self.new }
+        ensures ready { result ≡ End.GoesOn → IsReady self.new }
+    {
+        let rows = self.code.rows();
+        let inputs = &rows.types[row].inputs;
+        self.state.steps += inputs.len() as u64;
+        fill_all(rows, &mut self.state.memory, text, inputs)
+    }
+
+    /// The allowance full, and no steps.
+    pub fn refill(&mut self)
+        ensures refilled { self.new ≡ of.refilled self.old }
+        ensures ready { IsReady self.old → IsReady self.new }
+    {
+        self.state.allowance = self.code.rows().allowance;
+        self.state.steps = 0;
+    }
+
+    /// The steps since the machine was refilled.
+    pub fn steps(&self) -> u64
+        ensures { result ≡ self.now.config.steps }
+    {
+        self.state.steps
+    }
+
+    /// Adds to the steps.
+    pub fn charge(&mut self, n: u32)
+        requires { self.old.config.steps < 2 ^ 63 }
+        ensures charged { self.new ≡ of.with_charge n self.old }
+        ensures ready { IsReady self.old → IsReady self.new }
+    {
+        self.state.steps += u64::from(n);
+    }
+
+    pub fn indicator(&self, n: u8) -> bool
+        requires low { 1 ≤ n }
+        requires high { n ≤ 129 }
+        ensures { result ≡ set.contains self.now.config.world.on n }
+    {
+        self.state.memory.on.is_on(n)
+    }
+
+    pub fn set_indicator(&mut self, n: u8, on: bool)
+        requires low { 1 ≤ n }
+        requires high { n ≤ 129 }
+        ensures set { self.new ≡ of.with_indicator n on self.old }
+        ensures ready { IsReady self.old → IsReady self.new }
+    {
+        self.state.memory.on.turn(n, on);
+    }
+
+    /// Ends the last line on the printer.
+    pub fn finish(&mut self) -> Result<(), AllocError>
+        ensures { OnOk result (self.new ≡ of.finished self.old) }
+    {
+        if self.state.memory.form.last().is_some() {
+            self.state.writer.output.print.push(b'\n')?;
+        }
+        Ok(())
+    }
+
+    /// The bytes that were put out since they were taken last.
+    pub fn take_output(&mut self) -> Output
+        ensures print { result.print.items ≡ self.old.output.print }
+        ensures disk { result.disk.items ≡ self.old.output.disk }
+        ensures rest { self.new ≡ of.taken self.old }
+        ensures ready { IsReady self.old → IsReady self.new }
+    {
+        let output = &mut self.state.writer.output;
+        let print = std::mem::replace(&mut output.print, Vec::new(self.alloc));
+        let disk = std::mem::replace(&mut output.disk, Vec::new(self.alloc));
+        Output { print, disk }
+    }
+}

@@ -1,0 +1,60 @@
+//! The outputs of a cycle.
+ghost use Rattle.std.specs.Prelude.{◌≡◌, ◌≤◌, length, IfOk, OnOk};
+ghost use Rattle.rpg_effect.specs.Ends.{end_of};
+ghost use Rattle.rpg_effect.specs.Put.{IsDone};
+ghost use Rattle.rpg_machine.specs.Accepted.{IsOrderly};
+ghost use Rattle.rpg_machine.specs.Outputs as spec;
+ghost use Rattle.rpg_lines.specs.Outputs.{bytes_of};
+ghost use Rattle.rpg_lines.specs.Right.{HasRoom};
+ghost use Rattle.rpg_machine.specs.State.{IsAble};
+ghost use Rattle.rpg_memory.specs.Memory.{held_of};
+ghost use Rattle.rpg_program.specs.Object.{seen};
+
+use crate::state::Writer;
+use crate::time::OutputTime;
+use rpg_effect::outcome::End;
+use rpg_lines::weights::{detail_weight, overflow_weight, total_weight};
+use rpg_lines::{put_details, put_overflow, put_totals};
+use rpg_memory::memory::Memory;
+use rpg_program::row::Rows;
+use rpg_store::store::Store;
+use std::alloc::AllocError;
+
+/// What the lines of a time weigh.
+pub(crate) fn weight_of(rows: &Rows, time: OutputTime) -> u32
+    requires { IsOrderly (seen rows.now) }
+    ensures weight { result ≡ spec.output_weight (seen rows.now) time }
+    ensures few { result ≤ 201000 }
+{
+    match time {
+        OutputTime::Detail => detail_weight(rows),
+        OutputTime::Total => total_weight(rows),
+        OutputTime::Overflow => overflow_weight(rows),
+    }
+}
+
+/// Puts out the lines of a time.
+pub(crate) fn put_out<S: Store + Drop>(
+    rows: &Rows,
+    memory: &mut Memory<S>,
+    writer: &mut Writer,
+    time: OutputTime,
+) -> Result<End, AllocError>
+    requires orderly { IsOrderly (seen rows.now) }
+    requires able { IsAble S.forms S.contents S.currents (seen rows.now) memory.old }
+    requires room { HasRoom (seen rows.now) writer.old.text.items }
+    ensures done { IfOk result (λ e. IsDone (spec.output_effect (seen rows.now) time) (held_of S.contents S.currents memory.old) (bytes_of writer.old.output)
+        (end_of e) (held_of S.contents S.currents memory.new) (bytes_of writer.new.output)) }
+    ensures able { OnOk result (IsAble S.forms S.contents S.currents (seen rows.now) memory.new) }
+    ensures own { S.forms memory.new.store ≡ S.forms memory.old.store }
+    ensures room { length writer.new.text.items ≡ length writer.old.text.items }
+{
+    let output = &mut writer.output;
+    let text = &mut writer.text;
+    let to_blank = &mut writer.to_blank;
+    match time {
+        OutputTime::Detail => put_details(rows, memory, output, text, to_blank),
+        OutputTime::Total => put_totals(rows, memory, output, text, to_blank),
+        OutputTime::Overflow => put_overflow(rows, memory, output, text, to_blank),
+    }
+}

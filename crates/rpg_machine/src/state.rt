@@ -1,0 +1,28 @@
+//! What changes while a program runs.
+
+use crate::cells::Cells;
+use rpg_lines::{Entries, Output};
+use rpg_memory::memory::Memory;
+use rpg_program::section::Section;
+use rpg_store::store::Store;
+
+/// The bytes that were put out, and room for the line that is assembled.
+#[derive(Drop)]
+pub(crate) struct Writer {
+    pub output: Output,
+    pub text: Vec<u8>,
+    pub to_blank: Entries,
+}
+
+/// Where a program is and all that it has changed.
+#[derive(Drop)]
+pub(crate) struct State<S: Store + Drop> {
+    pub memory: Memory<S>,
+    pub writer: Writer,
+    pub section: Section,
+    pub place: u16,
+    pub cells: Cells,
+    /// Backward branches and calls that are left.
+    pub allowance: u16,
+    pub steps: u64,
+}
