@@ -1,2 +1,3 @@
--- Lemmas on spelled programs.
+-- Lemmas on parts of an output, and on spelled programs.
+pub mod Parts
 pub mod Spelled

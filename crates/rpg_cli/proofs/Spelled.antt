@@ -4,7 +4,7 @@ use Rattle.rpg_format.specs.declared.fault.Fault.{Fault}
 use Rattle.old_object.specs.Object.{Object}
 use Rattle.old_object.specs.Program.{fault_in, first_fault, reading}
 use Rattle.old_object.proofs.ObjectLaws.{no_fault}
-use Rattle.old_engine.specs.Engine.{Spells}
+use Rattle.rpg_cli.specs.Translation.{Spells}
 
 read_whole : (bytes : List ℕ) (p : Object) → Spells bytes p → (r : Result Object Fault) → reading bytes ≡ r → fault_in bytes r ≡ None
 read_whole bytes p spells (Ok q) is = refl

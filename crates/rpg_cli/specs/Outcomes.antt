@@ -2,26 +2,26 @@
 use Rattle.std.specs.Prelude.{ℕ}
 use Rattle.rpg_compile.specs.declared.fault.CompileFault.{CompileFault}
 use Rattle.rpg_compile.specs.declared.fault.CompileFault.TheVariants as source
-use Rattle.old_cycle.specs.declared.flow.JobEnd.{JobEnd}
-use Rattle.old_cycle.specs.declared.flow.JobEnd.TheVariants as ending
+use Rattle.rpg_cycle.specs.declared.ends.JobEnd.{JobEnd}
+use Rattle.rpg_cycle.specs.declared.ends.JobEnd.TheVariants as ending
 use Rattle.rpg_cli.specs.declared.answer.Answer.{Answer}
 use Rattle.rpg_cli.specs.declared.answer.Answer.TheVariants as answer
-use Rattle.old_engine.specs.declared.fault.RunFault.{RunFault}
-use Rattle.old_engine.specs.declared.fault.RunFault.TheVariants as faults
-use Rattle.old_engine.specs.declared.report.Report.{Report}
+use Rattle.rpg_engine.specs.declared.fault.RunFault.{RunFault}
+use Rattle.rpg_engine.specs.declared.fault.RunFault.TheVariants as faults
+use Rattle.rpg_engine.specs.declared.report.Report.{Report}
 use Rattle.rpg_cli.specs.declared.verification.ObjectFault.{ObjectFault}
 use Rattle.rpg_cli.specs.declared.verification.ObjectFault.TheVariants as object
 
-abbrev pub answer_to_ending : JobEnd → ℕ → Answer
-answer_to_ending ending.EndOfJob cycles = answer.EndOfJob cycles
-answer_to_ending (ending.Halt number) cycles = answer.Halt number cycles
-answer_to_ending (ending.Wrong wrong) cycles = answer.Wrong wrong cycles
+abbrev pub answer_to_ending : JobEnd → (cycles most bound : ℕ) → Answer
+answer_to_ending ending.EndOfJob cycles most bound = answer.EndOfJob cycles most bound
+answer_to_ending (ending.Halt number) cycles most bound = answer.Halt number cycles most bound
 
 abbrev pub answer_to_report : Report → Answer
-answer_to_report report = answer_to_ending report.ending report.cycles
+answer_to_report report = answer_to_ending report.ending report.cycles report.most report.bound
 
 abbrev pub answer_to_fault : RunFault → Answer
 answer_to_fault (faults.Object offset code) = answer.NotAnObject offset code
+answer_to_fault (faults.Refused rule row) = answer.Refused rule row
 answer_to_fault faults.Date = answer.BadDate
 answer_to_fault faults.Read = answer.InputFailed
 answer_to_fault (faults.Print sent) = answer.OutputFailed

@@ -4,14 +4,14 @@ ghost use Rattle.std.specs.Prelude.{◌≡◌};
 
 use crate::verification::ObjectFault;
 use arrayvec::ArrayVec;
-use old_cycle::JobEnd;
-use old_effect::outcome::Wrong;
-use old_engine::{ReadFault, Report, RunFault};
 use rpg_compile::{CompileFault, SourceCode};
-use rpg_format::fault::Code;
+use rpg_cycle::JobEnd;
+use rpg_engine::{Report, RunFault};
+use rpg_object::Code;
 use rpg_verify::Rule;
 
-/// How a command ended.
+/// How a command ended. Of a job that ended `cycles` is the number of cycles, one that halted among them, `most` the most steps of
+/// one, and `bound` the steps that no cycle of the program can pass.
 #[derive(Clone, Copy)]
 pub enum Answer {
     /// The source was compiled to an object program.
@@ -21,11 +21,9 @@ pub enum Answer {
     /// The object program keeps all rules: the most steps that a cycle of it can take.
     Accepted { bound: u64 },
     /// The job came to its end.
-    EndOfJob { cycles: u64 },
+    EndOfJob { cycles: u64, most: u64, bound: u64 },
     /// The job halted with this number.
-    Halt { number: u8, cycles: u64 },
-    /// A step of the object program is wrong.
-    Wrong { wrong: Wrong, cycles: u64 },
+    Halt { number: u8, cycles: u64, most: u64, bound: u64 },
     /// The object file is no object program: its first fault.
     NotAnObject { offset: usize, code: Code },
     /// The object program breaks a rule: the least one, and the first row that breaks it. Rows are counted from 0 in the
@@ -33,6 +31,8 @@ pub enum Answer {
     Refused { rule: Rule, row: usize },
     /// The date isn't six digits.
     BadDate,
+    /// The program has a disk file, and the words name none.
+    DiskFileWanted,
     /// A file that is read can't be opened or read.
     InputFailed,
     /// A file that is written can't be made or written.
@@ -55,11 +55,24 @@ impl From<Report> for Answer {
     ghost from_gives = { λ report answer. answer ≡ answer_to_report report };
 
     fn from(report: Report) -> Answer {
-        let cycles = report.cycles;
-        match report.ending {
-            JobEnd::EndOfJob => Answer::EndOfJob { cycles },
-            JobEnd::Halt(number) => Answer::Halt { number, cycles },
-            JobEnd::Wrong(wrong) => Answer::Wrong { wrong, cycles },
+        let Report {
+            ending,
+            cycles,
+            most,
+            bound,
+        } = report;
+        match ending {
+            JobEnd::EndOfJob => Answer::EndOfJob {
+                cycles,
+                most,
+                bound,
+            },
+            JobEnd::Halt(number) => Answer::Halt {
+                number,
+                cycles,
+                most,
+                bound,
+            },
         }
     }
 }
@@ -72,33 +85,12 @@ impl From<RunFault> for Answer {
     fn from(fault: RunFault) -> Answer {
         match fault {
             RunFault::Object { offset, code } => Answer::NotAnObject { offset, code },
+            RunFault::Refused { rule, row } => Answer::Refused { rule, row },
             RunFault::Date => Answer::BadDate,
             RunFault::Read => Answer::InputFailed,
             RunFault::Print { .. } | RunFault::Disk { .. } => Answer::OutputFailed,
             RunFault::NoMemory => Answer::NoMemory,
         }
-    }
-}
-
-impl From<old_object::DecodeFault> for Answer {
-    ghost use Rattle.old_engine.specs.Engine.{decode_fault};
-    ghost use Rattle.rpg_cli.specs.Outcomes.{answer_to_fault};
-
-    ghost from_gives = { λ fault answer. answer ≡ answer_to_fault (decode_fault fault) };
-
-    fn from(fault: old_object::DecodeFault) -> Answer {
-        Answer::from(RunFault::from(fault))
-    }
-}
-
-impl From<ReadFault> for Answer {
-    ghost use Rattle.old_engine.specs.Engine.{read_fault};
-    ghost use Rattle.rpg_cli.specs.Outcomes.{answer_to_fault};
-
-    ghost from_gives = { λ fault answer. answer ≡ answer_to_fault (read_fault fault) };
-
-    fn from(fault: ReadFault) -> Answer {
-        Answer::from(RunFault::from(fault))
     }
 }
 

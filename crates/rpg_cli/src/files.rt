@@ -2,11 +2,12 @@
 
 use crate::answer::Answer;
 use crate::translation::compile_to_bytes;
-use crate::verification::verify_bytes;
-use old_engine::{Report, execute, read_all, send};
+use crate::verification::{has_disk_file, verify_bytes};
+use rpg_engine::{Report, execute};
+use rpg_files::Counted;
 use rpg_words::{CompileWords, RunWords, VerifyWords};
 use std::alloc::Global;
-use std::io::{Error, ErrorKind, Read, Write};
+use std::io::{BufWriter, Error, ErrorKind, Read, Write};
 use std::rt::Files;
 use std::{fs, io};
 
@@ -30,7 +31,10 @@ fn output_fault(error: Error) -> Answer {
 /// The bytes of a source or object file.
 fn file_bytes<R: Files + AllocGlobal>(rt: &R, path: &str) -> Result<Vec<u8>, Answer> {
     let file = fs::open(rt, path).map_err(input_fault)?;
-    let bytes = read_all(rt.alloc(), &mut file.take(MOST_BYTES as u64 + 1))?;
+    let mut bytes = Vec::new(rt.alloc());
+    file.take(MOST_BYTES as u64 + 1)
+        .read_to_end(&mut bytes)
+        .map_err(input_fault)?;
     if bytes.len() > MOST_BYTES {
         return Err(Answer::FileTooLarge);
     }
@@ -47,10 +51,8 @@ pub(crate) fn compile_files<R: Files + AllocGlobal>(
     let source = file_bytes(rt, words.source)?;
     let object = compile_to_bytes(rt.alloc(), &source, words.allowance)?;
     let mut file = fs::create(rt, words.object).map_err(output_fault)?;
-    match send(&mut file, &object) {
-        Ok(()) => file.flush().map_err(output_fault),
-        Err(_) => Err(Answer::OutputFailed),
-    }
+    file.write_all(&object).map_err(output_fault)?;
+    file.flush().map_err(output_fault)
 }
 
 /// Verifies an object file: the bound of its program.
@@ -62,24 +64,70 @@ pub(crate) fn verify_file<R: Files + AllocGlobal>(
     Ok(verify_bytes(rt.alloc(), &object)?)
 }
 
+/// Where the records of a disk file go, if the program has one. A path that isn't wanted is left.
+fn disk_path<'a>(
+    alloc: Global,
+    object: &[u8],
+    named: Option<&'a str>,
+) -> Result<Option<&'a str>, Answer> {
+    if !has_disk_file(alloc, object)? {
+        return Ok(None);
+    }
+    match named {
+        Some(path) => Ok(Some(path)),
+        None => Err(Answer::DiskFileWanted),
+    }
+}
+
+/// A file that is made, or emptied, and is written in large pieces.
+fn new_file<R: Files + AllocGlobal>(rt: &R, path: &str) -> Result<BufWriter<R::File>, Answer> {
+    let file = fs::create(rt, path).map_err(output_fault)?;
+    BufWriter::new(rt.alloc(), file).map_err(output_fault)
+}
+
+/// Runs an object program over an input, and writes out what the writers still hold.
+fn run_over<I: Read + Drop, P: Write + Drop, D: Write + Drop>(
+    alloc: Global,
+    object: &[u8],
+    date: &str,
+    input: I,
+    print: P,
+    disk: D,
+) -> Result<Report, Answer> {
+    let mut input = Counted::new(input);
+    let mut print = Counted::new(print);
+    let mut disk = Counted::new(disk);
+    let report = execute(
+        alloc,
+        object,
+        date.as_bytes(),
+        &mut input,
+        &mut print,
+        &mut disk,
+    )?;
+    print.into_device().flush().map_err(output_fault)?;
+    disk.into_device().flush().map_err(output_fault)?;
+    Ok(report)
+}
+
 /// Runs an object program over its files.
 ///
-/// The object is read and decoded first; then the input is opened, and then the printer's file made, which empties it.
+/// The object is read and decoded first, and a disk file that is wanted and not named is told. Then the input is opened, and the
+/// printer's file and the disk file are made, which empties them.
 pub(crate) fn run_files<R: Files + AllocGlobal>(
     rt: &R,
     words: &RunWords,
 ) -> Result<Report, Answer> {
+    let alloc = rt.alloc();
     let object = file_bytes(rt, words.object)?;
-    old_object::decode(rt.alloc(), &object)?;
-    let mut input = fs::open(rt, words.input).map_err(input_fault)?;
-    let mut print = fs::create(rt, words.print).map_err(output_fault)?;
-    let report = execute(
-        rt.alloc(),
-        &object,
-        words.date.as_bytes(),
-        &mut input,
-        &mut print,
-        &mut io::sink(),
-    )?;
-    Ok(report)
+    let disk = disk_path(alloc, &object, words.disk)?;
+    let input = fs::open(rt, words.input).map_err(input_fault)?;
+    let print = new_file(rt, words.print)?;
+    match disk {
+        Some(path) => {
+            let disk = new_file(rt, path)?;
+            run_over(alloc, &object, words.date, input, print, disk)
+        }
+        None => run_over(alloc, &object, words.date, input, print, io::sink()),
+    }
 }

@@ -4,17 +4,18 @@
 mod answer;
 mod files;
 mod program;
+mod sending;
 mod source_code;
 mod text;
 mod translation;
 mod verification;
 
 pub use answer::{Answer, Line};
-pub use old_cycle::{Job, run_records};
-pub use old_engine::{Report, RunFault, execute, runs_are_one};
 pub use program::{main_with, run};
 pub use rpg_compile::{CompileFault, SourceCode};
-pub use rpg_text::lines_end_at_line_feeds;
+pub use rpg_cycle::{Job, JobEnd, run_records};
+pub use rpg_engine::{Report, RunFault, execute};
+pub use rpg_files::{Counted, records_are_lines};
 pub use text::line;
 pub use translation::compile_to_bytes;
 pub use verification::{ObjectFault, verify_bytes};

@@ -3,16 +3,15 @@
 ghost use Rattle.std.specs.Prelude.{◌≡◌, ◌+◌, ◌≤◌, ◌++◌, length, codes, decimal};
 ghost use Rattle.arrayvec.specs.ArrayVec.{array_vec_len};
 ghost use Rattle.rpg_rules.specs.Rules.{number};
-ghost use Rattle.rpg_cli.specs.Answers.{code_text, exit_status, line_text, wrong_text};
+ghost use Rattle.rpg_cli.specs.Answers.{code_text, exit_status, line_text, run_text};
 ghost use Rattle.rpg_cli.specs.SourceCodes.{source_code_text};
 
 use crate::answer::{Answer, Line};
 use crate::source_code::source_code_text;
 use arrayvec::ArrayVec;
 use itoa::Buffer;
-use old_effect::outcome::Wrong;
 use rpg_compile::SourceCode;
-use rpg_format::fault::Code;
+use rpg_object::Code;
 use rpg_verify::Rule;
 
 /// A line under construction.
@@ -34,12 +33,25 @@ fn put_number(text: &mut Text, number: u64)
     put(text, Buffer::new().format(number).as_bytes());
 }
 
-fn put_cycles(text: &mut Text, cycles: u64)
-    requires { array_vec_len text.old ≤ 60 }
-    ensures { text.new.items ≡ text.old.items ++ codes ", cycles " ++ decimal cycles }
+/// A number of at most three digits.
+fn put_short_number(text: &mut Text, number: u8)
+    requires { array_vec_len text.old ≤ 93 }
+    ensures items { text.new.items ≡ text.old.items ++ decimal number }
+    ensures len { array_vec_len text.new ≤ array_vec_len text.old + 3 }
+{
+    put(text, Buffer::new().format(number).as_bytes());
+}
+
+fn put_run(text: &mut Text, cycles: u64, most: u64, bound: u64)
+    requires { array_vec_len text.old ≤ 15 }
+    ensures { text.new.items ≡ text.old.items ++ run_text cycles most bound }
 {
     put(text, b", cycles ");
     put_number(text, cycles);
+    put(text, b", steps ");
+    put_number(text, most);
+    put(text, b" of ");
+    put_number(text, bound);
 }
 
 fn put_source_fault(text: &mut Text, card: u16, code: SourceCode)
@@ -87,18 +99,6 @@ fn code_text(code: Code) -> &'static [u8]
     }
 }
 
-fn wrong_text(wrong: Wrong) -> &'static [u8]
-    ensures value { result.now ≡ wrong_text wrong }
-    ensures len { length result.now ≤ 7 }
-{
-    match wrong {
-        Wrong::Jump => b"jump",
-        Wrong::Storage => b"storage",
-        Wrong::Kind => b"kind",
-        Wrong::Return => b"return",
-    }
-}
-
 /// The exit status of an answer.
 fn exit_status(answer: &Answer) -> u8
     ensures { result ≡ exit_status answer.now }
@@ -106,10 +106,10 @@ fn exit_status(answer: &Answer) -> u8
     match answer {
         Answer::Compiled | Answer::Accepted { .. } | Answer::EndOfJob { .. } => 0,
         Answer::InputFailed | Answer::OutputFailed | Answer::FileTooLarge | Answer::NoMemory => 1,
-        Answer::BadDate => 2,
+        Answer::BadDate | Answer::DiskFileWanted => 2,
         Answer::Source { .. } => 3,
         Answer::NotAnObject { .. } | Answer::Refused { .. } => 4,
-        Answer::Halt { .. } | Answer::Wrong { .. } => 5,
+        Answer::Halt { .. } => 5,
     }
 }
 
@@ -126,23 +126,28 @@ pub fn line(answer: &Answer) -> Line
             put(&mut text, b"accepted, bound ");
             put_number(&mut text, bound);
         }
-        Answer::EndOfJob { cycles } => {
+        Answer::EndOfJob {
+            cycles,
+            most,
+            bound,
+        } => {
             put(&mut text, b"end of job");
-            put_cycles(&mut text, cycles);
+            put_run(&mut text, cycles, most, bound);
         }
-        Answer::Halt { number, cycles } => {
+        Answer::Halt {
+            number,
+            cycles,
+            most,
+            bound,
+        } => {
             put(&mut text, b"halt ");
-            put_number(&mut text, u64::from(number));
-            put_cycles(&mut text, cycles);
-        }
-        Answer::Wrong { wrong, cycles } => {
-            put(&mut text, b"wrong ");
-            put(&mut text, wrong_text(wrong));
-            put_cycles(&mut text, cycles);
+            put_short_number(&mut text, number);
+            put_run(&mut text, cycles, most, bound);
         }
         Answer::NotAnObject { offset, code } => put_object_fault(&mut text, offset, code),
         Answer::Refused { rule, row } => put_broken_rule(&mut text, rule, row),
         Answer::BadDate => put(&mut text, b"bad date"),
+        Answer::DiskFileWanted => put(&mut text, b"disk file wanted"),
         Answer::InputFailed => put(&mut text, b"input failed"),
         Answer::OutputFailed => put(&mut text, b"output failed"),
         Answer::FileTooLarge => put(&mut text, b"file too large"),

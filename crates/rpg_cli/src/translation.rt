@@ -4,7 +4,7 @@ ghost use Rattle.std.specs.Prelude.{◌≡◌, ◌<◌, None, IfErr, IfOk};
 ghost use Rattle.rpg_compile.specs.Compile.{Compiles, IsRefusal};
 ghost use Rattle.old_object.specs.Object.{Object};
 ghost use Rattle.old_object.specs.Program.{first_fault};
-ghost use Rattle.old_engine.specs.Engine.{Spells};
+ghost use Rattle.rpg_cli.specs.Translation.{Spells};
 
 use old_object::encode;
 use rpg_compile::{CompileFault, compile};
@@ -15,8 +15,8 @@ pub fn compile_to_bytes(alloc: Global, text: &[u8], allowance: u16) -> Result<Ve
     requires { 0 < allowance }
     ensures ok { IfOk result (λ bytes. (p : Object) × Compiles text.now allowance p × Spells bytes.items p) }
     ensures refused { IfErr result (λ fault. IsRefusal fault text.now) }
-    // The engine refuses none of these bytes.
-    ensures accepted { IfOk result (λ bytes. first_fault bytes.items ≡ None) }
+    // By the rows that a compiled program has these bytes are without a fault.
+    ensures faultless { IfOk result (λ bytes. first_fault bytes.items ≡ None) }
 {
     let program = compile(alloc, text, allowance)?;
     Ok(encode(alloc, &program)?)

@@ -1,10 +1,10 @@
 //! The bytes of an object program to what the verifier says of it.
 
-ghost use Rattle.std.specs.Prelude.{◌≡◌, IfErr, IfOk};
-ghost use Rattle.rpg_cli.specs.Verification.{HasFault, IsAcceptedWith};
+ghost use Rattle.std.specs.Prelude.{◌≡◌, nat_lt, IfErr, IfOk};
+ghost use Rattle.rpg_cli.specs.Verification.{HasFault, IsAcceptedWith, IsSpelled};
+ghost use Rattle.rpg_program.specs.Object.{Object};
 
-use rpg_format::fault::Code;
-use rpg_object::{DecodeFault, decode};
+use rpg_object::{Code, DecodeFault, decode};
 use rpg_verify::{Rule, VerifyFault, verify};
 use std::alloc::Global;
 
@@ -54,4 +54,13 @@ pub fn verify_bytes(alloc: Global, bytes: &[u8]) -> Result<u64, ObjectFault>
         Ok(verified) => Ok(verified.bound()),
         Err((_, fault)) => Err(ObjectFault::from(fault)),
     }
+}
+
+/// Whether the program that the bytes spell writes a disk file.
+pub(crate) fn has_disk_file(alloc: Global, object: &[u8]) -> Result<bool, ObjectFault>
+    ensures told { IfOk result (λ has. (p : Object) × IsSpelled p object.now × (has ≡ nat_lt 0 p.disk_length)) }
+    ensures refused { IfErr result (λ fault. HasFault fault object.now) }
+{
+    let program = decode(alloc, object)?;
+    Ok(program.rows().disk_length > 0)
 }

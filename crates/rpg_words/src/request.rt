@@ -41,6 +41,8 @@ pub struct RunWords<'a> {
     pub input: &'a str,
     pub print: &'a str,
     pub date: &'a str,
+    /// Where the records of a disk file go, if the words tell it.
+    pub disk: Option<&'a str>,
 }
 
 /// Why there is no request: a fault of the command line, help that was asked for, or want of memory.
@@ -91,6 +93,7 @@ fn run_words<'a>(given: &ArgMatches<'a>) -> Option<RunWords<'a>> {
         input: given.get_str("INPUT")?,
         print: given.get_str("PRINT")?,
         date: given.get_str("date")?,
+        disk: given.get_str("disk"),
     })
 }
 
