@@ -1,0 +1,14 @@
+//! What the text of a range of columns stands for: spellings and marks, numbers, names, indicators, literals.
+#![tactic(auto)]
+
+mod indicators;
+mod literals;
+mod marks;
+mod names;
+mod numbers;
+
+pub use indicators::{condition, indicator};
+pub use literals::{factor_of, quoted};
+pub use marks::{blank_or, marked, only, unused};
+pub use names::{letters, name, name_but};
+pub use numbers::{digit, number};
