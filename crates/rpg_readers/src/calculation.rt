@@ -6,7 +6,7 @@ ghost use Rattle.rpg_spec.specs.Tables as tables;
 
 use crate::card::Card;
 use crate::columns::at;
-use rpg_spec::{CalculationSpec, ColumnFault, Indicator, Operation, Three};
+use rpg_spec::{CalculationSpec, ColumnFault, Indicator, Three};
 
 #[tactic(auto, unfolding(rpg_spec::specs::Tables::calculation_card, rpg_spec::specs::Columns::values, rpg_spec::specs::Columns::at_with, rpg_spec::specs::Columns::also, rpg_spec::specs::Columns::past, rpg_spec::specs::Columns::blank))]
 pub(crate) fn calculation_card(card: &Card) -> Result<CalculationSpec, ColumnFault>
@@ -16,7 +16,10 @@ pub(crate) fn calculation_card(card: &Card) -> Result<CalculationSpec, ColumnFau
     no_conditions(card)?;
     let factor_1 = card.optional_factor(18, 27)?;
     let operation = card.columns(28, 32);
-    let operation = at(28, rpg_values::blank_or(operation, operation_of(operation)))?;
+    let operation = at(
+        28,
+        rpg_values::blank_or(operation, rpg_values::operation(operation)),
+    )?;
     let factor_2 = card.optional_factor(33, 42)?;
     let result_field = card.optional_name(43, 48)?;
     let length = card.optional_number(49, 51)?;
@@ -43,34 +46,6 @@ impl Card {
         ensures least { IfErr result (λ fault. IsLeast (tables.calculation_card.bad self.now) fault.column) }
     {
         calculation_card(self)
-    }
-}
-
-fn operation_of(text: &[u8]) -> Option<Operation>
-    ensures { result ≡ tables.operation text.now }
-{
-    if text == b"ADD  ".as_slice() {
-        Some(Operation::Add)
-    } else if text == b"SUB  ".as_slice() {
-        Some(Operation::Subtract)
-    } else if text == b"MULT ".as_slice() {
-        Some(Operation::Multiply)
-    } else if text == b"DIV  ".as_slice() {
-        Some(Operation::Divide)
-    } else if text == b"MVR  ".as_slice() {
-        Some(Operation::MoveRemainder)
-    } else if text == b"Z-ADD".as_slice() {
-        Some(Operation::ZeroAdd)
-    } else if text == b"Z-SUB".as_slice() {
-        Some(Operation::ZeroSubtract)
-    } else if text == b"COMP ".as_slice() {
-        Some(Operation::Compare)
-    } else if text == b"MOVE ".as_slice() {
-        Some(Operation::Move)
-    } else if text == b"MOVEL".as_slice() {
-        Some(Operation::MoveLeft)
-    } else {
-        None
     }
 }
 

@@ -1,26 +1,26 @@
 //! The file description sheet (F).
 
-ghost use Rattle.std.specs.Prelude.{◌≡◌, [], Some, OnOk, IfErr};
+ghost use Rattle.std.specs.Prelude.{◌≡◌, [], OnOk, IfErr};
 ghost use Rattle.rpg_spec.specs.Columns.{IsLeast, cols};
 ghost use Rattle.rpg_spec.specs.Tables as tables;
 
 use crate::card::Card;
 use crate::columns::at;
-use rpg_spec::{ColumnFault, Device, Direction, FileSpec};
+use rpg_spec::{ColumnFault, FileSpec};
 
 #[tactic(auto, unfolding(rpg_spec::specs::Tables::file, rpg_spec::specs::Columns::values, rpg_spec::specs::Columns::at_with, rpg_spec::specs::Columns::also, rpg_spec::specs::Columns::past, rpg_spec::specs::Columns::blank))]
 pub(crate) fn file(card: &Card) -> Result<FileSpec, ColumnFault>
     ensures { result ≡ tables.file.reading card.now }
 {
     let name = card.name(7, 14)?;
-    let direction = at(15, direction_of(card.columns(15, 15)))?;
+    let direction = at(15, rpg_values::direction(card.columns(15, 15)))?;
     at(16, designation(card))?;
     let ends_job = at(17, rpg_values::marked(b"E", card.columns(17, 17)))?;
     let ascending = at(18, rpg_values::marked(b"A", card.columns(18, 18)))?;
     at(19, rpg_values::only(b"F", card.columns(19, 19)))?;
     let record_length = card.number(24, 27)?;
     file_unread(card)?;
-    let device = device_of(card.columns(40, 46));
+    let device = rpg_values::device(card.columns(40, 46));
     card.blank(47, 74)?;
     Ok(FileSpec {
         name,
@@ -52,18 +52,6 @@ impl Card {
     }
 }
 
-fn direction_of(text: &[u8]) -> Option<Direction>
-    ensures { result ≡ tables.direction text.now }
-{
-    if text == b"I".as_slice() {
-        Some(Direction::Input)
-    } else if text == b"O".as_slice() {
-        Some(Direction::Output)
-    } else {
-        None
-    }
-}
-
 /// P with I, blank with O.
 fn designation(card: &Card) -> Option<()>
     ensures { result ≡ tables.designation card.now (cols 16 16 card.now) }
@@ -72,15 +60,5 @@ fn designation(card: &Card) -> Option<()>
         rpg_values::only(b"P", card.columns(16, 16))
     } else {
         rpg_values::only(b" ", card.columns(16, 16))
-    }
-}
-
-fn device_of(text: &[u8]) -> Device
-    ensures { Some result ≡ tables.device_of text.now }
-{
-    if text == b"PRINTER".as_slice() {
-        Device::Printer
-    } else {
-        Device::Other
     }
 }

@@ -42,7 +42,7 @@ impl Card {
         if self.begins_data() {
             return None;
         }
-        form_type_of(self.columns(6, 6))
+        rpg_values::form_type_of(self.columns(6, 6))
     }
 
     /// The sheet that the card is on: none where it is skipped or ends the source.
@@ -54,23 +54,5 @@ impl Card {
         } else {
             None
         }
-    }
-}
-
-fn form_type_of(text: &[u8]) -> Option<FormType>
-    ensures { result ≡ cards.form_type_of text.now }
-{
-    if text == b"H".as_slice() {
-        Some(FormType::Header)
-    } else if text == b"F".as_slice() {
-        Some(FormType::File)
-    } else if text == b"I".as_slice() {
-        Some(FormType::Input)
-    } else if text == b"C".as_slice() {
-        Some(FormType::Calculation)
-    } else if text == b"O".as_slice() {
-        Some(FormType::Output)
-    } else {
-        None
     }
 }

@@ -7,9 +7,7 @@ ghost use Rattle.rpg_spec.specs.Tables as tables;
 use crate::card::Card;
 use crate::columns::at;
 use crate::input::is_field_card;
-use rpg_spec::{
-    ColumnFault, Condition, LineTime, OutputField, OutputRecord, OutputSpec, TextLiteral, Three,
-};
+use rpg_spec::{ColumnFault, Condition, OutputField, OutputRecord, OutputSpec, TextLiteral, Three};
 use rpg_text::is_blank;
 
 #[tactic(auto, unfolding(rpg_spec::specs::Tables::output_card, rpg_spec::specs::Columns::values, rpg_spec::specs::Columns::also, rpg_spec::specs::Columns::where_card))]
@@ -39,7 +37,7 @@ fn record_card(card: &Card) -> Result<OutputRecord, ColumnFault>
     ensures { result ≡ tables.record_card.reading card.now }
 {
     let file = card.optional_name(7, 14)?;
-    let time = at(15, line_time(card.columns(15, 15)))?;
+    let time = at(15, rpg_values::line_time(card.columns(15, 15)))?;
     card.blank(16, 16)?;
     let space_after = form_movement(card)?;
     let conditions = conditions(card)?;
@@ -85,7 +83,7 @@ fn form_movement(card: &Card) -> Result<Option<u8>, ColumnFault>
     let space_after = card.columns(18, 18);
     let space_after = at(
         18,
-        rpg_values::blank_or(space_after, one_space(space_after)),
+        rpg_values::blank_or(space_after, rpg_values::space_after(space_after)),
     )?;
     card.unused(19, 20)?;
     card.unused(21, 22)?;
@@ -116,25 +114,5 @@ fn constant(card: &Card) -> Option<Option<TextLiteral<24>>>
         rpg_values::blank_or(text, rpg_values::quoted(text))
     } else {
         rpg_values::blank_or(text, None)
-    }
-}
-
-fn line_time(text: &[u8]) -> Option<LineTime>
-    ensures { result ≡ tables.line_time text.now }
-{
-    if text == b"D".as_slice() {
-        Some(LineTime::Detail)
-    } else {
-        None
-    }
-}
-
-fn one_space(text: &[u8]) -> Option<u8>
-    ensures { result ≡ tables.space_after text.now }
-{
-    if text == b"1".as_slice() {
-        Some(1)
-    } else {
-        None
     }
 }
