@@ -55,7 +55,8 @@ fn no_conditions(card: &Card) -> Result<(), ColumnFault>
 {
     card.unused(9, 11)?;
     card.unused(12, 14)?;
-    card.unused(15, 17)
+    card.unused(15, 17)?;
+    Ok(())
 }
 
 #[tactic(auto, unfolding(rpg_spec::specs::Tables::resulting_indicators, rpg_spec::specs::Columns::values, rpg_spec::specs::Columns::at_with, rpg_spec::specs::Columns::also))]

@@ -38,7 +38,8 @@ fn file_unread(card: &Card) -> Result<(), ColumnFault>
 {
     card.blank(28, 32)?;
     card.unused(33, 34)?;
-    card.blank(35, 39)
+    card.blank(35, 39)?;
+    Ok(())
 }
 
 impl Card {

@@ -78,7 +78,8 @@ fn no_identification(card: &Card) -> Result<(), ColumnFault>
 {
     card.unused(21, 27)?;
     card.unused(28, 34)?;
-    card.unused(35, 41)
+    card.unused(35, 41)?;
+    Ok(())
 }
 
 #[tactic(auto, unfolding(rpg_spec::specs::Tables::field_unread, rpg_spec::specs::Columns::values, rpg_spec::specs::Columns::at_with, rpg_spec::specs::Columns::past, rpg_spec::specs::Columns::blank))]
@@ -90,5 +91,6 @@ fn field_unread(card: &Card) -> Result<(), ColumnFault>
     card.unused(65, 66)?;
     card.unused(67, 68)?;
     card.unused(69, 70)?;
-    card.blank(71, 74)
+    card.blank(71, 74)?;
+    Ok(())
 }
