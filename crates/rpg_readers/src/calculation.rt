@@ -15,11 +15,7 @@ pub(crate) fn calculation_card(card: &Card) -> Result<CalculationSpec, ColumnFau
     card.unused(7, 8)?;
     no_conditions(card)?;
     let factor_1 = card.optional_factor(18, 27)?;
-    let operation = card.columns(28, 32);
-    let operation = at(
-        28,
-        rpg_values::blank_or(operation, rpg_values::operation(operation)),
-    )?;
+    let operation = card.optional_operation(28, 32)?;
     let factor_2 = card.optional_factor(33, 42)?;
     let result_field = card.optional_name(43, 48)?;
     let length = card.optional_number(49, 51)?;

@@ -54,6 +54,7 @@ impl Card {
 }
 
 /// P with I, blank with O.
+#[tactic(auto, unfolding(rpg_spec::specs::Tables::designation))]
 fn designation(card: &Card) -> Option<()>
     ensures { result ≡ tables.designation card.now (cols 16 16 card.now) }
 {

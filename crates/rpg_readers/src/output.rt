@@ -56,11 +56,7 @@ fn output_field_card(card: &Card) -> Result<OutputField, ColumnFault>
 {
     card.blank(17, 22)?;
     let conditions = conditions(card)?;
-    let name = card.columns(32, 37);
-    let name = at(
-        32,
-        rpg_values::blank_or(name, rpg_values::name_but(b"PAGE", name)),
-    )?;
+    let name = card.optional_output_name(32, 37)?;
     card.unused(38, 38)?;
     card.unused(39, 39)?;
     let end = card.number(40, 43)?;
@@ -80,11 +76,7 @@ fn form_movement(card: &Card) -> Result<Option<u8>, ColumnFault>
     ensures { result ≡ tables.form_movement.reading card.now }
 {
     card.unused(17, 17)?;
-    let space_after = card.columns(18, 18);
-    let space_after = at(
-        18,
-        rpg_values::blank_or(space_after, rpg_values::space_after(space_after)),
-    )?;
+    let space_after = card.optional_space(18, 18)?;
     card.unused(19, 20)?;
     card.unused(21, 22)?;
     Ok(space_after)
@@ -106,6 +98,7 @@ fn conditions(card: &Card) -> Result<Three<Option<Condition>>, ColumnFault>
 }
 
 /// Blank, or a text where no field is named.
+#[tactic(auto, unfolding(rpg_spec::specs::Tables::constant, rpg_spec::specs::Values::blank_or))]
 fn constant(card: &Card) -> Option<Option<TextLiteral<24>>>
     ensures { result ≡ tables.constant card.now (cols 45 70 card.now) }
 {

@@ -7,6 +7,7 @@ use crate::marks::marked;
 use rpg_spec::{Condition, Indicator};
 
 /// Two characters.
+#[tactic(auto, unfolding(rpg_spec::specs::Values::indicator))]
 pub fn indicator(text: &[u8]) -> Option<Indicator>
     ensures { result ≡ values.indicator text.now }
 {
@@ -27,6 +28,7 @@ pub fn indicator(text: &[u8]) -> Option<Indicator>
 }
 
 /// Blank or N, and an indicator.
+#[tactic(auto, unfolding(rpg_spec::specs::Values::condition))]
 pub fn condition(text: &[u8]) -> Option<Condition>
     requires { length text.now ≡ 3 }
     ensures { result ≡ values.condition text.now }

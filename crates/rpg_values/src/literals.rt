@@ -11,6 +11,7 @@ use crate::numbers::{has_only_digits, value_after};
 use rpg_spec::{Factor, Literal, NumericLiteral, TextLiteral, Word};
 use rpg_text::trimmed;
 
+#[tactic(auto, unfolding(rpg_spec::specs::Values::factor))]
 pub fn factor_of(text: &[u8]) -> Option<Factor>
     requires short { length text.now ≤ 10 }
     requires characters { IsTrue (list_all is_character text.now) }
@@ -101,6 +102,7 @@ fn with_sign(minus: bool, size: u64) -> i64
 }
 
 /// A text in apostrophes, each apostrophe in it doubled.
+#[tactic(auto, unfolding(rpg_spec::specs::Values::quoted))]
 pub fn quoted<const N: usize>(text: &[u8]) -> Option<TextLiteral<N>>
     requires short { length text.now ≤ N + 2 }
     requires characters { IsTrue (list_all is_character text.now) }

@@ -7,6 +7,7 @@ ghost use Rattle.rpg_text.specs.Texts.{all_blank};
 use rpg_text::is_blank;
 
 /// The one spelling that is allowed.
+#[tactic(auto, unfolding(rpg_spec::specs::Values::only))]
 pub fn only(spelling: &[u8], text: &[u8]) -> Option<()>
     ensures { result ≡ values.only spelling.now text.now }
 {
@@ -14,6 +15,7 @@ pub fn only(spelling: &[u8], text: &[u8]) -> Option<()>
 }
 
 /// Blank: a value that isn't read yet.
+#[tactic(auto, unfolding(rpg_spec::specs::Values::unused))]
 pub fn unused(text: &[u8]) -> Option<()>
     ensures { result ≡ values.unused text.now }
 {
@@ -32,6 +34,7 @@ pub fn blank_or<T: Drop>(text: &[u8], value: Option<T>) -> Option<Option<T>>
 }
 
 /// Blank or the mark.
+#[tactic(auto, unfolding(rpg_spec::specs::Values::marked))]
 pub fn marked(mark: &[u8], text: &[u8]) -> Option<bool>
     ensures { result ≡ values.marked mark.now text.now }
 {

@@ -37,6 +37,7 @@ fn is_name(most: usize, text: &[u8]) -> bool
 }
 
 /// A name of at most `N` characters, from the first column on.
+#[tactic(auto, unfolding(rpg_spec::specs::Values::name))]
 pub fn name<const N: usize>(text: &[u8]) -> Option<Word<N>>
     ensures { result ≡ values.name N text.now }
 {
@@ -49,6 +50,7 @@ pub fn name<const N: usize>(text: &[u8]) -> Option<Word<N>>
 }
 
 /// Such a name, but not this one.
+#[tactic(auto, unfolding(rpg_spec::specs::Values::name_but))]
 pub fn name_but<const N: usize>(other: &[u8], text: &[u8]) -> Option<Word<N>>
     ensures { result ≡ values.name_but other.now N text.now }
 {
@@ -61,6 +63,7 @@ pub fn name_but<const N: usize>(other: &[u8], text: &[u8]) -> Option<Word<N>>
 }
 
 /// Letters in both columns.
+#[tactic(auto, unfolding(rpg_spec::specs::Values::letters))]
 pub fn letters(text: &[u8]) -> Option<Word<2>>
     requires { length text.now ≤ 2 }
     ensures { result ≡ values.letters text.now }

@@ -38,6 +38,7 @@ pub(crate) fn value_after(before: u64, digits: &[u8]) -> u64
 }
 
 /// Digits in every column, four at most.
+#[tactic(auto, unfolding(rpg_spec::specs::Values::digits))]
 fn digits(text: &[u8]) -> Option<u16>
     requires { length text.now ≤ 4 }
     ensures { result ≡ values.digits text.now }
@@ -50,6 +51,7 @@ fn digits(text: &[u8]) -> Option<u16>
 }
 
 /// Right-aligned digits after blanks, in four columns at most.
+#[tactic(auto, unfolding(rpg_spec::specs::Values::number))]
 pub fn number(text: &[u8]) -> Option<u16>
     requires { length text.now ≤ 4 }
     ensures { result ≡ values.number text.now }
@@ -58,6 +60,7 @@ pub fn number(text: &[u8]) -> Option<u16>
 }
 
 /// One digit.
+#[tactic(auto, unfolding(rpg_spec::specs::Values::digits))]
 pub fn digit(text: &[u8]) -> Option<u8>
     requires { length text.now ≡ 1 }
     ensures { result ≡ values.digits text.now }

@@ -26,6 +26,7 @@ pub fn form_type_of(text: &[u8]) -> Option<FormType>
 }
 
 /// Whether a file is read or written.
+#[tactic(auto, unfolding(rpg_spec::specs::Tables::direction))]
 pub fn direction(text: &[u8]) -> Option<Direction>
     ensures { result ≡ tables.direction text.now }
 {
@@ -39,6 +40,7 @@ pub fn direction(text: &[u8]) -> Option<Direction>
 }
 
 /// A device: all but the printer are one for now.
+#[tactic(auto, unfolding(rpg_spec::specs::Tables::device_of))]
 pub fn device(text: &[u8]) -> Device
     ensures { Some result ≡ tables.device_of text.now }
 {
@@ -50,6 +52,7 @@ pub fn device(text: &[u8]) -> Device
 }
 
 /// An operation.
+#[tactic(auto, unfolding(rpg_spec::specs::Tables::operation))]
 pub fn operation(text: &[u8]) -> Option<Operation>
     ensures { result ≡ tables.operation text.now }
 {
@@ -79,6 +82,7 @@ pub fn operation(text: &[u8]) -> Option<Operation>
 }
 
 /// When a line is put out.
+#[tactic(auto, unfolding(rpg_spec::specs::Tables::line_time))]
 pub fn line_time(text: &[u8]) -> Option<LineTime>
     ensures { result ≡ tables.line_time text.now }
 {
@@ -90,6 +94,7 @@ pub fn line_time(text: &[u8]) -> Option<LineTime>
 }
 
 /// How many lines the form moves behind a line.
+#[tactic(auto, unfolding(rpg_spec::specs::Tables::space_after))]
 pub fn space_after(text: &[u8]) -> Option<u8>
     ensures { result ≡ tables.space_after text.now }
 {
