@@ -21,6 +21,15 @@ product_is x y hx hy small =
     let fits : FitsSigned w128 (x *ℤ y) = record { sfits = mag_below (x *ℤ y) (2 ^ 127) (omega arith) } in
     rw (back {z = x} hx, back {z = y} hy) (to_z-of_z fits)
 
+pub product_fits : (x y : ℤ) → mag x < 2 ^ 127 → mag y < 2 ^ 127 → unsigned_abs x * unsigned_abs y < 10 ^ 33 → FitsSigned w128 (to_z w128 (of_z w128 x) *ℤ to_z w128 (of_z w128 y))
+product_fits x y hx hy small =
+    let size = unsigned_abs-mul x y in
+    let fits : FitsSigned w128 (x *ℤ y) = record { sfits = mag_below (x *ℤ y) (2 ^ 127) (omega arith) } in
+    rw (back {z = x} hx, back {z = y} hy) fits
+
+pub product_below : (x y : ℤ) → mag x < 2 ^ 127 → mag y < 2 ^ 127 → unsigned_abs x * unsigned_abs y < 10 ^ 33 → unsigned_abs (to_z w128 (of_z w128 (to_z w128 (of_z w128 x) *ℤ to_z w128 (of_z w128 y)))) < 10 ^ 36
+product_below x y hx hy small = rw (product_is x y hx hy small, unsigned_abs-mul x y) (omega arith)
+
 pub signum-le : (z : ℤ) → unsigned_abs (int_signum z) ≤ 1
 signum-le (pos n) = omega arith
 signum-le (negsuc n) = omega arith

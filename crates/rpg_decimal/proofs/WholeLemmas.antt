@@ -208,3 +208,15 @@ pub difference_is : (x y u v : ℤ) → mag x < 2 ^ 127 → mag y < 2 ^ 127 → 
 difference_is x y u v hx hy small_x small_y ex ey =
     let fits : FitsSigned w128 (x -ℤ y) = omega (arith, ints) in
     rw (back {z = x} hx, back {z = y} hy) (to_z-of_z fits ∙ ap₂ (◌-ℤ◌) ex ey)
+
+pub sum_fits : (x y : ℤ) → mag x < 2 ^ 127 → mag y < 2 ^ 127 → unsigned_abs x < 10 ^ 33 → unsigned_abs y < 10 ^ 33 → FitsSigned w128 (to_z w128 (of_z w128 x) +ℤ to_z w128 (of_z w128 y))
+sum_fits x y hx hy small_x small_y = rw (back {z = x} hx, back {z = y} hy) (omega (arith, ints))
+
+pub sum_below : (x y : ℤ) → mag x < 2 ^ 127 → mag y < 2 ^ 127 → unsigned_abs x < 10 ^ 33 → unsigned_abs y < 10 ^ 33 → unsigned_abs (to_z w128 (of_z w128 (to_z w128 (of_z w128 x) +ℤ to_z w128 (of_z w128 y)))) < 10 ^ 36
+sum_below x y hx hy small_x small_y = rw (sum_is x y x y hx hy small_x small_y refl refl) (omega (arith, ints))
+
+pub difference_fits : (x y : ℤ) → mag x < 2 ^ 127 → mag y < 2 ^ 127 → unsigned_abs x < 10 ^ 33 → unsigned_abs y < 10 ^ 33 → FitsSigned w128 (to_z w128 (of_z w128 x) -ℤ to_z w128 (of_z w128 y))
+difference_fits x y hx hy small_x small_y = rw (back {z = x} hx, back {z = y} hy) (omega (arith, ints))
+
+pub difference_below : (x y : ℤ) → mag x < 2 ^ 127 → mag y < 2 ^ 127 → unsigned_abs x < 10 ^ 33 → unsigned_abs y < 10 ^ 33 → unsigned_abs (to_z w128 (of_z w128 (to_z w128 (of_z w128 x) -ℤ to_z w128 (of_z w128 y)))) < 10 ^ 36
+difference_below x y hx hy small_x small_y = rw (difference_is x y x y hx hy small_x small_y refl refl) (omega (arith, ints))

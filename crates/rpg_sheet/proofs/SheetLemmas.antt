@@ -12,7 +12,8 @@ use Rattle.rpg_sheet.specs.declared.sheet.SheetCode.TheVariants.{S1, S2, S3, S4,
 use Rattle.rpg_sheet.specs.declared.sheet.SheetFault.TheVariants.{At}
 use Rattle.rpg_text.specs.Texts.{is_character}
 use Rattle.rpg_spec.specs.Cards.{card_of, ends_source, is_sheet, form_type, place_of}
-use Rattle.rpg_sheet.specs.Sheet.{comes_after, has_bad_column, is_readable, code_of, fault_behind, source}
+use Rattle.rpg_readers.specs.Readable.{has_bad_column, is_readable}
+use Rattle.rpg_sheet.specs.Sheet.{comes_after, code_of, fault_behind, source}
 use Rattle.rpg_sheet.specs.Seen.{IsSeen, form_code, sheet_code, code_seen}
 
 -- which of six tests is the first that passes

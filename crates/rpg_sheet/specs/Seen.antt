@@ -7,7 +7,8 @@ use Rattle.rpg_sheet.specs.declared.sheet.SheetCode.{SheetCode}
 use Rattle.rpg_sheet.specs.declared.sheet.SheetCode.TheVariants.{S1, S2, S3, S4, S5, S6}
 use Rattle.rpg_spec.specs.Cards.{card_of, is_sheet, form_type, place_of}
 use Rattle.rpg_text.specs.Texts.{is_character}
-use Rattle.rpg_sheet.specs.Sheet.{comes_after, has_bad_column}
+use Rattle.rpg_sheet.specs.Sheet.{comes_after}
+use Rattle.rpg_readers.specs.Readable.{has_bad_column}
 
 -- their count, and the place of the latest sheet among them
 pub record IsSeen (earlier : List (List ℕ)) (count latest : ℕ) : Type 0 where

@@ -1,17 +1,16 @@
 -- The lines of a source that are cards, and what is wrong with them.
-use Rattle.std.specs.Prelude.{◌≡◌, ℕ, ◌+◌, ◌-◌, List, [], ◌∷◌, ◌++◌, length, take, Bool, true, false, Option, None, Some, is_err, if◌then◌else◌, ◌==◌, ◌&&◌, ◌||◌, not, nat_le, nat_lt, codes, replicate, find}
+use Rattle.std.specs.Prelude.{◌≡◌, ℕ, ◌+◌, ◌-◌, List, [], ◌∷◌, ◌++◌, length, take, Bool, true, false, Option, None, Some, if◌then◌else◌, ◌==◌, ◌&&◌, ◌||◌, not, nat_le, nat_lt, codes, replicate, find}
 use Rattle.std.specs.List.{list_all, list_any}
 use Rattle.std.specs.Option.{is_none, option_map, option_map_or, option_or}
 use Rattle.std.specs.Str.{bytes_eq}
 use Rattle.std.specs.Str.Lines.{lines}
 use Rattle.rpg_spec.specs.declared.form_type.FormType.{FormType}
-use Rattle.rpg_spec.specs.declared.form_type.FormType.TheVariants as form
 use Rattle.rpg_sheet.specs.declared.sheet.SheetCode.{SheetCode}
 use Rattle.rpg_sheet.specs.declared.sheet.SheetCode.TheVariants.{S1, S2, S3, S4, S5, S6}
 use Rattle.rpg_sheet.specs.declared.sheet.SheetFault.{SheetFault}
 use Rattle.rpg_sheet.specs.declared.sheet.SheetFault.TheVariants.{At, NoMemory}
 use Rattle.rpg_spec.specs.Cards.{card_of, ends_source, is_sheet, form_type, sheet_of, place_of}
-use Rattle.rpg_spec.specs.Tables.{header, file, input_card, calculation_card, output_card}
+use Rattle.rpg_readers.specs.Readable.{has_bad_column}
 use Rattle.rpg_text.specs.Texts.{is_character}
 
 -- the items up to the first that passes, and this one
@@ -28,17 +27,6 @@ source text = through (λ line. ends_source (card_of line)) (lines text)
 -- the card is on a sheet that comes behind the one at place n
 abbrev pub comes_after : ℕ → List ℕ → Bool
 comes_after n card = option_map_or (λ f. nat_lt n (place_of f)) (sheet_of card) false
-
-abbrev pub has_bad_column : FormType → List ℕ → Bool
-has_bad_column form.Header card = is_err (header.reading card)
-has_bad_column form.File card = is_err (file.reading card)
-has_bad_column form.Input card = is_err (input_card.reading card)
-has_bad_column form.Calculation card = is_err (calculation_card.reading card)
-has_bad_column form.Output card = is_err (output_card.reading card)
-
--- the card is on no sheet, or its columns are good
-abbrev pub is_readable : List ℕ → Bool
-is_readable card = option_map_or (λ f. not (has_bad_column f card)) (sheet_of card) true
 
 abbrev pub has : List (List ℕ) → List ℕ → SheetCode → Bool
 has earlier line S1 = nat_lt 80 (length line)

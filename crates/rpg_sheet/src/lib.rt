@@ -1,20 +1,10 @@
-//! The cards of a source: the readers of their columns, and what is wrong with them as cards.
+//! From a source's bytes to its cards, or what is wrong with the first card that has a fault.
 #![tactic(auto)]
 
-mod calculation;
-mod card;
-mod columns;
-mod file;
-mod header;
-mod input;
-mod literal;
-mod output;
 mod sheet;
 mod source;
-mod spec;
-mod values;
 
-pub use card::Card;
+pub use rpg_readers::Card;
 pub use rpg_spec::{
     CalculationSpec, ColumnFault, Condition, Device, Direction, Factor, FileSpec, FormType,
     HeaderSpec, Indicator, InputField, InputSpec, LineTime, Literal, NumericLiteral, Operation,

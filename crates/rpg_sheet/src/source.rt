@@ -5,8 +5,8 @@ ghost use Rattle.rpg_sheet.specs.Seen as seen;
 ghost use Rattle.rpg_sheet.specs.Sheet as sheets;
 ghost use Rattle.rpg_spec.specs.Cards.{card_of};
 
-use crate::card::Card;
-use crate::sheet::{Cards, SheetCode, SheetFault, place};
+use crate::sheet::{Cards, SheetCode, SheetFault, code, place};
+use rpg_readers::Card;
 use rpg_text::{first_line, has_only_characters};
 use std::alloc::Global;
 
@@ -61,7 +61,7 @@ fn checked(count: usize, latest: u8, line: &[u8]) -> Result<Card, SheetCode>
         return Err(SheetCode::S2);
     }
     let card = Card::new(line);
-    if let Some(code) = card.code(latest) {
+    if let Some(code) = code(&card, latest) {
         return Err(code);
     }
     if count >= CARDS {

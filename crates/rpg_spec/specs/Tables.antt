@@ -38,14 +38,14 @@ header = values (record {}) ⊘ blank 15 74
 
 -- ---- F; free: 20-23
 
-abbrev pub direction : List ℕ → Option Direction
+unfoldable pub direction : List ℕ → Option Direction
 direction = one_of ((codes "I", Input) ∷ (codes "O", Output) ∷ [])
 
 -- P with I, blank with O
-abbrev pub designation : List ℕ → List ℕ → Option (Unit {0})
+unfoldable pub designation : List ℕ → List ℕ → Option (Unit {0})
 designation card = only (if bytes_eq (cols 15 15 card) (codes "I") then codes "P" else codes " ")
 
-abbrev pub device_of : List ℕ → Option Device
+unfoldable pub device_of : List ℕ → Option Device
 device_of text = Some (if bytes_eq text (codes "PRINTER") then device.Printer else device.Other)
 
 -- between the record length and the device
@@ -110,7 +110,7 @@ input_card = where_card is_field_card (values input.Field ⊛ field_card) (value
 
 -- ---- C; free: 60-74
 
-abbrev pub operation : List ℕ → Option Operation
+unfoldable pub operation : List ℕ → Option Operation
 operation = one_of (
     (codes "ADD  ", op.Add) ∷ (codes "SUB  ", op.Subtract) ∷ (codes "MULT ", op.Multiply) ∷ (codes "DIV  ", op.Divide) ∷ (codes "MVR  ", op.MoveRemainder)
     ∷ (codes "Z-ADD", op.ZeroAdd) ∷ (codes "Z-SUB", op.ZeroSubtract) ∷ (codes "COMP ", op.Compare) ∷ (codes "MOVE ", op.Move) ∷ (codes "MOVEL", op.MoveLeft) ∷ [])
@@ -145,10 +145,10 @@ calculation_card = values calculation_spec
 unfoldable pub conditions : ℕ → ℕ → ℕ → ℕ → ℕ → ℕ → Columns (Three (Option Condition))
 conditions a b c d e f = values three ⊛ at a b (blank_or condition) ⊛ at c d (blank_or condition) ⊛ at e f (blank_or condition)
 
-abbrev pub line_time : List ℕ → Option LineTime
+unfoldable pub line_time : List ℕ → Option LineTime
 line_time = one_of ((codes "D", time.Detail) ∷ [])
 
-abbrev pub space_after : List ℕ → Option ℕ
+unfoldable pub space_after : List ℕ → Option ℕ
 space_after = one_of ((codes "1", 1) ∷ [])
 
 abbrev pub output_record : Option (List ℕ) → LineTime → Option ℕ → Three (Option Condition) → OutputRecord
@@ -168,7 +168,7 @@ record_card = values output_record
     ⊘ blank 32 70
 
 -- blank, or a text where no field is named
-abbrev pub constant : List ℕ → List ℕ → Option (Option (List ℕ))
+unfoldable pub constant : List ℕ → List ℕ → Option (Option (List ℕ))
 constant card text = blank_or (λ t. if all_blank (cols 32 37 card) then quoted t else None) text
 
 abbrev pub output_field : Three (Option Condition) → Option (List ℕ) → ℕ → Option (List ℕ) → OutputField

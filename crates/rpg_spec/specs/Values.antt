@@ -28,19 +28,19 @@ one_of [] text = None
 one_of (c ∷ cs) text = if bytes_eq text c.0 then Some c.1 else one_of cs text
 
 -- this spelling alone
-abbrev pub only : List ℕ → List ℕ → Option (Unit {0})
+unfoldable pub only : List ℕ → List ℕ → Option (Unit {0})
 only spelling = one_of ((spelling, tt) ∷ [])
 
 -- blank alone: columns whose values aren't read yet
-abbrev pub unused : List ℕ → Option (Unit {0})
+unfoldable pub unused : List ℕ → Option (Unit {0})
 unused text = when (all_blank text) tt
 
 -- blank, or what the rule says
-abbrev pub blank_or : {X : Type 0} → (List ℕ → Option X) → List ℕ → Option (Option X)
+unfoldable pub blank_or : {X : Type 0} → (List ℕ → Option X) → List ℕ → Option (Option X)
 blank_or rule text = if all_blank text then Some None else option_map Some (rule text)
 
 -- blank or this one character: is it there?
-abbrev pub marked : List ℕ → List ℕ → Option Bool
+unfoldable pub marked : List ℕ → List ℕ → Option Bool
 marked mark text = one_of ((codes " ", false) ∷ (mark, true) ∷ []) text
 
 -- ---- numbers and names
@@ -49,11 +49,11 @@ abbrev pub all_digits : List ℕ → Bool
 all_digits text = nat_lt 0 (length text) && list_all is_ascii_digit text
 
 -- digits in every column
-abbrev pub digits : List ℕ → Option ℕ
+unfoldable pub digits : List ℕ → Option ℕ
 digits text = when (all_digits text) (digits_value 10 text)
 
 -- right-aligned digits after blanks
-abbrev pub number : List ℕ → Option ℕ
+unfoldable pub number : List ℕ → Option ℕ
 number text = digits (right_part text)
 
 abbrev pub is_letter : ℕ → Bool
@@ -68,15 +68,15 @@ is_name most [] = false
 is_name most (c ∷ cs) = is_letter c && list_all is_name_character cs && nat_le (length cs + 1) most
 
 -- a name of at most so many characters, from the first column on
-abbrev pub name : ℕ → List ℕ → Option (List ℕ)
+unfoldable pub name : ℕ → List ℕ → Option (List ℕ)
 name most text = when (is_name most (trimmed text)) (trimmed text)
 
 -- such a name, but not this one
-abbrev pub name_but : List ℕ → ℕ → List ℕ → Option (List ℕ)
+unfoldable pub name_but : List ℕ → ℕ → List ℕ → Option (List ℕ)
 name_but other most text = option_and_then (λ n. when (not (bytes_eq n other)) n) (name most text)
 
 -- a letter in every column
-abbrev pub letters : List ℕ → Option (List ℕ)
+unfoldable pub letters : List ℕ → Option (List ℕ)
 letters text = when (list_all is_ascii_uppercase text) text
 
 -- ---- literals, from the first column on
@@ -131,14 +131,14 @@ quoted_of text = if is_enclosed text then undoubled (slice_range text 1 (length 
 abbrev pub numeric_literal : List ℕ → Option Numeral
 numeric_literal text = numeral_of (trimmed text)
 
-abbrev pub quoted : List ℕ → Option (List ℕ)
+unfoldable pub quoted : List ℕ → Option (List ℕ)
 quoted text = quoted_of (trimmed text)
 
 abbrev pub literal : List ℕ → Option Literal
 literal text = option_or (option_map literals.Number (numeric_literal text)) (option_map literals.Text (quoted text))
 
 -- a name of at most six characters, or a literal
-abbrev pub factor : List ℕ → Option Factor
+unfoldable pub factor : List ℕ → Option Factor
 factor text = option_or (option_map factors.Name (name 6 text)) (option_map factors.Literal (literal text))
 
 -- ---- indicators
@@ -156,11 +156,11 @@ indicator_of a b =
     else one_of ((codes "LR", 110) ∷ (codes "1P", 111) ∷ (codes "OV", 119) ∷ (codes "MR", 129) ∷ []) (a ∷ b ∷ [])
 
 -- two characters
-abbrev pub indicator : List ℕ → Option ℕ
+unfoldable pub indicator : List ℕ → Option ℕ
 indicator (a ∷ b ∷ []) = indicator_of a b
 indicator _ = None
 
 -- blank or N, and an indicator
-abbrev pub condition : List ℕ → Option Condition
+unfoldable pub condition : List ℕ → Option Condition
 condition text =
     option_and_then (λ n. option_map (λ i. record { negated = n; indicator = i }) (indicator (drop 1 text))) (marked (codes "N") (take 1 text))

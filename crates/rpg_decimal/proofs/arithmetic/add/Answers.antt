@@ -1,6 +1,6 @@
 use Rattle.std.proofs.Common.{pos, ◌+ℤ◌, ◌*ℤ◌, ◌^◌, rules, ap₂, ◌∙◌, to_z-of_z, FitsSigned, w64}
 use Rattle.rpg_decimal.specs.Fraction.{stored_number, with_decimals}
-use Rattle.rpg_decimal.proofs.WholeLemmas.{back_64, stored-joined, sum_is}
+use Rattle.rpg_decimal.proofs.WholeLemmas.{back_64, stored-joined, sum_is, sum_fits, sum_below}
 use Rattle.rpg_decimal.proofs.arithmetic.add.Goals as goal
 
 pub returns-clause-value : goal.returns-clause-value
@@ -16,3 +16,9 @@ returns-clause-value c =
     ∙ ap₂ (λ n d. stored_number t.half t.dec t.len (with_decimals n d))
     (sum_is _ _ _ _ c.widened.type_inv c.widened-2.type_inv c.widened.ensures.bound c.widened-2.ensures.bound x_is y_is) c.both_decimals.ensures
     ∙ stored-joined t.half t.dec t.len (a.value *ℤ pos (10 ^ b.dec) +ℤ b.value *ℤ pos (10 ^ a.dec)) a.dec b.dec
+
+pub overflow_add-sum : goal.overflow_add-sum
+overflow_add-sum c = sum_fits c.widened.result c.widened-2.result c.widened.type_inv c.widened-2.type_inv c.widened.ensures.bound c.widened-2.ensures.bound
+
+pub keep-requires : goal.keep-requires
+keep-requires c = sum_below c.widened.result c.widened-2.result c.widened.type_inv c.widened-2.type_inv c.widened.ensures.bound c.widened-2.ensures.bound

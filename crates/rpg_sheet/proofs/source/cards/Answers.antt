@@ -4,7 +4,8 @@ use Rattle.std.proofs.lemmas.List.Folds.{list_all-append}
 use Rattle.std.specs.Prelude.{IsTrue}
 use Rattle.std.specs.List.{list_all}
 use Rattle.rpg_spec.specs.Cards.{card_of, ends_source}
-use Rattle.rpg_sheet.specs.Sheet.{is_readable, source}
+use Rattle.rpg_readers.specs.Readable.{is_readable}
+use Rattle.rpg_sheet.specs.Sheet.{source}
 use Rattle.rpg_sheet.proofs.SheetLemmas.{seen-push, few_seen, readable_seen, source_goes_on, fault_behind-good, fault_behind-bad}
 use Rattle.rpg_sheet.proofs.source.cards.Goals as goal
 

@@ -1,6 +1,7 @@
 use Rattle.std.proofs.Common.{◌≡◌, ℕ, ◌≤◌, ◌++◌, List, length, map, vec_len}
 use Rattle.rpg_spec.specs.Cards.{card_of}
-use Rattle.rpg_sheet.specs.Sheet.{is_readable, source, first_fault, fault_behind}
+use Rattle.rpg_readers.specs.Readable.{is_readable}
+use Rattle.rpg_sheet.specs.Sheet.{source, first_fault, fault_behind}
 use Rattle.std.specs.Prelude.{IsTrue}
 use Rattle.std.specs.List.{list_all}
 use Rattle.rpg_sheet.specs.Seen.{IsSeen}
