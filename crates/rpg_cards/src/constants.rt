@@ -3,13 +3,16 @@
 ghost use Rattle.std.specs.Prelude.{◌≡◌, ◌≤◌, length, IsTrue};
 ghost use Rattle.std.specs.List.{list_all};
 ghost use Rattle.rpg_text.specs.Texts.{is_character};
+ghost use Rattle.std.specs.Cmp.{partial_equiv_from_equiv};
 ghost use Rattle.rpg_cards.specs.Constants as constants;
+ghost use Rattle.rpg_cards.specs.SameConstants.{is_same_equiv, hashed, hashed_alike};
 ghost use Rattle.rpg_cards.specs.declared.constants.Constant.TheVariants.{Text};
 
 use crate::names::{Defined, form_of_name};
 use crate::spec_card::SpecCard;
 use old_effect::form::{Class, Form, Kind};
 use rpg_spec::{Factor, Literal, NumericLiteral, TextLiteral, Word};
+use std::hash::{Hash, Hasher};
 use std::marker::Model;
 
 /// A text of 1 to 24 characters.
@@ -106,11 +109,15 @@ impl Constant {
             }
         }
     }
+}
 
-    /// Whether one field can stand for both: their kind, length, decimals and value are the same.
-    pub fn is_same(&self, other: &Constant) -> bool
-        ensures { result ≡ constants.is_same self.now other.now }
-    {
+/// Equal where one field can stand for both: their kind, length, decimals and value are the same.
+impl PartialEq for Constant {
+    ghost eq = { constants.is_same };
+
+    ghost laws = { partial_equiv_from_equiv is_same_equiv };
+
+    fn eq(&self, other: &Self) -> bool {
         match (self, other) {
             (Constant::Number(a), Constant::Number(b)) => {
                 a.value() == b.value() && a.length() == b.length() && a.decimals() == b.decimals()
@@ -118,6 +125,27 @@ impl Constant {
             (Constant::Number(_), Constant::Text(_)) => false,
             (Constant::Text(_), Constant::Number(_)) => false,
             (Constant::Text(a), Constant::Text(b)) => a.as_slice() == b.as_slice(),
+        }
+    }
+}
+
+impl Eq for Constant {
+    ghost laws = { is_same_equiv };
+}
+
+impl Hash for Constant {
+    ghost hash_input = { hashed };
+
+    ghost respects_eq = { hashed_alike };
+
+    fn hash<H: Hasher>(&self, state: &mut H) {
+        match self {
+            Constant::Number(number) => {
+                number.value().hash(state);
+                number.length().hash(state);
+                number.decimals().hash(state);
+            }
+            Constant::Text(text) => text.as_slice().hash(state),
         }
     }
 }
@@ -181,12 +209,12 @@ pub fn new_second(before: &[SpecCard], card: &SpecCard) -> Option<Constant>
     }
 }
 
-fn stands_in(constant: &Constant, other: &Option<Constant>) -> bool
+pub(crate) fn stands_in(constant: &Constant, other: &Option<Constant>) -> bool
     ensures { result ≡ constants.stands_in constant.now other.now }
 {
     match other {
         None => false,
-        Some(other) => constant.is_same(other),
+        Some(other) => constant == other,
     }
 }
 

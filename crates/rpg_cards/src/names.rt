@@ -98,13 +98,23 @@ fn field_form(field: &InputField) -> Option<Form>
 pub fn form_of_name(name: &Name, cards: &[SpecCard]) -> Defined
     ensures { result ≡ names.form_of_name name.now cards.now }
 {
+    match given_form(name) {
+        Some(form) => Defined::Good(form),
+        None => defined_on(name, cards),
+    }
+}
+
+/// The form of a name that every program has.
+pub(crate) fn given_form(name: &Name) -> Option<Form>
+    ensures { result ≡ fields.form_of fields.given name.now }
+{
     if name.as_slice() == b"UDATE".as_slice() {
-        return Defined::Good(given(Class::Date, 6));
+        Some(given(Class::Date, 6))
+    } else if name.as_slice() == b"PAGE".as_slice() {
+        Some(given(Class::Plain, 4))
+    } else {
+        None
     }
-    if name.as_slice() == b"PAGE".as_slice() {
-        return Defined::Good(given(Class::Plain, 4));
-    }
-    defined_on(name, cards)
 }
 
 const fn given(class: Class, length: u16) -> Form
@@ -134,7 +144,7 @@ fn defined_on(name: &Name, cards: &[SpecCard]) -> Defined
     }
 }
 
-fn as_defined(form: Option<Form>) -> Defined
+pub(crate) fn as_defined(form: Option<Form>) -> Defined
     ensures { result ≡ names.defined_as form }
 {
     match form {
