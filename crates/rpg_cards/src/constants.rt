@@ -8,7 +8,6 @@ ghost use Rattle.rpg_cards.specs.Constants as constants;
 ghost use Rattle.rpg_cards.specs.SameConstants.{is_same_equiv, hashed, hashed_alike};
 ghost use Rattle.rpg_cards.specs.declared.constants.Constant.TheVariants.{Text};
 
-use crate::names::{Defined, form_of_name};
 use crate::spec_card::SpecCard;
 use old_effect::form::{Class, Form, Kind};
 use rpg_spec::{Factor, Literal, NumericLiteral, TextLiteral, Word};
@@ -185,59 +184,11 @@ impl SpecCard {
     }
 }
 
-/// What a card has as factor 1 or in an output field, where no card before it has the same.
-pub fn new_first(before: &[SpecCard], card: &SpecCard) -> Option<Constant>
-    ensures { result ≡ constants.new_first before.now card.now.spec }
-{
-    let constant = card.first_constant()?;
-    if stands_on(&constant, before) {
-        None
-    } else {
-        Some(constant)
-    }
-}
-
-/// What a card has as factor 2, where neither its factor 1 nor a card before it is the same.
-pub fn new_second(before: &[SpecCard], card: &SpecCard) -> Option<Constant>
-    ensures { result ≡ constants.new_second before.now card.now.spec }
-{
-    let constant = card.second_constant()?;
-    if stands_in(&constant, &card.first_constant()) || stands_on(&constant, before) {
-        None
-    } else {
-        Some(constant)
-    }
-}
-
 pub(crate) fn stands_in(constant: &Constant, other: &Option<Constant>) -> bool
     ensures { result ≡ constants.stands_in constant.now other.now }
 {
     match other {
         None => false,
         Some(other) => constant == other,
-    }
-}
-
-fn stands_on(constant: &Constant, cards: &[SpecCard]) -> bool
-    ensures { result ≡ constants.stands_on constant.now cards.now }
-{
-    let Some((card, behind)) = cards.split_first() else {
-        return false;
-    };
-    stands_in(constant, &card.first_constant())
-        || stands_in(constant, &card.second_constant())
-        || stands_on(constant, behind)
-}
-
-/// The form of what an operation works with: of a name by its first definition.
-pub fn form_of_factor(factor: &Factor, cards: &[SpecCard]) -> Defined
-    ensures { result ≡ constants.form_of_factor factor.now cards.now }
-{
-    match factor {
-        Factor::Name(name) => form_of_name(name, cards),
-        Factor::Literal(Literal::Number(number)) => Defined::Good(Constant::Number(*number).form()),
-        Factor::Literal(Literal::Text(text)) => {
-            Defined::Good(Constant::Text(ConstantText::new(text.as_slice())).form())
-        }
     }
 }

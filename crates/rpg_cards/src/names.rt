@@ -94,16 +94,6 @@ fn field_form(field: &InputField) -> Option<Form>
     }
 }
 
-/// The form of a name, by its first definition; UDATE and PAGE are defined before all cards.
-pub fn form_of_name(name: &Name, cards: &[SpecCard]) -> Defined
-    ensures { result ≡ names.form_of_name name.now cards.now }
-{
-    match given_form(name) {
-        Some(form) => Defined::Good(form),
-        None => defined_on(name, cards),
-    }
-}
-
 /// The form of a name that every program has.
 pub(crate) fn given_form(name: &Name) -> Option<Form>
     ensures { result ≡ fields.form_of fields.given name.now }
@@ -127,20 +117,6 @@ const fn given(class: Class, length: u16) -> Form
         decimals: 0,
         is_ascending: false,
         entries: 1,
-    }
-}
-
-/// The form of a name, by its first definition on these cards.
-fn defined_on(name: &Name, cards: &[SpecCard]) -> Defined
-    ensures { result ≡ names.defined_on name.now cards.now }
-{
-    let Some((card, behind)) = cards.split_first() else {
-        return Defined::Missing;
-    };
-    match card.defined_name() {
-        Some(defined) if *name == *defined => as_defined(card.defined_form()),
-        Some(_) => defined_on(name, behind),
-        None => defined_on(name, behind),
     }
 }
 

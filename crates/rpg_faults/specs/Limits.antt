@@ -1,6 +1,5 @@
 -- F6: limits that are passed, at the card that passes.
-use Rattle.std.specs.Prelude.{ℕ, ◌+◌, Bool, false, ◌&&◌, ◌||◌, ◌==◌, nat_le, nat_lt, List, [], ◌∷◌, ◌++◌, length, count_by, fold, sum_by, Option, None, Some, if◌then◌else◌}
-use Rattle.std.specs.Option.{option_and_then}
+use Rattle.std.specs.Prelude.{ℕ, ◌+◌, Bool, false, ◌&&◌, ◌||◌, ◌==◌, nat_le, nat_lt, List, [], ◌∷◌, ◌++◌, length, count_by, fold, Option, None, Some, if◌then◌else◌}
 use Rattle.rpg_cards.specs.Constants.{constant_form, new_first, new_second}
 use Rattle.rpg_cards.specs.Names.{definition_on, form_of_name}
 use Rattle.rpg_cards.specs.declared.constants.Constant.{Constant}
@@ -53,13 +52,6 @@ bytes_from before (c ∷ cs) = bytes_by before (definition_on c.spec) + bytes_fr
 
 abbrev pub bytes_in : List SpecCard → ℕ
 bytes_in cards = storage given + bytes_from [] cards
-
--- no fewer bytes: what all definitions would take, later ones too
-abbrev pub bytes_on : SpecCard → ℕ
-bytes_on c = bytes_of (option_and_then (λ d. d.1) (definition_on c.spec))
-
-abbrev pub most_bytes_in : List SpecCard → ℕ
-most_bytes_in cards = storage given + sum_by bytes_on cards
 
 abbrev pub passes_storage : List SpecCard → SpecCard → Bool
 passes_storage before c = nat_le (bytes_in before) 65535 && nat_lt 65535 (bytes_in before + bytes_by before (definition_on c.spec))
