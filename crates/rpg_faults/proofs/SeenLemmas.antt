@@ -7,10 +7,9 @@ use Rattle.std.specs.List.{list_any}
 use Rattle.std.specs.Option.{option_or}
 use Rattle.std.specs.Prelude.{◌||◌, count_by, nat_lt}
 use Rattle.rpg_cards.specs.Files.{latest}
-use Rattle.rpg_cards.specs.Names.{definition_on}
 use Rattle.rpg_cards.specs.declared.spec_card.SpecCard.{SpecCard}
 use Rattle.rpg_spec.specs.declared.spec.Spec.{Spec}
-use Rattle.rpg_faults.specs.Limits.{bytes_by, bytes_from, total_from}
+use Rattle.rpg_faults.specs.Limits.{total_from}
 
 -- ---- cards of a kind
 
@@ -39,7 +38,7 @@ latest-push named (d ∷ ds) c = ap (λ o. option_or o (named d.spec)) (latest-p
 
 -- ---- sums
 
-total-push : (w : List SpecCard → SpecCard → ℕ) (before front : List SpecCard) (c : SpecCard) → total_from w before (front ++ c ∷ []) ≡ total_from w before front + w (before ++ front) c
+pub total-push : (w : List SpecCard → SpecCard → ℕ) (before front : List SpecCard) (c : SpecCard) → total_from w before (front ++ c ∷ []) ≡ total_from w before front + w (before ++ front) c
 total-push w before [] c = let same = ap (λ b. w b c) (append-nil before) in omega arith
 total-push w before (d ∷ ds) c =
     let rest = total-push w (before ++ d ∷ []) ds c in
@@ -48,16 +47,6 @@ total-push w before (d ∷ ds) c =
 
 pub total_more : (w : List SpecCard → SpecCard → ℕ) (before : List SpecCard) (c : SpecCard) → total_from w [] (before ++ c ∷ []) ≡ total_from w [] before + w before c
 total_more w before c = total-push w [] before c
-
-bytes-push : (before front : List SpecCard) (c : SpecCard) → bytes_from before (front ++ c ∷ []) ≡ bytes_from before front + bytes_by (before ++ front) (definition_on c.spec)
-bytes-push before [] c = let same = ap (λ b. bytes_by b (definition_on c.spec)) (append-nil before) in omega arith
-bytes-push before (d ∷ ds) c =
-    let rest = bytes-push (before ++ d ∷ []) ds c in
-    let same = ap (λ b. bytes_by b (definition_on c.spec)) (append_assoc before (d ∷ []) ds) in
-    omega arith
-
-pub bytes_more : (before : List SpecCard) (c : SpecCard) → bytes_from [] (before ++ c ∷ []) ≡ bytes_from [] before + bytes_by before (definition_on c.spec)
-bytes_more before c = bytes-push [] before c
 
 -- ---- the cards at the front
 

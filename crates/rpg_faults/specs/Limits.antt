@@ -35,6 +35,12 @@ passes_count before (spec.Calculation k) = count_of is_calculation before == 100
 passes_count before (spec.Output (output.Record r)) = count_of is_line before == 1000
 passes_count before (spec.Output (output.Field f)) = count_since is_line is_output_field before == 200
 
+-- ---- what cards add up to, each seen with those before it
+
+abbrev pub total_from : (List SpecCard → SpecCard → ℕ) → List SpecCard → List SpecCard → ℕ
+total_from weight before [] = 0
+total_from weight before (c ∷ cs) = weight before c + total_from weight (before ++ c ∷ []) cs
+
 -- ---- storage: fields are numbered in the order of the first definitions of their names
 
 abbrev pub bytes_of : Option Form → ℕ
@@ -47,8 +53,7 @@ bytes_by before None = 0
 bytes_by before (Some d) = if is_missing (form_of_name d.0 before) then bytes_of d.1 else 0
 
 abbrev pub bytes_from : List SpecCard → List SpecCard → ℕ
-bytes_from before [] = 0
-bytes_from before (c ∷ cs) = bytes_by before (definition_on c.spec) + bytes_from (before ++ c ∷ []) cs
+bytes_from before cards = total_from (λ b c. bytes_by b (definition_on c.spec)) before cards
 
 abbrev pub bytes_in : List SpecCard → ℕ
 bytes_in cards = storage given + bytes_from [] cards
@@ -64,11 +69,6 @@ constant_bytes (Some c) = size_of (constant_form c)
 
 abbrev pub constant_bytes_by : List SpecCard → SpecCard → ℕ
 constant_bytes_by before c = constant_bytes (new_first before c.spec) + constant_bytes (new_second before c.spec)
-
--- what cards add up to, each seen with those before it
-abbrev pub total_from : (List SpecCard → SpecCard → ℕ) → List SpecCard → List SpecCard → ℕ
-total_from weight before [] = 0
-total_from weight before (c ∷ cs) = weight before c + total_from weight (before ++ c ∷ []) cs
 
 abbrev pub constant_bytes_from : List SpecCard → List SpecCard → ℕ
 constant_bytes_from before cards = total_from constant_bytes_by before cards
@@ -91,8 +91,7 @@ names_by before None = 0
 names_by before (Some d) = if is_missing (form_of_name d.0 before) then 1 else 0
 
 abbrev pub names_from : List SpecCard → List SpecCard → ℕ
-names_from before [] = 0
-names_from before (c ∷ cs) = names_by before (definition_on c.spec) + names_from (before ++ c ∷ []) cs
+names_from before cards = total_from (λ b c. names_by b (definition_on c.spec)) before cards
 
 abbrev pub constants_by : List SpecCard → SpecCard → ℕ
 constants_by before c = one_if_some (new_first before c.spec) + one_if_some (new_second before c.spec)

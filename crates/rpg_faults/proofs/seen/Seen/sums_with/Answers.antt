@@ -1,13 +1,14 @@
 use Rattle.std.proofs.Common.{[], ◌∷◌, arith, length-append}
-use Rattle.rpg_faults.specs.Limits.{constant_bytes_by, constants_by}
-use Rattle.rpg_faults.proofs.SeenLemmas.{bytes_more, total_more}
+use Rattle.rpg_cards.specs.Names.{definition_on}
+use Rattle.rpg_faults.specs.Limits.{bytes_by, constant_bytes_by, constants_by}
+use Rattle.rpg_faults.proofs.SeenLemmas.{total_more}
 use Rattle.rpg_faults.proofs.seen.Seen.sums_with.Goals as goal
 
 pub returns : goal.returns
 returns c =
     let before = c.args.self.now.before.now in
     let card = c.args.card.now in
-    let bytes = bytes_more before card in
+    let bytes = total_more (λ b c. bytes_by b (definition_on c.spec)) before card in
     let constants = total_more constants_by before card in
     let constant_bytes = total_more constant_bytes_by before card in
     let longer = length-append before (card ∷ []) in
