@@ -1,5 +1,7 @@
 pub mod Cards
 pub mod Names
 pub mod Constants
+pub mod SameConstants
 pub mod Files
 pub mod Operations
+pub mod Index

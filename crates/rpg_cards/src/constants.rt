@@ -3,13 +3,15 @@
 ghost use Rattle.std.specs.Prelude.{◌≡◌, ◌≤◌, length, IsTrue};
 ghost use Rattle.std.specs.List.{list_all};
 ghost use Rattle.rpg_text.specs.Texts.{is_character};
+ghost use Rattle.std.specs.Cmp.{partial_equiv_from_equiv};
 ghost use Rattle.rpg_cards.specs.Constants as constants;
+ghost use Rattle.rpg_cards.specs.SameConstants.{is_same_equiv, hashed, hashed_alike};
 ghost use Rattle.rpg_cards.specs.declared.constants.Constant.TheVariants.{Text};
 
-use crate::names::{Defined, form_of_name};
 use crate::spec_card::SpecCard;
 use old_effect::form::{Class, Form, Kind};
 use rpg_spec::{Factor, Literal, NumericLiteral, TextLiteral, Word};
+use std::hash::{Hash, Hasher};
 use std::marker::Model;
 
 /// A text of 1 to 24 characters.
@@ -106,11 +108,15 @@ impl Constant {
             }
         }
     }
+}
 
-    /// Whether one field can stand for both: their kind, length, decimals and value are the same.
-    pub fn is_same(&self, other: &Constant) -> bool
-        ensures { result ≡ constants.is_same self.now other.now }
-    {
+/// Equal where one field can stand for both: their kind, length, decimals and value are the same.
+impl PartialEq for Constant {
+    ghost eq = { constants.is_same };
+
+    ghost laws = { partial_equiv_from_equiv is_same_equiv };
+
+    fn eq(&self, other: &Self) -> bool {
         match (self, other) {
             (Constant::Number(a), Constant::Number(b)) => {
                 a.value() == b.value() && a.length() == b.length() && a.decimals() == b.decimals()
@@ -118,6 +124,27 @@ impl Constant {
             (Constant::Number(_), Constant::Text(_)) => false,
             (Constant::Text(_), Constant::Number(_)) => false,
             (Constant::Text(a), Constant::Text(b)) => a.as_slice() == b.as_slice(),
+        }
+    }
+}
+
+impl Eq for Constant {
+    ghost laws = { is_same_equiv };
+}
+
+impl Hash for Constant {
+    ghost hash_input = { hashed };
+
+    ghost respects_eq = { hashed_alike };
+
+    fn hash<H: Hasher>(&self, state: &mut H) {
+        match self {
+            Constant::Number(number) => {
+                number.value().hash(state);
+                number.length().hash(state);
+                number.decimals().hash(state);
+            }
+            Constant::Text(text) => text.as_slice().hash(state),
         }
     }
 }
@@ -157,59 +184,11 @@ impl SpecCard {
     }
 }
 
-/// What a card has as factor 1 or in an output field, where no card before it has the same.
-pub fn new_first(before: &[SpecCard], card: &SpecCard) -> Option<Constant>
-    ensures { result ≡ constants.new_first before.now card.now.spec }
-{
-    let constant = card.first_constant()?;
-    if stands_on(&constant, before) {
-        None
-    } else {
-        Some(constant)
-    }
-}
-
-/// What a card has as factor 2, where neither its factor 1 nor a card before it is the same.
-pub fn new_second(before: &[SpecCard], card: &SpecCard) -> Option<Constant>
-    ensures { result ≡ constants.new_second before.now card.now.spec }
-{
-    let constant = card.second_constant()?;
-    if stands_in(&constant, &card.first_constant()) || stands_on(&constant, before) {
-        None
-    } else {
-        Some(constant)
-    }
-}
-
-fn stands_in(constant: &Constant, other: &Option<Constant>) -> bool
+pub(crate) fn stands_in(constant: &Constant, other: &Option<Constant>) -> bool
     ensures { result ≡ constants.stands_in constant.now other.now }
 {
     match other {
         None => false,
-        Some(other) => constant.is_same(other),
-    }
-}
-
-fn stands_on(constant: &Constant, cards: &[SpecCard]) -> bool
-    ensures { result ≡ constants.stands_on constant.now cards.now }
-{
-    let Some((card, behind)) = cards.split_first() else {
-        return false;
-    };
-    stands_in(constant, &card.first_constant())
-        || stands_in(constant, &card.second_constant())
-        || stands_on(constant, behind)
-}
-
-/// The form of what an operation works with: of a name by its first definition.
-pub fn form_of_factor(factor: &Factor, cards: &[SpecCard]) -> Defined
-    ensures { result ≡ constants.form_of_factor factor.now cards.now }
-{
-    match factor {
-        Factor::Name(name) => form_of_name(name, cards),
-        Factor::Literal(Literal::Number(number)) => Defined::Good(Constant::Number(*number).form()),
-        Factor::Literal(Literal::Text(text)) => {
-            Defined::Good(Constant::Text(ConstantText::new(text.as_slice())).form())
-        }
+        Some(other) => constant == other,
     }
 }

@@ -42,25 +42,3 @@ pub fn output_file(cards: &[SpecCard]) -> Option<&FileSpec>
         None => output_file(behind),
     }
 }
-
-/// The file name on the last of these I cards that has one.
-pub fn input_file_name(cards: &[SpecCard]) -> Option<&Word<8>>
-    ensures { option_map (λ w. w.now) result ≡ files.input_file_name cards.now }
-{
-    let (card, behind) = cards.split_first()?;
-    match input_file_name(behind) {
-        Some(name) => Some(name),
-        None => card.record_type()?.file.as_ref(),
-    }
-}
-
-/// The file name on the last of these O cards that has one.
-pub fn output_file_name(cards: &[SpecCard]) -> Option<&Word<8>>
-    ensures { option_map (λ w. w.now) result ≡ files.output_file_name cards.now }
-{
-    let (card, behind) = cards.split_first()?;
-    match output_file_name(behind) {
-        Some(name) => Some(name),
-        None => card.line()?.file.as_ref(),
-    }
-}

@@ -94,17 +94,17 @@ fn field_form(field: &InputField) -> Option<Form>
     }
 }
 
-/// The form of a name, by its first definition; UDATE and PAGE are defined before all cards.
-pub fn form_of_name(name: &Name, cards: &[SpecCard]) -> Defined
-    ensures { result ≡ names.form_of_name name.now cards.now }
+/// The form of a name that every program has.
+pub(crate) fn given_form(name: &Name) -> Option<Form>
+    ensures { result ≡ fields.form_of fields.given name.now }
 {
     if name.as_slice() == b"UDATE".as_slice() {
-        return Defined::Good(given(Class::Date, 6));
+        Some(given(Class::Date, 6))
+    } else if name.as_slice() == b"PAGE".as_slice() {
+        Some(given(Class::Plain, 4))
+    } else {
+        None
     }
-    if name.as_slice() == b"PAGE".as_slice() {
-        return Defined::Good(given(Class::Plain, 4));
-    }
-    defined_on(name, cards)
 }
 
 const fn given(class: Class, length: u16) -> Form
@@ -120,21 +120,7 @@ const fn given(class: Class, length: u16) -> Form
     }
 }
 
-/// The form of a name, by its first definition on these cards.
-fn defined_on(name: &Name, cards: &[SpecCard]) -> Defined
-    ensures { result ≡ names.defined_on name.now cards.now }
-{
-    let Some((card, behind)) = cards.split_first() else {
-        return Defined::Missing;
-    };
-    match card.defined_name() {
-        Some(defined) if *name == *defined => as_defined(card.defined_form()),
-        Some(_) => defined_on(name, behind),
-        None => defined_on(name, behind),
-    }
-}
-
-fn as_defined(form: Option<Form>) -> Defined
+pub(crate) fn as_defined(form: Option<Form>) -> Defined
     ensures { result ≡ names.defined_as form }
 {
     match form {

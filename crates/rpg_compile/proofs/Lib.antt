@@ -7,3 +7,4 @@ pub mod Storage
 pub mod Totals
 pub mod Limits
 pub mod Numbering
+pub mod ConstantLemmas

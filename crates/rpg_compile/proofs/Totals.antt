@@ -1,7 +1,6 @@
 -- A faultless source's names and constants are no more, and take no more storage, than a program may have.
 use Rattle.std.proofs.Common.{◌≡◌, ℕ, ◌+◌, ◌≤◌, false, List, [], ◌∷◌, ◌++◌, length, length-append, Option, None, Some, refl, ap, ◌∙◌, arith, leb, ltb}
 use Rattle.std.proofs.lemmas.Bool.{or_parts}
-use Rattle.std.proofs.lemmas.List.{append_assoc, append-nil}
 use Rattle.std.proofs.lemmas.List.Sums.{sum_by-append}
 use Rattle.std.specs.Prelude.{◌&&◌, sum_by}
 use Rattle.std.specs.Option.{option_to_list}
@@ -14,6 +13,7 @@ use Rattle.rpg_compile.proofs.FieldLemmas.{length-fields_from}
 use Rattle.rpg_compile.proofs.Storage.{within, storage_within, bytes_in_are, names_in_are}
 use Rattle.rpg_compile.proofs.Walks.{walk}
 use Rattle.rpg_faults.proofs.LeastLemmas.{rule-faultless}
+use Rattle.rpg_faults.proofs.SeenLemmas.{total_more}
 use Rattle.rpg_faults.specs.Faults.{rule, Faultless}
 use Rattle.rpg_faults.specs.Limits.{bytes_in, constant_bytes, constant_bytes_by, constants_by, names_from, one_if_some, passes_fields, passes_storage_by_constant, total_from}
 use Rattle.rpg_faults.specs.declared.fault.FaultCode.TheVariants.{F6}
@@ -21,19 +21,12 @@ use Rattle.rpg_symbols.specs.Fields.{given, storage}
 
 -- ---- totals
 
-total-push : (w : List SpecCard → SpecCard → ℕ) (before front : List SpecCard) (c : SpecCard) → total_from w before (front ++ c ∷ []) ≡ total_from w before front + w (before ++ front) c
-total-push w before [] c = let same = ap (λ b. w b c) (append-nil before) in omega arith
-total-push w before (d ∷ ds) c =
-    let rest = total-push w (before ++ d ∷ []) ds c in
-    let same = ap (λ b. w b c) (append_assoc before (d ∷ []) ds) in
-    omega arith
-
 -- where no card passes the limit, all of them keep it
 total_within : (w : List SpecCard → SpecCard → ℕ) (base limit : ℕ) (cards : List SpecCard) → base ≤ limit
     → ((before : List SpecCard) (c : SpecCard) (after : List SpecCard) → cards ≡ before ++ c ∷ after → (leb (base + total_from w [] before) limit && ltb limit (base + total_from w [] before + w before c)) ≡ false)
     → base + total_from w [] cards ≤ limit
 total_within w base limit cards low kept = walk (λ cs. base + total_from w [] cs ≤ limit) cards (omega arith) (λ before c after split h.
-    let push = total-push w [] before c in
+    let push = total_more w before c in
     let more = within (base + total_from w [] before) (w before c) limit h (kept before c after split) in
     omega arith)
 

@@ -1,37 +1,40 @@
 //! The constants of a program.
 
-ghost use Rattle.std.specs.Prelude.{◌≡◌, ◌++◌, ◌≤◌, All, List, length, map, IfOk, OnOk};
-ghost use Rattle.std.specs.Option.{option_to_list};
+ghost use Rattle.std.specs.Prelude.{◌≡◌, ◌++◌, All, map, IfOk, OnOk};
+ghost use Rattle.std.specs.Option.{option_map_or};
+ghost use Rattle.indexmap.specs.IndexSet.{insert_key};
 ghost use Rattle.rpg_cards.specs.Constants as known;
-ghost use Rattle.rpg_cards.specs.declared.constants.Constant.{Constant};
 ghost use Rattle.old_effect.specs.Values.{held};
 
+use indexmap::IndexSet;
 use old_effect::form::Form;
 use old_effect::value::Value;
-use rpg_cards::{Constant, SpecCard, new_first, new_second};
+use rpg_cards::{Constant, SpecCard};
 use std::alloc::{AllocError, Global};
 
 /// The constants of cards, equal ones once, in the order in which they come first.
-pub(crate) fn constants_of(alloc: Global, cards: &[SpecCard]) -> Result<Vec<Constant>, AllocError>
-    ensures { IfOk result (λ v. v.items ≡ known.constants cards.now) }
+pub(crate) fn constants_of(
+    alloc: Global,
+    cards: &[SpecCard],
+) -> Result<IndexSet<Constant>, AllocError>
+    ensures { IfOk result (λ set. set.keys ≡ known.constants cards.now) }
 {
-    let mut constants = Vec::new(alloc);
-    let mut i = 0;
-    while i < cards.len() {
-        push(&mut constants, new_first(&cards[..i], &cards[i]))?;
-        push(&mut constants, new_second(&cards[..i], &cards[i]))?;
-        i += 1;
+    let mut constants = IndexSet::new(alloc);
+    for card in cards {
+        add(&mut constants, card.first_constant())?;
+        add(&mut constants, card.second_constant())?;
     }
     Ok(constants)
 }
 
-fn push(constants: &mut Vec<Constant>, constant: Option<Constant>) -> Result<(), AllocError>
-    ensures { OnOk result ((more : List Constant) → constants.new.items ++ more ≡ constants.old.items ++ (option_to_list constant ++ more)) }
+/// Puts a constant behind the others, unless it is among them.
+fn add(constants: &mut IndexSet<Constant>, constant: Option<Constant>) -> Result<(), AllocError>
+    ensures { OnOk result (constants.new.keys ≡ option_map_or (insert_key known.is_same constants.old.keys) constant constants.old.keys) }
 {
-    match constant {
-        None => Ok(()),
-        Some(constant) => Ok(constants.push(constant)?),
+    if let Some(constant) = constant {
+        constants.insert(constant)?;
     }
+    Ok(())
 }
 
 /// Puts the forms and values of constants behind those of the names.

@@ -50,7 +50,7 @@ fn fields_of(
     let mut values = first_values(alloc, &forms)?;
     let names = forms.len() as u16;
     let constants = constants_of(alloc, cards)?;
-    add_constants(alloc, &constants, &mut forms, &mut values)?;
+    add_constants(alloc, constants.as_slice(), &mut forms, &mut values)?;
     Ok((FieldTable::new(symbols, names, constants), forms, values))
 }
 

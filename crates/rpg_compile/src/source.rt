@@ -18,11 +18,11 @@ pub fn compile(alloc: Global, text: &[u8], allowance: u16) -> Result<Program, Co
 {
     let cards = rpg_sheet::cards(alloc, text)?;
     let cards = spec_cards(alloc, &cards)?;
-    if let Some(fault) = first_fault(&cards) {
-        return Err(CompileFault::At {
+    match first_fault(alloc, &cards)? {
+        Some(fault) => Err(CompileFault::At {
             card: fault.card,
             code: SourceCode::Fault(fault.code),
-        });
+        }),
+        None => Ok(program_of(alloc, &cards, allowance)?),
     }
-    Ok(program_of(alloc, &cards, allowance)?)
 }

@@ -1,9 +1,9 @@
 //! The numbers of names and constants.
 
-ghost use Rattle.std.specs.Prelude.{◌≡◌, ◌+◌, ◌<◌, ◌≤◌, ◌^◌, length, position, IfSome, option_copied};
-ghost use Rattle.rpg_cards.specs.Constants.{is_same};
+ghost use Rattle.std.specs.Prelude.{◌≡◌, ◌+◌, ◌≤◌, length};
 ghost use Rattle.rpg_compile.specs.Fields as fields;
 
+use indexmap::IndexSet;
 use rpg_cards::{Constant, factor_constant};
 use rpg_spec::Factor;
 use rpg_symbols::{Name, Symbols};
@@ -15,7 +15,7 @@ pub(crate) struct FieldTable {
     symbols: Symbols,
     /// How many names there are.
     names: u16,
-    constants: Vec<Constant>,
+    constants: IndexSet<Constant>,
 }
 
 impl Model for FieldTable {
@@ -24,16 +24,16 @@ impl Model for FieldTable {
 
     ghost Value = { Table };
 
-    ghost view = { λ t. record { names = t.symbols; constants = t.constants.items } };
+    ghost view = { λ t. record { names = t.symbols; constants = t.constants.keys } };
 
-    ghost invariant = { λ t. (t.names ≡ length t.symbols) × (length t.symbols + length t.constants.items ≤ 4000) };
+    ghost invariant = { λ t. (t.names ≡ length t.symbols) × (length t.symbols + length t.constants.keys ≤ 4000) };
 }
 
 impl FieldTable {
-    pub(crate) fn new(symbols: Symbols, names: u16, constants: Vec<Constant>) -> Self
+    pub(crate) fn new(symbols: Symbols, names: u16, constants: IndexSet<Constant>) -> Self
         requires names { names ≡ length symbols }
-        requires few { length symbols + length constants.items ≤ 4000 }
-        ensures { result ≡ record { names = symbols; constants = constants.items } }
+        requires few { length symbols + length constants.keys ≤ 4000 }
+        ensures { result ≡ record { names = symbols; constants = constants.keys } }
     {
         FieldTable {
             symbols,
@@ -53,7 +53,7 @@ impl FieldTable {
     pub(crate) fn constant_number(&self, constant: &Constant) -> u16
         ensures { result ≡ fields.constant_number self.now constant.now }
     {
-        match place_of(&self.constants, constant) {
+        match self.constants.get_index_of(constant) {
             None => 0,
             Some(place) => self.names + place as u16 + 1,
         }
@@ -70,11 +70,4 @@ impl FieldTable {
             },
         }
     }
-}
-
-fn place_of(constants: &[Constant], constant: &Constant) -> Option<usize>
-    ensures place { result ≡ position (is_same constant.now) constants.now }
-    ensures within { IfSome result (λ place. place < length constants.now) }
-{
-    constants.iter().position(|other| constant.is_same(other))
 }

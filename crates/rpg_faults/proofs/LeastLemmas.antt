@@ -1,15 +1,14 @@
--- The least card of a rule, and the least fault of all codes.
-use Rattle.std.proofs.Common.{◌≡◌, ℕ, ◌+◌, ◌<◌, ◌≤◌, ◌⊎◌, inl, inr, Bool, true, false, cond, List, [], ◌∷◌, ◌++◌, Option, Some, None, MatchOption, refl, sym, ap, ◌∙◌, subst, arith, append_assoc, append-nil}
-use Rattle.std.proofs.lemmas.Bool.{cases_lt}
-use Rattle.std.specs.Prelude.{nat_lt}
-use borrow.Author.Tests.{ltb-true, ltb-false}
+-- The least code of the first card that breaks a rule is the least fault.
+use Rattle.std.proofs.Common.{◌≡◌, ℕ, ◌+◌, ◌≤◌, ◌⊎◌, inl, inr, Bool, true, false, cond, List, [], ◌∷◌, ◌++◌, Option, Some, None, MatchOption, refl, sym, ap, ◌∙◌, subst, arith, append_assoc, append-nil}
 use Rattle.rpg_cards.specs.Cards.{Numbered}
 use Rattle.rpg_cards.specs.declared.spec_card.SpecCard.{SpecCard}
 use Rattle.rpg_faults.specs.declared.fault.FaultCode.{FaultCode}
 use Rattle.rpg_faults.specs.declared.fault.FaultCode.TheVariants.{F1, F2, F3, F4, F6, F7, F8, F9, F12, F15, F16}
 use Rattle.rpg_faults.specs.declared.fault.Fault.{Fault}
 use Rattle.rpg_faults.specs.Cards.{Rule}
-use Rattle.rpg_faults.specs.Faults.{rule, source_rule, place, codes, first_broken, least_card, earlier, least_of, IsBroken, HasFault, NotAfter, IsLeastFault, Faultless}
+use Rattle.rpg_faults.specs.Faults.{rule, source_rule, place, codes, least_code, fault_on, fault_from, least_fault, IsBroken, HasFault, NotAfter, IsLeastFault, Faultless}
+use Rattle.rpg_faults.specs.Files.{lacks_input}
+use Rattle.std.specs.Option.{option_map, option_or}
 
 -- ---- the first card that breaks a rule
 
@@ -21,10 +20,6 @@ pub record Breaks (r : Rule) (before after : List SpecCard) (n : ℕ) : Type 0 w
   pub split : after ≡ front ++ at ∷ back
   pub here : at.number ≡ n
   pub broken : r (before ++ front) at back ≡ true
-
-abbrev pub IsFirst : Rule → List SpecCard → List SpecCard → Option ℕ → Type 0
-IsFirst r before after o =
-    MatchOption o ((n : ℕ) → Breaks r before after n → ⊥) (λ n. Breaks r before after n × ((m : ℕ) → Breaks r before after m → n ≤ m))
 
 -- numbers go up
 later : (low : ℕ) (front : List SpecCard) (at : SpecCard) (back : List SpecCard) → Numbered low (front ++ at ∷ back) → low ≤ at.number
@@ -56,104 +51,19 @@ first_or r before after c n b = at_front b.front b.at b.back b.split b.here b.br
         let rest : after ≡ front ++ at ∷ back = cc in
         inr (record { front = front; at = at; back = back; split = rest; here = h; broken = ap (λ l. r l at back) (append_assoc before (c ∷ []) front ∙ ap (λ (x : SpecCard). before ++ x ∷ front) same) ∙ t })
 
-pub is_first : (r : Rule) (low : ℕ) (before after : List SpecCard) → Numbered low after → IsFirst r before after (first_broken r before after)
-is_first r low before [] h = λ n b. none_there b.front b.at b.back b.split
+none_there : (r : Rule) (before : List SpecCard) (n : ℕ) → Breaks r before [] n → ⊥
+none_there r before n b = at_front b.front b.split
   where
-    none_there : (front : List SpecCard) (at : SpecCard) (back : List SpecCard) → [] ≡ front ++ at ∷ back → ⊥
-    none_there [] at back e = cc
-    none_there (c ∷ front) at back e = cc
-is_first r low before (c ∷ cs) h = by_cases (r before c cs) refl (is_first r (c.number + 1) (before ++ c ∷ []) cs h.1)
-  where
-    first_number : (n : ℕ) → r before c cs ≡ true → Breaks r before (c ∷ cs) n → c.number ≤ n
-    first_number n t b = from (b.front) b.at b.back b.split b.here
-      where
-        from : (front : List SpecCard) (at : SpecCard) (back : List SpecCard) → c ∷ cs ≡ front ++ at ∷ back → at.number ≡ n → c.number ≤ n
-        from [] at back e k = let same : c ≡ at = cc in let q : c.number ≡ n = ap (λ (d : SpecCard). d.number) same ∙ k in omega arith
-        from (d ∷ front) at back e k =
-            let rest : cs ≡ front ++ at ∷ back = cc in
-            let up = later (c.number + 1) front at back (subst (Numbered (c.number + 1)) rest h.1) in
-            omega arith
+    at_front : (front : List SpecCard) → [] ≡ front ++ b.at ∷ b.back → ⊥
+    at_front [] e = cc
+    at_front (c ∷ front) e = cc
 
-    passed : r before c cs ≡ false → (o : Option ℕ) → IsFirst r (before ++ c ∷ []) cs o → IsFirst r before (c ∷ cs) o
-    passed f None i = λ n b. elim (first_or r before cs c n b) [ inl x ↦ cc (x.1) | inr y ↦ i n y ]
-    passed f (Some m) i = (under r before cs c m i.0, λ n b. elim (first_or r before cs c n b) [ inl x ↦ absurd (cc (x.1)) | inr y ↦ i.1 n y ])
-
-    by_cases : (b : Bool) → r before c cs ≡ b → IsFirst r (before ++ c ∷ []) cs (first_broken r (before ++ c ∷ []) cs) → IsFirst r before (c ∷ cs) (cond b (Some c.number) (first_broken r (before ++ c ∷ []) cs))
-    by_cases true t i = (record { front = []; at = c; back = cs; split = refl; here = refl; broken = ap (λ l. r l c cs) (append-nil before) ∙ t }, λ n b. first_number n t b)
-    by_cases false f i = passed f (first_broken r (before ++ c ∷ []) cs) i
-
--- ---- the least card of a code, 0 for the source as a whole
-
-abbrev pub IsLeastCard : List SpecCard → FaultCode → Option ℕ → Type 0
-IsLeastCard cards code o =
-    MatchOption o ((n : ℕ) → HasFault cards (record { card = n; code = code }) → ⊥)
-    (λ n. HasFault cards (record { card = n; code = code }) × ((m : ℕ) → HasFault cards (record { card = m; code = code }) → n ≤ m))
-
-is_least_card : (cards : List SpecCard) (code : FaultCode) → Numbered 1 cards → IsLeastCard cards code (least_card code cards)
-unfolding least_card
-is_least_card cards code h = by_source (source_rule code cards) refl
-  where
-    broken_at : (n : ℕ) → Breaks (rule code) [] cards n → IsBroken (rule code) cards n
-    broken_at n b = record { before = b.front; card = b.at; after = b.back; split = b.split; here = b.here; broken = b.broken }
-
-    breaks_at : source_rule code cards ≡ false → (n : ℕ) → HasFault cards (record { card = n; code = code }) → Breaks (rule code) [] cards n
-    breaks_at f n (inl b) = record { front = b.before; at = b.card; back = b.after; split = b.split; here = b.here; broken = b.broken }
-    breaks_at f n (inr s) = absurd (cc (s.1))
-
-    by_cards : source_rule code cards ≡ false → (o : Option ℕ) → IsFirst (rule code) [] cards o → IsLeastCard cards code o
-    by_cards f None i = λ n x. i n (breaks_at f n x)
-    by_cards f (Some m) i = (inl (broken_at m i.0), λ n x. i.1 n (breaks_at f n x))
-
-    by_source : (b : Bool) → source_rule code cards ≡ b → IsLeastCard cards code (cond b (Some 0) (first_broken (rule code) [] cards))
-    by_source true t = (inr (refl, t), λ n x. omega arith)
-    by_source false f = by_cards f (first_broken (rule code) [] cards) (is_first (rule code) 1 [] cards h)
-
--- ---- the least fault of the codes with a place below m
-
-abbrev pub Best : List SpecCard → ℕ → Option Fault → Type 0
-Best cards m best =
-    MatchOption best ((g : Fault) → place g.code < m → HasFault cards g → ⊥)
-    (λ f. HasFault cards f × (place f.code < m) × ((g : Fault) → place g.code < m → HasFault cards g → NotAfter f g))
-
--- the next code is the only one from m to its own place
-pub record Next (m : ℕ) (code : FaultCode) : Type 0 where
-  pub low : m ≤ place code
-  pub only : (k : FaultCode) → place k < place code + 1 → (place k < m) ⊎ (k ≡ code)
-
-at_code : (cards : List SpecCard) (code : FaultCode) (c : ℕ) (g : Fault) → g.code ≡ code → c ≤ g.card → NotAfter (record { card = c; code = code }) g
-at_code cards code c g e l =
-    let same : place g.code ≡ place code = ap place e in
-    elim (cases_lt c g.card) [ inl p ↦ inl p | inr p ↦ inr ((omega arith), (omega arith)) ]
-
-has_at : (cards : List SpecCard) (code : FaultCode) (g : Fault) → g.code ≡ code → HasFault cards g → HasFault cards (record { card = g.card; code = code })
-has_at cards code g e h = subst (λ k. HasFault cards (record { card = g.card; code = k })) e h
-
-joined_best : (cards : List SpecCard) (m : ℕ) (code : FaultCode) (best : Option Fault) (o : Option ℕ) → Next m code → IsLeastCard cards code o → Best cards m best → Best cards (place code + 1) (earlier best code o)
-joined_best cards m code None None x i b = λ g l h. elim (x.only g.code l) [ inl q ↦ b g q h | inr e ↦ i g.card (has_at cards code g e h) ]
-joined_best cards m code (Some f) None x i b =
-    (b.0, (let l = b.1 in let p = x.low in omega arith), λ g l h. elim (x.only g.code l) [ inl q ↦ b.2 g q h | inr e ↦ absurd (i g.card (has_at cards code g e h)) ])
-joined_best cards m code None (Some c) x i b =
-    (i.0, (omega arith), λ g l h. elim (x.only g.code l) [ inl q ↦ absurd (b g q h) | inr e ↦ at_code cards code c g e (i.1 g.card (has_at cards code g e h)) ])
-joined_best cards m code (Some f) (Some c) x i b = pick (nat_lt c f.card) refl
-  where
-    sooner : c < f.card → (g : Fault) → NotAfter f g → NotAfter (record { card = c; code = code }) g
-    sooner p g (inl q) = inl (omega arith)
-    sooner p g (inr q) = inl (let e = q.0 in omega arith)
-
-    no_later : f.card ≤ c → (g : Fault) → g.code ≡ code → c ≤ g.card → NotAfter f g
-    no_later p g e l =
-        let same : place g.code ≡ place code = ap place e in
-        let low = x.low in
-        let was = b.1 in
-        elim (cases_lt f.card g.card) [ inl q ↦ inl q | inr q ↦ inr ((omega arith), (omega arith)) ]
-
-    pick : (t : Bool) → nat_lt c f.card ≡ t → Best cards (place code + 1) (cond t (Some (record { card = c; code = code })) (Some f))
-    pick true t =
-        let p : c < f.card = omega (arith, ltb-true) in
-        (i.0, (omega arith), λ g l h. elim (x.only g.code l) [ inl q ↦ sooner p g (b.2 g q h) | inr e ↦ at_code cards code c g e (i.1 g.card (has_at cards code g e h)) ])
-    pick false t =
-        let p : f.card ≤ c = omega (arith, ltb-false) in
-        (b.0, (let was = b.1 in let low = x.low in omega arith), λ g l h. elim (x.only g.code l) [ inl q ↦ b.2 g q h | inr e ↦ no_later p g e (i.1 g.card (has_at cards code g e h)) ])
+-- a card behind has a number that is at least so great
+number_up : (r : Rule) (low : ℕ) (before after : List SpecCard) (n : ℕ) → Numbered low after → Breaks r before after n → low ≤ n
+number_up r low before after n h b =
+    let up = later low b.front b.at b.back (subst (Numbered low) b.split h) in
+    let same = b.here in
+    omega arith
 
 -- ---- all codes in their order
 
@@ -173,29 +83,28 @@ above m k (x ∷ xs) h i = by_place i (above (place x + 1) k xs h.1)
     by_place (inl e) later = let same : place k ≡ place x = ap place e in let l = h.0 in omega arith
     by_place (inr j) later = let l = h.0 in let r = later j in omega arith
 
--- from the best of the codes below m to the least of all, where the codes left are those from m on
-least_from : (cards : List SpecCard) → Numbered 1 cards → (m : ℕ) (best : Option Fault) (ks : List FaultCode) → Ascends m ks → ((k : FaultCode) → (place k < m) ⊎ IsOneOf k ks) → Best cards m best → MatchOption (least_of cards best ks) (Faultless cards) (λ f. IsLeastFault cards f)
-least_from cards numbered m None [] a all b = λ g h. b g (elim (all g.code) [ inl p ↦ p | inr x ↦ absurd x ]) h
-least_from cards numbered m (Some f) [] a all b = record { is = b.0; least = λ g h. b.2 g (elim (all g.code) [ inl p ↦ p | inr x ↦ absurd x ]) h }
-least_from cards numbered m best (x ∷ xs) a all b =
-    least_from cards numbered (place x + 1) (earlier best x (least_card x cards)) xs a.1 left (joined_best cards m x best (least_card x cards) next (is_least_card cards x numbered) b)
+-- ---- the least code of a card
+
+abbrev pub IsLeastCode : List SpecCard → SpecCard → List SpecCard → List FaultCode → Option FaultCode → Type 0
+IsLeastCode before c after ks o =
+    MatchOption o ((k : FaultCode) → IsOneOf k ks → rule k before c after ≡ true → ⊥)
+    (λ j. (rule j before c after ≡ true) × ((k : FaultCode) → IsOneOf k ks → rule k before c after ≡ true → place j ≤ place k))
+
+is_least_code : (before : List SpecCard) (c : SpecCard) (after : List SpecCard) (m : ℕ) (ks : List FaultCode) → Ascends m ks → IsLeastCode before c after ks (least_code before c after ks)
+is_least_code before c after m [] a = λ k i t. i
+is_least_code before c after m (x ∷ xs) a = by_cases (rule x before c after) refl (is_least_code before c after (place x + 1) xs a.1)
   where
-    left : (k : FaultCode) → (place k < place x + 1) ⊎ IsOneOf k xs
-    left k = elim (all k) [ inl p ↦ inl (let l = a.0 in omega arith) | inr i ↦ by_place i ]
-      where
-        by_place : (k ≡ x) ⊎ IsOneOf k xs → (place k < place x + 1) ⊎ IsOneOf k xs
-        by_place (inl e) = inl (let same : place k ≡ place x = ap place e in omega arith)
-        by_place (inr j) = inr j
+    no_less : (k : FaultCode) → IsOneOf k (x ∷ xs) → place x ≤ place k
+    no_less k (inl e) = let same : place k ≡ place x = ap place e in omega arith
+    no_less k (inr i) = let low = above (place x + 1) k xs a.1 i in omega arith
 
-    only : (k : FaultCode) → place k < place x + 1 → (place k < m) ⊎ (k ≡ x)
-    only k l = elim (all k) [ inl p ↦ inl p | inr i ↦ by_place i ]
-      where
-        by_place : (k ≡ x) ⊎ IsOneOf k xs → (place k < m) ⊎ (k ≡ x)
-        by_place (inl e) = inr e
-        by_place (inr j) = let h = above (place x + 1) k xs a.1 j in absurd (omega arith)
+    passed : rule x before c after ≡ false → (o : Option FaultCode) → IsLeastCode before c after xs o → IsLeastCode before c after (x ∷ xs) o
+    passed f None i = λ k one t. elim one [ inl e ↦ cc | inr j ↦ i k j t ]
+    passed f (Some j) i = (i.0, λ k one t. elim one [ inl e ↦ absurd cc | inr l ↦ i.1 k l t ])
 
-    next : Next m x
-    next = record { low = a.0; only = only }
+    by_cases : (b : Bool) → rule x before c after ≡ b → IsLeastCode before c after xs (least_code before c after xs) → IsLeastCode before c after (x ∷ xs) (cond b (Some x) (least_code before c after xs))
+    by_cases true t i = (t, λ k one _. no_less k one)
+    by_cases false f i = passed f (least_code before c after xs) i
 
 all_codes : (k : FaultCode) → IsOneOf k codes
 all_codes F1 = inl refl
@@ -213,8 +122,79 @@ all_codes F16 = inr (inr (inr (inr (inr (inr (inr (inr (inr (inr (inl refl))))))
 codes_ascend : Ascends 0 codes
 codes_ascend = (omega arith, (omega arith, (omega arith, (omega arith, (omega arith, (omega arith, (omega arith, (omega arith, (omega arith, (omega arith, (omega arith, tt)))))))))))
 
-pub least : (cards : List SpecCard) → Numbered 1 cards → MatchOption (least_of cards None codes) (Faultless cards) (λ f. IsLeastFault cards f)
-least cards numbered = least_from cards numbered 0 None codes codes_ascend (λ k. inr (all_codes k)) (λ g l h. omega arith)
+-- ---- the first card that breaks a rule
+
+abbrev pub IsFirst : List SpecCard → List SpecCard → Option Fault → Type 0
+IsFirst before after o =
+    MatchOption o ((g : Fault) → Breaks (rule g.code) before after g.card → ⊥)
+    (λ f. Breaks (rule f.code) before after f.card × ((g : Fault) → Breaks (rule g.code) before after g.card → NotAfter f g))
+
+is_first : (low : ℕ) (before after : List SpecCard) → Numbered low after → IsFirst before after (fault_from before after)
+is_first low before [] h = λ g b. none_there (rule g.code) before g.card b
+is_first low before (c ∷ cs) h = by_code (least_code before c cs codes) (is_least_code before c cs 0 codes codes_ascend) (is_first (c.number + 1) (before ++ c ∷ []) cs h.1)
+  where
+    Here : Fault → Type 0
+    Here g = (c.number ≡ g.card) × (rule g.code before c cs ≡ true)
+
+    passed : ((k : FaultCode) → IsOneOf k codes → rule k before c cs ≡ true → ⊥) → (o : Option Fault) → IsFirst (before ++ c ∷ []) cs o → IsFirst before (c ∷ cs) o
+    passed none None i = λ g b. elim (first_or (rule g.code) before cs c g.card b) [ inl x ↦ none g.code (all_codes g.code) x.1 | inr y ↦ i g y ]
+    passed none (Some f) i = (under (rule f.code) before cs c f.card i.0, λ g b. elim (first_or (rule g.code) before cs c g.card b) [ inl x ↦ absurd (none g.code (all_codes g.code) x.1) | inr y ↦ i.1 g y ])
+
+    not_after : (k : FaultCode) → ((j : FaultCode) → IsOneOf j codes → rule j before c cs ≡ true → place k ≤ place j) → (g : Fault) → Breaks (rule g.code) before (c ∷ cs) g.card → NotAfter (fault_on c k) g
+    not_after k low g b = elim (first_or (rule g.code) before cs c g.card b) [
+      | inl x ↦ inr (x.0, low g.code (all_codes g.code) x.1)
+      | inr y ↦ inl (let up = number_up (rule g.code) (c.number + 1) (before ++ c ∷ []) cs g.card h.1 y in omega arith)
+    ]
+
+    by_code : (o : Option FaultCode) → IsLeastCode before c cs codes o → IsFirst (before ++ c ∷ []) cs (fault_from (before ++ c ∷ []) cs) → IsFirst before (c ∷ cs) (option_or (option_map (fault_on c) o) (fault_from (before ++ c ∷ []) cs))
+    by_code None none behind = passed none (fault_from (before ++ c ∷ []) cs) behind
+    by_code (Some k) is behind =
+        (record { front = []; at = c; back = cs; split = refl; here = refl; broken = ap (λ l. rule k l c cs) (append-nil before) ∙ is.0 }, not_after k is.1)
+
+-- ---- all of a source
+
+broken_at : (r : Rule) (cards : List SpecCard) (n : ℕ) → Breaks r [] cards n → IsBroken r cards n
+broken_at r cards n b = record { before = b.front; card = b.at; after = b.back; split = b.split; here = b.here; broken = b.broken }
+
+breaks_at : (r : Rule) (cards : List SpecCard) (n : ℕ) → IsBroken r cards n → Breaks r [] cards n
+breaks_at r cards n b = record { front = b.before; at = b.card; back = b.after; split = b.split; here = b.here; broken = b.broken }
+
+-- of the source as a whole only F7 is broken
+as_whole : (cards : List SpecCard) (k : FaultCode) → source_rule k cards ≡ true → (k ≡ F7) × (lacks_input cards ≡ true)
+unfolding source_rule
+as_whole cards F7 e = (refl, e)
+as_whole cards F1 e = absurd cc
+as_whole cards F2 e = absurd cc
+as_whole cards F3 e = absurd cc
+as_whole cards F4 e = absurd cc
+as_whole cards F6 e = absurd cc
+as_whole cards F8 e = absurd cc
+as_whole cards F9 e = absurd cc
+as_whole cards F12 e = absurd cc
+as_whole cards F15 e = absurd cc
+as_whole cards F16 e = absurd cc
+
+pub least : (cards : List SpecCard) → Numbered 1 cards → MatchOption (least_fault cards) (Faultless cards) (λ f. IsLeastFault cards f)
+unfolding source_rule
+least cards numbered = by_source (lacks_input cards) refl
+  where
+    whole : Fault
+    whole = record { card = 0; code = F7 }
+
+    not_before_whole : (g : Fault) → HasFault cards g → NotAfter whole g
+    not_before_whole g (inl b) = inl (let up = number_up (rule g.code) 1 [] cards g.card numbered (breaks_at (rule g.code) cards g.card b) in omega arith)
+    not_before_whole g (inr s) = inr (sym s.0, (let same : place g.code ≡ place F7 = ap place (as_whole cards g.code s.1).0 in omega arith))
+
+    by_cards : lacks_input cards ≡ false → (o : Option Fault) → IsFirst [] cards o → MatchOption o (Faultless cards) (λ f. IsLeastFault cards f)
+    by_cards e None i = λ g h. elim h [ inl b ↦ i g (breaks_at (rule g.code) cards g.card b) | inr s ↦ (let t = (as_whole cards g.code s.1).1 in cc) ]
+    by_cards e (Some f) i = record {
+      is = inl (broken_at (rule f.code) cards f.card i.0);
+      least = λ g h. elim h [ inl b ↦ i.1 g (breaks_at (rule g.code) cards g.card b) | inr s ↦ absurd (let t = (as_whole cards g.code s.1).1 in cc) ];
+    }
+
+    by_source : (b : Bool) → lacks_input cards ≡ b → MatchOption (cond b (Some whole) (fault_from [] cards)) (Faultless cards) (λ f. IsLeastFault cards f)
+    by_source true t = record { is = inr (refl, t); least = not_before_whole }
+    by_source false e = by_cards e (fault_from [] cards) (is_first 1 [] cards numbered)
 
 -- ---- what a source without faults keeps
 

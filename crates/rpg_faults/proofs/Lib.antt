@@ -1,3 +1,3 @@
 pub mod Forms
 pub mod LeastLemmas
-pub mod Storage
+pub mod SeenLemmas

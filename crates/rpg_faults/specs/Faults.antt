@@ -1,5 +1,6 @@
 -- The faults of a source without sheet faults, as a set of pairs, and the least of them.
-use Rattle.std.specs.Prelude.{◌≡◌, ℕ, ◌<◌, ◌≤◌, ◌⊎◌, Bool, true, false, List, [], ◌∷◌, ◌++◌, Option, None, Some, if◌then◌else◌, nat_lt}
+use Rattle.std.specs.Prelude.{◌≡◌, ℕ, ◌<◌, ◌≤◌, ◌⊎◌, Bool, true, false, List, [], ◌∷◌, ◌++◌, Option, None, Some, if◌then◌else◌}
+use Rattle.std.specs.Option.{option_map, option_or}
 use Rattle.rpg_cards.specs.declared.spec_card.SpecCard.{SpecCard}
 use Rattle.rpg_faults.specs.declared.fault.FaultCode.{FaultCode}
 use Rattle.rpg_faults.specs.declared.fault.FaultCode.TheVariants.{F1, F2, F3, F4, F6, F7, F8, F9, F12, F15, F16}
@@ -89,20 +90,18 @@ pub record IsLeastFault (cards : List SpecCard) (f : Fault) : Type 0 where
 abbrev pub codes : List FaultCode
 codes = F1 ∷ F2 ∷ F3 ∷ F4 ∷ F6 ∷ F7 ∷ F8 ∷ F9 ∷ F12 ∷ F15 ∷ F16 ∷ []
 
--- ---- how it is found: the least card of each code, and the least of these
+-- ---- how it is found: on the first card that breaks a rule, the least code; before all cards what the source as a whole breaks
 
-abbrev pub first_broken : Rule → List SpecCard → List SpecCard → Option ℕ
-first_broken r before [] = None
-first_broken r before (c ∷ after) = if r before c after then Some c.number else first_broken r (before ++ c ∷ []) after
+abbrev pub least_code : List SpecCard → SpecCard → List SpecCard → List FaultCode → Option FaultCode
+least_code before c after [] = None
+least_code before c after (k ∷ ks) = if rule k before c after then Some k else least_code before c after ks
 
-unfoldable pub least_card : FaultCode → List SpecCard → Option ℕ
-least_card code cards = if source_rule code cards then Some 0 else first_broken (rule code) [] cards
+abbrev pub fault_on : SpecCard → FaultCode → Fault
+fault_on c code = record { card = c.number; code = code }
 
-abbrev pub earlier : Option Fault → FaultCode → Option ℕ → Option Fault
-earlier best code None = best
-earlier None code (Some n) = Some (record { card = n; code = code })
-earlier (Some f) code (Some n) = if nat_lt n f.card then Some (record { card = n; code = code }) else Some f
+abbrev pub fault_from : List SpecCard → List SpecCard → Option Fault
+fault_from before [] = None
+fault_from before (c ∷ after) = option_or (option_map (fault_on c) (least_code before c after codes)) (fault_from (before ++ c ∷ []) after)
 
-abbrev pub least_of : List SpecCard → Option Fault → List FaultCode → Option Fault
-least_of cards best [] = best
-least_of cards best (k ∷ ks) = least_of cards (earlier best k (least_card k cards)) ks
+abbrev pub least_fault : List SpecCard → Option Fault
+least_fault cards = if lacks_input cards then Some (record { card = 0; code = F7 }) else fault_from [] cards

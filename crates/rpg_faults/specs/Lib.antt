@@ -8,4 +8,5 @@ pub mod Columns
 pub mod Order
 pub mod Places
 pub mod Rounding
+pub mod Seen
 pub mod Faults

@@ -1,6 +1,5 @@
 -- F6: limits that are passed, at the card that passes.
-use Rattle.std.specs.Prelude.{ℕ, ◌+◌, Bool, false, ◌&&◌, ◌||◌, ◌==◌, nat_le, nat_lt, List, [], ◌∷◌, ◌++◌, length, count_by, fold, sum_by, Option, None, Some, if◌then◌else◌}
-use Rattle.std.specs.Option.{option_and_then}
+use Rattle.std.specs.Prelude.{ℕ, ◌+◌, Bool, false, ◌&&◌, ◌||◌, ◌==◌, nat_le, nat_lt, List, [], ◌∷◌, ◌++◌, length, count_by, fold, Option, None, Some, if◌then◌else◌}
 use Rattle.rpg_cards.specs.Constants.{constant_form, new_first, new_second}
 use Rattle.rpg_cards.specs.Names.{definition_on, form_of_name}
 use Rattle.rpg_cards.specs.declared.constants.Constant.{Constant}
@@ -36,6 +35,12 @@ passes_count before (spec.Calculation k) = count_of is_calculation before == 100
 passes_count before (spec.Output (output.Record r)) = count_of is_line before == 1000
 passes_count before (spec.Output (output.Field f)) = count_since is_line is_output_field before == 200
 
+-- ---- what cards add up to, each seen with those before it
+
+abbrev pub total_from : (List SpecCard → SpecCard → ℕ) → List SpecCard → List SpecCard → ℕ
+total_from weight before [] = 0
+total_from weight before (c ∷ cs) = weight before c + total_from weight (before ++ c ∷ []) cs
+
 -- ---- storage: fields are numbered in the order of the first definitions of their names
 
 abbrev pub bytes_of : Option Form → ℕ
@@ -48,18 +53,10 @@ bytes_by before None = 0
 bytes_by before (Some d) = if is_missing (form_of_name d.0 before) then bytes_of d.1 else 0
 
 abbrev pub bytes_from : List SpecCard → List SpecCard → ℕ
-bytes_from before [] = 0
-bytes_from before (c ∷ cs) = bytes_by before (definition_on c.spec) + bytes_from (before ++ c ∷ []) cs
+bytes_from before cards = total_from (λ b c. bytes_by b (definition_on c.spec)) before cards
 
 abbrev pub bytes_in : List SpecCard → ℕ
 bytes_in cards = storage given + bytes_from [] cards
-
--- no fewer bytes: what all definitions would take, later ones too
-abbrev pub bytes_on : SpecCard → ℕ
-bytes_on c = bytes_of (option_and_then (λ d. d.1) (definition_on c.spec))
-
-abbrev pub most_bytes_in : List SpecCard → ℕ
-most_bytes_in cards = storage given + sum_by bytes_on cards
 
 abbrev pub passes_storage : List SpecCard → SpecCard → Bool
 passes_storage before c = nat_le (bytes_in before) 65535 && nat_lt 65535 (bytes_in before + bytes_by before (definition_on c.spec))
@@ -72,11 +69,6 @@ constant_bytes (Some c) = size_of (constant_form c)
 
 abbrev pub constant_bytes_by : List SpecCard → SpecCard → ℕ
 constant_bytes_by before c = constant_bytes (new_first before c.spec) + constant_bytes (new_second before c.spec)
-
--- what cards add up to, each seen with those before it
-abbrev pub total_from : (List SpecCard → SpecCard → ℕ) → List SpecCard → List SpecCard → ℕ
-total_from weight before [] = 0
-total_from weight before (c ∷ cs) = weight before c + total_from weight (before ++ c ∷ []) cs
 
 abbrev pub constant_bytes_from : List SpecCard → List SpecCard → ℕ
 constant_bytes_from before cards = total_from constant_bytes_by before cards
@@ -99,8 +91,7 @@ names_by before None = 0
 names_by before (Some d) = if is_missing (form_of_name d.0 before) then 1 else 0
 
 abbrev pub names_from : List SpecCard → List SpecCard → ℕ
-names_from before [] = 0
-names_from before (c ∷ cs) = names_by before (definition_on c.spec) + names_from (before ++ c ∷ []) cs
+names_from before cards = total_from (λ b c. names_by b (definition_on c.spec)) before cards
 
 abbrev pub constants_by : List SpecCard → SpecCard → ℕ
 constants_by before c = one_if_some (new_first before c.spec) + one_if_some (new_second before c.spec)

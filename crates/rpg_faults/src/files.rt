@@ -2,24 +2,27 @@
 
 ghost use Rattle.std.specs.Prelude.{◌≡◌, option_copied};
 ghost use Rattle.rpg_faults.specs.Files as files;
+ghost use Rattle.rpg_faults.specs.Seen.{IsSeen};
 ghost use Rattle.rpg_cards.specs.Files as known;
 
 use crate::order::{has_line, has_type};
-use rpg_cards::{SpecCard, file_named, input_file, output_file};
+use crate::seen::Seen;
+use rpg_cards::{IndexedCards, SpecCard, file_named, input_file, output_file};
 use rpg_spec::{Device, Direction, FileSpec, Word};
 
-pub(crate) fn breaks_files(cards: &[SpecCard], before: &[SpecCard], card: &SpecCard) -> bool
-    ensures { result ≡ files.breaks_files cards.now before.now card.now }
+pub(crate) fn breaks_files(source: &IndexedCards, seen: &Seen, card: &SpecCard) -> bool
+    requires { IsSeen source.now seen.now }
+    ensures { result ≡ files.breaks_files source.now seen.now.before.now card.now }
 {
     if let Some(file) = card.file() {
-        return bad_file(before, file);
+        return bad_file(seen.before, file);
     }
     if let Some(record_type) = card.record_type() {
-        return lacks_input_file(cards, has_type(before), &record_type.file);
+        return lacks_input_file(source, has_type(source, seen), &record_type.file);
     }
     match card.line() {
         None => false,
-        Some(line) => lacks_output_file(cards, has_line(before), &line.file),
+        Some(line) => lacks_output_file(source, has_line(source, seen), &line.file),
     }
 }
 
@@ -44,33 +47,33 @@ fn bad_for(before: &[SpecCard], file: &FileSpec) -> bool
     }
 }
 
-fn lacks_input_file(cards: &[SpecCard], is_behind: bool, name: &Option<Word<8>>) -> bool
-    ensures { result ≡ files.lacks_file cards.now known.is_input is_behind name.now }
+fn lacks_input_file(source: &IndexedCards, is_behind: bool, name: &Option<Word<8>>) -> bool
+    ensures { result ≡ files.lacks_file source.now known.is_input is_behind name.now }
 {
     let Some(name) = name else {
         return !is_behind;
     };
-    match file_named(name, cards) {
+    match source.file_named(name) {
         None => true,
         Some(file) => file.direction != Direction::Input,
     }
 }
 
-fn lacks_output_file(cards: &[SpecCard], is_behind: bool, name: &Option<Word<8>>) -> bool
-    ensures { result ≡ files.lacks_file cards.now known.is_output is_behind name.now }
+fn lacks_output_file(source: &IndexedCards, is_behind: bool, name: &Option<Word<8>>) -> bool
+    ensures { result ≡ files.lacks_file source.now known.is_output is_behind name.now }
 {
     let Some(name) = name else {
         return !is_behind;
     };
-    match file_named(name, cards) {
+    match source.file_named(name) {
         None => true,
         Some(file) => file.direction != Direction::Output,
     }
 }
 
 /// Card 0: there is no input file.
-pub(crate) fn lacks_input(cards: &[SpecCard]) -> bool
-    ensures { result ≡ files.lacks_input cards.now }
+pub(crate) fn lacks_input(source: &IndexedCards) -> bool
+    ensures { result ≡ files.lacks_input source.now }
 {
-    input_file(cards).is_none()
+    source.input_file().is_none()
 }

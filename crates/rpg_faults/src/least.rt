@@ -1,8 +1,9 @@
 //! The least fault.
 
-ghost use Rattle.std.specs.Prelude.{◌≡◌, [], ◌++◌, ◌∷◌, ◌≤◌, None, length, MatchOption};
+ghost use Rattle.std.specs.Prelude.{◌≡◌, [], ◌++◌, ◌∷◌, ◌≤◌, length, MatchOption, IfOk};
 ghost use Rattle.rpg_cards.specs.Cards.{Numbered};
 ghost use Rattle.rpg_faults.specs.Faults as faults;
+ghost use Rattle.rpg_faults.specs.Seen.{IsSeen};
 
 use crate::columns::bad_columns;
 use crate::fault::{Fault, FaultCode};
@@ -14,7 +15,9 @@ use crate::operands::wrong_operand;
 use crate::order::lacks_heading;
 use crate::places::misplaces;
 use crate::rounding::bad_rounding;
-use rpg_cards::SpecCard;
+use crate::seen::Seen;
+use rpg_cards::{IndexedCards, SpecCard};
+use std::alloc::{AllocError, Global};
 
 /// All codes, the least first.
 const CODES: [FaultCode; 11] = [
@@ -31,62 +34,65 @@ const CODES: [FaultCode; 11] = [
     FaultCode::F16,
 ];
 
-/// The least fault by card, then by code. It takes no memory.
-pub fn first_fault(cards: &[SpecCard]) -> Option<Fault>
+/// The least fault by card, then by code, found in one pass over the cards. An error is for want of memory.
+pub fn first_fault(alloc: Global, cards: &[SpecCard]) -> Result<Option<Fault>, AllocError>
     requires numbered { Numbered 1 cards.now }
     requires few { length cards.now ≤ 2000 }
-    ensures { MatchOption result (faults.Faultless cards.now) (λ fault. faults.IsLeastFault cards.now fault) }
+    ensures { IfOk result (λ found. MatchOption found (faults.Faultless cards.now) (λ fault. faults.IsLeastFault cards.now fault)) }
 {
-    least_of(&CODES, cards)
+    let source = IndexedCards::new(alloc, cards)?;
+    Ok(least_fault(&source))
 }
 
-fn least_of(codes: &[FaultCode], cards: &[SpecCard]) -> Option<Fault>
-    requires { length cards.now ≤ 2000 }
-    ensures { result ≡ faults.least_of cards.now None codes.now }
+fn least_fault(source: &IndexedCards) -> Option<Fault>
+    requires { length source.now ≤ 2000 }
+    ensures { result ≡ faults.least_fault source.now }
 {
-    let mut best = None;
+    if lacks_input(source) {
+        return Some(Fault {
+            card: 0,
+            code: FaultCode::F7,
+        });
+    }
+    first_on_cards(source)
+}
+
+/// The least code of the first card that breaks a rule.
+fn first_on_cards(source: &IndexedCards) -> Option<Fault>
+    requires { length source.now ≤ 2000 }
+    ensures { result ≡ faults.fault_from [] source.now }
+{
+    let mut seen = Seen::nothing(source);
+    let mut rest = source.as_slice();
+    while let Some((card, after)) = rest.split_first() {
+        if let Some(code) = least_code(&CODES, source, &seen, card, after) {
+            return Some(Fault {
+                card: card.number,
+                code,
+            });
+        }
+        seen = seen.behind(source, card, after);
+        rest = after;
+    }
+    None
+}
+
+/// The first of these codes whose rule a card breaks.
+fn least_code(
+    codes: &[FaultCode],
+    source: &IndexedCards,
+    seen: &Seen,
+    card: &SpecCard,
+    after: &[SpecCard],
+) -> Option<FaultCode>
+    requires split { source.now ≡ seen.now.before.now ++ card.now ∷ after.now }
+    requires seen { IsSeen source.now seen.now }
+    ensures { result ≡ faults.least_code seen.now.before.now card.now after.now codes.now }
+{
     for code in codes {
-        best = earlier(best, *code, least_card(*code, cards));
-    }
-    best
-}
-
-/// The best fault so far, or that of a further code where its card is earlier.
-fn earlier(best: Option<Fault>, code: FaultCode, card: Option<u16>) -> Option<Fault>
-    ensures { result ≡ faults.earlier best code card }
-{
-    let Some(card) = card else { return best };
-    match best {
-        None => Some(Fault { card, code }),
-        Some(fault) => {
-            if card < fault.card {
-                Some(Fault { card, code })
-            } else {
-                Some(fault)
-            }
+        if breaks(*code, source, seen, card, after) {
+            return Some(*code);
         }
-    }
-}
-
-/// The first card that breaks a rule, 0 where the source as a whole does.
-#[tactic(auto, unfolding(crate::specs::Faults::least_card))]
-fn least_card(code: FaultCode, cards: &[SpecCard]) -> Option<u16>
-    requires { length cards.now ≤ 2000 }
-    ensures { result ≡ faults.least_card code cards.now }
-{
-    if breaks_as_whole(code, cards) {
-        return Some(0);
-    }
-    let mut i = 0;
-    while i < cards.len() {
-        let (before, rest) = cards.split_at(i);
-        let [card, after @ ..] = rest else {
-            return None;
-        };
-        if breaks(code, cards, before, card, after) {
-            return Some(card.number);
-        }
-        i += 1;
     }
     None
 }
@@ -95,47 +101,26 @@ fn least_card(code: FaultCode, cards: &[SpecCard]) -> Option<u16>
 #[tactic(auto, unfolding(crate::specs::Faults::rule))]
 fn breaks(
     code: FaultCode,
-    cards: &[SpecCard],
-    before: &[SpecCard],
+    source: &IndexedCards,
+    seen: &Seen,
     card: &SpecCard,
     after: &[SpecCard],
 ) -> bool
-    requires split { cards.now ≡ before.now ++ card.now ∷ after.now }
-    requires all { length cards.now ≤ 2000 }
-    requires few { length before.now ≤ 2000 }
-    ensures { result ≡ faults.rule code before.now card.now after.now }
+    requires split { source.now ≡ seen.now.before.now ++ card.now ∷ after.now }
+    requires seen { IsSeen source.now seen.now }
+    ensures { result ≡ faults.rule code seen.now.before.now card.now after.now }
 {
     match code {
-        FaultCode::F1 => lacks_name(cards, card),
-        FaultCode::F2 => redefines(before, card),
+        FaultCode::F1 => lacks_name(source, card),
+        FaultCode::F2 => redefines(source, seen.before, card),
         FaultCode::F3 => bad_size(card),
-        FaultCode::F4 => wrong_operand(cards, card),
-        FaultCode::F6 => passes_limit(cards, before, card),
-        FaultCode::F7 => breaks_files(cards, before, card),
+        FaultCode::F4 => wrong_operand(source, card),
+        FaultCode::F6 => passes_limit(source, seen, card),
+        FaultCode::F7 => breaks_files(source, seen, card),
         FaultCode::F8 => bad_indicator(card),
         FaultCode::F9 => bad_columns(card),
-        FaultCode::F12 => lacks_heading(before, card),
-        FaultCode::F15 => bad_rounding(before, card),
-        FaultCode::F16 => misplaces(cards, before, card),
-    }
-}
-
-/// Whether the source as a whole does.
-#[tactic(auto, unfolding(crate::specs::Faults::source_rule))]
-fn breaks_as_whole(code: FaultCode, cards: &[SpecCard]) -> bool
-    ensures { result ≡ faults.source_rule code cards.now }
-{
-    match code {
-        FaultCode::F7 => lacks_input(cards),
-        FaultCode::F1
-        | FaultCode::F2
-        | FaultCode::F3
-        | FaultCode::F4
-        | FaultCode::F6
-        | FaultCode::F8
-        | FaultCode::F9
-        | FaultCode::F12
-        | FaultCode::F15
-        | FaultCode::F16 => false,
+        FaultCode::F12 => lacks_heading(source, seen, card),
+        FaultCode::F15 => bad_rounding(seen.before, card),
+        FaultCode::F16 => misplaces(source, seen, card),
     }
 }

@@ -13,6 +13,7 @@ mod operands;
 mod order;
 mod places;
 mod rounding;
+mod seen;
 
 pub use fault::{Fault, FaultCode};
 pub use least::first_fault;

@@ -1,52 +1,50 @@
 //! F1, F2, F3: names, their definitions and their forms.
 
-ghost use Rattle.std.specs.Prelude.{◌≡◌, not, option_copied};
-ghost use Rattle.std.specs.Option.{option_map};
-ghost use Rattle.rpg_cards.specs.Names.{form_of_name};
+ghost use Rattle.std.specs.Prelude.{◌≡◌, length, take, option_copied};
 ghost use Rattle.rpg_faults.specs.Cards.{operand};
 ghost use Rattle.rpg_faults.specs.Names as names;
 
 use old_effect::form::{Class, Form, Kind};
-use rpg_cards::{Defined, Need, SpecCard, columns, form_of_name, sized_form};
+use rpg_cards::{Defined, IndexedCards, Need, SpecCard, columns, sized_form};
 use rpg_spec::{CalculationSpec, Factor, OutputField};
 use rpg_symbols::Name;
 
 /// F1: a name that is used and that no card defines.
-pub(crate) fn lacks_name(cards: &[SpecCard], card: &SpecCard) -> bool
-    ensures { result ≡ names.lacks_name cards.now card.now }
+pub(crate) fn lacks_name(source: &IndexedCards, card: &SpecCard) -> bool
+    ensures { result ≡ names.lacks_name source.now card.now }
 {
     if let Some(calculation) = card.calculation() {
-        return calculation_lacks_name(cards, calculation);
+        return calculation_lacks_name(source, calculation);
     }
     match card.output_field() {
         None => false,
-        Some(field) => output_lacks_name(cards, field),
+        Some(field) => output_lacks_name(source, field),
     }
 }
 
-fn calculation_lacks_name(cards: &[SpecCard], calculation: &CalculationSpec) -> bool
-    ensures { result ≡ names.calculation_lacks_name cards.now calculation.now }
+fn calculation_lacks_name(source: &IndexedCards, calculation: &CalculationSpec) -> bool
+    ensures { result ≡ names.calculation_lacks_name source.now calculation.now }
 {
     let Some(operation) = calculation.operation else {
         return false;
     };
     let columns = columns(operation);
     is_undefined(
-        cards,
+        source,
         name_in(operand(columns.factor_1, &calculation.factor_1)),
     ) || is_undefined(
-        cards,
+        source,
         name_in(operand(columns.factor_2, &calculation.factor_2)),
     ) || is_undefined(
-        cards,
+        source,
         operand(columns.result_field, &calculation.result_field),
     )
 }
 
-fn output_lacks_name(cards: &[SpecCard], field: &OutputField) -> bool
-    ensures { result ≡ names.output_lacks_name cards.now field.now }
+fn output_lacks_name(source: &IndexedCards, field: &OutputField) -> bool
+    ensures { result ≡ names.output_lacks_name source.now field.now }
 {
-    is_undefined(cards, field.name.as_ref())
+    is_undefined(source, field.name.as_ref())
 }
 
 /// What stands in a column that the operation has.
@@ -70,27 +68,27 @@ fn name_in(factor: Option<&Factor>) -> Option<&Name>
     }
 }
 
-fn is_undefined(cards: &[SpecCard], name: Option<&Name>) -> bool
-    ensures { result ≡ names.is_undefined cards.now (option_copied name.entry) }
+fn is_undefined(source: &IndexedCards, name: Option<&Name>) -> bool
+    ensures { result ≡ names.is_undefined source.now (option_copied name.entry) }
 {
     match name {
         None => false,
-        Some(name) => !is_defined(name, cards),
+        Some(name) => is_missing(source.form_of_name(name)),
     }
 }
 
-/// Whether one of these cards defines the name, or every program has it.
-pub(crate) fn is_defined(name: &Name, cards: &[SpecCard]) -> bool
-    ensures { result ≡ not (names.is_missing (form_of_name name.now cards.now)) }
+pub(crate) fn is_missing(defined: Defined) -> bool
+    ensures { result ≡ names.is_missing defined }
 {
-    match form_of_name(name, cards) {
-        Defined::Missing => false,
-        Defined::Bad | Defined::Good(_) => true,
+    match defined {
+        Defined::Missing => true,
+        Defined::Bad | Defined::Good(_) => false,
     }
 }
 
 /// F2: a name that is defined again in another form.
-pub(crate) fn redefines(before: &[SpecCard], card: &SpecCard) -> bool
+pub(crate) fn redefines(source: &IndexedCards, before: &[SpecCard], card: &SpecCard) -> bool
+    requires { before.now ≡ take (length before.now) source.now }
     ensures { result ≡ names.redefines before.now card.now }
 {
     let Some(name) = card.defined_name() else {
@@ -99,7 +97,7 @@ pub(crate) fn redefines(before: &[SpecCard], card: &SpecCard) -> bool
     let Some(form) = card.defined_form() else {
         return false;
     };
-    match form_of_name(name, before) {
+    match source.form_before(name, before) {
         Defined::Missing => false,
         Defined::Bad => false,
         Defined::Good(first) => !is_same(&first, &form),

@@ -5,21 +5,21 @@ ghost use Rattle.rpg_faults.specs.Operands as operands;
 
 use crate::names::{is_same_kind, operand};
 use old_effect::form::{Class, Form, Kind};
-use rpg_cards::{Defined, Kinds, Need, SpecCard, columns, form_of_factor, form_of_name};
+use rpg_cards::{Defined, IndexedCards, Kinds, Need, SpecCard, columns};
 use rpg_spec::{CalculationSpec, Factor};
 use rpg_symbols::Name;
 
-pub(crate) fn wrong_operand(cards: &[SpecCard], card: &SpecCard) -> bool
-    ensures { result ≡ operands.wrong_operand cards.now card.now }
+pub(crate) fn wrong_operand(source: &IndexedCards, card: &SpecCard) -> bool
+    ensures { result ≡ operands.wrong_operand source.now card.now }
 {
     match card.calculation() {
         None => false,
-        Some(calculation) => wrong_in_calculation(cards, calculation),
+        Some(calculation) => wrong_in_calculation(source, calculation),
     }
 }
 
-fn wrong_in_calculation(cards: &[SpecCard], calculation: &CalculationSpec) -> bool
-    ensures { result ≡ operands.wrong_in_calculation cards.now calculation.now }
+fn wrong_in_calculation(source: &IndexedCards, calculation: &CalculationSpec) -> bool
+    ensures { result ≡ operands.wrong_in_calculation source.now calculation.now }
 {
     let Some(operation) = calculation.operation else {
         return false;
@@ -27,23 +27,23 @@ fn wrong_in_calculation(cards: &[SpecCard], calculation: &CalculationSpec) -> bo
     let columns = columns(operation);
     are_wrong(
         columns.kinds,
-        factor_form(cards, columns.factor_1, &calculation.factor_1),
-        factor_form(cards, columns.factor_2, &calculation.factor_2),
-        result_form(cards, columns.result_field, &calculation.result_field),
+        factor_form(source, columns.factor_1, &calculation.factor_1),
+        factor_form(source, columns.factor_2, &calculation.factor_2),
+        result_form(source, columns.result_field, &calculation.result_field),
     )
 }
 
 /// The form of what stands in a column that the operation has.
-fn factor_form(cards: &[SpecCard], need: Need, factor: &Option<Factor>) -> Option<Form>
-    ensures { result ≡ operands.factor_form cards.now need factor.now }
+fn factor_form(source: &IndexedCards, need: Need, factor: &Option<Factor>) -> Option<Form>
+    ensures { result ≡ operands.factor_form source.now need factor.now }
 {
-    form_in(form_of_factor(operand(need, factor)?, cards))
+    form_in(source.form_of_factor(operand(need, factor)?))
 }
 
-fn result_form(cards: &[SpecCard], need: Need, name: &Option<Name>) -> Option<Form>
-    ensures { result ≡ operands.result_form cards.now need name.now }
+fn result_form(source: &IndexedCards, need: Need, name: &Option<Name>) -> Option<Form>
+    ensures { result ≡ operands.result_form source.now need name.now }
 {
-    form_in(form_of_name(operand(need, name)?, cards))
+    form_in(source.form_of_name(operand(need, name)?))
 }
 
 /// Nothing is said of a name without a form.

@@ -4,24 +4,29 @@ ghost use Rattle.std.specs.Prelude.{◌≡◌};
 ghost use Rattle.std.specs.List.{list_any};
 ghost use Rattle.rpg_faults.specs.Cards as kinds;
 ghost use Rattle.rpg_faults.specs.Order as order;
+ghost use Rattle.rpg_faults.specs.Seen.{IsSeen};
 
-use rpg_cards::SpecCard;
+use crate::seen::Seen;
+use rpg_cards::{IndexedCards, SpecCard};
 
-pub(crate) fn lacks_heading(before: &[SpecCard], card: &SpecCard) -> bool
-    ensures { result ≡ order.lacks_heading before.now card.now }
+pub(crate) fn lacks_heading(source: &IndexedCards, seen: &Seen, card: &SpecCard) -> bool
+    requires { IsSeen source.now seen.now }
+    ensures { result ≡ order.lacks_heading seen.now.before.now card.now }
 {
-    (card.input_field().is_some() && !has_type(before))
-        || (card.output_field().is_some() && !has_line(before))
+    (card.input_field().is_some() && !has_type(source, seen))
+        || (card.output_field().is_some() && !has_line(source, seen))
 }
 
-pub(crate) fn has_type(cards: &[SpecCard]) -> bool
-    ensures { result ≡ list_any kinds.is_type cards.now }
+pub(crate) fn has_type(source: &IndexedCards, seen: &Seen) -> bool
+    requires { IsSeen source.now seen.now }
+    ensures { result ≡ list_any kinds.is_type seen.now.before.now }
 {
-    cards.iter().any(|c| c.record_type().is_some())
+    seen.counts.types > 0
 }
 
-pub(crate) fn has_line(cards: &[SpecCard]) -> bool
-    ensures { result ≡ list_any kinds.is_line cards.now }
+pub(crate) fn has_line(source: &IndexedCards, seen: &Seen) -> bool
+    requires { IsSeen source.now seen.now }
+    ensures { result ≡ list_any kinds.is_line seen.now.before.now }
 {
-    cards.iter().any(|c| c.line().is_some())
+    seen.counts.lines > 0
 }

@@ -65,4 +65,4 @@ pub record HasOtherForm (old : Fields) (name : List ℕ) (form : Form) : Type 0 
 abbrev pub Refuses : DefineFault → Fields → List ℕ → Form → Type 0
 Refuses Other old name form = HasOtherForm old name form
 Refuses Full old name form = (form_of old name ≡ None) × ¬ HasRoom old form
-Refuses NoMemory old name form = Unit {0}
+Refuses NoMemory old name form = (form_of old name ≡ None) × HasRoom old form

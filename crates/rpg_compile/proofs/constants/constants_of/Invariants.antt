@@ -1,12 +1,6 @@
-use Rattle.std.proofs.Common.{◌≡◌, ◌-◌, ◌≤◌, ◌++◌, length, take, drop}
-use Rattle.rpg_cards.specs.Constants as known
+use Rattle.std.proofs.Common.{◌≡◌, take}
+use Rattle.rpg_cards.specs.Constants.{constants}
 use Rattle.rpg_compile.proofs.constants.constants_of.Given as goal
 
-abbrev pub invariant-loop-i : goal.invariant-loop-i
-invariant-loop-i l = record {
-  so_far : l.constants.items ++ known.constants_from (take l.i l.cards) (drop l.i l.cards) ≡ known.constants l.cards;
-  within : l.i ≤ length l.cards;
-}
-
-abbrev pub decreases-loop-i : goal.decreases-loop-i
-decreases-loop-i l = length l.cards - l.i
+abbrev pub invariant-loop-card : goal.invariant-loop-card
+invariant-loop-card l = l.constants.keys ≡ constants (take l.card-index l.cards)

@@ -10,9 +10,9 @@ first_fault-requires-clause-numbered c = subst (Numbered 1) (sym c.deref.ensures
 pub returns-in-Some-clause-err : goal.returns-in-Some-clause-err
 returns-in-Some-clause-err c =
     let cards = c.deref.ensures.value ∙ c.in_ok-cards-2.ensures.cards ∙ ap spec_cards c.in_ok-cards.ensures.cards in
-    (c.in_ok-cards.ensures.faultless, subst (λ cs. IsLeastFault cs c.in-Some.fault) cards c.in-Some.ensures)
+    (c.in_ok-cards.ensures.faultless, subst (λ cs. IsLeastFault cs c.in-Some.fault) cards (rw c.in-Some.is at c.in_ok-fault.ensures))
 
 pub program_of-requires-clause-limits : goal.program_of-requires-clause-limits
 program_of-requires-clause-limits c =
-    let same = c.deref.ensures.value ∙ sym c.deref-2.ensures.value in
-    faultless_keeps_limits c.deref-2.result.now (subst Faultless same c.in_default.ensures) (subst (λ cs. length cs ≤ 2000) (sym c.deref-2.ensures.value) c.in_ok-cards-2.ensures.few)
+    let same = c.deref.ensures.value ∙ sym c.deref-in-None.ensures.value in
+    faultless_keeps_limits c.deref-in-None.result.now (subst Faultless same (rw c.in-None.is at c.in_ok-fault.ensures)) (subst (λ cs. length cs ≤ 2000) (sym c.deref-in-None.ensures.value) c.in_ok-cards-2.ensures.few)

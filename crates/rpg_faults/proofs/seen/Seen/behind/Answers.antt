@@ -1,0 +1,26 @@
+use Rattle.std.proofs.Common.{◌≡◌, ◌+◌, ◌++◌, ◌∷◌, [], length, take, ◌∙◌, sym, ap, subst}
+use Rattle.rpg_faults.proofs.SeenLemmas.{front_more, is_front, front_within}
+use Rattle.rpg_faults.specs.Seen.{IsCounted, HasLengths, IsSummed}
+use Rattle.rpg_faults.proofs.seen.Seen.behind.Goals as goal
+
+pub returns-clause-before : goal.returns-clause-before
+returns-clause-before c =
+    let before = c.args.self.now.before.now in
+    ap (take (length before + 1)) c.as_slice.ensures ∙ front_more before c.args.card.now c.args.after.now c.args.source.now c.requires.split
+
+pub returns-clause-seen : goal.returns-clause-seen
+returns-clause-seen c =
+    let before = c.args.self.now.before.now in
+    let card = c.args.card.now in
+    let after = c.args.after.now in
+    let cards = c.args.source.now in
+    let front = front_more before card after cards c.requires.split in
+    let here : take (length before + 1) c.as_slice.result.now ≡ before ++ card ∷ [] = ap (take (length before + 1)) c.as_slice.ensures ∙ front in
+    record {
+      front = is_front _ before card cards here front;
+      few = front_within _ before card after cards here c.requires.split c.requires.few;
+      counted = subst (λ b. IsCounted b c.counts_with.result) (sym here) c.counts_with.ensures;
+      lengths = subst (λ b. HasLengths cards b c.lengths_with.result) (sym here) c.lengths_with.ensures;
+      summed = subst (λ b. IsSummed b c.sums_with.result) (sym here) c.sums_with.ensures;
+      totals = c.requires.seen.totals;
+    }
