@@ -1,5 +1,109 @@
--- Fields that are filled.
-use Rattle.std.proofs.Common.{◌≡◌, ℕ}
-use Rattle.rpg_operations.proofs.Values.{length_low, length_high}
+-- Input fields with which nothing is wrong.
+use Rattle.std.proofs.Common.{◌≡◌, ℕ, ◌+◌, ◌-◌, ◌≤◌, Bool, true, false, not, ◌&&◌, cond, eqb-true, nat_le, leb-true, List, [], ◌∷◌, length, Option, None, Some, refl, sym, ap, ◌∙◌, arith}
+use Rattle.std.specs.FinMap as map
+use Rattle.std.specs.Ordering.{nat_cmp}
+use Rattle.rpg_edit.specs.Paper.{Position}
+use Rattle.rpg_effect.specs.Effect.{Effect, after_output, go_on, then_go, unless_wrong}
+use Rattle.rpg_effect.specs.Ends.{End, Fault, GoesOn, Halt, Wrong}
+use Rattle.rpg_effect.specs.Forms.{form_at, is_plain, kind_of, length_of}
+use Rattle.rpg_effect.specs.Input.{columns, field_in, fits_columns, fits_shows, input_fault, record_in, value_read}
+use Rattle.rpg_effect.specs.Put.{on_paper}
+use Rattle.rpg_effect.specs.Values.{Text}
+use Rattle.rpg_effect.specs.World.{World}
+use Rattle.rpg_effect.specs.declared.form.FieldForm.{FieldForm}
+use Rattle.rpg_effect.specs.declared.form.Kind.{Kind}
+use Rattle.rpg_effect.specs.declared.form.Kind.TheVariants as kinds
+use Rattle.rpg_effect.specs.declared.input.InputField.{InputField}
+use Rattle.rpg_machine.proofs.OnPaper.{effect_on, or_halt_on, unless_on}
+use Rattle.rpg_machine.proofs.Ranges.{and_true}
+use Rattle.rpg_machine.specs.Inputs.{filled}
+use Rattle.rpg_operations.proofs.Entries.{text_in_form}
+use Rattle.rpg_operations.proofs.Values.{form_there, length_high, length_low, text_fits}
+use Rattle.rpg_operations.specs.Good.{AreForms, IsValue}
+use Rattle.rpg_store.specs.Fits.{Fits}
+use Rattle.rpg_store.specs.Store.{Currents, Values}
 
 pub ruleset numbers = (length_low, length_high)
+
+-- ---- what the rules give
+
+-- columns that are there, and a plain field that is as long
+pub record FitsField (forms : List FieldForm) (len : ℕ) (f : InputField ℕ) : Type 0 where
+  pub form : FieldForm
+  pub there : form_at forms f.field ≡ Some form
+  pub low : 1 ≤ f.from
+  pub ordered : f.from ≤ f.to
+  pub high : f.to ≤ len
+  pub long : f.to + 1 - f.from ≡ form.length
+
+fits_by : (forms : List FieldForm) (len : ℕ) (f : InputField ℕ) (o : Option FieldForm) → form_at forms f.field ≡ o → fits_columns len f o ≡ true → FitsField forms len f
+fits_by forms len f None e h = cc
+fits_by forms len f (Some d) e h =
+    let both = and_true (nat_le 1 f.from && (nat_le f.from f.to && nat_le f.to len)) _ h in
+    let one = and_true (nat_le 1 f.from) _ both.0 in
+    let two = and_true (nat_le f.from f.to) _ one.1 in
+    let three = and_true (is_plain d.class) _ both.1 in
+    record {
+      form = d;
+      there = e;
+      low = leb-true _ _ one.0;
+      ordered = leb-true _ _ two.0;
+      high = leb-true _ _ two.1;
+      long = eqb-true _ _ three.1;
+    }
+
+no_fault : (a b : Bool) (f g : Fault) → cond (not a) (Some f) (cond (not b) (Some g) None) ≡ None → a ≡ true
+no_fault true b f g h = refl
+no_fault false b f g h = cc
+
+pub fits_field : (forms : List FieldForm) (len : ℕ) (f : InputField ℕ) → input_fault (form_at forms) len f ≡ None → FitsField forms len f
+unfolding input_fault
+fits_field forms len f h = fits_by forms len f (form_at forms f.field) refl (no_fault (fits_columns len f (form_at forms f.field)) (fits_shows (kind_of (form_at forms f.field)) f.shows) _ _ h)
+
+pub value_there : (forms : List FieldForm) (len : ℕ) (f : InputField ℕ) (k : Kind) → AreForms forms → FitsField forms len f → k ≡ kind_of (form_at forms f.field) → IsValue forms k f.field 1
+value_there forms len f k good fits is = record {
+  form = fits.form;
+  there = fits.there;
+  kind = sym (is ∙ ap kind_of fits.there);
+  low = omega arith;
+  high = good.some f.field fits.form fits.there;
+}
+
+pub long_there : (forms : List FieldForm) (len n : ℕ) (f : InputField ℕ) → FitsField forms len f → n ≡ f.to + 1 - f.from → n ≡ length_of (form_at forms f.field)
+long_there forms len n f fits is = is ∙ fits.long ∙ ap length_of (sym fits.there)
+
+-- there is a text that is as long
+pub text_there : (forms : List FieldForm) (values : Values) (current : Currents) (field : ℕ) (text : List ℕ) → Fits forms values current → IsValue forms kinds.Text field 1 → length text ≡ length_of (form_at forms field) →
+    (old : List ℕ) × (map.get values (field, 1) ≡ Some (Text old)) × (length text ≡ length old)
+text_there forms values current field text fits v long =
+    let m = text_in_form v.form.length _ (form_there forms values current kinds.Text field 1 fits v) in
+    (m.0, m.1, long ∙ sym (text_fits forms values current field 1 m.0 fits v m.1))
+
+-- ---- what is done
+
+-- one field with which nothing is wrong
+pub field_filled : (forms : List FieldForm) (text part : List ℕ) (f : InputField ℕ) (k : Kind) (w : World nat_cmp) → input_fault (form_at forms) (length text) f ≡ None → k ≡ kind_of (form_at forms f.field) → part ≡ columns f text →
+    filled k f part w ≡ field_in (form_at forms) text f w
+unfolding field_in
+field_filled forms text part f k w right kind is =
+    ap (λ x. filled k f x w) is
+    ∙ ap (λ l. filled l f (columns f text) w) kind
+    ∙ sym (ap (λ o. unless_wrong o w (filled (kind_of (form_at forms f.field)) f (columns f text) w)) right)
+
+-- the same on every page
+module _ (forms : ℕ → Option FieldForm) (previous : Option Position) where
+  field_on : (text : List ℕ) (f : InputField ℕ) (w : World nat_cmp) → field_in forms text f (on_paper previous w) ≡ effect_on previous (field_in forms text f w)
+  unfolding field_in
+  field_on text f w = unless_on previous (input_fault forms (length text) f) w _ _ (or_halt_on previous (value_read (kind_of (forms f.field)) (columns f text)) 4 w _ _ (λ v. refl))
+
+  go_by : (x : End) (e : Effect nat_cmp) (go : World nat_cmp → Effect nat_cmp) → ((w : World nat_cmp) → go (on_paper previous w) ≡ effect_on previous (go w)) → go_on x (effect_on previous e) go ≡ effect_on previous (go_on x e go)
+  go_by GoesOn e go h = ap (after_output (effect_on previous e)) (h e.world)
+  go_by (Halt k) e go h = refl
+  go_by (Wrong f) e go h = refl
+
+  pub record_on : (text : List ℕ) (fs : List (InputField ℕ)) (w : World nat_cmp) → record_in forms text fs (on_paper previous w) ≡ effect_on previous (record_in forms text fs w)
+  unfolding record_in
+  record_on text [] w = refl
+  record_on text (f ∷ fs) w =
+      ap (λ (e : Effect nat_cmp). then_go e (record_in forms text fs)) (field_on text f w)
+      ∙ go_by (field_in forms text f w).ending (field_in forms text f w) (record_in forms text fs) (record_on text fs)

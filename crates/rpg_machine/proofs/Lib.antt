@@ -14,3 +14,7 @@ pub mod Runs
 pub mod Going
 pub mod Doing
 pub mod Filling
+pub mod Effects
+pub mod Firsts
+pub mod Readiness
+pub mod Records

@@ -1,19 +1,18 @@
 -- An operation does the same on every page: it neither reads nor moves the form.
-use Rattle.std.proofs.Common.{◌≡◌, ℕ, ℤ, Bool, true, false, cond, List, Option, None, Some, refl, sym, ap, ◌∙◌}
+use Rattle.std.proofs.Common.{◌≡◌, ℕ, Bool, true, false, cond, Option, None, Some, refl, ap, ◌∙◌}
 use Rattle.std.specs.Option.{option_map}
 use Rattle.std.specs.Ordering.{nat_cmp}
 use Rattle.std.specs.declared.cmp.Ordering.{Ordering}
 use Rattle.rpg_decimal.specs.Zoned.{number_in, zoned_text}
 use Rattle.rpg_edit.specs.Paper.{Position}
-use Rattle.rpg_effect.specs.Act.{act, divided, entry_at, exact, field_of_entry, found_in, found_shown, index_set, kept, looked_up, made_current, made_current_if_any, moved, order_by, placed, position_fault, remainder_after, source_text, start_of, store, text_over}
-use Rattle.rpg_effect.specs.Effect.{Effect, Leaves, or_halt, quiet, unless_wrong}
+use Rattle.rpg_effect.specs.Act.{act, divided, entry_at, exact, field_of_entry, found_in, found_shown, index_set, looked_up, made_current, made_current_if_any, moved, order_by, placed, position_fault, start_of, text_over}
+use Rattle.rpg_effect.specs.Effect.{Effect, Leaves, or_halt, unless_wrong}
 use Rattle.rpg_effect.specs.Ends.{Fault}
 use Rattle.rpg_effect.specs.Forms.{entries_of, is_table_form, kind_of, length_of}
 use Rattle.rpg_effect.specs.Operate.{operate, resolved}
 use Rattle.rpg_effect.specs.Put.{on_paper}
 use Rattle.rpg_effect.specs.Search.{positions, search_of}
-use Rattle.rpg_effect.specs.Values.{Number, Text}
-use Rattle.rpg_effect.specs.World.{World, characters_at, number_at, set_current, set_value}
+use Rattle.rpg_effect.specs.World.{World, characters_at, number_at, set_current}
 use Rattle.rpg_effect.specs.declared.form.FieldForm.{FieldForm}
 use Rattle.rpg_effect.specs.declared.form.Kind.{Kind}
 use Rattle.rpg_effect.specs.declared.form.Kind.TheVariants as kinds
@@ -32,11 +31,11 @@ abbrev pub effect_on : Option Position → Effect nat_cmp → Effect nat_cmp
 effect_on previous e = record e { world = on_paper previous e.world }
 
 module _ (previous : Option Position) where
-  or_halt_on : {A : Type 0} (o : Option A) (k : ℕ) (w : World nat_cmp) (f g : A → Effect nat_cmp) → ((x : A) → f x ≡ effect_on previous (g x)) → or_halt o k (on_paper previous w) f ≡ effect_on previous (or_halt o k w g)
+  pub or_halt_on : {A : Type 0} (o : Option A) (k : ℕ) (w : World nat_cmp) (f g : A → Effect nat_cmp) → ((x : A) → f x ≡ effect_on previous (g x)) → or_halt o k (on_paper previous w) f ≡ effect_on previous (or_halt o k w g)
   or_halt_on None k w f g h = refl
   or_halt_on (Some x) k w f g h = h x
 
-  unless_on : (o : Option Fault) (w : World nat_cmp) (e f : Effect nat_cmp) → e ≡ effect_on previous f → unless_wrong o (on_paper previous w) e ≡ effect_on previous (unless_wrong o w f)
+  pub unless_on : (o : Option Fault) (w : World nat_cmp) (e f : Effect nat_cmp) → e ≡ effect_on previous f → unless_wrong o (on_paper previous w) e ≡ effect_on previous (unless_wrong o w f)
   unless_on None w e f h = h
   unless_on (Some x) w e f h = refl
 

@@ -1,5 +1,5 @@
 -- Codes of what a machine's model has.
-use Rattle.std.specs.Prelude.{◌≡◌, ℕ, ℤ, Bool, List, Option, ◌⊎◌, refl}
+use Rattle.std.specs.Prelude.{◌≡◌, ℕ, ℤ, Bool, List, ◌⊎◌, refl}
 use Rattle.std.proofs.Common.{inl, inr}
 use Rattle.std.specs.Coded.{Coded, code_by, coded×, coded_ℕ, coded_ℤ, coded_list, coded_bool, coded⊎}
 use Rattle.std.specs.FinMap as map

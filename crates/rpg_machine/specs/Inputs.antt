@@ -1,5 +1,5 @@
 -- One input field with which nothing is wrong.
-use Rattle.std.specs.Prelude.{ℕ, List, Option, ◌==◌}
+use Rattle.std.specs.Prelude.{ℕ, List, Option}
 use Rattle.std.specs.Ordering.{nat_cmp}
 use Rattle.std.specs.declared.cmp.Ordering.{Ordering}
 use Rattle.rpg_effect.specs.Effect.{Effect, Leaves, or_halt}

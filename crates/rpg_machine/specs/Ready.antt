@@ -1,5 +1,5 @@
 -- What holds of a machine between two calls.
-use Rattle.std.specs.Prelude.{◌≡◌, ℕ, ◌≤◌, ◌<◌, ◌^◌}
+use Rattle.std.specs.Prelude.{◌≡◌, ◌≤◌, ◌<◌, ◌^◌}
 use Rattle.std.specs.FinMap as map
 use Rattle.rpg_machine.specs.Running.{Running}
 use Rattle.rpg_store.specs.Fits.{Fits}

@@ -1,5 +1,6 @@
 //! The columns of a record that become values of fields. No field is tested here: the rules have tested them all.
-ghost use Rattle.std.specs.Prelude.{◌≡◌, ◌+◌, ◌-◌, ◌≤◌, All, length, true, None};
+ghost use Rattle.std.specs.List.{list_all};
+ghost use Rattle.std.specs.Prelude.{◌≡◌, ◌+◌, ◌-◌, ◌≤◌, ◌==◌, All, length, true, None};
 ghost use Rattle.rpg_effect.specs.Effect.{quiet};
 ghost use Rattle.rpg_effect.specs.Ends.{end_of};
 ghost use Rattle.rpg_effect.specs.Forms.{form_at, kind_of, length_of};
@@ -38,11 +39,22 @@ fn columns_of(text: &[u8], input: InputField<u16>) -> &[u8]
     &text[usize::from(input.from) - 1..usize::from(input.to)]
 }
 
+fn is_blank(text: &[u8]) -> bool
+    ensures { result ≡ list_all (λ c. c == 32) text.now }
+{
+    'characters: for c in text {
+        if *c != b' ' {
+            return false;
+        }
+    }
+    true
+}
+
 /// How a text stands to zero: only that it is blank is shown.
 fn order_of_text(text: &[u8]) -> Option<Ordering>
     ensures { result ≡ order_of_text text.now }
 {
-    if text.iter().all(|c| *c == b' ') {
+    if is_blank(text) {
         Some(Ordering::Equal)
     } else {
         None

@@ -5,12 +5,11 @@ mod cells;
 mod code;
 pub mod control;
 mod inputs;
-mod lines;
 mod machine;
 mod output;
 mod section;
 mod state;
 pub mod time;
 
-pub use lines::Output;
 pub use machine::Machine;
+pub use rpg_lines::Output;

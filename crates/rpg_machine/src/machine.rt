@@ -1,7 +1,8 @@
 //! The machine, to its callers.
 ghost use Rattle.std.specs.Prelude.{◌≡◌, ◌≤◌, length, IfOk};
 ghost use Rattle.rpg_machine.specs.Running as of;
-ghost use Rattle.rpg_machine.specs.State.{HasRoom, bytes_of, running_of};
+ghost use Rattle.rpg_lines.specs.Right.{HasRoom};
+ghost use Rattle.rpg_machine.specs.State.{running_of};
 ghost use Rattle.rpg_memory.specs.Memory.{rest_value};
 ghost use Rattle.rpg_program.specs.Object.{seen};
 ghost use Rattle.std.specs.FinSet as set;
@@ -10,7 +11,6 @@ ghost use Rattle.std.specs.Prelude.{[], ◌∷◌};
 use crate::cells::Cells;
 use crate::code::Code;
 use crate::inputs::fill_all;
-use crate::lines::{Entries, Output};
 use crate::output::{put_out, weight_of};
 use crate::section::run_section;
 use crate::state::{State, Writer};
@@ -18,6 +18,7 @@ use crate::time::OutputTime;
 use rpg_decimal::{Rest, Scale};
 use rpg_edit::Form;
 use rpg_effect::outcome::End;
+use rpg_lines::{Entries, Output};
 use rpg_memory::indicators::Indicators;
 use rpg_memory::memory::Memory;
 use rpg_program::row::Rows;
@@ -153,6 +154,7 @@ impl<'a, S: Store + Drop> Machine<'a, S> {
         ensures ready { IfOk result (λ e. e ≡ End.GoesOn → IsReady self.new) }
         ensures bound { OnOk result (InBound section self.old self.new) }
     {
+        self.code.is_orderly();
         run_section(&self.code, &mut self.state, section)
     }
 

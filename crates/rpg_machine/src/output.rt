@@ -4,16 +4,17 @@ ghost use Rattle.rpg_effect.specs.Ends.{end_of};
 ghost use Rattle.rpg_effect.specs.Put.{IsDone};
 ghost use Rattle.rpg_machine.specs.Accepted.{IsOrderly};
 ghost use Rattle.rpg_machine.specs.Outputs as spec;
-ghost use Rattle.rpg_machine.specs.State.{HasRoom, IsAble, bytes_of};
+ghost use Rattle.rpg_lines.specs.Outputs.{bytes_of};
+ghost use Rattle.rpg_lines.specs.Right.{HasRoom};
+ghost use Rattle.rpg_machine.specs.State.{IsAble};
 ghost use Rattle.rpg_memory.specs.Memory.{held_of};
 ghost use Rattle.rpg_program.specs.Object.{seen};
 
-use crate::lines::{
-    detail_weight, overflow_weight, put_details, put_overflow, put_totals, total_weight,
-};
 use crate::state::Writer;
 use crate::time::OutputTime;
 use rpg_effect::outcome::End;
+use rpg_lines::weights::{detail_weight, overflow_weight, total_weight};
+use rpg_lines::{put_details, put_overflow, put_totals};
 use rpg_memory::memory::Memory;
 use rpg_program::row::Rows;
 use rpg_store::store::Store;

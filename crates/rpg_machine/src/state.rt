@@ -1,7 +1,7 @@
 //! What changes while a program runs.
 
 use crate::cells::Cells;
-use crate::lines::{Entries, Output};
+use rpg_lines::{Entries, Output};
 use rpg_memory::memory::Memory;
 use rpg_program::section::Section;
 use rpg_store::store::Store;

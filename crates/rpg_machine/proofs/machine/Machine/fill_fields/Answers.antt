@@ -1,0 +1,58 @@
+use Rattle.std.proofs.Common.{◌≡◌, ℕ, ◌+◌, ◌<◌, List, All, length, None, Some, sym, ap, ◌∙◌, subst, arith}
+use Rattle.std.proofs.lemmas.List.{length-map}
+use Rattle.std.proofs.lemmas.Option.{slice_get-get_or, slice_get-map}
+use Rattle.std.specs.Option.{option_map}
+use Rattle.rpg_edit.specs.Form.{Standing}
+use Rattle.rpg_effect.specs.Ends.{end_of}
+use Rattle.rpg_effect.specs.Forms.{form_at}
+use Rattle.rpg_effect.specs.Input.{input_fault, record_in}
+use Rattle.rpg_effect.specs.declared.input.InputField.{InputField}
+use Rattle.rpg_machine.proofs.Records.{record_filled}
+use Rattle.rpg_machine.specs.Outputs.{FillsFields}
+use Rattle.rpg_machine.specs.Running.{Did, Running}
+use Rattle.rpg_machine.specs.State.{running_of}
+use Rattle.rpg_memory.specs.Memory.{held_of}
+use Rattle.rpg_program.specs.Object.{Object, seen, type_row}
+use Rattle.rpg_rules.proofs.Values.{one_of_all}
+use Rattle.rpg_rules.specs.Sound.{IsSound, IsSoundType}
+use Rattle.rpg_machine.proofs.machine.Machine.fill_fields.Goals as goal
+
+pub fill_all-requires-clause-right : goal.fill_all-requires-clause-right
+fill_all-requires-clause-right g c =
+    let rows = c.rows-rows.result.now in
+    let types = rows.types.items in
+    let t = c.index.result.now in
+    let same = c.rows-rows.ensures.same in
+    let program : c.self.inside.code ≡ c.args.self.now.program = ap (λ (r : Running). r.program) c.self.view_is in
+    let all = length-map types type_row in
+    let low : c.args.row < length types = omega (arith, ap (λ (p : Object). length p.types) (same ∙ program), all, c.requires.row) in
+    let there = slice_get-map type_row types c.args.row ∙ ap (option_map type_row) (slice_get-get_or types c.args.row t low ∙ ap Some (sym c.index.ensures)) in
+    let sound = subst (λ (p : Object). IsSound p) (sym same) c.rows-rows.ensures.orderly.sound in
+    let inputs = (one_of_all (IsSoundType (seen rows)) (seen rows).types c.args.row (type_row t) sound.types there).inputs in
+    let long : rows.record_length ≡ length c.args.text.now = ap (λ (p : Object). p.record_length) (same ∙ program) ∙ sym c.requires.filled in
+    subst (λ (fs : List (InputField ℕ)). All (λ f. input_fault (form_at rows.fields.items) (length c.args.text.now) f ≡ None) fs) (sym c.deref.ensures.value)
+    (subst (λ (n : ℕ). All (λ f. input_fault (form_at rows.fields.items) n f ≡ None) t.inputs.items) long inputs)
+
+pub returns-clause-done : goal.returns-clause-done
+returns-clause-done g c =
+    let S = g.S.Store in
+    let rows = c.rows-rows.result.now in
+    let types = rows.types.items in
+    let t = c.index.result.now in
+    let same = c.rows-rows.ensures.same in
+    let text = c.args.text.now in
+    let program : c.self.inside.code ≡ c.args.self.now.program = ap (λ (r : Running). r.program) c.self.view_is in
+    let all = length-map types type_row in
+    let low : c.args.row < length types = omega (arith, ap (λ (p : Object). length p.types) (same ∙ program), all, c.requires.row) in
+    let there = slice_get-map type_row types c.args.row ∙ ap (option_map type_row) (slice_get-get_or types c.args.row t low ∙ ap Some (sym c.index.ensures)) in
+    let old = running_of S.contents S.currents c.self.inside.code c.self.inside.state in
+    let held = held_of S.contents S.currents c.fill_all.new.memory in
+    let steps = c.self.inside.state.steps + c.len.result in
+    let new : Running = record { program = c.self.inside.code; config = record old.config { steps = steps; world = held.world }; last = held.last; output = old.output } in
+    let e = end_of c.fill_all.result in
+    let counted : steps ≡ c.self.inside.state.steps + length t.inputs.items = omega (arith, c.len.ensures) in
+    let last = ap (λ (f : Standing). f.last) c.fill_all.ensures.form in
+    let done = c.fill_all.ensures.done ∙ ap (λ (fs : List (InputField ℕ)). record_in (form_at rows.fields.items) text fs old.config.world) c.deref.ensures.value in
+    let filled = record_filled (seen rows) c.args.row text (type_row t) steps e old held there counted last done in
+    subst (λ (r : Running). Did (FillsFields r.program c.args.row text) r e new) c.self.view_is
+    (subst (λ (p : Object). Did (FillsFields p c.args.row text) old e new) same filled)
