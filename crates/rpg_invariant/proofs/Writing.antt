@@ -40,7 +40,8 @@ plain_is_writable classes.Table h = cc
 plain_is_writable classes.Constant h = cc
 plain_is_writable classes.Date h = cc
 
-plain_may : (form : Option FieldForm) → is_plain_form form ≡ true → may_write form ≡ true
+-- a plain field may be written
+pub plain_may : (form : Option FieldForm) → is_plain_form form ≡ true → may_write form ≡ true
 plain_may None h = cc
 plain_may (Some d) h = plain_is_writable d.class h
 
