@@ -86,7 +86,7 @@ has_number : (k : Kind) (len : ℕ) (m : ℤ) → k ≡ kinds.Number → unsigne
 has_number kinds.Number len m k h = h
 has_number kinds.Text len m k h = cc
 
-page_counted : (forms : List FieldForm) (fields : Fields nat_cmp) (f e : ℕ) (n m : ℤ) → AreFit forms fields → IsEntry forms f e → fits_source sources.Page (form_at forms f) ≡ true → unsigned_abs n < 10000 → m ≡ next_page n →
+pub page_counted : (forms : List FieldForm) (fields : Fields nat_cmp) (f e : ℕ) (n m : ℤ) → AreFit forms fields → IsEntry forms f e → fits_source sources.Page (form_at forms f) ≡ true → unsigned_abs n < 10000 → m ≡ next_page n →
     AreFit forms (with_value (f, e) (Number m) fields)
 page_counted forms fields f e n m fits i h small k =
     let p = page_kind (form_at forms f) h in
@@ -114,7 +114,7 @@ text_blanked None text h = cc
 text_blanked (Some (Number n)) text h = cc
 text_blanked (Some (Text t)) text h = let same : replicate (length t) 32 ≡ text = cc in subst (All IsCharacter) same (blank_characters (length t))
 
-fits-blanked : (forms : List FieldForm) (fields : Fields nat_cmp) (f e : ℕ) → AreFit forms fields → IsEntry forms f e → AreFit forms (blanked_at (f, e) fields)
+pub fits-blanked : (forms : List FieldForm) (fields : Fields nat_cmp) (f e : ℕ) → AreFit forms fields → IsEntry forms f e → AreFit forms (blanked_at (f, e) fields)
 fits-blanked forms fields f e fits i =
     fits_one forms fields f e (blanked (value_in fields (f, e))) fits i (blank_has i.form.kind i.form.length _ (value_there forms fields fits f e i)) (text_blanked (value_in fields (f, e)))
 
