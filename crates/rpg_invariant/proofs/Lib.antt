@@ -1,0 +1,5 @@
+pub mod Writing
+pub mod Acting
+pub mod Filling
+pub mod Printing
+pub mod Instructing
