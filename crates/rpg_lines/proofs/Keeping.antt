@@ -48,7 +48,7 @@ next_fits : (n : ℤ) → unsigned_abs n < 10000 → unsigned_abs (next_page n) 
 unfolding next_page
 next_fits n h = next_by n h (int_eq n (pos 9999)) refl
 
-page_kind : (form : Option FieldForm) → fits_source sources.Page form ≡ true → (kind_of form ≡ kinds.Number) × (length_of form ≡ 4)
+pub page_kind : (form : Option FieldForm) → fits_source sources.Page form ≡ true → (kind_of form ≡ kinds.Number) × (length_of form ≡ 4)
 page_kind form h =
     let a = and_true (is_index_form form) (length_of form == 4) h in
     (kinds_same _ kinds.Number (and_true _ _ a.0).0, eqb-true _ _ a.1)
