@@ -37,10 +37,12 @@ test: examples
 examples:
 	@for file in crates/rpg_examples/data/*; do cmp examples/*/$$(basename $$file) $$file || exit 1; done
 
-# The example's total over 1,000,000 records, beside the same total made by awk; and what decoding and verifying the largest programs takes.
+# The example's total over 1,000,000 records, beside the same total made by awk; what decoding and verifying the largest programs takes; and
+# what compiling costs.
 bench: $(RPG2)
 	bench/run.sh
 	bench/verify.py
+	bench/compile.sh
 
 # A target a library: it is proved once those below it are.
 define library_rule

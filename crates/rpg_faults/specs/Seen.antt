@@ -41,7 +41,7 @@ pub record IsTotal (cards : List SpecCard) (t : Totals) : Type 0 where
   pub names : t.names ≡ names_from [] cards
   pub bytes : t.bytes ≡ bytes_in cards
   pub few_names : t.names ≤ 2000
-  pub few_bytes : t.bytes ≤ 8589934590010
+  pub few_bytes : t.bytes ≤ 10 + 4294967295 * 2000
 
 pub record IsSeen (cards : List SpecCard) (s : Seen) : Type 0 where
   pub front : s.before.now ≡ take (length s.before.now) cards

@@ -25,7 +25,7 @@ const FIELDS_OF_A_LINE: u16 = 200;
 const STORAGE: u64 = 65535;
 
 /// The date's and the page number's bytes.
-const GIVEN_BYTES: u64 = 10;
+pub(crate) const GIVEN_BYTES: u64 = 10;
 
 pub(crate) fn passes_limit(source: &IndexedCards, seen: &Seen, card: &SpecCard) -> bool
     requires { IsSeen source.now seen.now }

@@ -7,7 +7,7 @@ ghost use Rattle.rpg_cards.specs.Files as files;
 ghost use Rattle.rpg_faults.specs.Seen.{IsCounted, HasLengths, IsSummed, IsTotal, IsSeen};
 
 use crate::constants::{constant_bytes_by, constants_by, names_in};
-use crate::limits::{bytes_by, bytes_in};
+use crate::limits::{GIVEN_BYTES, bytes_by, bytes_in};
 use rpg_cards::{IndexedCards, SpecCard};
 use rpg_spec::{InputSpec, OutputSpec, Spec, Word};
 
@@ -88,7 +88,7 @@ impl<'a> Seen<'a> {
                 line: None,
             },
             sums: Sums {
-                bytes: 10,
+                bytes: GIVEN_BYTES,
                 constants: 0,
                 constant_bytes: 0,
             },
