@@ -8,6 +8,7 @@ mod identification;
 mod indicators;
 mod jobs;
 mod kept;
+mod laws;
 mod levels;
 mod phases;
 mod program;
@@ -17,5 +18,6 @@ mod selection;
 
 pub use ends::{CycleEnd, JobEnd, StartFault};
 pub use jobs::Job;
+pub use laws::{runs_are_one, runs_are_short, unneeded_records_are_ignored};
 pub use rpg_machine::Output;
 pub use runs::{Run, run_records};
