@@ -56,19 +56,21 @@ same_job object date q p day job F holds starts only is =
     let number : starts.number ≡ day = let a = starts.spelled in let b = is.dated in cc in
     subst (λ (x : ℤ). F p x) number (subst (λ (x : Object). F x starts.number) (program ∙ only p is.spells) (holds starts.number begun))
 
-pub reports_same : (object date : List ℕ) (q p : Object) (day : ℤ) (job : AtWork) (a a' b print print' disk disk' : Option (List ℕ)) (report : Report) → a ≡ a'
+pub reports_same : (object date : List ℕ) (q p : Object) (day : ℤ) (job : AtWork) (a a' b b' print print' disk disk' : Option (List ℕ)) (report : Report) → a ≡ a' → b ≡ b'
     → ((x : ℤ) → job ≡ started job.program x (first_fields job.program) → OfInput a b (Reports job.program x report print print' disk disk'))
-    → Starts q date (first_fields q) job → ((r : Object) → Spells object r → q ≡ r) → IsJobOf object date p day → OfInput a' b (Reports p day report print print' disk disk')
-reports_same object date q p day job a a' b print print' disk disk' report same holds starts only is =
-    subst (λ (x : Option (List ℕ)). OfInput x b (Reports p day report print print' disk disk')) same
-    (same_job object date q p day job (λ r x. OfInput a b (Reports r x report print print' disk disk')) holds starts only is)
+    → Starts q date (first_fields q) job → ((r : Object) → Spells object r → q ≡ r) → IsJobOf object date p day → OfInput a' b' (Reports p day report print print' disk disk')
+reports_same object date q p day job a a' b b' print print' disk disk' report same left holds starts only is =
+    subst (λ (x : Option (List ℕ)). OfInput a' x (Reports p day report print print' disk disk')) left
+    (subst (λ (x : Option (List ℕ)). OfInput x b (Reports p day report print print' disk disk')) same
+    (same_job object date q p day job (λ r x. OfInput a b (Reports r x report print print' disk disk')) holds starts only is))
 
-pub parts_same : (object date : List ℕ) (q p : Object) (day : ℤ) (job : AtWork) (a a' b print print' disk disk' : Option (List ℕ)) (e : RunFault) → a ≡ a'
+pub parts_same : (object date : List ℕ) (q p : Object) (day : ℤ) (job : AtWork) (a a' b b' print print' disk disk' : Option (List ℕ)) (e : RunFault) → a ≡ a' → b ≡ b'
     → ((x : ℤ) → job ≡ started job.program x (first_fields job.program) → OfInput a b (SendsParts job.program x e print print' disk disk'))
-    → Starts q date (first_fields q) job → ((r : Object) → Spells object r → q ≡ r) → IsJobOf object date p day → OfInput a' b (SendsParts p day e print print' disk disk')
-parts_same object date q p day job a a' b print print' disk disk' e same holds starts only is =
-    subst (λ (x : Option (List ℕ)). OfInput x b (SendsParts p day e print print' disk disk')) same
-    (same_job object date q p day job (λ r x. OfInput a b (SendsParts r x e print print' disk disk')) holds starts only is)
+    → Starts q date (first_fields q) job → ((r : Object) → Spells object r → q ≡ r) → IsJobOf object date p day → OfInput a' b' (SendsParts p day e print print' disk disk')
+parts_same object date q p day job a a' b b' print print' disk disk' e same left holds starts only is =
+    subst (λ (x : Option (List ℕ)). OfInput a' x (SendsParts p day e print print' disk disk')) left
+    (subst (λ (x : Option (List ℕ)). OfInput x b (SendsParts p day e print print' disk disk')) same
+    (same_job object date q p day job (λ r x. OfInput a b (SendsParts r x e print print' disk disk')) holds starts only is))
 
 pub may_run : (object date : List ℕ) (q : Object) (job : AtWork) → Spells object q → IsAccepted q → Starts q date (first_fields q) job → MayRun object date
 may_run object date q job spells accepted starts = (q, starts.number, record { spells = spells; accepted = accepted; dated = starts.spelled })

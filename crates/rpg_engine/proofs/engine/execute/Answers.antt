@@ -1,4 +1,6 @@
-use Rattle.std.proofs.Common.{◌≡◌}
+use Rattle.std.proofs.Common.{◌≡◌, ◌∙◌, ap, sym, rules}
+use Rattle.rpg_files.specs.Counting.{device_of}
+use Rattle.rpg_files.specs.Reading.{source_of}
 use Rattle.std.proofs.lemmas.Result.{err_from_is_err_and}
 use Rattle.rpg_engine.proofs.Refusing.{may_run, no_room, not_started, object_refused, on_err, on_ok, parts_same, reports_same, told_of_run}
 use Rattle.rpg_engine.proofs.engine.execute.Goals as goal
@@ -23,12 +25,10 @@ returns-clause-refused g c =
     told_of_run c.run.result c.args.object.now c.args.date.now (may_run c.args.object.now c.args.date.now c.in_ok-verified.verified c.in_ok-job.job c.in_ok-verified.ensures.spelled c.in_ok-verified.ensures.accepted c.in_ok-job.ensures.start) c.run.ensures.only
 
 pub returns-clause-report : goal.returns-clause-report
-returns-clause-report g c =
-    let x = c.new-records in
-    on_ok c.run.result _ _ (λ report holds p day job. reports_same c.args.object.now c.args.date.now c.in_ok-verified.verified p day c.in_ok-job.job _ _ _ _ _ _ _ report ? holds c.in_ok-job.ensures.start c.in_ok-verified.ensures.only job) c.run.ensures.report
+returns-clause-report g c = let x = c.input-1.foo in ?
 
 pub returns-clause-early : goal.returns-clause-early
-returns-clause-early g c = ?
+returns-clause-early g c = let x = c.records-1.foo in ?
 
 pub returns-clause-faults : goal.returns-clause-faults
-returns-clause-faults g c = ?
+returns-clause-faults g c = let x = c.new-arg-1.foo in let y = c.input-1 in ?
