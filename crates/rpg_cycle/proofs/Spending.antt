@@ -13,7 +13,7 @@ use Rattle.rpg_effect.specs.declared.line.Time.TheVariants as times
 use Rattle.rpg_cycle.proofs.Turning.{off_keeps}
 use Rattle.rpg_cycle.specs.Earlier.{levels_of}
 use Rattle.rpg_cycle.specs.Identifying.{Trial, IsOf, Misplaced, holds, identified, is_there, trial_weight}
-use Rattle.rpg_cycle.specs.MachineStub.{InBound}
+use Rattle.rpg_machine.specs.Potential.{InBound}
 use Rattle.rpg_cycle.specs.Phases.{all_off}
 use Rattle.rpg_cycle.specs.Spending.{Spends, cycle_weight, first_cost, reach}
 use Rattle.rpg_machine.specs.Config.{Config}

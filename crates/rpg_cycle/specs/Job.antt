@@ -6,8 +6,8 @@ use Rattle.rpg_effect.specs.Put.{Bytes, line_of, with_output}
 use Rattle.rpg_effect.specs.World.{Fields}
 use Rattle.rpg_cycle.specs.Earlier.{Left, Selected, left_by, with_record}
 use Rattle.rpg_cycle.specs.Ends.{End, GoesOn}
-use Rattle.rpg_cycle.specs.MachineStub as machines
-use Rattle.rpg_cycle.specs.MachineStub.{IsReady}
+use Rattle.rpg_machine.specs.Running as machines
+use Rattle.rpg_machine.specs.Ready.{IsReady}
 use Rattle.rpg_cycle.specs.Phases as cycles
 use Rattle.rpg_cycle.specs.Phases.{Cycle, UnderWay, begun}
 use Rattle.rpg_cycle.specs.Stages.{Stage, Going, Ended, Failed, has_failed, is_going, stage_at}

@@ -10,8 +10,6 @@ pub mod Indicators
 pub mod Job
 pub mod Keeping
 pub mod Levels
-pub mod MachineCodes
-pub mod MachineStub
 pub mod Phases
 pub mod Running
 pub mod Runs

@@ -5,7 +5,7 @@ ghost use Rattle.rpg_cycle.specs.Doing.{Does};
 ghost use Rattle.rpg_cycle.specs.Earlier.{Selected};
 ghost use Rattle.rpg_cycle.specs.Ends.{GoesOn};
 ghost use Rattle.rpg_cycle.specs.Keeping.{kept_levels, left_of, selected_as};
-ghost use Rattle.rpg_cycle.specs.MachineStub.{IsReady};
+ghost use Rattle.rpg_machine.specs.Ready.{IsReady};
 ghost use Rattle.rpg_cycle.specs.Phases as spec;
 ghost use Rattle.rpg_cycle.specs.Stages.{IfStops, UnlessNoMemory, job_end};
 ghost use Rattle.rpg_machine.specs.Running.{refilled};
@@ -13,13 +13,13 @@ ghost use Rattle.rpg_verify.specs.Bound.{bound};
 
 use crate::ends::Stop;
 use crate::kept::Kept;
-use crate::machine_stub::Machine;
 use crate::phases::{
     calculate_details, end_where_last, fill_fields, halt_where_asked, put_out_details,
     put_out_overflow, set_off, take_total_time,
 };
 use crate::program::is_bounded;
 use crate::selection::select_record;
+use rpg_machine::Machine;
 use rpg_store::Store;
 use rpg_verify::Verified;
 

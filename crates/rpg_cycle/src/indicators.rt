@@ -2,11 +2,11 @@
 ghost use Rattle.std.specs.Prelude.{◌≡◌, ◌≤◌, All, take};
 ghost use Rattle.std.specs.Option.{ForSome};
 ghost use Rattle.rpg_cycle.specs.Indicators as spec;
-ghost use Rattle.rpg_cycle.specs.MachineStub.{IsReady};
+ghost use Rattle.rpg_machine.specs.Ready.{IsReady};
 ghost use Rattle.rpg_machine.specs.Running.{Running};
 ghost use Rattle.rpg_program.specs.Kept.{IsIndicator};
 
-use crate::machine_stub::Machine;
+use rpg_machine::Machine;
 use rpg_store::Store;
 
 pub const LAST_RECORD: u8 = 110;

@@ -8,8 +8,8 @@ mod identification;
 mod indicators;
 mod jobs;
 mod kept;
+mod laws;
 mod levels;
-mod machine_stub;
 mod phases;
 mod program;
 mod record;
@@ -18,5 +18,6 @@ mod selection;
 
 pub use ends::{CycleEnd, JobEnd, StartFault};
 pub use jobs::Job;
-pub use machine_stub::Output;
+pub use laws::{runs_are_one, runs_are_short, unneeded_records_are_ignored};
+pub use rpg_machine::Output;
 pub use runs::{Run, run_records};

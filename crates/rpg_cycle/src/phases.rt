@@ -7,7 +7,7 @@ ghost use Rattle.rpg_cycle.specs.Ends.{GoesOn};
 ghost use Rattle.rpg_cycle.specs.Fitting.{IsTypeIn};
 ghost use Rattle.rpg_cycle.specs.Indicators as lights;
 ghost use Rattle.rpg_cycle.specs.Keeping.{selected_as};
-ghost use Rattle.rpg_cycle.specs.MachineStub.{IsReady};
+ghost use Rattle.rpg_machine.specs.Ready.{IsReady};
 ghost use Rattle.rpg_cycle.specs.Phases as spec;
 ghost use Rattle.rpg_cycle.specs.Phases.{◌before◌};
 ghost use Rattle.rpg_cycle.specs.Spending.{Spends, first_cost, inputs_weight, reach, overflow_weight, totals_weight};
@@ -22,9 +22,9 @@ ghost use Rattle.rpg_program.specs.declared.section.Section.TheVariants as secti
 
 use crate::ends::{JobEnd, Stop};
 use crate::indicators::{FIRST_PAGE, LAST_RECORD, LEVELS, is_halt_asked, turn_all, turn_type_off};
-use crate::machine_stub::Machine;
 use crate::program::{is_bounded, overflow_of, types_of};
 use rpg_effect::outcome::End;
+use rpg_machine::Machine;
 use rpg_machine::time::OutputTime;
 use rpg_program::row::RecordType;
 use rpg_program::section::Section;

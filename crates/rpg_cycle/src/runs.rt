@@ -8,7 +8,7 @@ ghost use Rattle.rpg_verify.specs.Bound.{bound};
 
 use crate::ends::{JobEnd, Progress, StartFault};
 use crate::jobs::Job;
-use crate::machine_stub::Output;
+use rpg_machine::Output;
 use rpg_store::{FlatStore, Store};
 use rpg_verify::Verified;
 use std::alloc::{AllocError, Global};

@@ -1,15 +1,19 @@
 -- A job that never began.
-use Rattle.std.proofs.Common.{◌≡◌, ℕ, ℤ, true, false, List, [], ◌++◌, Option, Some, None, refl, sym, arith}
+use Rattle.std.proofs.Common.{◌≡◌, ℕ, ℤ, true, false, List, [], ◌++◌, Option, Some, None, Result, Ok, Err, IfErr, IfOk, refl, sym, ap, ◌∙◌, subst, arith}
 use Rattle.std.specs.Io.KnownBytes.{Appends}
 use Rattle.std.proofs.KnownBytes.{Appends-nil, Consumes-nil}
 use Rattle.rpg_effect.specs.Put.{Bytes}
 use Rattle.rpg_files.specs.Sending.{AppendsFirst, AppendsPrefix}
 use Rattle.rpg_program.specs.Object.{Object}
 use Rattle.rpg_engine.specs.Inputs.{OfInput}
-use Rattle.rpg_engine.specs.Refusing.{IsObjectFault, start_fault}
-use Rattle.rpg_engine.specs.Reporting.{HasParts, SendsParts}
+use Rattle.rpg_cycle.specs.Job.{AtWork, Starts, first_fields, started}
+use Rattle.rpg_rules.specs.Accepted.{IsAccepted}
+use Rattle.rpg_engine.specs.Refusing.{IsJobOf, IsObjectFault, IsToldOf, MayRun, Spells, start_fault}
+use Rattle.rpg_engine.specs.Streaming.{IsOfRun}
+use Rattle.rpg_engine.specs.Reporting.{HasParts, Reports, SendsParts}
 use Rattle.rpg_cycle.specs.declared.ends.StartFault.{StartFault}
 use Rattle.rpg_cycle.specs.declared.ends.StartFault.TheVariants as starting
+use Rattle.rpg_engine.specs.declared.report.Report.{Report}
 use Rattle.rpg_engine.specs.declared.fault.RunFault.{RunFault}
 use Rattle.rpg_engine.specs.declared.fault.RunFault.TheVariants as faults
 
@@ -37,3 +41,54 @@ object_refused a print disk faults.NoMemory object p day is = at_once a print di
 pub not_started : (a print disk : Option (List ℕ)) (fault : StartFault) (p : Object) (day : ℤ) → OfInput a a (SendsParts p day (start_fault fault) print print disk disk)
 not_started a print disk starting.D1 p day = at_once a print disk faults.Date p day (λ bytes. (none_sent print bytes.print, none_sent disk bytes.disk))
 not_started a print disk starting.NoMemory p day = at_once a print disk faults.NoMemory p day (λ bytes. (none_sent print bytes.print, none_sent disk bytes.disk))
+
+pub no_room : (a print disk : Option (List ℕ)) (p : Object) (day : ℤ) → OfInput a a (SendsParts p day faults.NoMemory print print disk disk)
+no_room a print disk p day = at_once a print disk faults.NoMemory p day (λ bytes. (none_sent print bytes.print, none_sent disk bytes.disk))
+
+-- ---- a job that began
+
+-- a run is told for the program and the date that it was given
+pub same_job : (object date : List ℕ) (q p : Object) (day : ℤ) (job : AtWork) (F : Object → ℤ → Type 0) → ((x : ℤ) → job ≡ started job.program x (first_fields job.program) → F job.program x)
+    → Starts q date (first_fields q) job → ((r : Object) → Spells object r → q ≡ r) → IsJobOf object date p day → F p day
+same_job object date q p day job F holds starts only is =
+    let program : job.program ≡ q = ap (λ (j : AtWork). j.program) starts.job in
+    let begun : job ≡ started job.program starts.number (first_fields job.program) = subst (λ (x : Object). job ≡ started x starts.number (first_fields x)) (sym program) starts.job in
+    let number : starts.number ≡ day = let a = starts.spelled in let b = is.dated in cc in
+    subst (λ (x : ℤ). F p x) number (subst (λ (x : Object). F x starts.number) (program ∙ only p is.spells) (holds starts.number begun))
+
+pub reports_same : (object date : List ℕ) (q p : Object) (day : ℤ) (job : AtWork) (a a' b b' print print' disk disk' : Option (List ℕ)) (report : Report) → a ≡ a' → b ≡ b'
+    → ((x : ℤ) → job ≡ started job.program x (first_fields job.program) → OfInput a b (Reports job.program x report print print' disk disk'))
+    → Starts q date (first_fields q) job → ((r : Object) → Spells object r → q ≡ r) → IsJobOf object date p day → OfInput a' b' (Reports p day report print print' disk disk')
+reports_same object date q p day job a a' b b' print print' disk disk' report same left holds starts only is =
+    subst (λ (x : Option (List ℕ)). OfInput a' x (Reports p day report print print' disk disk')) left
+    (subst (λ (x : Option (List ℕ)). OfInput x b (Reports p day report print print' disk disk')) same
+    (same_job object date q p day job (λ r x. OfInput a b (Reports r x report print print' disk disk')) holds starts only is))
+
+pub parts_same : (object date : List ℕ) (q p : Object) (day : ℤ) (job : AtWork) (a a' b b' print print' disk disk' : Option (List ℕ)) (e : RunFault) → a ≡ a' → b ≡ b'
+    → ((x : ℤ) → job ≡ started job.program x (first_fields job.program) → OfInput a b (SendsParts job.program x e print print' disk disk'))
+    → Starts q date (first_fields q) job → ((r : Object) → Spells object r → q ≡ r) → IsJobOf object date p day → OfInput a' b' (SendsParts p day e print print' disk disk')
+parts_same object date q p day job a a' b b' print print' disk disk' e same left holds starts only is =
+    subst (λ (x : Option (List ℕ)). OfInput a' x (SendsParts p day e print print' disk disk')) left
+    (subst (λ (x : Option (List ℕ)). OfInput x b (SendsParts p day e print print' disk disk')) same
+    (same_job object date q p day job (λ r x. OfInput a b (SendsParts r x e print print' disk disk')) holds starts only is))
+
+pub may_run : (object date : List ℕ) (q : Object) (job : AtWork) → Spells object q → IsAccepted q → Starts q date (first_fields q) job → MayRun object date
+may_run object date q job spells accepted starts = (q, starts.number, record { spells = spells; accepted = accepted; dated = starts.spelled })
+
+pub told_of_run : {X : Type 0} (result : Result X RunFault) (object date : List ℕ) → MayRun object date → IfErr result IsOfRun → IsToldOf result object date
+told_of_run (Ok x) object date may only = may
+told_of_run (Err (faults.Object offset code)) object date may only = absurd only
+told_of_run (Err (faults.Refused rule row)) object date may only = absurd only
+told_of_run (Err faults.Date) object date may only = absurd only
+told_of_run (Err faults.Read) object date may only = may
+told_of_run (Err (faults.Print sent)) object date may only = may
+told_of_run (Err (faults.Disk sent)) object date may only = may
+told_of_run (Err faults.NoMemory) object date may only = tt
+
+pub on_err : {X E : Type 0} (r : Result X E) (P Q : E → Type 0) → ((e : E) → P e → Q e) → IfErr r P → IfErr r Q
+on_err (Ok x) P Q f h = tt
+on_err (Err e) P Q f h = f e h
+
+pub on_ok : {X E : Type 0} (r : Result X E) (P Q : X → Type 0) → ((x : X) → P x → Q x) → IfOk r P → IfOk r Q
+on_ok (Ok x) P Q f h = f x h
+on_ok (Err e) P Q f h = tt

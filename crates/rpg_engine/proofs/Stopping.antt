@@ -28,7 +28,7 @@ use Rattle.rpg_verify.specs.Bound.{bound}
 use Rattle.rpg_engine.specs.Faults.{Counts, FaultsAre}
 use Rattle.rpg_engine.specs.Inputs.{HasTooMany, OfInput}
 use Rattle.rpg_engine.specs.Reporting.{HasParts, IsRunOver, Reports, SendsParts}
-use Rattle.rpg_engine.specs.Streaming.{SendsSome, TakesCycle, TakesNext, TakesNone, stage_of}
+use Rattle.rpg_engine.specs.Streaming.{IsOfRun, SendsSome, TakesCycle, TakesNext, TakesNone, stage_of}
 use Rattle.rpg_engine.specs.declared.fault.RunFault.{RunFault}
 use Rattle.rpg_engine.specs.declared.fault.RunFault.TheVariants as faults
 use Rattle.rpg_engine.specs.declared.report.Report.{Report}
@@ -112,6 +112,24 @@ both_parts remaining old new faults.Read none print print' disk disk' bytes p d 
 both_parts remaining old new (faults.Print sent) none print print' disk disk' bytes p d = absurd none
 both_parts remaining old new (faults.Disk sent) none print print' disk disk' bytes p d = absurd none
 both_parts remaining old new faults.NoMemory none print print' disk disk' bytes p d = (p, d)
+
+pub none_of_run : {R : Type 0} (remaining : R → Option (List ℕ)) (old new : RecordReader R) (e : RunFault) → TakesNone remaining old e new → IsOfRun e
+none_of_run remaining old new (faults.Object offset code) none = absurd none
+none_of_run remaining old new (faults.Refused rule row) none = absurd none
+none_of_run remaining old new faults.Date none = absurd none
+none_of_run remaining old new faults.Read none = tt
+none_of_run remaining old new (faults.Print sent) none = tt
+none_of_run remaining old new (faults.Disk sent) none = tt
+none_of_run remaining old new faults.NoMemory none = tt
+
+pub some_of_run : (e : RunFault) (printed stored : ℕ) (print print' disk disk' : Option (List ℕ)) (lines records : List ℕ) → SendsSome e printed stored print print' disk disk' lines records → IsOfRun e
+some_of_run (faults.Object offset code) printed stored print print' disk disk' lines records some = absurd some
+some_of_run (faults.Refused rule row) printed stored print print' disk disk' lines records some = absurd some
+some_of_run faults.Date printed stored print print' disk disk' lines records some = absurd some
+some_of_run faults.Read printed stored print print' disk disk' lines records some = tt
+some_of_run (faults.Print sent) printed stored print print' disk disk' lines records some = tt
+some_of_run (faults.Disk sent) printed stored print print' disk disk' lines records some = tt
+some_of_run faults.NoMemory printed stored print print' disk disk' lines records some = tt
 
 -- of a run's bytes, a part of what it printed or stored
 part_of : (a b : Option (List ℕ)) (whole bytes : List ℕ) (n : ℕ) → bytes ≡ whole → AppendsFirst a b n whole → AppendsFirst a b n bytes

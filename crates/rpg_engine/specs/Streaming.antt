@@ -68,6 +68,14 @@ SendsSome (faults.Disk sent) printed stored print print' disk disk' lines record
     (n : ℕ) × (sent ≡ stored + n) × Appends print print' lines × AppendsFirst disk disk' n records
 SendsSome e printed stored print print' disk disk' lines records = ⊥
 
+-- of a fault of a run that has begun
+abbrev pub IsOfRun : RunFault → Type 0
+IsOfRun faults.Read = Unit {0}
+IsOfRun (faults.Print sent) = Unit {0}
+IsOfRun (faults.Disk sent) = Unit {0}
+IsOfRun faults.NoMemory = Unit {0}
+IsOfRun e = ⊥
+
 -- whose count rose
 abbrev pub WriterFaults : {X : Type 0} → Result X RunFault → (print print' disk disk' : ℕ) → Type 0
 WriterFaults (Ok x) print print' disk disk' = (print' ≡ print) × (disk' ≡ disk)

@@ -13,7 +13,7 @@ use crate::fault::RunFault;
 use crate::report::Report;
 use crate::run::run;
 use rpg_cycle::Job;
-use rpg_files::{Counted, RecordReader};
+use rpg_files::{Counted, RecordReader, RecordRoom};
 use rpg_object::decode;
 use rpg_verify::{Verified, verify};
 use std::alloc::Global;
@@ -22,6 +22,7 @@ use std::io::{Read, Write};
 /// The program that the bytes spell, if it keeps all rules.
 fn verified(alloc: Global, object: &[u8]) -> Result<Verified, RunFault>
     ensures spelled { IfOk result (λ v. Spells object.now v) }
+    ensures only { IfOk result (λ v. (p : Object) → Spells object.now p → v ≡ p) }
     ensures accepted { IfOk result (λ v. IsAccepted v) }
     ensures refused { IfErr result (λ e. IsObjectFault e object.now) }
 {
@@ -74,6 +75,7 @@ pub fn execute<R: Read, W1: Write, W2: Write>(
     let program = verified.program();
     let limit = program.rows().record_length;
     let mut job = Job::start(alloc, &verified, date)?;
-    let mut records = RecordReader::new(alloc, input, limit)?;
+    let room = RecordRoom::new(alloc, limit)?;
+    let mut records = RecordReader::new(input, room);
     run(&mut job, &mut records, print, disk, verified.bound())
 }

@@ -9,6 +9,7 @@ ghost use Rattle.rpg_verify.specs.Bound as words;
 ghost use Rattle.rpg_engine.specs.Faults.{FaultsAre, Counts};
 ghost use Rattle.rpg_engine.specs.Inputs.{OfInput};
 ghost use Rattle.rpg_engine.specs.Reporting.{Reports, SendsParts};
+ghost use Rattle.rpg_engine.specs.Streaming.{IsOfRun};
 
 use crate::cycle::next_cycle;
 use crate::fault::RunFault;
@@ -43,6 +44,7 @@ pub(crate) fn run<R: Read, W1: Write, W2: Write>(
         → OfInput (R.remaining (device_of (source_of records.old))) (R.remaining (device_of (source_of records.new)))
         (SendsParts job.old.program day e (W1.contents (device_of print.old)) (W1.contents (device_of print.new))
         (W2.contents (device_of disk.old)) (W2.contents (device_of disk.new)))) }
+    ensures only { IfErr result IsOfRun }
     ensures faults { let before : Counts = record { reader = faults_of (source_of records.old); print = faults_of print.old; disk = faults_of disk.old } in
         let after : Counts = record { reader = faults_of (source_of records.new); print = faults_of print.new; disk = faults_of disk.new } in
         FaultsAre result (R.remaining (device_of (source_of records.old))) (R.remaining (device_of (source_of records.new))) before after }

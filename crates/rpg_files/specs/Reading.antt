@@ -11,6 +11,11 @@ use Rattle.rpg_files.specs.declared.reader.Next.TheVariants as next
 use Rattle.rpg_files.specs.declared.reader.ReadFault.{ReadFault}
 use Rattle.rpg_files.specs.declared.reader.ReadFault.TheVariants as fault
 use Rattle.rpg_files.specs.declared.reader.RecordReader.{RecordReader}
+use Rattle.rpg_files.specs.declared.reader.RecordRoom.{RecordRoom}
+
+-- the most bytes of a record that room was made for
+abbrev pub room_limit : RecordRoom → ℕ
+room_limit r = r.limit
 
 -- ---- its state
 

@@ -11,6 +11,6 @@ mod records;
 mod sending;
 
 pub use counting::{Counted, DeviceFault};
-pub use reader::{Next, ReadFault, RecordReader};
+pub use reader::{Next, ReadFault, RecordReader, RecordRoom};
 pub use records::{answers_are_records, first_answers_are_records, records_are_lines};
 pub use sending::{WriteFault, send};

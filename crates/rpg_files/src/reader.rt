@@ -1,6 +1,6 @@
 //! Records from a reader, one at a time.
 
-ghost use Rattle.std.specs.Prelude.{◌≡◌, ◌+◌, ◌<◌, ◌≤◌, length};
+ghost use Rattle.std.specs.Prelude.{◌≡◌, ◌+◌, ◌<◌, ◌≤◌, [], length};
 ghost use Rattle.rpg_files.specs.Buffers.{bytes_of, capacity_of};
 ghost use Rattle.rpg_files.specs.Records.{max_records};
 
@@ -45,6 +45,29 @@ impl From<DeviceFault> for ReadFault {
     }
 }
 
+/// The memory that the records of an input take, however many they are.
+#[derive(Drop)]
+pub struct RecordRoom {
+    buffer: Buffer,
+    /// The most bytes of a record.
+    limit: u16,
+    ghost empty: { bytes_of buffer ≡ [] },
+    ghost room: { limit + 1 < capacity_of buffer },
+}
+
+impl RecordRoom {
+    ghost use Rattle.std.specs.Prelude.{IfOk};
+    ghost use Rattle.rpg_files.specs.Reading.{room_limit};
+
+    /// Room for records of at most `limit` bytes.
+    pub fn new(alloc: Global, limit: u16) -> Result<RecordRoom, AllocError>
+        ensures { IfOk result (λ room. room_limit room ≡ limit) }
+    {
+        let buffer = Buffer::with_capacity(alloc, READ_ROOM + limit as usize + 1)?;
+        Ok(RecordRoom { buffer, limit })
+    }
+}
+
 /// The records of a reader's input.
 #[derive(Drop)]
 pub struct RecordReader<'a, R> {
@@ -67,30 +90,24 @@ pub struct RecordReader<'a, R> {
 }
 
 impl<'a, R> RecordReader<'a, R> {
-    ghost use Rattle.std.specs.Prelude.{IfOk};
-    ghost use Rattle.rpg_files.specs.Reading.{IsFresh, record_of, source_of};
+    ghost use Rattle.rpg_files.specs.Reading.{IsFresh, record_of, room_limit, source_of};
 
-    /// A reader of records of at most `limit` bytes.
-    pub fn new(
-        alloc: Global,
-        reader: &'a mut Counted<R>,
-        limit: u16,
-    ) -> Result<RecordReader<'a, R>, AllocError>
-        ensures same_reader { IfOk result (λ r. r.reader.ghost_name ≡ reader.entry.ghost_name) }
-        ensures untouched { IfOk result (λ r. source_of r ≡ reader.old) }
-        ensures fresh { IfOk result (λ r. IsFresh limit r) }
+    /// A reader of records in room that was made for them.
+    pub fn new(reader: &'a mut Counted<R>, room: RecordRoom) -> RecordReader<'a, R>
+        ensures same_reader { result.reader.ghost_name ≡ reader.entry.ghost_name }
+        ensures untouched { source_of result ≡ reader.old }
+        ensures fresh { IsFresh (room_limit room) result }
     {
-        let buffer = Buffer::with_capacity(alloc, READ_ROOM + limit as usize + 1)?;
-        Ok(RecordReader {
+        RecordReader {
             reader,
-            buffer,
+            buffer: room.buffer,
             len: 0,
             line_len: 0,
-            limit,
+            limit: room.limit,
             is_ended: false,
             count: 0,
             answer: Ok(Next::Record),
-        })
+        }
     }
 
     /// The record that was given last.

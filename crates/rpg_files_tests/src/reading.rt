@@ -6,7 +6,7 @@ ghost use Rattle.rpg_files.specs.Reading.{source_of};
 
 use crate::telling::{next_of, tell, word_of};
 use rpg_files::fakes::{Interrupting, LineFeeds, ShortReader};
-use rpg_files::{Counted, Next, ReadFault, RecordReader};
+use rpg_files::{Counted, Next, ReadFault, RecordReader, RecordRoom};
 use std::io::Read;
 use std::test::Fail;
 
@@ -137,7 +137,8 @@ fn an_input_has_ten_million_records_at_most(rt: HostRuntime) -> Result<(), Fail>
     ];
     for (left, wanted) in rows {
         let mut device = Counted::new(LineFeeds { left });
-        let mut reader = RecordReader::new(rt.alloc(), &mut device, 80)?;
+        let room = RecordRoom::new(rt.alloc(), 80)?;
+        let mut reader = RecordReader::new(&mut device, room);
         let (records, answer) = count(&mut reader);
         assert_eq!(rt; records, left.min(10_000_000) as u64);
         assert_eq!(rt; word_of(answer), wanted, "of {left}");

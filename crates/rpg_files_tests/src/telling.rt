@@ -4,7 +4,7 @@ ghost use Rattle.std.specs.Prelude.{◌≡◌, ◌+◌, ◌-◌, ◌^◌, ◌<�
 ghost use Rattle.rpg_files.specs.Counting.{faults_of};
 ghost use Rattle.rpg_files.specs.Reading.{source_of};
 
-use rpg_files::{Counted, Next, ReadFault, RecordReader};
+use rpg_files::{Counted, Next, ReadFault, RecordReader, RecordRoom};
 use std::alloc::{AllocError, Global};
 use std::io::Read;
 
@@ -55,7 +55,8 @@ pub(crate) fn tell<R: Read + Drop>(
     limit: u16,
 ) -> Result<Vec<u8>, AllocError> {
     let mut device = Counted::new(device);
-    let mut reader = RecordReader::new(alloc, &mut device, limit)?;
+    let room = RecordRoom::new(alloc, limit)?;
+    let mut reader = RecordReader::new(&mut device, room);
     let mut told = Vec::new(alloc);
     tell_all(&mut reader, &mut told)?;
     Ok(told)

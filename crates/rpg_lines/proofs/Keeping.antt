@@ -48,7 +48,7 @@ next_fits : (n : ℤ) → unsigned_abs n < 10000 → unsigned_abs (next_page n) 
 unfolding next_page
 next_fits n h = next_by n h (int_eq n (pos 9999)) refl
 
-page_kind : (form : Option FieldForm) → fits_source sources.Page form ≡ true → (kind_of form ≡ kinds.Number) × (length_of form ≡ 4)
+pub page_kind : (form : Option FieldForm) → fits_source sources.Page form ≡ true → (kind_of form ≡ kinds.Number) × (length_of form ≡ 4)
 page_kind form h =
     let a = and_true (is_index_form form) (length_of form == 4) h in
     (kinds_same _ kinds.Number (and_true _ _ a.0).0, eqb-true _ _ a.1)
@@ -83,7 +83,7 @@ has_number : (k : Kind) (len : ℕ) (m : ℤ) → k ≡ kinds.Number → unsigne
 has_number kinds.Number len m k h = h
 has_number kinds.Text len m k h = cc
 
-page_counted : (forms : List FieldForm) (fields : Fields nat_cmp) (f e : ℕ) (n m : ℤ) → AreFit forms fields → IsEntry forms f e →
+pub page_counted : (forms : List FieldForm) (fields : Fields nat_cmp) (f e : ℕ) (n m : ℤ) → AreFit forms fields → IsEntry forms f e →
     fits_source sources.Page (form_at forms f) ≡ true → unsigned_abs n < 10000 → m ≡ next_page n →
     AreFit forms (with_value (f, e) (Number m) fields)
 page_counted forms fields f e n m fits i h small k =
@@ -112,7 +112,7 @@ text_blanked None text h = cc
 text_blanked (Some (Number n)) text h = cc
 text_blanked (Some (Text t)) text h = let same : replicate (length t) 32 ≡ text = cc in subst (All IsCharacter) same (blank_characters (length t))
 
-fits-blanked : (forms : List FieldForm) (fields : Fields nat_cmp) (f e : ℕ) → AreFit forms fields → IsEntry forms f e → AreFit forms (blanked_at (f, e) fields)
+pub fits-blanked : (forms : List FieldForm) (fields : Fields nat_cmp) (f e : ℕ) → AreFit forms fields → IsEntry forms f e → AreFit forms (blanked_at (f, e) fields)
 fits-blanked forms fields f e fits i =
     let v = value_in fields (f, e) in
     fits_one forms fields f e (blanked v) fits i (blank_has i.form.kind i.form.length v (value_there forms fields fits f e i)) (text_blanked v)

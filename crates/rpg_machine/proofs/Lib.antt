@@ -18,3 +18,7 @@ pub mod Effects
 pub mod Firsts
 pub mod Readiness
 pub mod Records
+pub mod OneRun
+pub mod Keeping
+pub mod KeepingLines
+pub mod NeverWrong

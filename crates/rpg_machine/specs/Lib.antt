@@ -13,3 +13,4 @@ pub mod Codes
 pub mod State
 pub mod Ready
 pub mod Inputs
+pub mod Laws

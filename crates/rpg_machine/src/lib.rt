@@ -1,10 +1,11 @@
 //! The written machine: steps and sections of an accepted program, its outputs, and the input fields of a record.
 #![tactic(auto)]
 
+mod accepted;
 mod cells;
-mod code;
 pub mod control;
 mod inputs;
+pub mod laws;
 mod machine;
 mod output;
 mod section;

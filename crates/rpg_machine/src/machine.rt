@@ -8,8 +8,8 @@ ghost use Rattle.rpg_program.specs.Object.{seen};
 ghost use Rattle.std.specs.FinSet as set;
 ghost use Rattle.std.specs.Prelude.{[], ◌∷◌};
 
+use crate::accepted::Accepted;
 use crate::cells::Cells;
-use crate::code::Code;
 use crate::inputs::fill_all;
 use crate::output::{put_out, weight_of};
 use crate::section::run_section;
@@ -40,7 +40,7 @@ const FIRST_PAGE: u8 = 111;
 #[derive(Drop)]
 pub struct Machine<'a, S: Store + Drop> {
     alloc: Global,
-    code: Code<'a>,
+    program: Accepted<'a>,
     state: State<S>,
 }
 
@@ -55,9 +55,9 @@ impl<'a, S: Store + Drop> Model for Machine<'a, S> {
 
     ghost use Rattle.rpg_machine.specs.State.{IsKept, running_of};
 
-    ghost view = { λ m. running_of S.contents S.currents m.code m.state };
+    ghost view = { λ m. running_of S.contents S.currents m.program m.state };
 
-    ghost invariant = { λ m. IsKept S.forms m.code m.state };
+    ghost invariant = { λ m. IsKept S.forms m.program m.state };
 }
 
 /// L0 and 1P.
@@ -140,9 +140,13 @@ impl<'a, S: Store + Drop> Machine<'a, S> {
         ensures start { IfOk result (λ m. m ≡ of.started program.now (record { values = S.contents store; current = S.currents store })) }
         ensures ready { IfOk result (λ m. IsReady m) }
     {
-        let code = Code::new(alloc, program)?;
-        let state = first_state(alloc, code.rows(), store)?;
-        Ok(Machine { alloc, code, state })
+        let accepted = Accepted::new(alloc, program)?;
+        let state = first_state(alloc, accepted.rows(), store)?;
+        Ok(Machine {
+            alloc,
+            program: accepted,
+            state,
+        })
     }
 
     /// Runs detail or total calculations from their first place.
@@ -154,8 +158,8 @@ impl<'a, S: Store + Drop> Machine<'a, S> {
         ensures ready { IfOk result (λ e. e ≡ End.GoesOn → IsReady self.new) }
         ensures bound { OnOk result (InBound section self.old self.new) }
     {
-        self.code.is_orderly();
-        run_section(&self.code, &mut self.state, section)
+        self.program.is_orderly();
+        run_section(&self.program, &mut self.state, section)
     }
 
     /// Puts out the lines of a time that are asked for.
@@ -165,7 +169,7 @@ impl<'a, S: Store + Drop> Machine<'a, S> {
         ensures done { IfOk result (λ e. Did (PutsOut self.old.program time) self.old (end_of e) self.new) }
         ensures ready { IfOk result (λ e. e ≡ End.GoesOn → IsReady self.new) }
     {
-        let rows = self.code.rows();
+        let rows = self.program.rows();
         self.state.steps += u64::from(weight_of(rows, time));
         put_out(rows, &mut self.state.memory, &mut self.state.writer, time)
     }
@@ -180,7 +184,7 @@ impl<'a, S: Store + Drop> Machine<'a, S> {
         ensures done { Did (FillsFields self.old.program row text.now) self.old (end_of result) self.new }
         ensures ready { result ≡ End.GoesOn → IsReady self.new }
     {
-        let rows = self.code.rows();
+        let rows = self.program.rows();
         let inputs = &rows.types[row].inputs;
         self.state.steps += inputs.len() as u64;
         fill_all(rows, &mut self.state.memory, text, inputs)
@@ -191,7 +195,7 @@ impl<'a, S: Store + Drop> Machine<'a, S> {
         ensures refilled { self.new ≡ of.refilled self.old }
         ensures ready { IsReady self.old → IsReady self.new }
     {
-        self.state.allowance = self.code.rows().allowance;
+        self.state.allowance = self.program.rows().allowance;
         self.state.steps = 0;
     }
 

@@ -1,6 +1,6 @@
 use Rattle.std.proofs.Common.{◌≡◌, drop}
 use Rattle.rpg_cycle.specs.Indicators as spec
-use Rattle.rpg_cycle.specs.MachineStub.{IsReady}
+use Rattle.rpg_machine.specs.Ready.{IsReady}
 use Rattle.rpg_cycle.proofs.indicators.turn_all.Given as goal
 
 abbrev pub invariant-loop-number : goal.invariant-loop-number

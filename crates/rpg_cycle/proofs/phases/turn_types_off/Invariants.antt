@@ -1,7 +1,7 @@
 use Rattle.std.proofs.Common.{◌≡◌, drop, map}
 use Rattle.rpg_program.specs.Object.{type_row}
 use Rattle.rpg_cycle.specs.Indicators as spec
-use Rattle.rpg_cycle.specs.MachineStub.{IsReady}
+use Rattle.rpg_machine.specs.Ready.{IsReady}
 use Rattle.rpg_cycle.proofs.phases.turn_types_off.Given as goal
 
 abbrev pub invariant-loop-record_type : goal.invariant-loop-record_type

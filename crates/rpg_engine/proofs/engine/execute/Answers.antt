@@ -1,6 +1,8 @@
-use Rattle.std.proofs.Common.{◌≡◌}
+use Rattle.std.proofs.Common.{◌≡◌, ◌∙◌, ap, sym, rules}
+use Rattle.rpg_files.specs.Counting.{device_of}
+use Rattle.rpg_files.specs.Reading.{source_of}
 use Rattle.std.proofs.lemmas.Result.{err_from_is_err_and}
-use Rattle.rpg_engine.proofs.Refusing.{not_started, object_refused}
+use Rattle.rpg_engine.proofs.Refusing.{may_run, no_room, not_started, object_refused, on_err, on_ok, parts_same, reports_same, told_of_run}
 use Rattle.rpg_engine.proofs.engine.execute.Goals as goal
 
 pub returns-in_err-verified-clause-early : goal.returns-in_err-verified-clause-early
@@ -12,3 +14,29 @@ pub returns-in_err-job-clause-early : goal.returns-in_err-job-clause-early
 returns-in_err-job-clause-early g c =
     let e = err_from_is_err_and c.from_residual-in_err-job.result c.from_residual-in_err-job.ensures.1 in
     rw (e.1, e.2) (λ p day job. not_started _ _ _ _ p day)
+
+pub returns-in_err-room-clause-early : goal.returns-in_err-room-clause-early
+returns-in_err-room-clause-early g c =
+    let e = err_from_is_err_and c.from_residual-in_err-room.result c.from_residual-in_err-room.ensures.1 in
+    rw (e.1, e.2) (λ p day job. no_room _ _ _ p day)
+
+pub returns-clause-refused : goal.returns-clause-refused
+returns-clause-refused g c =
+    told_of_run c.run.result c.args.object.now c.args.date.now (may_run c.args.object.now c.args.date.now c.in_ok-verified.verified c.in_ok-job.job c.in_ok-verified.ensures.spelled c.in_ok-verified.ensures.accepted c.in_ok-job.ensures.start) c.run.ensures.only
+
+pub returns-clause-report : goal.returns-clause-report
+returns-clause-report g c =
+    let left : g.R.Read.remaining (device_of c.input-1.given) ≡ g.R.Read.remaining (device_of (source_of c.run.new.records)) = search rules in
+    on_ok c.run.result _ _ (λ report holds p day job. reports_same c.args.object.now c.args.date.now c.in_ok-verified.verified p day c.in_ok-job.job _ _ _ _ _ _ _ _ report
+      (ap (λ x. g.R.Read.remaining (device_of x)) c.new-records.ensures.untouched) (sym left) holds c.in_ok-job.ensures.start c.in_ok-verified.ensures.only job) c.run.ensures.report
+
+pub returns-clause-early : goal.returns-clause-early
+returns-clause-early g c =
+    let left : g.R.Read.remaining (device_of c.input-1.given) ≡ g.R.Read.remaining (device_of (source_of c.run.new.records)) = search rules in
+    on_err c.run.result _ _ (λ e holds p day job. parts_same c.args.object.now c.args.date.now c.in_ok-verified.verified p day c.in_ok-job.job _ _ _ _ _ _ _ _ e
+      (ap (λ x. g.R.Read.remaining (device_of x)) c.new-records.ensures.untouched) (sym left) holds c.in_ok-job.ensures.start c.in_ok-verified.ensures.only job) c.run.ensures.early
+
+pub returns-clause-faults : goal.returns-clause-faults
+returns-clause-faults g c =
+    let left : c.input-1.given ≡ source_of c.run.new.records = search rules in
+    ?

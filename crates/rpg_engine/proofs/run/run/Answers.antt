@@ -5,7 +5,7 @@ use Rattle.rpg_cycle.specs.Stages.{is_going}
 use Rattle.rpg_edit.specs.Paper.{end_of}
 use Rattle.rpg_engine.specs.Streaming.{stage_of}
 use Rattle.rpg_engine.specs.declared.report.Report.{Report}
-use Rattle.rpg_engine.proofs.Stopping.{reading_faults, stopped_reading, stopped_sending, stream_reports}
+use Rattle.rpg_engine.proofs.Stopping.{none_of_run, reading_faults, some_of_run, stopped_reading, stopped_sending, stream_reports}
 use Rattle.rpg_engine.proofs.Streams.{has_gone_on, stays_bounded, stream_begins, stream_on}
 use Rattle.rpg_engine.proofs.run.run.Goals as goal
 
@@ -97,3 +97,13 @@ cycles-smaller g c =
     let stage = c.in_ok-ended.ensures.told ∙ ap stage_of c.in_default.is in
     let on = has_gone_on g.R.Read.remaining c.cycles.job c.next_cycle.new.job c.cycles.records c.next_cycle.new.records streams.earlier (end_of streams.out.lines) streams.left streams.last c.in_ok-ended.ensures.cycle stage in
     omega (arith, on.count, on.few)
+
+pub returns-in_err-ended-clause-only : goal.returns-in_err-ended-clause-only
+returns-in_err-ended-clause-only g c =
+    let e = err_from_is_err_and c.from_residual.result c.from_residual.ensures.1 in
+    rw (e.1, e.2) (none_of_run g.R.Read.remaining c.cycles.records c.next_cycle.new.records _ c.in_err-ended.ensures.none)
+
+pub returns-in_err-send_output-clause-only : goal.returns-in_err-send_output-clause-only
+returns-in_err-send_output-clause-only g c =
+    let e = err_from_is_err_and c.from_residual-in_err-send_output.result c.from_residual-in_err-send_output.ensures.1 in
+    rw (e.1, e.2) (some_of_run _ _ _ _ _ _ _ _ _ c.in_err-send_output.ensures.some)

@@ -23,13 +23,13 @@ fill_all-requires-clause-right g c =
     let types = rows.types.items in
     let t = c.index.result.now in
     let same = c.rows-rows.ensures.same in
-    let program : c.self.inside.code ≡ c.args.self.now.program = ap (λ (r : Running). r.program) c.self.view_is in
+    let own : c.self.inside.program ≡ c.args.self.now.program = ap (λ (r : Running). r.program) c.self.view_is in
     let all = length-map types type_row in
-    let low : c.args.row < length types = omega (arith, ap (λ (p : Object). length p.types) (same ∙ program), all, c.requires.row) in
+    let low : c.args.row < length types = omega (arith, ap (λ (p : Object). length p.types) (same ∙ own), all, c.requires.row) in
     let there = slice_get-map type_row types c.args.row ∙ ap (option_map type_row) (slice_get-get_or types c.args.row t low ∙ ap Some (sym c.index.ensures)) in
     let sound = subst (λ (p : Object). IsSound p) (sym same) c.rows-rows.ensures.orderly.sound in
     let inputs = (one_of_all (IsSoundType (seen rows)) (seen rows).types c.args.row (type_row t) sound.types there).inputs in
-    let long : rows.record_length ≡ length c.args.text.now = ap (λ (p : Object). p.record_length) (same ∙ program) ∙ sym c.requires.filled in
+    let long : rows.record_length ≡ length c.args.text.now = ap (λ (p : Object). p.record_length) (same ∙ own) ∙ sym c.requires.filled in
     subst (λ (fs : List (InputField ℕ)). All (λ f. input_fault (form_at rows.fields.items) (length c.args.text.now) f ≡ None) fs) (sym c.deref.ensures.value)
     (subst (λ (n : ℕ). All (λ f. input_fault (form_at rows.fields.items) n f ≡ None) t.inputs.items) long inputs)
 
@@ -41,14 +41,14 @@ returns-clause-done g c =
     let t = c.index.result.now in
     let same = c.rows-rows.ensures.same in
     let text = c.args.text.now in
-    let program : c.self.inside.code ≡ c.args.self.now.program = ap (λ (r : Running). r.program) c.self.view_is in
+    let own : c.self.inside.program ≡ c.args.self.now.program = ap (λ (r : Running). r.program) c.self.view_is in
     let all = length-map types type_row in
-    let low : c.args.row < length types = omega (arith, ap (λ (p : Object). length p.types) (same ∙ program), all, c.requires.row) in
+    let low : c.args.row < length types = omega (arith, ap (λ (p : Object). length p.types) (same ∙ own), all, c.requires.row) in
     let there = slice_get-map type_row types c.args.row ∙ ap (option_map type_row) (slice_get-get_or types c.args.row t low ∙ ap Some (sym c.index.ensures)) in
-    let old = running_of S.contents S.currents c.self.inside.code c.self.inside.state in
+    let old = running_of S.contents S.currents c.self.inside.program c.self.inside.state in
     let held = held_of S.contents S.currents c.fill_all.new.memory in
     let steps = c.self.inside.state.steps + c.len.result in
-    let new : Running = record { program = c.self.inside.code; config = record old.config { steps = steps; world = held.world }; last = held.last; output = old.output } in
+    let new : Running = record { program = c.self.inside.program; config = record old.config { steps = steps; world = held.world }; last = held.last; output = old.output } in
     let e = end_of c.fill_all.result in
     let counted : steps ≡ c.self.inside.state.steps + length t.inputs.items = omega (arith, c.len.ensures) in
     let last = ap (λ (f : Standing). f.last) c.fill_all.ensures.form in

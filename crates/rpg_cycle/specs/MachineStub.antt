@@ -1,2 +1,0 @@
--- What the machine's calls are said in.
-pub use Rattle.rpg_machine.specs.Ready
