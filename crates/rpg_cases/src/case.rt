@@ -14,9 +14,11 @@ pub enum Kind {
 pub enum Task {
     Verify,
     Run,
+    /// The object is damaged in each place and run.
+    Sweep,
 }
 
-/// What a case asks: the line of `rpg2` that a task is to answer.
+/// What a case asks: the line that a task is to answer, of `rpg2` or of a sweep.
 #[derive(Clone, Copy)]
 pub struct Question<'a> {
     pub task: Task,
@@ -74,7 +76,6 @@ pub struct Case<'a> {
     pub disk: Vec<&'a str>,
     pub spelling: Spelling,
     pub compiled: Vec<&'a str>,
-    pub steps: Option<usize>,
     /// Whether a mark of the case isn't known.
     pub is_bad: bool,
     part: Part,
@@ -95,7 +96,6 @@ impl<'a> Case<'a> {
             disk: Vec::new(alloc),
             spelling: Spelling::Unasked,
             compiled: Vec::new(alloc),
-            steps: None,
             is_bad: false,
             part: Part::Prose,
         }
@@ -110,6 +110,7 @@ impl<'a> Case<'a> {
             }
             Some(Mark::Verify(answer)) => (Task::Verify, answer),
             Some(Mark::Answer(answer)) => (Task::Run, answer),
+            Some(Mark::Sweep(answer)) => (Task::Sweep, answer),
             Some(mark) => {
                 self.begin(mark);
                 return Ok(None);
@@ -126,7 +127,6 @@ impl<'a> Case<'a> {
         self.disk.clear();
         self.compiled.clear();
         self.spelling = Spelling::Unasked;
-        self.steps = None;
         self.part = Part::Prose;
     }
 
@@ -174,8 +174,9 @@ impl<'a> Case<'a> {
                 self.spelling = Spelling::Again;
                 self.part = Part::Prose;
             }
-            Mark::Steps(steps) => self.steps = Some(steps),
-            Mark::Verify(_) | Mark::Answer(_) | Mark::Unknown => self.is_bad = true,
+            Mark::Verify(_) | Mark::Answer(_) | Mark::Sweep(_) | Mark::Unknown => {
+                self.is_bad = true
+            }
         }
     }
 

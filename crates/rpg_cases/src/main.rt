@@ -6,7 +6,9 @@
 mod case;
 mod mark;
 mod outcome;
+mod runs;
 mod spelling;
+mod sweep;
 mod trial;
 
 use case::{Case, Question};

@@ -25,12 +25,12 @@ pub enum Mark<'a> {
     Compiled,
     /// `--- again`: the object is to be spelled as it was read.
     Again,
-    /// `--- steps N`
-    Steps(usize),
     /// `--- verify LINE` ends a run that verifies the object.
     Verify(&'a str),
     /// `--- answer LINE` ends a run that runs it.
     Answer(&'a str),
+    /// `--- sweep LINE` ends a run that runs it damaged in each place.
+    Sweep(&'a str),
     /// Some other word.
     Unknown,
 }
@@ -53,10 +53,10 @@ pub fn mark_of(line: &str) -> Option<Mark<'_>> {
         ("date", _) => Mark::Date(value),
         ("verify", _) => Mark::Verify(value),
         ("answer", _) => Mark::Answer(value),
+        ("sweep", _) => Mark::Sweep(value),
         ("card" | "byte", Ok(at)) => Mark::Change(at),
         ("times", Ok(count)) => Mark::Times(count),
         ("allowance", Ok(number)) => Mark::Allowance(number),
-        ("steps", Ok(number)) => Mark::Steps(number),
         _ => Mark::Unknown,
     })
 }

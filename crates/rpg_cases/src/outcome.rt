@@ -2,20 +2,28 @@
 
 ghost use Rattle.std.specs.Prelude.{◌≡◌, ◌↔◌, [], ◌∷◌, ◌++◌, List, ℕ, None, IfOk, IfSome, IsTrue, OnOk};
 ghost use Rattle.std.specs.Io.KnownBytes.{Appends};
-ghost use Rattle.rpg_cases.specs.Outcome.{Agrees, Differs, IsOkLine};
+ghost use Rattle.rpg_cases.specs.Outcome.{Agrees, AreSame, Differs, IsOkLine};
 
 use std::alloc::{AllocError, Global};
 use std::io::{self, Write};
 
-/// What a run gave.
+/// What a run puts out.
 #[derive(Drop)]
-pub struct Told {
+pub struct Outputs {
     /// The line of `rpg2`.
     pub answer: Vec<u8>,
     pub print: Vec<u8>,
     pub disk: Vec<u8>,
-    /// The most steps of a cycle.
-    pub steps: u64,
+}
+
+/// What a run gave.
+#[derive(Drop)]
+pub struct Told {
+    pub outputs: Outputs,
+    /// What the same run gives over a list of records, where it runs.
+    pub listed_records: Option<Outputs>,
+    /// What it gives by the store that keeps each value apart, where it runs.
+    pub listed_values: Option<Outputs>,
     /// The object's bytes, as they were compiled or spelled again.
     pub object: Vec<u8>,
 }
@@ -23,11 +31,7 @@ pub struct Told {
 /// What a case wants of a run.
 #[derive(Drop)]
 pub struct Wanted {
-    pub answer: Vec<u8>,
-    pub print: Vec<u8>,
-    pub disk: Vec<u8>,
-    /// `None` for any number of steps.
-    pub steps: Option<u64>,
+    pub outputs: Outputs,
     /// `None` for any bytes.
     pub object: Option<Vec<u8>>,
 }
@@ -38,16 +42,25 @@ pub enum Difference {
     Answer,
     Print,
     Disk,
-    Steps,
+    ListedRecords,
+    ListedValues,
     Object,
 }
 
-fn has_steps(told: &Told, wanted: &Wanted) -> bool
-    ensures { IsTrue result ↔ IfSome wanted.now.steps (λ steps. told.now.steps ≡ steps) }
+fn are_same(one: &Outputs, other: &Outputs) -> bool
+    ensures { IsTrue result ↔ AreSame one.now other.now }
 {
-    match wanted.steps {
+    one.answer.as_slice() == other.answer.as_slice()
+        && one.print.as_slice() == other.print.as_slice()
+        && one.disk.as_slice() == other.disk.as_slice()
+}
+
+fn are_same_if_any(told: &Option<Outputs>, wanted: &Outputs) -> bool
+    ensures { IsTrue result ↔ IfSome told.now (λ outputs. AreSame outputs wanted.now) }
+{
+    match told {
         None => true,
-        Some(steps) => told.steps == steps,
+        Some(outputs) => are_same(outputs, wanted),
     }
 }
 
@@ -65,14 +78,17 @@ pub fn first_difference(told: &Told, wanted: &Wanted) -> Option<Difference>
     ensures same { (result ≡ None) ↔ Agrees told.now wanted.now }
     ensures differs { IfSome result (λ difference. Differs difference told.now wanted.now) }
 {
-    if told.answer.as_slice() != wanted.answer.as_slice() {
+    let (given, asked) = (&told.outputs, &wanted.outputs);
+    if given.answer.as_slice() != asked.answer.as_slice() {
         Some(Difference::Answer)
-    } else if told.print.as_slice() != wanted.print.as_slice() {
+    } else if given.print.as_slice() != asked.print.as_slice() {
         Some(Difference::Print)
-    } else if told.disk.as_slice() != wanted.disk.as_slice() {
+    } else if given.disk.as_slice() != asked.disk.as_slice() {
         Some(Difference::Disk)
-    } else if !has_steps(told, wanted) {
-        Some(Difference::Steps)
+    } else if !are_same_if_any(&told.listed_records, asked) {
+        Some(Difference::ListedRecords)
+    } else if !are_same_if_any(&told.listed_values, asked) {
+        Some(Difference::ListedValues)
     } else if !has_object(told, wanted) {
         Some(Difference::Object)
     } else {
@@ -103,19 +119,20 @@ fn words_of(
 ) -> Result<String, AllocError> {
     match difference {
         Difference::Answer => {
-            let given = String::from_utf8_lossy(alloc, told.answer.as_slice())?;
-            let answer = String::from_utf8_lossy(alloc, wanted.answer.as_slice())?;
+            let given = String::from_utf8_lossy(alloc, told.outputs.answer.as_slice())?;
+            let answer = String::from_utf8_lossy(alloc, wanted.outputs.answer.as_slice())?;
             format!(in alloc; "{}, and not {}", given.as_str(), answer.as_str())
         }
         Difference::Print => {
-            let line = first_line(&told.print, &wanted.print);
+            let line = first_line(&told.outputs.print, &wanted.outputs.print);
             format!(in alloc; "print, line {line}")
         }
         Difference::Disk => {
-            let line = first_line(&told.disk, &wanted.disk);
+            let line = first_line(&told.outputs.disk, &wanted.outputs.disk);
             format!(in alloc; "disk, line {line}")
         }
-        Difference::Steps => format!(in alloc; "at most {} steps", told.steps),
+        Difference::ListedRecords => String::from_str(alloc, "another run over a list of records"),
+        Difference::ListedValues => String::from_str(alloc, "another run by the other store"),
         Difference::Object => String::from_str(alloc, "other bytes of the object"),
     }
 }
@@ -143,7 +160,7 @@ pub fn report(
     ensures { IfOk result (λ line. IsOkLine line.items ↔ Agrees told.now wanted.now) }
 {
     match first_difference(told, wanted) {
-        None => line_of(alloc, b"ok: ", name, &wanted.answer),
+        None => line_of(alloc, b"ok: ", name, &wanted.outputs.answer),
         Some(difference) => {
             let words = words_of(alloc, difference, told, wanted)?;
             line_of(alloc, b"DIFFERS: ", name, words.as_str().as_bytes())

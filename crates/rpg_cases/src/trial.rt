@@ -1,9 +1,13 @@
 //! What a case gives when it is compiled and run in memory, and what it wants.
 
 use crate::case::{Case, Change, Kind, Spelling, Task};
-use crate::outcome::{Told, Wanted};
+use crate::outcome::{Outputs, Told, Wanted};
+use crate::runs::{
+    Given, accepted, line_of, records_of, run_listed_records, run_listed_values, run_streamed,
+};
 use crate::spelling::{push_hex, push_text};
-use rpg_cli::{Answer, compile_to_bytes, execute, line, verify_bytes};
+use crate::sweep::sweep;
+use rpg_cli::{Answer, compile_to_bytes, verify_bytes};
 use rpg_object::{decode, encode};
 use std::alloc::{AllocError, Global};
 
@@ -68,36 +72,57 @@ fn text_of(alloc: Global, lines: &[&str]) -> Result<Vec<u8>, AllocError> {
     Ok(bytes)
 }
 
-/// What is told where nothing runs.
-fn answered(alloc: Global, answer: Answer, object: Vec<u8>) -> Result<Told, AllocError> {
-    Ok(Told {
-        answer: Vec::from_slice(alloc, line(&answer).text.as_slice())?,
-        print: Vec::new(alloc),
-        disk: Vec::new(alloc),
-        steps: 0,
+/// What is told where nothing is printed or stored.
+fn said(answer: Vec<u8>, object: Vec<u8>, alloc: Global) -> Told {
+    Told {
+        outputs: Outputs {
+            answer,
+            print: Vec::new(alloc),
+            disk: Vec::new(alloc),
+        },
+        listed_records: None,
+        listed_values: None,
         object,
-    })
+    }
 }
 
-/// What the object gives when it runs over the case's input.
+/// What is told of an answer where nothing runs.
+fn answered(alloc: Global, answer: Answer, object: Vec<u8>) -> Result<Told, AllocError> {
+    Ok(said(line_of(alloc, &answer)?, object, alloc))
+}
+
+/// What the object gives when it runs over the case's input, in each way.
 fn run(alloc: Global, case: &Case<'_>, object: Vec<u8>) -> Result<Told, AllocError> {
-    let bytes = text_of(alloc, case.input.as_slice())?;
-    let mut input = bytes.as_slice();
-    let mut print = Vec::new(alloc);
-    let mut disk = Vec::new(alloc);
+    let input = text_of(alloc, case.input.as_slice())?;
     let date = case.date.as_bytes();
-    let report = execute(alloc, &object, date, &mut input, &mut print, &mut disk);
-    let (answer, steps) = match report {
-        Ok(report) => (Answer::from(report), report.most),
-        Err(fault) => (Answer::from(fault), 0),
+    let streamed = run_streamed(
+        alloc,
+        &object,
+        Given {
+            date,
+            input: &input,
+        },
+    );
+    let mut told = answered(alloc, streamed.answer, object)?;
+    told.outputs.print = streamed.print;
+    told.outputs.disk = streamed.disk;
+    if let Some(program) = accepted(alloc, &told.object) {
+        let records = records_of(alloc, &input)?;
+        told.listed_records = run_listed_records(alloc, &program, date, &records)?;
+        told.listed_values = run_listed_values(alloc, &program, date, &records)?;
+    }
+    Ok(told)
+}
+
+/// What the object gives when it is damaged in each place.
+fn swept(alloc: Global, case: &Case<'_>, object: Vec<u8>) -> Result<Told, AllocError> {
+    let input = text_of(alloc, case.input.as_slice())?;
+    let given = Given {
+        date: case.date.as_bytes(),
+        input: &input,
     };
-    Ok(Told {
-        answer: Vec::from_slice(alloc, line(&answer).text.as_slice())?,
-        print,
-        disk,
-        steps,
-        object,
-    })
+    let line = sweep(alloc, &object, given)?;
+    Ok(said(line, object, alloc))
 }
 
 /// What the verifier says of the object.
@@ -122,6 +147,7 @@ fn told_of_object(alloc: Global, case: &Case<'_>, task: Task) -> Result<Told, Al
     let mut told = match task {
         Task::Verify => verified(alloc, object)?,
         Task::Run => run(alloc, case, object)?,
+        Task::Sweep => swept(alloc, case, object)?,
     };
     if let Spelling::Again = case.spelling {
         told.object = spelled_again(alloc, &told.object)?;
@@ -138,6 +164,7 @@ fn told_of_source(alloc: Global, case: &Case<'_>, task: Task) -> Result<Told, Al
     ) {
         (Err(fault), _) => answered(alloc, Answer::from(fault), Vec::new(alloc)),
         (Ok(object), Task::Verify) => verified(alloc, object),
+        (Ok(object), Task::Sweep) => swept(alloc, case, object),
         (Ok(object), Task::Run) if case.is_run => run(alloc, case, object),
         (Ok(object), Task::Run) => answered(alloc, Answer::Compiled, object),
     }
@@ -159,15 +186,13 @@ fn wanted_object(alloc: Global, case: &Case<'_>) -> Result<Option<Vec<u8>>, Allo
     }
 }
 
-/// What the case wants, with this line of `rpg2`.
+/// What the case wants, with this line.
 pub fn wanted_of(alloc: Global, case: &Case<'_>, answer: &str) -> Result<Wanted, AllocError> {
     Ok(Wanted {
-        answer: Vec::from_slice(alloc, answer.as_bytes())?,
-        print: text_of(alloc, case.print.as_slice())?,
-        disk: text_of(alloc, case.disk.as_slice())?,
-        steps: match case.steps {
-            None => None,
-            Some(steps) => Some(steps as u64),
+        outputs: Outputs {
+            answer: Vec::from_slice(alloc, answer.as_bytes())?,
+            print: text_of(alloc, case.print.as_slice())?,
+            disk: text_of(alloc, case.disk.as_slice())?,
         },
         object: wanted_object(alloc, case)?,
     })
