@@ -1,5 +1,6 @@
 -- An effect that was done, and what follows where it goes on.
 use Rattle.std.proofs.Common.{◌≡◌, ℕ, ap, subst, nat_cmp}
+use Rattle.std.specs.Prelude.{Result, Ok, Err, IfOk}
 use Rattle.rpg_effect.proofs.Putting.{halts_done, then_done}
 use Rattle.rpg_effect.specs.Effect.{Effect, then_go}
 use Rattle.rpg_effect.specs.Ends.{End, Halt, end_of}
@@ -16,3 +17,8 @@ module _ (first next : World nat_cmp → Effect nat_cmp) (w v : Held) (q o : Byt
   -- it halted
   pub halted : (k : ℕ) → r ≡ answers.Halt k → IsDone (λ x. then_go (first x) next) w q (Halt k) v o
   halted k halts = halts_done first next w v q o k (subst (λ (x : End). IsDone first w q x v o) (ap end_of halts) done)
+
+-- what follows from each value
+pub ok_each : {T E : Type 0} (r : Result T E) (P Q : T → Type 0) → ((t : T) → P t → Q t) → IfOk r P → IfOk r Q
+ok_each (Ok t) P Q f h = f t h
+ok_each (Err e) P Q f h = tt

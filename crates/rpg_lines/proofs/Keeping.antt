@@ -13,24 +13,22 @@ use Rattle.rpg_effect.specs.declared.form.FieldForm.{FieldForm}
 use Rattle.rpg_effect.specs.declared.form.Kind.{Kind}
 use Rattle.rpg_effect.specs.declared.form.Kind.TheVariants as kinds
 use Rattle.rpg_effect.specs.declared.line.Source.TheVariants as sources
-use Rattle.rpg_lines.proofs.Operands.{and_true, kinds_same, number_there, value_there}
-use Rattle.rpg_lines.specs.Good.{IsEntry}
-use Rattle.rpg_lines.specs.Ready.{HasFields, fields_of}
+use Rattle.rpg_lines.proofs.Operands.{and_true, kinds_same, value_there}
+use Rattle.rpg_lines.specs.Entries.{IsEntry}
+use Rattle.rpg_lines.specs.Ready.{AreFit, HasFields, fields_of}
 use Rattle.rpg_program.specs.Kept.{IsCharacter}
 use Rattle.rpg_store.proofs.Fitting.{fits-insert}
-use Rattle.rpg_store.specs.Fits.{Fits, HasForm}
-use Rattle.rpg_store.specs.Store.{Currents, IsNumber, Values}
-
--- the values that fit a program's fields
-abbrev pub AreFit : List FieldForm → Fields nat_cmp → Type 0
-AreFit forms fields = Fits forms fields.values fields.current
+use Rattle.rpg_store.specs.Fits.{HasForm}
+use Rattle.rpg_store.specs.Store.{Currents, Values}
 
 -- a value of the field's form may be stored in an entry
-fits_one : (forms : List FieldForm) (fields : Fields nat_cmp) (f e : ℕ) (v : Value) → AreFit forms fields → (i : IsEntry forms f e) → HasForm i.form.kind i.form.length (Some v) → ((text : List ℕ) → v ≡ Text text → All IsCharacter text) →
+fits_one : (forms : List FieldForm) (fields : Fields nat_cmp) (f e : ℕ) (v : Value) → AreFit forms fields → (i : IsEntry forms f e) →
+    HasForm i.form.kind i.form.length (Some v) → ((text : List ℕ) → v ≡ Text text → All IsCharacter text) →
     AreFit forms (with_value (f, e) v fields)
 fits_one forms fields f e v fits i has characters =
     fits-insert forms fields.values fields.current f e v fits
-    (λ d is. let same : i.form ≡ d = same_Some i.form d (sym i.there ∙ is) in subst (λ (x : FieldForm). HasForm x.kind x.length (Some v)) same has)
+    (λ d is. let same : i.form ≡ d = same_Some i.form d (sym i.there ∙ is) in
+    subst (λ (x : FieldForm). HasForm x.kind x.length (Some v)) same has)
     characters
 
 -- ---- PAGE
@@ -50,33 +48,32 @@ next_fits : (n : ℤ) → unsigned_abs n < 10000 → unsigned_abs (next_page n) 
 unfolding next_page
 next_fits n h = next_by n h (int_eq n (pos 9999)) refl
 
-page_kind : (form : Option FieldForm) → fits_source sources.Page form ≡ true → (kind_of form ≡ kinds.Number) × (length_of form ≡ 4)
+pub page_kind : (form : Option FieldForm) → fits_source sources.Page form ≡ true → (kind_of form ≡ kinds.Number) × (length_of form ≡ 4)
 page_kind form h =
     let a = and_true (is_index_form form) (length_of form == 4) h in
     (kinds_same _ kinds.Number (and_true _ _ a.0).0, eqb-true _ _ a.1)
-
--- PAGE is a number
-pub page_number : (forms : List FieldForm) (fields : Fields nat_cmp) (f e : ℕ) → AreFit forms fields → IsEntry forms f e → fits_source sources.Page (form_at forms f) ≡ true → IsNumber (value_in fields (f, e))
-page_number forms fields f e fits i h = number_there forms fields f e fits i (page_kind (form_at forms f) h).0
 
 in_form : (k : Kind) (len : ℕ) (v : Option Value) (n : ℤ) → k ≡ kinds.Number → HasForm k len v → v ≡ Some (Number n) → unsigned_abs n < 10 ^ len
 in_form kinds.Number len v n k h e = subst (λ (x : Option Value). HasForm kinds.Number len x) e h
 in_form kinds.Text len v n k h e = cc
 
 -- the number at an entry has the digits of its field
-pub number_fits : (forms : List FieldForm) (fields : Fields nat_cmp) (f e : ℕ) (n : ℤ) → AreFit forms fields → IsEntry forms f e → kind_of (form_at forms f) ≡ kinds.Number → value_in fields (f, e) ≡ Some (Number n) →
-    unsigned_abs n < 10 ^ length_of (form_at forms f)
+number_fits : (forms : List FieldForm) (fields : Fields nat_cmp) (f e : ℕ) (n : ℤ) → AreFit forms fields → IsEntry forms f e →
+    kind_of (form_at forms f) ≡ kinds.Number → value_in fields (f, e) ≡ Some (Number n) → unsigned_abs n < 10 ^ length_of (form_at forms f)
 number_fits forms fields f e n fits i k h =
-    subst (λ (o : Option FieldForm). unsigned_abs n < 10 ^ length_of o) (sym i.there) (in_form i.form.kind i.form.length _ n (ap kind_of (sym i.there) ∙ k) (value_there forms fields fits f e i) h)
+    let there = in_form i.form.kind i.form.length _ n (ap kind_of (sym i.there) ∙ k) (value_there forms fields fits f e i) h in
+    subst (λ (o : Option FieldForm). unsigned_abs n < 10 ^ length_of o) (sym i.there) there
 
-pub page_small : (forms : List FieldForm) (fields : Fields nat_cmp) (f e : ℕ) (n : ℤ) → AreFit forms fields → IsEntry forms f e → fits_source sources.Page (form_at forms f) ≡ true → value_in fields (f, e) ≡ Some (Number n) →
-    unsigned_abs n < 10000
+-- PAGE has four digits
+pub page_small : (forms : List FieldForm) (fields : Fields nat_cmp) (f e : ℕ) (n : ℤ) → AreFit forms fields → IsEntry forms f e →
+    fits_source sources.Page (form_at forms f) ≡ true → value_in fields (f, e) ≡ Some (Number n) → unsigned_abs n < 10000
 page_small forms fields f e n fits i h g =
     let p = page_kind (form_at forms f) h in
     subst (λ (l : ℕ). unsigned_abs n < 10 ^ l) p.1 (number_fits forms fields f e n fits i p.0 g)
 
--- the next page has four digits, as PAGE has
-pub page_room : (forms own : List FieldForm) (f : ℕ) (n m : ℤ) → own ≡ forms → fits_source sources.Page (form_at forms f) ≡ true → unsigned_abs n < 10000 → m ≡ next_page n → unsigned_abs m < 10 ^ length_of (form_at own f)
+-- so has the next page
+pub page_room : (forms own : List FieldForm) (f : ℕ) (n m : ℤ) → own ≡ forms →
+    fits_source sources.Page (form_at forms f) ≡ true → unsigned_abs n < 10000 → m ≡ next_page n → unsigned_abs m < 10 ^ length_of (form_at own f)
 page_room forms own f n m same h small is =
     let four : length_of (form_at own f) ≡ 4 = ap (λ fs. length_of (form_at fs f)) same ∙ (page_kind (form_at forms f) h).1 in
     let low : unsigned_abs m < 10000 = subst (λ (x : ℤ). unsigned_abs x < 10000) (sym is) (next_fits n small) in
@@ -86,7 +83,8 @@ has_number : (k : Kind) (len : ℕ) (m : ℤ) → k ≡ kinds.Number → unsigne
 has_number kinds.Number len m k h = h
 has_number kinds.Text len m k h = cc
 
-pub page_counted : (forms : List FieldForm) (fields : Fields nat_cmp) (f e : ℕ) (n m : ℤ) → AreFit forms fields → IsEntry forms f e → fits_source sources.Page (form_at forms f) ≡ true → unsigned_abs n < 10000 → m ≡ next_page n →
+pub page_counted : (forms : List FieldForm) (fields : Fields nat_cmp) (f e : ℕ) (n m : ℤ) → AreFit forms fields → IsEntry forms f e →
+    fits_source sources.Page (form_at forms f) ≡ true → unsigned_abs n < 10000 → m ≡ next_page n →
     AreFit forms (with_value (f, e) (Number m) fields)
 page_counted forms fields f e n m fits i h small k =
     let p = page_kind (form_at forms f) h in
@@ -116,34 +114,41 @@ text_blanked (Some (Text t)) text h = let same : replicate (length t) 32 ≡ tex
 
 pub fits-blanked : (forms : List FieldForm) (fields : Fields nat_cmp) (f e : ℕ) → AreFit forms fields → IsEntry forms f e → AreFit forms (blanked_at (f, e) fields)
 fits-blanked forms fields f e fits i =
-    fits_one forms fields f e (blanked (value_in fields (f, e))) fits i (blank_has i.form.kind i.form.length _ (value_there forms fields fits f e i)) (text_blanked (value_in fields (f, e)))
+    let v = value_in fields (f, e) in
+    fits_one forms fields f e (blanked v) fits i (blank_has i.form.kind i.form.length v (value_there forms fields fits f e i)) (text_blanked v)
 
 -- a number becomes zero
-pub blanked_number : (fields : Fields nat_cmp) (f e : ℕ) (n : ℤ) → value_in fields (f, e) ≡ Some (Number n) → with_value (f, e) (Number (pos 0)) fields ≡ blanked_at (f, e) fields
+pub blanked_number : (fields : Fields nat_cmp) (f e : ℕ) (n : ℤ) → value_in fields (f, e) ≡ Some (Number n) →
+    with_value (f, e) (Number (pos 0)) fields ≡ blanked_at (f, e) fields
 blanked_number fields f e n h = ap (λ (v : Option Value). with_value (f, e) (blanked v) fields) (sym h)
 
 -- a text becomes blanks
-pub blanked_text : (fields : Fields nat_cmp) (f e : ℕ) (t : List ℕ) → value_in fields (f, e) ≡ Some (Text t) → with_value (f, e) (Text (replicate (length t) 32)) fields ≡ blanked_at (f, e) fields
+pub blanked_text : (fields : Fields nat_cmp) (f e : ℕ) (t : List ℕ) → value_in fields (f, e) ≡ Some (Text t) →
+    with_value (f, e) (Text (replicate (length t) 32)) fields ≡ blanked_at (f, e) fields
 blanked_text fields f e t h = ap (λ (v : Option Value). with_value (f, e) (blanked v) fields) (sym h)
 
 -- ---- stores
 
 -- values and current entries that are known
-pub fields_are : {S : Type 0} (contents : S → Values) (currents : S → Currents) (t : S) (fields : Fields nat_cmp) → contents t ≡ fields.values → currents t ≡ fields.current → fields_of contents currents t ≡ fields
+pub fields_are : {S : Type 0} (contents : S → Values) (currents : S → Currents) (t : S) (fields : Fields nat_cmp) →
+    contents t ≡ fields.values → currents t ≡ fields.current → fields_of contents currents t ≡ fields
 fields_are contents currents t fields h k = rw (h, k) refl
 
-module _ {S : Type 0} (store_forms : S → List FieldForm) (contents : S → Values) (currents : S → Currents) (forms : List FieldForm) (s t : S) (has : HasFields store_forms contents currents forms s) (own : store_forms t ≡ store_forms s) where
+module _ {S : Type 0} (store_forms : S → List FieldForm) (contents : S → Values) (currents : S → Currents) (forms : List FieldForm) (s t : S)
+    (has : HasFields store_forms contents currents forms s) (own : store_forms t ≡ store_forms s) where
   -- a store with other values
   kept : (fields : Fields nat_cmp) → fields_of contents currents t ≡ fields → AreFit forms fields → HasFields store_forms contents currents forms t
   kept fields is fits = record { rows = has.rows; own = own ∙ has.own; fits = subst (λ (x : Fields nat_cmp). AreFit forms x) (sym is) fits }
 
   -- PAGE was counted
-  pub kept-counted : (f e : ℕ) (n m : ℤ) → IsEntry forms f e → fits_source sources.Page (form_at forms f) ≡ true → value_in (fields_of contents currents s) (f, e) ≡ Some (Number n) → m ≡ next_page n →
+  pub kept-counted : (f e : ℕ) (n m : ℤ) → IsEntry forms f e → fits_source sources.Page (form_at forms f) ≡ true →
+      value_in (fields_of contents currents s) (f, e) ≡ Some (Number n) → m ≡ next_page n →
       fields_of contents currents t ≡ with_value (f, e) (Number m) (fields_of contents currents s) → HasFields store_forms contents currents forms t
   kept-counted f e n m i h read k is =
       let fields = fields_of contents currents s in
       kept _ is (page_counted forms fields f e n m has.fits i h (page_small forms fields f e n has.fits i h read) k)
 
   -- an entry was blanked
-  pub kept-blanked : (f e : ℕ) → IsEntry forms f e → fields_of contents currents t ≡ blanked_at (f, e) (fields_of contents currents s) → HasFields store_forms contents currents forms t
+  pub kept-blanked : (f e : ℕ) → IsEntry forms f e → fields_of contents currents t ≡ blanked_at (f, e) (fields_of contents currents s) →
+      HasFields store_forms contents currents forms t
   kept-blanked f e i is = kept _ is (fits-blanked forms (fields_of contents currents s) f e has.fits i)

@@ -13,10 +13,11 @@ use Rattle.rpg_effect.specs.declared.operation.Index.{Index}
 use Rattle.rpg_effect.specs.declared.operation.Index.TheVariants as indexed
 use Rattle.rpg_effect.specs.declared.operation.Operand.{Operand}
 use Rattle.rpg_effect.specs.declared.row.Shape.TheVariants as shapes
-use Rattle.rpg_lines.specs.Good.{IsEntry}
+use Rattle.rpg_lines.specs.Entries.{IsEntry}
+use Rattle.rpg_lines.specs.Ready.{AreFit}
 use Rattle.rpg_program.specs.Kept.{IsFieldRow}
-use Rattle.rpg_store.specs.Fits.{Fits, HasForm}
-use Rattle.rpg_store.specs.Store.{IsNumber, IsText}
+use Rattle.rpg_store.specs.Fits.{HasForm}
+use Rattle.rpg_store.specs.Store.{IsNumber}
 
 pub and_true : (a b : Bool) → (a && b) ≡ true → (a ≡ true) × (b ≡ true)
 and_true true b h = (refl, h)
@@ -50,8 +51,9 @@ range_some entries (pos n) e h =
     let is : n ≡ e = found.1 in (omega arith, omega arith)
 range_some entries (negsuc n) e h = cc
 
-module _ (forms : List FieldForm) (fields : Fields nat_cmp) (rows : All IsFieldRow forms) (fits : Fits forms fields.values fields.current) where
-  blank_in : (b : Bool) (field : ℕ) (d : FieldForm) (e : ℕ) → form_at forms field ≡ Some d → is_table_form (form_at forms field) ≡ b → Some (cond b (current_in fields field) 1) ≡ Some e → (1 ≤ e) × (e ≤ d.entries)
+module _ (forms : List FieldForm) (fields : Fields nat_cmp) (rows : All IsFieldRow forms) (fits : AreFit forms fields) where
+  blank_in : (b : Bool) (field : ℕ) (d : FieldForm) (e : ℕ) → form_at forms field ≡ Some d → is_table_form (form_at forms field) ≡ b →
+      Some (cond b (current_in fields field) 1) ≡ Some e → (1 ≤ e) × (e ≤ d.entries)
   blank_in true field d e is t h =
       let at : current_in fields field ≡ e = same_Some _ e h in
       let high : current_in fields field ≤ d.entries = subst (λ (o : Option FieldForm). current_in fields field ≤ entries_of o) is (fits.high field t) in
@@ -61,7 +63,8 @@ module _ (forms : List FieldForm) (fields : Fields nat_cmp) (rows : All IsFieldR
       let few = (row_at forms field d rows is).fewest in
       (omega arith, omega (arith, few))
 
-  entry_in : (field : ℕ) (index : Index ℕ) (d : FieldForm) (e : ℕ) → form_at forms field ≡ Some d → has_index (form_at forms) d index ≡ true → is_one (form_at forms) d index ≡ true →
+  entry_in : (field : ℕ) (index : Index ℕ) (d : FieldForm) (e : ℕ) → form_at forms field ≡ Some d →
+      has_index (form_at forms) d index ≡ true → is_one (form_at forms) d index ≡ true →
       position_by (form_at forms) fields field index ≡ Some e → (1 ≤ e) × (e ≤ d.entries)
   entry_in field indexed.Blank d e is s k h = blank_in (is_table_form (form_at forms field)) field d e is refl h
   entry_in field (indexed.Literal n) d e is s k h =
@@ -74,7 +77,8 @@ module _ (forms : List FieldForm) (fields : Fields nat_cmp) (rows : All IsFieldR
       let n : entries_of (form_at forms field) ≡ d.entries = ap entries_of is in
       (r.0, omega (arith, r.1, n))
 
-  there_at : (o : Operand ℕ) (form : Option FieldForm) (e : ℕ) → form_at forms o.field ≡ form → has_operand (form_at forms) form o.index ≡ true → is_shaped (form_at forms) form shapes.One o.index ≡ true →
+  there_at : (o : Operand ℕ) (form : Option FieldForm) (e : ℕ) → form_at forms o.field ≡ form →
+      has_operand (form_at forms) form o.index ≡ true → is_shaped (form_at forms) form shapes.One o.index ≡ true →
       position_of (form_at forms) fields o ≡ Some e → IsEntry forms o.field e
   unfolding position_of
   there_at o None e is s k h = cc
@@ -82,17 +86,20 @@ module _ (forms : List FieldForm) (fields : Fields nat_cmp) (rows : All IsFieldR
       let r = entry_in o.field o.index d e is s k h in
       record { form = d; there = is; low = r.0; high = r.1 }
 
-  some_there : (o : Operand ℕ) (e : Option ℕ) → has_entry (form_at forms) o ≡ true → is_one_entry (form_at forms) o ≡ true → position_of (form_at forms) fields o ≡ e → IfSome e (λ n. IsEntry forms o.field n)
+  some_there : (o : Operand ℕ) (e : Option ℕ) → has_entry (form_at forms) o ≡ true → is_one_entry (form_at forms) o ≡ true →
+      position_of (form_at forms) fields o ≡ e → IfSome e (λ n. IsEntry forms o.field n)
   some_there o None s k h = tt
   some_there o (Some n) s k h = there_at o (form_at forms o.field) n refl s k h
 
 -- what stands at an entry
-pub value_there : (forms : List FieldForm) (fields : Fields nat_cmp) → Fits forms fields.values fields.current → (field e : ℕ) → (i : IsEntry forms field e) → HasForm i.form.kind i.form.length (value_in fields (field, e))
+pub value_there : (forms : List FieldForm) (fields : Fields nat_cmp) → AreFit forms fields → (field e : ℕ) → (i : IsEntry forms field e) →
+    HasForm i.form.kind i.form.length (value_in fields (field, e))
 value_there forms fields fits field e i = fits.each field i.form i.there e i.low i.high
 
 -- an operand with nothing wrong names an entry, where its index is in range
 pub entry_there : (forms : List FieldForm) (fields : Fields nat_cmp) (o : Operand ℕ) (e : Option ℕ) → e ≡ position_of (form_at forms) fields o →
-    All IsFieldRow forms → Fits forms fields.values fields.current → has_entry (form_at forms) o ≡ true → is_one_entry (form_at forms) o ≡ true → IfSome e (λ n. IsEntry forms o.field n)
+    All IsFieldRow forms → AreFit forms fields → has_entry (form_at forms) o ≡ true → is_one_entry (form_at forms) o ≡ true →
+    IfSome e (λ n. IsEntry forms o.field n)
 entry_there forms fields o e h rows fits s k = some_there forms fields rows fits o e s k (sym h)
 
 pub ruleset entries = (entry_there)
@@ -103,33 +110,30 @@ is_number kinds.Number n (Some (Text t)) e h = absurd h
 is_number kinds.Number n None e h = absurd h
 is_number kinds.Text n v e h = cc
 
-is_text : (k : Kind) (n : ℕ) (v : Option Value) → k ≡ kinds.Text → HasForm k n v → IsText v
-is_text kinds.Text n (Some (Text t)) e h = tt
-is_text kinds.Text n (Some (Number m)) e h = absurd h
-is_text kinds.Text n None e h = absurd h
-is_text kinds.Number n v e h = cc
-
-pub kind_is : (forms : List FieldForm) (field e : ℕ) (k : Kind) → (i : IsEntry forms field e) → kind_of (form_at forms field) ≡ k → i.form.kind ≡ k
+kind_is : (forms : List FieldForm) (field e : ℕ) (k : Kind) → (i : IsEntry forms field e) → kind_of (form_at forms field) ≡ k → i.form.kind ≡ k
 kind_is forms field e k i h = ap kind_of (sym i.there) ∙ h
 
-pub number_there : (forms : List FieldForm) (fields : Fields nat_cmp) (field e : ℕ) → Fits forms fields.values fields.current → IsEntry forms field e → kind_of (form_at forms field) ≡ kinds.Number → IsNumber (value_in fields (field, e))
-number_there forms fields field e fits i k = is_number i.form.kind i.form.length _ (kind_is forms field e kinds.Number i k) (value_there forms fields fits field e i)
+number_there : (forms : List FieldForm) (fields : Fields nat_cmp) (field e : ℕ) → AreFit forms fields → IsEntry forms field e →
+    kind_of (form_at forms field) ≡ kinds.Number → IsNumber (value_in fields (field, e))
+number_there forms fields field e fits i k =
+    is_number i.form.kind i.form.length _ (kind_is forms field e kinds.Number i k) (value_there forms fields fits field e i)
 
-pub text_there : (forms : List FieldForm) (fields : Fields nat_cmp) (field e : ℕ) → Fits forms fields.values fields.current → IsEntry forms field e → kind_of (form_at forms field) ≡ kinds.Text → IsText (value_in fields (field, e))
-text_there forms fields field e fits i k = is_text i.form.kind i.form.length _ (kind_is forms field e kinds.Text i k) (value_there forms fields fits field e i)
-
-plain_entry : (forms : List FieldForm) (k : ℕ) (form : Option FieldForm) → All IsFieldRow forms → form_at forms k ≡ form → is_index_form form ≡ true → IsEntry forms k 1
+plain_entry : (forms : List FieldForm) (k : ℕ) (form : Option FieldForm) → All IsFieldRow forms → form_at forms k ≡ form →
+    is_index_form form ≡ true → IsEntry forms k 1
 plain_entry forms k None rows is h = cc
 plain_entry forms k (Some d) rows is h = record { form = d; there = is; low = omega arith; high = (row_at forms k d rows is).fewest }
 
-index_there : (forms : List FieldForm) (fields : Fields nat_cmp) (form : Option FieldForm) (index : Index ℕ) (k : ℕ) → All IsFieldRow forms → Fits forms fields.values fields.current → is_shaped (form_at forms) form shapes.One index ≡ true → index ≡ indexed.Field k → IsNumber (value_in fields (k, 1))
+index_there : (forms : List FieldForm) (fields : Fields nat_cmp) (form : Option FieldForm) (index : Index ℕ) (k : ℕ) →
+    All IsFieldRow forms → AreFit forms fields → is_shaped (form_at forms) form shapes.One index ≡ true →
+    index ≡ indexed.Field k → IsNumber (value_in fields (k, 1))
 index_there forms fields None index k rows fits h is = cc
 index_there forms fields (Some d) index k rows fits h is =
     let plain = (and_true _ (is_index_form (form_at forms k)) (ap (is_one (form_at forms) d) (sym is) ∙ h)).1 in
     number_there forms fields k 1 fits (plain_entry forms k (form_at forms k) rows refl plain) (kinds_same _ kinds.Number (and_true _ _ plain).0)
 
 -- an index field has a number
-pub index_number : (forms : List FieldForm) (fields : Fields nat_cmp) (o : Operand ℕ) (k : ℕ) → All IsFieldRow forms → Fits forms fields.values fields.current → is_one_entry (form_at forms) o ≡ true →
+pub index_number : (forms : List FieldForm) (fields : Fields nat_cmp) (o : Operand ℕ) (k : ℕ) → All IsFieldRow forms →
+    AreFit forms fields → is_one_entry (form_at forms) o ≡ true →
     o.index ≡ indexed.Field k → IsNumber (value_in fields (k, 1))
 index_number forms fields o k rows fits h is = index_there forms fields (form_at forms o.field) o.index k rows fits h is
 

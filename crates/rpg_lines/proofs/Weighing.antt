@@ -1,5 +1,5 @@
 -- Weights of lines of which some are left, and how much lines weigh at most.
-use Rattle.std.proofs.Common.{◌≡◌, ℕ, suc, ◌+◌, ◌*◌, ◌<◌, ◌≤◌, All, Bool, true, false, cond, List, [], ◌∷◌, map, drop, length, get_or, sym, ap, ◌∙◌, add-one, drop-cons, arith}
+use Rattle.std.proofs.Common.{◌≡◌, ℕ, suc, ◌+◌, ◌*◌, ◌<◌, ◌≤◌, All, Bool, true, false, cond, List, [], ◌∷◌, map, drop, length, get_or, ap, arith}
 use Rattle.rpg_effect.specs.Weights.{lines_weight}
 use Rattle.rpg_effect.specs.declared.line.Time.{Time}
 use Rattle.rpg_lines.proofs.Left.{from_named}
@@ -19,7 +19,8 @@ lines_few : (p : Object) (meant : Time → Bool) (ls : List LineRow) → All IsL
 lines_few p meant [] h = omega arith
 lines_few p meant (l ∷ ls) h = by_time (meant l.time) (lines_few p meant ls (λ k d low. h (suc k) d (omega (arith, low)))) (h 0 l (omega arith)).few_fields
   where
-    by_time : (b : Bool) → lines_weight meant (map (line_of p) ls) ≤ 201 * length ls → length l.fields ≤ 200 → cond b (1 + length l.fields) 0 + lines_weight meant (map (line_of p) ls) ≤ 201 * length (l ∷ ls)
+    by_time : (b : Bool) → lines_weight meant (map (line_of p) ls) ≤ 201 * length ls → length l.fields ≤ 200 →
+        cond b (1 + length l.fields) 0 + lines_weight meant (map (line_of p) ls) ≤ 201 * length (l ∷ ls)
     by_time true r w = omega (arith, r, w)
     by_time false r w = omega (arith, r)
 

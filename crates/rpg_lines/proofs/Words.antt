@@ -29,16 +29,23 @@ missing_at xs k t = slice_get_past xs k (ltb-false k (length xs) (sym t))
 abbrev seen_values : List (Vec entry.Value) → List (List Value)
 seen_values all = map (λ vs. map held vs.items) all
 
-seen_at : (all : List (Vec entry.Value)) (k : ℕ) (o : Option (Vec entry.Value)) → slice_get all k ≡ o → slice_get (seen_values all) k ≡ option_map (λ vs. map held vs.items) o
+seen_at : (all : List (Vec entry.Value)) (k : ℕ) (o : Option (Vec entry.Value)) → slice_get all k ≡ o →
+    slice_get (seen_values all) k ≡ option_map (λ vs. map held vs.items) o
 seen_at all k o e = slice_get-map (λ (vs : Vec entry.Value). map held vs.items) all k ∙ ap (option_map (λ (vs : Vec entry.Value). map held vs.items)) e
 
+word_at_place : (p : Object) (all : List (Vec entry.Value)) → p.values ≡ seen_values all → (n k : ℕ) → n ≡ suc k →
+    is_text_constant (form_at p.fields n) ≡ true → word_at p n ≡ characters_of (first_of (slice_get (seen_values all) k))
+word_at_place p all same n k e h =
+    word_is p n h ∙ ap (λ m. characters_of (first_of (values_at p.values m))) e ∙ ap (λ vs. characters_of (first_of (slice_get vs k))) same
+
 -- the characters of the first of its values
-pub word_found : (p : Object) (all : List (Vec entry.Value)) → p.values ≡ seen_values all → (n k : ℕ) (v : Vec entry.Value) → n ≡ suc k → is_text_constant (form_at p.fields n) ≡ true → slice_get all k ≡ Some v →
-    characters_of (slice_get (map held v.items) 0) ≡ word_at p n
+pub word_found : (p : Object) (all : List (Vec entry.Value)) → p.values ≡ seen_values all → (n k : ℕ) (v : Vec entry.Value) → n ≡ suc k →
+    is_text_constant (form_at p.fields n) ≡ true → slice_get all k ≡ Some v → characters_of (slice_get (map held v.items) 0) ≡ word_at p n
 word_found p all same n k v e h at =
-    sym (word_is p n h ∙ ap (λ m. characters_of (first_of (values_at p.values m))) e ∙ ap (λ vs. characters_of (first_of (slice_get vs k))) same ∙ ap (λ o. characters_of (first_of o)) (seen_at all k (Some v) at))
+    sym (word_at_place p all same n k e h ∙ ap (λ o. characters_of (first_of o)) (seen_at all k (Some v) at))
 
 -- none, where it has no values
-pub word_missing : (p : Object) (all : List (Vec entry.Value)) → p.values ≡ seen_values all → (n k : ℕ) → n ≡ suc k → is_text_constant (form_at p.fields n) ≡ true → slice_get all k ≡ None → [] ≡ word_at p n
+pub word_missing : (p : Object) (all : List (Vec entry.Value)) → p.values ≡ seen_values all → (n k : ℕ) → n ≡ suc k →
+    is_text_constant (form_at p.fields n) ≡ true → slice_get all k ≡ None → [] ≡ word_at p n
 word_missing p all same n k e h at =
-    sym (word_is p n h ∙ ap (λ m. characters_of (first_of (values_at p.values m))) e ∙ ap (λ vs. characters_of (first_of (slice_get vs k))) same ∙ ap (λ o. characters_of (first_of o)) (seen_at all k None at))
+    sym (word_at_place p all same n k e h ∙ ap (λ o. characters_of (first_of o)) (seen_at all k None at))

@@ -1,4 +1,4 @@
-pub mod Good
+pub mod Entries
 pub mod Ready
 pub mod Right
 pub mod Drafts

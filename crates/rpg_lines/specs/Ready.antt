@@ -18,12 +18,16 @@ IsNear here = here.page ≤ 2
 abbrev pub fields_of : {S : Type 0} → (S → Values) → (S → Currents) → S → Fields nat_cmp
 fields_of contents currents s = record { values = contents s; current = currents s }
 
+-- values and current entries that these fields may have
+abbrev pub AreFit : List FieldForm → Fields nat_cmp → Type 0
+AreFit forms fields = Fits forms fields.values fields.current
+
 module _ {S : Type 0} (store_forms : S → List FieldForm) (contents : S → Values) (currents : S → Currents) where
   -- the store has the fields of a program, as its rows have them, each with values of its form
   pub record HasFields (forms : List FieldForm) (s : S) : Type 0 where
     pub rows : All IsFieldRow forms
     pub own : store_forms s ≡ forms
-    pub fits : Fits forms (contents s) (currents s)
+    pub fits : AreFit forms (fields_of contents currents s)
 
   -- the store has the fields of the program, and the form is where lines leave it
   pub record IsReady (forms : List FieldForm) (m : Memory S) : Type 0 where

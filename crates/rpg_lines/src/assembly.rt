@@ -6,7 +6,7 @@ ghost use Rattle.rpg_effect.specs.Forms.{form_at};
 ghost use Rattle.rpg_effect.specs.LineFaults as faults;
 ghost use Rattle.rpg_effect.specs.Lines as lines;
 ghost use Rattle.rpg_lines.specs.Drafts.{draft_of};
-ghost use Rattle.rpg_lines.specs.Good.{AreEntries, IsEntry};
+ghost use Rattle.rpg_lines.specs.Entries.{AreEntries, IsEntry};
 ghost use Rattle.rpg_lines.specs.Ready.{HasFields, fields_of};
 ghost use Rattle.rpg_program.specs.Constants.{word_at};
 ghost use Rattle.rpg_program.specs.Object.{seen};
@@ -25,7 +25,7 @@ use rpg_store::store::Store;
 const BAD_INDEX: u8 = 2;
 
 /// The most fields of a line.
-pub const MOST_FIELDS: usize = 200;
+const MOST_FIELDS: usize = 200;
 
 /// The entries, by field and position, that are to be blanked once the line is put out.
 pub type Entries = ArrayVec<(u16, u16), MOST_FIELDS>;
@@ -42,7 +42,6 @@ fn remember(rows: &Rows, to_blank: &mut Entries, is_blanked: bool, entry: (u16, 
 {
     if is_blanked {
         to_blank.push(entry);
-        return;
     }
 }
 

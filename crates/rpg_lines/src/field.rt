@@ -6,7 +6,7 @@ ghost use Rattle.rpg_effect.specs.Forms as forms;
 ghost use Rattle.rpg_effect.specs.LineFaults as faults;
 ghost use Rattle.rpg_effect.specs.Lines as lines;
 ghost use Rattle.rpg_effect.specs.World.{value_in};
-ghost use Rattle.rpg_lines.specs.Good.{AreEntries, IsEntry, IsNumeric};
+ghost use Rattle.rpg_lines.specs.Entries.{AreEntries, IsEntry, IsNumeric};
 ghost use Rattle.rpg_lines.specs.Ready.{HasFields, fields_of};
 ghost use Rattle.rpg_lines.specs.Right.{IsRight};
 ghost use Rattle.rpg_program.specs.Constants as constants;

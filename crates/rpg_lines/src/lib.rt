@@ -11,6 +11,6 @@ mod printer;
 mod reading;
 pub mod weights;
 
-pub use assembly::{Entries, MOST_FIELDS};
+pub use assembly::Entries;
 pub use bytes::Output;
 pub use outputs::{put_details, put_exceptions, put_overflow, put_totals};

@@ -139,8 +139,7 @@ pub fn put_overflow<S: Store + Drop>(
         End::GoesOn => {}
         End::Halt(number) => return Ok(End::Halt(number)),
     }
-    let end = put_overflow_details(rows, memory, output, text, to_blank)?;
-    Ok(end)
+    put_overflow_details(rows, memory, output, text, to_blank)
 }
 
 /// Exception output: E lines, at an EXCPT.

@@ -5,7 +5,7 @@ ghost use Rattle.rpg_effect.specs.Forms as forms;
 ghost use Rattle.rpg_effect.specs.Rows as rules;
 ghost use Rattle.rpg_effect.specs.Values.{characters_of, held};
 ghost use Rattle.rpg_effect.specs.declared.operation.Index.TheVariants as indexes;
-ghost use Rattle.rpg_lines.specs.Good.{IsEntry};
+ghost use Rattle.rpg_lines.specs.Entries.{IsEntry};
 ghost use Rattle.rpg_lines.specs.Ready.{HasFields, fields_of};
 ghost use Rattle.rpg_program.specs.Constants as constants;
 ghost use Rattle.rpg_program.specs.Object.{seen};

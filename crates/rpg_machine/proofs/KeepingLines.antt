@@ -1,5 +1,5 @@
 -- Lines of a right program are never wrong, and values keep fitting their fields.
-use Rattle.std.proofs.Common.{◌≡◌, ℕ, suc, Bool, true, false, cond, eqb, List, [], ◌∷◌, map, Option, None, Some, IfSome, refl, sym, ◌∙◌, subst, arith}
+use Rattle.std.proofs.Common.{◌≡◌, ℕ, suc, Bool, true, false, cond, eqb, List, [], ◌∷◌, map, Option, None, Some, IfSome, refl, sym, ap, ◌∙◌, subst, arith}
 use Rattle.std.specs.FinSet as set
 use Rattle.std.specs.Ordering.{nat_cmp}
 use Rattle.std.specs.Prelude.{All}
@@ -7,13 +7,15 @@ use Rattle.rpg_edit.specs.Paper.{Position, skipped, spaced, turns_overflow_on}
 use Rattle.rpg_effect.specs.Effect.{Effect, Leaves, go_on, unless_wrong}
 use Rattle.rpg_effect.specs.Ends.{End, Fault, GoesOn, Halt, Wrong}
 use Rattle.rpg_effect.specs.Entries.{position_of}
-use Rattle.rpg_effect.specs.Forms.{form_at}
+use Rattle.rpg_effect.specs.Forms.{form_at, kind_of}
 use Rattle.rpg_effect.specs.LineFaults.{AreRight, field_fault, fits_source}
 use Rattle.rpg_effect.specs.Lines.{Draft, Drafted, after_movement, after_skip, after_space, assembled, blank_line, blanked_all, blanked_at, counted, drafted, exception_output, go_on_with, is_asked, laid, line_out, lines_out, one_out, put_on, put_out, remembered, spaced_before, unless_faulty, where_asked, with_field}
 use Rattle.rpg_effect.specs.Showing.{turned_on}
 use Rattle.rpg_effect.specs.Values.{Number, Text, Value, number_of}
 use Rattle.rpg_effect.specs.World.{Fields, World, three_hold, value_in}
 use Rattle.rpg_effect.specs.declared.form.FieldForm.{FieldForm}
+use Rattle.rpg_effect.specs.declared.form.Kind.{Kind}
+use Rattle.rpg_effect.specs.declared.form.Kind.TheVariants as kinds
 use Rattle.rpg_effect.specs.declared.line.File.{File}
 use Rattle.rpg_effect.specs.declared.line.File.TheVariants.{Printer, Disk}
 use Rattle.rpg_effect.specs.declared.line.LineField.{LineField}
@@ -24,15 +26,15 @@ use Rattle.rpg_effect.specs.declared.line.Source.TheVariants as sources
 use Rattle.rpg_effect.specs.declared.line.Spacing.{Spacing}
 use Rattle.rpg_lines.proofs.Entering.{one_more}
 use Rattle.rpg_lines.proofs.Fields.{right}
-use Rattle.rpg_lines.proofs.Keeping.{fits-blanked, page_counted, page_number, page_small}
+use Rattle.rpg_lines.proofs.Keeping.{fits-blanked, page_counted, page_kind, page_small}
 use Rattle.rpg_lines.proofs.Operands.{entry_there}
-use Rattle.rpg_lines.specs.Good.{AreEntries, IsEntry}
+use Rattle.rpg_lines.specs.Entries.{AreEntries, IsEntry}
 use Rattle.rpg_lines.specs.Right.{AreRightLines, IsRightLine}
 use Rattle.rpg_machine.specs.Laws.{FitsIn, GoesRight, IsNoFault}
 use Rattle.rpg_program.specs.Constants.{word_at}
 use Rattle.rpg_program.specs.Kept.{IsFieldRow}
 use Rattle.rpg_program.specs.Object.{LineRow, Object, file_length, line_of, lines_of}
-use Rattle.rpg_store.specs.Fits.{Fits}
+use Rattle.rpg_store.specs.Fits.{Fits, HasForm}
 use Rattle.rpg_store.specs.Store.{IsNumber}
 
 abbrev AreFit : List FieldForm → Fields nat_cmp → Type 0
@@ -84,10 +86,20 @@ module _ (p : Object) (rows : All IsFieldRow p.fields) where
   number_is (Some (Number n)) h = refl
   number_is (Some (Text t)) h = absurd h
 
+  in_form : (k : Kind) (len : ℕ) (v : Option Value) → k ≡ kinds.Number → HasForm k len v → IsNumber v
+  in_form kinds.Number len (Some (Number n)) k h = tt
+  in_form kinds.Number len (Some (Text t)) k h = absurd h
+  in_form kinds.Number len None k h = absurd h
+  in_form kinds.Text len v k h = cc
+
+  page_there : (f e : ℕ) (fields : Fields nat_cmp) → AreFit p.fields fields → IsEntry p.fields f e → fits_source sources.Page (form_at p.fields f) ≡ true → IsNumber (value_in fields (f, e))
+  page_there f e fields fits i h =
+      in_form i.form.kind i.form.length (value_in fields (f, e)) (ap kind_of (sym i.there) ∙ (page_kind (form_at p.fields f) h).0) (fits.each f i.form i.there e i.low i.high)
+
   counted_fits : (source : Source) (f e : ℕ) (fields : Fields nat_cmp) → AreFit p.fields fields → IsEntry p.fields f e → fits_source source (form_at p.fields f) ≡ true → AreFit p.fields (counted source (f, e) fields)
   counted_fits sources.Value f e fields fits i h = fits
   counted_fits sources.Page f e fields fits i h =
-      let is = number_is (value_in fields (f, e)) (page_number p.fields fields f e fits i h) in
+      let is = number_is (value_in fields (f, e)) (page_there f e fields fits i h) in
       page_counted p.fields fields f e (number_of (value_in fields (f, e))) _ fits i h (page_small p.fields fields f e (number_of (value_in fields (f, e))) fits i h is) refl
 
   remembered_right : (b : Bool) (f e : ℕ) (es : List (ℕ × ℕ)) → AreEntries p.fields es → IsEntry p.fields f e → AreEntries p.fields (remembered b (f, e) es)

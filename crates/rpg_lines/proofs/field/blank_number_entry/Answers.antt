@@ -12,6 +12,7 @@ returns-clause-fields g c =
     let old = fields_of contents currents c.args.store.now in
     let f = c.args.entry.0 in
     let e = c.args.entry.1 in
-    let is = fields_are contents currents c.set_number.new.self (with_value (f, e) (Number (pos 0)) old) c.set_number.ensures.contents c.set_number.ensures.currents in
-    kept-blanked g.S.Store.forms contents currents c.args.rows.now.fields.items c.args.store.now c.set_number.new.self c.requires.fields c.set_number.ensures.forms f e c.requires.entry
+    let new = c.set_number.new.self in
+    let is = fields_are contents currents new (with_value (f, e) (Number (pos 0)) old) c.set_number.ensures.contents c.set_number.ensures.currents in
+    kept-blanked g.S.Store.forms contents currents c.args.rows.now.fields.items c.args.store.now new c.requires.fields c.set_number.ensures.forms f e c.requires.entry
     (is ∙ blanked_number old f e c.number-old.result c.number-old.ensures)

@@ -31,6 +31,7 @@ returns-in-Page-clause-fields g c =
     let read : to_z w64 (of_z w64 c.number-n.result) ≡ c.number-n.result = search rules in
     let m = to_z w64 (of_z w64 c.next_page.result) in
     let wrote : m ≡ c.next_page.result = search rules in
-    kept-counted g.S.Store.forms contents currents forms c.args.store.now c.set_number.new.self c.requires.fields c.set_number.ensures.forms f c.args.entry c.number-n.result m c.requires.entry page
+    let new = c.set_number.new.self in
+    kept-counted g.S.Store.forms contents currents forms c.args.store.now new c.requires.fields c.set_number.ensures.forms f c.args.entry c.number-n.result m c.requires.entry page
     c.number-n.ensures (wrote ∙ c.next_page.ensures ∙ ap next_page read)
-    (fields_are contents currents c.set_number.new.self (with_value (f, c.args.entry) (Number m) old) c.set_number.ensures.contents c.set_number.ensures.currents)
+    (fields_are contents currents new (with_value (f, c.args.entry) (Number m) old) c.set_number.ensures.contents c.set_number.ensures.currents)

@@ -23,7 +23,8 @@ returns-in-Halt-clause-done g c =
     let d = draft_of (fields c.assemble.new.store) c.assemble.new.text c.assemble.new.to_blank.items in
     let long = c.blank_text.auto.text ∙ c.requires.len in
     let blank = c.blank_text.ensures ∙ ap (λ (n : ℕ). replicate n 32) c.requires.len in
-    let a = assembled_from (form_at p.fields) (word_at p) c.args.memory.now.on (fields c.args.memory.now.store) c.assemble.result (Halt c.in-Halt.number) d _ l.len c.deref.result.now l.fields _ _
+    let a = assembled_from (form_at p.fields) (word_at p) c.args.memory.now.on (fields c.args.memory.now.store) c.assemble.result
+    (Halt c.in-Halt.number) d _ l.len c.deref.result.now l.fields _ _
     (ap end_of c.in-Halt.is) long c.deref.ensures.value blank c.clear.ensures c.assemble.ensures.drafted in
     line_halted (form_at p.fields) (word_at p) p.overflow l (held c.args.memory.now) (bytes_of c.args.output.now) c.in-Halt.number d _ c.requires.right.fault a refl
 
@@ -36,7 +37,8 @@ returns-clause-done g c =
     let d = draft_of (fields c.assemble.new.store) c.assemble.new.text c.assemble.new.to_blank.items in
     let long = c.blank_text.auto.text ∙ c.requires.len in
     let blank = c.blank_text.ensures ∙ ap (λ (n : ℕ). replicate n 32) c.requires.len in
-    let a = assembled_from (form_at p.fields) (word_at p) c.args.memory.now.on (fields c.args.memory.now.store) c.assemble.result GoesOn d _ l.len c.deref.result.now l.fields _ _
+    let a = assembled_from (form_at p.fields) (word_at p) c.args.memory.now.on (fields c.args.memory.now.store) c.assemble.result
+    GoesOn d _ l.len c.deref.result.now l.fields _ _
     (ap end_of c.in-GoesOn.is) long c.deref.ensures.value blank c.clear.ensures c.assemble.ensures.drafted in
     let v = held c.put_on.new.memory in
     let blanked = c.blank_all.ensures.blanked ∙ ap (λ (es : List (ℕ × ℕ)). blanked_all es (fields c.put_on.new.memory.store)) c.deref-2.ensures.0 in

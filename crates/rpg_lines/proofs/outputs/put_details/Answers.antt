@@ -15,16 +15,20 @@ pub returns-clause-done : goal.returns-clause-done
 returns-clause-done g c =
     let p = seen c.args.rows.now in
     let held = held_of g.S.Store.contents g.S.Store.currents in
+    let w = held c.args.memory.now in
     let v = held c.put_lines.new.memory in
+    let q = bytes_of c.args.output.now in
     let o = bytes_of c.put_lines.new.output in
     let u = held c.settle.new.memory in
-    went_on (passage_effect p passes.Detail) (λ x. Leaves (settled p.overflow x)) (held c.args.memory.now) v (bytes_of c.args.output.now) o _ c.in_ok-put_lines.ensures.done u o GoesOn c.in-GoesOn.is
+    went_on (passage_effect p passes.Detail) (λ x. Leaves (settled p.overflow x)) w v q o _ c.in_ok-put_lines.ensures.done u o GoesOn c.in-GoesOn.is
     (quiet_done (settled p.overflow) GoesOn v u o (ap (λ f. f.last) c.settle.ensures.form) (λ x. ap (on_paper x) c.settle.ensures.world))
 
 pub returns-in-Halt-clause-done : goal.returns-in-Halt-clause-done
 returns-in-Halt-clause-done g c =
     let p = seen c.args.rows.now in
     let held = held_of g.S.Store.contents g.S.Store.currents in
+    let w = held c.args.memory.now in
     let v = held c.put_lines.new.memory in
+    let q = bytes_of c.args.output.now in
     let o = bytes_of c.put_lines.new.output in
-    halted (passage_effect p passes.Detail) (λ x. Leaves (settled p.overflow x)) (held c.args.memory.now) v (bytes_of c.args.output.now) o _ c.in_ok-put_lines.ensures.done c.in-Halt.number c.in-Halt.is
+    halted (passage_effect p passes.Detail) (λ x. Leaves (settled p.overflow x)) w v q o _ c.in_ok-put_lines.ensures.done c.in-Halt.number c.in-Halt.is

@@ -29,7 +29,7 @@ lines-preserved g c =
       own = c.put_if_asked.ensures.own ∙ c.lines.invariant.own;
       onward = λ e v t h. c.lines.invariant.onward e v t
           (rest_next p c.args.pass lines l c.lines.line-index low is (held c.lines.memory) (held c.put_if_asked.new.memory) v q o t _ e c.in-GoesOn.is
-              c.in_ok-put_if_asked.ensures.done h);
+          c.in_ok-put_if_asked.ensures.done h);
     }
 
 pub returns-in-Halt-clause-done : goal.returns-in-Halt-clause-done
@@ -43,7 +43,7 @@ returns-in-Halt-clause-done g c =
     let k = c.in-Halt.number in
     c.lines.invariant.onward (Halt k) _ _
     (rest_halts p c.args.pass lines l c.lines.line-index low is (held c.lines.memory) (held c.put_if_asked.new.memory) (bytes_of c.lines.output)
-        (bytes_of c.put_if_asked.new.output) _ k c.in-Halt.is c.in_ok-put_if_asked.ensures.done)
+    (bytes_of c.put_if_asked.new.output) _ k c.in-Halt.is c.in_ok-put_if_asked.ensures.done)
 
 pub returns-clause-done : goal.returns-clause-done
 returns-clause-done g c =

@@ -16,7 +16,8 @@ overflow_add-weight c =
     let p = seen c.args.rows.now in
     let meant = weighed c.args.output in
     let step = line_left p meant lines i l low is in
-    let own : c.weight_where-own.result ≡ cond (meant l.time) (1 + length l.fields.items) 0 = c.weight_where-own.ensures ∙ ap (λ b. cond b (1 + length l.fields.items) 0) c.is_weighed.ensures in
+    let own : c.weight_where-own.result ≡ cond (meant l.time) (1 + length l.fields.items) 0 =
+    c.weight_where-own.ensures ∙ ap (λ b. cond b (1 + length l.fields.items) 0) c.is_weighed.ensures in
     let few = weight_few p meant c.requires in
     let whole : c.loop-line.weight + weight_left p meant lines i ≡ lines_weight meant (lines_of p) = c.loop-line.invariant in
     omega (arith, step, own, few, whole)
@@ -32,7 +33,8 @@ loop-line-preserved c =
     let p = seen c.args.rows.now in
     let meant = weighed c.args.output in
     let step = line_left p meant lines i l low is in
-    let own : c.weight_where-own.result ≡ cond (meant l.time) (1 + length l.fields.items) 0 = c.weight_where-own.ensures ∙ ap (λ b. cond b (1 + length l.fields.items) 0) c.is_weighed.ensures in
+    let own : c.weight_where-own.result ≡ cond (meant l.time) (1 + length l.fields.items) 0 =
+    c.weight_where-own.ensures ∙ ap (λ b. cond b (1 + length l.fields.items) 0) c.is_weighed.ensures in
     let whole : c.loop-line.weight + weight_left p meant lines i ≡ lines_weight meant (lines_of p) = c.loop-line.invariant in
     omega (arith, step, own, whole)
 
