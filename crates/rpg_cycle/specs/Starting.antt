@@ -1,10 +1,12 @@
 -- What a job starts with.
-use Rattle.std.specs.Prelude.{ℕ, ℤ, pos, ◌+◌, false, List, [], ◌∷◌, if◌then◌else◌}
+use Rattle.std.specs.Prelude.{ℕ, ℤ, pos, ◌+◌, false, ◌&&◌, ◌==◌, List, [], ◌∷◌, length, Option, None, if◌then◌else◌}
+use Rattle.std.specs.List.{list_all}
 use Rattle.std.specs.FinMap as map
 use Rattle.std.specs.FinSet as set
 use Rattle.std.specs.Ordering.{nat_cmp}
 use Rattle.rpg_cycle.specs.Indicators.{first_page, level_zero}
 use Rattle.rpg_decimal.specs.Fraction.{with_decimals}
+use Rattle.rpg_decimal.specs.Zoned.{is_digit, number_in}
 use Rattle.rpg_effect.specs.Forms.{is_date}
 use Rattle.rpg_effect.specs.Values.{Number}
 use Rattle.rpg_effect.specs.World.{Fields, World, with_value}
@@ -12,6 +14,10 @@ use Rattle.rpg_effect.specs.declared.form.FieldForm.{FieldForm}
 use Rattle.rpg_machine.specs.Config.{Config}
 use Rattle.rpg_program.specs.Object.{Object}
 use Rattle.rpg_program.specs.declared.section.Section.TheVariants.{Detail}
+
+-- the number that a text of just six digits spells
+abbrev pub date_in : List ℕ → Option ℤ
+date_in text = if (length text == 6) && list_all is_digit text then number_in text else None
 
 -- the date goes into each date field; the first of these has that number
 abbrev pub dated : ℤ → ℕ → List FieldForm → Fields nat_cmp → Fields nat_cmp

@@ -1,0 +1,171 @@
+-- Phases done one after another.
+use Rattle.std.proofs.Common.{Result, Ok, Err, IfOk, ◌≡◌, ℕ, Bool, true, false, [], ◌++◌, List, Option, refl, sym, ap, ◌∙◌, subst, append_assoc, append-nil}
+use Rattle.std.specs.Result.{IsErrAnd}
+use Rattle.rpg_edit.proofs.Papers.{bytes_from-append}
+use Rattle.rpg_edit.specs.Paper.{Placed, Position, bytes_from, end_from}
+use Rattle.rpg_effect.proofs.Putting.{disk-append, end_from-lines}
+use Rattle.rpg_effect.specs.Put.{Bytes, disk_bytes, line_of, with_output}
+use Rattle.rpg_cycle.specs.Doing.{Does, DoesBehind, Passes, under_way}
+use Rattle.rpg_cycle.specs.Earlier.{Selected}
+use Rattle.rpg_cycle.specs.Ends.{End, GoesOn, EndOfJob, Halt}
+use Rattle.rpg_cycle.specs.Phases.{Done, Phase, UnderWay, does, done, either, passes, unless, ◌before◌}
+use Rattle.rpg_cycle.specs.Stages.{IfStops, UnlessNoMemory, job_end}
+use Rattle.rpg_cycle.specs.declared.ends.JobEnd.{JobEnd}
+use Rattle.rpg_cycle.specs.declared.ends.JobEnd.TheVariants as jobs
+use Rattle.rpg_cycle.specs.declared.ends.Stop.{Stop}
+use Rattle.rpg_cycle.specs.declared.ends.Stop.TheVariants as stops
+use Rattle.rpg_machine.specs.Config.{Config, Output, no_output, with_more}
+use Rattle.rpg_machine.specs.Running.{Running, config_on}
+
+-- ---- bytes
+
+bytes_are : (p q : Bytes) → p.print ≡ q.print → p.disk ≡ q.disk → p ≡ q
+bytes_are p q h g = ap (λ x. record { print = x; disk = p.disk }) h ∙ ap (λ x. record { print = q.print; disk = x }) g
+
+-- two outputs add up
+pub output_both : (previous : Option Position) (xs ys : List Placed) (rs ss : List (List ℕ)) (p : Bytes) →
+    with_output (end_from previous xs) ys ss (with_output previous xs rs p) ≡ with_output previous (xs ++ ys) (rs ++ ss) p
+output_both previous xs ys rs ss p = bytes_are _ _
+    (append_assoc p.print (bytes_from previous xs) (bytes_from (end_from previous xs) ys) ∙ ap (λ z. p.print ++ z) (sym (bytes_from-append previous xs ys)))
+    (append_assoc p.disk (disk_bytes rs) (disk_bytes ss) ∙ ap (λ z. p.disk ++ z) (sym (disk-append rs ss)))
+
+-- nothing is put out
+pub output_none : (previous : Option Position) (p : Bytes) → p ≡ with_output previous [] [] p
+output_none previous p = bytes_are _ _ (sym (append-nil p.print)) (sym (append-nil p.disk))
+
+-- ---- two phases
+
+both_behind : (P Q : Phase) (previous : Option Position) (a b c : Running) (s t u : Option Selected) (e : End) (x : DoesBehind P previous a s GoesOn b t) →
+    DoesBehind Q (end_from previous x.out.lines) b t e c u → DoesBehind (P before Q) previous a s e c u
+both_behind P Q previous a b c s t u e x y =
+    let ends = end_from-lines previous x.out.lines y.out.lines in
+    record {
+      out = with_more x.out y.out;
+      phase = (
+        GoesOn,
+        under_way (config_on (end_from previous x.out.lines) b.config) t,
+        x.out,
+        x.phase,
+        (y.out, subst (λ (q : Option Position). Q (under_way (config_on (end_from previous x.out.lines) b.config) t) e (under_way (config_on q c.config) u) y.out) (sym ends) y.phase, refl),
+      );
+      last = y.last ∙ ap line_of (sym ends);
+      bytes = y.bytes ∙ ap (with_output (end_from previous x.out.lines) y.out.lines y.out.records) x.bytes
+          ∙ output_both previous x.out.lines y.out.lines x.out.records y.out.records a.output;
+    }
+
+-- the one phase went on, and then the other was done
+pub goes : {P Q : Phase} {a b c : Running} {s t u : Option Selected} {e : End} → Does P a s GoesOn b t → Does Q b t e c u → Does (P before Q) a s e c u
+goes {P} {Q} {a} {b} {c} {s} {t} {u} {e} h g = record {
+  program = g.program ∙ h.program;
+  behind = λ previous l.
+      let x = h.behind previous l in
+      both_behind P Q previous a b c s t u e x (g.behind (end_from previous x.out.lines) x.last);
+}
+
+-- the one phase ended the job
+ends_behind : (P Q : Phase) (previous : Option Position) (a b : Running) (s t : Option Selected) (e : JobEnd) → DoesBehind P previous a s (job_end e) b t → DoesBehind (P before Q) previous a s (job_end e) b t
+ends_behind P Q previous a b s t jobs.EndOfJob x = record {
+  out = x.out;
+  phase = (EndOfJob, under_way (config_on (end_from previous x.out.lines) b.config) t, x.out, x.phase, (refl, refl, refl));
+  last = x.last;
+  bytes = x.bytes;
+}
+ends_behind P Q previous a b s t (jobs.Halt k) x = record {
+  out = x.out;
+  phase = (Halt k, under_way (config_on (end_from previous x.out.lines) b.config) t, x.out, x.phase, (refl, refl, refl));
+  last = x.last;
+  bytes = x.bytes;
+}
+
+pub ends : {P Q : Phase} {a b : Running} {s t : Option Selected} (e : JobEnd) → Does P a s (job_end e) b t → Does (P before Q) a s (job_end e) b t
+ends {P} {Q} {a} {b} {s} {t} e h = record { program = h.program; behind = λ previous l. ends_behind P Q previous a b s t e (h.behind previous l) }
+
+-- a phase that puts nothing out and leaves the form where it is
+pub quietly : (f : UnderWay → Done) (a b : Running) (s t : Option Selected) (e : End) (d : Config) →
+    ((previous : Option Position) → f (under_way (config_on previous a.config) s) ≡ done e (under_way (config_on previous d) t)) → b ≡ record a { config = d } → Does (does f) a s e b t
+quietly f a b s t e d h is = subst (λ (r : Running). Does (does f) a s e r t) (sym is) (record {
+  program = refl;
+  behind = λ previous l. record {
+    out = no_output;
+    phase = (ap (λ (x : Done). x.end) (sym (h previous)), ap (λ (x : Done). x.leads) (sym (h previous)), refl);
+    last = l;
+    bytes = output_none previous a.output;
+  };
+})
+
+-- ---- phases that select nothing
+
+pub passes_goes : {P Q : Phase} {a b c : Running} {e : End} → Passes P a GoesOn b → Passes Q b e c → Passes (P before Q) a e c
+passes_goes h g = record { each = λ s. goes (h.each s) (g.each s) }
+
+pub passes_ends : {P Q : Phase} {a b : Running} (e : JobEnd) → Passes P a (job_end e) b → Passes (P before Q) a (job_end e) b
+passes_ends e h = record { each = λ s. ends e (h.each s) }
+
+-- a phase that is left out
+pub left_out : (test : Config → Bool) (P : Phase) (a : Running) → ((previous : Option Position) → test (config_on previous a.config) ≡ true) → Passes (unless test P) a GoesOn a
+left_out test P a h = record {
+  each = λ s. record {
+    program = refl;
+    behind = λ previous l. record {
+      out = no_output;
+      phase = subst (λ (b : Bool). either b passes P (under_way (config_on previous a.config) s) GoesOn (under_way (config_on previous a.config) s) no_output) (sym (h previous)) (refl, refl, refl);
+      last = l;
+      bytes = output_none previous a.output;
+    };
+  };
+}
+
+-- a phase that isn't
+pub not_left_out : (test : Config → Bool) (P : Phase) (a b : Running) (e : End) → ((previous : Option Position) → test (config_on previous a.config) ≡ false) → Passes P a e b → Passes (unless test P) a e b
+not_left_out test P a b e h d = record {
+  each = λ s. record {
+    program = (d.each s).program;
+    behind = λ previous l.
+        let x = (d.each s).behind previous l in record {
+          out = x.out;
+          phase = subst (λ (t : Bool). either t passes P (under_way (config_on previous a.config) s) e (under_way (config_on (end_from previous x.out.lines) b.config) s) x.out) (sym (h previous)) x.phase;
+          last = x.last;
+          bytes = x.bytes;
+        };
+  };
+}
+
+-- ---- results
+
+-- what holds of how a job ended, made into another fact
+pub if_stops : (A B : Type 0) (r : Stop) (P Q : JobEnd → Type 0) → ((e : JobEnd) → P e → Q e) → IfStops {A = A} (Err r) P → IfStops {A = B} (Err r) Q
+if_stops A B (stops.Ends e) P Q f h = f e h
+if_stops A B stops.NoMemory P Q f h = tt
+
+pub ok_map : {A B : Type 0} (r : Result A B) (P Q : A → Type 0) → ((x : A) → P x → Q x) → IfOk r P → IfOk r Q
+ok_map (Ok x) P Q f h = f x h
+ok_map (Err e) P Q f h = tt
+
+pub stops_map : {A : Type 0} (r : Result A Stop) (P Q : JobEnd → Type 0) → ((e : JobEnd) → P e → Q e) → IfStops r P → IfStops r Q
+stops_map (Ok x) P Q f h = tt
+stops_map (Err (stops.Ends e)) P Q f h = f e h
+stops_map (Err stops.NoMemory) P Q f h = tt
+
+pub memory_map : {A : Type 0} (r : Result A Stop) (P Q : Type 0) → (P → Q) → UnlessNoMemory r P → UnlessNoMemory r Q
+memory_map (Ok x) P Q f h = f h
+memory_map (Err (stops.Ends e)) P Q f h = f h
+memory_map (Err stops.NoMemory) P Q f h = tt
+
+-- where what the machine answered is passed on
+pub memory_both : {A : Type 0} (r : Result A Stop) (P : Type 0) → P → UnlessNoMemory r P
+memory_both (Ok x) P h = h
+memory_both (Err (stops.Ends e)) P h = h
+memory_both (Err stops.NoMemory) P h = tt
+
+-- the error that a `?` passes on
+pub passed_map : (A B : Type 0) (r : Result B Stop) (s : Stop) (P Q : JobEnd → Type 0) → ((e : JobEnd) → P e → Q e) → IsErrAnd r (λ x. x ≡ s) → IfStops {A = A} (Err s) P → IfStops r Q
+passed_map A B (Ok x) s P Q f h g = tt
+passed_map A B (Err x) s P Q f h g = if_stops A B x P Q f (subst (λ (y : Stop). IfStops {A = A} (Err y) P) (sym h) g)
+
+memory_err : (A B : Type 0) (s : Stop) (P Q : Type 0) → (P → Q) → UnlessNoMemory {A = A} (Err s) P → UnlessNoMemory {A = B} (Err s) Q
+memory_err A B (stops.Ends e) P Q f h = f h
+memory_err A B stops.NoMemory P Q f h = tt
+
+pub passed_memory : (A B : Type 0) (r : Result B Stop) (s : Stop) (P Q : Type 0) → (P → Q) → IsErrAnd r (λ x. x ≡ s) → UnlessNoMemory {A = A} (Err s) P → UnlessNoMemory r Q
+passed_memory A B (Ok x) s P Q f h g = absurd h
+passed_memory A B (Err x) s P Q f h g = memory_err A B x P Q f (subst (λ (y : Stop). UnlessNoMemory {A = A} (Err y) P) (sym h) g)

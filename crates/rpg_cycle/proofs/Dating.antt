@@ -1,0 +1,84 @@
+-- The date fits the date fields.
+use Rattle.std.proofs.Common.{◌≡◌, ℕ, ◌≤◌, ◌<◌, ◌+◌, ◌-◌, ◌^◌, ℤ, suc, Bool, true, false, cond, List, [], ◌∷◌, length, get_or, drop, All, slice_get, Option, None, Some, unsigned_abs, refl, sym, ap, ◌∙◌, subst, arith}
+use Rattle.std.proofs.lemmas.List.{drop_more}
+use Rattle.std.proofs.lemmas.Option.{same_Some, slice_get-get_or}
+use Rattle.std.specs.FinMap as map
+use Rattle.std.specs.Ordering.{nat_cmp}
+use Rattle.rpg_cycle.specs.Dating.{fields_in, with_date}
+use Rattle.rpg_cycle.specs.Starting.{dated}
+use Rattle.rpg_effect.specs.Forms.{form_at, is_date, length_of}
+use Rattle.rpg_effect.specs.Values.{Number, Text, Value}
+use Rattle.rpg_effect.specs.World.{Fields}
+use Rattle.rpg_effect.specs.declared.form.Class.{Class}
+use Rattle.rpg_effect.specs.declared.form.Class.TheVariants as classes
+use Rattle.rpg_effect.specs.declared.form.FieldForm.{FieldForm}
+use Rattle.rpg_effect.specs.declared.form.Kind.{Kind}
+use Rattle.rpg_effect.specs.declared.form.Kind.TheVariants as kinds
+use Rattle.rpg_program.specs.Kept.{IsDateForm, IsFieldRow}
+use Rattle.rpg_store.proofs.Fitting.{fits-insert}
+use Rattle.rpg_store.specs.Fits.{Fits, HasForm}
+use Rattle.rpg_store.specs.Store.{Currents, IsNumber, Values}
+
+is_class : (c : Class) → is_date c ≡ true → c ≡ classes.Date
+is_class classes.Plain h = cc
+is_class classes.Array h = cc
+is_class classes.Table h = cc
+is_class classes.Constant h = cc
+is_class classes.Date h = refl
+
+pub date_form : (f : FieldForm) → IsFieldRow f → is_date f.class ≡ true → IsDateForm f
+date_form f row h = row.date (is_class f.class h)
+
+number_in : (len : ℕ) (o : Option Value) → HasForm kinds.Number len o → IsNumber o
+number_in len None h = absurd h
+number_in len (Some (Number n)) h = tt
+number_in len (Some (Text text)) h = absurd h
+
+-- there is a number in a date field
+pub number_there : (forms : List FieldForm) (values : Values) (current : Currents) (field : ℕ) (f : FieldForm) → Fits forms values current → form_at forms field ≡ Some f → IsFieldRow f → is_date f.class ≡ true →
+    IsNumber (map.get values (field, 1))
+number_there forms values current field f fits is row date =
+    let d = date_form f row date in
+    number_in f.length (map.get values (field, 1)) (subst (λ (k : Kind). HasForm k f.length (map.get values (field, 1))) d.kind (fits.each field f is 1 (omega arith) row.fewest))
+
+-- the date is no longer than that
+pub date_short : (forms : List FieldForm) (field : ℕ) (f : FieldForm) (date : ℤ) → form_at forms field ≡ Some f → IsFieldRow f → is_date f.class ≡ true → unsigned_abs date < 10 ^ 6 →
+    unsigned_abs date < 10 ^ length_of (form_at forms field)
+date_short forms field f date is row h few =
+    subst (λ (n : ℕ). unsigned_abs date < 10 ^ n) (sym (ap length_of is ∙ (date_form f row h).digits)) few
+
+has_form : (f d : FieldForm) (date : ℤ) → d ≡ f → IsDateForm f → unsigned_abs date < 10 ^ 6 → HasForm d.kind d.length (Some (Number date))
+has_form f d date same form few =
+    subst (λ (x : FieldForm). HasForm x.kind x.length (Some (Number date))) (sym same)
+    (subst (λ (k : Kind). HasForm k f.length (Some (Number date))) (sym form.kind) (subst (λ (n : ℕ). unsigned_abs date < 10 ^ n) (sym form.digits) few))
+
+pub date_fits : (forms : List FieldForm) (values : Values) (current : Currents) (field : ℕ) (f : FieldForm) (date : ℤ) → Fits forms values current → form_at forms field ≡ Some f → IsFieldRow f → is_date f.class ≡ true →
+    unsigned_abs date < 10 ^ 6 → Fits forms (map.insert values (field, 1) (Number date)) current
+date_fits forms values current field f date fits is row h few =
+    fits-insert forms values current field 1 (Number date) fits
+    (λ d e. has_form f d date (same_Some d f (sym e ∙ is)) (date_form f row h) few)
+    (λ text e. cc)
+
+-- the same where a store's forms and entries are known by equations
+pub still_fits : (forms old : List FieldForm) (values now : Values) (current currents : Currents) → forms ≡ old → now ≡ values → currents ≡ current → Fits old values current → Fits forms now currents
+still_fits forms old values now current currents a b c h =
+    subst (λ (x : List FieldForm). Fits x now currents) (sym a) (subst (λ (x : Values). Fits old x currents) (sym b) (subst (λ (x : Currents). Fits old values x) (sym c) h))
+
+-- ---- field after field
+
+pub form_there : (forms : List FieldForm) (i field : ℕ) (d : FieldForm) → i < length forms → field ≡ i + 1 → form_at forms field ≡ Some (get_or forms i d)
+form_there forms i field d h is = subst (λ n. form_at forms n ≡ Some (get_or forms i d)) (sym (is ∙ suc-is i)) (slice_get-get_or forms i d h)
+  where
+    suc-is : (n : ℕ) → n + 1 ≡ suc n
+    suc-is n = omega arith
+
+pub dated_more : (date : ℤ) (forms : List FieldForm) (i field : ℕ) (d : FieldForm) (values now : Values) (current currents : Currents) → i < length forms →
+    now ≡ with_date date field (get_or forms i d) values → currents ≡ current →
+    dated date field (drop i forms) (fields_in values current) ≡ dated date (field + 1) (drop (i + 1) forms) (fields_in now currents)
+dated_more date forms i field d values now current currents h is same =
+    ap (λ (fs : List FieldForm). dated date field fs (fields_in values current)) (drop_more forms i d h)
+    ∙ ap (dated date (field + 1) (drop (i + 1) forms)) (one (is_date (get_or forms i d).class) ∙ sym (ap (λ v. fields_in v currents) is ∙ ap (fields_in (with_date date field (get_or forms i d) values)) same))
+  where
+    one : (b : Bool) → cond b (fields_in (map.insert values (field, 1) (Number date)) current) (fields_in values current) ≡ fields_in (cond b (map.insert values (field, 1) (Number date)) values) current
+    one true = refl
+    one false = refl

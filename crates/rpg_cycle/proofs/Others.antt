@@ -1,0 +1,125 @@
+-- Output changes no indicator but that of overflow.
+use Rattle.std.proofs.Common.{◌≡◌, ℕ, Bool, true, false, cond, eqb, not, ◌&&◌, ◌||◌, List, [], ◌∷◌, Option, None, Some, refl, sym, ap, ◌∙◌}
+use Rattle.std.specs.Cmp.{nat_cmp_total, unsigned_tied}
+use Rattle.std.specs.FinSet as set
+use Rattle.std.specs.Ordering.{nat_cmp}
+use Rattle.rpg_edit.specs.Paper.{Position, skipped, spaced, turns_overflow_on}
+use Rattle.rpg_effect.specs.Effect.{Effect, Leaves, go_on, then_go, unless_wrong}
+use Rattle.rpg_effect.specs.Ends.{End, Fault, GoesOn, Halt, Wrong}
+use Rattle.rpg_effect.specs.LineFaults.{line_fault}
+use Rattle.rpg_effect.specs.Lines.{Draft, Line, after_movement, after_skip, after_space, assembled, blank_line, blanked_all, detail_output, is_asked, line_out, lines_out, one_out, put_on, put_out, settled, spaced_after, spaced_before, where_asked}
+use Rattle.rpg_effect.specs.Showing.{turned_off, turned_on}
+use Rattle.rpg_effect.specs.World.{World}
+use Rattle.rpg_effect.specs.declared.form.FieldForm.{FieldForm}
+use Rattle.rpg_effect.specs.declared.line.File.{File}
+use Rattle.rpg_effect.specs.declared.line.File.TheVariants.{Printer, Disk}
+use Rattle.rpg_effect.specs.declared.line.Pass.{Pass}
+use Rattle.rpg_effect.specs.declared.line.Pass.TheVariants as passes
+use Rattle.rpg_effect.specs.declared.line.Spacing.{Spacing}
+
+-- ---- one indicator is turned
+
+pub insert_other : (s : set.FinSet nat_cmp) (k n : ℕ) → eqb n k ≡ false → set.contains (set.insert s k) n ≡ set.contains s n
+insert_other s k n h = set.contains-insert nat_cmp_total s k n ∙ ap (λ b. b || set.contains s n) (unsigned_tied n k ∙ h)
+
+pub remove_other : (s : set.FinSet nat_cmp) (k n : ℕ) → eqb n k ≡ false → set.contains (set.remove s k) n ≡ set.contains s n
+remove_other s k n h = set.contains-remove nat_cmp_total s k n ∙ ap (λ b. not b && set.contains s n) (unsigned_tied n k ∙ h)
+
+-- an indicator that isn't that of overflow
+abbrev pub IsOther : Option ℕ → ℕ → Type 0
+IsOther o n = (k : ℕ) → o ≡ Some k → eqb n k ≡ false
+
+turned_on_other : (o : Option ℕ) (n : ℕ) (s : set.FinSet nat_cmp) → IsOther o n → set.contains (turned_on o s) n ≡ set.contains s n
+turned_on_other None n s h = refl
+turned_on_other (Some k) n s h = insert_other s k n (h k refl)
+
+turned_off_other : (o : Option ℕ) (n : ℕ) (s : set.FinSet nat_cmp) → IsOther o n → set.contains (turned_off o s) n ≡ set.contains s n
+turned_off_other None n s h = refl
+turned_off_other (Some k) n s h = remove_other s k n (h k refl)
+
+-- ---- worlds
+
+-- the indicator is as it was
+pub record Keeps (n : ℕ) (w v : World nat_cmp) : Type 0 where
+  pub same : set.contains v.on n ≡ set.contains w.on n
+
+nothing : (n : ℕ) (w : World nat_cmp) → Keeps n w w
+nothing n w = record { same = refl }
+
+then_keeps : (n : ℕ) (u v w : World nat_cmp) → Keeps n u v → Keeps n v w → Keeps n u w
+then_keeps n u v w h g = record { same = g.same ∙ h.same }
+
+-- one effect and then another
+both : (n : ℕ) (w : World nat_cmp) (e : Effect nat_cmp) (go : World nat_cmp → Effect nat_cmp) → Keeps n w e.world → ((v : World nat_cmp) → Keeps n v (go v).world) → Keeps n w (then_go e go).world
+both n w e go h g = cases e.ending
+  where
+    cases : (k : End) → Keeps n w (go_on k e go).world
+    cases GoesOn = then_keeps n w e.world (go e.world).world h (g e.world)
+    cases (Halt k) = h
+    cases (Wrong f) = h
+
+turned_or_not : (n : ℕ) (b : Bool) (o : Option ℕ) (s : set.FinSet nat_cmp) → IsOther o n → set.contains (cond b (turned_off o s) s) n ≡ set.contains s n
+turned_or_not n true o s h = turned_off_other o n s h
+turned_or_not n false o s h = refl
+
+settled_keeps : (n : ℕ) (o : Option ℕ) (w : World nat_cmp) → IsOther o n → Keeps n w (settled o w)
+settled_keeps n o w h = record { same = turned_or_not n (w.was_overflow && not w.has_turned_on) o w.on h }
+
+moved : (n : ℕ) (b : Bool) (o : Option ℕ) (to : Position) (w : World nat_cmp) → IsOther o n →
+    Keeps n w (cond b (record w { here = to; on = turned_on o w.on; has_turned_on = true }) (record w { here = to }))
+moved n true o to w h = record { same = turned_on_other o n w.on h }
+moved n false o to w h = record { same = refl }
+
+movement_keeps : (n : ℕ) (o : Option ℕ) (to : Position) (w : World nat_cmp) → IsOther o n → Keeps n w (after_movement o to w)
+unfolding after_movement
+movement_keeps n o to w h = moved n (turns_overflow_on w.here to) o to w h
+
+skip_or_not : (n : ℕ) (b : Bool) (o : Option ℕ) (to : Position) (w : World nat_cmp) → IsOther o n → Keeps n w (cond b w (after_movement o to w))
+skip_or_not n true o to w h = nothing n w
+skip_or_not n false o to w h = movement_keeps n o to w h
+
+moves_keep : (n : ℕ) (o : Option ℕ) (skip space : ℕ) (w : World nat_cmp) → IsOther o n → Keeps n w (after_space o space (after_skip o skip w))
+moves_keep n o skip space w h =
+    then_keeps n w (after_skip o skip w) (after_space o space (after_skip o skip w)) (skip_or_not n (eqb skip 0) o (skipped skip w.here) w h) (movement_keeps n o (spaced space (after_skip o skip w).here) (after_skip o skip w) h)
+
+put_on_keeps : (n : ℕ) (o : Option ℕ) (file : File) (s : Spacing) (text : List ℕ) (w : World nat_cmp) → IsOther o n → Keeps n w (put_on o file s text w).world
+unfolding put_on
+put_on_keeps n o Printer s text w h =
+    then_keeps n w (spaced_before o s w) (spaced_after o s (spaced_before o s w)) (moves_keep n o s.skip_before s.space_before w h) (moves_keep n o s.skip_after s.space_after (spaced_before o s w) h)
+put_on_keeps n o Disk s text w h = nothing n w
+
+module _ (forms : ℕ → Option FieldForm) (words : ℕ → List ℕ) where
+  put_out_keeps : (n : ℕ) (o : Option ℕ) (l : Line ℕ) (w : World nat_cmp) (e : End) (d : Draft nat_cmp) → IsOther o n → Keeps n w (put_out forms words o l w e d).world
+  put_out_keeps n o l w GoesOn d h =
+      let drawn : World nat_cmp = record w { fields = d.fields } in
+      let put = put_on_keeps n o l.file l.spacing d.text drawn h in
+      both n w (put_on o l.file l.spacing d.text drawn) (λ v. Leaves (record v { fields = blanked_all d.to_blank v.fields })) (record { same = put.same }) (λ v. record { same = refl })
+  put_out_keeps n o l w (Halt k) d h = record { same = refl }
+  put_out_keeps n o l w (Wrong f) d h = record { same = refl }
+
+  unless_keeps : (n : ℕ) (f : Option Fault) (w : World nat_cmp) (e : Effect nat_cmp) → Keeps n w e.world → Keeps n w (unless_wrong f w e).world
+  unless_keeps n None w e h = h
+  unless_keeps n (Some f) w e h = nothing n w
+
+  line_keeps : (n : ℕ) (o : Option ℕ) (l : Line ℕ) (w : World nat_cmp) → IsOther o n → Keeps n w (line_out forms words o l w).world
+  unfolding line_out
+  line_keeps n o l w h =
+      let drawn = assembled forms words w.on l.len l.fields (blank_line l.len w) in
+      unless_keeps n (line_fault l.len l.spacing) w (put_out forms words o l w drawn.ending drawn.draft) (put_out_keeps n o l w drawn.ending drawn.draft h)
+
+  asked_keeps : (n : ℕ) (b : Bool) (e : Effect nat_cmp) (w : World nat_cmp) → Keeps n w e.world → Keeps n w (where_asked forms words b e w).world
+  asked_keeps n true e w h = h
+  asked_keeps n false e w h = nothing n w
+
+  one_keeps : (n : ℕ) (o : Option ℕ) (pass : Pass) (l : Line ℕ) (w : World nat_cmp) → IsOther o n → Keeps n w (one_out forms words o pass l w).world
+  unfolding one_out
+  one_keeps n o pass l w h = asked_keeps n (is_asked o pass w.on l.time l.alternatives) (line_out forms words o l w) w (line_keeps n o l w h)
+
+  lines_keep : (n : ℕ) (o : Option ℕ) (pass : Pass) (ls : List (Line ℕ)) (w : World nat_cmp) → IsOther o n → Keeps n w (lines_out forms words o pass ls w).world
+  unfolding lines_out
+  lines_keep n o pass [] w h = nothing n w
+  lines_keep n o pass (l ∷ ls) w h =
+      both n w (one_out forms words o pass l w) (lines_out forms words o pass ls) (one_keeps n o pass l w h) (λ v. lines_keep n o pass ls v h)
+
+  pub details_keep : (n : ℕ) (o : Option ℕ) (ls : List (Line ℕ)) (w : World nat_cmp) → IsOther o n → Keeps n w (detail_output forms words o ls w).world
+  details_keep n o ls w h = both n w (lines_out forms words o passes.Detail ls w) (λ v. Leaves (settled o v)) (lines_keep n o passes.Detail ls w h) (λ v. settled_keeps n o v h)

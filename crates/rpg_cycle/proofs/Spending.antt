@@ -1,0 +1,141 @@
+-- What phases take, and that all of them together are within the bound.
+use Rattle.std.proofs.Common.{◌≡◌, ℕ, ◌≤◌, ◌+◌, ◌-◌, ◌*◌, zero, suc, Bool, true, false, cond, ◌&&◌, not, leb, List, [], ◌∷◌, length, slice_get, slice_index, Option, None, Some, is_some, refl, sym, ap, ◌∙◌, subst, arith, rules}
+use Rattle.std.proofs.lemmas.Bool.Decides.{nat_tests}
+use Rattle.std.specs.List.{list_all}
+use Rattle.rpg_edit.specs.Paper.{Position, end_from}
+use Rattle.rpg_effect.specs.Ends as effects
+use Rattle.rpg_effect.specs.Input.{TypeRow}
+use Rattle.rpg_effect.specs.Lines as lines
+use Rattle.rpg_effect.specs.Put.{line_of}
+use Rattle.rpg_effect.specs.Weights.{detail_weight, is_at_detail, is_at_total, is_in_cycle, line_weight, lines_weight, overflow_weight, total_weight, type_weight, types_weight}
+use Rattle.rpg_effect.specs.declared.line.Time.{Time}
+use Rattle.rpg_effect.specs.declared.line.Time.TheVariants as times
+use Rattle.rpg_cycle.proofs.Turning.{off_keeps}
+use Rattle.rpg_cycle.specs.Earlier.{levels_of}
+use Rattle.rpg_cycle.specs.Identifying.{Trial, IsOf, Misplaced, holds, identified, is_there, trial_weight}
+use Rattle.rpg_machine.specs.Potential.{InBound}
+use Rattle.rpg_cycle.specs.Phases.{all_off}
+use Rattle.rpg_cycle.specs.Spending.{Spends, cycle_weight, first_cost, reach}
+use Rattle.rpg_machine.specs.Config.{Config}
+use Rattle.rpg_machine.specs.Outputs.{ByEffect, FillsFields, PutsOut, inputs_at, inputs_of, output_weight}
+use Rattle.rpg_machine.specs.Running.{Did, DidBehind, Running, config_on}
+use Rattle.rpg_machine.specs.declared.time.OutputTime.{OutputTime}
+use Rattle.rpg_program.specs.Object.{Object, lines_of}
+use Rattle.rpg_program.specs.Sections.{first_of}
+use Rattle.rpg_program.specs.declared.section.Section.TheVariants as sections
+use Rattle.rpg_verify.specs.Bound.{bound, cost_in, most, once}
+use Rattle.rpg_verify.specs.Bound as bounds
+use Rattle.rpg_verify.specs.Weighing as weighing
+
+-- ---- single phases
+
+reach_of : (p : Object) (n : ℕ) (a b : Running) → b.config.steps ≡ a.config.steps + n → b.config.allowance ≡ a.config.allowance → Spends p n a b
+reach_of p n a b s l = record { few = omega (arith, s, ap (λ (k : ℕ). k * most p) l) }
+
+pub same_reach : (p q : Object) (a b : Running) → b ≡ record a { config = all_off q a.config } → Spends p 0 a b
+same_reach p q a b is =
+    let k = off_keeps q a.config in
+    reach_of p 0 a b (ap (λ (r : Running). r.config.steps) is ∙ k.steps ∙ zero-right a.config.steps) (ap (λ (r : Running). r.config.allowance) is ∙ k.allowance)
+  where
+    zero-right : (n : ℕ) → n ≡ n + 0
+    zero-right n = omega arith
+
+-- some line may have been placed before
+pub some_before : (last : Option ℕ) → (previous : Option Position) × (last ≡ line_of previous)
+some_before None = (None, refl)
+some_before (Some n) = (Some (record { page = 1; line = n }), refl)
+
+-- what the machine puts out, and the fields that it fills
+pub output_spends : (p : Object) (time : OutputTime) (e : effects.End) (a b : Running) → a.program ≡ p → Did (PutsOut a.program time) a e b → Spends p (output_weight p time) a b
+output_spends p time e a b same d =
+    let o = some_before a.last in
+    let x = (d.behind o.0 o.1).act.leads in
+    reach_of p (output_weight p time) a b
+    (ap (λ (c : Config). c.steps) x ∙ ap (λ (q : Object). a.config.steps + output_weight q time) same)
+    (ap (λ (c : Config). c.allowance) x)
+
+pub fields_spend : (p : Object) (t : ℕ) (text : List ℕ) (e : effects.End) (a b : Running) → a.program ≡ p → Did (FillsFields a.program t text) a e b → Spends p (length (inputs_at p t)) a b
+fields_spend p t text e a b same d =
+    let o = some_before a.last in
+    let x = (d.behind o.0 o.1).act.leads in
+    reach_of p (length (inputs_at p t)) a b
+    (ap (λ (c : Config). c.steps) x ∙ ap (λ (q : Object). a.config.steps + length (inputs_at q t)) same)
+    (ap (λ (c : Config). c.allowance) x)
+
+-- ---- the trying of types
+
+abbrev codes_there : List ℕ → TypeRow ℕ → Bool
+codes_there text t = list_all (is_there text) t.codes
+
+abbrev codes_hold : List ℕ → TypeRow ℕ → Bool
+codes_hold text t = list_all (holds text) t.codes
+
+at_most : (b : Bool) (codes rest weight others : ℕ) → codes ≤ weight → rest ≤ others → cond b (codes + rest) codes ≤ weight + others
+at_most true codes rest weight others h g = omega arith
+at_most false codes rest weight others h g = omega arith
+
+-- the codes that are tried are some of all that types have
+pub tried_few : (ts : List (TypeRow ℕ)) (text : List ℕ) → trial_weight ts text ≤ types_weight ts
+tried_few [] text = omega arith
+tried_few (t ∷ ts) text = at_most (codes_there text t && not (codes_hold text t)) (length t.codes) (trial_weight ts text) (type_weight t) (types_weight ts) (omega arith) (tried_few ts text)
+
+-- so many more are its control fields and the fields that it fills
+abbrev beside : List (TypeRow ℕ) → ℕ → ℕ
+beside ts k = length (levels_of (slice_get ts k)) + length (inputs_of (slice_get ts k))
+
+pub record IsFound (n : ℕ) (ts : List (TypeRow ℕ)) (weight t : ℕ) : Type 0 where
+  pub place : ℕ
+  pub row : t ≡ n + place
+  pub few : weight + beside ts place ≤ types_weight ts
+
+same_row : (n t : ℕ) → IsOf n ≡ IsOf t → t ≡ n + 0
+same_row n t h = let e : n ≡ t = cc in omega (arith, e)
+
+found : (n : ℕ) (u : TypeRow ℕ) (ts : List (TypeRow ℕ)) (text : List ℕ) (t : ℕ) (there hold : Bool) →
+    ((m : ℕ) → identified m ts text ≡ IsOf t → IsFound m ts (trial_weight ts text) t) → cond there (cond hold (IsOf n) (identified (n + 1) ts text)) Misplaced ≡ IsOf t →
+    IsFound n (u ∷ ts) (cond (there && not hold) (length u.codes + trial_weight ts text) (length u.codes)) t
+found n u ts text t false hold more h = cc
+found n u ts text t true true more h = record { place = 0; row = same_row n t h; few = omega arith }
+found n u ts text t true false more h = let x = more (n + 1) h in record { place = suc x.place; row = omega (arith, x.row); few = omega (arith, x.few) }
+
+pub found_few : (n : ℕ) (ts : List (TypeRow ℕ)) (text : List ℕ) (t : ℕ) → identified n ts text ≡ IsOf t → IsFound n ts (trial_weight ts text) t
+found_few n [] text t h = cc
+found_few n (u ∷ ts) text t h = found n u ts text t (codes_there text u) (codes_hold text u) (λ m g. found_few m ts text t g) h
+
+-- ---- all phases
+
+line_split : (time : Time) (w d t o : ℕ) → d + t ≡ o → (cond (is_at_detail time) w 0 + d) + (cond (is_at_total time) w 0 + t) ≡ cond (is_in_cycle time) w 0 + o
+line_split times.Heading w d t o h = omega arith
+line_split times.Detail w d t o h = omega arith
+line_split times.Total w d t o h = omega arith
+line_split times.Exception w d t o h = omega arith
+
+lines_split : (ls : List (lines.Line ℕ)) → lines_weight is_at_detail ls + lines_weight is_at_total ls ≡ lines_weight is_in_cycle ls
+lines_split [] = refl
+lines_split (l ∷ ls) = line_split l.time (line_weight l) (lines_weight is_at_detail ls) (lines_weight is_at_total ls) (lines_weight is_in_cycle ls) (lines_split ls)
+
+leb-same : (n : ℕ) → leb n n ≡ true
+leb-same n = grind (arith, nat_tests)
+
+minus-same : (n : ℕ) → n - n ≡ 0
+minus-same n = omega arith
+
+cost_at : (first : ℕ) (costs : List ℕ) → cost_in first costs first ≡ slice_index costs 0
+cost_at first costs = rw (leb-same first) (rw (minus-same first) refl)
+
+detail_cost : (p : Object) → first_cost p sections.Detail ≡ bounds.first_cost p 0 p.detail
+unfolding first_of
+detail_cost p = cost_at 0 (bounds.costs_at p 0 p.detail)
+
+total_cost : (p : Object) → first_cost p sections.Total ≡ bounds.first_cost p (length p.detail) p.total
+unfolding first_of
+total_cost p = cost_at (length p.detail) (bounds.costs_at p (length p.detail) p.total)
+
+output_twice : (b : Bool) (w : ℕ) → cond b (w + w) w ≡ w + cond b w 0
+output_twice true w = refl
+output_twice false w = omega arith
+
+pub within_bound : (p : Object) → cycle_weight p ≤ bound p
+unfolding bound
+within_bound p =
+    omega (arith, detail_cost p, total_cost p, lines_split (lines_of p), output_twice (is_some p.overflow) (lines_weight is_in_cycle (lines_of p)))

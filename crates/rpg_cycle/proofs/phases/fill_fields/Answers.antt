@@ -1,0 +1,32 @@
+use Rattle.std.proofs.Common.{Some, Option, ℕ, ap, sym, subst, ◌∙◌}
+use Rattle.rpg_cycle.proofs.Composing.{memory_both, ok_map, stops_map}
+use Rattle.rpg_cycle.proofs.Machining.{filled, nothing_filled}
+use Rattle.rpg_cycle.proofs.Spending.{fields_spend}
+use Rattle.rpg_cycle.specs.Ends.{GoesOn, end_of}
+use Rattle.rpg_cycle.specs.Spending.{Spends, inputs_weight}
+use Rattle.rpg_cycle.specs.Stages.{job_end}
+use Rattle.rpg_effect.specs.Ends as effects
+use Rattle.rpg_effect.specs.declared.outcome.End as answers
+use Rattle.rpg_cycle.proofs.phases.fill_fields.Goals as goal
+
+pub returns-in-None-clause-goes : goal.returns-in-None-clause-goes
+returns-in-None-clause-goes g c = nothing_filled c.args.program.now c.args.selected c.args.text.now c.args.machine.now c.in-None.is
+
+pub returns-in-Some-clause-goes : goal.returns-in-Some-clause-goes
+returns-in-Some-clause-goes g c =
+    ok_map c.go_on.result _ _
+    (λ x h. filled c.args.program.now c.args.selected c.in-Some.row c.args.text.now c.args.machine.now c.fill_fields-end.new.self _ GoesOn c.in-Some.is c.requires.program
+    (ap (λ (x : answers.End). end_of (effects.end_of x)) h) c.fill_fields-end.ensures.done)
+    c.go_on.ensures.goes
+
+pub returns-in-Some-clause-stops : goal.returns-in-Some-clause-stops
+returns-in-Some-clause-stops g c =
+    stops_map c.go_on.result _ _
+    (λ e h. filled c.args.program.now c.args.selected c.in-Some.row c.args.text.now c.args.machine.now c.fill_fields-end.new.self _ (job_end e) c.in-Some.is c.requires.program h c.fill_fields-end.ensures.done)
+    c.go_on.ensures.stops
+
+pub returns-in-Some-clause-spends : goal.returns-in-Some-clause-spends
+returns-in-Some-clause-spends g c =
+    memory_both c.go_on.result _
+    (subst (λ (o : Option ℕ). Spends c.args.program.now (inputs_weight c.args.program.now o) c.args.machine.now c.fill_fields-end.new.self) (sym c.in-Some.is)
+    (fields_spend c.args.program.now c.in-Some.row c.args.text.now _ c.args.machine.now c.fill_fields-end.new.self c.requires.program c.fill_fields-end.ensures.done))

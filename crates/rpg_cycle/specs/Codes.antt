@@ -1,0 +1,78 @@
+-- Codes of what a job's model has.
+use Rattle.std.specs.Prelude.{◌≡◌, ℕ, Bool, List, Option, ◌⊎◌, refl}
+use Rattle.std.proofs.Common.{inl, inr}
+use Rattle.std.specs.Coded.{Coded, code_by, coded×, coded⊎, coded_ℕ, coded_bool, coded_list, coded_option}
+use base.Stored.{coded_unit}
+use Rattle.rpg_effect.specs.Ends.{Fault, Jump, Storage, Kind, Return}
+use Rattle.rpg_cycle.specs.Earlier.{Left}
+use Rattle.rpg_cycle.specs.Ends.{End, GoesOn, EndOfJob, Halt, Wrong}
+use Rattle.rpg_cycle.specs.Stages.{Stage, Going, Ended, Failed}
+
+abbrev fault_to : Fault → Unit {0} ⊎ (Unit {0} ⊎ (Unit {0} ⊎ Unit {0}))
+fault_to Jump = inl tt
+fault_to Storage = inr (inl tt)
+fault_to Kind = inr (inr (inl tt))
+fault_to Return = inr (inr (inr tt))
+
+abbrev fault_from : Unit {0} ⊎ (Unit {0} ⊎ (Unit {0} ⊎ Unit {0})) → Fault
+fault_from (inl u) = Jump
+fault_from (inr (inl u)) = Storage
+fault_from (inr (inr (inl u))) = Kind
+fault_from (inr (inr (inr u))) = Return
+
+pub fault_law : (f : Fault) → fault_from (fault_to f) ≡ f
+fault_law Jump = refl
+fault_law Storage = refl
+fault_law Kind = refl
+fault_law Return = refl
+
+abbrev pub fault_code : Coded Fault
+fault_code = code_by (Unit {0} ⊎ (Unit {0} ⊎ (Unit {0} ⊎ Unit {0}))) (coded⊎ coded_unit (coded⊎ coded_unit (coded⊎ coded_unit coded_unit))) fault_to fault_from fault_law
+
+abbrev end_to : End → Unit {0} ⊎ (Unit {0} ⊎ (ℕ ⊎ Fault))
+end_to GoesOn = inl tt
+end_to EndOfJob = inr (inl tt)
+end_to (Halt k) = inr (inr (inl k))
+end_to (Wrong f) = inr (inr (inr f))
+
+abbrev end_from : Unit {0} ⊎ (Unit {0} ⊎ (ℕ ⊎ Fault)) → End
+end_from (inl u) = GoesOn
+end_from (inr (inl u)) = EndOfJob
+end_from (inr (inr (inl k))) = Halt k
+end_from (inr (inr (inr f))) = Wrong f
+
+pub end_law : (e : End) → end_from (end_to e) ≡ e
+end_law GoesOn = refl
+end_law EndOfJob = refl
+end_law (Halt k) = refl
+end_law (Wrong f) = refl
+
+abbrev pub end_code : Coded End
+end_code = code_by (Unit {0} ⊎ (Unit {0} ⊎ (ℕ ⊎ Fault))) (coded⊎ coded_unit (coded⊎ coded_unit (coded⊎ coded_ℕ fault_code))) end_to end_from end_law
+
+abbrev stage_to : Stage → Unit {0} ⊎ (Unit {0} ⊎ End)
+stage_to Going = inl tt
+stage_to Failed = inr (inl tt)
+stage_to (Ended e) = inr (inr e)
+
+abbrev stage_from : Unit {0} ⊎ (Unit {0} ⊎ End) → Stage
+stage_from (inl u) = Going
+stage_from (inr (inl u)) = Failed
+stage_from (inr (inr e)) = Ended e
+
+pub stage_law : (s : Stage) → stage_from (stage_to s) ≡ s
+stage_law Going = refl
+stage_law Failed = refl
+stage_law (Ended e) = refl
+
+abbrev pub stage_code : Coded Stage
+stage_code = code_by (Unit {0} ⊎ (Unit {0} ⊎ End)) (coded⊎ coded_unit (coded⊎ coded_unit end_code)) stage_to stage_from stage_law
+
+abbrev left_to : Left → Bool × (Bool × List (Option (List ℕ)))
+left_to l = (l.any, (l.control, l.bytes))
+
+abbrev left_from : Bool × (Bool × List (Option (List ℕ))) → Left
+left_from p = record { any = p.0; control = p.1.0; bytes = p.1.1 }
+
+abbrev pub left_code : Coded Left
+left_code = code_by (Bool × (Bool × List (Option (List ℕ)))) (coded× coded_bool (coded× coded_bool (coded_list (coded_option (coded_list coded_ℕ))))) left_to left_from (λ _. refl)

@@ -1,0 +1,16 @@
+-- The date in the fields of a store.
+use Rattle.std.specs.Prelude.{ℕ, ℤ, if◌then◌else◌}
+use Rattle.std.specs.FinMap as map
+use Rattle.std.specs.Ordering.{nat_cmp}
+use Rattle.rpg_effect.specs.Forms.{is_date}
+use Rattle.rpg_effect.specs.Values.{Number}
+use Rattle.rpg_effect.specs.World.{Fields}
+use Rattle.rpg_effect.specs.declared.form.FieldForm.{FieldForm}
+use Rattle.rpg_store.specs.Store.{Currents, Values}
+
+abbrev pub fields_in : Values → Currents → Fields nat_cmp
+fields_in values current = record { values = values; current = current }
+
+-- a field of that form takes the date, if it is a date field
+abbrev pub with_date : ℤ → ℕ → FieldForm → Values → Values
+with_date date field f values = if is_date f.class then map.insert values (field, 1) (Number date) else values

@@ -1,0 +1,42 @@
+-- What the code's runs are.
+use Rattle.std.specs.Prelude.{◌≡◌, ℕ, ℤ, List, [], ◌++◌, None, Some, map}
+use Rattle.std.specs.Global.{Vec}
+use Rattle.rpg_cycle.specs.Job.{AtWork, first_fields}
+use Rattle.rpg_cycle.specs.Runs.{Course, IsRun, Runs, printed, stored}
+use Rattle.rpg_cycle.specs.Stages.{job_end}
+use Rattle.rpg_cycle.specs.Starting.{date_in}
+use Rattle.rpg_cycle.specs.declared.runs.Run.{Run}
+use Rattle.rpg_cycle.specs.declared.runs.Summary.{Summary}
+use Rattle.rpg_effect.specs.Put.{Bytes}
+use Rattle.rpg_machine.specs.Config.{Output}
+use Rattle.rpg_machine.specs.Running.{config_on}
+use Rattle.rpg_program.specs.Object.{Object}
+
+-- the bytes of records
+abbrev pub texts : List (Vec ℕ) → List (List ℕ)
+texts = map (λ (v : Vec ℕ). v.items)
+
+-- the course of a run that put this out
+abbrev pub course_of : Summary → Output → Course
+course_of s out = record { ending = job_end s.ending; cycles = s.cycles; most = s.most; output = out }
+
+-- a job before its first cycle ran over records to its end
+pub record RunsOn (old : AtWork) (records : List (List ℕ)) (s : Summary) (new : AtWork) : Type 0 where
+  pub out : Output
+  pub runs : Runs old.program [] records (config_on None old.config) (course_of s out)
+  pub print : new.output.print ≡ old.output.print ++ printed out
+  pub disk : new.output.disk ≡ old.output.disk ++ stored out
+
+-- how a run went, apart from its bytes
+abbrev pub summary_of : Run → Summary
+summary_of r = record { ending = r.ending; cycles = r.cycles; most = r.most }
+
+abbrev pub bytes_of : Run → Bytes
+bytes_of r = record { print = r.output.print.items; disk = r.output.disk.items }
+
+-- the whole run of a program over records, on the date that a text spells and over the first values of its fields
+pub record RunsWhole (p : Object) (date : List ℕ) (records : List (List ℕ)) (r : Run) : Type 0 where
+  pub number : ℤ
+  pub spelled : date_in date ≡ Some number
+  pub out : Output
+  pub run : IsRun p number (first_fields p) records (course_of (summary_of r) out) (bytes_of r)

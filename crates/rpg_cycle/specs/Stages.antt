@@ -1,0 +1,65 @@
+-- How far a job is: the words, and what the code's answers stand for.
+use Rattle.std.specs.Prelude.{Bool, true, false, Result, Ok, Err}
+use Rattle.rpg_cycle.specs.Ends.{End, GoesOn, EndOfJob, Halt, Wrong}
+use Rattle.rpg_cycle.specs.declared.ends.CycleEnd.{CycleEnd}
+use Rattle.rpg_cycle.specs.declared.ends.CycleEnd.TheVariants as answers
+use Rattle.rpg_cycle.specs.declared.ends.JobEnd.{JobEnd}
+use Rattle.rpg_cycle.specs.declared.ends.JobEnd.TheVariants as jobs
+use Rattle.rpg_cycle.specs.declared.ends.Stop.{Stop}
+use Rattle.rpg_cycle.specs.declared.ends.Stop.TheVariants as stops
+use Rattle.rpg_cycle.specs.declared.ends.Progress as kept
+use Rattle.rpg_cycle.specs.declared.ends.Progress.TheVariants as progresses
+
+-- under way, at its end, or without the memory that a cycle wanted
+pub data Stage : Type 0 where
+  Going : Stage
+  Ended : End → Stage
+  Failed : Stage
+
+-- a cycle follows
+abbrev pub is_going : Stage → Bool
+is_going Going = true
+is_going (Ended e) = false
+is_going Failed = false
+
+abbrev pub has_failed : Stage → Bool
+has_failed Going = false
+has_failed (Ended e) = false
+has_failed Failed = true
+
+-- the stage that a cycle with this end leads to
+abbrev pub stage_at : End → Stage
+stage_at GoesOn = Going
+stage_at EndOfJob = Ended EndOfJob
+stage_at (Halt k) = Ended (Halt k)
+stage_at (Wrong f) = Ended (Wrong f)
+
+-- the end of a job
+abbrev pub job_end : JobEnd → End
+job_end jobs.EndOfJob = EndOfJob
+job_end (jobs.Halt k) = Halt k
+
+-- the stage that an answer tells
+abbrev pub told : CycleEnd → Stage
+told answers.GoesOn = Going
+told answers.EndOfJob = Ended EndOfJob
+told (answers.Halt k) = Ended (Halt k)
+told answers.Failed = Failed
+
+-- the stage that a job keeps
+abbrev pub stage_of : kept.Progress → Stage
+stage_of progresses.Going = Going
+stage_of (progresses.Ended e) = Ended (job_end e)
+stage_of progresses.Failed = Failed
+
+-- of a call that ended the job; nothing of one that goes on, or that found no memory
+abbrev pub IfStops : {A : Type 0} → Result A Stop → (JobEnd → Type 0) → Type 0
+IfStops (Ok x) P = Unit {0}
+IfStops (Err (stops.Ends e)) P = P e
+IfStops (Err stops.NoMemory) P = Unit {0}
+
+-- of a call that found its memory
+abbrev pub UnlessNoMemory : {A : Type 0} → Result A Stop → Type 0 → Type 0
+UnlessNoMemory (Ok x) P = P
+UnlessNoMemory (Err (stops.Ends e)) P = P
+UnlessNoMemory (Err stops.NoMemory) P = Unit {0}

@@ -1,0 +1,68 @@
+//! How a cycle and a job end.
+
+use std::alloc::AllocError;
+use thiserror::Error;
+
+/// How a job ended.
+#[derive(Clone, Copy)]
+pub enum JobEnd {
+    EndOfJob,
+    /// 2 a bad index, 3 a record of no type, 4 a bad digit, 5 a spent allowance, 6 a halt indicator, 7 a bad record.
+    Halt(u8),
+}
+
+/// What a cycle led to.
+#[derive(Clone, Copy)]
+pub enum CycleEnd {
+    GoesOn,
+    EndOfJob,
+    Halt(u8),
+    /// Memory ran out in an earlier cycle.
+    Failed,
+}
+
+/// How far a job is.
+#[derive(Clone, Copy)]
+pub enum Progress {
+    Going,
+    Ended(JobEnd),
+    Failed,
+}
+
+/// Why a phase doesn't go on.
+#[derive(Clone, Copy)]
+pub enum Stop {
+    Ends(JobEnd),
+    NoMemory,
+}
+
+impl From<AllocError> for Stop {
+    ghost use Rattle.std.specs.Prelude.{◌≡◌};
+    ghost use Rattle.rpg_cycle.specs.declared.ends.Stop.TheVariants.{NoMemory};
+
+    ghost from_gives = { λ _ e. e ≡ NoMemory };
+
+    fn from(_error: AllocError) -> Stop {
+        Stop::NoMemory
+    }
+}
+
+/// Why a job doesn't start.
+#[derive(Clone, Copy, Debug, Error)]
+pub enum StartFault {
+    #[error("the date is not six digits")]
+    D1,
+    #[error("no memory")]
+    NoMemory,
+}
+
+impl From<AllocError> for StartFault {
+    ghost use Rattle.std.specs.Prelude.{◌≡◌};
+    ghost use Rattle.rpg_cycle.specs.declared.ends.StartFault.TheVariants.{NoMemory};
+
+    ghost from_gives = { λ _ e. e ≡ NoMemory };
+
+    fn from(_error: AllocError) -> StartFault {
+        StartFault::NoMemory
+    }
+}

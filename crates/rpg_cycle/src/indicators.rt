@@ -1,0 +1,64 @@
+//! Indicators that the cycle itself reads and sets.
+ghost use Rattle.std.specs.Prelude.{◌≡◌, ◌≤◌, All, take};
+ghost use Rattle.std.specs.Option.{ForSome};
+ghost use Rattle.rpg_cycle.specs.Indicators as spec;
+ghost use Rattle.rpg_machine.specs.Ready.{IsReady};
+ghost use Rattle.rpg_machine.specs.Running.{Running};
+ghost use Rattle.rpg_program.specs.Kept.{IsIndicator};
+
+use rpg_machine::Machine;
+use rpg_store::Store;
+
+pub const LAST_RECORD: u8 = 110;
+
+pub const FIRST_PAGE: u8 = 111;
+/// L1 to L9.
+pub const LEVELS: [u8; 9] = [101, 102, 103, 104, 105, 106, 107, 108, 109];
+/// H1 to H9.
+pub const HALT_INDICATORS: [u8; 9] = [120, 121, 122, 123, 124, 125, 126, 127, 128];
+
+/// Whether a halt indicator is on.
+pub(crate) fn is_halt_asked<S: Store + Drop>(machine: &Machine<S>) -> bool
+    ensures { result ≡ spec.any_on machine.now.config spec.halt_indicators }
+{
+    for number in HALT_INDICATORS {
+        if machine.indicator(number) {
+            return true;
+        }
+    }
+    false
+}
+
+/// Turns indicators on or off, in order.
+pub(crate) fn turn_all<S: Store + Drop>(machine: &mut Machine<S>, numbers: &[u8], on: bool)
+    requires { All IsIndicator numbers.now }
+    ensures turned { machine.new ≡ record machine.old { config = spec.with_all numbers.now on machine.old.config } }
+    ensures ready { IsReady machine.old → IsReady machine.new }
+{
+    for number in numbers {
+        machine.set_indicator(*number, on);
+    }
+}
+
+/// Turns a record type's indicator off, unless it is LR.
+pub(crate) fn turn_type_off<S: Store + Drop>(machine: &mut Machine<S>, indicator: Option<u8>)
+    requires { ForSome indicator IsIndicator }
+    ensures turned { machine.new ≡ record machine.old { config = spec.without_type indicator machine.old.config } }
+    ensures ready { IsReady machine.old → IsReady machine.new }
+{
+    match indicator {
+        Some(LAST_RECORD) | None => {}
+        Some(number) => machine.set_indicator(number, false),
+    }
+}
+
+/// Turns a record type's indicator on.
+pub(crate) fn turn_type_on<S: Store + Drop>(machine: &mut Machine<S>, indicator: Option<u8>)
+    requires { ForSome indicator IsIndicator }
+    ensures turned { machine.new ≡ record machine.old { config = spec.with_type indicator machine.old.config } }
+    ensures ready { IsReady machine.old → IsReady machine.new }
+{
+    if let Some(number) = indicator {
+        machine.set_indicator(number, true);
+    }
+}

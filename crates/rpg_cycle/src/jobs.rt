@@ -1,0 +1,204 @@
+//! Jobs: a program at work on its records.
+ghost use Rattle.std.specs.Prelude.{◌≡◌};
+ghost use Rattle.rpg_cycle.specs.Stages.{stage_of, told};
+
+use crate::cycle::run_cycle;
+use crate::date::{Date, put_date};
+use crate::ends::{CycleEnd, JobEnd, Progress, StartFault, Stop};
+use crate::indicators::{LAST_RECORD, is_halt_asked};
+use crate::kept::Kept;
+use rpg_machine::{Machine, Output};
+use rpg_store::{FlatStore, Store, first_values_fit};
+use rpg_verify::Verified;
+use std::alloc::{AllocError, Global};
+use std::marker::Model;
+
+/// A program at work: one cycle for each record.
+#[derive(Drop)]
+pub struct Job<'a, S: Store + Drop> {
+    program: &'a Verified,
+    machine: Machine<'a, S>,
+    kept: Kept,
+    progress: Progress,
+}
+
+impl<'a, S: Store + Drop> Model for Job<'a, S> {
+    ghost use Rattle.std.specs.Coded.{codes};
+    ghost use Rattle.rpg_cycle.specs.Codes.{left_code, stage_code};
+    ghost use Rattle.rpg_cycle.specs.Job.{AtWork, IsAtWork};
+    ghost use Rattle.rpg_cycle.specs.Keeping.{left_of};
+    ghost use Rattle.rpg_machine.specs.Codes.{config_code};
+    ghost use Rattle.rpg_cycle.specs.Stages.{stage_of};
+
+    ghost Value = { AtWork };
+
+    ghost coded = { Prim.hlevel (codes, config_code, left_code, stage_code) };
+
+    ghost view = { λ j. record {
+      program = j.program.now;
+      config = j.machine.config;
+      last = j.machine.last;
+      output = j.machine.output;
+      left = left_of j.kept;
+      stage = stage_of j.progress;
+    } };
+
+    ghost invariant = { λ j. IsAtWork j.program.now j.machine (stage_of j.progress) (left_of j.kept) };
+}
+
+/// What a job answers at its stage.
+fn answer_from(progress: Progress) -> CycleEnd
+    ensures { told result ≡ stage_of progress }
+{
+    match progress {
+        Progress::Going => CycleEnd::GoesOn,
+        Progress::Ended(JobEnd::EndOfJob) => CycleEnd::EndOfJob,
+        Progress::Ended(JobEnd::Halt(number)) => CycleEnd::Halt(number),
+        Progress::Failed => CycleEnd::Failed,
+    }
+}
+
+impl<'a> Job<'a, FlatStore> {
+    ghost use Rattle.std.specs.Prelude.{◌↔◌, None, IfOk, IsErrOf};
+    ghost use Rattle.rpg_cycle.specs.Job.{Starts, first_fields};
+    ghost use Rattle.rpg_cycle.specs.Starting.{date_in};
+
+    /// A job at its start, on a date of six digits, over the first values of the program's fields.
+    pub fn start(
+        alloc: Global,
+        program: &'a Verified,
+        date: &[u8],
+    ) -> Result<Job<'a, FlatStore>, StartFault>
+        ensures start { IfOk result (λ j. Starts program.now date.now (first_fields program.now) j) }
+        ensures date { IsErrOf result StartFault.D1 ↔ (date_in date.now ≡ None) }
+    {
+        let Some(date) = Date::read(date) else {
+            return Err(StartFault::D1);
+        };
+        first_values_fit(program.program());
+        let store = FlatStore::new(alloc, program.program())?;
+        Ok(Job::start_on(alloc, program, date, store)?)
+    }
+}
+
+impl<'a, S: Store + Drop> Job<'a, S> {
+    ghost use Rattle.std.specs.Prelude.{◌≤◌, true, false, ◌↔◌, None, IfOk, OnErr, IsOk, IsErrOf};
+    ghost use Rattle.std.specs.Option.{option_map};
+    ghost use Rattle.rpg_cycle.specs.Job as of;
+    ghost use Rattle.rpg_cycle.specs.Stages.{Failed, is_going, told};
+    ghost use Rattle.rpg_cycle.specs.Starting.{date_in};
+    ghost use Rattle.rpg_store.specs.Fits.{Fits};
+    ghost use Rattle.rpg_verify.specs.Bound.{bound};
+
+    /// A job at its start, on a date of six digits, over a store whose values fit the program's fields.
+    pub fn start_in(
+        alloc: Global,
+        program: &'a Verified,
+        date: &[u8],
+        store: S,
+    ) -> Result<Job<'a, S>, StartFault>
+        requires own { S.forms store ≡ program.now.fields }
+        requires fits { Fits program.now.fields (S.contents store) (S.currents store) }
+        ensures start { IfOk result (λ j. of.Starts program.now date.now (record { values = S.contents store; current = S.currents store }) j) }
+        ensures date { IsErrOf result StartFault.D1 ↔ (date_in date.now ≡ None) }
+    {
+        let Some(date) = Date::read(date) else {
+            return Err(StartFault::D1);
+        };
+        Ok(Job::start_on(alloc, program, date, store)?)
+    }
+
+    /// A job at its start on a date.
+    fn start_on(
+        alloc: Global,
+        program: &'a Verified,
+        date: Date,
+        mut store: S,
+    ) -> Result<Job<'a, S>, AllocError>
+        requires own { S.forms store ≡ program.now.fields }
+        requires fits { Fits program.now.fields (S.contents store) (S.currents store) }
+        ensures { IfOk result (λ j. j ≡ of.started program.now date.value (record { values = S.contents store; current = S.currents store })) }
+    {
+        put_date(&mut store, program, date.value);
+        let machine = Machine::new(alloc, program, store)?;
+        let kept = Kept::new(alloc, program)?;
+        Ok(Job {
+            program,
+            machine,
+            kept,
+            progress: Progress::Going,
+        })
+    }
+
+    /// Whether the next cycle takes a record.
+    pub fn needs_record(&self) -> bool
+        ensures { result ≡ of.needs_record self.now }
+    {
+        match self.progress {
+            Progress::Going => {
+                !self.machine.indicator(LAST_RECORD) && !is_halt_asked(&self.machine)
+            }
+            Progress::Ended(_) | Progress::Failed => false,
+        }
+    }
+
+    /// Does one cycle, with the record that is next, or with `None` at the end of the file. A record that isn't needed is
+    /// ignored. After an `Err` the job has failed: it answers `Failed` from then on.
+    pub fn cycle(&mut self, next: Option<&[u8]>) -> Result<CycleEnd, AllocError>
+        ensures going { is_going self.old.stage ≡ true → IfOk result (λ _. of.Cycles self.old (option_map (λ t. t.now) next.entry) self.new) }
+        ensures told { IfOk result (λ e. told e ≡ self.new.stage) }
+        ensures over { is_going self.old.stage ≡ false → IsOk result × (self.new ≡ self.old) }
+        ensures failed { OnErr result (self.new.stage ≡ Failed) }
+        ensures bound { of.InBound self.new }
+    {
+        match self.progress {
+            Progress::Going => {
+                let progress = self.cycle_on(next)?;
+                Ok(answer_from(progress))
+            }
+            Progress::Ended(end) => Ok(answer_from(Progress::Ended(end))),
+            Progress::Failed => Ok(CycleEnd::Failed),
+        }
+    }
+
+    /// A cycle of a job that goes on. The job counts as failed until the cycle is through.
+    pub(crate) fn cycle_on(&mut self, next: Option<&[u8]>) -> Result<Progress, AllocError>
+        requires { is_going self.old.stage ≡ true }
+        ensures done { IfOk result (λ _. of.Cycles self.old (option_map (λ t. t.now) next.entry) self.new) }
+        ensures stage { IfOk result (λ g. stage_of g ≡ self.new.stage) }
+        ensures ran { IfOk result (λ g. stage_of g ≡ Failed → ⊥) }
+        ensures failed { OnErr result (self.new.stage ≡ Failed) }
+        ensures bound { IfOk result (λ _. self.new.config.steps ≤ bound self.new.program) }
+    {
+        self.progress = Progress::Failed;
+        match run_cycle(self.program, &mut self.machine, &mut self.kept, next) {
+            Ok(selected) => {
+                self.kept.note(self.program, selected);
+                self.progress = Progress::Going;
+                Ok(Progress::Going)
+            }
+            Err(Stop::Ends(end)) => {
+                self.machine.finish()?;
+                self.progress = Progress::Ended(end);
+                Ok(Progress::Ended(end))
+            }
+            Err(Stop::NoMemory) => Err(AllocError),
+        }
+    }
+
+    /// The steps of the last cycle.
+    pub fn steps(&self) -> u64
+        ensures { result ≡ self.now.config.steps }
+    {
+        self.machine.steps()
+    }
+
+    /// What was put out since it was taken last.
+    pub fn take_output(&mut self) -> Output
+        ensures print { result.print.items ≡ self.old.output.print }
+        ensures disk { result.disk.items ≡ self.old.output.disk }
+        ensures rest { self.new ≡ of.taken self.old }
+    {
+        self.machine.take_output()
+    }
+}

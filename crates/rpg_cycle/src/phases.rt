@@ -1,0 +1,297 @@
+//! The phases of a cycle that select no record.
+ghost use Rattle.std.specs.Prelude.{◌≡◌, ℕ, ◌+◌, ◌^◌, ◌<◌, ◌≤◌, All, IfOk, List, length, map, true};
+ghost use Rattle.std.specs.Option.{ForSome};
+ghost use Rattle.rpg_cycle.specs.Doing.{Does, Passes};
+ghost use Rattle.rpg_cycle.specs.Ends as ends;
+ghost use Rattle.rpg_cycle.specs.Ends.{GoesOn};
+ghost use Rattle.rpg_cycle.specs.Fitting.{IsTypeIn};
+ghost use Rattle.rpg_cycle.specs.Indicators as lights;
+ghost use Rattle.rpg_cycle.specs.Keeping.{selected_as};
+ghost use Rattle.rpg_machine.specs.Ready.{IsReady};
+ghost use Rattle.rpg_cycle.specs.Phases as spec;
+ghost use Rattle.rpg_cycle.specs.Phases.{◌before◌};
+ghost use Rattle.rpg_cycle.specs.Spending.{Spends, first_cost, inputs_weight, reach, overflow_weight, totals_weight};
+ghost use Rattle.rpg_cycle.specs.Stages.{IfStops, UnlessNoMemory, job_end};
+ghost use Rattle.rpg_effect.specs.Ends as effects;
+ghost use Rattle.rpg_machine.specs.Outputs.{output_weight};
+ghost use Rattle.rpg_machine.specs.declared.time.OutputTime.TheVariants as times;
+ghost use Rattle.rpg_program.specs.Kept.{IsCharacter, IsIndicator};
+ghost use Rattle.rpg_program.specs.Object.{type_row};
+ghost use Rattle.rpg_program.specs.Sections.{has_end};
+ghost use Rattle.rpg_program.specs.declared.section.Section.TheVariants as sections;
+
+use crate::ends::{JobEnd, Stop};
+use crate::indicators::{FIRST_PAGE, LAST_RECORD, LEVELS, is_halt_asked, turn_all, turn_type_off};
+use crate::program::{is_bounded, overflow_of, types_of};
+use rpg_effect::outcome::End;
+use rpg_machine::Machine;
+use rpg_machine::time::OutputTime;
+use rpg_program::row::RecordType;
+use rpg_program::section::Section;
+use rpg_store::Store;
+use rpg_verify::Verified;
+
+/// What the machine's answer means for the cycle.
+fn go_on(end: End) -> Result<(), Stop>
+    ensures goes { IfOk result (λ _. end ≡ End.GoesOn) }
+    ensures stops { IfStops result (λ e. ends.end_of (effects.end_of end) ≡ job_end e) }
+    ensures memory { UnlessNoMemory result (Unit {0}) }
+{
+    match end {
+        End::GoesOn => Ok(()),
+        End::Halt(number) => Err(Stop::Ends(JobEnd::Halt(number))),
+    }
+}
+
+/// The lines of a time.
+fn put_out<S: Store + Drop>(
+    program: &Verified,
+    machine: &mut Machine<S>,
+    time: OutputTime,
+) -> Result<(), Stop>
+    requires program { machine.old.program ≡ program.now }
+    requires ready { IsReady machine.old }
+    requires few { machine.old.config.steps ≤ 2 ^ 60 }
+    ensures goes { IfOk result (λ _. Passes (spec.output program.now time) machine.old GoesOn machine.new) }
+    ensures stops { IfStops result (λ e. Passes (spec.output program.now time) machine.old (job_end e) machine.new) }
+    ensures program { IfOk result (λ _. machine.new.program ≡ program.now) }
+    ensures ready { IfOk result (λ _. IsReady machine.new) }
+    ensures spends { UnlessNoMemory result (Spends program.now (output_weight program.now time) machine.old machine.new) }
+{
+    let end = machine.output(time)?;
+    go_on(end)
+}
+
+/// A section of calculations.
+fn calculate<S: Store + Drop>(
+    program: &Verified,
+    machine: &mut Machine<S>,
+    section: Section,
+) -> Result<(), Stop>
+    requires program { machine.old.program ≡ program.now }
+    requires section { has_end section ≡ true }
+    requires ready { IsReady machine.old }
+    requires few { machine.old.config.steps ≤ 2 ^ 60 }
+    ensures goes { IfOk result (λ _. Passes (spec.section program.now section) machine.old GoesOn machine.new) }
+    ensures stops { IfStops result (λ e. Passes (spec.section program.now section) machine.old (job_end e) machine.new) }
+    ensures program { IfOk result (λ _. machine.new.program ≡ program.now) }
+    ensures ready { IfOk result (λ _. IsReady machine.new) }
+    ensures spends { UnlessNoMemory result (Spends program.now (first_cost program.now section) machine.old machine.new) }
+{
+    let end = machine.section(section)?;
+    go_on(end)
+}
+
+/// 1. Heading and detail lines.
+pub(crate) fn put_out_details<S: Store + Drop>(
+    program: &Verified,
+    machine: &mut Machine<S>,
+) -> Result<(), Stop>
+    requires program { machine.old.program ≡ program.now }
+    requires ready { IsReady machine.old }
+    requires few { machine.old.config.steps ≤ 2 ^ 60 }
+    ensures goes { IfOk result (λ _. Passes (spec.detail_lines program.now) machine.old GoesOn machine.new) }
+    ensures stops { IfStops result (λ e. Passes (spec.detail_lines program.now) machine.old (job_end e) machine.new) }
+    ensures program { IfOk result (λ _. machine.new.program ≡ program.now) }
+    ensures ready { IfOk result (λ _. IsReady machine.new) }
+    ensures spends { UnlessNoMemory result (Spends program.now (output_weight program.now times.Detail) machine.old machine.new) }
+{
+    put_out(program, machine, OutputTime::Detail)
+}
+
+/// 2. Halt 6 where a halt indicator is on.
+pub(crate) fn halt_where_asked<S: Store + Drop>(machine: &Machine<S>) -> Result<(), Stop>
+    ensures goes { IfOk result (λ _. Passes spec.halt_where_asked machine.now GoesOn machine.now) }
+    ensures stops { IfStops result (λ e. Passes spec.halt_where_asked machine.now (job_end e) machine.now) }
+{
+    if is_halt_asked(machine) {
+        return Err(Stop::Ends(JobEnd::Halt(6)));
+    }
+    Ok(())
+}
+
+/// Turns the indicators of record types off.
+fn turn_types_off<S: Store + Drop>(machine: &mut Machine<S>, types: &[RecordType])
+    requires { All (λ t. ForSome t.indicator IsIndicator) types.now }
+    ensures turned { machine.new ≡ record machine.old { config = lights.without_types (map type_row types.now) machine.old.config } }
+    ensures ready { IsReady machine.old → IsReady machine.new }
+{
+    for record_type in types {
+        turn_type_off(machine, record_type.indicator);
+    }
+}
+
+/// Turns the indicators of record types, L1 to L9 and 1P off.
+fn turn_off<S: Store + Drop>(program: &Verified, machine: &mut Machine<S>)
+    ensures turned { machine.new ≡ record machine.old { config = spec.all_off program.now machine.old.config } }
+    ensures ready { IsReady machine.old → IsReady machine.new }
+{
+    turn_types_off(machine, types_of(program));
+    turn_all(machine, &LEVELS, false);
+    machine.set_indicator(FIRST_PAGE, false);
+}
+
+/// 3. The indicators of record types, L1 to L9 and 1P go off.
+pub(crate) fn set_off<S: Store + Drop>(program: &Verified, machine: &mut Machine<S>)
+    requires program { machine.old.program ≡ program.now }
+    requires ready { IsReady machine.old }
+    ensures goes { Passes (spec.set_off program.now) machine.old GoesOn machine.new }
+    ensures program { machine.new.program ≡ program.now }
+    ensures ready { IsReady machine.new }
+    ensures spends { Spends program.now 0 machine.old machine.new }
+{
+    turn_off(program, machine);
+}
+
+/// Whether types have control fields.
+fn has_control_fields(types: &[RecordType]) -> bool
+    ensures { result ≡ spec.has_control_fields (map type_row types.now) }
+{
+    for record_type in types {
+        if !record_type.levels.is_empty() {
+            return true;
+        }
+    }
+    false
+}
+
+/// Whether total time is bypassed.
+fn is_bypassed<S: Store + Drop>(
+    program: &Verified,
+    machine: &Machine<S>,
+    has_any: bool,
+    has_control: bool,
+) -> bool
+    ensures { result ≡ spec.is_bypassed program.now has_any has_control machine.now.config }
+{
+    !machine.indicator(LAST_RECORD)
+        && (!has_any || (has_control_fields(types_of(program)) && !has_control))
+}
+
+/// Total calculations and total lines.
+fn do_totals<S: Store + Drop>(program: &Verified, machine: &mut Machine<S>) -> Result<(), Stop>
+    requires program { machine.old.program ≡ program.now }
+    requires ready { IsReady machine.old }
+    requires few { reach program.now machine.old ≤ 2 ^ 59 }
+    ensures goes { IfOk result (λ _. Passes (spec.section program.now sections.Total before spec.output program.now times.Total) machine.old GoesOn machine.new) }
+    ensures stops { IfStops result (λ e. Passes (spec.section program.now sections.Total before spec.output program.now times.Total) machine.old (job_end e) machine.new) }
+    ensures program { IfOk result (λ _. machine.new.program ≡ program.now) }
+    ensures ready { IfOk result (λ _. IsReady machine.new) }
+    ensures spends { UnlessNoMemory result (Spends program.now (totals_weight program.now) machine.old machine.new) }
+{
+    is_bounded(program);
+    calculate(program, machine, Section::Total)?;
+    put_out(program, machine, OutputTime::Total)
+}
+
+/// 5. Total calculations and total lines, unless they are bypassed.
+pub(crate) fn take_total_time<S: Store + Drop>(
+    program: &Verified,
+    machine: &mut Machine<S>,
+    has_any: bool,
+    has_control: bool,
+) -> Result<(), Stop>
+    requires program { machine.old.program ≡ program.now }
+    requires ready { IsReady machine.old }
+    requires few { reach program.now machine.old ≤ 2 ^ 59 }
+    ensures goes { IfOk result (λ _. Passes (spec.unless (spec.is_bypassed program.now has_any has_control) (spec.section program.now sections.Total before spec.output program.now times.Total)) machine.old GoesOn machine.new) }
+    ensures stops { IfStops result (λ e. Passes (spec.unless (spec.is_bypassed program.now has_any has_control) (spec.section program.now sections.Total before spec.output program.now times.Total)) machine.old (job_end e) machine.new) }
+    ensures program { IfOk result (λ _. machine.new.program ≡ program.now) }
+    ensures ready { IfOk result (λ _. IsReady machine.new) }
+    ensures spends { UnlessNoMemory result (Spends program.now (totals_weight program.now) machine.old machine.new) }
+{
+    if is_bypassed(program, machine, has_any, has_control) {
+        return Ok(());
+    }
+    do_totals(program, machine)
+}
+
+/// 6. The job ends where LR is on, or where no record was selected.
+pub(crate) fn end_where_last<S: Store + Drop>(
+    machine: &Machine<S>,
+    selected: Option<usize>,
+) -> Result<(), Stop>
+    ensures goes { IfOk result (λ _. (text : List ℕ) → Does spec.end_where_last machine.now (selected_as selected text) GoesOn machine.now (selected_as selected text)) }
+    ensures stops { IfStops result (λ e. (text : List ℕ) → Does spec.end_where_last machine.now (selected_as selected text) (job_end e) machine.now (selected_as selected text)) }
+{
+    if machine.indicator(LAST_RECORD) || selected.is_none() {
+        return Err(Stop::Ends(JobEnd::EndOfJob));
+    }
+    Ok(())
+}
+
+/// Whether the overflow indicator is off, or there is none.
+fn has_no_overflow<S: Store + Drop>(machine: &Machine<S>, overflow: Option<u8>) -> bool
+    requires { ForSome overflow IsIndicator }
+    ensures { result ≡ spec.has_no_overflow overflow machine.now.config }
+{
+    match overflow {
+        None => true,
+        Some(number) => !machine.indicator(number),
+    }
+}
+
+/// 7. All lines of a new page, where the overflow indicator is on.
+pub(crate) fn put_out_overflow<S: Store + Drop>(
+    program: &Verified,
+    machine: &mut Machine<S>,
+) -> Result<(), Stop>
+    requires program { machine.old.program ≡ program.now }
+    requires ready { IsReady machine.old }
+    requires few { machine.old.config.steps ≤ 2 ^ 60 }
+    ensures goes { IfOk result (λ _. Passes (spec.overflow_lines program.now) machine.old GoesOn machine.new) }
+    ensures stops { IfStops result (λ e. Passes (spec.overflow_lines program.now) machine.old (job_end e) machine.new) }
+    ensures program { IfOk result (λ _. machine.new.program ≡ program.now) }
+    ensures ready { IfOk result (λ _. IsReady machine.new) }
+    ensures spends { UnlessNoMemory result (Spends program.now (overflow_weight program.now) machine.old machine.new) }
+{
+    if has_no_overflow(machine, overflow_of(program)) {
+        return Ok(());
+    }
+    put_out(program, machine, OutputTime::Overflow)
+}
+
+/// 8. The columns of the selected record become values of fields.
+pub(crate) fn fill_fields<S: Store + Drop>(
+    program: &Verified,
+    machine: &mut Machine<S>,
+    selected: Option<usize>,
+    text: &[u8],
+) -> Result<(), Stop>
+    requires program { machine.old.program ≡ program.now }
+    requires ready { IsReady machine.old }
+    requires few { machine.old.config.steps ≤ 2 ^ 60 }
+    requires there { ForSome selected (λ t. t < length program.now.types) }
+    requires whole { ForSome selected (λ _. length text.now ≡ program.now.record_length) }
+    requires characters { ForSome selected (λ _. All IsCharacter text.now) }
+    ensures goes { IfOk result (λ _. Does (spec.fill_fields program.now) machine.old (selected_as selected text.now) GoesOn machine.new (selected_as selected text.now)) }
+    ensures stops { IfStops result (λ e. Does (spec.fill_fields program.now) machine.old (selected_as selected text.now) (job_end e) machine.new (selected_as selected text.now)) }
+    ensures program { IfOk result (λ _. machine.new.program ≡ program.now) }
+    ensures ready { IfOk result (λ _. IsReady machine.new) }
+    ensures spends { UnlessNoMemory result (Spends program.now (inputs_weight program.now selected) machine.old machine.new) }
+{
+    match selected {
+        None => Ok(()),
+        Some(row) => {
+            let end = machine.fill_fields(row, text);
+            go_on(end)
+        }
+    }
+}
+
+/// 9. Detail calculations.
+pub(crate) fn calculate_details<S: Store + Drop>(
+    program: &Verified,
+    machine: &mut Machine<S>,
+) -> Result<(), Stop>
+    requires program { machine.old.program ≡ program.now }
+    requires ready { IsReady machine.old }
+    requires few { machine.old.config.steps ≤ 2 ^ 60 }
+    ensures goes { IfOk result (λ _. Passes (spec.detail_calculations program.now) machine.old GoesOn machine.new) }
+    ensures stops { IfStops result (λ e. Passes (spec.detail_calculations program.now) machine.old (job_end e) machine.new) }
+    ensures program { IfOk result (λ _. machine.new.program ≡ program.now) }
+    ensures ready { IfOk result (λ _. IsReady machine.new) }
+    ensures spends { UnlessNoMemory result (Spends program.now (first_cost program.now sections.Detail) machine.old machine.new) }
+{
+    calculate(program, machine, Section::Detail)
+}

@@ -1,0 +1,33 @@
+//! The text of a record.
+ghost use Rattle.std.specs.Prelude.{◌≡◌, ◌≤◌, IfOk, length, true};
+ghost use Rattle.std.specs.List.{list_all};
+ghost use Rattle.rpg_cycle.specs.Identifying as spec;
+
+use crate::program::record_length;
+use rpg_verify::Verified;
+use std::alloc::AllocError;
+
+/// Whether a program can take the record: one of characters, no longer than the program's records.
+pub(crate) fn is_good(program: &Verified, text: &[u8]) -> bool
+    ensures { result ≡ spec.is_good program.now text.now }
+{
+    text.len() <= record_length(program) && are_characters(text)
+}
+
+fn are_characters(text: &[u8]) -> bool
+    ensures { result ≡ list_all spec.is_character text.now }
+{
+    text.iter().all(|c| 0x20 <= *c && *c <= 0x7E)
+}
+
+/// The record, filled with blanks to the length of the program's records, in the place of another.
+pub(crate) fn fill(record: &mut Vec<u8>, program: &Verified, text: &[u8]) -> Result<(), AllocError>
+    requires { spec.is_good program.now text.now ≡ true }
+    ensures filled { IfOk result (λ _. record.new.items ≡ spec.filled program.now text.now) }
+    ensures whole { IfOk result (λ _. length record.new.items ≡ program.now.record_length) }
+{
+    record.clear();
+    record.extend_from_slice(text)?;
+    record.resize(record_length(program), b' ')?;
+    Ok(())
+}
