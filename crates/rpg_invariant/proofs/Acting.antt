@@ -48,7 +48,8 @@ not_false : (b : Bool) → not b ≡ false → b ≡ true
 not_false true h = refl
 not_false false h = cc
 
-result_may : (p : Object) (a : Action (Operand ℕ)) → IsRight p.fields a → all_used (is_written (form_at p.fields)) (row_of (form_of (form_at p.fields)) a).result ≡ true
+result_may : (p : Object) (a : Action (Operand ℕ)) → IsRight p.fields a →
+    all_used (is_written (form_at p.fields)) (row_of (form_of (form_at p.fields)) a).result ≡ true
 unfolding lacks_storage
 result_may p a right = (and_true (all_of (is_there (form_at p.fields)) (row_of (form_of (form_at p.fields)) a)) _ (not_false _ right.storage)).1
 
@@ -63,17 +64,20 @@ over_fits Right k n len old = (right_digits k n len old).fits
 over_fits Left k n len old = (left_digits k n len old).fits
 
 module _ (p : Object) (good : AreForms p.fields) where
-  after_fits : (from : Kind) (side : Side) (w : World nat_cmp) (b : Entry ℕ) (len : ℕ) (old n : ℤ) → 1 ≤ len → number_after (form_at p.fields) from side w b len old ≡ Some n → unsigned_abs n < 10 ^ len
+  after_fits : (from : Kind) (side : Side) (w : World nat_cmp) (b : Entry ℕ) (len : ℕ) (old n : ℤ) → 1 ≤ len →
+      number_after (form_at p.fields) from side w b len old ≡ Some n → unsigned_abs n < 10 ^ len
   after_fits kinds.Number side w b len old n low h =
       subst (λ (x : ℤ). unsigned_abs x < 10 ^ len) (same_Some _ n h) (over_fits side (length_of (form_at p.fields b.field)) (number_at w b.field b.position) len old)
   after_fits kinds.Text side w b len old n low h =
       read_fits (text_over side (characters_at w b.field b.position) (zoned_text len old)) len n (over_length side (characters_at w b.field b.position) (zoned_text len old) ∙ length-zoned len old low) h
 
-  source_spelled : (from : Kind) (w : World nat_cmp) (b : Entry ℕ) → Holds p w → IsValue p.fields from b.field b.position → All IsCharacter (source_text (form_at p.fields) from w b)
+  source_spelled : (from : Kind) (w : World nat_cmp) (b : Entry ℕ) → Holds p w → IsValue p.fields from b.field b.position →
+      All IsCharacter (source_text (form_at p.fields) from w b)
   source_spelled kinds.Number w b h value = zoned_characters (length_of (form_at p.fields b.field)) (number_at w b.field b.position)
   source_spelled kinds.Text w b h value = text_spelled p w b.field b.position h value
 
-  moved_keeps : (from to : Kind) (side : Side) (w : World nat_cmp) (b r : Entry ℕ) → Holds p w → IsValue p.fields from b.field b.position → IsValue p.fields to r.field r.position → may_write (form_at p.fields r.field) ≡ true →
+  moved_keeps : (from to : Kind) (side : Side) (w : World nat_cmp) (b r : Entry ℕ) → Holds p w → IsValue p.fields from b.field b.position →
+      IsValue p.fields to r.field r.position → may_write (form_at p.fields r.field) ≡ true →
       Keeps p (moved (form_at p.fields) from to side w b r)
   unfolding moved
   moved_keeps from kinds.Number side w b r h source result may =
@@ -87,23 +91,28 @@ module _ (p : Object) (good : AreForms p.fields) where
 
   -- ---- LOKUP
 
-  index_kept : (index : Index ℕ) (n : ℕ) (w : World nat_cmp) → Holds p w → reads_index p.fields index ≡ true → can_hold (form_at p.fields) index n ≡ true → Holds p (index_set index n w)
+  index_kept : (index : Index ℕ) (n : ℕ) (w : World nat_cmp) → Holds p w → reads_index p.fields index ≡ true →
+      can_hold (form_at p.fields) index n ≡ true → Holds p (index_set index n w)
   index_kept Blank n w h reads holds = h
   index_kept (Literal m) n w h reads holds = h
   index_kept (Field k) n w h reads holds = number_written p w k 1 (pos n) h (index_value p.fields k good reads) (index_may (form_at p.fields k) reads) (held p.fields k n holds)
 
-  current_if : (b : Bool) (table n : ℕ) (w : World nat_cmp) → Holds p w → 1 ≤ n → n ≤ entries_of (form_at p.fields table) → Holds p (cond b (set_current w table n) w)
+  current_if : (b : Bool) (table n : ℕ) (w : World nat_cmp) → Holds p w → 1 ≤ n → n ≤ entries_of (form_at p.fields table) →
+      Holds p (cond b (set_current w table n) w)
   current_if true table n w h low high = current_set p w table n h low high
   current_if false table n w h low high = h
 
-  current_kept : (table n : ℕ) (w : World nat_cmp) → Holds p w → 1 ≤ n → n ≤ entries_of (form_at p.fields table) → Holds p (made_current (form_at p.fields) table n w)
+  current_kept : (table n : ℕ) (w : World nat_cmp) → Holds p w → 1 ≤ n → n ≤ entries_of (form_at p.fields table) →
+      Holds p (made_current (form_at p.fields) table n w)
   current_kept table n w h low high = current_if (is_table_form (form_at p.fields table)) table n w h low high
 
-  table_kept : (table : Option ℕ) (n : ℕ) (w : World nat_cmp) → Holds p w → 1 ≤ n → HasPosition p.fields table n → Holds p (made_current_if_any (form_at p.fields) table n w)
+  table_kept : (table : Option ℕ) (n : ℕ) (w : World nat_cmp) → Holds p w → 1 ≤ n → HasPosition p.fields table n →
+      Holds p (made_current_if_any (form_at p.fields) table n w)
   table_kept None n w h low has = h
   table_kept (Some table) n w h low has = current_kept table n w h low has
 
-  placed_keeps : (b : Entry ℕ) (table : Option ℕ) (o : Option Found) (w : World nat_cmp) → Holds p w → reads_index p.fields b.index ≡ true → IfSome o (λ f. FitsPosition p.fields b table f.position) → Holds p (placed (form_at p.fields) b table o w)
+  placed_keeps : (b : Entry ℕ) (table : Option ℕ) (o : Option Found) (w : World nat_cmp) → Holds p w → reads_index p.fields b.index ≡ true →
+      IfSome o (λ f. FitsPosition p.fields b table f.position) → Holds p (placed (form_at p.fields) b table o w)
   unfolding placed
   placed_keeps b table None w h reads fits = index_kept b.index 1 w h reads (first_fits p.fields b.index good reads)
   placed_keeps b table (Some f) w h reads fits =
@@ -112,7 +121,8 @@ module _ (p : Object) (good : AreForms p.fields) where
       let two = current_kept b.field n (index_set b.index n w) one fits.low fits.high in
       table_kept table n (made_current (form_at p.fields) b.field n (index_set b.index n w)) two fits.low (has_position p.fields b table n fits)
 
-  looks_keep : (w : World nat_cmp) (b : Entry ℕ) (table : Option ℕ) (s : Shows) (o : Option Found) → Holds p w → reads_index p.fields b.index ≡ true → IfSome o (λ f. FitsPosition p.fields b table f.position) → Keeps p (looked_up (form_at p.fields) w b table s o)
+  looks_keep : (w : World nat_cmp) (b : Entry ℕ) (table : Option ℕ) (s : Shows) (o : Option Found) → Holds p w → reads_index p.fields b.index ≡ true →
+      IfSome o (λ f. FitsPosition p.fields b table f.position) → Keeps p (looked_up (form_at p.fields) w b table s o)
   looks_keep w b table s o h reads fits =
       let after = placed (form_at p.fields) b table o w in
       let v = found_shown (form_at p.fields) s o after in
@@ -121,7 +131,8 @@ module _ (p : Object) (good : AreForms p.fields) where
   -- ---- the operations
 
   -- a number that was made to fit is stored
-  stored : (w : World nat_cmp) (half : Bool) (r : Entry ℕ) (s : Shows) (x : Fraction) → Holds p w → IsValue p.fields kinds.Number r.field r.position → may_write (form_at p.fields r.field) ≡ true →
+  stored : (w : World nat_cmp) (half : Bool) (r : Entry ℕ) (s : Shows) (x : Fraction) → Holds p w → IsValue p.fields kinds.Number r.field r.position →
+      may_write (form_at p.fields r.field) ≡ true →
       Keeps p (Leaves (store w r s (kept half (form_at p.fields r.field) x)))
   stored w half r s x h value may =
       let form = form_at p.fields r.field in
@@ -133,7 +144,8 @@ module _ (p : Object) (good : AreForms p.fields) where
     abbrev entry : Operand ℕ → Entry ℕ
     entry o = entry_of (form_at p.fields) w.fields o
 
-    act_keeps : (a : Action (Operand ℕ)) → IsRight p.fields a → AreEntries p.fields (with_operands entry a) → Keeps p (act (form_at p.fields) (with_operands entry a) w)
+    act_keeps : (a : Action (Operand ℕ)) → IsRight p.fields a → AreEntries p.fields (with_operands entry a) →
+        Keeps p (act (form_at p.fields) (with_operands entry a) w)
     unfolding act row_of entry_of
     act_keeps (Compute f half a b r s) right entries =
         stored w half (entry r) s (computed f (exact (form_at p.fields) w (entry a)) (exact (form_at p.fields) w (entry b))) h
@@ -163,7 +175,8 @@ module _ (p : Object) (good : AreForms p.fields) where
     act_keeps (SetIndicators is_on s) right entries = leaves p _ (same_fields p w _ h refl)
 
 -- an operation with nothing wrong never ends wrong, and keeps what holds
-pub operate_keeps : (p : Object) (a : Action (Operand ℕ)) (w : World nat_cmp) → IsProgram p → IsRightRow (form_at p.fields) (row_of (form_of (form_at p.fields)) a) → Holds p w → Keeps p (operate (form_at p.fields) a w)
+pub operate_keeps : (p : Object) (a : Action (Operand ℕ)) (w : World nat_cmp) → IsProgram p →
+    IsRightRow (form_at p.fields) (row_of (form_of (form_at p.fields)) a) → Holds p w → Keeps p (operate (form_at p.fields) a w)
 unfolding operate resolved
 operate_keeps p a w kept row h =
     let good = program_forms p kept in

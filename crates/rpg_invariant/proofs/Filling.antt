@@ -51,7 +51,8 @@ columns_spelled f text h = All-take IsCharacter (f.to - (f.from - 1)) _ (All-dro
 -- ---- one field, and all of a record
 
 module _ (p : Object) (good : AreForms p.fields) where
-  by_number : (f : InputField ℕ) (part : List ℕ) (w : World nat_cmp) (v : Value) (o : Option ℤ) → Holds p w → IsValue p.fields kinds.Number f.field 1 → may_write (form_at p.fields f.field) ≡ true →
+  by_number : (f : InputField ℕ) (part : List ℕ) (w : World nat_cmp) (v : Value) (o : Option ℤ) → Holds p w → IsValue p.fields kinds.Number f.field 1 →
+      may_write (form_at p.fields f.field) ≡ true →
       length part ≡ length_of (form_at p.fields f.field) → number_in part ≡ o → option_map Number o ≡ Some v → Holds p (taken f.field f.shows v w)
   by_number f part w v None h value may long read is = cc
   by_number f part w v (Some n) h value may long read is =
@@ -59,14 +60,16 @@ module _ (p : Object) (good : AreForms p.fields) where
       let written = same_fields p (set_value w f.field 1 (Number n)) (taken f.field f.shows (Number n) w) (number_written p w f.field 1 n h value may small) refl in
       subst (λ (x : Value). Holds p (taken f.field f.shows x w)) (same_Some (Number n) v is) written
 
-  taken_keeps : (k : Kind) (f : InputField ℕ) (part : List ℕ) (w : World nat_cmp) (v : Value) → Holds p w → IsValue p.fields k f.field 1 → may_write (form_at p.fields f.field) ≡ true →
+  taken_keeps : (k : Kind) (f : InputField ℕ) (part : List ℕ) (w : World nat_cmp) (v : Value) → Holds p w → IsValue p.fields k f.field 1 →
+      may_write (form_at p.fields f.field) ≡ true →
       length part ≡ length_of (form_at p.fields f.field) → All IsCharacter part → value_read k part ≡ Some v → Holds p (taken f.field f.shows v w)
   taken_keeps kinds.Number f part w v h value may long spelled is = by_number f part w v (number_in part) h value may long refl is
   taken_keeps kinds.Text f part w v h value may long spelled is =
       let written = same_fields p (set_value w f.field 1 (Text part)) (taken f.field f.shows (Text part) w) (text_written p w f.field 1 part h value may long spelled) refl in
       subst (λ (x : Value). Holds p (taken f.field f.shows x w)) (same_Some (Text part) v is) written
 
-  field_keeps : (text : List ℕ) (f : InputField ℕ) (w : World nat_cmp) → input_fault (form_at p.fields) (length text) f ≡ None → All IsCharacter text → Holds p w → Keeps p (field_in (form_at p.fields) text f w)
+  field_keeps : (text : List ℕ) (f : InputField ℕ) (w : World nat_cmp) → input_fault (form_at p.fields) (length text) f ≡ None → All IsCharacter text →
+      Holds p w → Keeps p (field_in (form_at p.fields) text f w)
   unfolding field_in
   field_keeps text f w right spelled h =
       let k = kind_of (form_at p.fields f.field) in
@@ -81,7 +84,8 @@ module _ (p : Object) (good : AreForms p.fields) where
       subst (λ (o : Option Fault). Keeps p (unless_wrong o w (or_halt (value_read k part) 4 w go))) (sym right) done
 
   -- a record whose input fields have nothing wrong
-  pub record_keeps : (text : List ℕ) (fs : List (InputField ℕ)) (w : World nat_cmp) → All (λ f. input_fault (form_at p.fields) (length text) f ≡ None) fs → All IsCharacter text → Holds p w →
+  pub record_keeps : (text : List ℕ) (fs : List (InputField ℕ)) (w : World nat_cmp) →
+      All (λ f. input_fault (form_at p.fields) (length text) f ≡ None) fs → All IsCharacter text → Holds p w →
       Keeps p (record_in (form_at p.fields) text fs w)
   unfolding record_in
   record_keeps text [] w right spelled h = leaves p w h

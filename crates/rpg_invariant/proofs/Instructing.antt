@@ -13,7 +13,10 @@ use Rattle.rpg_invariant.proofs.Printing.{lines_keep}
 use Rattle.rpg_invariant.proofs.Writing.{leaves, same_fields, then_keeps}
 use Rattle.rpg_invariant.specs.Holding.{Holds, Keeps}
 use Rattle.rpg_lines.specs.Outputs.{detail_effect, overflow_detail_effect, overflow_effect, passage_effect}
+use Rattle.rpg_machine.specs.Outputs.{output_effect}
 use Rattle.rpg_machine.specs.Step.{effect}
+use Rattle.rpg_machine.specs.declared.time.OutputTime.{OutputTime}
+use Rattle.rpg_machine.specs.declared.time.OutputTime.TheVariants as times
 use Rattle.rpg_program.specs.Kept.{IsProgram}
 use Rattle.rpg_program.specs.Object.{Object}
 use Rattle.rpg_program.specs.declared.section.Place.{Place}
@@ -24,7 +27,7 @@ module _ (p : Object) (kept : IsProgram p) (sound : IsSound p) where
   pub passage_keeps : (pass : Pass) (w : World nat_cmp) → Holds p w → Keeps p (passage_effect p pass w)
   passage_keeps pass w h = lines_keep p kept p.overflow pass p.lines w sound.lines h
 
-  pub detail_keeps : (w : World nat_cmp) → Holds p w → Keeps p (detail_effect p w)
+  detail_keeps : (w : World nat_cmp) → Holds p w → Keeps p (detail_effect p w)
   detail_keeps w h =
       then_keeps p (passage_effect p passes.Detail w) (λ v. Leaves (settled p.overflow v)) (passage_keeps passes.Detail w h)
       (λ v k. leaves p _ (same_fields p v (settled p.overflow v) k refl))
@@ -33,8 +36,14 @@ module _ (p : Object) (kept : IsProgram p) (sound : IsSound p) where
   overflow_details_keep w h =
       then_keeps p (passage_effect p passes.OverflowDetail w) (λ v. Leaves (marked v)) (passage_keeps passes.OverflowDetail w h) (λ v k. leaves p _ (same_fields p v (marked v) k refl))
 
-  pub overflow_keeps : (w : World nat_cmp) → Holds p w → Keeps p (overflow_effect p w)
+  overflow_keeps : (w : World nat_cmp) → Holds p w → Keeps p (overflow_effect p w)
   overflow_keeps w h = then_keeps p (passage_effect p passes.OverflowTotal w) (overflow_detail_effect p) (passage_keeps passes.OverflowTotal w h) overflow_details_keep
+
+  -- the output of a time
+  pub output_keeps : (time : OutputTime) (w : World nat_cmp) → Holds p w → Keeps p (output_effect p time w)
+  output_keeps times.Detail w h = detail_keeps w h
+  output_keeps times.Total w h = passage_keeps passes.Total w h
+  output_keeps times.Overflow w h = overflow_keeps w h
 
   -- an instruction of the program
   pub instruction_keeps : (x : Place) (i : Instruction ℕ) (w : World nat_cmp) → IsAt p x i → Holds p w → Keeps p (effect p i w)

@@ -3,3 +3,7 @@ pub mod Acting
 pub mod Filling
 pub mod Printing
 pub mod Instructing
+pub mod Stepping
+pub mod Running
+pub mod Accepting
+pub mod Starting

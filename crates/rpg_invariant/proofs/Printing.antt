@@ -94,7 +94,8 @@ module _ (p : Object) where
   value_of : (k : Kind) (f n : ℕ) → (i : IsEntry p.fields f n) → i.form.kind ≡ k → IsValue p.fields k f n
   value_of k f n i kind = record { form = i.form; there = i.there; kind = kind; low = i.low; high = i.high }
 
-  blank_by : (k : Kind) (v : Option Value) (w : World nat_cmp) (f n : ℕ) → Holds p w → (i : IsEntry p.fields f n) → i.form.kind ≡ k → may_write (form_at p.fields f) ≡ true → HasForm k i.form.length v →
+  blank_by : (k : Kind) (v : Option Value) (w : World nat_cmp) (f n : ℕ) → Holds p w → (i : IsEntry p.fields f n) → i.form.kind ≡ k →
+      may_write (form_at p.fields f) ≡ true → HasForm k i.form.length v →
       Holds p (set_value w f n (blanked v))
   blank_by kinds.Number (Some (Number m)) w f n h i kind may has = number_written p w f n (pos 0) h (value_of kinds.Number f n i kind) may (ten_pos (length_of (form_at p.fields f)))
   blank_by kinds.Text (Some (Text text)) w f n h i kind may has =
@@ -114,7 +115,8 @@ module _ (p : Object) where
       all_blanked es (set_value w e.0 e.1 (blanked (value_in w.fields e))) (one_blanked w e h (All-head (MayWrite p) e es may)) (All-tail (MayWrite p) e es may)
 
   -- PAGE is made one more
-  page_written : (w : World nat_cmp) (f n : ℕ) → Holds p w → IsEntry p.fields f n → fits_source sources.Page (form_at p.fields f) ≡ true → Holds p (set_value w f n (Number (next_page (number_of (value_in w.fields (f, n))))))
+  page_written : (w : World nat_cmp) (f n : ℕ) → Holds p w → IsEntry p.fields f n → fits_source sources.Page (form_at p.fields f) ≡ true →
+      Holds p (set_value w f n (Number (next_page (number_of (value_in w.fields (f, n))))))
   page_written w f n h i source =
       let before = number_of (value_in w.fields (f, n)) in
       let read = number_here _ (page_number p.fields w.fields f n h.fits i source) in
@@ -123,7 +125,8 @@ module _ (p : Object) where
       let kind = kinds_same (kind_of (form_at p.fields f)) kinds.Number (and_true _ _ index).0 in
       number_written p w f n (next_page before) h (value_of kinds.Number f n i (kind_is p.fields f n kinds.Number i kind)) (index_may (form_at p.fields f) index) room
 
-  counts : (source : Source) (w : World nat_cmp) (f n : ℕ) → Holds p w → IsEntry p.fields f n → fits_source source (form_at p.fields f) ≡ true → Holds p (record w { fields = counted source (f, n) w.fields })
+  counts : (source : Source) (w : World nat_cmp) (f n : ℕ) → Holds p w → IsEntry p.fields f n → fits_source source (form_at p.fields f) ≡ true →
+      Holds p (record w { fields = counted source (f, n) w.fields })
   counts sources.Value w f n h i source = h
   counts sources.Page w f n h i source = page_written w f n h i source
 
@@ -135,7 +138,8 @@ module _ (p : Object) where
     pub fields : Holds p (record w { fields = d.draft.fields })
     pub blanks : All (MayWrite p) d.draft.to_blank
 
-  remembers : (b : Bool) (e : ℕ × ℕ) (es : List (ℕ × ℕ)) → All (MayWrite p) es → IsEntry p.fields e.0 e.1 → (b ≡ true → may_write (form_at p.fields e.0) ≡ true) → All (MayWrite p) (remembered b e es)
+  remembers : (b : Bool) (e : ℕ × ℕ) (es : List (ℕ × ℕ)) → All (MayWrite p) es → IsEntry p.fields e.0 e.1 →
+      (b ≡ true → may_write (form_at p.fields e.0) ≡ true) → All (MayWrite p) (remembered b e es)
   remembers true e es h i may = All-push (MayWrite p) es e h (record { entry = i; may = may refl })
   remembers false e es h i may = h
 
@@ -143,7 +147,8 @@ module _ (p : Object) where
     abbrev forms : ℕ → Option FieldForm
     forms field = form_at p.fields field
 
-    laid_keeps : (d : Draft nat_cmp) (f : LineField ℕ) (position : Option ℕ) → field_fault forms (word_at p) len f ≡ None → Draws w (drafted GoesOn d) → IfSome position (λ n. IsEntry p.fields f.operand.field n) →
+    laid_keeps : (d : Draft nat_cmp) (f : LineField ℕ) (position : Option ℕ) → field_fault forms (word_at p) len f ≡ None → Draws w (drafted GoesOn d) →
+        IfSome position (λ n. IsEntry p.fields f.operand.field n) →
         Draws w (laid forms (word_at p) d f position)
     laid_keeps d f None fault h i = record { ending = (omega arith, omega arith); fields = h.fields; blanks = h.blanks }
     laid_keeps d f (Some n) fault h i = record {
@@ -152,7 +157,8 @@ module _ (p : Object) where
       blanks = remembers f.is_blanked (f.operand.field, n) d.to_blank h.blanks i (blank_may f.is_blanked (is_page f.source) _ (field_may forms (word_at p) len f fault));
     }
 
-    field_keeps : (d : Draft nat_cmp) (f : LineField ℕ) → field_fault forms (word_at p) len f ≡ None → Draws w (drafted GoesOn d) → Draws w (with_field forms (word_at p) w.on len d f)
+    field_keeps : (d : Draft nat_cmp) (f : LineField ℕ) → field_fault forms (word_at p) len f ≡ None → Draws w (drafted GoesOn d) →
+        Draws w (with_field forms (word_at p) w.on len d f)
     unfolding with_field
     field_keeps d f fault h =
         let r = right forms (word_at p) len f fault in
@@ -164,12 +170,14 @@ module _ (p : Object) where
         where_held true h k = h
         where_held false h k = k
 
-    goes_on : (ending : End) (d : Drafted nat_cmp) (go : Draft nat_cmp → Drafted nat_cmp) → IsRightEnd ending → Draws w d → (Draws w (drafted GoesOn d.draft) → Draws w (go d.draft)) → Draws w (go_on_with ending d go)
+    goes_on : (ending : End) (d : Drafted nat_cmp) (go : Draft nat_cmp → Drafted nat_cmp) → IsRightEnd ending → Draws w d →
+        (Draws w (drafted GoesOn d.draft) → Draws w (go d.draft)) → Draws w (go_on_with ending d go)
     goes_on GoesOn d go right h next = next (record { ending = tt; fields = h.fields; blanks = h.blanks })
     goes_on (Halt k) d go right h next = h
     goes_on (Wrong f) d go right h next = absurd right
 
-    assembled_keeps : (fs : List (LineField ℕ)) (d : Draft nat_cmp) → AreRight forms (word_at p) len fs → Draws w (drafted GoesOn d) → Draws w (assembled forms (word_at p) w.on len fs d)
+    assembled_keeps : (fs : List (LineField ℕ)) (d : Draft nat_cmp) → AreRight forms (word_at p) len fs → Draws w (drafted GoesOn d) →
+        Draws w (assembled forms (word_at p) w.on len fs d)
     assembled_keeps [] d all h = h
     assembled_keeps (f ∷ fs) d all h =
         let Right = λ (g : LineField ℕ). field_fault forms (word_at p) len g ≡ None in
@@ -186,7 +194,8 @@ module _ (p : Object) where
       then_keeps p (printed (spaced_before overflow s w) text) (λ v. Leaves (spaced_after overflow s v)) (record { ending = tt; holds = same_fields p w (spaced_before overflow s w) h (before overflow s w) })
       (λ v k. leaves p _ (same_fields p v (spaced_after overflow s v) k (after overflow s v)))
 
-  out_keeps : (overflow : Option ℕ) (l : Line ℕ) (w : World nat_cmp) (ending : End) (d : Draft nat_cmp) → IsRightEnd ending → Draws w (drafted GoesOn d) → Keeps p (put_out (form_at p.fields) (word_at p) overflow l w ending d)
+  out_keeps : (overflow : Option ℕ) (l : Line ℕ) (w : World nat_cmp) (ending : End) (d : Draft nat_cmp) → IsRightEnd ending →
+      Draws w (drafted GoesOn d) → Keeps p (put_out (form_at p.fields) (word_at p) overflow l w ending d)
   out_keeps overflow l w GoesOn d right h =
       then_keeps p (put_on overflow l.file l.spacing d.text (record w { fields = d.fields })) (λ v. Leaves (record v { fields = blanked_all d.to_blank v.fields }))
       (put_keeps overflow l.file l.spacing d.text (record w { fields = d.fields }) h.fields) (λ v k. leaves p _ (all_blanked d.to_blank v k h.blanks))
@@ -208,13 +217,15 @@ module _ (p : Object) where
     asked_keeps true e w k h = k
     asked_keeps false e w k h = leaves p w h
 
-    one_keeps : (pass : Pass) (l : LineRow) (w : World nat_cmp) → IsSoundLine p l → Holds p w → Keeps p (one_out (form_at p.fields) (word_at p) overflow pass (line_of p l) w)
+    one_keeps : (pass : Pass) (l : LineRow) (w : World nat_cmp) → IsSoundLine p l → Holds p w →
+        Keeps p (one_out (form_at p.fields) (word_at p) overflow pass (line_of p l) w)
     unfolding one_out
     one_keeps pass l w sound h =
         asked_keeps (is_asked overflow pass w.on l.time l.alternatives) (line_out (form_at p.fields) (word_at p) overflow (line_of p l) w) w (line_keeps l w sound h) h
 
     -- the lines of a passage
-    pub lines_keep : (pass : Pass) (ls : List LineRow) (w : World nat_cmp) → All (IsSoundLine p) ls → Holds p w → Keeps p (lines_out (form_at p.fields) (word_at p) overflow pass (map (line_of p) ls) w)
+    pub lines_keep : (pass : Pass) (ls : List LineRow) (w : World nat_cmp) → All (IsSoundLine p) ls → Holds p w →
+        Keeps p (lines_out (form_at p.fields) (word_at p) overflow pass (map (line_of p) ls) w)
     unfolding lines_out
     lines_keep pass [] w sound h = leaves p w h
     lines_keep pass (l ∷ ls) w sound h =

@@ -59,11 +59,13 @@ module _ (p : Object) where
     constants = subst (λ (f : Fields nat_cmp). KeepsConstants p f.values) (sym is) h.constants;
   }
 
-  constants_kept : (w : World nat_cmp) (field n : ℕ) (v : Value) → Holds p w → may_write (form_at p.fields field) ≡ true → KeepsConstants p (maps.insert w.fields.values (field, n) v)
+  constants_kept : (w : World nat_cmp) (field n : ℕ) (v : Value) → Holds p w → may_write (form_at p.fields field) ≡ true →
+      KeepsConstants p (maps.insert w.fields.values (field, n) v)
   constants_kept w field n v h may = constants-insert p w.fields.values field n v h.constants (λ d is. no_constant (form_at p.fields field) d may is)
 
   -- a number of so many digits is stored in a number field
-  pub number_written : (w : World nat_cmp) (field n : ℕ) (x : ℤ) → Holds p w → IsValue p.fields kinds.Number field n → may_write (form_at p.fields field) ≡ true → unsigned_abs x < 10 ^ length_of (form_at p.fields field) →
+  pub number_written : (w : World nat_cmp) (field n : ℕ) (x : ℤ) → Holds p w → IsValue p.fields kinds.Number field n →
+      may_write (form_at p.fields field) ≡ true → unsigned_abs x < 10 ^ length_of (form_at p.fields field) →
       Holds p (set_value w field n (Number x))
   number_written w field n x h value may small = record {
     fits = fits_number p.fields w.fields.values w.fields.current field n x h.fits value small;
@@ -71,7 +73,8 @@ module _ (p : Object) where
   }
 
   -- a text of so many characters is stored in a text field
-  pub text_written : (w : World nat_cmp) (field n : ℕ) (text : List ℕ) → Holds p w → IsValue p.fields kinds.Text field n → may_write (form_at p.fields field) ≡ true → length text ≡ length_of (form_at p.fields field) → All IsCharacter text →
+  pub text_written : (w : World nat_cmp) (field n : ℕ) (text : List ℕ) → Holds p w → IsValue p.fields kinds.Text field n →
+      may_write (form_at p.fields field) ≡ true → length text ≡ length_of (form_at p.fields field) → All IsCharacter text →
       Holds p (set_value w field n (Text text))
   text_written w field n text h value may long spelled = record {
     fits = fits_text p.fields w.fields.values w.fields.current field n text h.fits value long spelled;
@@ -84,14 +87,16 @@ module _ (p : Object) where
 
   -- ---- what stands in a text field
 
-  text_at : (w : World nat_cmp) (field n : ℕ) → Holds p w → IsValue p.fields kinds.Text field n → (length (characters_at w field n) ≡ length_of (form_at p.fields field)) × All IsCharacter (characters_at w field n)
+  text_at : (w : World nat_cmp) (field n : ℕ) → Holds p w → IsValue p.fields kinds.Text field n →
+      (length (characters_at w field n) ≡ length_of (form_at p.fields field)) × All IsCharacter (characters_at w field n)
   text_at w field n h value =
       let found = text_in_form value.form.length _ (form_there p.fields w.fields.values w.fields.current kinds.Text field n h.fits value) in
       let same : found.0 ≡ characters_at w field n = ap characters_of (sym found.1) in
       (ap length (sym same) ∙ found.2 ∙ ap length_of (sym value.there), subst (λ (t : List ℕ). All IsCharacter t) same (h.fits.characters field n found.0 found.1))
 
   -- the text of an entry is as long as its field
-  pub text_long : (w : World nat_cmp) (field n : ℕ) → Holds p w → IsValue p.fields kinds.Text field n → length (characters_at w field n) ≡ length_of (form_at p.fields field)
+  pub text_long : (w : World nat_cmp) (field n : ℕ) → Holds p w → IsValue p.fields kinds.Text field n →
+      length (characters_at w field n) ≡ length_of (form_at p.fields field)
   text_long w field n h value = (text_at w field n h value).0
 
   -- the text of an entry is characters
@@ -108,15 +113,18 @@ module _ (p : Object) where
   pub halts : (k : ℕ) (w : World nat_cmp) → 1 ≤ k → k ≤ 4 → Holds p w → Keeps p (quiet (Halt k) w)
   halts k w low high h = record { ending = (low, high); holds = h }
 
-  pub or_halts : {A : Type 0} (o : Option A) (k : ℕ) (w : World nat_cmp) (go : A → Effect nat_cmp) → 1 ≤ k → k ≤ 4 → Holds p w → ((x : A) → o ≡ Some x → Keeps p (go x)) → Keeps p (or_halt o k w go)
+  pub or_halts : {A : Type 0} (o : Option A) (k : ℕ) (w : World nat_cmp) (go : A → Effect nat_cmp) → 1 ≤ k → k ≤ 4 → Holds p w →
+      ((x : A) → o ≡ Some x → Keeps p (go x)) → Keeps p (or_halt o k w go)
   or_halts None k w go low high h next = halts k w low high h
   or_halts (Some x) k w go low high h next = next x refl
 
-  follows : (ending : End) (e : Effect nat_cmp) (go : World nat_cmp → Effect nat_cmp) → IsRightEnd ending → Keeps p e → ((w : World nat_cmp) → Holds p w → Keeps p (go w)) → Keeps p (go_on ending e go)
+  follows : (ending : End) (e : Effect nat_cmp) (go : World nat_cmp → Effect nat_cmp) → IsRightEnd ending → Keeps p e →
+      ((w : World nat_cmp) → Holds p w → Keeps p (go w)) → Keeps p (go_on ending e go)
   follows GoesOn e go right h next = let more = next e.world h.holds in record { ending = more.ending; holds = more.holds }
   follows (Halt k) e go right h next = h
   follows (Wrong f) e go right h next = absurd right
 
   -- the one, and then the other
-  pub then_keeps : (e : Effect nat_cmp) (go : World nat_cmp → Effect nat_cmp) → Keeps p e → ((w : World nat_cmp) → Holds p w → Keeps p (go w)) → Keeps p (then_go e go)
+  pub then_keeps : (e : Effect nat_cmp) (go : World nat_cmp → Effect nat_cmp) → Keeps p e → ((w : World nat_cmp) → Holds p w → Keeps p (go w)) →
+      Keeps p (then_go e go)
   then_keeps e go h next = follows e.ending e go h.ending h next
