@@ -3,6 +3,9 @@ use Rattle.std.proofs.Common.{◌≡◌, ℕ, ℤ, true, false, List, [], ◌++�
 use Rattle.std.specs.Io.KnownBytes.{Appends}
 use Rattle.std.proofs.KnownBytes.{Appends-nil, Consumes-nil}
 use Rattle.rpg_effect.specs.Put.{Bytes}
+use Rattle.rpg_files.specs.Counting.{device_of, faults_of}
+use Rattle.rpg_files.specs.declared.counting.Counted.{Counted}
+use Rattle.rpg_engine.specs.Faults.{FaultsAre}
 use Rattle.rpg_files.specs.Sending.{AppendsFirst, AppendsPrefix}
 use Rattle.rpg_program.specs.Object.{Object}
 use Rattle.rpg_engine.specs.Inputs.{OfInput}
@@ -92,3 +95,16 @@ on_err (Err e) P Q f h = f e h
 pub on_ok : {X E : Type 0} (r : Result X E) (P Q : X → Type 0) → ((x : X) → P x → Q x) → IfOk r P → IfOk r Q
 on_ok (Ok x) P Q f h = f x h
 on_ok (Err e) P Q f h = tt
+
+-- whose fault it was is said of the reader before and behind, whatever they are called
+pub faults_same : {X R W1 W2 : Type 0} (result : Result X RunFault) (old new old' new' : Counted R) (print : Counted W1) (disk : Counted W2) (print' : Counted W1) (disk' : Counted W2)
+    (remaining : R → Option (List ℕ)) → old ≡ old' → new ≡ new'
+    → FaultsAre result (remaining (device_of old)) (remaining (device_of new))
+      (record { reader = faults_of old; print = faults_of print; disk = faults_of disk }) (record { reader = faults_of new; print = faults_of print'; disk = faults_of disk' })
+    → FaultsAre result (remaining (device_of old')) (remaining (device_of new'))
+      (record { reader = faults_of old'; print = faults_of print; disk = faults_of disk }) (record { reader = faults_of new'; print = faults_of print'; disk = faults_of disk' })
+faults_same {X} {R} result old new old' new' print disk print' disk' remaining same left holds =
+    subst (λ (x : Counted R). FaultsAre result (remaining (device_of old')) (remaining (device_of x))
+      (record { reader = faults_of old'; print = faults_of print; disk = faults_of disk }) (record { reader = faults_of x; print = faults_of print'; disk = faults_of disk' })) left
+    (subst (λ (x : Counted R). FaultsAre result (remaining (device_of x)) (remaining (device_of new))
+      (record { reader = faults_of x; print = faults_of print; disk = faults_of disk }) (record { reader = faults_of new; print = faults_of print'; disk = faults_of disk' })) same holds)

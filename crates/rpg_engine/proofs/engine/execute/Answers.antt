@@ -2,7 +2,7 @@ use Rattle.std.proofs.Common.{◌≡◌, ◌∙◌, ap, sym, rules}
 use Rattle.rpg_files.specs.Counting.{device_of}
 use Rattle.rpg_files.specs.Reading.{source_of}
 use Rattle.std.proofs.lemmas.Result.{err_from_is_err_and}
-use Rattle.rpg_engine.proofs.Refusing.{may_run, no_room, not_started, object_refused, on_err, on_ok, parts_same, reports_same, told_of_run}
+use Rattle.rpg_engine.proofs.Refusing.{may_run, no_room, not_started, object_refused, on_err, on_ok, faults_same, parts_same, reports_same, told_of_run}
 use Rattle.rpg_engine.proofs.engine.execute.Goals as goal
 
 pub returns-in_err-verified-clause-early : goal.returns-in_err-verified-clause-early
@@ -22,13 +22,22 @@ returns-in_err-room-clause-early g c =
 
 pub returns-clause-refused : goal.returns-clause-refused
 returns-clause-refused g c =
-    told_of_run c.run.result c.args.object.now c.args.date.now (may_run c.args.object.now c.args.date.now c.in_ok-verified.verified c.in_ok-job.job c.in_ok-verified.ensures.spelled c.in_ok-verified.ensures.accepted c.in_ok-job.ensures.start) c.run.ensures.only
+    told_of_run c.run-report.result c.args.object.now c.args.date.now (may_run c.args.object.now c.args.date.now c.in_ok-verified.verified c.in_ok-job.job c.in_ok-verified.ensures.spelled c.in_ok-verified.ensures.accepted c.in_ok-job.ensures.start) c.run-report.ensures.only
 
+-- the reader ends as the run left it
 pub returns-clause-report : goal.returns-clause-report
-returns-clause-report g c = let x = c.input-1.foo in ?
+returns-clause-report g c =
+    let same : source_of c.run-report.new.records ≡ c.input-1.given.0 = search rules in
+    on_ok c.run-report.result _ _ (λ report holds p day job. reports_same c.args.object.now c.args.date.now c.in_ok-verified.verified p day c.in_ok-job.job _ _ _ _ _ _ _ _ report
+      (ap (λ x. g.R.Read.remaining (device_of x)) c.new-records.ensures.untouched) (ap (λ x. g.R.Read.remaining (device_of x)) same) holds c.in_ok-job.ensures.start c.in_ok-verified.ensures.only job) c.run-report.ensures.report
 
 pub returns-clause-early : goal.returns-clause-early
-returns-clause-early g c = let x = c.records-1.foo in ?
+returns-clause-early g c =
+    let same : source_of c.run-report.new.records ≡ c.input-1.given.0 = search rules in
+    on_err c.run-report.result _ _ (λ e holds p day job. parts_same c.args.object.now c.args.date.now c.in_ok-verified.verified p day c.in_ok-job.job _ _ _ _ _ _ _ _ e
+      (ap (λ x. g.R.Read.remaining (device_of x)) c.new-records.ensures.untouched) (ap (λ x. g.R.Read.remaining (device_of x)) same) holds c.in_ok-job.ensures.start c.in_ok-verified.ensures.only job) c.run-report.ensures.early
 
 pub returns-clause-faults : goal.returns-clause-faults
-returns-clause-faults g c = let x = c.new-arg-1.foo in let y = c.input-1 in ?
+returns-clause-faults g c =
+    let same : source_of c.run-report.new.records ≡ c.input-1.given.0 = search rules in
+    faults_same c.run-report.result _ _ _ _ c.args.print.now c.args.disk.now c.run-report.new.print c.run-report.new.disk g.R.Read.remaining c.new-records.ensures.untouched same c.run-report.ensures.faults
