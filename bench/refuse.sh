@@ -87,5 +87,5 @@ total=$top/examples/total
 "$rpg2" compile "$lister/lister.rpg" "$work/lister.obj" > "$work/line"
 refuse compile "compiled" "$work/refused.obj" "$work/lister.obj" compile "$lister/lister.rpg" "$work/refused.obj"
 refuse verify "accepted, bound 5" "$work/unwritten" "" verify "$total/total.obj"
-refuse run "end of job, cycles 3" "$work/print" "$total/total.expected" \
+refuse run "end of job, cycles 3, steps 5 of 5" "$work/print" "$total/total.expected" \
     run "$total/total.obj" "$total/amounts.txt" "$work/print" --date 010576

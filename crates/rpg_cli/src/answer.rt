@@ -17,18 +17,38 @@ pub enum Answer {
     /// The source was compiled to an object program.
     Compiled,
     /// The source is refused: its least fault. Cards are numbered from 1; card 0 is the source as a whole.
-    Source { card: u16, code: SourceCode },
+    Source {
+        card: u16,
+        code: SourceCode,
+    },
     /// The object program keeps all rules: the most steps that a cycle of it can take.
-    Accepted { bound: u64 },
+    Accepted {
+        bound: u64,
+    },
     /// The job came to its end.
-    EndOfJob { cycles: u64, most: u64, bound: u64 },
+    EndOfJob {
+        cycles: u64,
+        most: u64,
+        bound: u64,
+    },
     /// The job halted with this number.
-    Halt { number: u8, cycles: u64, most: u64, bound: u64 },
+    Halt {
+        number: u8,
+        cycles: u64,
+        most: u64,
+        bound: u64,
+    },
     /// The object file is no object program: its first fault.
-    NotAnObject { offset: usize, code: Code },
+    NotAnObject {
+        offset: usize,
+        code: Code,
+    },
     /// The object program breaks a rule: the least one, and the first row that breaks it. Rows are counted from 0 in the
     /// rule's table.
-    Refused { rule: Rule, row: usize },
+    Refused {
+        rule: Rule,
+        row: usize,
+    },
     /// The date isn't six digits.
     BadDate,
     /// The program has a disk file, and the words name none.

@@ -14,7 +14,7 @@ use Rattle.rpg_cycle.specs.declared.ends.JobEnd.{JobEnd}
 use Rattle.rpg_cycle.specs.declared.ends.JobEnd.TheVariants as jobs
 use Rattle.rpg_cycle.specs.declared.ends.Stop.{Stop}
 use Rattle.rpg_cycle.specs.declared.ends.Stop.TheVariants as stops
-use Rattle.rpg_machine.specs.Config.{Config, Output, no_output, with_more}
+use Rattle.rpg_machine.specs.Config.{Config, no_output, with_more}
 use Rattle.rpg_machine.specs.Running.{Running, config_on}
 
 -- ---- bytes

@@ -1,20 +1,19 @@
 -- Runs under way: what was done so far, and what is left.
-use Rattle.std.proofs.Common.{◌≡◌, ℕ, ◌+◌, max, ◌<◌, ◌≤◌, Bool, true, false, cond, ◌||◌, List, [], ◌∷◌, ◌++◌, Option, None, Some, is_none, length, get_or, drop, refl, sym, ap, ◌∙◌, subst, append_assoc, append-nil, arith}
+use Rattle.std.proofs.Common.{◌≡◌, ℕ, ◌+◌, max, ◌<◌, ◌≤◌, List, [], ◌∷◌, ◌++◌, Option, None, Some, length, get_or, drop, refl, sym, ap, ◌∙◌, subst, append_assoc, append-nil, arith}
 use Rattle.std.proofs.lemmas.List.{drop_more}
 use Rattle.std.specs.Global.{Vec}
-use Rattle.rpg_edit.specs.Paper.{Placed, Position, bytes_from, end_from, paper}
+use Rattle.rpg_edit.specs.Paper.{Placed, Position, end_from, paper}
 use Rattle.rpg_effect.proofs.Putting.{end_from-lines}
-use Rattle.rpg_effect.specs.Put.{Bytes, disk_bytes, line_of, with_output}
+use Rattle.rpg_effect.specs.Put.{Bytes, line_of, with_output}
 use Rattle.rpg_cycle.proofs.Composing.{output_both, output_none}
 use Rattle.rpg_cycle.proofs.Ending.{never_on}
-use Rattle.rpg_cycle.proofs.JobCycles.{ended}
 use Rattle.rpg_cycle.specs.Earlier.{Selected, left_by, with_record}
 use Rattle.rpg_cycle.specs.Ends.{End, GoesOn, EndOfJob, Halt, Wrong}
 use Rattle.rpg_cycle.specs.Job.{AtWork, Cycles, DoesCycle, feed_at, with_feed}
 use Rattle.rpg_cycle.specs.Phases.{UnderWay}
-use Rattle.rpg_cycle.specs.Running.{RunsOn, course_of, texts}
-use Rattle.rpg_cycle.specs.Runs.{Course, Runs, ends_or, last_cycle, last_feed, printed, stored, with_cycle}
-use Rattle.rpg_cycle.specs.Stages.{Ended, Going, Stage, job_end, stage_at}
+use Rattle.rpg_cycle.specs.Running.{RunsOn, texts}
+use Rattle.rpg_cycle.specs.Runs.{Course, Runs, ends_or, last_cycle, last_feed, with_cycle}
+use Rattle.rpg_cycle.specs.Stages.{Ended, Going, job_end, stage_at}
 use Rattle.rpg_cycle.specs.declared.ends.JobEnd.{JobEnd}
 use Rattle.rpg_cycle.specs.declared.ends.JobEnd.TheVariants as jobs
 use Rattle.rpg_cycle.specs.declared.runs.Summary.{Summary}

@@ -1,14 +1,12 @@
 -- The date fits the date fields.
-use Rattle.std.proofs.Common.{◌≡◌, ℕ, ◌≤◌, ◌<◌, ◌+◌, ◌-◌, ◌^◌, ℤ, suc, Bool, true, false, cond, List, [], ◌∷◌, length, get_or, drop, All, slice_get, Option, None, Some, unsigned_abs, refl, sym, ap, ◌∙◌, subst, arith}
+use Rattle.std.proofs.Common.{◌≡◌, ℕ, ◌<◌, ◌+◌, ◌^◌, ℤ, suc, Bool, true, false, cond, List, length, get_or, drop, Option, None, Some, unsigned_abs, refl, sym, ap, ◌∙◌, subst, arith}
 use Rattle.std.proofs.lemmas.List.{drop_more}
 use Rattle.std.proofs.lemmas.Option.{same_Some, slice_get-get_or}
 use Rattle.std.specs.FinMap as map
-use Rattle.std.specs.Ordering.{nat_cmp}
 use Rattle.rpg_cycle.specs.Dating.{fields_in, with_date}
 use Rattle.rpg_cycle.specs.Starting.{dated}
 use Rattle.rpg_effect.specs.Forms.{form_at, is_date, length_of}
 use Rattle.rpg_effect.specs.Values.{Number, Text, Value}
-use Rattle.rpg_effect.specs.World.{Fields}
 use Rattle.rpg_effect.specs.declared.form.Class.{Class}
 use Rattle.rpg_effect.specs.declared.form.Class.TheVariants as classes
 use Rattle.rpg_effect.specs.declared.form.FieldForm.{FieldForm}

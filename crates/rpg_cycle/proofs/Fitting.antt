@@ -1,9 +1,8 @@
 -- What the rules and the format give of record types.
-use Rattle.std.proofs.Common.{◌≡◌, ℕ, ◌≤◌, ◌<◌, ◌+◌, suc, Bool, true, List, [], ◌∷◌, length, get_or, All, Option, Some, None, refl, sym, ap, ◌∙◌, subst, arith}
+use Rattle.std.proofs.Common.{◌≡◌, ℕ, true, get_or, All, Option, arith}
 use Rattle.std.proofs.lemmas.Bool.Decides.{nat_tests}
 use Rattle.std.specs.Option.{ForSome}
 use Rattle.rpg_cycle.specs.Fitting.{IsCodeIn, IsControlIn, IsTypeIn}
-use Rattle.rpg_effect.specs.Input.{TypeRow}
 use Rattle.rpg_effect.specs.declared.input.ControlField.{ControlField}
 use Rattle.rpg_effect.specs.declared.input.RecordCode.{RecordCode}
 use Rattle.rpg_program.specs.Kept.{IsIndicator, IsOverflowIndicator, IsProgram}

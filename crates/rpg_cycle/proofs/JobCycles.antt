@@ -1,17 +1,17 @@
 -- What a machine's cycle means for the job.
-use Rattle.std.proofs.Common.{◌≡◌, ℕ, Bool, true, false, List, [], ◌∷◌, ◌++◌, Option, None, Some, refl, sym, ap, ◌∙◌, subst, append-nil}
+use Rattle.std.proofs.Common.{◌≡◌, ℕ, List, [], Option, None, Some, refl, sym, ap, ◌∙◌, subst, append-nil}
 use Rattle.rpg_edit.specs.Paper.{Position, end_from}
 use Rattle.rpg_effect.specs.Put.{Bytes, line_of, with_output}
-use Rattle.rpg_cycle.specs.Doing.{Does, DoesBehind, under_way}
+use Rattle.rpg_cycle.specs.Doing.{Does, under_way}
 use Rattle.rpg_cycle.specs.Earlier.{Left, Selected, left_by, with_record}
-use Rattle.rpg_cycle.specs.Ends.{End, GoesOn, EndOfJob, Halt}
+use Rattle.rpg_cycle.specs.Ends.{End, GoesOn}
 use Rattle.rpg_cycle.specs.Job.{AtWork, DoesCycle, feed_at, with_feed}
 use Rattle.rpg_cycle.specs.Keeping.{kept_levels, noted, selected_as}
 use Rattle.rpg_cycle.specs.Phases.{Cycle, CycleOn, UnderWay, begun}
 use Rattle.rpg_cycle.specs.Stages.{Ended, Going, Stage, job_end, stage_at}
 use Rattle.rpg_cycle.specs.declared.ends.JobEnd.{JobEnd}
 use Rattle.rpg_cycle.specs.declared.ends.JobEnd.TheVariants as jobs
-use Rattle.rpg_machine.specs.Config.{Config, Output}
+use Rattle.rpg_machine.specs.Config.{Output}
 use Rattle.rpg_machine.specs.Running.{Running, config_on, feed_behind, finished, refilled}
 use Rattle.rpg_program.specs.Object.{Object}
 

@@ -1,7 +1,7 @@
 -- The bytes of a level, field by field.
-use Rattle.std.proofs.Common.{◌≡◌, ℕ, ◌≤◌, ◌<◌, ◌+◌, ◌-◌, zero, suc, Bool, true, false, cond, ◌&&◌, eqb, eq-eqb, eqb-true, ne_eqb, List, [], ◌∷◌, ◌++◌, length, get_or, drop, Option, None, Some, refl, sym, ap, ◌∙◌, arith, add-one}
+use Rattle.std.proofs.Common.{◌≡◌, ℕ, ◌≤◌, ◌<◌, ◌+◌, ◌-◌, zero, suc, Bool, true, false, cond, ◌&&◌, eqb, eqb-true, ne_eqb, List, [], ◌∷◌, length, get_or, drop, Option, None, Some, refl, sym, ap, ◌∙◌, arith, add-one}
 use Rattle.std.proofs.Math.ListN.{set}
-use Rattle.std.proofs.lemmas.List.{get_or-set_other, get_or-map, length-set, map-set, drop_more}
+use Rattle.std.proofs.lemmas.List.{get_or-set_other, get_or-map, map-set, drop_more}
 use Rattle.rpg_effect.specs.declared.input.ControlField.{ControlField}
 use Rattle.rpg_cycle.specs.Earlier.{or_before}
 use Rattle.rpg_cycle.specs.Fronts.{rest_behind}

@@ -1,15 +1,14 @@
 -- Phases that are the machine's.
-use Rattle.std.proofs.Common.{◌≡◌, ℕ, List, Option, None, Some, refl, sym, ap, ◌∙◌, subst}
-use Rattle.rpg_edit.specs.Paper.{Position, end_from}
+use Rattle.std.proofs.Common.{◌≡◌, ℕ, List, Option, None, Some, refl, sym, subst}
 use Rattle.rpg_effect.specs.Ends as effects
-use Rattle.rpg_cycle.specs.Doing.{Does, DoesBehind, Passes, under_way}
+use Rattle.rpg_cycle.specs.Doing.{Does, Passes}
 use Rattle.rpg_cycle.specs.Earlier.{Selected}
 use Rattle.rpg_cycle.specs.Ends.{End, GoesOn, end_of}
 use Rattle.rpg_cycle.specs.Keeping.{selected_as}
 use Rattle.rpg_cycle.specs.Phases.{by_machine, fill_fields, output, section}
 use Rattle.rpg_machine.specs.Outputs.{FillsFields, PutsOut}
 use Rattle.rpg_machine.specs.Run.{RunsTo}
-use Rattle.rpg_machine.specs.Running.{Act, Did, Running, config_on}
+use Rattle.rpg_machine.specs.Running.{Act, Did, Running}
 use Rattle.rpg_machine.specs.declared.time.OutputTime.{OutputTime}
 use Rattle.rpg_program.specs.Object.{Object}
 use Rattle.rpg_program.specs.declared.section.Section.{Section}

@@ -1,5 +1,5 @@
 -- The nine phases, as far as they were done.
-use Rattle.std.proofs.Common.{◌≡◌, ℕ, Bool, List, Option, None, Some, refl, sym, ap, ◌∙◌, subst}
+use Rattle.std.proofs.Common.{◌≡◌, ℕ, Bool, List, Option, None, Some, refl, ap, ◌∙◌, subst}
 use Rattle.rpg_cycle.proofs.Composing.{goes, ends}
 use Rattle.rpg_cycle.specs.Doing.{Does}
 use Rattle.rpg_cycle.specs.Earlier.{Left, Selected}

@@ -1,15 +1,14 @@
 -- What a job does is determined: a phase, a cycle and a run have one outcome.
-use Rattle.std.proofs.Common.{◌≡◌, ℕ, ℤ, zero, suc, Bool, true, false, cond, List, [], ◌∷◌, ◌++◌, Option, None, Some, max, ◌+◌, refl, sym, ap, ◌∙◌, subst}
+use Rattle.std.proofs.Common.{◌≡◌, ℕ, ℤ, zero, suc, Bool, true, false, cond, List, [], ◌∷◌, Option, None, Some, refl, sym, ap, ◌∙◌, subst}
 use Rattle.std.specs.Ordering.{nat_cmp}
-use Rattle.rpg_edit.specs.Paper.{Placed}
 use Rattle.rpg_effect.specs.Effect.{Effect}
 use Rattle.rpg_effect.specs.Ends as effects
 use Rattle.rpg_effect.specs.Put.{Bytes}
 use Rattle.rpg_effect.specs.World.{Fields, World}
 use Rattle.rpg_cycle.specs.Earlier.{Left, Selected, left_by, with_record}
 use Rattle.rpg_cycle.specs.Ends.{End, GoesOn, EndOfJob, Halt, Wrong, end_of}
-use Rattle.rpg_cycle.specs.Phases.{CycleOn, Done, Phase, UnderWay, begun, by_machine, detail_calculations, detail_lines, does, either, end_where_last, fill_fields, fill_from, from_there, halt_where_asked, has_no_overflow, is_bypassed, output, overflow_lines, passes, section, select_record, set_off, total_time, unless, ◌before◌}
-use Rattle.rpg_cycle.specs.Runs.{Course, IsRun, Runs, ends_or, last_cycle, printed, stored, with_cycle}
+use Rattle.rpg_cycle.specs.Phases.{CycleOn, Done, Phase, UnderWay, begun, by_machine, does, either, fill_from, from_there, output, passes, section, unless, ◌before◌}
+use Rattle.rpg_cycle.specs.Runs.{Course, IsRun, Runs, ends_or, printed, stored, with_cycle}
 use Rattle.rpg_cycle.specs.Starting.{start_of}
 use Rattle.rpg_machine.specs.Config.{Config, Output, no_output, with_more}
 use Rattle.rpg_machine.specs.Outputs.{ByEffect}

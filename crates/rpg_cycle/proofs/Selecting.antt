@@ -1,5 +1,5 @@
 -- How a record is selected.
-use Rattle.std.proofs.Common.{◌≡◌, ℕ, ◌≤◌, ◌<◌, ◌+◌, ◌*◌, suc, Bool, true, false, cond, ◌&&◌, List, [], ◌∷◌, length, slice_get, All, Option, None, Some, refl, sym, ap, ◌∙◌, subst, take, arith}
+use Rattle.std.proofs.Common.{◌≡◌, ℕ, ◌≤◌, ◌+◌, ◌*◌, suc, Bool, true, false, cond, ◌&&◌, List, [], ◌∷◌, length, slice_get, All, Option, None, Some, refl, sym, ap, ◌∙◌, subst, take, arith}
 use Rattle.std.proofs.lemmas.Bool.Decides.{nat_tests}
 use Rattle.std.specs.List.{list_all}
 use Rattle.rpg_edit.specs.Paper.{Position}
@@ -12,12 +12,12 @@ use Rattle.rpg_cycle.specs.Doing.{Does}
 use Rattle.rpg_cycle.specs.Earlier.{Left, Selected, control_fields}
 use Rattle.rpg_cycle.specs.Ends.{End, GoesOn, Halt}
 use Rattle.rpg_cycle.specs.Fitting.{IsControlIn}
-use Rattle.rpg_cycle.specs.Identifying.{Trial, IsOf, IsOfNone, filled, identified, is_good, trial_weight}
+use Rattle.rpg_cycle.specs.Identifying.{IsOf, IsOfNone, filled, identified, is_good, trial_weight}
 use Rattle.rpg_cycle.specs.Indicators.{is_on, last_record, level_indicators, with_all, with_levels, with_one, with_type}
 use Rattle.rpg_cycle.specs.Levels.{is_inside}
 use Rattle.rpg_cycle.specs.Phases.{broken_level, done, indicator_of, read_record, select_record}
 use Rattle.rpg_cycle.specs.Selecting.{HasRead, IsCompared, IsUntaken, TakesType}
-use Rattle.rpg_cycle.specs.Spending.{Selects, Spends, inputs_weight, reach}
+use Rattle.rpg_cycle.specs.Spending.{Selects, Spends}
 use Rattle.rpg_cycle.specs.Stages.{job_end}
 use Rattle.rpg_cycle.specs.declared.ends.JobEnd.{JobEnd}
 use Rattle.rpg_machine.specs.Config.{Config, charged}

@@ -1,31 +1,29 @@
 -- What phases take, and that all of them together are within the bound.
-use Rattle.std.proofs.Common.{◌≡◌, ℕ, ◌≤◌, ◌+◌, ◌-◌, ◌*◌, zero, suc, Bool, true, false, cond, ◌&&◌, not, leb, List, [], ◌∷◌, length, slice_get, slice_index, Option, None, Some, is_some, refl, sym, ap, ◌∙◌, subst, arith, rules}
+use Rattle.std.proofs.Common.{◌≡◌, ℕ, ◌≤◌, ◌+◌, ◌-◌, ◌*◌, suc, Bool, true, false, cond, ◌&&◌, not, leb, List, [], ◌∷◌, length, slice_get, slice_index, Option, None, Some, is_some, refl, ap, ◌∙◌, arith}
 use Rattle.std.proofs.lemmas.Bool.Decides.{nat_tests}
 use Rattle.std.specs.List.{list_all}
-use Rattle.rpg_edit.specs.Paper.{Position, end_from}
+use Rattle.rpg_edit.specs.Paper.{Position}
 use Rattle.rpg_effect.specs.Ends as effects
 use Rattle.rpg_effect.specs.Input.{TypeRow}
 use Rattle.rpg_effect.specs.Lines as lines
 use Rattle.rpg_effect.specs.Put.{line_of}
-use Rattle.rpg_effect.specs.Weights.{detail_weight, is_at_detail, is_at_total, is_in_cycle, line_weight, lines_weight, overflow_weight, total_weight, type_weight, types_weight}
+use Rattle.rpg_effect.specs.Weights.{is_at_detail, is_at_total, is_in_cycle, line_weight, lines_weight, type_weight, types_weight}
 use Rattle.rpg_effect.specs.declared.line.Time.{Time}
 use Rattle.rpg_effect.specs.declared.line.Time.TheVariants as times
 use Rattle.rpg_cycle.proofs.Turning.{off_keeps}
 use Rattle.rpg_cycle.specs.Earlier.{levels_of}
-use Rattle.rpg_cycle.specs.Identifying.{Trial, IsOf, Misplaced, holds, identified, is_there, trial_weight}
-use Rattle.rpg_machine.specs.Potential.{InBound}
+use Rattle.rpg_cycle.specs.Identifying.{IsOf, Misplaced, holds, identified, is_there, trial_weight}
 use Rattle.rpg_cycle.specs.Phases.{all_off}
-use Rattle.rpg_cycle.specs.Spending.{Spends, cycle_weight, first_cost, reach}
+use Rattle.rpg_cycle.specs.Spending.{Spends, cycle_weight, first_cost}
 use Rattle.rpg_machine.specs.Config.{Config}
-use Rattle.rpg_machine.specs.Outputs.{ByEffect, FillsFields, PutsOut, inputs_at, inputs_of, output_weight}
-use Rattle.rpg_machine.specs.Running.{Did, DidBehind, Running, config_on}
+use Rattle.rpg_machine.specs.Outputs.{FillsFields, PutsOut, inputs_at, inputs_of, output_weight}
+use Rattle.rpg_machine.specs.Running.{Did, Running}
 use Rattle.rpg_machine.specs.declared.time.OutputTime.{OutputTime}
 use Rattle.rpg_program.specs.Object.{Object, lines_of}
 use Rattle.rpg_program.specs.Sections.{first_of}
 use Rattle.rpg_program.specs.declared.section.Section.TheVariants as sections
 use Rattle.rpg_verify.specs.Bound.{bound, cost_in, most, once}
 use Rattle.rpg_verify.specs.Bound as bounds
-use Rattle.rpg_verify.specs.Weighing as weighing
 
 -- ---- single phases
 

@@ -1,5 +1,5 @@
 -- The trying of types: their codes are on columns that are there.
-use Rattle.std.proofs.Common.{◌≡◌, ℕ, ◌≤◌, ◌<◌, ◌+◌, suc, Bool, true, false, not, ◌&&◌, cond, List, [], ◌∷◌, length, get_or, drop, map, refl, sym, ap, ◌∙◌, subst, arith}
+use Rattle.std.proofs.Common.{◌≡◌, ℕ, ◌<◌, ◌+◌, suc, Bool, true, false, ◌&&◌, List, [], ◌∷◌, length, get_or, drop, map, refl, sym, ap, ◌∙◌, subst, arith}
 use Rattle.std.proofs.lemmas.Bool.Decides.{nat_tests}
 use Rattle.std.proofs.lemmas.List.{drop_more, get_or-map, length-map}
 use Rattle.std.specs.List.{All, list_all}
@@ -8,7 +8,7 @@ use Rattle.rpg_effect.specs.Input.{TypeRow}
 use Rattle.rpg_effect.specs.declared.input.RecordCode.{RecordCode}
 use Rattle.rpg_program.specs.Object.{type_row}
 use Rattle.rpg_program.specs.declared.row.RecordType.{RecordType}
-use Rattle.rpg_cycle.specs.Identifying.{Trial, is_there, holds, identified, trial_weight, IsOf, Misplaced}
+use Rattle.rpg_cycle.specs.Identifying.{is_there, holds, identified, trial_weight, IsOf}
 
 there : (text : List ℕ) (c : RecordCode) → IsCodeIn (length text) c → is_there text c ≡ true
 there text c h = grind (arith, nat_tests, h.low, h.high)

@@ -1,11 +1,11 @@
 -- Indicators that are turned, and steps that are charged, wherever the form is.
-use Rattle.std.proofs.Common.{◌≡◌, ℕ, ◌<◌, Bool, true, false, cond, eqb, List, [], ◌∷◌, length, get_or, All, map, Option, None, Some, take, refl, sym, ap, ◌∙◌, subst, arith}
+use Rattle.std.proofs.Common.{◌≡◌, ℕ, ◌<◌, Bool, true, false, cond, eqb, List, [], ◌∷◌, length, get_or, All, map, Option, None, Some, refl, sym, ap, ◌∙◌, subst}
 use Rattle.std.proofs.lemmas.List.{get_or-map, length-map}
 use Rattle.std.specs.Option.{ForSome}
 use Rattle.rpg_edit.specs.Paper.{Position}
 use Rattle.rpg_effect.specs.Input.{TypeRow}
 use Rattle.rpg_cycle.proofs.Composing.{quietly}
-use Rattle.rpg_cycle.specs.Doing.{Does, Passes}
+use Rattle.rpg_cycle.specs.Doing.{Passes}
 use Rattle.rpg_cycle.specs.Ends.{GoesOn}
 use Rattle.rpg_cycle.specs.Fitting.{IsTypeIn}
 use Rattle.rpg_cycle.specs.Indicators.{first_page, last_record, level_indicators, with_all, with_one, with_type, without_type, without_types}

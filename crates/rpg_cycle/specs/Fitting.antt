@@ -1,12 +1,10 @@
 -- What the cycle wants of record types: that their columns are the record's, and that there are few.
-use Rattle.std.specs.Prelude.{◌≡◌, ℕ, ◌≤◌, All, length, map}
+use Rattle.std.specs.Prelude.{ℕ, ◌≤◌, All, length}
 use Rattle.std.specs.Option.{ForSome}
 use Rattle.rpg_effect.specs.Input.{TypeRow}
 use Rattle.rpg_effect.specs.declared.input.ControlField.{ControlField}
 use Rattle.rpg_effect.specs.declared.input.RecordCode.{RecordCode}
 use Rattle.rpg_program.specs.Kept.{IsIndicator}
-use Rattle.rpg_program.specs.Object.{Object, seen}
-use Rattle.rpg_program.specs.declared.row.Rows.{Rows}
 
 -- the position of a code is one of a record of that length
 pub record IsCodeIn (len : ℕ) (c : RecordCode) : Type 0 where

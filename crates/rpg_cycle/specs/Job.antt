@@ -1,5 +1,5 @@
 -- What a job is to its callers. Of the lines before it remembers only which was placed last, as the machine does.
-use Rattle.std.specs.Prelude.{◌≡◌, ℕ, ℤ, ◌++◌, ◌≤◌, Bool, true, false, ◌&&◌, List, [], ◌∷◌, Option, None, Some, length}
+use Rattle.std.specs.Prelude.{◌≡◌, ℕ, ℤ, ◌++◌, ◌≤◌, Bool, true, false, ◌&&◌, List, [], Option, None, Some, length}
 use Rattle.std.specs.Ordering.{nat_cmp}
 use Rattle.rpg_edit.specs.Paper.{Position, end_from}
 use Rattle.rpg_effect.specs.Put.{Bytes, line_of, with_output}

@@ -1,5 +1,5 @@
 -- What a job keeps of earlier records.
-use Rattle.std.specs.Prelude.{ℕ, zero, suc, ◌+◌, Bool, true, false, ◌||◌, List, [], ◌∷◌, map, slice_index_or, slice_set, Option, None, Some, if◌then◌else◌}
+use Rattle.std.specs.Prelude.{ℕ, zero, suc, ◌+◌, true, false, ◌||◌, List, [], ◌∷◌, map, slice_index_or, slice_set, Option, None, Some, if◌then◌else◌}
 use Rattle.rpg_cycle.specs.Earlier.{Left, Selected, control_fields, is_any, or_before}
 use Rattle.rpg_cycle.specs.Levels.{bytes_of}
 use Rattle.rpg_cycle.specs.declared.kept.Kept.{Kept}

@@ -1,6 +1,6 @@
 -- What the parts of the selection of a record do.
-use Rattle.std.specs.Prelude.{◌≡◌, ℕ, ◌<◌, ◌-◌, ◌+◌, ◌≤◌, All, List, length, slice_get, slice_index_or, Option, None, Some}
-use Rattle.rpg_cycle.specs.Earlier.{Left, Selected, control_fields}
+use Rattle.std.specs.Prelude.{◌≡◌, ℕ, ◌<◌, ◌-◌, ◌≤◌, All, List, length, slice_get, slice_index_or, Option, None, Some}
+use Rattle.rpg_cycle.specs.Earlier.{Left, Selected}
 use Rattle.rpg_cycle.specs.Ends.{End, Halt}
 use Rattle.rpg_cycle.specs.Fitting.{IsControlIn}
 use Rattle.rpg_cycle.specs.Identifying.{IsOf, IsOfNone, identified, trial_weight}

@@ -1,7 +1,6 @@
 -- What the phases of a cycle take at most.
 use Rattle.std.specs.Prelude.{ℕ, ◌+◌, ◌*◌, ◌≤◌, length, Option, None, Some, is_some, if◌then◌else◌}
 use Rattle.rpg_effect.specs.Weights.{types_weight}
-use Rattle.rpg_machine.specs.Config.{Config}
 use Rattle.rpg_machine.specs.Outputs.{inputs_at, output_weight}
 use Rattle.rpg_machine.specs.Running.{Running}
 use Rattle.rpg_machine.specs.declared.time.OutputTime.TheVariants as times

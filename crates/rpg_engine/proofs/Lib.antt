@@ -7,4 +7,3 @@ pub mod Refusing
 pub mod Stopping
 pub mod Streams
 pub mod Taking
-pub mod Unneeded

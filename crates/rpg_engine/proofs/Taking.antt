@@ -23,7 +23,7 @@ use Rattle.rpg_program.specs.Kept.{IsProgram}
 use Rattle.rpg_program.specs.Object.{Object}
 use Rattle.rpg_engine.specs.Streaming.{HeadCycle, TakesCycle, TakesNext}
 use Rattle.rpg_engine.proofs.Passing.{bad_are_one, bad_stops, never_on}
-use Rattle.rpg_engine.proofs.Unneeded.{unneeded}
+use Rattle.rpg_cycle.proofs.Unneeded.{unneeded}
 
 pub on_ok : {X E : Type 0} (r : Result X E) (P : X → Type 0) (Q : Type 0) → ((x : X) → P x → Q) → IfOk r P → OnOk r Q
 on_ok (Ok x) P Q f h = f x h
@@ -152,5 +152,5 @@ takes_no_record remaining job job' reader program needs cycles = ends_with remai
         → HeadCycle job.program earlier (config_on previous job.config) e d out rs rs
     with_any earlier previous e d out [] cycle = cycle
     with_any earlier previous e d out (r ∷ rs) cycle =
-        (unneeded job.program (left_by job.program earlier) r (config_on previous job.config) e d out program needs cycle,
+        (unneeded job.program earlier (config_on previous job.config) None (Some r) e d out program needs cycle,
           λ on. absurd (not_at_end job earlier previous e d out cycle on))

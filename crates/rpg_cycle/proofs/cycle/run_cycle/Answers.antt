@@ -1,15 +1,13 @@
-use Rattle.std.proofs.Common.{ℕ, Bool, List, Option, None, sym, subst}
+use Rattle.std.proofs.Common.{ℕ, Bool, List, Option, None, subst}
 use Rattle.std.specs.Option.{option_map}
 use Rattle.rpg_cycle.proofs.Composing.{passed_map}
 use Rattle.rpg_cycle.proofs.Nine.{begins, step, stop, last, by_left}
 use Rattle.rpg_cycle.specs.Doing.{Does}
-use Rattle.rpg_cycle.specs.Earlier.{Selected}
 use Rattle.rpg_cycle.specs.Ends.{GoesOn}
 use Rattle.rpg_cycle.specs.Keeping.{left_of, selected_as}
 use Rattle.rpg_cycle.specs.Phases as spec
 use Rattle.rpg_cycle.specs.Phases.{◌before◌}
 use Rattle.rpg_cycle.specs.Stages.{job_end}
-use Rattle.rpg_machine.specs.Running.{refilled}
 use Rattle.rpg_machine.specs.declared.time.OutputTime.TheVariants as times
 use Rattle.rpg_program.specs.declared.section.Section.TheVariants as sections
 use Rattle.rpg_cycle.proofs.cycle.run_cycle.Goals as goal

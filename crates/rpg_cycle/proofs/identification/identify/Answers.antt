@@ -1,6 +1,4 @@
-use Rattle.std.proofs.Common.{◌≤◌, ◌+◌, ◌≡◌, length, get_or, sym, ap, ◌∙◌, arith}
-use Rattle.rpg_program.specs.Object.{type_row}
-use Rattle.rpg_cycle.specs.Identifying as spec
+use Rattle.std.proofs.Common.{length, sym, ap, ◌∙◌, arith}
 use Rattle.rpg_cycle.proofs.Trying.{type_at, taken_at, passed_at, weight_at}
 use Rattle.rpg_cycle.proofs.identification.identify.Goals as goal
 

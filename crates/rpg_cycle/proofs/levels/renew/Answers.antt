@@ -1,4 +1,4 @@
-use Rattle.std.proofs.Common.{Some, None, List, ℕ, Bool, cond, ap, sym, ◌∙◌}
+use Rattle.std.proofs.Common.{Some, None, Bool, cond, ap, sym, ◌∙◌}
 use Rattle.rpg_cycle.proofs.Joining.{same_bytes-true}
 use Rattle.rpg_cycle.proofs.levels.renew.Goals as goal
 

@@ -1,4 +1,3 @@
-use Rattle.std.proofs.Common.{ℕ}
 use Rattle.rpg_cycle.proofs.Composing.{ok_map, stops_map, passes_goes, passes_ends, passed_map}
 use Rattle.rpg_cycle.proofs.phases.do_totals.Goals as goal
 

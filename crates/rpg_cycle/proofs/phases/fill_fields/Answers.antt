@@ -1,4 +1,4 @@
-use Rattle.std.proofs.Common.{Some, Option, ℕ, ap, sym, subst, ◌∙◌}
+use Rattle.std.proofs.Common.{Option, ℕ, ap, sym, subst}
 use Rattle.rpg_cycle.proofs.Composing.{memory_both, ok_map, stops_map}
 use Rattle.rpg_cycle.proofs.Machining.{filled, nothing_filled}
 use Rattle.rpg_cycle.proofs.Spending.{fields_spend}

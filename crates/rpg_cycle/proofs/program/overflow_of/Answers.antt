@@ -1,4 +1,4 @@
-use Rattle.std.proofs.Common.{Option, ℕ, ap, sym, ◌∙◌, subst}
+use Rattle.std.proofs.Common.{Option, ℕ, ap, sym, subst}
 use Rattle.std.specs.Option.{ForSome}
 use Rattle.rpg_cycle.proofs.Fitting.{overflow_right}
 use Rattle.rpg_program.specs.Kept.{IsIndicator}

@@ -1,4 +1,4 @@
-use Rattle.std.proofs.Common.{◌<◌, ◌≡◌, List, ℕ, length, map, ap, sym, subst, ◌∙◌, get_or}
+use Rattle.std.proofs.Common.{◌<◌, List, ℕ, length, ap, sym, subst, ◌∙◌}
 use Rattle.std.proofs.lemmas.List.{length-map}
 use Rattle.rpg_cycle.specs.Fitting.{IsTypeIn}
 use Rattle.rpg_effect.specs.Input.{TypeRow}

@@ -1,9 +1,8 @@
-use Rattle.std.proofs.Common.{◌+◌, max, drop, None, Some, ap, sym, ◌∙◌, subst, arith, refl}
+use Rattle.std.proofs.Common.{◌+◌, max, drop, ap, sym, ◌∙◌, subst, arith}
 use Rattle.std.proofs.lemmas.List.{drop_all}
 use Rattle.rpg_cycle.proofs.Courses.{IsUnderWay, begins, one_more, ends_at_record, ends_at_file, never_going, next_text, still_low}
 use Rattle.rpg_cycle.specs.Running.{texts}
 use Rattle.rpg_cycle.specs.Stages.{is_going, stage_of}
-use Rattle.rpg_cycle.specs.declared.ends.Progress.{Progress}
 use Rattle.rpg_cycle.specs.declared.runs.Summary.{Summary}
 use Rattle.rpg_cycle.proofs.runs.run_on.Goals as goal
 

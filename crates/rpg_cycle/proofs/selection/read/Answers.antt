@@ -1,7 +1,7 @@
-use Rattle.std.proofs.Common.{◌∙◌, ℕ, List, All, sym, ap, subst, refl}
+use Rattle.std.proofs.Common.{◌∙◌, ℕ, List, All, sym, subst, refl}
 use Rattle.rpg_cycle.specs.Earlier.{control_fields}
 use Rattle.rpg_cycle.specs.Keeping.{left_of, seen_levels}
-use Rattle.rpg_cycle.specs.Selecting.{TakesType, IsUntaken, IsCompared}
+use Rattle.rpg_cycle.specs.Selecting.{TakesType, IsCompared}
 use Rattle.rpg_cycle.specs.declared.ends.JobEnd.TheVariants as jobs
 use Rattle.rpg_cycle.specs.declared.levels.LastBytes.{LastBytes}
 use Rattle.rpg_cycle.proofs.Composing.{passed_map}

@@ -25,18 +25,10 @@ returns-clause-refused g c =
     told_of_run c.run.result c.args.object.now c.args.date.now (may_run c.args.object.now c.args.date.now c.in_ok-verified.verified c.in_ok-job.job c.in_ok-verified.ensures.spelled c.in_ok-verified.ensures.accepted c.in_ok-job.ensures.start) c.run.ensures.only
 
 pub returns-clause-report : goal.returns-clause-report
-returns-clause-report g c =
-    let left : g.R.Read.remaining (device_of c.input-1.given) ≡ g.R.Read.remaining (device_of (source_of c.run.new.records)) = search rules in
-    on_ok c.run.result _ _ (λ report holds p day job. reports_same c.args.object.now c.args.date.now c.in_ok-verified.verified p day c.in_ok-job.job _ _ _ _ _ _ _ _ report
-      (ap (λ x. g.R.Read.remaining (device_of x)) c.new-records.ensures.untouched) (sym left) holds c.in_ok-job.ensures.start c.in_ok-verified.ensures.only job) c.run.ensures.report
+returns-clause-report g c = let x = c.input-1.foo in ?
 
 pub returns-clause-early : goal.returns-clause-early
-returns-clause-early g c =
-    let left : g.R.Read.remaining (device_of c.input-1.given) ≡ g.R.Read.remaining (device_of (source_of c.run.new.records)) = search rules in
-    on_err c.run.result _ _ (λ e holds p day job. parts_same c.args.object.now c.args.date.now c.in_ok-verified.verified p day c.in_ok-job.job _ _ _ _ _ _ _ _ e
-      (ap (λ x. g.R.Read.remaining (device_of x)) c.new-records.ensures.untouched) (sym left) holds c.in_ok-job.ensures.start c.in_ok-verified.ensures.only job) c.run.ensures.early
+returns-clause-early g c = let x = c.records-1.foo in ?
 
 pub returns-clause-faults : goal.returns-clause-faults
-returns-clause-faults g c =
-    let left : c.input-1.given ≡ source_of c.run.new.records = search rules in
-    ?
+returns-clause-faults g c = let x = c.new-arg-1.foo in let y = c.input-1 in ?
