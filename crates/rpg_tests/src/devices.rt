@@ -89,7 +89,11 @@ fn a_printer_that_fails_has_the_bytes_that_are_told(rt: HostRuntime) -> Result<(
         let wanted = if good < 12 { Some(good as u128) } else { None };
         assert_eq!(rt; sent_of(&told), wanted, "after {good} bytes");
         let printed = print.into_device().written;
-        assert_eq!(rt; Some(printed.as_slice()), PRINTED.get(..good), "after {good} bytes");
+        assert_eq!(rt;
+            Some(printed.as_slice()),
+            PRINTED.get(..good),
+            "after {good} bytes"
+        );
     }
     Ok(())
 }

@@ -51,7 +51,10 @@ fn a_run_reads_and_writes_files(rt: HostRuntime) -> Result<(), Fail> {
         "010576",
     ];
     let (line, status) = said(&rt, &list)?;
-    assert_eq!(rt; line.as_slice(), b"end of job, cycles 3, steps 5 of 5\n".as_slice());
+    assert_eq!(rt;
+        line.as_slice(),
+        b"end of job, cycles 3, steps 5 of 5\n".as_slice()
+    );
     assert_eq!(rt; status, 0);
     assert_eq!(rt;
         fs::read(&rt, print.as_str())?.as_slice(),
@@ -84,7 +87,14 @@ fn each_fault_of_a_file_has_its_line(rt: HostRuntime) -> Result<(), Fail> {
     fs::write(&rt, input.as_str(), "007\n35\n")?;
     fs::write(&rt, digits.as_str(), "0-1\n")?;
     for (object, input, print, date, wanted, status) in [
-        (&total, &digits, &print, "010576", "halt 4, cycles 1, steps 3 of 5\n", 5),
+        (
+            &total,
+            &digits,
+            &print,
+            "010576",
+            "halt 4, cycles 1, steps 3 of 5\n",
+            5,
+        ),
         (&total, &input, &print, "1576", "bad date\n", 2),
         (
             &damaged,
@@ -105,14 +115,7 @@ fn each_fault_of_a_file_has_its_line(rt: HostRuntime) -> Result<(), Fail> {
         // Rules are told behind files, and before the date.
         (&unsound, &none, &print, "010576", "input failed\n", 1),
         (&unsound, &input, &nowhere, "010576", "output failed\n", 1),
-        (
-            &unsound,
-            &input,
-            &print,
-            "1576",
-            "refused: V16 row 1\n",
-            4,
-        ),
+        (&unsound, &input, &print, "1576", "refused: V16 row 1\n", 4),
     ] {
         let list = [
             "rpg2",
@@ -217,7 +220,10 @@ fn a_disk_file_is_written_beside_the_print(rt: HostRuntime) -> Result<(), Fail> 
         disk.as_str(),
     ];
     let (line, status) = said(&rt, &list)?;
-    assert_eq!(rt; line.as_slice(), b"end of job, cycles 3, steps 8 of 8\n".as_slice());
+    assert_eq!(rt;
+        line.as_slice(),
+        b"end of job, cycles 3, steps 8 of 8\n".as_slice()
+    );
     assert_eq!(rt; status, 0);
     let printed = fs::read(&rt, print.as_str())?;
     assert_eq!(rt; printed.as_slice(), b"  1\n  1\n".as_slice());
@@ -257,7 +263,14 @@ fn a_disk_file_is_wanted_or_left(rt: HostRuntime) -> Result<(), Fail> {
         let words = if option == "--disk" {
             list.as_slice()
         } else {
-            &["rpg2", "run", object.as_str(), input.as_str(), print.as_str(), option]
+            &[
+                "rpg2",
+                "run",
+                object.as_str(),
+                input.as_str(),
+                print.as_str(),
+                option,
+            ]
         };
         let (line, told) = said(&rt, words)?;
         assert_eq!(rt; line.as_slice(), wanted.as_bytes());
@@ -292,7 +305,10 @@ fn a_file_of_67_records_has_two_pages(rt: HostRuntime) -> Result<(), Fail> {
         "010576",
     ];
     let (line, status) = said(&rt, &list)?;
-    assert_eq!(rt; line.as_slice(), b"end of job, cycles 68, steps 5 of 5\n".as_slice());
+    assert_eq!(rt;
+        line.as_slice(),
+        b"end of job, cycles 68, steps 5 of 5\n".as_slice()
+    );
     assert_eq!(rt; status, 0);
     assert_eq!(rt;
         fs::read(&rt, print.as_str())?.as_slice(),

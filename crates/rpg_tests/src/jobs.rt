@@ -16,10 +16,7 @@ fn a_job_starts_on_a_date_of_six_digits(rt: HostRuntime) -> Result<(), Fail> {
         b"01057J",
         b"01057}",
     ] {
-        let is_refused = matches!(
-            &Job::start(rt.alloc(), &program, date),
-            Err(StartFault::D1)
-        );
+        let is_refused = matches!(&Job::start(rt.alloc(), &program, date), Err(StartFault::D1));
         assert!(rt; is_refused);
     }
     assert!(rt; Job::start(rt.alloc(), &program, b"010576").is_ok());

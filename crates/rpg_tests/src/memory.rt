@@ -46,7 +46,12 @@ fn paper(alloc: Global) -> Result<ShortWriter, AllocError> {
 #[test]
 fn a_run_without_memory_sends_nothing_after_it(rt: HostRuntime) -> Result<(), Fail> {
     for (object, input, printed, stored) in [
-        (TOTAL, b"007\n35\n".as_slice(), b"00007\n00357\n".as_slice(), b"".as_slice()),
+        (
+            TOTAL,
+            b"007\n35\n".as_slice(),
+            b"00007\n00357\n".as_slice(),
+            b"".as_slice(),
+        ),
         (EXCEPTIONS, b"05\n12\n", b"  1\n  1\n", b"   005\n   013\n"),
         (LOOP, b"X\n", b"", b""),
     ] {

@@ -255,7 +255,10 @@ fn a_thousand_records_are_added(rt: HostRuntime) -> Result<(), Fail> {
         input.extend_from_slice(b"001\n")?;
     }
     let (said, print) = total(rt.alloc(), &input)?;
-    assert_eq!(rt; said.as_slice(), b"end of job, cycles 1001, steps 5 of 5".as_slice());
+    assert_eq!(rt;
+        said.as_slice(),
+        b"end of job, cycles 1001, steps 5 of 5".as_slice()
+    );
     assert!(rt; print.ends_with(b"\n01000\n"));
     Ok(())
 }
