@@ -10,8 +10,8 @@ use rpg_engine::{Report, RunFault};
 use rpg_object::Code;
 use rpg_verify::Rule;
 
-/// How a command ended. Of a job that ended `cycles` is the number of cycles, one that halted among them, `most` the most steps of
-/// one, and `bound` the steps that no cycle of the program can pass.
+/// How a command ended. Of a job that ended `cycles` is the number of cycles, one that halted among them, `most` the most
+/// steps of one, and `bound` the steps that no cycle of the program can pass.
 #[derive(Clone, Copy)]
 pub enum Answer {
     /// The source was compiled to an object program.
