@@ -34,13 +34,13 @@ fn compiled_files_run(rt: HostRuntime) -> Result<(), Fail> {
         (
             LISTER,
             "ALPHA\nBETA\nGAMMA\n",
-            "end of job, cycles 4\n",
+            "end of job, cycles 4, steps 3 of 3\n",
             "ALPHA\nBETA\nGAMMA\n",
         ),
         (
             TOTAL,
             "007\n35\n",
-            "end of job, cycles 3\n",
+            "end of job, cycles 3, steps 4 of 4\n",
             "00007\n00357\n",
         ),
     ] {

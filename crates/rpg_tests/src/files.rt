@@ -1,6 +1,6 @@
 //! `rpg2 run` and `rpg2 verify` on real files.
 
-use crate::objects::{TOTAL, changed};
+use crate::objects::{EXCEPTIONS, TOTAL, changed};
 use rpg_cli::run;
 use std::alloc::{AllocError, Global};
 use std::rt::{Env, Files};
@@ -51,7 +51,10 @@ fn a_run_reads_and_writes_files(rt: HostRuntime) -> Result<(), Fail> {
         "010576",
     ];
     let (line, status) = said(&rt, &list)?;
-    assert_eq!(rt; line.as_slice(), b"end of job, cycles 3\n".as_slice());
+    assert_eq!(rt;
+        line.as_slice(),
+        b"end of job, cycles 3, steps 5 of 5\n".as_slice()
+    );
     assert_eq!(rt; status, 0);
     assert_eq!(rt;
         fs::read(&rt, print.as_str())?.as_slice(),
@@ -64,6 +67,7 @@ fn a_run_reads_and_writes_files(rt: HostRuntime) -> Result<(), Fail> {
 fn each_fault_of_a_file_has_its_line(rt: HostRuntime) -> Result<(), Fail> {
     let total = path(&rt, "faults.obj")?;
     let damaged = path(&rt, "faults_damaged.obj")?;
+    let unsound = path(&rt, "faults_unsound.obj")?;
     let large = path(&rt, "faults_large.obj")?;
     let largest = path(&rt, "faults_largest.obj")?;
     let input = path(&rt, "faults.txt")?;
@@ -73,6 +77,7 @@ fn each_fault_of_a_file_has_its_line(rt: HostRuntime) -> Result<(), Fail> {
     let nowhere = path(&rt, "faults_none/print")?;
     fs::write(&rt, total.as_str(), TOTAL)?;
     fs::write(&rt, damaged.as_str(), &changed(rt.alloc(), &[(117, 20)])?)?;
+    fs::write(&rt, unsound.as_str(), &changed(rt.alloc(), &[(144, 9)])?)?;
     fs::write(&rt, large.as_str(), &vec![in rt.alloc(); 0u8; 16_777_217]?)?;
     fs::write(
         &rt,
@@ -82,7 +87,14 @@ fn each_fault_of_a_file_has_its_line(rt: HostRuntime) -> Result<(), Fail> {
     fs::write(&rt, input.as_str(), "007\n35\n")?;
     fs::write(&rt, digits.as_str(), "0-1\n")?;
     for (object, input, print, date, wanted, status) in [
-        (&total, &digits, &print, "010576", "halt 4, cycles 1\n", 5),
+        (
+            &total,
+            &digits,
+            &print,
+            "010576",
+            "halt 4, cycles 1, steps 3 of 5\n",
+            5,
+        ),
         (&total, &input, &print, "1576", "bad date\n", 2),
         (
             &damaged,
@@ -100,6 +112,10 @@ fn each_fault_of_a_file_has_its_line(rt: HostRuntime) -> Result<(), Fail> {
         // The object is refused before the input is opened, and a missing input is told before a bad date.
         (&damaged, &none, &nowhere, "1576", "refused: B5 at 117\n", 4),
         (&total, &none, &nowhere, "1576", "input failed\n", 1),
+        // Rules are told behind files, and before the date.
+        (&unsound, &none, &print, "010576", "input failed\n", 1),
+        (&unsound, &input, &nowhere, "010576", "output failed\n", 1),
+        (&unsound, &input, &print, "1576", "refused: V16 row 1\n", 4),
     ] {
         let list = [
             "rpg2",
@@ -150,16 +166,16 @@ fn a_verification_tells_of_an_object_file(rt: HostRuntime) -> Result<(), Fail> {
 }
 
 #[test]
-fn wrong_steps_are_told_of_files(rt: HostRuntime) -> Result<(), Fail> {
-    let object = path(&rt, "wrong.obj")?;
-    let input = path(&rt, "wrong.txt")?;
-    let print = path(&rt, "wrong.print")?;
+fn unsound_objects_are_refused(rt: HostRuntime) -> Result<(), Fail> {
+    let object = path(&rt, "unsound.obj")?;
+    let input = path(&rt, "unsound.txt")?;
+    let print = path(&rt, "unsound.print")?;
     fs::write(&rt, input.as_str(), "007\n")?;
     // An instruction's result field that isn't there, a line's field that ends behind the line, columns behind the record.
     for (place, byte, wanted) in [
-        (144, 9, "wrong storage, cycles 1\n"),
-        (112, 6, "wrong storage, cycles 2\n"),
-        (78, 4, "wrong storage, cycles 1\n"),
+        (144, 9, "refused: V16 row 1\n"),
+        (112, 6, "refused: V13 row 0\n"),
+        (78, 4, "refused: V6 row 0\n"),
     ] {
         fs::write(
             &rt,
@@ -177,8 +193,88 @@ fn wrong_steps_are_told_of_files(rt: HostRuntime) -> Result<(), Fail> {
         ];
         let (line, status) = said(&rt, &list)?;
         assert_eq!(rt; line.as_slice(), wanted.as_bytes());
-        assert_eq!(rt; status, 5);
+        assert_eq!(rt; status, 4);
         assert!(rt; fs::read(&rt, print.as_str())?.is_empty());
+    }
+    Ok(())
+}
+
+#[test]
+fn a_disk_file_is_written_beside_the_print(rt: HostRuntime) -> Result<(), Fail> {
+    let object = path(&rt, "disk.obj")?;
+    let input = path(&rt, "disk.txt")?;
+    let print = path(&rt, "disk.print")?;
+    let disk = path(&rt, "disk.out")?;
+    fs::write(&rt, object.as_str(), EXCEPTIONS)?;
+    fs::write(&rt, input.as_str(), "05\n12\n")?;
+    fs::write(&rt, disk.as_str(), "what stood here before is gone")?;
+    let list = [
+        "rpg2",
+        "run",
+        object.as_str(),
+        input.as_str(),
+        print.as_str(),
+        "--date",
+        "010576",
+        "--disk",
+        disk.as_str(),
+    ];
+    let (line, status) = said(&rt, &list)?;
+    assert_eq!(rt;
+        line.as_slice(),
+        b"end of job, cycles 3, steps 8 of 8\n".as_slice()
+    );
+    assert_eq!(rt; status, 0);
+    let printed = fs::read(&rt, print.as_str())?;
+    assert_eq!(rt; printed.as_slice(), b"  1\n  1\n".as_slice());
+    let stored = fs::read(&rt, disk.as_str())?;
+    assert_eq!(rt; stored.as_slice(), b"   005\n   013\n".as_slice());
+    Ok(())
+}
+
+/// A disk file that is wanted is told before the rules, the date and the other files; one that isn't wanted is left as it is.
+#[test]
+fn a_disk_file_is_wanted_or_left(rt: HostRuntime) -> Result<(), Fail> {
+    let total = path(&rt, "wanted_total.obj")?;
+    let exceptions = path(&rt, "wanted_disk.obj")?;
+    let input = path(&rt, "wanted.txt")?;
+    let print = path(&rt, "wanted.print")?;
+    let none = path(&rt, "wanted_none")?;
+    let nowhere = path(&rt, "wanted_none/disk")?;
+    fs::write(&rt, total.as_str(), TOTAL)?;
+    fs::write(&rt, exceptions.as_str(), EXCEPTIONS)?;
+    fs::write(&rt, input.as_str(), "05\n12\n")?;
+    let done = "end of job, cycles 3, steps 5 of 5\n";
+    for (object, input, option, wanted, status) in [
+        (&exceptions, &none, "--date=1576", "disk file wanted\n", 2),
+        (&exceptions, &input, "--disk", "output failed\n", 1),
+        (&total, &input, "--disk", done, 0),
+    ] {
+        let list = [
+            "rpg2",
+            "run",
+            object.as_str(),
+            input.as_str(),
+            print.as_str(),
+            "--date=010576",
+            option,
+            nowhere.as_str(),
+        ];
+        let words = if option == "--disk" {
+            list.as_slice()
+        } else {
+            &[
+                "rpg2",
+                "run",
+                object.as_str(),
+                input.as_str(),
+                print.as_str(),
+                option,
+            ]
+        };
+        let (line, told) = said(&rt, words)?;
+        assert_eq!(rt; line.as_slice(), wanted.as_bytes());
+        assert_eq!(rt; told, status, "{wanted}");
     }
     Ok(())
 }
@@ -209,7 +305,10 @@ fn a_file_of_67_records_has_two_pages(rt: HostRuntime) -> Result<(), Fail> {
         "010576",
     ];
     let (line, status) = said(&rt, &list)?;
-    assert_eq!(rt; line.as_slice(), b"end of job, cycles 68\n".as_slice());
+    assert_eq!(rt;
+        line.as_slice(),
+        b"end of job, cycles 68, steps 5 of 5\n".as_slice()
+    );
     assert_eq!(rt; status, 0);
     assert_eq!(rt;
         fs::read(&rt, print.as_str())?.as_slice(),

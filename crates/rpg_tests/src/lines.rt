@@ -1,14 +1,14 @@
 //! The line and the status of each answer.
 
-use old_effect::outcome::Wrong;
 use rpg_cli::{Answer, line};
 use rpg_compile::{CompileFault, FaultCode, SheetCode, SourceCode};
-use rpg_format::fault::Code;
+use rpg_object::Code;
+use rpg_rules::{PlaceRule, Rule};
 use std::test::Fail;
 
 #[test]
 fn each_answer_has_its_line_and_status(rt: HostRuntime) -> Result<(), Fail> {
-    let answers: [(Answer, &[u8], u8); 18] = [
+    let answers: [(Answer, &[u8], u8); 17] = [
         (Answer::Compiled, b"compiled", 0),
         (
             Answer::Source {
@@ -26,46 +26,33 @@ fn each_answer_has_its_line_and_status(rt: HostRuntime) -> Result<(), Fail> {
             b"card 65535: S1",
             3,
         ),
-        (Answer::EndOfJob { cycles: 3 }, b"end of job, cycles 3", 0),
+        (
+            Answer::EndOfJob {
+                cycles: 4,
+                most: 3,
+                bound: 3,
+            },
+            b"end of job, cycles 4, steps 3 of 3",
+            0,
+        ),
         (
             Answer::Halt {
-                number: 4,
+                number: 5,
                 cycles: 1,
+                most: 4,
+                bound: 5,
             },
-            b"halt 4, cycles 1",
+            b"halt 5, cycles 1, steps 4 of 5",
             5,
         ),
+        (Answer::Accepted { bound: 4 }, b"accepted, bound 4", 0),
         (
-            Answer::Wrong {
-                wrong: Wrong::Jump,
-                cycles: 1,
+            Answer::Refused {
+                rule: Rule::Place(PlaceRule::V21),
+                row: 7,
             },
-            b"wrong jump, cycles 1",
-            5,
-        ),
-        (
-            Answer::Wrong {
-                wrong: Wrong::Storage,
-                cycles: 2,
-            },
-            b"wrong storage, cycles 2",
-            5,
-        ),
-        (
-            Answer::Wrong {
-                wrong: Wrong::Kind,
-                cycles: 1,
-            },
-            b"wrong kind, cycles 1",
-            5,
-        ),
-        (
-            Answer::Wrong {
-                wrong: Wrong::Return,
-                cycles: 1,
-            },
-            b"wrong return, cycles 1",
-            5,
+            b"refused: V21 row 7",
+            4,
         ),
         (
             Answer::NotAnObject {
@@ -92,6 +79,7 @@ fn each_answer_has_its_line_and_status(rt: HostRuntime) -> Result<(), Fail> {
             4,
         ),
         (Answer::BadDate, b"bad date", 2),
+        (Answer::DiskFileWanted, b"disk file wanted", 2),
         (Answer::InputFailed, b"input failed", 1),
         (Answer::OutputFailed, b"output failed", 1),
         (Answer::FileTooLarge, b"file too large", 1),
@@ -100,8 +88,10 @@ fn each_answer_has_its_line_and_status(rt: HostRuntime) -> Result<(), Fail> {
             Answer::Halt {
                 number: 255,
                 cycles: u64::MAX,
+                most: u64::MAX,
+                bound: u64::MAX,
             },
-            b"halt 255, cycles 18446744073709551615",
+            b"halt 255, cycles 18446744073709551615, steps 18446744073709551615 of 18446744073709551615",
             5,
         ),
     ];

@@ -1,7 +1,7 @@
 //! Objects that are cut, or have one byte changed.
 
 use crate::objects::TOTAL;
-use old_object::{DecodeFault, decode, encode};
+use rpg_object::{DecodeFault, decode, encode};
 use std::alloc::{AllocError, Global};
 use std::test::Fail;
 

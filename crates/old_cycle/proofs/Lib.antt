@@ -1,9 +1,0 @@
-pub mod Lights
-pub mod Types
-pub mod Composing
-pub mod Moves
-pub mod Ending
-pub mod Turning
-pub mod Records
-pub mod JobCycles
-pub mod Courses

@@ -1,6 +1,0 @@
-pub mod Phases
-pub mod Taking
-pub mod Doing
-pub mod Job
-pub mod Runs
-pub mod Facts

@@ -1,4 +1,0 @@
--- What a reader and a writer did, and what the engine answers.
-pub mod Engine
-pub mod Receiving
-pub mod Sending
