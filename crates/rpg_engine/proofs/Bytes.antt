@@ -113,6 +113,7 @@ pub part_sent : (a b c : Option (List ℕ)) (all front next : List ℕ) (n : ℕ
 part_sent a b c all front next n begins sent part =
     let is : all ≡ front ++ (next ++ begins.more) = begins.is ∙ append_assoc front next begins.more in
     let cut : take (length front + n) all ≡ front ++ take n next =
-        ap (take (length front + n)) is ∙ take-append-add front (next ++ begins.more) n ∙ ap (λ bytes. front ++ bytes) (take-append-le n next begins.more part.0) in
-    (omega (arith, part.0, ap length begins.is, length-append (front ++ next) begins.more, length-append front next),
-      subst (λ (bytes : List ℕ). Appends a c bytes) (sym cut) (Appends-trans a b c front (take n next) sent part.1))
+    ap (take (length front + n)) is ∙ take-append-add front (next ++ begins.more) n ∙ ap (λ bytes. front ++ bytes) (take-append-le n next begins.more part.0) in (
+      omega (arith, part.0, ap length begins.is, length-append (front ++ next) begins.more, length-append front next),
+      subst (λ (bytes : List ℕ). Appends a c bytes) (sym cut) (Appends-trans a b c front (take n next) sent part.1),
+    )

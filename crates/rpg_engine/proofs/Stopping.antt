@@ -76,7 +76,7 @@ stream_reports remaining first job mid given reader reader' cycles most greater 
         run = record {
           runs = subst (λ (c : Config). Runs first.program [] (records (steps.read ++ more)) c course) (start_is first day is)
               (ends first.program (config_on None first.config) (records (steps.read ++ more)) s.earlier (config_on (end_of s.out.lines) job.config) (steps.rest more) (records (buffered_of reader' ++ more)) cycles most s.out e does.there does.out
-                (steps.under_way more can) (steps.head more can) last);
+              (steps.under_way more can) (steps.head more can) last);
           print = refl;
           disk = refl;
         };
@@ -155,11 +155,15 @@ stopped_reading remaining first job given reader reader' cycles most print print
           let u = reads_on remaining first job given reader reader' cycles most print print' disk disk' gone_print gone_disk _ s adv more can in
           let later = u.back course (runs_from first day ((s.read ++ adv.read) ++ more) course bytes is run) in
           let output : course.output ≡ with_more s.out later.0.output = ap (λ (c : Course). c.output) later.2 in
-          both_parts remaining reader reader' e none print print' disk disk' bytes
-          (length (paper s.out.lines), part_of print print' (printed course.output) bytes.print _ run.print
-            (front_sent print print' (printed course.output) (paper s.out.lines) (printed_so_far course.output s.out later.0.output output) s.sent_print))
-          (length (disk_bytes s.out.records), part_of disk disk' (stored course.output) bytes.disk _ run.disk
-            (front_sent disk disk' (stored course.output) (disk_bytes s.out.records) (stored_so_far course.output s.out later.0.output output) s.sent_disk));
+          both_parts remaining reader reader' e none print print' disk disk' bytes (
+            length (paper s.out.lines),
+            part_of print print' (printed course.output) bytes.print _ run.print
+                (front_sent print print' (printed course.output) (paper s.out.lines) (printed_so_far course.output s.out later.0.output output) s.sent_print),
+          ) (
+            length (disk_bytes s.out.records),
+            part_of disk disk' (stored course.output) bytes.disk _ run.disk
+                (front_sent disk disk' (stored course.output) (disk_bytes s.out.records) (stored_so_far course.output s.out later.0.output output) s.sent_disk),
+          );
     }
 
 -- ---- a cycle's output was sent in part
@@ -181,16 +185,21 @@ sent_parts e (faults.Print sent) course bytes mid out print print' print'' disk 
     let all : sent ≡ length (paper out.lines) + some.0 = some.1 ∙ ap (λ (k : ℕ). k + some.0) n in
     let kept : Appends disk disk'' (disk_bytes out.records) = subst (λ (x : Option (List ℕ)). Appends disk x (disk_bytes out.records)) (sym some.3) to_disk in
     let whole : BeginsWith (stored course.output) (disk_bytes out.records) =
-        record { more = mid.output.disk ++ begins.disk.more; is = begins.disk.is ∙ append_assoc (disk_bytes out.records) mid.output.disk begins.disk.more } in
-    (subst (λ (k : ℕ). AppendsFirst print print'' k bytes.print) (sym all)
-      (part_of print print'' (printed course.output) bytes.print _ p (part_sent print print' print'' (printed course.output) (paper out.lines) mid.output.print some.0 begins.print to_print some.2)),
-      (length (disk_bytes out.records), part_of disk disk'' (stored course.output) bytes.disk _ d (front_sent disk disk'' (stored course.output) (disk_bytes out.records) whole kept)))
+    record { more = mid.output.disk ++ begins.disk.more; is = begins.disk.is ∙ append_assoc (disk_bytes out.records) mid.output.disk begins.disk.more } in (
+      subst (λ (k : ℕ). AppendsFirst print print'' k bytes.print) (sym all)
+          (part_of print print'' (printed course.output) bytes.print _ p (part_sent print print' print'' (printed course.output) (paper out.lines) mid.output.print some.0 begins.print to_print some.2)),
+      (length (disk_bytes out.records), part_of disk disk'' (stored course.output) bytes.disk _ d (front_sent disk disk'' (stored course.output) (disk_bytes out.records) whole kept)),
+    )
 sent_parts e (faults.Disk sent) course bytes mid out print print' print'' disk disk' disk'' gone_print gone_disk p d begins to_print to_disk n m some =
-    let all : sent ≡ length (disk_bytes out.records) + some.0 = some.1 ∙ ap (λ (k : ℕ). k + some.0) m in
-    ((length (paper out.lines ++ mid.output.print), part_of print print'' (printed course.output) bytes.print _ p
-      (front_sent print print'' (printed course.output) (paper out.lines ++ mid.output.print) begins.print (Appends-trans print print' print'' (paper out.lines) mid.output.print to_print some.2))),
+    let all : sent ≡ length (disk_bytes out.records) + some.0 = some.1 ∙ ap (λ (k : ℕ). k + some.0) m in (
+      (
+        length (paper out.lines ++ mid.output.print),
+        part_of print print'' (printed course.output) bytes.print _ p
+            (front_sent print print'' (printed course.output) (paper out.lines ++ mid.output.print) begins.print (Appends-trans print print' print'' (paper out.lines) mid.output.print to_print some.2)),
+      ),
       subst (λ (k : ℕ). AppendsFirst disk disk'' k bytes.disk) (sym all)
-      (part_of disk disk'' (stored course.output) bytes.disk _ d (part_sent disk disk' disk'' (stored course.output) (disk_bytes out.records) mid.output.disk some.0 begins.disk to_disk some.3)))
+          (part_of disk disk'' (stored course.output) bytes.disk _ d (part_sent disk disk' disk'' (stored course.output) (disk_bytes out.records) mid.output.disk some.0 begins.disk to_disk some.3)),
+    )
 
 pub stopped_sending : {R : Type 0} (remaining : R → Option (List ℕ)) (first job mid : AtWork) (given : Option (List ℕ)) (reader reader' : RecordReader R) (cycles most : ℕ)
     (print print' print'' disk disk' disk'' : Option (List ℕ)) (gone_print gone_disk : ℕ) (fault : RunFault)
@@ -211,8 +220,8 @@ stopped_sending remaining first job mid given reader reader' cycles most print p
       at_end = steps.at_end;
       fact = λ more can course bytes run.
           let goes : GoesOnWith e course.output (with_more s.out does.out) =
-              begins_with first.program (config_on None first.config) (records (steps.read ++ more)) s.earlier (config_on (end_of s.out.lines) job.config) (steps.rest more) (records (buffered_of reader' ++ more)) cycles most s.out e does.there does.out course
-              (steps.under_way more can) (steps.head more can) (runs_from first day (steps.read ++ more) course bytes is run) in
+          begins_with first.program (config_on None first.config) (records (steps.read ++ more)) s.earlier (config_on (end_of s.out.lines) job.config) (steps.rest more) (records (buffered_of reader' ++ more)) cycles most s.out e does.there does.out course
+          (steps.under_way more can) (steps.head more can) (runs_from first day (steps.read ++ more) course bytes is run) in
           sent_parts e fault course bytes mid s.out print print' print'' disk disk' disk'' gone_print gone_disk run.print run.disk
           (record {
             print = subst (λ (b : Bytes). BeginsWith (printed course.output) (paper s.out.lines ++ b.print)) (sym put) (printed_begins e course.output s.out does.out goes);
@@ -230,16 +239,17 @@ some_onto b (r ∷ rs) = omega arith
 some_records : (bytes : List ℕ) → 0 < length bytes → 0 < length (records bytes)
 some_records [] some = absurd (omega arith)
 some_records (b ∷ bytes) some = elim (cases_Bool (b == 10)) [
-    | inl feed ↦ rw feed (omega arith)
-    | inr other ↦ rw other (elim (cases_Bool (b == 13 && begins_with_line_feed bytes)) [
-      | inl returns ↦ rw returns (behind_return bytes (feed_follows (b == 13) (begins_with_line_feed bytes) returns))
-      | inr on ↦ rw on (some_onto b (records bytes))
-    ])
-  ]
+  | inl feed ↦ rw feed (omega arith)
+  | inr other ↦ rw other (elim (cases_Bool (b == 13 && begins_with_line_feed bytes)) [
+    | inl returns ↦ rw returns (behind_return bytes (feed_follows (b == 13) (begins_with_line_feed bytes) returns))
+    | inr on ↦ rw on (some_onto b (records bytes))
+  ])
+]
   where
     feed_follows : (p q : Bool) → (p && q) ≡ true → q ≡ true
     feed_follows true q h = h
     feed_follows false q h = absurd cc
+
     behind_return : (rest : List ℕ) → begins_with_line_feed rest ≡ true → 0 < length (records rest)
     behind_return [] h = absurd (let never : false ≡ true = h in cc)
     behind_return (c ∷ rest) h = rw h (omega arith)
@@ -280,7 +290,7 @@ reading_faults remaining first job given reader reader' cycles most print print'
     inl (cc (reads.faults, h, p, d))
 reading_faults remaining first job given reader reader' cycles most print print' disk disk' gone_print gone_disk of_reader of_print of_print' of_disk of_disk' faults.Read X s count (fault.TooMany, reads) h p d =
     inr (cc (reads.faults, h, p, d), too_many remaining first job given reader reader' cycles most print print' disk disk' gone_print gone_disk s count reads)
-reading_faults remaining first job given reader reader' cycles most print print' disk disk' gone_print gone_disk of_reader of_print of_print' of_disk of_disk' faults.NoMemory X s count (inl same) h p d = 
+reading_faults remaining first job given reader reader' cycles most print print' disk disk' gone_print gone_disk of_reader of_print of_print' of_disk of_disk' faults.NoMemory X s count (inl same) h p d =
     cc (ap (λ r. faults_of (source_of r)) same, h, p, d)
 reading_faults remaining first job given reader reader' cycles most print print' disk disk' gone_print gone_disk of_reader of_print of_print' of_disk of_disk' faults.NoMemory X s count (inr (next, reads)) h p d =
     cc (reads.faults, h, p, d)

@@ -150,9 +150,9 @@ stream_goes_on remaining first job mid given reader reader' cycles most greater 
     let steps = stream_steps remaining first job mid given reader reader' cycles most print print' disk disk' gone_print gone_disk e s t in
     let line : end_of (s.out.lines ++ does.out.lines) ≡ end_from (end_of s.out.lines) does.out.lines = end_from-lines None s.out.lines does.out.lines in
     let to_print : paper s.out.lines ++ mid.output.print ≡ paper (s.out.lines ++ does.out.lines) =
-        ap (λ (b : Bytes). paper s.out.lines ++ b.print) put ∙ ap (λ (x : End). paper s.out.lines ++ (put_by x s.out does.out).print) on ∙ print_goes_on s.out does.out in
+    ap (λ (b : Bytes). paper s.out.lines ++ b.print) put ∙ ap (λ (x : End). paper s.out.lines ++ (put_by x s.out does.out).print) on ∙ print_goes_on s.out does.out in
     let to_disk : disk_bytes s.out.records ++ mid.output.disk ≡ disk_bytes (s.out.records ++ does.out.records) =
-        ap (λ (b : Bytes). disk_bytes s.out.records ++ b.disk) put ∙ disk_goes_on e s.out does.out in
+    ap (λ (b : Bytes). disk_bytes s.out.records ++ b.disk) put ∙ disk_goes_on e s.out does.out in
     record {
       program = does.program ∙ s.program;
       earlier = with_record does.there.selected s.earlier;
@@ -169,11 +169,11 @@ stream_goes_on remaining first job mid given reader reader' cycles most greater 
       at_end = steps.at_end;
       under_way = λ more can.
           let head : HeadCycle first.program s.earlier (config_on (end_of s.out.lines) job.config) GoesOn does.there does.out (steps.rest more) (records (buffered_of reader' ++ more)) =
-              subst (λ (x : End). HeadCycle first.program s.earlier (config_on (end_of s.out.lines) job.config) x does.there does.out (steps.rest more) (records (buffered_of reader' ++ more))) on (steps.head more can) in
+          subst (λ (x : End). HeadCycle first.program s.earlier (config_on (end_of s.out.lines) job.config) x does.there does.out (steps.rest more) (records (buffered_of reader' ++ more))) on (steps.head more can) in
           let there : does.there.config ≡ config_on (end_of (s.out.lines ++ does.out.lines)) mid.config = does.config ∙ ap (λ previous. config_on previous mid.config) (sym line) in
           subst (λ (c : Config). IsUnderWay first.program (config_on None first.config) (records (steps.read ++ more)) (with_record does.there.selected s.earlier) c (records (buffered_of reader' ++ more)) (cycles + 1) greater (with_more s.out does.out)) there
           (one_more first.program (config_on None first.config) (records (steps.read ++ more)) s.earlier (config_on (end_of s.out.lines) job.config) (steps.rest more) (records (buffered_of reader' ++ more)) cycles most greater s.out does.there does.out
-            (steps.under_way more can) head (most_is ∙ ap (max most) (sym (steps_are job mid s.earlier s.out t.next e does))));
+          (steps.under_way more can) head (most_is ∙ ap (max most) (sym (steps_are job mid s.earlier s.out t.next e does))));
     }
 
 -- the reader and the job behind a cycle that went on

@@ -68,21 +68,25 @@ not_bad job earlier previous r e d out bad cycle on =
 
 pub takes_record : {R : Type 0} (remaining : R → Option (List ℕ)) (job job' : AtWork) (old new : RecordReader R) → ReadsNext remaining old (Ok next.Record) new → answer_of new ≡ Ok next.Record
     → Cycles job (Some (record_of new)) job' → TakesCycle remaining job old job' new
-takes_record remaining job job' old new reads answer cycles = record { does = λ earlier left previous last.
-    let went = cycles earlier left previous last in
-    let does = went.1 in
-    (went.0, record {
-      next = Some (record_of new);
-      does = does;
-      input = told_of (input_of remaining old) (input_of remaining new) (Gives (limit_of old) (count_of old) (record_of new) (Ok next.Record))
-          (λ x y. HeadCycle job.program earlier (config_on previous job.config) went.0 does.there does.out (records x) (records y))
-          (λ x y gives. subst (λ (rs : List (List ℕ)). HeadCycle job.program earlier (config_on previous job.config) went.0 does.there does.out rs (records y)) (sym gives.2)
-          (does.cycle, λ on. refl)) reads.input;
-      limit = reads.limit;
-      few = λ on. (reads.input.fact [] (λ is. refl)).0;
-      count = λ on. reads.count;
-      still = λ on. ap is_record answer;
-    }) }
+takes_record remaining job job' old new reads answer cycles = record {
+  does = λ earlier left previous last.
+      let went = cycles earlier left previous last in
+      let does = went.1 in (
+        went.0,
+        record {
+          next = Some (record_of new);
+          does = does;
+          input = told_of (input_of remaining old) (input_of remaining new) (Gives (limit_of old) (count_of old) (record_of new) (Ok next.Record))
+              (λ x y. HeadCycle job.program earlier (config_on previous job.config) went.0 does.there does.out (records x) (records y))
+              (λ x y gives. subst (λ (rs : List (List ℕ)). HeadCycle job.program earlier (config_on previous job.config) went.0 does.there does.out rs (records y)) (sym gives.2)
+              (does.cycle, λ on. refl)) reads.input;
+          limit = reads.limit;
+          few = λ on. (reads.input.fact [] (λ is. refl)).0;
+          count = λ on. reads.count;
+          still = λ on. ap is_record answer;
+        },
+      );
+}
 
 -- ---- where the job ends
 
@@ -94,19 +98,23 @@ pub record EndsWith {R : Type 0} (remaining : R → Option (List ℕ)) (job : At
 ends_with : {R : Type 0} (remaining : R → Option (List ℕ)) (job job' : AtWork) (old new : RecordReader R) (with_next : Option (List ℕ)) → limit_of new ≡ limit_of old → Cycles job with_next job'
     → ((earlier : List Selected) (previous : Option Position) (e : End) (d : UnderWay) (out : Output) → Does job earlier previous with_next e d out → EndsWith remaining job old earlier previous e d out new)
     → TakesCycle remaining job old job' new
-ends_with remaining job job' old new with_next limit cycles ends = record { does = λ earlier left previous last.
-    let went = cycles earlier left previous last in
-    let does = went.1 in
-    let is = ends earlier previous went.0 does.there does.out does.cycle in
-    (went.0, record {
-      next = with_next;
-      does = does;
-      input = is.input;
-      limit = limit;
-      few = λ on. absurd (is.never on);
-      count = λ on. absurd (is.never on);
-      still = λ on. absurd (is.never on);
-    }) }
+ends_with remaining job job' old new with_next limit cycles ends = record {
+  does = λ earlier left previous last.
+      let went = cycles earlier left previous last in
+      let does = went.1 in
+      let is = ends earlier previous went.0 does.there does.out does.cycle in (
+        went.0,
+        record {
+          next = with_next;
+          does = does;
+          input = is.input;
+          limit = limit;
+          few = λ on. absurd (is.never on);
+          count = λ on. absurd (is.never on);
+          still = λ on. absurd (is.never on);
+        },
+      );
+}
 
 no_character : (p : Object) → is_good p (0 ∷ []) ≡ false
 no_character p = and_right _ _ refl
@@ -123,9 +131,10 @@ takes_bad remaining job job' old new limit reads cycles = ends_with remaining jo
           (λ x y gives.
           let bad = gives.1 in
           let bad_too : is_good job.program bad.0 ≡ false = rw limit at bad.3 in
-          subst (λ (rs : List (List ℕ)). HeadCycle job.program earlier (config_on previous job.config) e d out rs (records y)) (sym bad.2)
-          (bad_are_one job.program (left_by job.program earlier) (0 ∷ []) bad.0 (no_character job.program) bad_too (begun job.program (config_on previous job.config)) e d out cycle,
-            λ on. absurd (never on))) reads.input;
+          subst (λ (rs : List (List ℕ)). HeadCycle job.program earlier (config_on previous job.config) e d out rs (records y)) (sym bad.2) (
+            bad_are_one job.program (left_by job.program earlier) (0 ∷ []) bad.0 (no_character job.program) bad_too (begun job.program (config_on previous job.config)) e d out cycle,
+            λ on. absurd (never on),
+          )) reads.input;
     })
 
 pub takes_end : {R : Type 0} (remaining : R → Option (List ℕ)) (job job' : AtWork) (old new : RecordReader R) → ReadsNext remaining old (Ok next.End) new
@@ -151,6 +160,7 @@ takes_no_record remaining job job' reader program needs cycles = ends_with remai
     with_any : (earlier : List Selected) (previous : Option Position) (e : End) (d : UnderWay) (out : Output) (rs : List (List ℕ)) → Does job earlier previous None e d out
         → HeadCycle job.program earlier (config_on previous job.config) e d out rs rs
     with_any earlier previous e d out [] cycle = cycle
-    with_any earlier previous e d out (r ∷ rs) cycle =
-        (unneeded job.program earlier (config_on previous job.config) None (Some r) e d out program needs cycle,
-          λ on. absurd (not_at_end job earlier previous e d out cycle on))
+    with_any earlier previous e d out (r ∷ rs) cycle = (
+      unneeded job.program earlier (config_on previous job.config) None (Some r) e d out program needs cycle,
+      λ on. absurd (not_at_end job earlier previous e d out cycle on),
+    )

@@ -20,10 +20,7 @@ use std::io::Read;
 const BAD_RECORD: &[u8] = &[0];
 
 /// Does a cycle of a job that goes on, and answers how the job ended, if it did.
-fn cycle_with(
-    job: &mut Job<'_, FlatStore>,
-    next: Option<&[u8]>,
-) -> Result<Option<JobEnd>, RunFault>
+fn cycle_with(job: &mut Job<'_, FlatStore>, next: Option<&[u8]>) -> Result<Option<JobEnd>, RunFault>
     requires { is_going job.old.stage ≡ true }
     ensures cycle { IfOk result (λ _. Cycles job.old (option_map (λ t. t.now) next.entry) job.new) }
     ensures told { IfOk result (λ e. job.new.stage ≡ stage_of e) }

@@ -77,5 +77,7 @@ pub fn execute<R: Read, W1: Write, W2: Write>(
     let mut job = Job::start(alloc, &verified, date)?;
     let room = RecordRoom::new(alloc, limit)?;
     let mut records = RecordReader::new(input, room);
-    run(&mut job, &mut records, print, disk, verified.bound())
+    let report = run(&mut job, &mut records, print, disk, verified.bound());
+    let _reader = records.into_reader();
+    report
 }

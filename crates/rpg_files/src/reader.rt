@@ -110,6 +110,14 @@ impl<'a, R> RecordReader<'a, R> {
         }
     }
 
+    /// The reader itself, behind all that was read of it.
+    pub fn into_reader(self) -> &'a mut Counted<R>
+        ensures same_reader { result.ghost_name ≡ self.entry.reader.ghost_name }
+        ensures now { result.now ≡ source_of self.entry }
+    {
+        self.reader
+    }
+
     /// The record that was given last.
     pub fn record(&self) -> &[u8]
         ensures { result.now ≡ record_of self.now }

@@ -57,7 +57,7 @@ pub returns-in-Some-clause-report : goal.returns-in-Some-clause-report
 returns-in-Some-clause-report g c =
     let streams = c.cycles.invariant.streams in
     let few = stays_bounded g.R.Read.remaining c.args.job.now c.cycles.job c.next_cycle.new.job _ c.cycles.records c.next_cycle.new.records c.cycles.cycles c.cycles.most _ _ _ _ c.cycles.sent.print c.cycles.sent.disk
-        streams c.in_ok-ended.ensures.cycle c.cycles.invariant.bounded c.in_ok-ended.ensures.bound in
+    streams c.in_ok-ended.ensures.cycle c.cycles.invariant.bounded c.in_ok-ended.ensures.bound in
     let most = c.max-most.ensures ∙ ap (max c.cycles.most) c.steps.ensures in
     stream_reports g.R.Read.remaining c.args.job.now c.cycles.job c.next_cycle.new.job _ c.cycles.records c.next_cycle.new.records c.cycles.cycles c.cycles.most c.max-most.result _ _ _ _ _ _ c.cycles.sent.print c.cycles.sent.disk c.args.bound c.in-Some.ending
     streams c.in_ok-ended.ensures.cycle (c.in_ok-ended.ensures.told ∙ ap stage_of c.in-Some.is) most
@@ -69,7 +69,7 @@ cycles-preserved g c =
     let stage = c.in_ok-ended.ensures.told ∙ ap stage_of c.in_default.is in
     let most = c.max-most.ensures ∙ ap (max c.cycles.most) c.steps.ensures in
     let few = stays_bounded g.R.Read.remaining c.args.job.now c.cycles.job c.next_cycle.new.job _ c.cycles.records c.next_cycle.new.records c.cycles.cycles c.cycles.most _ _ _ _ c.cycles.sent.print c.cycles.sent.disk
-        streams c.in_ok-ended.ensures.cycle c.cycles.invariant.bounded c.in_ok-ended.ensures.bound in
+    streams c.in_ok-ended.ensures.cycle c.cycles.invariant.bounded c.in_ok-ended.ensures.bound in
     let on = has_gone_on g.R.Read.remaining c.cycles.job c.next_cycle.new.job c.cycles.records c.next_cycle.new.records streams.earlier (end_of streams.out.lines) streams.left streams.last c.in_ok-ended.ensures.cycle stage in
     record {
       streams = rw c.take_output.ensures.rest (stream_on g.R.Read.remaining c.args.job.now c.cycles.job c.next_cycle.new.job _ c.cycles.records c.next_cycle.new.records c.cycles.cycles c.cycles.most c.max-most.result
