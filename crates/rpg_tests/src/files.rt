@@ -232,6 +232,19 @@ fn a_disk_file_is_written_beside_the_print(rt: HostRuntime) -> Result<(), Fail> 
     Ok(())
 }
 
+/// The words are answered by that line and that status.
+fn assert_said<R: Files + Print + Eprint + AllocGlobal>(
+    rt: &R,
+    words: &[&str],
+    wanted: &str,
+    status: u8,
+) -> Result<(), Fail> {
+    let (line, told) = said(rt, words)?;
+    assert_eq!(rt; line.as_slice(), wanted.as_bytes());
+    assert_eq!(rt; told, status);
+    Ok(())
+}
+
 /// A disk file that is wanted is told before the rules, the date and the other files; one that isn't wanted is left as it is.
 #[test]
 fn a_disk_file_is_wanted_or_left(rt: HostRuntime) -> Result<(), Fail> {
@@ -244,39 +257,42 @@ fn a_disk_file_is_wanted_or_left(rt: HostRuntime) -> Result<(), Fail> {
     fs::write(&rt, total.as_str(), TOTAL)?;
     fs::write(&rt, exceptions.as_str(), EXCEPTIONS)?;
     fs::write(&rt, input.as_str(), "05\n12\n")?;
-    let done = "end of job, cycles 3, steps 5 of 5\n";
-    for (object, input, option, wanted, status) in [
-        (&exceptions, &none, "--date=1576", "disk file wanted\n", 2),
-        (&exceptions, &input, "--disk", "output failed\n", 1),
-        (&total, &input, "--disk", done, 0),
-    ] {
-        let list = [
-            "rpg2",
-            "run",
-            object.as_str(),
-            input.as_str(),
-            print.as_str(),
-            "--date=010576",
-            option,
-            nowhere.as_str(),
-        ];
-        let words = if option == "--disk" {
-            list.as_slice()
-        } else {
-            &[
-                "rpg2",
-                "run",
-                object.as_str(),
-                input.as_str(),
-                print.as_str(),
-                option,
-            ]
-        };
-        let (line, told) = said(&rt, words)?;
-        assert_eq!(rt; line.as_slice(), wanted.as_bytes());
-        assert_eq!(rt; told, status, "{wanted}");
-    }
-    Ok(())
+    let without = [
+        "rpg2",
+        "run",
+        exceptions.as_str(),
+        none.as_str(),
+        print.as_str(),
+        "--date=1576",
+    ];
+    assert_said(&rt, &without, "disk file wanted\n", 2)?;
+    let unwritten = [
+        "rpg2",
+        "run",
+        exceptions.as_str(),
+        input.as_str(),
+        print.as_str(),
+        "--date=010576",
+        "--disk",
+        nowhere.as_str(),
+    ];
+    assert_said(&rt, &unwritten, "output failed\n", 1)?;
+    let unwanted = [
+        "rpg2",
+        "run",
+        total.as_str(),
+        input.as_str(),
+        print.as_str(),
+        "--date=010576",
+        "--disk",
+        nowhere.as_str(),
+    ];
+    assert_said(
+        &rt,
+        &unwanted,
+        "end of job, cycles 3, steps 5 of 5\n",
+        0,
+    )
 }
 
 #[test]
