@@ -27,16 +27,15 @@ use Rattle.rpg_effect.specs.declared.line.Spacing.{Spacing}
 use Rattle.rpg_invariant.proofs.Writing.{index_may, leaves, number_written, same_fields, text_written, then_keeps}
 use Rattle.rpg_invariant.specs.Holding.{Holds, Keeps}
 use Rattle.rpg_lines.proofs.Fields.{right}
-use Rattle.rpg_lines.proofs.Keeping.{page_number, page_room, page_small}
-use Rattle.rpg_lines.proofs.Operands.{and_true, entry_there, kind_is, kinds_same, value_there}
-use Rattle.rpg_lines.specs.Good.{IsEntry}
+use Rattle.rpg_lines.proofs.Keeping.{page_kind, page_room, page_small}
+use Rattle.rpg_lines.proofs.Operands.{and_true, entry_there, value_there}
+use Rattle.rpg_lines.specs.Entries.{IsEntry}
 use Rattle.rpg_operations.specs.Good.{IsRightEnd, IsValue}
 use Rattle.rpg_program.specs.Constants.{word_at}
 use Rattle.rpg_program.specs.Kept.{IsCharacter, IsProgram}
 use Rattle.rpg_program.specs.Object.{LineRow, Object, file_length, line_of}
 use Rattle.rpg_rules.specs.Sound.{IsSoundLine}
 use Rattle.rpg_store.specs.Fits.{HasForm}
-use Rattle.rpg_store.specs.Store.{IsNumber}
 
 -- ---- fields with nothing wrong are written only where they may be
 
@@ -58,10 +57,11 @@ blank_characters n k d low =
     let same : get_or (replicate n 32) k d ≡ 32 = get_or-replicate n k 32 d (subst (λ (m : ℕ). k < m) (length-replicate n 32) low) in
     subst IsCharacter (sym same) (record { lowest = omega arith; highest = omega arith })
 
-number_here : (o : Option Value) → IsNumber o → o ≡ Some (Number (number_of o))
-number_here None h = absurd h
-number_here (Some (Number n)) h = refl
-number_here (Some (Text text)) h = absurd h
+number_here : (k : Kind) (len : ℕ) (o : Option Value) → k ≡ kinds.Number → HasForm k len o → o ≡ Some (Number (number_of o))
+number_here kinds.Number len (Some (Number n)) is h = refl
+number_here kinds.Number len (Some (Text text)) is h = absurd h
+number_here kinds.Number len None is h = absurd h
+number_here kinds.Text len o is h = cc
 
 -- ---- what a movement leaves
 
@@ -119,11 +119,11 @@ module _ (p : Object) where
       Holds p (set_value w f n (Number (next_page (number_of (value_in w.fields (f, n))))))
   page_written w f n h i source =
       let before = number_of (value_in w.fields (f, n)) in
-      let read = number_here _ (page_number p.fields w.fields f n h.fits i source) in
+      let kind : i.form.kind ≡ kinds.Number = ap kind_of (sym i.there) ∙ (page_kind (form_at p.fields f) source).0 in
+      let read = number_here i.form.kind i.form.length (value_in w.fields (f, n)) kind (value_there p.fields w.fields h.fits f n i) in
       let room = page_room p.fields p.fields f before (next_page before) refl source (page_small p.fields w.fields f n before h.fits i source read) refl in
       let index = (and_true (is_index_form (form_at p.fields f)) _ source).0 in
-      let kind = kinds_same (kind_of (form_at p.fields f)) kinds.Number (and_true _ _ index).0 in
-      number_written p w f n (next_page before) h (value_of kinds.Number f n i (kind_is p.fields f n kinds.Number i kind)) (index_may (form_at p.fields f) index) room
+      number_written p w f n (next_page before) h (value_of kinds.Number f n i kind) (index_may (form_at p.fields f) index) room
 
   counts : (source : Source) (w : World nat_cmp) (f n : ℕ) → Holds p w → IsEntry p.fields f n → fits_source source (form_at p.fields f) ≡ true →
       Holds p (record w { fields = counted source (f, n) w.fields })
