@@ -4,7 +4,7 @@ use Rattle.std.specs.FinMap as map
 use Rattle.rpg_effect.specs.Ends.{End, GoesOn, Halt, Wrong}
 use Rattle.rpg_invariant.proofs.Stepping.{leads_well}
 use Rattle.rpg_invariant.specs.Holding.{Holds}
-use Rattle.rpg_invariant.specs.Leading.{EndsWell, HasRun, IsNamedEnd, LeadsWell}
+use Rattle.rpg_invariant.specs.Leading.{EndsWell, HasRun, IsNamedEnd, IsSteady, LeadsWell, StandsWell}
 use Rattle.rpg_machine.proofs.Bounds.{halts_low, safe_and_bounded}
 use Rattle.rpg_machine.proofs.OneRun.{runs_are_one}
 use Rattle.rpg_machine.proofs.Ranges.{in_code}
@@ -137,3 +137,29 @@ module _ (p : Object) (orderly : IsOrderly p) where
       let one = has_run section c ended none h in
       let same = runs_are_one p section c one.ending e one.last d one.output o one.runs run in
       subst (λ (x : End). EndsWell p section c x d) same.0 (subst (λ (x : Config). EndsWell p section c one.ending x) same.1 one.ends)
+
+  -- ---- on the way
+
+  put_well : (o : Output) (x : Outcome) → StandsWell p x → StandsWell p (put_before o x)
+  put_well o (Next d more) h = h
+  put_well o (Stop e d more) h = h
+
+  onward_well : (x : Outcome) (go : Config → Outcome) → LeadsWell p x → ((d : Config) → IsSteady p d → StandsWell p (go d)) → StandsWell p (onward x go)
+  onward_well (Next d o) go h next = put_well o (go d) (next d h)
+  onward_well (Stop GoesOn d o) go h next = absurd h
+  onward_well (Stop (Halt k) d o) go h next = h
+  onward_well (Stop (Wrong f) d o) go h next = absurd h
+
+  one_more : (n : ℕ) (c : Config) (b : Bool) → ((d : Config) → IsSteady p d → StandsWell p (run p n d)) → is_end p c ≡ b → IsSteady p c →
+      StandsWell p (cond b (Stop GoesOn c no_output) (onward (step p c) (run p n)))
+  one_more n c true next e h = (tt, h.values)
+  one_more n c false next e h = onward_well (step p c) (run p n) (leads_well p orderly c h e) next
+
+  all_the_way : (n : ℕ) (c : Config) → IsSteady p c → StandsWell p (run p n c)
+  all_the_way zero c h = h
+  all_the_way (suc n) c h = one_more n c (is_end p c) (all_the_way n) refl h
+
+  -- after any number of steps
+  pub stands_well : (section : Section) (n : ℕ) (c : Config) → has_end section ≡ true → c.cells ≡ map.empty → Holds p c.world → StandsWell p (run p n (at_first p section c))
+  stands_well section n c ended none h =
+      all_the_way n (at_first p section c) (record { values = h; control = record { place = first_place p section ended; cells = []; chain = (ended, none) } })

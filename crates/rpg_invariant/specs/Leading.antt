@@ -31,6 +31,11 @@ LeadsWell p (Stop GoesOn d o) = ⊥
 LeadsWell p (Stop (Halt k) d o) = IsNamedEnd (Halt k) × Holds p d.world
 LeadsWell p (Stop (Wrong f) d o) = ⊥
 
+-- so far as a run has come: at such a configuration, at its end, or at a halt
+abbrev pub StandsWell : Object → Outcome → Type 0
+StandsWell p (Next d o) = IsSteady p d
+StandsWell p (Stop e d o) = IsNamedEnd e × Holds p d.world
+
 -- What a run of a section comes to: its end or a halt, with values that are what they are to be. At the section's end no subroutine
 -- runs. What it took, and all that is left of the allowance can still buy, are at most the cost of the section's first place and what
 -- the allowance could buy before.
