@@ -4,7 +4,7 @@ use Rattle.std.specs.FinMap as map
 use Rattle.rpg_effect.specs.Ends.{End, GoesOn, Halt, Wrong}
 use Rattle.rpg_invariant.proofs.Stepping.{leads_well}
 use Rattle.rpg_invariant.specs.Holding.{Holds}
-use Rattle.rpg_invariant.specs.Leading.{EndsWell, HasRun, IsNamedEnd, IsSteady, LeadsWell, StandsWell}
+use Rattle.rpg_invariant.specs.Leading.{EndsWell, HasSectionRun, IsNamedEnd, IsSteady, StepsWell, StandsWell}
 use Rattle.rpg_machine.proofs.Bounds.{halts_low, safe_and_bounded}
 use Rattle.rpg_machine.proofs.OneRun.{runs_are_one}
 use Rattle.rpg_machine.proofs.Ranges.{in_code}
@@ -72,7 +72,7 @@ module _ (p : Object) (orderly : IsOrderly p) where
   RunsFrom n = (c : Config) (safe : IsSafe p c) → Holds p c.world → work_left p c < n → Stops p c safe n
 
   by_step : (n : ℕ) → RunsFrom n → (c : Config) (safe : IsSafe p c) → work_left p c < suc n → is_end p c ≡ false → (x : Outcome) → step p c ≡ x →
-      LeadsWell p x → Stops p c safe (suc n)
+      StepsWell p x → Stops p c safe (suc n)
   by_step n next c safe l e (Next d o) s good =
       let both = safe_and_bounded p c d o orderly safe s in
       let less = less_work p c d o (in_code p c orderly safe.place e) s in
@@ -115,7 +115,7 @@ module _ (p : Object) (orderly : IsOrderly p) where
   -- ---- from a section's first place
 
   -- a section has a run, from any configuration whose values are what they are to be and in which no subroutine runs
-  pub has_run : (section : Section) (c : Config) → has_end section ≡ true → c.cells ≡ map.empty → Holds p c.world → HasRun p section c
+  pub has_run : (section : Section) (c : Config) → has_end section ≡ true → c.cells ≡ map.empty → Holds p c.world → HasSectionRun p section c
   has_run section c ended none h =
       let first = at_first p section c in
       let safe : IsSafe p first = record { place = first_place p section ended; cells = []; chain = (ended, none) } in
@@ -144,7 +144,7 @@ module _ (p : Object) (orderly : IsOrderly p) where
   put_well o (Next d more) h = h
   put_well o (Stop e d more) h = h
 
-  onward_well : (x : Outcome) (go : Config → Outcome) → LeadsWell p x → ((d : Config) → IsSteady p d → StandsWell p (go d)) → StandsWell p (onward x go)
+  onward_well : (x : Outcome) (go : Config → Outcome) → StepsWell p x → ((d : Config) → IsSteady p d → StandsWell p (go d)) → StandsWell p (onward x go)
   onward_well (Next d o) go h next = put_well o (go d) (next d h)
   onward_well (Stop GoesOn d o) go h next = absurd h
   onward_well (Stop (Halt k) d o) go h next = h

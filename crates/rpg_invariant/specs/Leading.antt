@@ -25,11 +25,11 @@ IsNamedEnd (Halt k) = (1 ≤ k) × (k ≤ 5)
 IsNamedEnd (Wrong f) = ⊥
 
 -- a step goes on at such a configuration, or halts; a section's end is no step
-abbrev pub LeadsWell : Object → Outcome → Type 0
-LeadsWell p (Next d o) = IsSteady p d
-LeadsWell p (Stop GoesOn d o) = ⊥
-LeadsWell p (Stop (Halt k) d o) = IsNamedEnd (Halt k) × Holds p d.world
-LeadsWell p (Stop (Wrong f) d o) = ⊥
+abbrev pub StepsWell : Object → Outcome → Type 0
+StepsWell p (Next d o) = IsSteady p d
+StepsWell p (Stop GoesOn d o) = ⊥
+StepsWell p (Stop (Halt k) d o) = IsNamedEnd (Halt k) × Holds p d.world
+StepsWell p (Stop (Wrong f) d o) = ⊥
 
 -- so far as a run has come: at such a configuration, at its end, or at a halt
 abbrev pub StandsWell : Object → Outcome → Type 0
@@ -47,7 +47,7 @@ pub record EndsWell (p : Object) (section : Section) (c : Config) (e : End) (d :
   pub bound : d.steps + d.allowance * most p ≤ c.steps + cost p (record { section = section; number = first_of p section }) + c.allowance * most p
 
 -- a section has a run, and this is what it comes to
-pub record HasRun (p : Object) (section : Section) (c : Config) : Type 0 where
+pub record HasSectionRun (p : Object) (section : Section) (c : Config) : Type 0 where
   pub ending : End
   pub last : Config
   pub output : Output

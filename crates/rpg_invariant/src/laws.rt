@@ -14,7 +14,7 @@ ghost use Rattle.rpg_effect.specs.declared.operation.Action.{Action};
 ghost use Rattle.rpg_effect.specs.declared.operation.Instruction.{Instruction};
 ghost use Rattle.rpg_effect.specs.declared.operation.Operand.{Operand};
 ghost use Rattle.rpg_invariant.specs.Holding.{Holds, Keeps};
-ghost use Rattle.rpg_invariant.specs.Leading.{EndsWell, HasRun, IsSteady, LeadsWell, StandsWell, StaysInBound};
+ghost use Rattle.rpg_invariant.specs.Leading.{EndsWell, HasSectionRun, IsSteady, StepsWell, StandsWell, StaysInBound};
 ghost use Rattle.rpg_lines.specs.Outputs.{passage_effect};
 ghost use Rattle.rpg_machine.specs.Chain.{IsSafe};
 ghost use Rattle.rpg_machine.specs.Config.{Config, Output};
@@ -67,7 +67,7 @@ pub fn instructions_keep()
 /// From a steady configuration that is no section's end a step goes on at a steady one, or halts. Nothing is wrong, and the sum of the
 /// steps and of all that may still come doesn't grow.
 pub fn steps_keep()
-    ensures leads { (p : Object) (c : Config) → IsProgram p → IsAccepted p → IsSteady p c → is_end p c ≡ false → LeadsWell p (step p c) }
+    ensures leads { (p : Object) (c : Config) → IsProgram p → IsAccepted p → IsSteady p c → is_end p c ≡ false → StepsWell p (step p c) }
     ensures bound { (p : Object) (c d : Config) (o : Output) → IsProgram p → IsAccepted p → (before : IsSafe p c) → step p c ≡ Next d o →
         StaysInBound p c d before }
 {}
@@ -77,7 +77,7 @@ pub fn steps_keep()
 /// at that end or at that halt.
 pub fn sections_keep()
     ensures exists { (p : Object) (section : Section) (c : Config) → IsProgram p → IsAccepted p → has_end section ≡ true → c.cells ≡ map.empty →
-        Holds p c.world → HasRun p section c }
+        Holds p c.world → HasSectionRun p section c }
     ensures each { (p : Object) (section : Section) (c : Config) (e : End) (d : Config) (o : Output) → IsProgram p → IsAccepted p →
         has_end section ≡ true → c.cells ≡ map.empty → Holds p c.world →
         RunsTo p section c e d o → EndsWell p section c e d }

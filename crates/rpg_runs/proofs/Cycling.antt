@@ -31,7 +31,7 @@ use Rattle.rpg_program.specs.declared.section.Section.TheVariants as sections
 use Rattle.rpg_runs.proofs.Selecting.{selection_works}
 use Rattle.rpg_runs.proofs.Turning.{off_still, still_holds, still_reach}
 use Rattle.rpg_runs.proofs.Working.{Acted, Comes, Outcome, Owed, Ready, Works, both, does_work, effect_acts, ends, goes, going, its_fields, machine_works, nothing, overflow_works, unless_works}
-use Rattle.rpg_runs.specs.Coming.{CyclesWell, HasCycle, IsNamedEnd}
+use Rattle.rpg_runs.specs.Coming.{CyclesWell, HasCycle, IsCycleEnd}
 use Rattle.rpg_verify.specs.Bound.{most}
 
 module _ (p : Object) (orderly : IsOrderly p) where
@@ -42,7 +42,7 @@ module _ (p : Object) (orderly : IsOrderly p) where
       machine_works p (PutsOut p time) x (output_weight p time)
       (λ c h none. effect_acts p (output_weight p time) (output_effect p time) c (output_keeps p orderly.program orderly.sound time c.world h) none)
 
-  named_end : (e : effects.End) → leading.IsNamedEnd e → IsNamedEnd (end_of e)
+  named_end : (e : effects.End) → leading.IsNamedEnd e → IsCycleEnd (end_of e)
   named_end effects.GoesOn h = tt
   named_end (effects.Halt k) h = (h.0, omega (arith, h.1))
   named_end (effects.Wrong f) h = absurd h

@@ -14,7 +14,7 @@ use Rattle.rpg_machine.specs.Running.{Act}
 use Rattle.rpg_operations.specs.Good.{IsRightEnd}
 use Rattle.rpg_program.specs.Kept.{IsCharacter}
 use Rattle.rpg_program.specs.Object.{Object}
-use Rattle.rpg_runs.specs.Coming.{IsNamedEnd}
+use Rattle.rpg_runs.specs.Coming.{IsCycleEnd}
 use Rattle.rpg_verify.specs.Bound.{most}
 
 -- the steps used, and those that what is left of the allowance can still buy
@@ -52,7 +52,7 @@ module _ (p : Object) where
 
   -- what a phase comes to
   pub record Comes (owed : Owed) (n : ℕ) (e : End) (d : UnderWay) : Type 0 where
-    pub named : IsNamedEnd e
+    pub named : IsCycleEnd e
     pub values : Holds p d.config.world
     pub few : reach p d.config ≤ n
     pub ready : e ≡ GoesOn → Ready owed n d
@@ -79,7 +79,7 @@ module _ (p : Object) where
   goes owed n d r = let few = r.few in record { named = tt; values = r.values; few = omega (arith, few); ready = λ is. r }
 
   -- ends there
-  pub ends : (owed : Owed) (n : ℕ) (e : End) (d : UnderWay) → IsNamedEnd e → (e ≡ GoesOn → ⊥) → Holds p d.config.world → reach p d.config ≤ n → Comes owed n e d
+  pub ends : (owed : Owed) (n : ℕ) (e : End) (d : UnderWay) → IsCycleEnd e → (e ≡ GoesOn → ⊥) → Holds p d.config.world → reach p d.config ≤ n → Comes owed n e d
   ends owed n e d named stops values few = record { named = named; values = values; few = few; ready = λ is. absurd (stops is) }
 
   -- ---- one after another
@@ -143,7 +143,7 @@ module _ (p : Object) where
     pub leads : Config
     pub output : Output
     pub act : P c last leads output
-    pub named : IsNamedEnd (end_of last)
+    pub named : IsCycleEnd (end_of last)
     pub values : Holds p leads.world
     pub no_cell : last ≡ effects.GoesOn → leads.cells ≡ map.empty
     pub few : reach p leads ≤ reach p c + a
@@ -171,7 +171,7 @@ module _ (p : Object) where
         };
       }
 
-  right_named : (e : effects.End) → IsRightEnd e → IsNamedEnd (end_of e)
+  right_named : (e : effects.End) → IsRightEnd e → IsCycleEnd (end_of e)
   right_named effects.GoesOn h = tt
   right_named (effects.Halt k) h = (h.0, omega (arith, h.1))
   right_named (effects.Wrong f) h = absurd h

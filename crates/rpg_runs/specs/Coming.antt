@@ -13,23 +13,23 @@ use Rattle.rpg_machine.specs.Config.{Config, Output}
 use Rattle.rpg_program.specs.Object.{Object}
 use Rattle.rpg_verify.specs.Bound.{bound}
 
--- nothing is wrong: it goes on, comes to the end of the job, or halts with a number that is named for it
-abbrev pub IsNamedEnd : End → Type 0
-IsNamedEnd GoesOn = Unit {0}
-IsNamedEnd EndOfJob = Unit {0}
-IsNamedEnd (Halt k) = (1 ≤ k) × (k ≤ 7)
-IsNamedEnd (Wrong f) = ⊥
+-- how a cycle may end: nothing is wrong, it goes on, comes to the end of the job, or halts with a number that is named for it
+abbrev pub IsCycleEnd : End → Type 0
+IsCycleEnd GoesOn = Unit {0}
+IsCycleEnd EndOfJob = Unit {0}
+IsCycleEnd (Halt k) = (1 ≤ k) × (k ≤ 7)
+IsCycleEnd (Wrong f) = ⊥
 
 -- how a run may end: it doesn't go on
 abbrev pub IsJobEnd : End → Type 0
 IsJobEnd GoesOn = ⊥
 IsJobEnd EndOfJob = Unit {0}
-IsJobEnd (Halt k) = IsNamedEnd (Halt k)
+IsJobEnd (Halt k) = IsCycleEnd (Halt k)
 IsJobEnd (Wrong f) = ⊥
 
 -- a cycle ends with values that are what they are to be, and within the program's bound; where the job goes on no subroutine runs
 pub record CyclesWell (p : Object) (e : End) (d : UnderWay) : Type 0 where
-  pub ending : IsNamedEnd e
+  pub ending : IsCycleEnd e
   pub values : Holds p d.config.world
   pub no_cell : e ≡ GoesOn → d.config.cells ≡ map.empty
   pub few : d.config.steps ≤ bound p
