@@ -1,5 +1,8 @@
 //! Readers and writers that give and take little, interrupt, or fail.
 
+ghost use Rattle.std.specs.Prelude.{◌-◌, ◌^◌, ◌<◌};
+ghost use Rattle.rpg_files.specs.Counting.{faults_of};
+
 use crate::objects::{EXCEPTIONS, TOTAL};
 use rpg_cli::{Counted, Report, RunFault, execute};
 use rpg_files::fakes::{FullWriter, Interrupting, ShortReader, ShortWriter};
@@ -23,7 +26,10 @@ fn total<R: Read, W: Write>(
     alloc: Global,
     input: &mut Counted<R>,
     print: &mut Counted<W>,
-) -> Result<Report, RunFault> {
+) -> Result<Report, RunFault>
+    requires input { faults_of input.old < 2 ^ 64 - 1 }
+    requires print { faults_of print.old < 2 ^ 64 - 1 }
+{
     let mut disk = Counted::new(io::sink());
     execute(alloc, TOTAL, b"010576", input, print, &mut disk)
 }

@@ -3,6 +3,7 @@
 use crate::objects::{EXCEPTIONS, TOTAL, changed};
 use rpg_cli::run;
 use std::alloc::{AllocError, Global};
+use std::process::Abort;
 use std::rt::{Env, Files};
 use std::test::Fail;
 use std::{env, fs, io};
@@ -233,7 +234,7 @@ fn a_disk_file_is_written_beside_the_print(rt: HostRuntime) -> Result<(), Fail> 
 }
 
 /// The words are answered by that line and that status.
-fn assert_said<R: Files + Print + Eprint + AllocGlobal>(
+fn assert_said<R: Files + Print + Eprint + AllocGlobal + Abort>(
     rt: &R,
     words: &[&str],
     wanted: &str,
