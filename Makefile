@@ -37,12 +37,13 @@ test: examples
 examples:
 	@for file in crates/rpg_examples/data/*; do cmp examples/*/$$(basename $$file) $$file || exit 1; done
 
-# The example's total over 1,000,000 records, beside the same total made by awk; what decoding and verifying the largest programs takes; and
-# what compiling costs.
+# The example's total over 1,000,000 records, beside the same total made by awk; what decoding and verifying the largest programs takes;
+# what compiling costs; and a sales report beside the same in COBOL.
 bench: $(RPG2)
 	bench/run.sh
 	bench/verify.py
 	bench/compile.sh
+	bench/sales.sh
 
 # A target a library: it is proved once those below it are.
 define library_rule
