@@ -51,14 +51,6 @@ pub struct Moves {
     pub skip_after: u8,
 }
 
-/// Where the form stands: the line printed last (0 before the first), the pages begun since then, and the present line.
-#[derive(Clone, Copy)]
-pub struct Paper {
-    pub last: u8,
-    pub begun: u16,
-    pub line: u8,
-}
-
 impl<K: Copy> Clone for LineField<K> {
     fn clone(&self) -> Result<Self, AllocError> {
         Ok(*self)
