@@ -100,11 +100,11 @@ on_ok (Err e) P Q f h = tt
 pub faults_same : {X R W1 W2 : Type 0} (result : Result X RunFault) (old new old' new' : Counted R) (print : Counted W1) (disk : Counted W2) (print' : Counted W1) (disk' : Counted W2)
     (remaining : R → Option (List ℕ)) → old ≡ old' → new ≡ new'
     → FaultsAre result (remaining (device_of old)) (remaining (device_of new))
-      (record { reader = faults_of old; print = faults_of print; disk = faults_of disk }) (record { reader = faults_of new; print = faults_of print'; disk = faults_of disk' })
+    (record { reader = faults_of old; print = faults_of print; disk = faults_of disk }) (record { reader = faults_of new; print = faults_of print'; disk = faults_of disk' })
     → FaultsAre result (remaining (device_of old')) (remaining (device_of new'))
-      (record { reader = faults_of old'; print = faults_of print; disk = faults_of disk }) (record { reader = faults_of new'; print = faults_of print'; disk = faults_of disk' })
+    (record { reader = faults_of old'; print = faults_of print; disk = faults_of disk }) (record { reader = faults_of new'; print = faults_of print'; disk = faults_of disk' })
 faults_same {X} {R} result old new old' new' print disk print' disk' remaining same left holds =
     subst (λ (x : Counted R). FaultsAre result (remaining (device_of old')) (remaining (device_of x))
-      (record { reader = faults_of old'; print = faults_of print; disk = faults_of disk }) (record { reader = faults_of x; print = faults_of print'; disk = faults_of disk' })) left
+    (record { reader = faults_of old'; print = faults_of print; disk = faults_of disk }) (record { reader = faults_of x; print = faults_of print'; disk = faults_of disk' })) left
     (subst (λ (x : Counted R). FaultsAre result (remaining (device_of x)) (remaining (device_of new))
-      (record { reader = faults_of x; print = faults_of print; disk = faults_of disk }) (record { reader = faults_of new; print = faults_of print'; disk = faults_of disk' })) same holds)
+    (record { reader = faults_of x; print = faults_of print; disk = faults_of disk }) (record { reader = faults_of new; print = faults_of print'; disk = faults_of disk' })) same holds)

@@ -288,12 +288,7 @@ fn a_disk_file_is_wanted_or_left(rt: HostRuntime) -> Result<(), Fail> {
         "--disk",
         nowhere.as_str(),
     ];
-    assert_said(
-        &rt,
-        &unwanted,
-        "end of job, cycles 3, steps 5 of 5\n",
-        0,
-    )
+    assert_said(&rt, &unwanted, "end of job, cycles 3, steps 5 of 5\n", 0)
 }
 
 #[test]

@@ -29,13 +29,13 @@ pub returns-clause-report : goal.returns-clause-report
 returns-clause-report g c =
     let same : source_of c.run-report.new.records ≡ c.input-1.given.0 = search rules in
     on_ok c.run-report.result _ _ (λ report holds p day job. reports_same c.args.object.now c.args.date.now c.in_ok-verified.verified p day c.in_ok-job.job _ _ _ _ _ _ _ _ report
-      (ap (λ x. g.R.Read.remaining (device_of x)) c.new-records.ensures.untouched) (ap (λ x. g.R.Read.remaining (device_of x)) same) holds c.in_ok-job.ensures.start c.in_ok-verified.ensures.only job) c.run-report.ensures.report
+    (ap (λ x. g.R.Read.remaining (device_of x)) c.new-records.ensures.untouched) (ap (λ x. g.R.Read.remaining (device_of x)) same) holds c.in_ok-job.ensures.start c.in_ok-verified.ensures.only job) c.run-report.ensures.report
 
 pub returns-clause-early : goal.returns-clause-early
 returns-clause-early g c =
     let same : source_of c.run-report.new.records ≡ c.input-1.given.0 = search rules in
     on_err c.run-report.result _ _ (λ e holds p day job. parts_same c.args.object.now c.args.date.now c.in_ok-verified.verified p day c.in_ok-job.job _ _ _ _ _ _ _ _ e
-      (ap (λ x. g.R.Read.remaining (device_of x)) c.new-records.ensures.untouched) (ap (λ x. g.R.Read.remaining (device_of x)) same) holds c.in_ok-job.ensures.start c.in_ok-verified.ensures.only job) c.run-report.ensures.early
+    (ap (λ x. g.R.Read.remaining (device_of x)) c.new-records.ensures.untouched) (ap (λ x. g.R.Read.remaining (device_of x)) same) holds c.in_ok-job.ensures.start c.in_ok-verified.ensures.only job) c.run-report.ensures.early
 
 pub returns-clause-faults : goal.returns-clause-faults
 returns-clause-faults g c =
