@@ -10,7 +10,7 @@ MAKEFLAGS += -j2
 # crates.txt says which crate stands on which.
 CRATES := $(shell sed -n 's/^\([a-z][a-z0-9_]*\)[: ].*/\1/p' crates.txt)
 PROGRAMS := $(patsubst crates/%/src/main.rt,%,$(wildcard crates/*/src/main.rt))
-below = $(filter $(CRATES),$(shell sed -n 's/^$(1)[^:]*://p' crates.txt))
+below = $(filter $(CRATES),$(shell sed -n 's/^$(1)://p' crates.txt))
 sources = $(shell find crates/$(1)/src crates/$(1)/specs crates/$(1)/proofs \( -name '*.rt' -o -name '*.antt' \) 2>/dev/null)
 library = crates/$(1)/out/rlib/stamp
 

@@ -20,7 +20,7 @@ copy() {
 below=("$name")
 for ((at = 0; at < ${#below[@]}; at++)); do
     crate=${below[at]}
-    for it in $(sed -n "s/^$crate[^:]*://p" crates.txt); do
+    for it in $(sed -n "s/^$crate://p" crates.txt); do
         if [ -d "crates/$it" ] && [[ " ${below[*]} " != *" $it "* ]]; then
             below+=("$it")
         fi
