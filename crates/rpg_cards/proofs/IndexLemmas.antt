@@ -14,7 +14,7 @@ use Rattle.rpg_cards.specs.declared.constants.Constant.{Constant}
 use Rattle.rpg_cards.specs.declared.index.FirstDefinition.{FirstDefinition}
 use Rattle.rpg_cards.specs.declared.names.Defined.{Defined}
 use Rattle.rpg_cards.specs.declared.names.Defined.TheVariants.{Missing}
-use Rattle.old_effect.specs.declared.form.Form.{Form}
+use Rattle.rpg_effect.specs.declared.form.FieldForm.{FieldForm}
 use Rattle.rpg_cards.specs.declared.spec_card.SpecCard.{SpecCard}
 use Rattle.rpg_spec.specs.declared.spec.Spec.{Spec}
 
@@ -114,13 +114,13 @@ module _ {X : Type 0} (has : ℕ → Spec → Option X) where
 
 -- ---- names
 
-the_first : ℕ → Option Form → FirstDefinition
+the_first : ℕ → Option FieldForm → FirstDefinition
 the_first i form = record { place = i; form = form }
 
-named : List ℕ → ℕ → List ℕ × Option Form → Option FirstDefinition
+named : List ℕ → ℕ → List ℕ × Option FieldForm → Option FirstDefinition
 named name i d = cond (pointwise nat_eq name d.0) (Some (the_first i d.1)) None
 
-named-placed : (name : List ℕ) (i : ℕ) (o : Option (List ℕ × Option Form)) (d : FirstDefinition) → option_and_then (named name i) o ≡ Some d → d.place ≡ i
+named-placed : (name : List ℕ) (i : ℕ) (o : Option (List ℕ × Option FieldForm)) (d : FirstDefinition) → option_and_then (named name i) o ≡ Some d → d.place ≡ i
 unfolding named the_first
 named-placed name i None d e = absurd cc
 named-placed name i (Some t) d e = by_cases (pointwise nat_eq name t.0) e
@@ -142,12 +142,12 @@ unfolding named the_first
 defined_on_first name i [] = refl
 defined_on_first name i (c ∷ cs) = by_definition (definition_on c.spec) (defined_on_first name (i + 1) cs)
   where
-    by_test : (b : Bool) (d : List ℕ × Option Form) (later : Option FirstDefinition) → defined_on name cs ≡ defined_first later
+    by_test : (b : Bool) (d : List ℕ × Option FieldForm) (later : Option FirstDefinition) → defined_on name cs ≡ defined_first later
         → cond b (defined_as d.1) (defined_on name cs) ≡ defined_first (option_or (cond b (Some (the_first i d.1)) None) later)
     by_test true d later rest = refl
     by_test false d later rest = rest
 
-    by_definition : (o : Option (List ℕ × Option Form)) → defined_on name cs ≡ defined_first (first_of (definition_at name) (i + 1) cs)
+    by_definition : (o : Option (List ℕ × Option FieldForm)) → defined_on name cs ≡ defined_first (first_of (definition_at name) (i + 1) cs)
         → or_later name o (defined_on name cs) ≡ defined_first (option_or (option_and_then (named name i) o) (first_of (definition_at name) (i + 1) cs))
     by_definition None rest = rest
     by_definition (Some d) rest = by_test (pointwise nat_eq name d.0) d (first_of (definition_at name) (i + 1) cs) rest

@@ -11,10 +11,10 @@ use Rattle.rpg_cards.specs.declared.constants.Constant.TheVariants.{Number, Text
 use Rattle.rpg_cards.specs.declared.names.Defined.{Defined}
 use Rattle.rpg_cards.specs.declared.names.Defined.TheVariants.{Good}
 use Rattle.rpg_cards.specs.declared.spec_card.SpecCard.{SpecCard}
-use Rattle.old_effect.specs.declared.form.Class.TheVariants as class
-use Rattle.old_effect.specs.declared.form.Form.{Form}
-use Rattle.old_effect.specs.declared.form.Kind.TheVariants as kind
-use Rattle.old_effect.specs.Values as value
+use Rattle.rpg_effect.specs.declared.form.Class.TheVariants as class
+use Rattle.rpg_effect.specs.declared.form.FieldForm.{FieldForm}
+use Rattle.rpg_effect.specs.declared.form.Kind.TheVariants as kind
+use Rattle.rpg_effect.specs.Values as value
 use Rattle.rpg_spec.specs.declared.literal.Factor.{Factor}
 use Rattle.rpg_spec.specs.declared.literal.Factor.TheVariants as factor
 use Rattle.rpg_spec.specs.declared.literal.Literal.{Literal}
@@ -30,7 +30,7 @@ abbrev pub factor_constant : Factor → Option Constant
 factor_constant (factor.Name name) = None
 factor_constant (factor.Literal l) = Some (constant_of l)
 
-abbrev pub constant_form : Constant → Form
+abbrev pub constant_form : Constant → FieldForm
 constant_form (Number n) = record { kind = kind.Number; class = class.Constant; length = n.length; decimals = n.decimals; is_ascending = false; entries = 1 }
 constant_form (Text text) = record { kind = kind.Text; class = class.Constant; length = length text; decimals = 0; is_ascending = false; entries = 1 }
 

@@ -6,10 +6,10 @@ use Rattle.rpg_cards.specs.Cards.{input_field_on, calculation_on}
 use Rattle.rpg_cards.specs.declared.names.Defined.{Defined}
 use Rattle.rpg_cards.specs.declared.names.Defined.TheVariants.{Missing, Bad, Good}
 use Rattle.rpg_cards.specs.declared.spec_card.SpecCard.{SpecCard}
-use Rattle.old_effect.specs.declared.form.Class.TheVariants as class
-use Rattle.old_effect.specs.declared.form.Form.{Form}
-use Rattle.old_effect.specs.declared.form.Kind.{Kind}
-use Rattle.old_effect.specs.declared.form.Kind.TheVariants as kind
+use Rattle.rpg_effect.specs.declared.form.Class.TheVariants as class
+use Rattle.rpg_effect.specs.declared.form.FieldForm.{FieldForm}
+use Rattle.rpg_effect.specs.declared.form.Kind.{Kind}
+use Rattle.rpg_effect.specs.declared.form.Kind.TheVariants as kind
 use Rattle.rpg_spec.specs.declared.calculation.CalculationSpec.{CalculationSpec}
 use Rattle.rpg_spec.specs.declared.input.InputField.{InputField}
 use Rattle.rpg_spec.specs.declared.spec.Spec.{Spec}
@@ -19,22 +19,22 @@ use Rattle.rpg_text.specs.Texts.{is_between}
 -- ---- forms
 
 -- a plain field
-abbrev pub plain_form : Kind → ℕ → ℕ → Form
+abbrev pub plain_form : Kind → ℕ → ℕ → FieldForm
 plain_form k len d = record { kind = k; class = class.Plain; length = len; decimals = d; is_ascending = false; entries = 1 }
 
 -- A plain field of that length: a text where the decimals are blank. A text has 1 to 256 characters; a number has 1 to 15 digits,
 -- of which at most 9 are decimals.
-abbrev pub sized_form : ℕ → Option ℕ → Option Form
+abbrev pub sized_form : ℕ → Option ℕ → Option FieldForm
 sized_form len None = if is_between 1 256 len then Some (plain_form kind.Text len 0) else None
 sized_form len (Some decimals) = if is_between 1 15 len && nat_le decimals 9 && nat_le decimals len then Some (plain_form kind.Number len decimals) else None
 
 -- ---- definitions
 
-abbrev pub field_form : InputField → Option Form
+abbrev pub field_form : InputField → Option FieldForm
 field_form f = if nat_le f.from f.to then sized_form (f.to + 1 - f.from) f.decimals else None
 
 -- the name that a card defines, with its form: none where its length or decimals are past their limit
-abbrev pub definition_by : CalculationSpec → Option (List ℕ × Option Form)
+abbrev pub definition_by : CalculationSpec → Option (List ℕ × Option FieldForm)
 definition_by c = option_and_then (λ len. option_map (λ name. (name, sized_form len c.decimals)) c.result_field) c.length
 
 abbrev pub first_some : {X : Type 0} → Option X → Option X → Option X
@@ -42,16 +42,16 @@ first_some (Some x) o = Some x
 first_some None o = o
 
 -- an input field is defined by its card, and a result field where its length is given
-abbrev pub definition_on : Spec → Option (List ℕ × Option Form)
+abbrev pub definition_on : Spec → Option (List ℕ × Option FieldForm)
 definition_on s = first_some (option_map (λ f. (f.name, field_form f)) (input_field_on s)) (option_and_then definition_by (calculation_on s))
 
 -- ---- the form of a name is that of its first definition
 
-abbrev pub defined_as : Option Form → Defined
+abbrev pub defined_as : Option FieldForm → Defined
 defined_as None = Bad
 defined_as (Some form) = Good form
 
-abbrev pub or_later : List ℕ → Option (List ℕ × Option Form) → Defined → Defined
+abbrev pub or_later : List ℕ → Option (List ℕ × Option FieldForm) → Defined → Defined
 or_later name None later = later
 or_later name (Some d) later = if pointwise nat_eq name d.0 then defined_as d.1 else later
 
@@ -59,7 +59,7 @@ abbrev pub defined_on : List ℕ → List SpecCard → Defined
 defined_on name [] = Missing
 defined_on name (c ∷ cs) = or_later name (definition_on c.spec) (defined_on name cs)
 
-abbrev pub unless_given : Option Form → Defined → Defined
+abbrev pub unless_given : Option FieldForm → Defined → Defined
 unless_given (Some form) d = Good form
 unless_given None d = d
 

@@ -9,7 +9,7 @@ ghost use Rattle.rpg_cards.specs.SameConstants.{is_same_equiv, hashed, hashed_al
 ghost use Rattle.rpg_cards.specs.declared.constants.Constant.TheVariants.{Text};
 
 use crate::spec_card::SpecCard;
-use old_effect::form::{Class, Form, Kind};
+use rpg_effect::form::{Class, FieldForm, Kind};
 use rpg_spec::{Factor, Literal, NumericLiteral, TextLiteral, Word};
 use std::hash::{Hash, Hasher};
 use std::marker::Model;
@@ -70,11 +70,11 @@ impl Constant {
     }
 
     #[tactic(auto, unfolding(crate::specs::Constants::constant_form))]
-    pub fn form(&self) -> Form
+    pub fn form(&self) -> FieldForm
         ensures { result ≡ constants.constant_form self.now }
     {
         match self {
-            Constant::Number(number) => Form {
+            Constant::Number(number) => FieldForm {
                 kind: Kind::Number,
                 class: Class::Constant,
                 length: number.length() as u16,
@@ -82,7 +82,7 @@ impl Constant {
                 is_ascending: false,
                 entries: 1,
             },
-            Constant::Text(text) => Form {
+            Constant::Text(text) => FieldForm {
                 kind: Kind::Text,
                 class: Class::Constant,
                 length: text.as_slice().len() as u16,

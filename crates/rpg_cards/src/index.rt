@@ -16,7 +16,7 @@ use crate::files::{file_named, input_file};
 use crate::names::{Defined, as_defined, given_form};
 use crate::spec_card::SpecCard;
 use indexmap::IndexMap;
-use old_effect::form::Form;
+use rpg_effect::form::FieldForm;
 use rpg_spec::{Factor, FileSpec, Word};
 use rpg_symbols::Name;
 use std::alloc::{AllocError, Global};
@@ -27,7 +27,7 @@ use std::marker::Model;
 #[derive(Clone, Copy)]
 pub struct FirstDefinition {
     place: usize,
-    form: Option<Form>,
+    form: Option<FieldForm>,
 }
 
 /// The cards of a source, in which a name or a constant is found at once.

@@ -6,7 +6,7 @@ ghost use Rattle.rpg_cards.specs.Names as names;
 ghost use Rattle.rpg_symbols.specs.Fields as fields;
 
 use crate::spec_card::SpecCard;
-use old_effect::form::{Class, Form, Kind};
+use rpg_effect::form::{Class, FieldForm, Kind};
 use rpg_spec::InputField;
 use rpg_symbols::Name;
 
@@ -17,11 +17,11 @@ pub enum Defined {
     Missing,
     /// Its length or its decimals are past their limit.
     Bad,
-    Good(Form),
+    Good(FieldForm),
 }
 
 /// The form of a plain field of that length; without decimals it is a text. None where a limit is passed.
-pub fn sized_form(length: u16, decimals: Option<u8>) -> Option<Form>
+pub fn sized_form(length: u16, decimals: Option<u8>) -> Option<FieldForm>
     ensures { result ≡ names.sized_form length decimals }
 {
     match decimals {
@@ -42,10 +42,10 @@ pub fn sized_form(length: u16, decimals: Option<u8>) -> Option<Form>
     }
 }
 
-const fn plain(kind: Kind, length: u16, decimals: u8) -> Form
+const fn plain(kind: Kind, length: u16, decimals: u8) -> FieldForm
     ensures { result ≡ names.plain_form kind length decimals }
 {
-    Form {
+    FieldForm {
         kind,
         class: Class::Plain,
         length,
@@ -71,7 +71,7 @@ impl SpecCard {
 
     /// The form that it defines its name in.
     #[tactic(auto, unfolding(crate::specs::Names::definition_on, crate::specs::Names::definition_by))]
-    pub fn defined_form(&self) -> Option<Form>
+    pub fn defined_form(&self) -> Option<FieldForm>
         ensures { result ≡ option_and_then (λ d. d.1) (names.definition_on self.now.spec) }
     {
         if let Some(field) = self.input_field() {
@@ -84,7 +84,7 @@ impl SpecCard {
 }
 
 /// The form of an input field: none where its columns are turned round.
-fn field_form(field: &InputField) -> Option<Form>
+fn field_form(field: &InputField) -> Option<FieldForm>
     ensures { result ≡ names.field_form field.now }
 {
     if field.from <= field.to {
@@ -95,7 +95,7 @@ fn field_form(field: &InputField) -> Option<Form>
 }
 
 /// The form of a name that every program has.
-pub(crate) fn given_form(name: &Name) -> Option<Form>
+pub(crate) fn given_form(name: &Name) -> Option<FieldForm>
     ensures { result ≡ fields.form_of fields.given name.now }
 {
     if name.as_slice() == b"UDATE".as_slice() {
@@ -107,10 +107,10 @@ pub(crate) fn given_form(name: &Name) -> Option<Form>
     }
 }
 
-const fn given(class: Class, length: u16) -> Form
+const fn given(class: Class, length: u16) -> FieldForm
     ensures { result ≡ fields.number_form class length }
 {
-    Form {
+    FieldForm {
         kind: Kind::Number,
         class,
         length,
@@ -120,7 +120,7 @@ const fn given(class: Class, length: u16) -> Form
     }
 }
 
-pub(crate) fn as_defined(form: Option<Form>) -> Defined
+pub(crate) fn as_defined(form: Option<FieldForm>) -> Defined
     ensures { result ≡ names.defined_as form }
 {
     match form {

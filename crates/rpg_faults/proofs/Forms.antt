@@ -2,11 +2,11 @@
 use Rattle.std.proofs.Common.{◌≡◌, Bool, true, false, ℕ, refl}
 use Rattle.std.proofs.lemmas.Bool.{and_parts, eqb-true}
 use Rattle.std.specs.Prelude.{◌==◌}
-use Rattle.old_effect.specs.declared.form.Class.{Class}
-use Rattle.old_effect.specs.declared.form.Class.TheVariants as class
-use Rattle.old_effect.specs.declared.form.Form.{Form}
-use Rattle.old_effect.specs.declared.form.Kind.{Kind}
-use Rattle.old_effect.specs.declared.form.Kind.TheVariants as kind
+use Rattle.rpg_effect.specs.declared.form.Class.{Class}
+use Rattle.rpg_effect.specs.declared.form.Class.TheVariants as class
+use Rattle.rpg_effect.specs.declared.form.FieldForm.{FieldForm}
+use Rattle.rpg_effect.specs.declared.form.Kind.{Kind}
+use Rattle.rpg_effect.specs.declared.form.Kind.TheVariants as kind
 use Rattle.rpg_faults.specs.Names.{same_kind, class_number, same_flag, same_form}
 
 kind_equal : (a b : Kind) → same_kind a b ≡ true → a ≡ b
@@ -30,10 +30,10 @@ flag_equal true false e = cc
 flag_equal false true e = cc
 
 -- a form of its parts
-made : Kind → Class → ℕ → ℕ → Bool → ℕ → Form
+made : Kind → Class → ℕ → ℕ → Bool → ℕ → FieldForm
 made k c l d a n = record { kind = k; class = c; length = l; decimals = d; is_ascending = a; entries = n }
 
-made_equal : (f g : Form) → same_form f g ≡ true → made f.kind f.class f.length f.decimals f.is_ascending f.entries ≡ made g.kind g.class g.length g.decimals g.is_ascending g.entries
+made_equal : (f g : FieldForm) → same_form f g ≡ true → made f.kind f.class f.length f.decimals f.is_ascending f.entries ≡ made g.kind g.class g.length g.decimals g.is_ascending g.entries
 made_equal f g e =
     let p5 = and_parts _ _ e in
     let p4 = and_parts _ _ p5.0 in
@@ -48,6 +48,6 @@ made_equal f g e =
     let n : f.entries ≡ g.entries = eqb-true f.entries g.entries p5.1 in
     cc
 
-pub same_form-equal : (f g : Form) → same_form f g ≡ true → f ≡ g
+pub same_form-equal : (f g : FieldForm) → same_form f g ≡ true → f ≡ g
 unfolding made
 same_form-equal f g e = made_equal f g e

@@ -4,7 +4,7 @@ use Rattle.rpg_cards.specs.Constants.{constant_form, new_first, new_second}
 use Rattle.rpg_cards.specs.Names.{definition_on, form_of_name}
 use Rattle.rpg_cards.specs.declared.constants.Constant.{Constant}
 use Rattle.rpg_cards.specs.declared.spec_card.SpecCard.{SpecCard}
-use Rattle.old_effect.specs.declared.form.Form.{Form}
+use Rattle.rpg_effect.specs.declared.form.FieldForm.{FieldForm}
 use Rattle.rpg_spec.specs.declared.input.InputSpec.TheVariants as input
 use Rattle.rpg_spec.specs.declared.output.OutputSpec.TheVariants as output
 use Rattle.rpg_spec.specs.declared.spec.Spec.{Spec}
@@ -43,12 +43,12 @@ total_from weight before (c ∷ cs) = weight before c + total_from weight (befor
 
 -- ---- storage: fields are numbered in the order of the first definitions of their names
 
-abbrev pub bytes_of : Option Form → ℕ
+abbrev pub bytes_of : Option FieldForm → ℕ
 bytes_of None = 0
 bytes_of (Some form) = size_of form
 
 -- what the first definition of a name takes; a later one takes nothing, and neither does one without a form
-abbrev pub bytes_by : List SpecCard → Option (List ℕ × Option Form) → ℕ
+abbrev pub bytes_by : List SpecCard → Option (List ℕ × Option FieldForm) → ℕ
 bytes_by before None = 0
 bytes_by before (Some d) = if is_missing (form_of_name d.0 before) then bytes_of d.1 else 0
 
@@ -86,7 +86,7 @@ abbrev pub one_if_some : {X : Type 0} → Option X → ℕ
 one_if_some None = 0
 one_if_some (Some x) = 1
 
-abbrev pub names_by : List SpecCard → Option (List ℕ × Option Form) → ℕ
+abbrev pub names_by : List SpecCard → Option (List ℕ × Option FieldForm) → ℕ
 names_by before None = 0
 names_by before (Some d) = if is_missing (form_of_name d.0 before) then 1 else 0
 

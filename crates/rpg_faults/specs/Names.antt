@@ -7,11 +7,11 @@ use Rattle.rpg_cards.specs.Operations.{columns}
 use Rattle.rpg_cards.specs.declared.names.Defined.{Defined}
 use Rattle.rpg_cards.specs.declared.names.Defined.TheVariants.{Missing, Bad, Good}
 use Rattle.rpg_cards.specs.declared.spec_card.SpecCard.{SpecCard}
-use Rattle.old_effect.specs.declared.form.Class.{Class}
-use Rattle.old_effect.specs.declared.form.Class.TheVariants as class
-use Rattle.old_effect.specs.declared.form.Form.{Form}
-use Rattle.old_effect.specs.declared.form.Kind.{Kind}
-use Rattle.old_effect.specs.declared.form.Kind.TheVariants as kind
+use Rattle.rpg_effect.specs.declared.form.Class.{Class}
+use Rattle.rpg_effect.specs.declared.form.Class.TheVariants as class
+use Rattle.rpg_effect.specs.declared.form.FieldForm.{FieldForm}
+use Rattle.rpg_effect.specs.declared.form.Kind.{Kind}
+use Rattle.rpg_effect.specs.declared.form.Kind.TheVariants as kind
 use Rattle.rpg_spec.specs.declared.calculation.CalculationSpec.{CalculationSpec}
 use Rattle.rpg_spec.specs.declared.calculation.Operation.{Operation}
 use Rattle.rpg_spec.specs.declared.input.InputField.{InputField}
@@ -71,18 +71,18 @@ abbrev pub same_flag : Bool → Bool → Bool
 same_flag true b = b
 same_flag false b = not b
 
-abbrev pub same_form : Form → Form → Bool
+abbrev pub same_form : FieldForm → FieldForm → Bool
 same_form f g =
     same_kind f.kind g.kind && class_number f.class == class_number g.class && f.length == g.length && f.decimals == g.decimals
     && same_flag f.is_ascending g.is_ascending && f.entries == g.entries
 
-abbrev pub is_other : Form → Defined → Bool
+abbrev pub is_other : FieldForm → Defined → Bool
 is_other form Missing = false
 is_other form Bad = false
 is_other form (Good first) = not (same_form first form)
 
 -- a definition with its form
-abbrev pub redefines_as : List SpecCard → List ℕ → Option Form → Bool
+abbrev pub redefines_as : List SpecCard → List ℕ → Option FieldForm → Bool
 redefines_as before name None = false
 redefines_as before name (Some form) = is_other form (form_of_name name before)
 

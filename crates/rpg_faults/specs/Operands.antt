@@ -8,14 +8,14 @@ use Rattle.rpg_cards.specs.Operations.{columns}
 use Rattle.rpg_cards.specs.declared.names.Defined.{Defined}
 use Rattle.rpg_cards.specs.declared.names.Defined.TheVariants.{Missing, Bad, Good}
 use Rattle.rpg_cards.specs.declared.spec_card.SpecCard.{SpecCard}
-use Rattle.old_effect.specs.declared.form.Class.{Class}
-use Rattle.old_effect.specs.declared.form.Class.TheVariants as class
+use Rattle.rpg_effect.specs.declared.form.Class.{Class}
+use Rattle.rpg_effect.specs.declared.form.Class.TheVariants as class
 use Rattle.rpg_cards.specs.declared.operations.Kinds.{Kinds}
 use Rattle.rpg_cards.specs.declared.operations.Kinds.TheVariants.{Numbers, Alike, Any}
 use Rattle.rpg_cards.specs.declared.operations.Need.{Need}
-use Rattle.old_effect.specs.declared.form.Form.{Form}
-use Rattle.old_effect.specs.declared.form.Kind.{Kind}
-use Rattle.old_effect.specs.declared.form.Kind.TheVariants as kind
+use Rattle.rpg_effect.specs.declared.form.FieldForm.{FieldForm}
+use Rattle.rpg_effect.specs.declared.form.Kind.{Kind}
+use Rattle.rpg_effect.specs.declared.form.Kind.TheVariants as kind
 use Rattle.rpg_spec.specs.declared.calculation.CalculationSpec.{CalculationSpec}
 use Rattle.rpg_spec.specs.declared.calculation.Operation.{Operation}
 use Rattle.rpg_spec.specs.declared.literal.Factor.{Factor}
@@ -35,38 +35,38 @@ is_fixed class.Constant = true
 is_fixed class.Date = true
 
 -- nothing is said of a name without a form
-abbrev pub form_in : Defined → Option Form
+abbrev pub form_in : Defined → Option FieldForm
 form_in Missing = None
 form_in Bad = None
 form_in (Good form) = Some form
 
 -- the form of what stands in a column that the operation has
-abbrev pub factor_form : List SpecCard → Need → Option Factor → Option Form
+abbrev pub factor_form : List SpecCard → Need → Option Factor → Option FieldForm
 factor_form cards need factor = option_and_then (λ f. form_in (form_of_factor f cards)) (operand need factor)
 
-abbrev pub result_form : List SpecCard → Need → Option (List ℕ) → Option Form
+abbrev pub result_form : List SpecCard → Need → Option (List ℕ) → Option FieldForm
 result_form cards need name = option_and_then (λ n. form_in (form_of_name n cards)) (operand need name)
 
-abbrev pub has_text : Option Form → Bool
+abbrev pub has_text : Option FieldForm → Bool
 has_text None = false
 has_text (Some form) = is_text form.kind
 
 -- a number beside a text
-abbrev pub differ : Option Form → Option Form → Bool
+abbrev pub differ : Option FieldForm → Option FieldForm → Bool
 differ None o = false
 differ (Some f) None = false
 differ (Some f) (Some g) = not (same_kind f.kind g.kind)
 
-abbrev pub wrong_kinds : Kinds → Option Form → Option Form → Option Form → Bool
+abbrev pub wrong_kinds : Kinds → Option FieldForm → Option FieldForm → Option FieldForm → Bool
 wrong_kinds Numbers f g r = has_text f || has_text g || has_text r
 wrong_kinds Alike f g r = differ f g
 wrong_kinds Any f g r = false
 
-abbrev pub is_never_written : Option Form → Bool
+abbrev pub is_never_written : Option FieldForm → Bool
 is_never_written None = false
 is_never_written (Some form) = is_fixed form.class
 
-abbrev pub wrong_forms : Kinds → Option Form → Option Form → Option Form → Bool
+abbrev pub wrong_forms : Kinds → Option FieldForm → Option FieldForm → Option FieldForm → Bool
 wrong_forms kinds f g r = wrong_kinds kinds f g r || is_never_written r
 
 abbrev pub wrong_in_operation : List SpecCard → CalculationSpec → Operation → Bool

@@ -4,7 +4,7 @@ ghost use Rattle.std.specs.Prelude.{◌≡◌, length, take, option_copied};
 ghost use Rattle.rpg_faults.specs.Cards.{operand};
 ghost use Rattle.rpg_faults.specs.Names as names;
 
-use old_effect::form::{Class, Form, Kind};
+use rpg_effect::form::{Class, FieldForm, Kind};
 use rpg_cards::{Defined, IndexedCards, Need, SpecCard, columns, sized_form};
 use rpg_spec::{CalculationSpec, Factor, OutputField};
 use rpg_symbols::Name;
@@ -104,7 +104,7 @@ pub(crate) fn redefines(source: &IndexedCards, before: &[SpecCard], card: &SpecC
     }
 }
 
-fn is_same(a: &Form, b: &Form) -> bool
+fn is_same(a: &FieldForm, b: &FieldForm) -> bool
     ensures { result ≡ names.same_form a.now b.now }
 {
     is_same_kind(a.kind, b.kind)

@@ -4,7 +4,7 @@ ghost use Rattle.std.specs.Prelude.{◌≡◌};
 ghost use Rattle.rpg_faults.specs.Operands as operands;
 
 use crate::names::{is_same_kind, operand};
-use old_effect::form::{Class, Form, Kind};
+use rpg_effect::form::{Class, FieldForm, Kind};
 use rpg_cards::{Defined, IndexedCards, Kinds, Need, SpecCard, columns};
 use rpg_spec::{CalculationSpec, Factor};
 use rpg_symbols::Name;
@@ -34,20 +34,20 @@ fn wrong_in_calculation(source: &IndexedCards, calculation: &CalculationSpec) ->
 }
 
 /// The form of what stands in a column that the operation has.
-fn factor_form(source: &IndexedCards, need: Need, factor: &Option<Factor>) -> Option<Form>
+fn factor_form(source: &IndexedCards, need: Need, factor: &Option<Factor>) -> Option<FieldForm>
     ensures { result ≡ operands.factor_form source.now need factor.now }
 {
     form_in(source.form_of_factor(operand(need, factor)?))
 }
 
-fn result_form(source: &IndexedCards, need: Need, name: &Option<Name>) -> Option<Form>
+fn result_form(source: &IndexedCards, need: Need, name: &Option<Name>) -> Option<FieldForm>
     ensures { result ≡ operands.result_form source.now need name.now }
 {
     form_in(source.form_of_name(operand(need, name)?))
 }
 
 /// Nothing is said of a name without a form.
-fn form_in(defined: Defined) -> Option<Form>
+fn form_in(defined: Defined) -> Option<FieldForm>
     ensures { result ≡ operands.form_in defined }
 {
     match defined {
@@ -59,9 +59,9 @@ fn form_in(defined: Defined) -> Option<Form>
 
 fn are_wrong(
     kinds: Kinds,
-    factor_1: Option<Form>,
-    factor_2: Option<Form>,
-    result_field: Option<Form>,
+    factor_1: Option<FieldForm>,
+    factor_2: Option<FieldForm>,
+    result_field: Option<FieldForm>,
 ) -> bool
     ensures { result ≡ operands.wrong_forms kinds factor_1 factor_2 result_field }
 {
@@ -70,9 +70,9 @@ fn are_wrong(
 
 fn are_wrong_kinds(
     kinds: Kinds,
-    factor_1: Option<Form>,
-    factor_2: Option<Form>,
-    result_field: Option<Form>,
+    factor_1: Option<FieldForm>,
+    factor_2: Option<FieldForm>,
+    result_field: Option<FieldForm>,
 ) -> bool
     ensures { result ≡ operands.wrong_kinds kinds factor_1 factor_2 result_field }
 {
@@ -83,7 +83,7 @@ fn are_wrong_kinds(
     }
 }
 
-fn has_text(form: Option<Form>) -> bool
+fn has_text(form: Option<FieldForm>) -> bool
     ensures { result ≡ operands.has_text form }
 {
     match form {
@@ -93,7 +93,7 @@ fn has_text(form: Option<Form>) -> bool
 }
 
 /// A number beside a text.
-fn differ(first: Option<Form>, second: Option<Form>) -> bool
+fn differ(first: Option<FieldForm>, second: Option<FieldForm>) -> bool
     ensures { result ≡ operands.differ first second }
 {
     let Some(first) = first else {
@@ -105,7 +105,7 @@ fn differ(first: Option<Form>, second: Option<Form>) -> bool
     }
 }
 
-fn is_never_written(form: Option<Form>) -> bool
+fn is_never_written(form: Option<FieldForm>) -> bool
     ensures { result ≡ operands.is_never_written form }
 {
     match form {

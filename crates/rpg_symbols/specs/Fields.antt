@@ -3,19 +3,19 @@ use Rattle.std.specs.Prelude.{◌≡◌, ◌≢◌, ℕ, ◌+◌, ◌*◌, ◌�
 use Rattle.std.specs.Option.{option_map}
 use Rattle.std.specs.Map.{lookup, keys_of}
 use Rattle.std.specs.Cmp.Lexicographic.{pointwise}
-use Rattle.old_effect.specs.declared.form.Form.{Form}
-use Rattle.old_effect.specs.declared.form.Kind.TheVariants as kind
-use Rattle.old_effect.specs.declared.form.Class.{Class}
-use Rattle.old_effect.specs.declared.form.Class.TheVariants as class
+use Rattle.rpg_effect.specs.declared.form.FieldForm.{FieldForm}
+use Rattle.rpg_effect.specs.declared.form.Kind.TheVariants as kind
+use Rattle.rpg_effect.specs.declared.form.Class.{Class}
+use Rattle.rpg_effect.specs.declared.form.Class.TheVariants as class
 use Rattle.rpg_symbols.specs.declared.symbols.DefineFault.{DefineFault}
 use Rattle.rpg_symbols.specs.declared.symbols.DefineFault.TheVariants.{Other, Full, NoMemory}
 
 -- the names that are defined, in order, each with its form
 abbrev pub Fields : Type 0
-Fields = List (List ℕ × Form)
+Fields = List (List ℕ × FieldForm)
 
 -- a number of so many digits, without decimals
-abbrev pub number_form : Class → ℕ → Form
+abbrev pub number_form : Class → ℕ → FieldForm
 number_form c n = record { kind = kind.Number; class = c; length = n; decimals = 0; is_ascending = false; entries = 1 }
 
 -- the job's date and the page number, which every program has
@@ -27,42 +27,42 @@ abbrev pub number_of : Fields → List ℕ → Option ℕ
 number_of fields name = option_map (λ i. i + 1) (position (pointwise nat_eq name) (keys_of fields))
 
 -- the form of its first definition
-abbrev pub form_of : Fields → List ℕ → Option Form
+abbrev pub form_of : Fields → List ℕ → Option FieldForm
 form_of fields name = lookup (pointwise nat_eq name) fields
 
 -- the bytes that a field takes
-abbrev pub size_of : Form → ℕ
+abbrev pub size_of : FieldForm → ℕ
 size_of form = form.length * form.entries
 
 abbrev pub storage : Fields → ℕ
-storage fields = sum_by (λ (f : List ℕ × Form). size_of f.1) fields
+storage fields = sum_by (λ (f : List ℕ × FieldForm). size_of f.1) fields
 
 -- one more field of this form keeps the limits
-pub record HasRoom (fields : Fields) (form : Form) : Type 0 where
+pub record HasRoom (fields : Fields) (form : FieldForm) : Type 0 where
   pub rows : length fields < 4000
   pub bytes : storage fields + size_of form ≤ 65535
 
 -- a name that was defined so before
-pub record IsKnown (old : Fields) (name : List ℕ) (form : Form) (new : Fields) (n : ℕ) : Type 0 where
+pub record IsKnown (old : Fields) (name : List ℕ) (form : FieldForm) (new : Fields) (n : ℕ) : Type 0 where
   pub number : number_of old name ≡ Some n
   pub same_form : form_of old name ≡ Some form
   pub unchanged : new ≡ old
 
 -- a name that is defined for the first time
-pub record IsAdded (old : Fields) (name : List ℕ) (form : Form) (new : Fields) (n : ℕ) : Type 0 where
+pub record IsAdded (old : Fields) (name : List ℕ) (form : FieldForm) (new : Fields) (n : ℕ) : Type 0 where
   pub absent : form_of old name ≡ None
   pub room : HasRoom old form
   pub added : new ≡ old ++ (name, form) ∷ []
   pub number : n ≡ length old + 1
 
 -- a name that was defined in another form before
-pub record HasOtherForm (old : Fields) (name : List ℕ) (form : Form) : Type 0 where
-  pub before : Form
+pub record HasOtherForm (old : Fields) (name : List ℕ) (form : FieldForm) : Type 0 where
+  pub before : FieldForm
   pub first_form : form_of old name ≡ Some before
   pub differs : before ≢ form
 
 -- when each refusal comes
-abbrev pub Refuses : DefineFault → Fields → List ℕ → Form → Type 0
+abbrev pub Refuses : DefineFault → Fields → List ℕ → FieldForm → Type 0
 Refuses Other old name form = HasOtherForm old name form
 Refuses Full old name form = (form_of old name ≡ None) × ¬ HasRoom old form
 Refuses NoMemory old name form = (form_of old name ≡ None) × HasRoom old form

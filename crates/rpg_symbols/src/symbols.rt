@@ -6,7 +6,7 @@ ghost use Rattle.rpg_symbols.specs.Fields.{given, number_form, number_of, size_o
 ghost use Rattle.rpg_symbols.specs.declared.symbols.DefineFault.TheVariants.{NoMemory};
 
 use indexmap::IndexMap;
-use old_effect::form::{Class, Form, Kind};
+use rpg_effect::form::{Class, FieldForm, Kind};
 use rpg_spec::Word;
 use std::alloc::{AllocFailed, Global};
 use std::marker::Model;
@@ -43,7 +43,7 @@ impl<T: Drop> From<AllocFailed<T>> for DefineFault {
 /// Names in the order of their first definitions. A name's number is its place, counted from 1.
 #[derive(Drop)]
 pub struct Symbols {
-    fields: IndexMap<Name, Form>,
+    fields: IndexMap<Name, FieldForm>,
     bytes: u32,
 }
 
@@ -81,7 +81,7 @@ impl Symbols {
     }
 
     /// The form of the name with this number.
-    pub fn form(&self, number: u16) -> Form
+    pub fn form(&self, number: u16) -> FieldForm
         requires first { 1 ≤ number }
         requires last { number ≤ length self.now }
         ensures { option_map (λ f. f.1) (slice_get self.now (number - 1)) ≡ Some result }
@@ -93,7 +93,7 @@ impl Symbols {
     }
 
     /// Defines a name, or finds it defined so before. After a fault nothing has changed.
-    pub fn define(&mut self, name: Name, form: Form) -> Result<u16, DefineFault>
+    pub fn define(&mut self, name: Name, form: FieldForm) -> Result<u16, DefineFault>
         ensures ok { IfOk result (λ n. IsKnown self.old name form self.new n ⊎ IsAdded self.old name form self.new n) }
         ensures err { IfErr result (λ fault. Refuses fault self.old name form) }
         ensures unchanged { OnErr result (self.new ≡ self.old) }
@@ -115,17 +115,17 @@ impl Symbols {
 }
 
 /// The bytes that a field of this form takes.
-fn size(form: &Form) -> u32
+fn size(form: &FieldForm) -> u32
     ensures { result ≡ size_of form.now }
 {
     form.length as u32 * form.entries as u32
 }
 
 /// A number of these digits, without decimals.
-const fn number(class: Class, length: u16) -> Form
+const fn number(class: Class, length: u16) -> FieldForm
     ensures { result ≡ number_form class length }
 {
-    Form {
+    FieldForm {
         kind: Kind::Number,
         class,
         length,
@@ -136,7 +136,7 @@ const fn number(class: Class, length: u16) -> Form
 }
 
 /// Whether two forms agree in every part.
-fn is_same(a: &Form, b: &Form) -> bool
+fn is_same(a: &FieldForm, b: &FieldForm) -> bool
     ensures same { OnTrue result (a.now ≡ b.now) }
     ensures differs { OnFalse result (a.now ≢ b.now) }
 {

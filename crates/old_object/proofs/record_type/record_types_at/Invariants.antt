@@ -1,9 +1,0 @@
-use Rattle.std.proofs.Common.{◌≡◌, ◌-◌, map}
-use Rattle.rpg_format.specs.Format.{keep, read_times}
-use Rattle.rpg_format.proofs.Loop.{with_front}
-use Rattle.old_object.specs.Object.{type_row}
-use Rattle.old_object.specs.Rows.{record_type}
-use Rattle.old_object.proofs.record_type.record_types_at.Given as goal
-
-abbrev pub invariant-loop : goal.invariant-loop
-invariant-loop l = with_front (map type_row l.types.items) (read_times (λ s b. record_type.reading b) keep (l.count - l.counter) tt l.rest) ≡ read_times (λ s b. record_type.reading b) keep l.count tt l.bytes
