@@ -1,5 +1,5 @@
--- A faultless source has no more types, moves, lines and fields of lines than a program may have.
-use Rattle.std.proofs.Common.{◌≡◌, zero, suc, ◌+◌, ◌≤◌, Bool, true, false, cond, List, [], ◌∷◌, ◌++◌, length, Option, None, Some, refl, sym, ◌∙◌, arith}
+-- A faultless source has no more types, input fields, lines and fields of lines than a program may have.
+use Rattle.std.proofs.Common.{◌≡◌, ℕ, zero, suc, ◌+◌, ◌≤◌, Bool, true, false, cond, List, [], ◌∷◌, ◌++◌, length, Option, None, Some, refl, sym, ◌∙◌, arith}
 use Rattle.std.proofs.lemmas.Bool.{eqb-false, or_parts}
 use Rattle.std.proofs.lemmas.List.{append_assoc}
 use Rattle.std.proofs.lemmas.List.Sums.{sum_by-cons, sum_by_push}
@@ -7,15 +7,16 @@ use Rattle.std.specs.Prelude.{All, is_some, count_by}
 use Rattle.std.specs.Option.{option_map}
 use Rattle.rpg_cards.specs.Cards.{type_on, input_field_on, line_on, output_field_on}
 use Rattle.rpg_cards.specs.declared.spec_card.SpecCard.{SpecCard}
-use Rattle.rpg_compile.specs.Fields.{Table}
-use Rattle.rpg_compile.specs.Tables.{with_first, only_with_first, move_of, moves_of, type_of, types_of, line_field_of, line_fields_of, line_of, lines_of}
+use Rattle.rpg_translation.specs.Fields.{Table}
+use Rattle.rpg_translation.specs.Tables.{with_first, only_with_first, input_of, inputs_of, type_of, types_of, line_field_of, line_fields_of, line_of, lines_of}
 use Rattle.rpg_compile.proofs.Walks.{walk, since_within, run_within}
 use Rattle.rpg_faults.specs.Cards.{is_type, is_input_field, is_line, is_output_field}
 use Rattle.rpg_faults.proofs.LeastLemmas.{rule-faultless}
 use Rattle.rpg_faults.specs.Faults.{rule, Faultless}
 use Rattle.rpg_faults.specs.Limits.{count_of, count_since, passes_count}
 use Rattle.rpg_faults.specs.declared.fault.FaultCode.TheVariants.{F6}
-use Rattle.old_object.specs.Object.{TypeRow, LineRow}
+use Rattle.rpg_effect.specs.Input.{TypeRow}
+use Rattle.rpg_program.specs.Object.{LineRow}
 use Rattle.rpg_spec.specs.declared.input.InputSpec.TheVariants as input
 use Rattle.rpg_spec.specs.declared.output.OutputSpec.TheVariants as output
 use Rattle.rpg_spec.specs.declared.spec.Spec.{Spec}
@@ -43,13 +44,13 @@ one_line before (spec.Calculation k) e few = omega arith
 one_line before (spec.Output (output.Record r)) e few = let ne = eqb-false _ _ e in omega arith
 one_line before (spec.Output (output.Field f)) e few = omega arith
 
-over_move : (before : List SpecCard) (s : Spec) → passes_count before s ≡ false → is_some (input_field_on s) ≡ true → (is_some (type_on s) ≡ false) × (count_since is_type is_input_field before ≡ 500 → ⊥)
-over_move before (spec.Header h) e is = absurd cc
-over_move before (spec.File f) e is = absurd cc
-over_move before (spec.Input (input.Type t)) e is = absurd cc
-over_move before (spec.Input (input.Field f)) e is = (refl, eqb-false _ _ e)
-over_move before (spec.Calculation k) e is = absurd cc
-over_move before (spec.Output o) e is = absurd cc
+over_input : (before : List SpecCard) (s : Spec) → passes_count before s ≡ false → is_some (input_field_on s) ≡ true → (is_some (type_on s) ≡ false) × (count_since is_type is_input_field before ≡ 500 → ⊥)
+over_input before (spec.Header h) e is = absurd cc
+over_input before (spec.File f) e is = absurd cc
+over_input before (spec.Input (input.Type t)) e is = absurd cc
+over_input before (spec.Input (input.Field f)) e is = (refl, eqb-false _ _ e)
+over_input before (spec.Calculation k) e is = absurd cc
+over_input before (spec.Output o) e is = absurd cc
 
 over_line_field : (before : List SpecCard) (s : Spec) → passes_count before s ≡ false → is_some (output_field_on s) ≡ true → (is_some (line_on s) ≡ false) × (count_since is_line is_output_field before ≡ 200 → ⊥)
 over_line_field before (spec.Header h) e is = absurd cc
@@ -105,7 +106,7 @@ few_lines fields cards none =
     let same = lines_of-length fields cards in
     omega arith
 
--- ---- moves and fields of lines
+-- ---- input fields and fields of lines
 
 all_first : {X Y : Type 0} (P : Y → Type 0) (f : X → Y) (o : Option X) (ys : List Y) → ((x : X) → P (f x)) → All P ys → All P (with_first (option_map f o) ys)
 all_first P f None ys here h = h
@@ -116,19 +117,19 @@ all_first P f (Some x) ys here h = all_cons P (f x) ys (here x) h
     all_cons P y ys here h (suc k) d lt = h k d (omega arith)
 
 module _ (fields : Table) (cards : List SpecCard) (none : Faultless cards) where
-  moves_over : (before : List SpecCard) (c : SpecCard) (after : List SpecCard) → cards ≡ before ++ c ∷ after → is_input_field c ≡ true → (is_type c ≡ false) × (count_since is_type is_input_field before ≡ 500 → ⊥)
-  moves_over before c after split = over_move before c.spec (passes_no_count cards none before c after split)
+  inputs_over : (before : List SpecCard) (c : SpecCard) (after : List SpecCard) → cards ≡ before ++ c ∷ after → is_input_field c ≡ true → (is_type c ≡ false) × (count_since is_type is_input_field before ≡ 500 → ⊥)
+  inputs_over before c after split = over_input before c.spec (passes_no_count cards none before c after split)
 
-  moves_from : (before after : List SpecCard) → cards ≡ before ++ after → count_since is_type is_input_field before ≤ 500 → All (λ (t : TypeRow). length t.moves ≤ 500) (types_of fields after)
-  moves_from before [] split few = λ k d lt. absurd (omega arith)
-  moves_from before (c ∷ cs) split few =
+  inputs_from : (before after : List SpecCard) → cards ≡ before ++ after → count_since is_type is_input_field before ≤ 500 → All (λ (t : TypeRow ℕ). length t.inputs ≤ 500) (types_of fields after)
+  inputs_from before [] split few = λ k d lt. absurd (omega arith)
+  inputs_from before (c ∷ cs) split few =
       let next = split ∙ sym (append_assoc before (c ∷ []) cs) in
-      let more = since_within is_type is_input_field 500 cards moves_over before c cs split few in
-      let run = run_within is_type is_input_field 500 cards moves_over (λ xs. length (moves_of fields xs)) refl (λ d ds. only_with_first-length (move_of fields) (input_field_on d.spec) (moves_of fields ds)) (before ++ c ∷ []) cs next more in
-      all_first (λ (t : TypeRow). length t.moves ≤ 500) (type_of fields cs) (type_on c.spec) (types_of fields cs) (λ t. omega arith) (moves_from (before ++ c ∷ []) cs next more)
+      let more = since_within is_type is_input_field 500 cards inputs_over before c cs split few in
+      let run = run_within is_type is_input_field 500 cards inputs_over (λ xs. length (inputs_of fields xs)) refl (λ d ds. only_with_first-length (input_of fields) (input_field_on d.spec) (inputs_of fields ds)) (before ++ c ∷ []) cs next more in
+      all_first (λ (t : TypeRow ℕ). length t.inputs ≤ 500) (type_of fields cs) (type_on c.spec) (types_of fields cs) (λ t. omega arith) (inputs_from (before ++ c ∷ []) cs next more)
 
-  pub few_moves : All (λ (t : TypeRow). length t.moves ≤ 500) (types_of fields cards)
-  few_moves = moves_from [] cards refl (omega arith)
+  pub few_inputs : All (λ (t : TypeRow ℕ). length t.inputs ≤ 500) (types_of fields cards)
+  few_inputs = inputs_from [] cards refl (omega arith)
 
   fields_over : (before : List SpecCard) (c : SpecCard) (after : List SpecCard) → cards ≡ before ++ c ∷ after → is_output_field c ≡ true → (is_line c ≡ false) × (count_since is_line is_output_field before ≡ 200 → ⊥)
   fields_over before c after split = over_line_field before c.spec (passes_no_count cards none before c after split)

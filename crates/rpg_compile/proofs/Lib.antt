@@ -1,6 +1,6 @@
 pub mod FieldLemmas
 pub mod RowLemmas
-pub mod Plain
+pub mod Programs
 pub mod Walks
 pub mod Counts
 pub mod Storage

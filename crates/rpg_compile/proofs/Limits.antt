@@ -8,9 +8,9 @@ use Rattle.rpg_cards.specs.Cards.{file_on}
 use Rattle.rpg_cards.specs.Files.{first_file, or_later, input_file, output_file, is_input, is_output}
 use Rattle.rpg_text.specs.Texts.{is_between}
 use Rattle.rpg_cards.specs.declared.spec_card.SpecCard.{SpecCard}
-use Rattle.rpg_compile.specs.Fields.{table_of}
-use Rattle.rpg_compile.specs.Program.{length_of, KeepsLimits}
-use Rattle.rpg_compile.proofs.Counts.{few_types, few_lines, few_moves, few_line_fields}
+use Rattle.rpg_translation.specs.Fields.{table_of}
+use Rattle.rpg_translation.specs.Program.{length_of, KeepsLimits}
+use Rattle.rpg_compile.proofs.Counts.{few_types, few_lines, few_inputs, few_line_fields}
 use Rattle.rpg_compile.proofs.Totals.{all_fields_within, all_storage_within}
 use Rattle.rpg_faults.proofs.LeastLemmas.{rule-faultless, source_rule-faultless}
 use Rattle.rpg_faults.specs.Faults.{rule, source_rule, Faultless}
@@ -92,7 +92,7 @@ faultless_keeps_limits cards none few = record {
   fields = all_fields_within cards none few;
   storage = all_storage_within cards none;
   types = few_types (table_of cards) cards none;
-  moves = few_moves (table_of cards) cards none;
+  inputs = few_inputs (table_of cards) cards none;
   lines = few_lines (table_of cards) cards none;
   line_fields = few_line_fields (table_of cards) cards none;
 }

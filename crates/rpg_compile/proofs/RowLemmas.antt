@@ -6,8 +6,8 @@ use Rattle.std.specs.Prelude.{All}
 use Rattle.std.specs.Option.{option_map}
 use Rattle.rpg_cards.specs.Cards.{type_on, line_on}
 use Rattle.rpg_cards.specs.declared.spec_card.SpecCard.{SpecCard}
-use Rattle.rpg_compile.specs.Fields.{Table}
-use Rattle.rpg_compile.specs.Tables.{with_first, type_of, types_of, line_of, lines_of}
+use Rattle.rpg_translation.specs.Fields.{Table}
+use Rattle.rpg_translation.specs.Tables.{with_first, type_of, types_of, line_of, lines_of}
 use Rattle.rpg_spec.specs.declared.input.RecordType.{RecordType}
 use Rattle.rpg_spec.specs.declared.output.OutputRecord.{OutputRecord}
 
@@ -21,10 +21,12 @@ all_tail P x xs all e h = let g = subst (λ ys. All P ys) e h in λ k d lt. g (s
 
 -- ---- one more row
 
+pub one_more : {X : Type 0} (xs new : List X) (x y : X) (rest tail all : List X) → new ≡ xs ++ x ∷ [] → x ≡ y → rest ≡ y ∷ tail → xs ++ rest ≡ all → new ++ tail ≡ all
+one_more xs new x y rest tail all pushed here first so_far =
+    ap (λ zs. zs ++ tail) pushed ∙ append_assoc xs (x ∷ []) tail ∙ ap (λ z. xs ++ (z ∷ tail)) here ∙ ap (λ zs. xs ++ zs) (sym first) ∙ so_far
+
 pub one_more_row : {X Y : Type 0} (row : X → Y) (xs new : List X) (x : X) (y : Y) (rest tail all : List Y) → new ≡ xs ++ x ∷ [] → row x ≡ y → rest ≡ y ∷ tail → map row xs ++ rest ≡ all → map row new ++ tail ≡ all
-one_more_row row xs new x y rest tail all pushed here first so_far =
-    ap (λ zs. map row zs ++ tail) pushed ∙ ap (λ zs. zs ++ tail) (map-append row xs (x ∷ []))
-    ∙ append_assoc (map row xs) (row x ∷ []) tail ∙ ap (λ z. map row xs ++ (z ∷ tail)) here ∙ ap (λ zs. map row xs ++ zs) (sym first) ∙ so_far
+one_more_row row xs new x y rest tail all pushed here first so_far = one_more (map row xs) (map row new) (row x) y rest tail all (ap (map row) pushed ∙ map-append row xs (x ∷ [])) here first so_far
 
 pub all_with_one_more : {X Y : Type 0} (row : X → Y) (P : Y → Type 0) (xs new : List X) (x : X) → new ≡ xs ++ x ∷ [] → All P (map row xs) → P (row x) → All P (map row new)
 all_with_one_more row P xs new x pushed h here =

@@ -11,9 +11,9 @@ use Rattle.rpg_cards.specs.Cards.{input_field_on, calculation_on}
 use Rattle.rpg_cards.specs.Names.{definition_on, definition_by, defined_as, defined_on, field_form, first_some, form_of_name, or_later, sized_form, unless_given}
 use Rattle.rpg_cards.specs.declared.names.Defined.{Defined}
 use Rattle.rpg_cards.specs.declared.spec_card.SpecCard.{SpecCard}
-use Rattle.rpg_compile.specs.Fields.{with_definition, fields_from, fields_of}
+use Rattle.rpg_translation.specs.Fields.{with_definition, fields_from, fields_of}
 use Rattle.rpg_compile.proofs.Walks.{walk}
-use Rattle.old_effect.specs.declared.form.Form.{Form}
+use Rattle.rpg_effect.specs.declared.form.FieldForm.{FieldForm}
 use Rattle.rpg_faults.proofs.LeastLemmas.{rule-faultless}
 use Rattle.rpg_faults.specs.Faults.{rule, Faultless}
 use Rattle.rpg_faults.specs.Limits.{bytes_by, bytes_from, bytes_in, names_by, names_from, passes_storage}
@@ -28,12 +28,12 @@ use Rattle.rpg_symbols.specs.Fields.{Fields, given, form_of, size_of, storage}
 -- ---- names that are known
 
 abbrev Definition : Type 0
-Definition = Option (List ℕ × Option Form)
+Definition = Option (List ℕ × Option FieldForm)
 
 abbrev knows : Fields → List ℕ → Bool
 knows fields name = is_some (form_of fields name)
 
-found_last : (test : List ℕ → Bool) (fields : Fields) (name : List ℕ) (form : Form) → is_some (lookup test (fields ++ (name, form) ∷ [])) ≡ (is_some (lookup test fields) || test name)
+found_last : (test : List ℕ → Bool) (fields : Fields) (name : List ℕ) (form : FieldForm) → is_some (lookup test (fields ++ (name, form) ∷ [])) ≡ (is_some (lookup test fields) || test name)
 found_last test [] name form = by_test (test name)
   where
     by_test : (b : Bool) → is_some (cond b (Some form) None) ≡ (false || b)
@@ -41,7 +41,7 @@ found_last test [] name form = by_test (test name)
     by_test false = refl
 found_last test (f ∷ fs) name form = by_test (test f.0) (lookup test (fs ++ (name, form) ∷ [])) (lookup test fs) (found_last test fs name form)
   where
-    by_test : (b : Bool) (o p : Option Form) → is_some o ≡ (is_some p || test name) → is_some (cond b (Some f.1) o) ≡ (is_some (cond b (Some f.1) p) || test name)
+    by_test : (b : Bool) (o p : Option FieldForm) → is_some o ≡ (is_some p || test name) → is_some (cond b (Some f.1) o) ≡ (is_some (cond b (Some f.1) p) || test name)
     by_test true o p e = refl
     by_test false o p e = e
 
@@ -70,7 +70,7 @@ or_known true b h = refl
 or_known false true h = h refl
 or_known false false h = refl
 
-knows-name : (fields : Fields) (n name : List ℕ) (form : Form) (known : Bool) → knows fields n ≡ known → knows (if known then fields else fields ++ (n, form) ∷ []) name ≡ (knows fields name || pointwise nat_eq name n)
+knows-name : (fields : Fields) (n name : List ℕ) (form : FieldForm) (known : Bool) → knows fields n ≡ known → knows (if known then fields else fields ++ (n, form) ∷ []) name ≡ (knows fields name || pointwise nat_eq name n)
 knows-name fields n name form true is = or_known (knows fields name) (pointwise nat_eq name n) (same_known fields name n is)
 knows-name fields n name form false is = found_last (pointwise nat_eq name) fields n form
 
@@ -89,7 +89,7 @@ or_assoc : (a b c : Bool) → ((a || b) || c) ≡ (a || (b || c))
 or_assoc true b c = refl
 or_assoc false b c = refl
 
-not_missing : (o : Option Form) → not (is_missing (defined_as o)) ≡ true
+not_missing : (o : Option FieldForm) → not (is_missing (defined_as o)) ≡ true
 not_missing None = refl
 not_missing (Some f) = refl
 
@@ -109,7 +109,7 @@ knows-cards fields (c ∷ cs) name have =
     ∙ or_assoc (knows fields name) (defines (definition_on c.spec) name) (not (is_missing (defined_on name cs)))
     ∙ ap (λ b. knows fields name || b) (sym (or_later-known name (definition_on c.spec) (defined_on name cs)))
 
-unless_given-known : (o : Option Form) (d : Defined) → (is_some o || not (is_missing d)) ≡ not (is_missing (unless_given o d))
+unless_given-known : (o : Option FieldForm) (d : Defined) → (is_some o || not (is_missing d)) ≡ not (is_missing (unless_given o d))
 unless_given-known None d = refl
 unless_given-known (Some f) d = refl
 
@@ -123,10 +123,10 @@ fields_from-append : (fields : Fields) (before cards : List SpecCard) → fields
 fields_from-append fields [] cards = refl
 fields_from-append fields (c ∷ cs) cards = fields_from-append (with_definition fields (definition_on c.spec)) cs cards
 
-name_takes : (fields : Fields) (name : List ℕ) (form : Form) (known missing : Bool) → known ≡ not missing → storage (if known then fields else fields ++ (name, form) ∷ []) ≡ storage fields + (if missing then size_of form else 0)
+name_takes : (fields : Fields) (name : List ℕ) (form : FieldForm) (known missing : Bool) → known ≡ not missing → storage (if known then fields else fields ++ (name, form) ∷ []) ≡ storage fields + (if missing then size_of form else 0)
 name_takes fields name form true true e = absurd cc
 name_takes fields name form true false e = omega arith
-name_takes fields name form false true e = sum_by_push (λ (f : List ℕ × Form). size_of f.1) fields (name, form)
+name_takes fields name form false true e = sum_by_push (λ (f : List ℕ × FieldForm). size_of f.1) fields (name, form)
 name_takes fields name form false false e = absurd cc
 
 definition_takes : (before : List SpecCard) (d : Definition) → HasForm d → HaveForms before → storage (with_definition (fields_of before) d) ≡ storage (fields_of before) + bytes_by before d
@@ -134,7 +134,7 @@ definition_takes before None has have = omega arith
 definition_takes before (Some (name, None)) has have = absurd (let h : false ≡ true = has in cc)
 definition_takes before (Some (name, Some form)) has have = name_takes (fields_of before) name form (knows (fields_of before) name) (is_missing (form_of_name name before)) (known_is before name have)
 
-name_counts : (fields : Fields) (name : List ℕ) (form : Form) (known missing : Bool) → known ≡ not missing → length (if known then fields else fields ++ (name, form) ∷ []) ≡ length fields + (if missing then 1 else 0)
+name_counts : (fields : Fields) (name : List ℕ) (form : FieldForm) (known missing : Bool) → known ≡ not missing → length (if known then fields else fields ++ (name, form) ∷ []) ≡ length fields + (if missing then 1 else 0)
 name_counts fields name form true true e = absurd cc
 name_counts fields name form true false e = omega arith
 name_counts fields name form false true e = let h = length-append fields ((name, form) ∷ []) in omega arith
@@ -179,7 +179,7 @@ field_has_form o f size place =
     let turned = (or_parts _ _ (or_parts _ _ place).0).1 in
     by_test (leb f.from f.to) (sized_form (f.to + 1 - f.from) f.decimals) (le-leb f.from f.to (ltb-false f.to f.from turned)) size
   where
-    by_test : (b : Bool) (form : Option Form) → b ≡ true → (b && is_none (if b then form else None)) ≡ false → is_some (if b then form else None) ≡ true
+    by_test : (b : Bool) (form : Option FieldForm) → b ≡ true → (b && is_none (if b then form else None)) ≡ false → is_some (if b then form else None) ≡ true
     by_test false form is e = is
     by_test true None is e = absurd cc
     by_test true (Some form) is e = refl
@@ -189,7 +189,7 @@ result_has_form None res decimals size = tt
 result_has_form (Some l) None decimals size = tt
 result_has_form (Some l) (Some name) decimals size = by_form (sized_form l decimals) size
   where
-    by_form : (o : Option Form) → is_none o ≡ false → is_some o ≡ true
+    by_form : (o : Option FieldForm) → is_none o ≡ false → is_some o ≡ true
     by_form None e = absurd cc
     by_form (Some form) e = refl
 

@@ -7,8 +7,8 @@ use Rattle.std.specs.Option.{option_to_list}
 use Rattle.rpg_cards.specs.Constants.{constants, constants_from, new_first, new_second}
 use Rattle.rpg_cards.specs.declared.constants.Constant.{Constant}
 use Rattle.rpg_cards.specs.declared.spec_card.SpecCard.{SpecCard}
-use Rattle.rpg_compile.specs.Fields.{fields_of}
-use Rattle.rpg_compile.specs.Program.{constant_size}
+use Rattle.rpg_translation.specs.Fields.{fields_of}
+use Rattle.rpg_translation.specs.Program.{constant_size}
 use Rattle.rpg_compile.proofs.FieldLemmas.{length-fields_from}
 use Rattle.rpg_compile.proofs.Storage.{within, storage_within, bytes_in_are, names_in_are}
 use Rattle.rpg_compile.proofs.Walks.{walk}

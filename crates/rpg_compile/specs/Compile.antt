@@ -2,12 +2,12 @@
 use Rattle.std.specs.Prelude.{◌≡◌, ℕ, List, map, None, Some}
 use Rattle.rpg_cards.specs.Cards.{spec_cards}
 use Rattle.rpg_cards.specs.declared.spec_card.SpecCard.{SpecCard}
-use Rattle.rpg_compile.specs.Program.{program_of}
+use Rattle.rpg_translation.specs.Program.{program_of}
 use Rattle.rpg_compile.specs.declared.fault.CompileFault.{CompileFault}
 use Rattle.rpg_compile.specs.declared.fault.CompileFault.TheVariants.{At, NoMemory}
 use Rattle.rpg_compile.specs.declared.fault.SourceCode.TheVariants.{Sheet, Fault}
 use Rattle.rpg_faults.specs.Faults.{Faultless, IsLeastFault}
-use Rattle.old_object.specs.Object.{Object}
+use Rattle.rpg_program.specs.Object.{Object}
 use Rattle.rpg_spec.specs.Cards.{card_of}
 use Rattle.rpg_sheet.specs.Sheet.{first_fault, source}
 use Rattle.rpg_sheet.specs.declared.sheet.SheetFault.{SheetFault}

@@ -1,5 +1,1 @@
-pub mod Fields
-pub mod Tables
-pub mod Code
-pub mod Program
 pub mod Compile

@@ -1,14 +1,14 @@
 //! Instructions, from the C cards.
 
-ghost use Rattle.std.specs.Prelude.{◌≡◌, ◌<◌, ◌^◌, All, IfOk};
-ghost use Rattle.rpg_compile.specs.Code as code;
-ghost use Rattle.old_object.specs.Kept.{AreIndicators, IsIndicator, IsInstructionRow};
-ghost use Rattle.old_effect.specs.declared.operation.Instruction.TheVariants.{Act};
+ghost use Rattle.std.specs.Prelude.{◌≡◌, All, IfOk};
+ghost use Rattle.rpg_program.specs.Kept.{AreIndicators, IsActionRow, IsInstructionRow, IsOperandRow};
+ghost use Rattle.rpg_translation.specs.Code as code;
 
-use crate::lines::operand_of;
+use crate::indicators::number_of;
+use crate::operands::{operand_of, unindexed};
 use crate::table::FieldTable;
-use old_effect::operation::{Action, Instruction, Operand, Operator, Shows, Side};
 use rpg_cards::SpecCard;
+use rpg_effect::operation::{Action, Instruction, Operand, Operator, Shows, Side};
 use rpg_spec::{CalculationSpec, Factor, Indicator, Operation, Three};
 use std::alloc::{AllocError, Global};
 
@@ -90,9 +90,13 @@ fn instruction_of(
 }
 
 /// ADD, SUB and MULT.
-fn compute(operator: Operator, table: &FieldTable, calculation: &CalculationSpec) -> Action<u16>
+fn compute(
+    operator: Operator,
+    table: &FieldTable,
+    calculation: &CalculationSpec,
+) -> Action<Operand<u16>>
     ensures value { result ≡ code.computation table.now calculation.now operator }
-    ensures kept { IsInstructionRow (Act result) }
+    ensures kept { IsActionRow result }
 {
     Action::Compute {
         operator,
@@ -106,26 +110,22 @@ fn compute(operator: Operator, table: &FieldTable, calculation: &CalculationSpec
 
 fn factor_of(table: &FieldTable, factor: &Option<Factor>) -> Operand<u16>
     ensures value { result ≡ code.factor_of table.now factor.now }
-    ensures kept { result.field < 2 ^ 16 }
+    ensures kept { IsOperandRow result }
 {
-    Operand {
-        field: match factor {
-            None => 0,
-            Some(factor) => table.factor_number(factor),
-        },
-    }
+    unindexed(match factor {
+        None => 0,
+        Some(factor) => table.factor_number(factor),
+    })
 }
 
 /// A blank factor 1 is the result field.
 fn first_or_result(table: &FieldTable, calculation: &CalculationSpec) -> Operand<u16>
     ensures value { result ≡ code.first_or_result table.now calculation.now.factor_1 calculation.now.result_field }
-    ensures kept { result.field < 2 ^ 16 }
+    ensures kept { IsOperandRow result }
 {
     match &calculation.factor_1 {
         None => operand_of(table, &calculation.result_field),
-        Some(factor) => Operand {
-            field: table.factor_number(factor),
-        },
+        Some(factor) => unindexed(table.factor_number(factor)),
     }
 }
 
@@ -138,11 +138,4 @@ fn shows_of(indicators: Three<Option<Indicator>>) -> Shows
         minus: number_of(indicators.second),
         zero: number_of(indicators.third),
     }
-}
-
-fn number_of(indicator: Option<Indicator>) -> Option<u8>
-    ensures value { result ≡ indicator }
-    ensures kept { IsIndicator result }
-{
-    indicator.map(|indicator| indicator.number())
 }

@@ -4,12 +4,13 @@ ghost use Rattle.std.specs.Prelude.{◌≡◌, ◌++◌, All, map, IfOk, OnOk};
 ghost use Rattle.std.specs.Option.{option_map_or};
 ghost use Rattle.indexmap.specs.IndexSet.{insert_key};
 ghost use Rattle.rpg_cards.specs.Constants as known;
-ghost use Rattle.old_effect.specs.Values.{held};
+ghost use Rattle.rpg_effect.specs.Values.{held};
+ghost use Rattle.rpg_translation.specs.Fields.{only_value};
 
 use indexmap::IndexSet;
-use old_effect::form::Form;
-use old_effect::value::Value;
 use rpg_cards::{Constant, SpecCard};
+use rpg_effect::form::FieldForm;
+use rpg_effect::value::Value;
 use std::alloc::{AllocError, Global};
 
 /// The constants of cards, equal ones once, in the order in which they come first.
@@ -41,21 +42,28 @@ fn add(constants: &mut IndexSet<Constant>, constant: Option<Constant>) -> Result
 pub(crate) fn add_constants(
     alloc: Global,
     constants: &[Constant],
-    forms: &mut Vec<Form>,
-    values: &mut Vec<Value>,
+    forms: &mut Vec<FieldForm>,
+    values: &mut Vec<Vec<Value>>,
 ) -> Result<(), AllocError>
     ensures forms { OnOk result (forms.new.items ≡ forms.old.items ++ map known.constant_form constants.now) }
-    ensures values { OnOk result (map held values.new.items ≡ map held values.old.items ++ map known.constant_value constants.now) }
+    ensures values { OnOk result (map (λ vs. map held vs.items) values.new.items ≡ map (λ vs. map held vs.items) values.old.items ++ map only_value (map known.constant_value constants.now)) }
     ensures kept { OnOk result (All known.IsConstant constants.now) }
 {
     let mut rest = constants;
     while let Some((constant, behind)) = rest.split_first() {
         constant.keeps_limits();
         forms.push(constant.form())?;
-        values.push(value_of(alloc, constant)?)?;
+        values.push(values_of(alloc, constant)?)?;
         rest = behind;
     }
     Ok(())
+}
+
+/// What its one entry holds.
+fn values_of(alloc: Global, constant: &Constant) -> Result<Vec<Value>, AllocError>
+    ensures { IfOk result (λ v. map held v.items ≡ only_value (known.constant_value constant.now)) }
+{
+    Ok(vec![in alloc; value_of(alloc, constant)?]?)
 }
 
 fn value_of(alloc: Global, constant: &Constant) -> Result<Value, AllocError>

@@ -2,13 +2,13 @@
 
 ghost use Rattle.std.specs.Prelude.{◌≡◌, ◌+◌, ◌<◌, ◌≤◌, length, map, IfOk, OnOk};
 ghost use Rattle.rpg_cards.specs.Names.{definition_on};
-ghost use Rattle.rpg_compile.specs.Fields as fields;
-ghost use Rattle.old_effect.specs.Values.{held};
+ghost use Rattle.rpg_translation.specs.Fields as fields;
+ghost use Rattle.rpg_effect.specs.Values.{held};
 ghost use Rattle.rpg_symbols.specs.Fields.{given, storage};
 
-use old_effect::form::{Form, Kind};
-use old_effect::value::Value;
 use rpg_cards::SpecCard;
+use rpg_effect::form::{FieldForm, Kind};
+use rpg_effect::value::Value;
 use rpg_symbols::{DefineFault, Name, Symbols};
 use std::alloc::{AllocError, Global};
 
@@ -16,7 +16,7 @@ use std::alloc::{AllocError, Global};
 #[derive(Drop)]
 pub(crate) struct NameTable {
     pub(crate) symbols: Symbols,
-    pub(crate) forms: Vec<Form>,
+    pub(crate) forms: Vec<FieldForm>,
 }
 
 impl NameTable {
@@ -66,7 +66,7 @@ impl NameTable {
     }
 
     /// One more field, where the name isn't known yet.
-    fn define(&mut self, name: Name, form: Form) -> Result<(), AllocError>
+    fn define(&mut self, name: Name, form: FieldForm) -> Result<(), AllocError>
         requires same { self.old.forms.items ≡ fields.forms self.old.symbols }
         requires few { length self.old.symbols < 4000 }
         requires room { storage (fields.with_name self.old.symbols name form) ≤ 65535 }
@@ -88,7 +88,7 @@ impl NameTable {
 }
 
 /// Zero or blanks.
-fn first_value(alloc: Global, form: &Form) -> Result<Value, AllocError>
+fn first_value(alloc: Global, form: &FieldForm) -> Result<Value, AllocError>
     ensures { IfOk result (λ v. held v ≡ fields.first_value form.now) }
 {
     match form.kind {
@@ -97,13 +97,16 @@ fn first_value(alloc: Global, form: &Form) -> Result<Value, AllocError>
     }
 }
 
-/// What the fields hold before the first cycle.
-pub(crate) fn first_values(alloc: Global, forms: &[Form]) -> Result<Vec<Value>, AllocError>
-    ensures { IfOk result (λ v. map held v.items ≡ map fields.first_value forms.now) }
+/// What the fields hold before the first cycle, each in its one entry.
+pub(crate) fn first_values(
+    alloc: Global,
+    forms: &[FieldForm],
+) -> Result<Vec<Vec<Value>>, AllocError>
+    ensures { IfOk result (λ v. map (λ vs. map held vs.items) v.items ≡ map fields.only_value (map fields.first_value forms.now)) }
 {
     let mut values = Vec::new(alloc);
     for form in forms {
-        values.push(first_value(alloc, form)?)?;
+        values.push(vec![in alloc; first_value(alloc, form)?]?)?;
     }
     Ok(values)
 }

@@ -1,17 +1,22 @@
 //! Lines, from the O cards.
 
-ghost use Rattle.std.specs.Prelude.{◌≡◌, ◌≤◌, ◌<◌, ◌^◌, All, length, map, IfOk, IfSome};
-ghost use Rattle.rpg_compile.specs.Tables as tables;
-ghost use Rattle.old_object.specs.Kept.{IsAlternativeRow, IsConditionRow, IsLineFieldRow, IsLineRow};
-ghost use Rattle.old_object.specs.Object.{line_row};
+ghost use Rattle.std.specs.Prelude.{◌≡◌, ◌≤◌, false, All, length, map, IfOk};
+ghost use Rattle.rpg_edit.specs.declared.code.Fill.TheVariants as fills;
+ghost use Rattle.rpg_effect.specs.declared.line.Editing.TheVariants as editings;
+ghost use Rattle.rpg_effect.specs.declared.line.Source.TheVariants as sources;
+ghost use Rattle.rpg_program.specs.Kept.{AreConditions, IsAlternativeRow, IsConditionRow, IsLineFieldRow, IsLineRow, IsOperandRow};
+ghost use Rattle.rpg_program.specs.Object.{line_row};
+ghost use Rattle.rpg_translation.specs.Tables as tables;
 
+use crate::operands::output_operand_of;
 use crate::table::FieldTable;
-use old_effect::line::{Condition, Conditions, File, LineField, Moves, Time};
-use old_effect::operation::Operand;
-use old_object::row::Line;
-use rpg_cards::{Constant, SpecCard};
+use rpg_cards::SpecCard;
+use rpg_edit::Fill;
+use rpg_effect::condition::{Condition, Conditions};
+use rpg_effect::line::{Editing, File, LineField, Source, Spacing, Time};
+use rpg_effect::operation::Operand;
+use rpg_program::row::Line;
 use rpg_spec::{OutputField, OutputRecord, Three};
-use rpg_symbols::Name;
 use std::alloc::{AllocError, Global};
 
 /// A line for each record card.
@@ -51,7 +56,7 @@ fn line_of(
     Ok(Line {
         file: File::Printer,
         time: Time::Detail,
-        moves: Moves {
+        spacing: Spacing {
             space_before: 0,
             space_after: 1,
             skip_before: 0,
@@ -103,24 +108,33 @@ fn line_fields_of(
         let Some(field) = card.output_field() else {
             return Ok(fields);
         };
-        let operand = output_operand_of(table, field);
-        let conditions = in_places(field.conditions);
-        fields.push(line_field_of(operand, field.end, conditions))?;
+        fields.push(line_field_of(table, field))?;
     }
     Ok(fields)
 }
 
-/// A field with the place where its text ends, and its conditions.
-fn line_field_of(operand: Operand<u16>, end: u16, conditions: Conditions) -> LineField<u16>
-    requires field { operand.field < 2 ^ 16 }
-    requires first { IfSome conditions.first IsConditionRow }
-    requires second { IfSome conditions.second IsConditionRow }
-    requires third { IfSome conditions.third IsConditionRow }
-    ensures value { result ≡ record { operand = operand; end = end; conditions = conditions } }
+/// What an output field puts out, with the place where its text ends, and its conditions.
+fn line_field_of(table: &FieldTable, field: &OutputField) -> LineField<u16>
+    ensures value { result ≡ tables.line_field_of table.now field.now }
+    ensures kept { IsLineFieldRow result }
+{
+    let operand = output_operand_of(table, field);
+    unedited(operand, field.end, in_places(field.conditions))
+}
+
+/// A value as it is.
+fn unedited(operand: Operand<u16>, end: u16, conditions: Conditions) -> LineField<u16>
+    requires operand { IsOperandRow operand }
+    requires conditions { AreConditions conditions }
+    ensures value { result ≡ record { source = sources.Value; operand = operand; editing = editings.Plain; fill = fills.Blank; is_blanked = false; end = end; conditions = conditions } }
     ensures kept { IsLineFieldRow result }
 {
     LineField {
+        source: Source::Value,
         operand,
+        editing: Editing::Plain,
+        fill: Fill::Blank,
+        is_blanked: false,
         end,
         conditions,
     }
@@ -129,9 +143,7 @@ fn line_field_of(operand: Operand<u16>, end: u16, conditions: Conditions) -> Lin
 /// Conditions in three places, filled from the first on.
 fn in_places(conditions: Three<Option<rpg_spec::Condition>>) -> Conditions
     ensures value { result ≡ tables.in_places (tables.conditions_of conditions) }
-    ensures first { IfSome result.first IsConditionRow }
-    ensures second { IfSome result.second IsConditionRow }
-    ensures third { IfSome result.third IsConditionRow }
+    ensures kept { AreConditions result }
 {
     let first = conditions.first.map(condition_of);
     let second = conditions.second.map(condition_of);
@@ -156,33 +168,6 @@ fn in_places(conditions: Three<Option<rpg_spec::Condition>>) -> Conditions
             first: third,
             second: None,
             third: None,
-        },
-    }
-}
-
-/// The operand of a name, field 0 where there is none.
-pub(crate) fn operand_of(table: &FieldTable, name: &Option<Name>) -> Operand<u16>
-    ensures value { result ≡ tables.operand_of table.now name.now }
-    ensures kept { result.field < 2 ^ 16 }
-{
-    Operand {
-        field: match name {
-            Some(name) => table.number_in(name),
-            None => 0,
-        },
-    }
-}
-
-/// What an output field puts out: a constant where it names no field.
-fn output_operand_of(table: &FieldTable, field: &OutputField) -> Operand<u16>
-    ensures value { result ≡ tables.output_operand_of table.now field.now.name field.now.constant }
-    ensures kept { result.field < 2 ^ 16 }
-{
-    Operand {
-        field: match (&field.name, &field.constant) {
-            (Some(name), _) => table.number_in(name),
-            (None, None) => 0,
-            (None, Some(text)) => table.constant_number(&Constant::of_text(text)),
         },
     }
 }

@@ -2,11 +2,11 @@
 
 ghost use Rattle.std.specs.Prelude.{◌≡◌, ◌+◌, ◌<◌, ◌≤◌, All, length, map, option_copied, IfOk};
 ghost use Rattle.rpg_cards.specs.Constants.{IsConstant, constants};
-ghost use Rattle.rpg_compile.specs.Fields as fields;
-ghost use Rattle.old_effect.specs.Values.{held};
+ghost use Rattle.rpg_translation.specs.Fields as fields;
+ghost use Rattle.rpg_effect.specs.Values.{held};
 ghost use Rattle.rpg_symbols.specs.Fields.{storage};
 ghost use Rattle.rpg_cards.specs.Files as files;
-ghost use Rattle.rpg_compile.specs.Program as programs;
+ghost use Rattle.rpg_translation.specs.Program as programs;
 
 use crate::code::code_of;
 use crate::constants::{add_constants, constants_of};
@@ -14,12 +14,11 @@ use crate::fields::{NameTable, first_values};
 use crate::lines::lines_of;
 use crate::table::FieldTable;
 use crate::types::types_of;
-use old_effect::form::Form;
-use old_effect::value::Value;
-use old_object::Program;
-use old_object::laws::plain_rows_are_programs;
-use old_object::row::Rows;
 use rpg_cards::{SpecCard, input_file, output_file};
+use rpg_effect::form::FieldForm;
+use rpg_effect::value::Value;
+use rpg_program::Program;
+use rpg_program::row::Rows;
 use rpg_spec::FileSpec;
 use std::alloc::{AllocError, Global};
 
@@ -37,13 +36,13 @@ fn length_of(file: Option<&FileSpec>) -> u16
 fn fields_of(
     alloc: Global,
     cards: &[SpecCard],
-) -> Result<(FieldTable, Vec<Form>, Vec<Value>), AllocError>
+) -> Result<(FieldTable, Vec<FieldForm>, Vec<Vec<Value>>), AllocError>
     requires few { length cards.now ≤ 2000 }
     requires fields { length (fields.fields_of cards.now) + length (constants cards.now) ≤ 4000 }
     requires storage { storage (fields.fields_of cards.now) ≤ 65535 }
     ensures table { IfOk result (λ t. t.0 ≡ fields.table_of cards.now) }
     ensures forms { IfOk result (λ t. t.1.items ≡ fields.all_forms (fields.table_of cards.now)) }
-    ensures values { IfOk result (λ t. map held t.2.items ≡ fields.all_values (fields.table_of cards.now)) }
+    ensures values { IfOk result (λ t. map (λ vs. map held vs.items) t.2.items ≡ fields.all_values (fields.table_of cards.now)) }
     ensures kept { IfOk result (λ t. All IsConstant (constants cards.now)) }
 {
     let NameTable { symbols, mut forms } = NameTable::of_cards(alloc, cards)?;
@@ -69,15 +68,20 @@ pub(crate) fn program_of(
     let types = types_of(alloc, &table, cards)?;
     let lines = lines_of(alloc, &table, cards)?;
     let detail = code_of(alloc, &table, cards)?;
-    plain_rows_are_programs();
+    let total = Vec::new(alloc);
+    let subroutines = Vec::new(alloc);
     Ok(Program::build(Rows {
         allowance,
         record_length: length_of(input_file(cards)),
         printer_length: length_of(output_file(cards)),
+        disk_length: 0,
+        overflow: None,
         fields,
         values,
         types,
         lines,
         detail,
+        total,
+        subroutines,
     }))
 }

@@ -6,8 +6,8 @@ ghost use Rattle.rpg_compile.specs.Compile as compiling;
 use crate::cards::spec_cards;
 use crate::fault::{CompileFault, SourceCode};
 use crate::program::program_of;
-use old_object::Program;
 use rpg_faults::first_fault;
+use rpg_program::Program;
 use std::alloc::Global;
 
 /// Compiles a source. `allowance` is what its program may spend in a cycle on backward branches and calls.

@@ -1,7 +1,7 @@
 //! The numbers of names and constants.
 
 ghost use Rattle.std.specs.Prelude.{◌≡◌, ◌+◌, ◌≤◌, length};
-ghost use Rattle.rpg_compile.specs.Fields as fields;
+ghost use Rattle.rpg_translation.specs.Fields as fields;
 
 use indexmap::IndexSet;
 use rpg_cards::{Constant, factor_constant};
@@ -20,7 +20,7 @@ pub(crate) struct FieldTable {
 
 impl Model for FieldTable {
     ghost use Rattle.std.specs.Prelude.{◌≡◌, ◌+◌, ◌≤◌, length};
-    ghost use Rattle.rpg_compile.specs.Fields.{Table};
+    ghost use Rattle.rpg_translation.specs.Fields.{Table};
 
     ghost Value = { Table };
 

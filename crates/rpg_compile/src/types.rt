@@ -1,13 +1,16 @@
 //! Record types, from the I cards.
 
 ghost use Rattle.std.specs.Prelude.{◌≡◌, ◌≤◌, All, length, map, IfOk};
-ghost use Rattle.rpg_compile.specs.Tables as tables;
-ghost use Rattle.old_object.specs.Kept.{IsMoveRow, IsTypeRow};
-ghost use Rattle.old_object.specs.Object.{type_row};
+ghost use Rattle.rpg_translation.specs.Tables as tables;
+ghost use Rattle.rpg_program.specs.Kept.{IsInputRow, IsTypeRow};
+ghost use Rattle.rpg_program.specs.Object.{type_row};
 
+use crate::indicators::number_of;
 use crate::table::FieldTable;
-use old_object::row::{Move, RecordType};
 use rpg_cards::SpecCard;
+use rpg_effect::input::InputField;
+use rpg_effect::operation::Shows;
+use rpg_program::row::RecordType;
 use std::alloc::{AllocError, Global};
 
 /// A type for each type card.
@@ -16,7 +19,7 @@ pub(crate) fn types_of(
     table: &FieldTable,
     cards: &[SpecCard],
 ) -> Result<Vec<RecordType>, AllocError>
-    requires { All (λ t. length t.moves ≤ 500) (tables.types_of table.now cards.now) }
+    requires { All (λ t. length t.inputs ≤ 500) (tables.types_of table.now cards.now) }
     ensures types { IfOk result (λ v. map type_row v.items ≡ tables.types_of table.now cards.now) }
     ensures rows { IfOk result (λ v. All IsTypeRow (map type_row v.items)) }
 {
@@ -38,35 +41,51 @@ fn type_of(
     record_type: &rpg_spec::RecordType,
     behind: &[SpecCard],
 ) -> Result<RecordType, AllocError>
-    requires { length (tables.moves_of table.now behind.now) ≤ 500 }
+    requires { length (tables.inputs_of table.now behind.now) ≤ 500 }
     ensures row { IfOk result (λ t. type_row t ≡ tables.type_of table.now behind.now record_type.now) }
     ensures kept { IfOk result (λ t. IsTypeRow (type_row t)) }
 {
-    let moves = moves_of(alloc, table, behind)?;
-    let indicator = record_type.indicator.map(|indicator| indicator.number());
-    Ok(RecordType { indicator, moves })
+    Ok(RecordType {
+        indicator: number_of(record_type.indicator),
+        codes: Vec::new(alloc),
+        levels: Vec::new(alloc),
+        inputs: inputs_of(alloc, table, behind)?,
+    })
 }
 
-/// A move for each field card at the front.
-fn moves_of(alloc: Global, table: &FieldTable, cards: &[SpecCard]) -> Result<Vec<Move>, AllocError>
-    ensures moves { IfOk result (λ v. v.items ≡ tables.moves_of table.now cards.now) }
-    ensures rows { IfOk result (λ v. All IsMoveRow v.items) }
+/// An input field for each field card at the front.
+fn inputs_of(
+    alloc: Global,
+    table: &FieldTable,
+    cards: &[SpecCard],
+) -> Result<Vec<InputField<u16>>, AllocError>
+    ensures inputs { IfOk result (λ v. v.items ≡ tables.inputs_of table.now cards.now) }
+    ensures rows { IfOk result (λ v. All IsInputRow v.items) }
 {
-    let mut moves = Vec::new(alloc);
+    let mut inputs = Vec::new(alloc);
     for card in cards {
         let Some(field) = card.input_field() else {
-            return Ok(moves);
+            return Ok(inputs);
         };
         let number = table.number_in(&field.name);
-        moves.push(move_of(field.from, field.to, number))?;
+        inputs.push(input_of(field.from, field.to, number))?;
     }
-    Ok(moves)
+    Ok(inputs)
 }
 
-/// Columns that are moved to a field.
-fn move_of(from: u16, to: u16, field: u16) -> Move
-    ensures value { result ≡ record { from = from; to = to; field = field } }
-    ensures kept { IsMoveRow result }
+/// Columns that become the value of a field, without indicators.
+fn input_of(from: u16, to: u16, field: u16) -> InputField<u16>
+    ensures value { result ≡ record { from = from; to = to; field = field; shows = tables.no_shows } }
+    ensures kept { IsInputRow result }
 {
-    Move { from, to, field }
+    InputField {
+        from,
+        to,
+        field,
+        shows: Shows {
+            plus: None,
+            minus: None,
+            zero: None,
+        },
+    }
 }

@@ -1,7 +1,7 @@
 use Rattle.std.proofs.Common.{◌≡◌, ◌++◌, drop}
 use Rattle.std.specs.Prelude.{All}
-use Rattle.rpg_compile.specs.Code.{code_of}
-use Rattle.old_object.specs.Kept.{IsInstructionRow}
+use Rattle.rpg_translation.specs.Code.{code_of}
+use Rattle.rpg_program.specs.Kept.{IsInstructionRow}
 use Rattle.rpg_compile.proofs.code.code_of.Given as goal
 
 abbrev pub invariant-loop-card : goal.invariant-loop-card

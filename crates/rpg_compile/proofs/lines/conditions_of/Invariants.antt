@@ -1,7 +1,7 @@
 use Rattle.std.proofs.Common.{◌≡◌, ◌++◌, ◌≤◌, drop, length}
 use Rattle.std.specs.Prelude.{All}
-use Rattle.rpg_compile.specs.Tables.{standing}
-use Rattle.old_object.specs.Kept.{IsConditionRow}
+use Rattle.rpg_translation.specs.Tables.{standing}
+use Rattle.rpg_program.specs.Kept.{IsConditionRow}
 use Rattle.rpg_compile.proofs.lines.conditions_of.Given as goal
 
 abbrev pub invariant-loop-condition : goal.invariant-loop-condition

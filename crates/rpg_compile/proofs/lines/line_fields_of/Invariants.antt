@@ -1,7 +1,7 @@
 use Rattle.std.proofs.Common.{◌≡◌, ◌++◌, drop}
 use Rattle.std.specs.Prelude.{All}
-use Rattle.rpg_compile.specs.Tables.{line_fields_of}
-use Rattle.old_object.specs.Kept.{IsLineFieldRow}
+use Rattle.rpg_translation.specs.Tables.{line_fields_of}
+use Rattle.rpg_program.specs.Kept.{IsLineFieldRow}
 use Rattle.rpg_compile.proofs.lines.line_fields_of.Given as goal
 
 abbrev pub invariant-loop-card : goal.invariant-loop-card

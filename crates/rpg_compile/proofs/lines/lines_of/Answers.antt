@@ -1,8 +1,8 @@
 use Rattle.std.proofs.Common.{◌≤◌, length}
 use Rattle.rpg_compile.proofs.RowLemmas.{all_head, all_tail, one_more_row, all_with_one_more, lines_of-card}
-use Rattle.rpg_compile.specs.Tables.{line_of, lines_of}
-use Rattle.old_object.specs.Kept.{IsLineRow}
-use Rattle.old_object.specs.Object.{line_row, LineRow}
+use Rattle.rpg_translation.specs.Tables.{line_of, lines_of}
+use Rattle.rpg_program.specs.Kept.{IsLineRow}
+use Rattle.rpg_program.specs.Object.{line_row, LineRow}
 use Rattle.rpg_compile.proofs.lines.lines_of.Goals as goal
 
 pub line_of-requires : goal.line_of-requires

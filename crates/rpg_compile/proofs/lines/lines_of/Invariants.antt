@@ -1,8 +1,8 @@
 use Rattle.std.proofs.Common.{◌≡◌, ◌≤◌, ◌++◌, map, length}
 use Rattle.std.specs.Prelude.{All}
-use Rattle.rpg_compile.specs.Tables.{lines_of}
-use Rattle.old_object.specs.Kept.{IsLineRow}
-use Rattle.old_object.specs.Object.{line_row, LineRow}
+use Rattle.rpg_translation.specs.Tables.{lines_of}
+use Rattle.rpg_program.specs.Kept.{IsLineRow}
+use Rattle.rpg_program.specs.Object.{line_row, LineRow}
 use Rattle.rpg_compile.proofs.lines.lines_of.Given as goal
 
 abbrev pub invariant-loop-card : goal.invariant-loop-card

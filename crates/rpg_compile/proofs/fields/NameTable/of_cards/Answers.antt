@@ -2,7 +2,7 @@ use Rattle.std.proofs.Common.{◌+◌, ◌∙◌, sym, ap, arith, drop, length}
 use Rattle.rpg_symbols.specs.Fields.{storage}
 use Rattle.rpg_compile.proofs.FieldLemmas.{next_card, cards_grow, definition_adds_one}
 use Rattle.rpg_cards.specs.Names.{definition_on}
-use Rattle.rpg_compile.specs.Fields.{with_definition, fields_from}
+use Rattle.rpg_translation.specs.Fields.{with_definition, fields_from}
 use Rattle.rpg_compile.proofs.fields.NameTable.of_cards.Goals as goal
 
 pub define_on-requires-clause-room : goal.define_on-requires-clause-room

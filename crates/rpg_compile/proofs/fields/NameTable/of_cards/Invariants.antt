@@ -1,5 +1,5 @@
 use Rattle.std.proofs.Common.{◌≡◌, ◌+◌, ◌≤◌, drop, length}
-use Rattle.rpg_compile.specs.Fields.{fields_from, fields_of, forms}
+use Rattle.rpg_translation.specs.Fields.{fields_from, fields_of, forms}
 use Rattle.rpg_compile.proofs.fields.NameTable.of_cards.Given as goal
 
 abbrev pub invariant-loop-card : goal.invariant-loop-card
