@@ -4,7 +4,7 @@ ghost use Rattle.std.specs.Bool.{OnTrue};
 ghost use Rattle.rpg_symbols.specs.Fields.{number_of, IsAdded, IsKnown, Refuses};
 
 use crate::line::{Line, Size};
-use old_effect::form::{Class, Form, Kind};
+use rpg_effect::form::{Class, FieldForm, Kind};
 use rpg_symbols::{DefineFault, Name, Symbols};
 use std::alloc::{AllocError, Global};
 
@@ -37,7 +37,7 @@ fn read_name(line: &mut Line<'_>) -> Option<Name> {
 }
 
 /// `number 7.2`, `date 6.0` or `text 5`, and `by 20` behind it where there are 20 entries.
-fn read_form(line: &mut Line<'_>) -> Option<Form> {
+fn read_form(line: &mut Line<'_>) -> Option<FieldForm> {
     let form = match line.word()? {
         "number" => number(Class::Plain, line.size()?),
         "date" => number(Class::Date, line.size()?),
@@ -46,13 +46,13 @@ fn read_form(line: &mut Line<'_>) -> Option<Form> {
     };
     if line.takes("by") {
         let entries = line.word()?.parse().ok()?;
-        return Some(Form { entries, ..form });
+        return Some(FieldForm { entries, ..form });
     }
     Some(form)
 }
 
-fn number(class: Class, size: Size) -> Form {
-    Form {
+fn number(class: Class, size: Size) -> FieldForm {
+    FieldForm {
         kind: Kind::Number,
         class,
         length: u16::from(size.len),
@@ -62,8 +62,8 @@ fn number(class: Class, size: Size) -> Form {
     }
 }
 
-fn text(length: u16) -> Form {
-    Form {
+fn text(length: u16) -> FieldForm {
+    FieldForm {
         kind: Kind::Text,
         class: Class::Plain,
         length,
@@ -87,7 +87,7 @@ fn tells_definition(symbols: &mut Symbols, mut line: Line<'_>) -> Option<bool> {
 fn is_defined(
     symbols: &mut Symbols,
     name: Name,
-    form: Form,
+    form: FieldForm,
     wanted: Result<u16, DefineFault>,
 ) -> bool
     ensures ok { OnTrue result (IfOk wanted (λ n. IsKnown symbols.old name form symbols.new n ⊎ IsAdded symbols.old name form symbols.new n)) }
@@ -150,7 +150,7 @@ fn tells_form(symbols: &Symbols, mut line: Line<'_>) -> Option<bool> {
     Some(is_form(symbols, number, wanted))
 }
 
-fn is_form(symbols: &Symbols, number: u16, wanted: Form) -> bool
+fn is_form(symbols: &Symbols, number: u16, wanted: FieldForm) -> bool
     requires first { 1 ≤ number }
     requires last { number ≤ length symbols.now }
     ensures { OnTrue result (option_map (λ f. f.1) (slice_get symbols.now (number - 1)) ≡ Some wanted) }
@@ -159,7 +159,7 @@ fn is_form(symbols: &Symbols, number: u16, wanted: Form) -> bool
 }
 
 /// Whether two forms agree in every part.
-fn is_same(a: Form, b: Form) -> bool
+fn is_same(a: FieldForm, b: FieldForm) -> bool
     ensures { OnTrue result (a ≡ b) }
 {
     a.kind == b.kind

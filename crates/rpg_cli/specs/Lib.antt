@@ -3,5 +3,4 @@ pub mod Answers
 pub mod Outcomes
 pub mod Saying
 pub mod SourceCodes
-pub mod Translation
 pub mod Verification
