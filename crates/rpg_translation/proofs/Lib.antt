@@ -1,0 +1,5 @@
+pub mod Each
+pub mod Broken
+pub mod Files
+pub mod OnlyFiles
+pub mod Names
