@@ -100,3 +100,21 @@ place_of test (f ∷ fs) form e = by_test (test f.0) refl e (λ h. place_of test
         let at = r.1.0 in
         let within = r.1.1 in
         (suc r.0, (ap (λ b. cond (not b) (1 + position_or_len test (keys_of fs)) 0) is ∙ omega arith, omega arith), r.2)
+
+slice_get-append : {X : Type 0} (xs ys : List X) (i : ℕ) (x : X) → slice_get xs i ≡ Some x → slice_get (xs ++ ys) i ≡ Some x
+slice_get-append [] ys i x e = cc
+slice_get-append (y ∷ xs) ys zero x e = e
+slice_get-append (y ∷ xs) ys (suc i) x e = slice_get-append xs ys i x e
+
+form_at-next : (fields : List FieldForm) (i : ℕ) → form_at fields (i + 1) ≡ slice_get fields i
+form_at-next fields i = let e : i + 1 ≡ suc i = omega arith in ap (form_at fields) e
+
+-- its number leads to its form
+number_leads : (t : Table) (name : List ℕ) (form : FieldForm) → form_of t.names name ≡ Some form → form_at (all_forms t) (number_in t.names name) ≡ Some form
+number_leads t name form e =
+    let found = place_of (pointwise nat_eq name) t.names form e in
+    let number : number_in t.names name ≡ found.0 + 1 = ap (λ o. unwrap_or (option_map (λ i. i + 1) o) 0) (place_position (pointwise nat_eq name) (keys_of t.names) found.0 found.1) in
+    ap (form_at (all_forms t)) number ∙ form_at-next (all_forms t) found.0 ∙ slice_get-append (forms t.names) _ found.0 form found.2
+
+pub name_leads : (cards : List SpecCard) (name : List ℕ) (form : FieldForm) → AreDefined cards → form_of_name name cards ≡ Good form → form_at (all_forms (table_of cards)) (number_in (fields_of cards) name) ≡ Some form
+name_leads cards name form good e = number_leads (table_of cards) name form (fields_of-form cards name good ∙ ap form_in e)

@@ -36,6 +36,10 @@ output_alone : (before : List SpecCard) (f : FileSpec) (d : Direction) → bad_f
 output_alone before f Input good is = cc
 output_alone before f Output good is = let parts = or_parts _ _ (or_parts _ _ good).0 in (none_from (output_file before) parts.0, low 1 132 f.record_length (not-false _ parts.1))
 
+-- the file of that name is the only one of its direction, and has a length
+abbrev pub BelongsTo : List SpecCard → Option (List ℕ) → Option FileSpec → Type 0
+BelongsTo cards name only = (f : FileSpec) × (file_by name cards ≡ Some f) × (only ≡ Some f) × (1 ≤ f.record_length)
+
 module _ (cards : List SpecCard) (none : Faultless cards) where
   -- what F7 says of a card
   good_file : Seen cards (λ before c after. option_map_or (bad_file before) (file_on c.spec) false ≡ false)
@@ -72,10 +76,12 @@ module _ (cards : List SpecCard) (none : Faultless cards) where
   line_names before None is h = cc
   line_names before (Some r) is h = h
 
-  pub input_before : (before after : List SpecCard) → cards ≡ before ++ after → list_any is_type before ≡ true → HasFile cards is_input input_once (input_file_name before)
+  pub input_before : (before after : List SpecCard) → cards ≡ before ++ after → list_any is_type before ≡ true → BelongsTo cards (input_file_name before) (input_file cards)
   input_before before after split some =
-      file_before cards is_input input_once type_file_on is_type (λ b c a s is. type_names b (type_on c.spec) is (good_type b c a s)) (λ c no. ap (option_and_then (λ t. t.file)) (none_from (type_on c.spec) no)) before after split some
+      let h = file_before cards is_input input_once type_file_on is_type (λ b c a s is. type_names b (type_on c.spec) is (good_type b c a s)) (λ c no. ap (option_and_then (λ t. t.file)) (none_from (type_on c.spec) no)) before after split some in
+      (h.0, h.1, h.2.0, h.2.1)
 
-  pub output_before : (before after : List SpecCard) → cards ≡ before ++ after → list_any is_line before ≡ true → HasFile cards is_output output_once (output_file_name before)
+  pub output_before : (before after : List SpecCard) → cards ≡ before ++ after → list_any is_line before ≡ true → BelongsTo cards (output_file_name before) (output_file cards)
   output_before before after split some =
-      file_before cards is_output output_once line_file_on is_line (λ b c a s is. line_names b (line_on c.spec) is (good_line b c a s)) (λ c no. ap (option_and_then (λ r. r.file)) (none_from (line_on c.spec) no)) before after split some
+      let h = file_before cards is_output output_once line_file_on is_line (λ b c a s is. line_names b (line_on c.spec) is (good_line b c a s)) (λ c no. ap (option_and_then (λ r. r.file)) (none_from (line_on c.spec) no)) before after split some in
+      (h.0, h.1, h.2.0, h.2.1)
