@@ -5,3 +5,5 @@ pub mod OnlyFiles
 pub mod Names
 pub mod Forms
 pub mod Definitions
+pub mod Constants
+pub mod Types

@@ -106,7 +106,7 @@ slice_get-append [] ys i x e = cc
 slice_get-append (y ∷ xs) ys zero x e = e
 slice_get-append (y ∷ xs) ys (suc i) x e = slice_get-append xs ys i x e
 
-form_at-next : (fields : List FieldForm) (i : ℕ) → form_at fields (i + 1) ≡ slice_get fields i
+pub form_at-next : (fields : List FieldForm) (i : ℕ) → form_at fields (i + 1) ≡ slice_get fields i
 form_at-next fields i = let e : i + 1 ≡ suc i = omega arith in ap (form_at fields) e
 
 -- its number leads to its form
