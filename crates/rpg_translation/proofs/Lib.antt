@@ -7,3 +7,4 @@ pub mod Forms
 pub mod Definitions
 pub mod Constants
 pub mod Types
+pub mod Marks

@@ -37,6 +37,7 @@ use Rattle.rpg_translation.specs.Tables.{input_of, inputs_of, no_shows, type_of,
 use Rattle.rpg_translation.proofs.Broken.{good_indicator, good_size, has_heading}
 use Rattle.rpg_translation.proofs.Definitions.{IsPlainOf, HasPlain, all_defined, field_plain, has_form, inside_file}
 use Rattle.rpg_translation.proofs.Each.{Each, Seen, each_both, each_card, each_first, each_map, each_of_all, each_passes, only_each_first}
+use Rattle.rpg_translation.proofs.Marks.{marks_type}
 use Rattle.rpg_translation.proofs.Names.{name_leads}
 use Rattle.rpg_translation.proofs.OnlyFiles.{BelongsTo, input_before}
 
@@ -121,3 +122,23 @@ module _ (cards : List SpecCard) (none : Faultless cards) where
     inputs_right : (cs : List SpecCard) → Each IsTypeCard cs → Each IsInputRight (inputs_of (table_of cards) cs)
     inputs_right [] good = tt
     inputs_right (c ∷ cs) good = only_each_first IsInputRight (input_of (table_of cards)) (input_field_on c.spec) (inputs_of (table_of cards) cs) (λ f is. input_right f (good.0.input f is)) (inputs_right cs good.1)
+
+    -- a type whose cards are good
+    type_right : (cs : List SpecCard) (t : RecordType) → Each IsTypeCard cs → bad_on_type t.indicator ≡ false → IsTypeRow (type_of (table_of cards) cs t) → (r : TypeRule) → type_breaks r program (type_of (table_of cards) cs t) ≡ false
+    unfolding type_breaks
+    type_right cs t good marks row V3 = refl
+    type_right cs t good marks row V4 = not_from_true _ (marks_type t.indicator marks row.indicator)
+    type_right cs t good marks row V5 = refl
+    type_right cs t good marks row V6 = not_from_true _ (each_passes (is_input_in program) (inputs_of (table_of cards) cs) (each_map IsInputRight (λ f. is_input_in program f ≡ true) (inputs_of (table_of cards) cs) (λ f h. h.0) (inputs_right cs good)))
+    type_right cs t good marks row V7 = not_from_true _ (each_passes (is_input_shown program) (inputs_of (table_of cards) cs) (each_map IsInputRight (λ f. is_input_shown program f ≡ true) (inputs_of (table_of cards) cs) (λ f h. h.1) (inputs_right cs good)))
+
+    abbrev IsTypeRight : TypeRow ℕ → Type 0
+    IsTypeRight t = IsTypeRow t → (r : TypeRule) → type_breaks r program t ≡ false
+
+    types_right : (cs : List SpecCard) → Each IsTypeCard cs → Each IsTypeRight (types_of (table_of cards) cs)
+    types_right [] good = tt
+    types_right (c ∷ cs) good = each_first IsTypeRight (type_of (table_of cards) cs) (type_on c.spec) (types_of (table_of cards) cs) (λ t is row r. type_right cs t good.1 (good.0.type t is) row r) (types_right cs good.1)
+
+    pub types_pass : Each IsTypeRow (types_of (table_of cards) cards) → (r : TypeRule) → Each (λ t. type_breaks r (program_of cards allowance) t ≡ false) (types_of (table_of cards) cards)
+    unfolding program
+    types_pass rows r = each_both IsTypeRight IsTypeRow (λ t. type_breaks r (program_of cards allowance) t ≡ false) (types_of (table_of cards) cards) (λ t right row. right row r) (types_right cards type_cards) rows
