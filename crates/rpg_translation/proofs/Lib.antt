@@ -8,3 +8,6 @@ pub mod Definitions
 pub mod Constants
 pub mod Types
 pub mod Marks
+pub mod Conditions
+pub mod Outputs
+pub mod Lines
