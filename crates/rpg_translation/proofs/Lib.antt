@@ -11,3 +11,5 @@ pub mod Marks
 pub mod Conditions
 pub mod Outputs
 pub mod Lines
+pub mod Operands
+pub mod Rows

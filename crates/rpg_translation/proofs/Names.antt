@@ -14,6 +14,7 @@ use Rattle.rpg_cards.specs.declared.names.Defined.TheVariants.{Missing, Bad, Goo
 use Rattle.rpg_cards.specs.declared.spec_card.SpecCard.{SpecCard}
 use Rattle.rpg_effect.specs.Forms.{form_at, is_array}
 use Rattle.rpg_effect.specs.declared.form.FieldForm.{FieldForm}
+use Rattle.rpg_faults.specs.Operands.{form_in}
 use Rattle.rpg_symbols.specs.Fields.{Fields, given, form_of, number_of}
 use Rattle.rpg_translation.specs.Fields.{Table, table_of, all_forms, fields_from, fields_of, forms, number_in, with_definition, with_form, with_name}
 use Rattle.rpg_translation.proofs.Each.{Each}
@@ -36,12 +37,6 @@ AreDefined cards = Each (λ (c : SpecCard). IsDefinition (definition_on c.spec))
 option_or_assoc : {X : Type 0} (a b c : Option X) → option_or (option_or a b) c ≡ option_or a (option_or b c)
 option_or_assoc None b c = refl
 option_or_assoc (Some x) b c = refl
-
--- the form that a name is defined in, if it is
-abbrev pub form_in : Defined → Option FieldForm
-form_in Missing = None
-form_in Bad = None
-form_in (Good form) = Some form
 
 with_name-form : (fields : Fields) (name q : List ℕ) (form : FieldForm) → form_of (with_name fields name form) q ≡ option_or (form_of fields q) (cond (pointwise nat_eq q name) (Some form) None)
 with_name-form fields name q form = by_cases (is_some (form_of fields name)) refl
