@@ -13,3 +13,4 @@ pub mod Outputs
 pub mod Lines
 pub mod Operands
 pub mod Rows
+pub mod Calculations
