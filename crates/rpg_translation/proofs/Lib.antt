@@ -14,3 +14,5 @@ pub mod Lines
 pub mod Operands
 pub mod Rows
 pub mod Calculations
+pub mod Codes
+pub mod Accepting
