@@ -1,9 +1,7 @@
 -- The program of faultless cards is accepted.
-use Rattle.std.proofs.Common.{◌≡◌, ℕ, zero, suc, Bool, true, false, List, [], ◌∷◌, ◌++◌, map, Some, slice_get, refl, sym, ap, ◌∙◌, subst, append-nil}
+use Rattle.std.proofs.Common.{◌≡◌, ℕ, zero, suc, Bool, false, List, [], ◌∷◌, ◌++◌, map, refl, sym, subst, append-nil}
 use Rattle.std.proofs.lemmas.Bool.{or_from}
 use Rattle.rpg_cards.specs.declared.spec_card.SpecCard.{SpecCard}
-use Rattle.rpg_effect.specs.Input.{TypeRow}
-use Rattle.rpg_effect.specs.declared.operation.Instruction.{Instruction}
 use Rattle.rpg_faults.specs.Faults.{Faultless}
 use Rattle.rpg_program.specs.Kept.{IsInstructionRow, IsLineRow, IsProgram, IsTypeRow}
 use Rattle.rpg_program.specs.declared.section.Section.TheVariants.{Detail}
@@ -18,8 +16,8 @@ use Rattle.rpg_rules.specs.declared.rule.SubroutineRule.{SubroutineRule}
 use Rattle.rpg_rules.specs.declared.rule.TypeRule.{TypeRule}
 use Rattle.rpg_rules.specs.declared.rule.Rule.TheVariants as rules
 use Rattle.rpg_rules.specs.declared.rule.SubroutineRule.TheVariants.{V23, V24}
-use Rattle.rpg_translation.specs.Code.{code_of, instruction_of, instruction_on}
-use Rattle.rpg_translation.specs.Fields.{Table, table_of}
+use Rattle.rpg_translation.specs.Code.{code_of}
+use Rattle.rpg_translation.specs.Fields.{table_of}
 use Rattle.rpg_translation.specs.Program.{program_of}
 use Rattle.rpg_translation.specs.Tables.{lines_of, types_of}
 use Rattle.rpg_rules.proofs.Kept.{NoneTrue}

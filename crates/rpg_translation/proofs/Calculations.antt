@@ -1,24 +1,21 @@
 -- The instructions of faultless cards break no rule.
-use Rattle.std.proofs.Common.{◌≡◌, ℕ, Bool, true, false, not, ◌||◌, List, [], ◌∷◌, ◌++◌, Option, None, Some, refl, sym, ap, ◌∙◌, subst}
-use Rattle.std.proofs.lemmas.Bool.{or_left, or_parts, or_right}
-use Rattle.std.specs.Option.{option_and_then, option_map, option_map_or, option_or}
+use Rattle.std.proofs.Common.{◌≡◌, ℕ, true, false, List, Option, None, Some, refl, subst}
+use Rattle.std.proofs.lemmas.Bool.{or_parts}
+use Rattle.std.specs.Option.{option_or}
 use Rattle.std.specs.Prelude.{is_none}
-use Rattle.rpg_cards.specs.Cards.{calculation_on}
-use Rattle.rpg_cards.specs.Constants.{constant_form, constant_of, factor_constant, first_constant, second_constant, stands_in}
-use Rattle.rpg_cards.specs.Operations.{columns}
 use Rattle.rpg_cards.specs.declared.spec_card.SpecCard.{SpecCard}
-use Rattle.rpg_effect.specs.Forms.{form_at, may_write}
+use Rattle.rpg_effect.specs.Forms.{may_write}
 use Rattle.rpg_effect.specs.declared.operation.Instruction.{Instruction}
 use Rattle.rpg_effect.specs.declared.operation.Action.TheVariants.{Move}
 use Rattle.rpg_effect.specs.declared.operation.Instruction.TheVariants.{Act}
 use Rattle.rpg_effect.specs.declared.operation.Operator.TheVariants as operator
 use Rattle.rpg_effect.specs.declared.operation.Side.{Side}
 use Rattle.rpg_effect.specs.declared.operation.Side.TheVariants.{Right, Left}
-use Rattle.rpg_faults.specs.Columns.{any_of, bad_calculation, bad_operation}
+use Rattle.rpg_faults.specs.Columns.{any_of, bad_operation}
 use Rattle.rpg_faults.specs.Faults.{Faultless}
-use Rattle.rpg_faults.specs.Indicators.{bad_in_result, bad_on_card}
-use Rattle.rpg_faults.specs.Names.{calculation_lacks_name, is_undefined, name_in, operation_lacks_name}
-use Rattle.rpg_faults.specs.Operands.{differ, has_text, is_never_written, wrong_in_calculation, wrong_in_operation}
+use Rattle.rpg_faults.specs.Indicators.{bad_in_result}
+use Rattle.rpg_faults.specs.Names.{is_undefined, name_in, operation_lacks_name}
+use Rattle.rpg_faults.specs.Operands.{differ, has_text, is_never_written, wrong_in_operation}
 use Rattle.rpg_program.specs.Kept.{AreIndicators, IsInstructionRow}
 use Rattle.rpg_program.specs.Object.{Object}
 use Rattle.rpg_program.specs.declared.section.Section.TheVariants.{Detail}
@@ -29,16 +26,9 @@ use Rattle.rpg_spec.specs.declared.calculation.CalculationSpec.{CalculationSpec}
 use Rattle.rpg_spec.specs.declared.calculation.Operation.{Operation}
 use Rattle.rpg_spec.specs.declared.calculation.Operation.TheVariants as op
 use Rattle.rpg_spec.specs.declared.indicator.Three.{Three}
-use Rattle.rpg_spec.specs.declared.literal.Factor.{Factor}
-use Rattle.rpg_spec.specs.declared.literal.Factor.TheVariants as factor
-use Rattle.rpg_spec.specs.declared.literal.Literal.{Literal}
-use Rattle.rpg_spec.specs.declared.spec.Spec.{Spec}
-use Rattle.rpg_spec.specs.declared.spec.Spec.TheVariants as spec
 use Rattle.rpg_translation.specs.Code.{factor_of, first_or_result, instruction_of, result_of, shows_of}
 use Rattle.rpg_translation.specs.Fields.{Table, table_of}
 use Rattle.rpg_translation.specs.Program.{program_of}
-use Rattle.rpg_translation.proofs.Broken.{good_columns, good_indicator, has_names, right_operands}
-use Rattle.rpg_translation.proofs.Constants.{constant_leads, stands_itself}
 use Rattle.rpg_translation.proofs.Marks.{settable_shows}
 use Rattle.rpg_translation.proofs.Operands.{HasLiteral, Holds, IsNumber, at, factor_holds, first_number, kinds_alike, may_be_written, number_from, of_factor, of_result, result_holds}
 use Rattle.rpg_translation.proofs.Rows.{assign_right, compare_right, compute_right, divide_right, move_right, remainder_right}

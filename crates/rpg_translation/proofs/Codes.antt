@@ -1,5 +1,5 @@
 -- The instructions of faultless cards break no rule, card by card.
-use Rattle.std.proofs.Common.{◌≡◌, ℕ, Bool, false, ◌||◌, List, [], ◌∷◌, ◌++◌, Option, None, Some, refl, sym, ap, ◌∙◌, subst}
+use Rattle.std.proofs.Common.{◌≡◌, ℕ, false, List, [], ◌∷◌, ◌++◌, Option, None, Some, refl, sym, ap, ◌∙◌, subst}
 use Rattle.std.proofs.lemmas.Bool.{or_left, or_parts, or_right}
 use Rattle.std.specs.Option.{option_and_then, option_map, option_map_or}
 use Rattle.rpg_cards.specs.Cards.{calculation_on}
@@ -70,10 +70,10 @@ module _ (cards : List SpecCard) (none : Faultless cards) (allowance : ℕ) wher
   calculation_good before c after k o split is has =
       let filled : bad_calculation k ≡ false = subst (λ (x : Option CalculationSpec). option_map_or bad_calculation x false ≡ false) is (or_parts _ _ (good_columns cards none before c after split)).0 in
       let all_named : option_map_or (calculation_lacks_name cards) (calculation_on c.spec) false ≡ false =
-          subst (λ (all : List SpecCard). option_map_or (calculation_lacks_name all) (calculation_on c.spec) false ≡ false) (sym split) (or_parts _ _ (has_names cards none before c after split)).0 in
+      subst (λ (all : List SpecCard). option_map_or (calculation_lacks_name all) (calculation_on c.spec) false ≡ false) (sym split) (or_parts _ _ (has_names cards none before c after split)).0 in
       let named : calculation_lacks_name cards k ≡ false = subst (λ (x : Option CalculationSpec). option_map_or (calculation_lacks_name cards) x false ≡ false) is all_named in
       let all_right : option_map_or (wrong_in_calculation cards) (calculation_on c.spec) false ≡ false =
-          subst (λ (all : List SpecCard). option_map_or (wrong_in_calculation all) (calculation_on c.spec) false ≡ false) (sym split) (right_operands cards none before c after split) in
+      subst (λ (all : List SpecCard). option_map_or (wrong_in_calculation all) (calculation_on c.spec) false ≡ false) (sym split) (right_operands cards none before c after split) in
       let right : wrong_in_calculation cards k ≡ false = subst (λ (x : Option CalculationSpec). option_map_or (wrong_in_calculation cards) x false ≡ false) is all_right in
       record {
         filled = subst (λ (x : Option Operation). bad_operation k x ≡ false) has (or_parts _ _ filled).0;

@@ -1,7 +1,7 @@
 -- Conditions that cards may have are those that a program may ask for.
-use Rattle.std.proofs.Common.{◌≡◌, ℕ, zero, suc, ◌≤◌, Bool, true, false, List, [], ◌∷◌, Option, None, Some, slice_get, refl, sym, ap, ◌∙◌, arith}
+use Rattle.std.proofs.Common.{◌≡◌, ℕ, zero, suc, ◌≤◌, true, false, List, [], ◌∷◌, Option, None, Some, slice_get, refl, arith}
 use Rattle.std.proofs.lemmas.Bool.{and_from, eqb-false, le-leb, or_parts}
-use Rattle.std.specs.Option.{ForSome, option_map}
+use Rattle.std.specs.Option.{ForSome}
 use Rattle.std.specs.List.{list_all}
 use Rattle.rpg_effect.specs.declared.condition.Condition.{Condition}
 use Rattle.rpg_faults.specs.Indicators.{asks_for_mr, bad_in_output}
@@ -9,8 +9,8 @@ use Rattle.rpg_program.specs.Kept.{AreConditions, IsConditionRow}
 use Rattle.rpg_rules.specs.Indicators.{all_asked, if_any, may_be_asked}
 use Rattle.rpg_spec.specs.declared.indicator.Condition as sheet
 use Rattle.rpg_spec.specs.declared.indicator.Three.{Three}
-use Rattle.rpg_translation.specs.Tables.{condition_of, conditions_of, in_places, standing, with_first}
-use Rattle.rpg_translation.proofs.Each.{Each, each_both, each_first, each_passes}
+use Rattle.rpg_translation.specs.Tables.{conditions_of, in_places, standing}
+use Rattle.rpg_translation.proofs.Each.{Each, each_both, each_passes}
 
 -- any indicator but MR
 abbrev pub IsNoMr : Condition → Type 0

@@ -1,11 +1,11 @@
 -- The constants of cards have numbers, which lead to their forms.
-use Rattle.std.proofs.Common.{◌≡◌, ℕ, zero, suc, ◌+◌, ◌<◌, Bool, true, false, not, cond, ◌||◌, List, [], ◌∷◌, ◌++◌, map, length, slice_get, Option, None, Some, refl, sym, ap, subst, ◌∙◌, arith}
+use Rattle.std.proofs.Common.{◌≡◌, ℕ, zero, suc, ◌+◌, Bool, true, false, not, cond, ◌||◌, List, [], ◌∷◌, ◌++◌, map, length, slice_get, Option, None, Some, refl, sym, ap, subst, ◌∙◌, arith}
 use Rattle.std.proofs.lemmas.Bool.{or_left, or_right}
 use Rattle.std.proofs.lemmas.List.Folds.{list_any-append}
 use Rattle.std.proofs.lemmas.Option.{slice_get-map}
 use Rattle.std.specs.List.{list_any, position_or_len}
 use Rattle.std.specs.Option.{option_map, option_to_list, option_and_then}
-use Rattle.std.specs.Prelude.{position, unwrap_or}
+use Rattle.std.specs.Prelude.{unwrap_or}
 use Rattle.rpg_cards.specs.Constants.{constant_form, constants, constants_from, first_constant, second_constant, new_first, new_second, is_same, stands_in, stands_on, unless}
 use Rattle.rpg_cards.specs.SameConstants.{is_same_equiv, is_same-equal}
 use Rattle.rpg_cards.specs.declared.constants.Constant.{Constant}

@@ -1,26 +1,19 @@
 -- The one input file and the one output file of a faultless source.
-use Rattle.std.proofs.Common.{◌≡◌, ◌≤◌, Bool, true, false, not, cond, ◌||◌, List, [], ◌∷◌, ◌++◌, Option, None, Some, refl, sym, ap, ◌∙◌, subst, arith, append_assoc}
-use Rattle.std.proofs.lemmas.Bool.{or_parts, and_parts, leb-true, not-false}
+use Rattle.std.proofs.Common.{◌≡◌, ◌≤◌, Bool, true, false, cond, ◌||◌, List, [], ◌∷◌, ◌++◌, Option, None, Some, refl, sym, ap, ◌∙◌, subst, append_assoc}
+use Rattle.std.proofs.lemmas.Bool.{not-false}
 use Rattle.std.proofs.lemmas.List.Folds.{list_any-append}
 use Rattle.std.specs.List.{list_any}
-use Rattle.std.specs.Option.{option_map_or, option_or}
-use Rattle.std.specs.Prelude.{is_some, ℕ}
-use Rattle.rpg_cards.specs.Cards.{file_on, type_on, line_on}
-use Rattle.rpg_cards.specs.Files.{first_file, or_later, file_named, has_name, input_file, output_file, input_file_name, output_file_name, is_input, is_output, latest, type_file_on, line_file_on}
+use Rattle.std.specs.Option.{option_or}
+use Rattle.std.specs.Prelude.{ℕ}
+use Rattle.rpg_cards.specs.Cards.{file_on}
+use Rattle.rpg_cards.specs.Files.{first_file, or_later, file_named, has_name, latest}
 use Rattle.rpg_cards.specs.declared.spec_card.SpecCard.{SpecCard}
 use Rattle.rpg_faults.proofs.SeenLemmas.{latest-push}
-use Rattle.rpg_faults.specs.Cards.{is_type, is_line}
-use Rattle.rpg_faults.specs.Faults.{Faultless}
-use Rattle.rpg_faults.specs.Files.{bad_file, bad_for, is_unfit, lacks_file}
+use Rattle.rpg_faults.specs.Files.{is_unfit, lacks_file}
 use Rattle.rpg_faults.specs.Places.{file_by}
 use Rattle.rpg_spec.specs.declared.file.Direction.{Direction}
-use Rattle.rpg_spec.specs.declared.file.Direction.TheVariants.{Input, Output}
 use Rattle.rpg_spec.specs.declared.file.FileSpec.{FileSpec}
-use Rattle.rpg_spec.specs.declared.input.RecordType.{RecordType}
-use Rattle.rpg_spec.specs.declared.output.OutputRecord.{OutputRecord}
 use Rattle.rpg_spec.specs.declared.spec.Spec.{Spec}
-use Rattle.rpg_text.specs.Texts.{is_between}
-use Rattle.rpg_translation.proofs.Broken.{good_files}
 use Rattle.rpg_translation.proofs.Each.{Seen, front_keeps}
 
 -- ---- the first file of two lists

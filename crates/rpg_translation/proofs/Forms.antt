@@ -1,5 +1,5 @@
 -- The forms of names: none is bad, none is an array's, and each definition has the one of the first.
-use Rattle.std.proofs.Common.{◌≡◌, ℕ, Bool, true, false, not, cond, List, [], ◌∷◌, ◌++◌, Option, None, Some, refl, sym, ap, ◌∙◌, subst}
+use Rattle.std.proofs.Common.{◌≡◌, ℕ, Bool, true, false, cond, List, [], ◌∷◌, ◌++◌, Option, None, Some, refl, ap, ◌∙◌, subst}
 use Rattle.std.proofs.lemmas.Bool.{not-false}
 use Rattle.std.proofs.lemmas.Cmp.{nat_list_eq_equiv}
 use Rattle.std.specs.Cmp.Lexicographic.{pointwise}
@@ -12,9 +12,9 @@ use Rattle.rpg_effect.specs.Forms.{is_array}
 use Rattle.rpg_effect.specs.declared.form.Class.TheVariants as class
 use Rattle.rpg_effect.specs.declared.form.FieldForm.{FieldForm}
 use Rattle.rpg_faults.proofs.Forms.{same_form-equal}
-use Rattle.rpg_faults.specs.Names.{is_missing, is_other, same_form}
+use Rattle.rpg_faults.specs.Names.{is_missing, is_other}
 use Rattle.rpg_symbols.specs.Fields.{given, form_of, number_form}
-use Rattle.rpg_translation.proofs.Names.{AreDefined, IsDefinition, IsForm}
+use Rattle.rpg_translation.proofs.Names.{AreDefined, IsDefinition}
 
 -- ---- no bad form, and no array
 
@@ -93,5 +93,5 @@ unfolding first_of
 defined_here cards before c after name form split good is same =
     let here : defined_on name (c ∷ after) ≡ Good form = ap (λ d. or_later name d (defined_on name after)) is ∙ itself name form (defined_on name after) in
     let joined : form_of_name name cards ≡ first_of (form_of_name name before) (defined_on name (c ∷ after)) =
-        ap (form_of_name name) split ∙ ap (unless_given (form_of given name)) (defined_on-append name before (c ∷ after)) ∙ unless_given-first (form_of given name) (defined_on name before) (defined_on name (c ∷ after)) in
+    ap (form_of_name name) split ∙ ap (unless_given (form_of given name)) (defined_on-append name before (c ∷ after)) ∙ unless_given-first (form_of given name) (defined_on name before) (defined_on name (c ∷ after)) in
     of_first (form_of_name name before) (defined_on name (c ∷ after)) (form_of_name name cards) form joined here (name_good name cards good) same

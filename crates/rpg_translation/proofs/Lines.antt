@@ -1,16 +1,15 @@
 -- The lines of faultless cards break no rule.
-use Rattle.std.proofs.Common.{◌≡◌, ℕ, zero, ◌≤◌, Bool, true, false, not, List, [], ◌∷◌, Option, None, Some, refl, sym, ap, ◌∙◌, subst, arith}
+use Rattle.std.proofs.Common.{◌≡◌, ℕ, zero, ◌≤◌, Bool, true, false, not, List, [], ◌∷◌, Option, refl, arith}
 use Rattle.std.proofs.lemmas.Bool.{and_from, le-leb, ne_eqb, not_from_true}
 use Rattle.std.specs.List.{list_all}
-use Rattle.std.specs.Prelude.{All, ◌&&◌, ◌==◌}
+use Rattle.std.specs.Prelude.{All, ◌&&◌}
 use Rattle.rpg_cards.specs.Cards.{line_on, output_field_on}
 use Rattle.rpg_cards.specs.Files.{output_file}
 use Rattle.rpg_cards.specs.declared.spec_card.SpecCard.{SpecCard}
-use Rattle.rpg_edit.specs.declared.code.Fill.TheVariants as fills
 use Rattle.rpg_effect.specs.Editing.{width_as}
 use Rattle.rpg_edit.specs.declared.how.How.TheVariants as hows
 use Rattle.rpg_effect.specs.Forms.{form_at, kind_of, length_of}
-use Rattle.rpg_effect.specs.LineFaults.{blanks_writable, has_room}
+use Rattle.rpg_effect.specs.LineFaults.{blanks_writable}
 use Rattle.rpg_effect.specs.declared.condition.Condition.{Condition}
 use Rattle.rpg_effect.specs.declared.form.FieldForm.{FieldForm}
 use Rattle.rpg_effect.specs.declared.form.Kind.{Kind}
@@ -22,7 +21,7 @@ use Rattle.rpg_program.specs.Constants.{word_at}
 use Rattle.rpg_program.specs.Kept.{IsAlternativeRow, IsConditionRow, IsLineFieldRow, IsLineRow}
 use Rattle.rpg_program.specs.Object.{LineRow, Object}
 use Rattle.rpg_rules.specs.Indicators.{may_be_asked}
-use Rattle.rpg_rules.specs.LineRules.{has_width, is_field_asked, is_field_edited, is_field_there, lacks_room, lacks_word, line_breaks}
+use Rattle.rpg_rules.specs.LineRules.{is_field_asked, is_field_edited, is_field_there, lacks_room, lacks_word, line_breaks}
 use Rattle.rpg_rules.specs.declared.rule.LineRule.{LineRule}
 use Rattle.rpg_rules.specs.declared.rule.LineRule.TheVariants.{V2, V8, V9, V10, V11, V12, V13, V14, V15}
 use Rattle.rpg_spec.specs.declared.output.OutputField.{OutputField}
@@ -33,7 +32,7 @@ use Rattle.rpg_translation.specs.Program.{program_of}
 use Rattle.rpg_translation.specs.Tables.{conditions_of, line_field_of, line_fields_of, line_of, lines_of}
 use Rattle.rpg_translation.proofs.Conditions.{all_may_be_asked, no_mr, places_asked}
 use Rattle.rpg_translation.proofs.Each.{Each, each_both, each_first, each_map, each_of_all, each_passes, none_passes, only_each_first}
-use Rattle.rpg_translation.proofs.Outputs.{IsLineCard, IsOutputFit, PutsOut, forms, line_cards}
+use Rattle.rpg_translation.proofs.Outputs.{IsLineCard, IsOutputFit, forms, line_cards}
 
 -- a field that isn't edited is as wide as it is long
 plain_width : (k : Kind) (form : Option FieldForm) → width_as k form hows.Plain ≡ length_of form

@@ -1,11 +1,10 @@
 -- Indicators that cards may name are those that a program may.
-use Rattle.std.proofs.Common.{◌≡◌, ℕ, ◌≤◌, Bool, true, false, not, ◌||◌, Option, None, Some, refl, sym, ap, ◌∙◌, subst, arith}
-use Rattle.std.proofs.lemmas.Bool.{and_from, and_parts, cases_Bool, eqb-false, le-leb, leb-false, leb-true, not-false, or_cases, or_left, or_parts, or_right}
+use Rattle.std.proofs.Common.{◌≡◌, ℕ, ◌≤◌, Bool, true, false, ◌||◌, Option, None, Some, refl, arith}
+use Rattle.std.proofs.lemmas.Bool.{and_from, cases_Bool, eqb-false, le-leb, leb-false, leb-true, not-false, or_left, or_parts, or_right}
 use Rattle.std.proofs.Common.{◌⊎◌, inl, inr}
 use Rattle.std.specs.Option.{ForSome}
-use Rattle.std.specs.Prelude.{◌&&◌, ◌==◌, nat_le}
-use Rattle.rpg_effect.specs.declared.operation.Shows.{Shows}
-use Rattle.rpg_faults.specs.Indicators.{bad_in_result, bad_on_type, can_mark_type, cannot_be_set}
+use Rattle.std.specs.Prelude.{◌&&◌, nat_le}
+use Rattle.rpg_faults.specs.Indicators.{bad_in_result, bad_on_type, cannot_be_set}
 use Rattle.rpg_program.specs.Kept.{AreIndicators, IsIndicator}
 use Rattle.rpg_rules.specs.Indicators.{are_settable, if_any, is_of_type, is_settable, is_within}
 use Rattle.rpg_spec.specs.declared.indicator.Three.{Three}

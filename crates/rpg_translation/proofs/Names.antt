@@ -1,22 +1,22 @@
 -- The number of a name leads to the form of its first definition.
-use Rattle.std.proofs.Common.{◌≡◌, ℕ, zero, suc, ◌+◌, ◌<◌, Bool, true, false, not, cond, List, [], ◌∷◌, ◌++◌, map, length, slice_get, Option, None, Some, refl, sym, ap, ◌∙◌, subst, arith, add-one}
+use Rattle.std.proofs.Common.{◌≡◌, ℕ, zero, suc, ◌+◌, ◌<◌, Bool, true, false, not, cond, List, [], ◌∷◌, ◌++◌, length, slice_get, Option, None, Some, refl, ap, ◌∙◌, arith}
 use Rattle.std.proofs.lemmas.Cmp.{nat_list_eq_equiv}
-use Rattle.std.proofs.lemmas.Bool.{ltb-true, lt-ltb}
+use Rattle.std.proofs.lemmas.Bool.{lt-ltb}
 use Rattle.std.specs.Cmp.Lexicographic.{pointwise}
 use Rattle.std.specs.List.{position_or_len}
 use Rattle.std.specs.Map.{lookup, keys_of}
 use Rattle.std.specs.Option.{option_or, option_map}
 use Rattle.std.specs.Prelude.{is_some, position, unwrap_or, nat_eq, nat_lt}
 use Rattle.rpg_cards.proofs.IndexLemmas.{known_stays, lookup_push}
-use Rattle.rpg_cards.specs.Names.{definition_on, defined_as, defined_on, form_of_name, or_later, unless_given}
+use Rattle.rpg_cards.specs.Names.{definition_on, defined_on, form_of_name, or_later, unless_given}
 use Rattle.rpg_cards.specs.declared.names.Defined.{Defined}
-use Rattle.rpg_cards.specs.declared.names.Defined.TheVariants.{Missing, Bad, Good}
+use Rattle.rpg_cards.specs.declared.names.Defined.TheVariants.{Good}
 use Rattle.rpg_cards.specs.declared.spec_card.SpecCard.{SpecCard}
 use Rattle.rpg_effect.specs.Forms.{form_at, is_array}
 use Rattle.rpg_effect.specs.declared.form.FieldForm.{FieldForm}
 use Rattle.rpg_faults.specs.Operands.{form_in}
-use Rattle.rpg_symbols.specs.Fields.{Fields, given, form_of, number_of}
-use Rattle.rpg_translation.specs.Fields.{Table, table_of, all_forms, fields_from, fields_of, forms, number_in, with_definition, with_form, with_name}
+use Rattle.rpg_symbols.specs.Fields.{Fields, given, form_of}
+use Rattle.rpg_translation.specs.Fields.{Table, table_of, all_forms, fields_from, fields_of, forms, number_in, with_definition, with_name}
 use Rattle.rpg_translation.proofs.Each.{Each}
 
 -- ---- definitions with a form, of no array

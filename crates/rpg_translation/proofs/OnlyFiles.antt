@@ -1,5 +1,5 @@
 -- Which file a field belongs to: the one that records are read from, or the one that lines are put out on.
-use Rattle.std.proofs.Common.{◌≡◌, ◌≤◌, Bool, true, false, not, ◌||◌, List, ◌∷◌, ◌++◌, ℕ, Option, None, Some, refl, sym, ap, ◌∙◌, subst}
+use Rattle.std.proofs.Common.{◌≡◌, ◌≤◌, true, false, List, ◌∷◌, ◌++◌, ℕ, Option, None, Some, refl, sym, ap, subst}
 use Rattle.std.proofs.lemmas.Bool.{or_parts, and_parts, leb-true, not-false}
 use Rattle.std.specs.List.{list_any}
 use Rattle.std.specs.Option.{option_map_or, option_and_then}
@@ -19,7 +19,7 @@ use Rattle.rpg_spec.specs.declared.output.OutputRecord.{OutputRecord}
 use Rattle.rpg_text.specs.Texts.{is_between}
 use Rattle.rpg_translation.proofs.Broken.{good_files}
 use Rattle.rpg_translation.proofs.Each.{Seen}
-use Rattle.rpg_translation.proofs.Files.{HasFile, file_before}
+use Rattle.rpg_translation.proofs.Files.{file_before}
 
 none_from : {X : Type 0} (o : Option X) → is_some o ≡ false → o ≡ None
 none_from None e = refl

@@ -1,13 +1,11 @@
 -- What stands on the calculation cards of a faultless source is there, and of the kind that its operation takes.
-use Rattle.std.proofs.Common.{◌≡◌, ℕ, Bool, true, false, not, ◌||◌, List, ◌∷◌, ◌++◌, Option, None, Some, refl, sym, ap, ◌∙◌, subst}
-use Rattle.std.proofs.lemmas.Bool.{or_parts}
+use Rattle.std.proofs.Common.{◌≡◌, ℕ, true, false, not, List, Option, None, Some, refl, sym, ap, subst}
 use Rattle.std.specs.Option.{option_and_then}
 use Rattle.std.specs.Prelude.{◌&&◌, is_none}
 use Rattle.rpg_cards.specs.Constants.{constant_form, constant_of, form_of_factor}
 use Rattle.rpg_cards.specs.Names.{form_of_name}
-use Rattle.rpg_cards.specs.declared.names.Defined.TheVariants.{Good}
 use Rattle.rpg_cards.specs.declared.spec_card.SpecCard.{SpecCard}
-use Rattle.rpg_effect.specs.Forms.{form_at, is_array, is_writable, kind_of, may_write, same_kind}
+use Rattle.rpg_effect.specs.Forms.{is_array, is_writable, kind_of, may_write, same_kind}
 use Rattle.rpg_effect.specs.Rows.{has_entry, is_one_entry}
 use Rattle.rpg_effect.specs.declared.form.Class.{Class}
 use Rattle.rpg_effect.specs.declared.form.Class.TheVariants as classes
@@ -24,7 +22,7 @@ use Rattle.rpg_spec.specs.declared.literal.Factor.TheVariants as factor
 use Rattle.rpg_spec.specs.declared.literal.Literal.{Literal}
 use Rattle.rpg_spec.specs.declared.literal.Literal.TheVariants as literal
 use Rattle.rpg_translation.specs.Code.{factor_of, first_or_result}
-use Rattle.rpg_translation.specs.Fields.{all_forms, constant_number, factor_number, fields_of, number_in, table_of}
+use Rattle.rpg_translation.specs.Fields.{constant_number, factor_number, fields_of, number_in, table_of}
 use Rattle.rpg_translation.specs.Tables.{operand_of, unindexed}
 use Rattle.rpg_translation.proofs.Definitions.{all_defined}
 use Rattle.rpg_translation.proofs.Forms.{form_there, name_good}

@@ -1,15 +1,14 @@
 -- What stands on the output cards of a faultless source is there, and has room in the line.
-use Rattle.std.proofs.Common.{◌≡◌, ℕ, ◌≤◌, Bool, true, false, not, ◌||◌, List, [], ◌∷◌, ◌++◌, length, Option, None, Some, refl, sym, ap, ◌∙◌, subst, arith, append_assoc}
-use Rattle.std.proofs.lemmas.Bool.{and_from, ltb-false, not-false, not_from_false, or_left, or_parts, or_right}
+use Rattle.std.proofs.Common.{◌≡◌, ℕ, ◌≤◌, Bool, true, false, not, List, [], ◌∷◌, ◌++◌, length, Option, None, Some, refl, sym, ap, ◌∙◌, subst, arith, append_assoc}
+use Rattle.std.proofs.lemmas.Bool.{ltb-false, not-false, not_from_false, or_left, or_parts, or_right}
 use Rattle.std.proofs.lemmas.List.Folds.{list_any-append}
 use Rattle.std.specs.List.{list_any}
 use Rattle.std.specs.Option.{option_and_then, option_map, option_map_or}
 use Rattle.std.specs.Prelude.{◌&&◌, is_none, is_some, nat_lt}
 use Rattle.rpg_cards.specs.Cards.{calculation_on, line_on, output_field_on}
-use Rattle.rpg_cards.specs.Constants.{constant_form, factor_constant, first_constant, second_constant, stands_in}
+use Rattle.rpg_cards.specs.Constants.{constant_form, factor_constant, first_constant}
 use Rattle.rpg_cards.specs.Files.{output_file, output_file_name}
 use Rattle.rpg_cards.specs.Names.{first_some, form_of_name}
-use Rattle.rpg_cards.specs.declared.constants.Constant.{Constant}
 use Rattle.rpg_cards.specs.declared.constants.Constant.TheVariants.{Text}
 use Rattle.rpg_cards.specs.declared.names.Defined.{Defined}
 use Rattle.rpg_cards.specs.declared.names.Defined.TheVariants.{Good}
@@ -23,10 +22,9 @@ use Rattle.rpg_effect.specs.declared.row.Shape.TheVariants as shapes
 use Rattle.rpg_faults.specs.Cards.{is_line, is_output_field}
 use Rattle.rpg_faults.specs.Faults.{Faultless}
 use Rattle.rpg_faults.specs.Indicators.{bad_in_output, bad_on_card}
-use Rattle.rpg_faults.specs.Names.{is_missing, is_undefined}
+use Rattle.rpg_faults.specs.Names.{is_undefined}
 use Rattle.rpg_faults.specs.Places.{file_by, is_past, is_wider, outside_line}
 use Rattle.rpg_spec.specs.declared.file.FileSpec.{FileSpec}
-use Rattle.rpg_spec.specs.declared.input.InputSpec.TheVariants as input
 use Rattle.rpg_spec.specs.declared.output.OutputField.{OutputField}
 use Rattle.rpg_spec.specs.declared.output.OutputRecord.{OutputRecord}
 use Rattle.rpg_spec.specs.declared.output.OutputSpec.TheVariants as output
@@ -130,15 +128,15 @@ module _ (cards : List SpecCard) (none : Faultless cards) where
   has_constant : (before : List SpecCard) (c : SpecCard) (after : List SpecCard) (f : OutputField) → cards ≡ before ++ c ∷ after → output_field_on c.spec ≡ Some f → HasConstant f.constant
   has_constant before c after f split is text e =
       let first : first_constant c.spec ≡ Some (Text text) =
-          ap (λ o. first_some (option_and_then (λ (x : OutputField). option_map Text x.constant) o) (option_and_then (λ k. option_and_then factor_constant k.factor_1) (calculation_on c.spec))) is
-          ∙ ap (λ o. first_some (option_map Text o) (option_and_then (λ k. option_and_then factor_constant k.factor_1) (calculation_on c.spec))) e in
+      ap (λ o. first_some (option_and_then (λ (x : OutputField). option_map Text x.constant) o) (option_and_then (λ k. option_and_then factor_constant k.factor_1) (calculation_on c.spec))) is
+      ∙ ap (λ o. first_some (option_map Text o) (option_and_then (λ k. option_and_then factor_constant k.factor_1) (calculation_on c.spec))) e in
       constant_leads cards before c after (Text text) split (or_left _ _ (stands_itself (Text text) (first_constant c.spec) first))
 
   output_fits : (before : List SpecCard) (c : SpecCard) (after : List SpecCard) (f : OutputField) → cards ≡ before ++ c ∷ after → output_field_on c.spec ≡ Some f → IsOutputFit f
   output_fits before c after f split is =
       let some : (is_none f.name && is_none f.constant) ≡ false = subst (λ (o : Option OutputField). option_map_or (λ f. is_none f.name && is_none f.constant) o false ≡ false) is (or_parts _ _ (good_columns cards none before c after split)).1 in
       let names : option_map_or (λ (f : OutputField). is_undefined cards f.name) (output_field_on c.spec) false ≡ false =
-          subst (λ (all : List SpecCard). option_map_or (λ (f : OutputField). is_undefined all f.name) (output_field_on c.spec) false ≡ false) (sym split) (or_parts _ _ (has_names cards none before c after split)).1 in
+      subst (λ (all : List SpecCard). option_map_or (λ (f : OutputField). is_undefined all f.name) (output_field_on c.spec) false ≡ false) (sym split) (or_parts _ _ (has_names cards none before c after split)).1 in
       let defined : is_undefined cards f.name ≡ false = subst (λ (o : Option OutputField). option_map_or (λ f. is_undefined cards f.name) o false ≡ false) is names in
       let inside : outside_line cards (file_by (output_file_name before) cards) f ≡ false = subst (λ (o : Option OutputField). option_map_or (outside_line cards (file_by (output_file_name before) cards)) o false ≡ false) is (inside_line before c after split) in
       let three = or_parts _ _ inside in

@@ -1,5 +1,5 @@
 -- An operation whose operands are right breaks no rule.
-use Rattle.std.proofs.Common.{◌≡◌, ℕ, Bool, true, false, not, Option, None, Some, refl, sym, ap, ◌∙◌, subst}
+use Rattle.std.proofs.Common.{◌≡◌, ℕ, Bool, true, false, Option, refl}
 use Rattle.std.proofs.lemmas.Bool.{and_from, not_from_true}
 use Rattle.std.specs.Prelude.{◌&&◌}
 use Rattle.rpg_effect.specs.Forms.{form_at, kind_of, may_write, same_kind}
