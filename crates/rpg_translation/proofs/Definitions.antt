@@ -1,0 +1,94 @@
+-- The definitions of a faultless source are those of plain fields.
+use Rattle.std.proofs.Common.{◌≡◌, ℕ, ◌+◌, ◌-◌, ◌≤◌, Bool, true, false, cond, List, ◌∷◌, ◌++◌, Option, None, Some, refl, sym, subst}
+use Rattle.std.proofs.lemmas.Bool.{ltb-false, le-leb, or_parts}
+use Rattle.std.specs.Option.{option_and_then, option_map, option_map_or}
+use Rattle.std.specs.Prelude.{◌&&◌, nat_le, is_none}
+use Rattle.rpg_cards.specs.Cards.{calculation_on, input_field_on}
+use Rattle.rpg_cards.specs.Files.{input_file_name}
+use Rattle.rpg_cards.specs.Names.{definition_by, definition_on, field_form, first_some, form_of_name, plain_form, sized_form}
+use Rattle.rpg_cards.specs.declared.names.Defined.TheVariants.{Good}
+use Rattle.rpg_cards.specs.declared.spec_card.SpecCard.{SpecCard}
+use Rattle.rpg_effect.specs.Forms.{is_array, is_plain}
+use Rattle.rpg_effect.specs.declared.form.FieldForm.{FieldForm}
+use Rattle.rpg_effect.specs.declared.form.Kind.TheVariants as kind
+use Rattle.rpg_faults.specs.Faults.{Faultless}
+use Rattle.rpg_faults.specs.Names.{bad_size_of_field, bad_size_of_result, is_other, redefines_as}
+use Rattle.rpg_faults.specs.Places.{file_by, outside_record}
+use Rattle.rpg_spec.specs.declared.calculation.CalculationSpec.{CalculationSpec}
+use Rattle.rpg_spec.specs.declared.file.FileSpec.{FileSpec}
+use Rattle.rpg_spec.specs.declared.input.InputField.{InputField}
+use Rattle.rpg_text.specs.Texts.{is_between}
+use Rattle.rpg_translation.proofs.Broken.{defines_alike, good_size, well_placed}
+use Rattle.rpg_translation.proofs.Each.{Seen, each_card}
+use Rattle.rpg_translation.proofs.Forms.{defined_here}
+use Rattle.rpg_translation.proofs.Names.{AreDefined, IsDefinition, IsForm}
+
+-- a plain field of that length
+pub record IsPlainOf (len : ℕ) (form : FieldForm) : Type 0 where
+  pub plain : is_plain form.class ≡ true
+  pub no_array : is_array form.class ≡ false
+  pub long : form.length ≡ len
+
+abbrev pub HasPlain : ℕ → Option FieldForm → Type 0
+HasPlain len o = (form : FieldForm) × (o ≡ Some form) × IsPlainOf len form
+
+text_plain : (b : Bool) (len : ℕ) → is_none (cond b (Some (plain_form kind.Text len 0)) None) ≡ false → HasPlain len (cond b (Some (plain_form kind.Text len 0)) None)
+text_plain true len e = (plain_form kind.Text len 0, refl, record { plain = refl; no_array = refl; long = refl })
+text_plain false len e = cc
+
+number_plain : (b : Bool) (len decimals : ℕ) → is_none (cond b (Some (plain_form kind.Number len decimals)) None) ≡ false → HasPlain len (cond b (Some (plain_form kind.Number len decimals)) None)
+number_plain true len decimals e = (plain_form kind.Number len decimals, refl, record { plain = refl; no_array = refl; long = refl })
+number_plain false len decimals e = cc
+
+sized_plain : (len : ℕ) (decimals : Option ℕ) → is_none (sized_form len decimals) ≡ false → HasPlain len (sized_form len decimals)
+sized_plain len None e = text_plain (is_between 1 256 len) len e
+sized_plain len (Some decimals) e = number_plain (is_between 1 15 len && nat_le decimals 9 && nat_le decimals len) len decimals e
+
+no_array_in : (len : ℕ) (o : Option FieldForm) → HasPlain len o → IsForm o
+no_array_in len o h = subst IsForm (sym h.1) (h.2.no_array)
+
+-- ---- input fields
+
+-- the columns of a field, up to the end of its file's records
+pub ordered : (file : Option FileSpec) (f : InputField) → outside_record file f ≡ false → f.from ≤ f.to
+ordered file f good = ltb-false f.to f.from (or_parts _ _ (or_parts _ _ good).0).1
+
+field_if : (b : Bool) (f : InputField) → b ≡ true → (b && is_none (cond b (sized_form (f.to + 1 - f.from) f.decimals) None)) ≡ false → HasPlain (f.to + 1 - f.from) (cond b (sized_form (f.to + 1 - f.from) f.decimals) None)
+field_if true f e good = sized_plain (f.to + 1 - f.from) f.decimals good
+field_if false f e good = cc
+
+pub field_plain : (file : Option FileSpec) (f : InputField) → outside_record file f ≡ false → bad_size_of_field f ≡ false → HasPlain (f.to + 1 - f.from) (field_form f)
+field_plain file f inside good = field_if (nat_le f.from f.to) f (le-leb f.from f.to (ordered file f inside)) good
+
+-- ---- result fields
+
+result_defined : (len : Option ℕ) (name : Option (List ℕ)) (decimals : Option ℕ) → bad_size_of_result len decimals ≡ false → IsDefinition (option_and_then (λ n. option_map (λ (x : List ℕ). (x, sized_form n decimals)) name) len)
+result_defined None name decimals good = tt
+result_defined (Some len) None decimals good = tt
+result_defined (Some len) (Some name) decimals good = no_array_in len (sized_form len decimals) (sized_plain len decimals good)
+
+-- ---- all cards
+
+defined_on_card : (file : Option FileSpec) (o : Option InputField) (p : Option CalculationSpec) → option_map_or bad_size_of_field o false ≡ false → option_map_or (outside_record file) o false ≡ false
+    → option_map_or (λ k. bad_size_of_result k.length k.decimals) p false ≡ false → IsDefinition (first_some (option_map (λ (f : InputField). (f.name, field_form f)) o) (option_and_then definition_by p))
+defined_on_card file None None size inside result = tt
+defined_on_card file None (Some k) size inside result = result_defined k.length k.result_field k.decimals result
+defined_on_card file (Some f) p size inside result = no_array_in (f.to + 1 - f.from) (field_form f) (field_plain file f inside size)
+
+module _ (cards : List SpecCard) (none : Faultless cards) where
+  -- an input field is inside the records of its file
+  pub inside_file : Seen cards (λ before c after. option_map_or (outside_record (file_by (input_file_name before) cards)) (input_field_on c.spec) false ≡ false)
+  inside_file before c after split =
+      subst (λ (all : List SpecCard). option_map_or (outside_record (file_by (input_file_name before) all)) (input_field_on c.spec) false ≡ false) (sym split)
+      (or_parts _ _ (well_placed cards none before c after split)).0
+
+  pub all_defined : AreDefined cards
+  all_defined = each_card cards (λ c. IsDefinition (definition_on c.spec)) (λ before c after split.
+      let size = or_parts _ _ (good_size cards none before c after split) in
+      defined_on_card (file_by (input_file_name before) cards) (input_field_on c.spec) (calculation_on c.spec) size.0 (inside_file before c after split) size.1)
+
+  -- a definition has the form of its name
+  pub has_form : (before : List SpecCard) (c : SpecCard) (after : List SpecCard) (name : List ℕ) (form : FieldForm) → cards ≡ before ++ c ∷ after → definition_on c.spec ≡ Some (name, Some form) → form_of_name name cards ≡ Good form
+  has_form before c after name form split is =
+      let alike : is_other form (form_of_name name before) ≡ false = subst (λ (d : Option (List ℕ × Option FieldForm)). option_map_or (λ d. redefines_as before d.0 d.1) d false ≡ false) is (defines_alike cards none before c after split) in
+      defined_here cards before c after name form split all_defined is alike

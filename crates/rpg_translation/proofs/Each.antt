@@ -1,0 +1,72 @@
+-- What holds of each element of a list, as a chain of pairs.
+use Rattle.std.proofs.Common.{◌≡◌, zero, suc, Bool, true, false, List, [], ◌∷◌, ◌++◌, map, Option, None, Some, refl, sym, ◌∙◌, subst, arith, append-nil, append_assoc}
+use Rattle.std.proofs.lemmas.Bool.{and_from, or_from}
+use Rattle.std.specs.List.{list_all, list_any}
+use Rattle.std.specs.Option.{option_map}
+use Rattle.std.specs.Prelude.{All}
+use Rattle.rpg_cards.specs.declared.spec_card.SpecCard.{SpecCard}
+use Rattle.rpg_rules.proofs.Kept.{NoneTrue}
+use Rattle.rpg_translation.specs.Tables.{with_first, only_with_first}
+
+abbrev pub Each : {X : Type 0} → (X → Type 0) → List X → Type 0
+Each P [] = Unit {0}
+Each P (x ∷ xs) = P x × Each P xs
+
+pub each_of_all : {X : Type 0} (P : X → Type 0) (xs : List X) → All P xs → Each P xs
+each_of_all P [] h = tt
+each_of_all P (x ∷ xs) h = (h zero x (omega arith), each_of_all P xs (λ k d lt. h (suc k) d (omega arith)))
+
+pub each_both : {X : Type 0} (P Q R : X → Type 0) (xs : List X) → ((x : X) → P x → Q x → R x) → Each P xs → Each Q xs → Each R xs
+each_both P Q R [] f h g = tt
+each_both P Q R (x ∷ xs) f h g = (f x h.0 g.0, each_both P Q R xs f h.1 g.1)
+
+pub each_map : {X : Type 0} (P Q : X → Type 0) (xs : List X) → ((x : X) → P x → Q x) → Each P xs → Each Q xs
+each_map P Q [] f h = tt
+each_map P Q (x ∷ xs) f h = (f x h.0, each_map P Q xs f h.1)
+
+pub each_passes : {X : Type 0} (test : X → Bool) (xs : List X) → Each (λ x. test x ≡ true) xs → list_all test xs ≡ true
+each_passes test [] h = refl
+each_passes test (x ∷ xs) h = and_from (test x) (list_all test xs) h.0 (each_passes test xs h.1)
+
+pub none_passes : {X : Type 0} (test : X → Bool) (xs : List X) → Each (λ x. test x ≡ false) xs → list_any test xs ≡ false
+none_passes test [] h = refl
+none_passes test (x ∷ xs) h = or_from (test x) (list_any test xs) h.0 (none_passes test xs h.1)
+
+-- no row is broken
+pub none_broken : {X : Type 0} (test : X → Bool) (xs : List X) → Each (λ x. test x ≡ false) xs → NoneTrue (map test xs)
+none_broken test [] h k e = cc
+none_broken test (x ∷ xs) h zero e = absurd (let no = h.0 in cc)
+none_broken test (x ∷ xs) h (suc k) e = none_broken test xs h.1 k e
+
+-- ---- rows made of cards
+
+pub each_first : {X Y : Type 0} (P : Y → Type 0) (f : X → Y) (o : Option X) (ys : List Y) → ((x : X) → o ≡ Some x → P (f x)) → Each P ys → Each P (with_first (option_map f o) ys)
+each_first P f None ys here h = h
+each_first P f (Some x) ys here h = (here x refl, h)
+
+pub only_each_first : {X Y : Type 0} (P : Y → Type 0) (f : X → Y) (o : Option X) (ys : List Y) → ((x : X) → o ≡ Some x → P (f x)) → Each P ys → Each P (only_with_first (option_map f o) ys)
+only_each_first P f None ys here h = tt
+only_each_first P f (Some x) ys here h = (here x refl, h)
+
+-- ---- cards, each seen with those before it and those behind it
+
+abbrev pub Seen : List SpecCard → (List SpecCard → SpecCard → List SpecCard → Type 0) → Type 0
+Seen cards P = (before : List SpecCard) (c : SpecCard) (after : List SpecCard) → cards ≡ before ++ c ∷ after → P before c after
+
+module _ (cards : List SpecCard) where
+  each_from : (P : SpecCard → Type 0) → Seen cards (λ before c after. P c) → (before after : List SpecCard) → cards ≡ before ++ after → Each P after
+  each_from P h before [] split = tt
+  each_from P h before (c ∷ cs) split = (h before c cs split, each_from P h (before ++ c ∷ []) cs (split ∙ sym (append_assoc before (c ∷ []) cs)))
+
+  pub each_card : (P : SpecCard → Type 0) → Seen cards (λ before c after. P c) → Each P cards
+  each_card P h = each_from P h [] cards refl
+
+  front_from : (P : List SpecCard → Type 0) → Seen cards (λ before c after. P before → P (before ++ c ∷ [])) → (done front back : List SpecCard) → cards ≡ done ++ (front ++ back) → P done → P (done ++ front)
+  front_from P step done [] back split h = subst P (sym (append-nil done)) h
+  front_from P step done (c ∷ cs) back split h =
+      subst P (append_assoc done (c ∷ []) cs)
+      (front_from P step (done ++ c ∷ []) cs back (split ∙ sym (append_assoc done (c ∷ []) (cs ++ back))) (step done c (cs ++ back) split h))
+
+  -- what holds of no cards, and goes on card by card, holds of the cards before each
+  pub front_keeps : (P : List SpecCard → Type 0) → P [] → Seen cards (λ before c after. P before → P (before ++ c ∷ [])) → (front back : List SpecCard) → cards ≡ front ++ back → P front
+  front_keeps P none step front back split = front_from P step [] front back split none
