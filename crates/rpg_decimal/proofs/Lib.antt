@@ -3,5 +3,6 @@ pub mod MoveLemmas
 mod OrderLemmas
 pub mod PlaceLemmas
 mod QuotientLemmas
+mod SumLemmas
 pub mod WholeLemmas
 pub mod ZonedLemmas

@@ -1,5 +1,6 @@
 -- Whole numbers: their signs and sizes, powers of ten, and quotients.
-use Rattle.std.proofs.Common.{◌≡◌, ℕ, zero, suc, ◌+◌, ◌-◌, ◌*◌, ◌/◌, ◌%◌, ◌^◌, ◌<◌, ◌≤◌, Bool, true, false, ℤ, pos, negsuc, neg_ℤ, ◌+ℤ◌, ◌-ℤ◌, ◌*ℤ◌, unsigned_abs, int_rem, refl, sym, ap, ◌∙◌, ap₂, subst, arith, mul_assoc, zero-mul, FitsSigned, to_z, of_z, to_z-of_z, div-lt_iff_lt-mul, le-mul_of_pos_right, mul-pos, mod-lt, div-le_self, div-one, mul-le-mul_left}
+use Rattle.std.proofs.Common.{◌≡◌, ℕ, zero, suc, ◌+◌, ◌-◌, ◌*◌, ◌/◌, ◌%◌, ◌^◌, ◌<◌, ◌≤◌, Bool, true, false, ℤ, pos, negsuc, neg_ℤ, ◌+ℤ◌, ◌-ℤ◌, ◌*ℤ◌, unsigned_abs, int_rem, refl, sym, ap, ◌∙◌, ap₂, subst, arith, mul_assoc, zero-mul, FitsSigned, to_z, of_z, to_z-of_z, div-lt_iff_lt-mul, le-mul_of_pos_right, mul-pos, mod-lt, div-le_self, div-one, mul-le-mul_left, List, [], ◌∷◌, length, get_or, ◌==◌, ◌&&◌, mod-eq_of_lt, mul-one}
+use Rattle.std.proofs.lemmas.Bool.{eqb-true, and_parts}
 use Rattle.std.proofs.Math.Nat.{pow-le-pow_right, one-le-pow, div-div-eq-div-mul, mul-div-mul_right, mod-mod_of_dvd, dvd-mul_left}
 use Rattle.std.proofs.lemmas.Nat.{mul-mod_first, pow-add}
 use Rattle.std.proofs.lemmas.Int.{ints}
@@ -57,6 +58,11 @@ sign-times (negsuc a) c t h = ap (λ z. with_sign_of z t) (times_is (negsuc a) c
 pub unsigned_abs-times : (n : ℤ) (c : ℕ) → unsigned_abs (n *ℤ pos c) ≡ unsigned_abs n * c
 unsigned_abs-times n c = ap unsigned_abs (times_is n c) ∙ unsigned_abs-with_sign n (unsigned_abs n * c)
 
+-- a number is its size under its sign
+pub sign_and_size : (n : ℤ) → with_sign_of n (unsigned_abs n) ≡ n
+sign_and_size (pos a) = refl
+sign_and_size (negsuc a) = refl
+
 -- the sign of zero does not matter
 pub sign_zero : (n m : ℤ) → with_sign_of n 0 ≡ with_sign_of m 0
 sign_zero (pos a) (pos b) = refl
@@ -79,6 +85,10 @@ rounded_is false (negsuc a) v = refl
 pub fit_is : (u : ℤ) (k : ℕ) → fit u k ≡ with_sign_of u (unsigned_abs u % 10 ^ k)
 fit_is (pos a) k = refl
 fit_is (negsuc a) k = refl
+
+-- a number that is short enough loses no digit
+pub fit_same : (n : ℤ) (k : ℕ) → unsigned_abs n < 10 ^ k → n ≡ fit n k
+fit_same n k h = sym (fit_is n k ∙ ap (with_sign_of n) (mod-eq_of_lt h) ∙ sign_and_size n)
 
 -- half adjusting adds half of the divisor
 pub half_code : (m v : ℕ) → (m + v / 2) / v ≡ (2 * m + v) / (2 * v)
@@ -139,6 +149,13 @@ aligned_up half n from to h =
     let bottom : q ≡ 1 * q = omega arith in
     rounded-times half n (10 ^ to) q (ten_pos to)
     ∙ ap (with_sign_of n) (ap₂ (rounded_size half) top bottom ∙ rounded_size-scaled half (m * p) 1 q (ten_pos from) ∙ rounded_size-one half (m * p))
+
+-- to as many decimals: the number itself
+pub aligned_same : (half : Bool) (n : ℤ) (from to : ℕ) → from ≡ to → n ≡ aligned_number half to (with_decimals n from)
+aligned_same half n from to h =
+    let none : to - from ≡ 0 = omega arith in
+    let shift : unsigned_abs n * 10 ^ (to - from) ≡ unsigned_abs n = ap (λ j. unsigned_abs n * 10 ^ j) none ∙ mul-one (unsigned_abs n) in
+    sym (aligned_up half n from to (omega arith) ∙ ap (with_sign_of n) shift ∙ sign_and_size n)
 
 -- to fewer decimals: a quotient
 pub aligned_down : (half : Bool) (n : ℤ) (from to : ℕ) → to ≤ from → aligned_number half to (with_decimals n from) ≡ rounded_quotient half n (10 ^ (from - to))
@@ -220,3 +237,17 @@ difference_fits x y hx hy small_x small_y = rw (back {z = x} hx, back {z = y} hy
 
 pub difference_below : (x y : ℤ) → mag x < 2 ^ 127 → mag y < 2 ^ 127 → unsigned_abs x < 10 ^ 33 → unsigned_abs y < 10 ^ 33 → unsigned_abs (to_z w128 (of_z w128 (to_z w128 (of_z w128 x) -ℤ to_z w128 (of_z w128 y)))) < 10 ^ 36
 difference_below x y hx hy small_x small_y = rw (difference_is x y x y hx hy small_x small_y refl refl) (omega (arith, ints))
+
+-- ---- the table of powers of ten
+
+-- each number is ten to its place, counted from k
+abbrev pub are_tens_from : ℕ → List ℕ → Bool
+are_tens_from k [] = true
+are_tens_from k (x ∷ xs) = x == 10 ^ k && are_tens_from (suc k) xs
+
+pub ten_at : (xs : List ℕ) (k i j : ℕ) → are_tens_from k xs ≡ true → i < length xs → j ≡ k + i → get_or xs i 0 ≡ 10 ^ j
+ten_at [] k i j t h e = absurd (omega arith)
+ten_at (x ∷ xs) k zero j t h e =
+    let here : k ≡ j = omega arith in
+    eqb-true x (10 ^ k) (and_parts (x == 10 ^ k) (are_tens_from (suc k) xs) t).0 ∙ ap (λ j. 10 ^ j) here
+ten_at (x ∷ xs) k (suc i) j t h e = ten_at xs (suc k) i j (and_parts (x == 10 ^ k) (are_tens_from (suc k) xs) t).1 (omega arith) (omega arith)

@@ -1,6 +1,6 @@
 //! Sums, differences and products, as a result field keeps them. That digits too many on the left are
 //! lost with no halt is this profile's rule.
-ghost use Rattle.std.specs.Prelude.{◌≡◌, ◌+◌, ◌*◌, ◌^◌, ◌<◌, ◌≤◌, pos, ◌*ℤ◌, unsigned_abs};
+ghost use Rattle.std.specs.Prelude.{◌≡◌, ◌+◌, ◌*◌, ◌^◌, ◌<◌, ◌≤◌, max, pos, ◌*ℤ◌, unsigned_abs};
 ghost use Rattle.rpg_decimal.specs.Fraction.{stored_number, plus, minus, times, with_decimals};
 ghost use Rattle.rpg_decimal.specs.Num.{value_of};
 
@@ -30,7 +30,16 @@ pub(crate) fn widened(value: i64, scale: u8) -> i128
     ensures value { result ≡ value *ℤ pos (10 ^ scale) }
     ensures bound { unsigned_abs result < 10 ^ 33 }
 {
-    i128::from(value) * power_of_ten(scale) as i128
+    i128::from(value) * i128::from(power_of_ten(scale))
+}
+
+/// The decimals of the one of two numbers that has more.
+fn more_decimals(a: Num, b: Num) -> Scale
+    ensures { result.value ≡ max a.dec b.dec }
+{
+    Scale {
+        value: a.dec.max(b.dec),
+    }
 }
 
 /// The decimals of two numbers together.
@@ -47,8 +56,9 @@ pub fn add(a: Num, b: Num, target: Target) -> i64
     ensures value { result ≡ stored_number target.half target.dec target.len (plus (value_of a) (value_of b)) }
     ensures fits { unsigned_abs result < 10 ^ target.len }
 {
-    let sum = widened(a.value, b.dec) + widened(b.value, a.dec);
-    keep(sum, both_decimals(a, b), target)
+    let scale = more_decimals(a, b);
+    let sum = widened(a.value, scale.value - a.dec) + widened(b.value, scale.value - b.dec);
+    keep(sum, scale, target)
 }
 
 /// `b` taken from `a`.
@@ -56,8 +66,9 @@ pub fn sub(a: Num, b: Num, target: Target) -> i64
     ensures value { result ≡ stored_number target.half target.dec target.len (minus (value_of a) (value_of b)) }
     ensures fits { unsigned_abs result < 10 ^ target.len }
 {
-    let difference = widened(a.value, b.dec) - widened(b.value, a.dec);
-    keep(difference, both_decimals(a, b), target)
+    let scale = more_decimals(a, b);
+    let difference = widened(a.value, scale.value - a.dec) - widened(b.value, scale.value - b.dec);
+    keep(difference, scale, target)
 }
 
 /// `a` times `b`.

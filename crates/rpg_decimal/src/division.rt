@@ -21,7 +21,7 @@ fn widened_size(value: i64, scale: u8) -> u128
     ensures value { result ≡ unsigned_abs value * 10 ^ scale }
     ensures bound { result < 10 ^ 33 }
 {
-    u128::from(value.unsigned_abs()) * power_of_ten(scale)
+    u128::from(value.unsigned_abs()) * u128::from(power_of_ten(scale))
 }
 
 /// The dividend that stands over a positive divisor: `value` with `scale` decimals more, under both signs.

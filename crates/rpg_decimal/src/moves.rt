@@ -9,7 +9,7 @@ ghost use Rattle.rpg_decimal.specs.Zoned.{number_in, zoned_text, IsFirstBad};
 ghost use Rattle.rpg_decimal.specs.Source.{text_of, moved_right, moved_left, IsFirstBadRight, IsFirstBadLeft};
 
 use crate::num::Figure;
-use crate::whole::{power_of_ten, with_sign_of};
+use crate::whole::power_of_ten;
 use crate::zoned::{BadDigit, read_zoned, write_zoned};
 
 /// What is moved: a number by its digits, or a text.
@@ -99,15 +99,15 @@ fn move_left_of_text(text: &[u8], before: Figure) -> Result<i64, BadDigit>
 }
 
 /// The digits of a number without its sign.
-fn size_of(figure: Figure) -> u128
+fn size_of(figure: Figure) -> u64
     ensures value { result ≡ unsigned_abs figure.value }
     ensures bound { result < 10 ^ 15 }
 {
-    u128::from(figure.value.unsigned_abs())
+    figure.value.unsigned_abs()
 }
 
 /// The source's last digits behind the first ones of the old number.
-fn digits_moved_right(source: Figure, before: Figure) -> u128
+fn digits_moved_right(source: Figure, before: Figure) -> u64
     ensures value { result ≡ place_value (overlay_right (digits source.len (unsigned_abs source.value)) (digits before.len (unsigned_abs before.value))) }
     ensures bound { result < 10 ^ before.len }
     ensures small { result < 10 ^ 15 }
@@ -117,7 +117,7 @@ fn digits_moved_right(source: Figure, before: Figure) -> u128
 }
 
 /// The source's first digits before the last ones of the old number.
-fn digits_moved_left(source: Figure, before: Figure) -> u128
+fn digits_moved_left(source: Figure, before: Figure) -> u64
     ensures value { result ≡ place_value (overlay_left (digits source.len (unsigned_abs source.value)) (digits before.len (unsigned_abs before.value))) }
     ensures bound { result < 10 ^ before.len }
     ensures small { result < 10 ^ 15 }
@@ -129,12 +129,12 @@ fn digits_moved_left(source: Figure, before: Figure) -> u128
 }
 
 /// The number of this size under the sign of another.
-fn under_sign_of(n: i64, size: u128) -> i64
+fn under_sign_of(n: i64, size: u64) -> i64
     requires { size < 10 ^ 15 }
     ensures value { result ≡ with_sign_of n size }
     ensures bound { unsigned_abs result ≡ size }
 {
-    with_sign_of(i128::from(n), size) as i64
+    if n < 0 { -(size as i64) } else { size as i64 }
 }
 
 /// MOVE of a number to a number: its last place is always replaced, so the sign is the source's.

@@ -16,6 +16,9 @@ const COLLATING_SEQUENCE: &[u8; 95] =
 pub fn compare(a: Num, b: Num) -> Ordering
     ensures { result ≡ fraction_cmp (value_of a) (value_of b) }
 {
+    if a.dec == b.dec {
+        return a.value.cmp(&b.value);
+    }
     widened(a.value, b.dec).cmp(&widened(b.value, a.dec))
 }
 

@@ -5,14 +5,37 @@ ghost use Rattle.rpg_decimal.specs.Fraction.{aligned_number, with_decimals};
 
 use crate::num::Scale;
 
+/// The powers of ten, lowest first.
+const POWERS_OF_TEN: [u64; 19] = [
+    1,
+    10,
+    100,
+    1_000,
+    10_000,
+    100_000,
+    1_000_000,
+    10_000_000,
+    100_000_000,
+    1_000_000_000,
+    10_000_000_000,
+    100_000_000_000,
+    1_000_000_000_000,
+    10_000_000_000_000,
+    100_000_000_000_000,
+    1_000_000_000_000_000,
+    10_000_000_000_000_000,
+    100_000_000_000_000_000,
+    1_000_000_000_000_000_000,
+];
+
 /// 10^k.
-pub(crate) fn power_of_ten(k: u8) -> u128
-    requires { k ≤ 37 }
+pub(crate) fn power_of_ten(k: u8) -> u64
+    requires { k ≤ 18 }
     ensures value { result ≡ 10 ^ k }
     ensures positive { 0 < result }
-    ensures bound { result ≤ 10 ^ 37 }
+    ensures bound { result ≤ 10 ^ 18 }
 {
-    10u128.pow(u32::from(k))
+    POWERS_OF_TEN[usize::from(k)]
 }
 
 /// The magnitude `size` under the sign of `n`.
@@ -22,6 +45,17 @@ pub(crate) fn with_sign_of(n: i128, size: u128) -> i128
     ensures bound { unsigned_abs result ≡ size }
 {
     if n < 0 { -(size as i128) } else { size as i128 }
+}
+
+/// `size` / `divisor`, in 64 bits where both fit them.
+pub(crate) fn quotient(size: u128, divisor: u128) -> u128
+    requires { 0 < divisor }
+    ensures { result ≡ size / divisor }
+{
+    match (u64::try_from(size), u64::try_from(divisor)) {
+        (Ok(size), Ok(divisor)) => u128::from(size / divisor),
+        _ => size / divisor,
+    }
 }
 
 /// `n` / `divisor` as a whole number: half adjusted, or cut toward zero.
@@ -34,9 +68,9 @@ pub(crate) fn rounded_quotient(n: i128, divisor: u128, half: bool) -> i128
 {
     let size = n.unsigned_abs();
     if half {
-        with_sign_of(n, (size + divisor / 2) / divisor)
+        with_sign_of(n, quotient(size + divisor / 2, divisor))
     } else {
-        with_sign_of(n, size / divisor)
+        with_sign_of(n, quotient(size, divisor))
     }
 }
 
@@ -47,7 +81,12 @@ pub fn fit(n: i128, len: u8) -> i64
     ensures value { result ≡ fit n len }
     ensures fits { unsigned_abs result < 10 ^ len }
 {
-    with_sign_of(n, n.unsigned_abs() % power_of_ten(len)) as i64
+    let limit = power_of_ten(len);
+    match i64::try_from(n) {
+        Ok(n) if n.unsigned_abs() < limit => n,
+        Ok(n) => n % limit as i64,
+        Err(_) => (n % i128::from(limit)) as i64,
+    }
 }
 
 /// The number `n` of `from` decimals, said with `to` decimals: digits too many on the right are cut
@@ -57,8 +96,11 @@ pub fn align(n: i128, from: Scale, to: Scale, half: bool) -> i128
     requires result_in { unsigned_abs (aligned_number half to.value (with_decimals n from.value)) < 10 ^ 37 }
     ensures { result ≡ aligned_number half to.value (with_decimals n from.value) }
 {
-    if from.value <= to.value {
-        return with_sign_of(n, n.unsigned_abs() * power_of_ten(to.value - from.value));
+    if from.value == to.value {
+        return n;
     }
-    rounded_quotient(n, power_of_ten(from.value - to.value), half)
+    if from.value < to.value {
+        return n * i128::from(power_of_ten(to.value - from.value));
+    }
+    rounded_quotient(n, u128::from(power_of_ten(from.value - to.value)), half)
 }

@@ -1,14 +1,13 @@
 use Rattle.std.proofs.Common.{◌≡◌, ℕ, ◌<◌, ◌≤◌, ◌^◌, ℤ, pos, ◌*ℤ◌, unsigned_abs, arith, ap, ap₂, ◌∙◌, to_z, of_z, to_z-of_z, FitsSigned}
 use Rattle.std.specs.Int.{w128}
-use Rattle.std.proofs.lemmas.Int.{to_z_pos}
 use Rattle.rpg_decimal.proofs.WholeLemmas.{back, mag_below, shifted-below, unsigned_abs-times}
 use Rattle.rpg_decimal.proofs.arithmetic.widened.Goals as goal
 
 -- the product as the code writes it
-product_is : (c : goal.After-power_of_ten) → to_z w128 (of_z w128 c.from.result) *ℤ to_z w128 c.power_of_ten.result ≡ c.args.value *ℤ pos (10 ^ c.args.scale)
+product_is : (c : goal.After-from-2) → to_z w128 (of_z w128 c.from.result) *ℤ to_z w128 (of_z w128 c.from-2.result) ≡ c.args.value *ℤ pos (10 ^ c.args.scale)
 product_is c =
     ap₂ (◌*ℤ◌) (back c.from.type_inv ∙ c.from.ensures ∙ to_z-of_z c.ranges.value)
-    (to_z_pos w128 c.power_of_ten.result (omega arith) ∙ ap pos c.power_of_ten.ensures.value)
+    (back c.from-2.type_inv ∙ c.from-2.ensures ∙ ap pos c.power_of_ten.ensures.value)
 
 below : (n : ℤ) (k : ℕ) → unsigned_abs n < 10 ^ 15 → k ≤ 18 → unsigned_abs (n *ℤ pos (10 ^ k)) < 10 ^ 33
 below n k h d = rw (unsigned_abs-times n (10 ^ k)) (shifted-below (unsigned_abs n) k h d)
