@@ -15,6 +15,7 @@ use crate::run::run;
 use rpg_cycle::Job;
 use rpg_files::{Counted, RecordReader, RecordRoom};
 use rpg_object::decode;
+use rpg_store::{ListedStore, first_values_fit};
 use rpg_verify::{Verified, verify};
 use std::alloc::Global;
 use std::io::{Read, Write};
@@ -74,7 +75,9 @@ pub fn execute<R: Read, W1: Write, W2: Write>(
     let verified = verified(alloc, object)?;
     let program = verified.program();
     let limit = program.rows().record_length;
-    let mut job = Job::start(alloc, &verified, date)?;
+    first_values_fit(program);
+    let store = ListedStore::new(alloc, program)?;
+    let mut job = Job::start_in(alloc, &verified, date, store)?;
     let room = RecordRoom::new(alloc, limit)?;
     let mut records = RecordReader::new(input, room);
     let report = run(&mut job, &mut records, print, disk, verified.bound());
