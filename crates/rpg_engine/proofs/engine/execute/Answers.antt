@@ -15,11 +15,6 @@ returns-in_err-job-clause-early g c =
     let e = err_from_is_err_and c.from_residual-in_err-job.result c.from_residual-in_err-job.ensures.1 in
     rw (e.1, e.2) (λ p day job. not_started _ _ _ _ p day)
 
-pub returns-in_err-store-clause-early : goal.returns-in_err-store-clause-early
-returns-in_err-store-clause-early g c =
-    let e = err_from_is_err_and c.from_residual-in_err-store.result c.from_residual-in_err-store.ensures.1 in
-    rw (e.1, e.2) (λ p day job. no_room _ _ _ p day)
-
 pub returns-in_err-room-clause-early : goal.returns-in_err-room-clause-early
 returns-in_err-room-clause-early g c =
     let e = err_from_is_err_and c.from_residual-in_err-room.result c.from_residual-in_err-room.ensures.1 in
