@@ -1,12 +1,13 @@
 -- The bytes of a level, field by field.
 use Rattle.std.proofs.Common.{◌≡◌, ℕ, ◌≤◌, ◌<◌, ◌+◌, ◌-◌, zero, suc, Bool, true, false, cond, ◌&&◌, eqb, eqb-true, ne_eqb, List, [], ◌∷◌, length, get_or, drop, Option, None, Some, refl, sym, ap, ◌∙◌, arith, add-one}
 use Rattle.std.proofs.Math.ListN.{set}
-use Rattle.std.proofs.lemmas.List.{get_or-set_other, get_or-map, map-set, drop_more}
+use Rattle.std.proofs.lemmas.List.{get_or-set_other, get_or-map, map-set, set-get_or, drop_more}
 use Rattle.rpg_effect.specs.declared.input.ControlField.{ControlField}
 use Rattle.rpg_cycle.specs.Earlier.{or_before}
 use Rattle.rpg_cycle.specs.Fronts.{rest_behind}
 use Rattle.rpg_cycle.specs.Keeping.{renewed, seen_bytes, seen_levels}
 use Rattle.rpg_cycle.specs.Levels.{same_bytes, joined, at_level, bytes_of, differs, highest_broken}
+use Rattle.rpg_cycle.specs.Selecting.{broken_in}
 use Rattle.rpg_cycle.specs.declared.levels.LastBytes.{LastBytes}
 use Rattle.rpg_cycle.proofs.Fronts.{same_rest, same_behind}
 
@@ -42,6 +43,18 @@ same_bytes-true (x ∷ xs) [] h = cc
 same_bytes-true (x ∷ xs) (y ∷ ys) h =
     let t = both (eqb x y) (same_bytes xs ys) h in
     ap (λ z. z ∷ xs) (eqb-true x y t.0) ∙ ap (λ zs. y ∷ zs) (same_bytes-true xs ys t.1)
+
+-- a type with no control fields leaves the levels as they were
+pub renewed_none : (fs : List ControlField) (text : List ℕ) (n : ℕ) (xs : List (Option (List ℕ))) → fs ≡ [] → xs ≡ renewed fs text n xs
+renewed_none fs text zero xs h = refl
+renewed_none fs text (suc n) xs h =
+    sym (set-get_or xs n None)
+    ∙ ap (λ (ys : List (Option (List ℕ))). set ys n (get_or xs n None)) (renewed_none fs text n xs h)
+    ∙ ap (λ (gs : List ControlField). set (renewed fs text n xs) n (or_before (get_or xs n None) (bytes_of gs text (n + 1)))) (sym h)
+
+-- and breaks none
+pub broken_none : (fs : List ControlField) (text : List ℕ) (xs : List (Option (List ℕ))) → fs ≡ [] → 0 ≡ broken_in fs text xs
+broken_none fs text xs h = ap (λ (gs : List ControlField). broken_in gs text xs) (sym h)
 
 -- levels from the n-th on are as they were
 pub renewed_beyond : (fs : List ControlField) (text : List ℕ) (n k : ℕ) (xs : List (Option (List ℕ))) → n ≤ k → get_or (renewed fs text n xs) k None ≡ get_or xs k None

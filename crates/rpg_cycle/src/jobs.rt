@@ -201,4 +201,18 @@ impl<'a, S: Store + Drop> Job<'a, S> {
     {
         self.machine.take_output()
     }
+    /// What was put out since it was taken or dropped last.
+    pub fn output(&self) -> &Output
+        ensures print { result.now.print.items ≡ self.now.output.print }
+        ensures disk { result.now.disk.items ≡ self.now.output.disk }
+    {
+        self.machine.pending_output()
+    }
+
+    /// Drops what was put out, and keeps its room, so that the next cycle allocates nothing for it.
+    pub fn clear_output(&mut self)
+        ensures { self.new ≡ of.taken self.old }
+    {
+        self.machine.clear_output();
+    }
 }

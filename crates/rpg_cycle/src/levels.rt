@@ -195,6 +195,9 @@ pub(crate) fn compare(
     ensures low { IfOk result (λ n. n ≤ 9) }
     ensures kept { OnOk result (seen_levels levels.new ≡ renewed fields.now text.now 9 (seen_levels levels.old)) }
 {
+    if fields.is_empty() {
+        return Ok(0);
+    }
     let mut broken = 0;
     for i in 0..9 {
         let is_broken = renew_if_there(&mut levels[i], fields, text, i as u8 + 1)?;

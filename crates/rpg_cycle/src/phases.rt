@@ -165,7 +165,7 @@ fn is_bypassed<S: Store + Drop>(
     ensures { result ≡ spec.is_bypassed program.now has_any has_control machine.now.config }
 {
     !machine.indicator(LAST_RECORD)
-        && (!has_any || (has_control_fields(types_of(program)) && !has_control))
+        && (!has_any || (!has_control && has_control_fields(types_of(program))))
 }
 
 /// Total calculations and total lines.

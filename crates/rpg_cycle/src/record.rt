@@ -14,10 +14,21 @@ pub(crate) fn is_good(program: &Verified, text: &[u8]) -> bool
     text.len() <= record_length(program) && are_characters(text)
 }
 
+fn is_character(byte: u8) -> bool
+    ensures { result ≡ spec.is_character byte }
+{
+    0x20 <= byte && byte <= 0x7E
+}
+
+/// Whether all are characters. No byte ends the loop early, so that many are tested at once.
 fn are_characters(text: &[u8]) -> bool
     ensures { result ≡ list_all spec.is_character text.now }
 {
-    text.iter().all(|c| 0x20 <= *c && *c <= 0x7E)
+    let mut are_all = true;
+    for byte in text {
+        are_all = is_character(*byte) & are_all;
+    }
+    are_all
 }
 
 /// The record, filled with blanks to the length of the program's records, in the place of another.

@@ -13,14 +13,17 @@ ghost use Rattle.rpg_engine.specs.Streaming.{TakesCycle, TakesNone, stage_of};
 use crate::fault::RunFault;
 use rpg_cycle::{CycleEnd, Job, JobEnd};
 use rpg_files::{Next, RecordReader};
-use rpg_store::FlatStore;
+use rpg_store::Store;
 use std::io::Read;
 
 /// What a bad record is to a cycle: one that no program can take.
 const BAD_RECORD: &[u8] = &[0];
 
 /// Does a cycle of a job that goes on, and answers how the job ended, if it did.
-fn cycle_with(job: &mut Job<'_, FlatStore>, next: Option<&[u8]>) -> Result<Option<JobEnd>, RunFault>
+fn cycle_with<S: Store + Drop>(
+    job: &mut Job<'_, S>,
+    next: Option<&[u8]>,
+) -> Result<Option<JobEnd>, RunFault>
     requires { is_going job.old.stage ≡ true }
     ensures cycle { IfOk result (λ _. Cycles job.old (option_map (λ t. t.now) next.entry) job.new) }
     ensures told { IfOk result (λ e. job.new.stage ≡ stage_of e) }
@@ -36,8 +39,8 @@ fn cycle_with(job: &mut Job<'_, FlatStore>, next: Option<&[u8]>) -> Result<Optio
 }
 
 /// Does the next cycle, and answers how the job ended, if it did. A record is read where the cycle needs one.
-pub(crate) fn next_cycle<R: Read>(
-    job: &mut Job<'_, FlatStore>,
+pub(crate) fn next_cycle<S: Store + Drop, R: Read>(
+    job: &mut Job<'_, S>,
     records: &mut RecordReader<'_, R>,
 ) -> Result<Option<JobEnd>, RunFault>
     requires faults { faults_of (source_of records.old) < 2 ^ 64 - 1 }

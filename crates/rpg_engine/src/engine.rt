@@ -1,6 +1,8 @@
 //! The engine: from object bytes and input bytes to the report and the output bytes.
 
-ghost use Rattle.std.specs.Prelude.{◌≡◌, ℤ, ◌-◌, ◌^◌, ◌<◌, IfErr, IfOk};
+ghost use Rattle.std.specs.Prelude.{◌≡◌, ℤ, ◌-◌, ◌^◌, ◌<◌, IfErr, IfOk, IsErrOf, None};
+ghost use Rattle.rpg_cycle.specs.Job.{Starts, first_fields};
+ghost use Rattle.rpg_cycle.specs.Starting.{date_in};
 ghost use Rattle.rpg_files.specs.Counting.{device_of, faults_of};
 ghost use Rattle.rpg_program.specs.Object.{Object};
 ghost use Rattle.rpg_rules.specs.Accepted.{IsAccepted};
@@ -12,9 +14,10 @@ ghost use Rattle.rpg_engine.specs.Reporting.{Reports, SendsParts};
 use crate::fault::RunFault;
 use crate::report::Report;
 use crate::run::run;
-use rpg_cycle::Job;
+use rpg_cycle::{Job, StartFault};
 use rpg_files::{Counted, RecordReader, RecordRoom};
 use rpg_object::decode;
+use rpg_store::{ListedStore, first_values_fit};
 use rpg_verify::{Verified, verify};
 use std::alloc::Global;
 use std::io::{Read, Write};
@@ -31,6 +34,20 @@ fn verified(alloc: Global, object: &[u8]) -> Result<Verified, RunFault>
         Ok(verified) => Ok(verified),
         Err((_program, fault)) => Err(fault.into()),
     }
+}
+
+/// A job at its start, over the store that lists its values.
+fn first_job<'a>(
+    alloc: Global,
+    program: &'a Verified,
+    date: &[u8],
+) -> Result<Job<'a, ListedStore>, StartFault>
+    ensures start { IfOk result (λ j. Starts program.now date.now (first_fields program.now) j) }
+    ensures date { IsErrOf result StartFault.D1 → date_in date.now ≡ None }
+{
+    first_values_fit(program.program());
+    let store = ListedStore::new(alloc, program.program())?;
+    Job::start_in(alloc, program, date, store)
 }
 
 /// Runs an object program over the records of the input, on a date of six digits, and sends what it prints and what it writes
@@ -74,7 +91,7 @@ pub fn execute<R: Read, W1: Write, W2: Write>(
     let verified = verified(alloc, object)?;
     let program = verified.program();
     let limit = program.rows().record_length;
-    let mut job = Job::start(alloc, &verified, date)?;
+    let mut job = first_job(alloc, &verified, date)?;
     let room = RecordRoom::new(alloc, limit)?;
     let mut records = RecordReader::new(input, room);
     let report = run(&mut job, &mut records, print, disk, verified.bound());

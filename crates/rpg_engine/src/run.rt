@@ -17,12 +17,12 @@ use crate::report::Report;
 use crate::sending::{Sent, send_output};
 use rpg_cycle::Job;
 use rpg_files::{Counted, RecordReader};
-use rpg_store::FlatStore;
+use rpg_store::Store;
 use std::io::{Read, Write};
 
 /// Does the cycles of a job that hasn't begun, up to the one that ends it, and sends the output of each.
-pub(crate) fn run<R: Read, W1: Write, W2: Write>(
-    job: &mut Job<'_, FlatStore>,
+pub(crate) fn run<S: Store + Drop, R: Read, W1: Write, W2: Write>(
+    job: &mut Job<'_, S>,
     records: &mut RecordReader<'_, R>,
     print: &mut Counted<W1>,
     disk: &mut Counted<W2>,
@@ -56,7 +56,8 @@ pub(crate) fn run<R: Read, W1: Write, W2: Write>(
         let ended = next_cycle(job, records)?;
         cycles += 1;
         most = most.max(job.steps());
-        send_output(print, disk, &job.take_output(), &mut sent)?;
+        send_output(print, disk, job.output(), &mut sent)?;
+        job.clear_output();
         if let Some(ending) = ended {
             return Ok(Report {
                 ending,

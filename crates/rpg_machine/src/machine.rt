@@ -254,4 +254,21 @@ impl<'a, S: Store + Drop> Machine<'a, S> {
         let disk = std::mem::replace(&mut output.disk, Vec::new(self.alloc));
         Output { print, disk }
     }
+    /// The bytes that were put out since they were taken or dropped last.
+    pub fn pending_output(&self) -> &Output
+        ensures print { result.now.print.items ≡ self.now.output.print }
+        ensures disk { result.now.disk.items ≡ self.now.output.disk }
+    {
+        &self.state.writer.output
+    }
+
+    /// Drops those bytes, and keeps their room.
+    pub fn clear_output(&mut self)
+        ensures rest { self.new ≡ of.taken self.old }
+        ensures ready { IsReady self.old → IsReady self.new }
+    {
+        let output = &mut self.state.writer.output;
+        output.print.clear();
+        output.disk.clear();
+    }
 }

@@ -2,14 +2,14 @@
 ghost use Rattle.std.specs.Prelude.{◌≡◌, ℕ, ◌≤◌, ◌++◌, List, length, map as along, IfOk, OnOk, Some};
 ghost use Rattle.std.specs.Borrow.{Lends, sem, Array, u8 as byte};
 ghost use Rattle.std.specs.FinMap as map;
-ghost use Rattle.rpg_effect.specs.Values.{Text, held};
+ghost use Rattle.rpg_effect.specs.Values.{Number, Text, held};
 ghost use Rattle.rpg_effect.specs.contracts.value.Value.{the_row as value_row};
 ghost use Rattle.rpg_program.specs.Object.{Object};
 ghost use Rattle.rpg_store.specs.Characters.{with_characters};
 ghost use Rattle.rpg_store.specs.First.{first_contents, first_currents, joined};
 ghost use Rattle.rpg_store.specs.Listed.{contents_of, with_text};
 ghost use Rattle.rpg_store.specs.Slots.{currents, forms_of};
-ghost use Rattle.rpg_store.specs.Store.{IsText};
+ghost use Rattle.rpg_store.specs.Store.{IsNumber, IsText};
 
 use crate::slot::{Slot, place, slots_of};
 use crate::store::Store;
@@ -96,6 +96,17 @@ fn characters_mut(value: &mut Value) -> &mut [u8]
     }
 }
 
+/// Puts a number in the place of another.
+fn put_number(value: &mut Value, n: i64)
+    requires { IsNumber (Some (held value.old)) }
+    ensures { held value.new ≡ Number n }
+{
+    match value {
+        Value::Number(there) => *there = n,
+        Value::Text(_) => unreachable!(),
+    }
+}
+
 impl Store for ListedStore {
     ghost forms = { λ s. forms_of s.slots };
 
@@ -114,7 +125,7 @@ impl Store for ListedStore {
 
     fn set_number(&mut self, field: u16, position: u16, n: i64) {
         let at = place(&self.slots, field, position);
-        self.list[at] = Value::Number(n);
+        put_number(&mut self.list[at], n);
     }
 
     fn text(&self, field: u16, position: u16) -> &[u8] {

@@ -51,7 +51,7 @@ pub returns-in_err-send_output-clause-early : goal.returns-in_err-send_output-cl
 returns-in_err-send_output-clause-early g c =
     let e = err_from_is_err_and c.from_residual-in_err-send_output.result c.from_residual-in_err-send_output.ensures.1 in
     rw (e.1, e.2) (stopped_sending g.R.Read.remaining c.args.job.now c.cycles.job c.next_cycle.new.job _ c.cycles.records c.next_cycle.new.records c.cycles.cycles c.cycles.most _ _ _ _ _ _ c.cycles.sent.print c.cycles.sent.disk _
-    c.cycles.invariant.streams c.in_ok-ended.ensures.cycle (rw (c.take_output.ensures.print, c.take_output.ensures.disk) at c.in_err-send_output.ensures.some))
+    c.cycles.invariant.streams c.in_ok-ended.ensures.cycle (rw (c.output.ensures.print, c.output.ensures.disk) at c.in_err-send_output.ensures.some))
 
 pub returns-in-Some-clause-report : goal.returns-in-Some-clause-report
 returns-in-Some-clause-report g c =
@@ -61,7 +61,7 @@ returns-in-Some-clause-report g c =
     let most = c.max-most.ensures ∙ ap (max c.cycles.most) c.steps.ensures in
     stream_reports g.R.Read.remaining c.args.job.now c.cycles.job c.next_cycle.new.job _ c.cycles.records c.next_cycle.new.records c.cycles.cycles c.cycles.most c.max-most.result _ _ _ _ _ _ c.cycles.sent.print c.cycles.sent.disk c.args.bound c.in-Some.ending
     streams c.in_ok-ended.ensures.cycle (c.in_ok-ended.ensures.told ∙ ap stage_of c.in-Some.is) most
-    (rw c.take_output.ensures.print at c.in_ok-send_output.ensures.printed) (rw c.take_output.ensures.disk at c.in_ok-send_output.ensures.stored) c.requires.bound (omega (arith, few, most, c.requires.bound))
+    (rw c.output.ensures.print at c.in_ok-send_output.ensures.printed) (rw c.output.ensures.disk at c.in_ok-send_output.ensures.stored) c.requires.bound (omega (arith, few, most, c.requires.bound))
 
 pub cycles-preserved : goal.cycles-preserved
 cycles-preserved g c =
@@ -72,19 +72,19 @@ cycles-preserved g c =
     streams c.in_ok-ended.ensures.cycle c.cycles.invariant.bounded c.in_ok-ended.ensures.bound in
     let on = has_gone_on g.R.Read.remaining c.cycles.job c.next_cycle.new.job c.cycles.records c.next_cycle.new.records streams.earlier (end_of streams.out.lines) streams.left streams.last c.in_ok-ended.ensures.cycle stage in
     record {
-      streams = rw c.take_output.ensures.rest (stream_on g.R.Read.remaining c.args.job.now c.cycles.job c.next_cycle.new.job _ c.cycles.records c.next_cycle.new.records c.cycles.cycles c.cycles.most c.max-most.result
+      streams = rw c.clear_output.ensures (stream_on g.R.Read.remaining c.args.job.now c.cycles.job c.next_cycle.new.job _ c.cycles.records c.next_cycle.new.records c.cycles.cycles c.cycles.most c.max-most.result
           _ _ _ _ _ _ c.cycles.sent.print c.cycles.sent.disk c.send_output.new.sent.print c.send_output.new.sent.disk
           streams c.in_ok-ended.ensures.cycle stage most
-          (rw c.take_output.ensures.print at c.in_ok-send_output.ensures.printed) (rw c.take_output.ensures.disk at c.in_ok-send_output.ensures.stored)
-          (rw c.take_output.ensures.print at c.in_ok-send_output.ensures.sent_print) (rw c.take_output.ensures.disk at c.in_ok-send_output.ensures.sent_disk));
-      going = ap (λ (j : AtWork). is_going j.stage) c.take_output.ensures.rest ∙ ap is_going stage;
+          (rw c.output.ensures.print at c.in_ok-send_output.ensures.printed) (rw c.output.ensures.disk at c.in_ok-send_output.ensures.stored)
+          (rw c.output.ensures.print at c.in_ok-send_output.ensures.sent_print) (rw c.output.ensures.disk at c.in_ok-send_output.ensures.sent_disk));
+      going = ap (λ (j : AtWork). is_going j.stage) c.clear_output.ensures ∙ ap is_going stage;
       behind_record = on.still;
-      limit = on.limit ∙ c.cycles.invariant.limit ∙ sym (ap (λ (j : AtWork). j.program.record_length) c.take_output.ensures.rest ∙ ap (λ p. p.record_length) on.program);
+      limit = on.limit ∙ c.cycles.invariant.limit ∙ sym (ap (λ (j : AtWork). j.program.record_length) c.clear_output.ensures ∙ ap (λ p. p.record_length) on.program);
       same_reader = c.in_ok-ended.ensures.same_reader ∙ c.cycles.invariant.same_reader;
       count = omega (arith, on.count, c.cycles.invariant.count);
       few = omega (arith, on.count, on.few);
-      few_printed = omega (arith, c.in_ok-send_output.ensures.sent_print, c.take_output.result.print.ok.0, c.cycles.invariant.few_printed);
-      few_stored = omega (arith, c.in_ok-send_output.ensures.sent_disk, c.take_output.result.disk.ok.0, c.cycles.invariant.few_stored);
+      few_printed = omega (arith, c.in_ok-send_output.ensures.sent_print, c.output.result.now.print.ok.0, c.cycles.invariant.few_printed);
+      few_stored = omega (arith, c.in_ok-send_output.ensures.sent_disk, c.output.result.now.disk.ok.0, c.cycles.invariant.few_stored);
       bounded = omega (arith, few, most);
       input = c.in_ok-ended.ensures.faults ∙ c.cycles.invariant.input;
       print = c.in_ok-send_output.ensures.faults.0 ∙ c.cycles.invariant.print;

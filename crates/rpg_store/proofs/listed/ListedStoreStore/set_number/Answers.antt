@@ -1,14 +1,13 @@
-use Rattle.std.proofs.Common.{◌≡◌, List, sym, ap, ◌∙◌, subst, arith}
+use Rattle.std.proofs.Common.{◌≡◌, List, Some, sym, ap, ◌∙◌, subst, arith}
 use Rattle.std.proofs.Math.Facts.{to_z-of_z}
-use mir.Syntax.{w64}
-use mir.Val.{to_z, of_z}
 use Rattle.std.specs.FinMap as maps
-use Rattle.rpg_effect.specs.Values.{Number}
+use Rattle.rpg_effect.specs.Values.{Number, Value, held}
 use Rattle.rpg_store.specs.Contents.{IsEntry}
 use Rattle.rpg_store.specs.Listed.{Listed, contents_of}
+use Rattle.rpg_store.specs.Store.{IsNumber}
 use Rattle.rpg_store.specs.Slots.{currents, forms_of, spot}
 use Rattle.rpg_store.specs.declared.slot.Slot.{Slot}
-use Rattle.rpg_store.proofs.Listing.{number_there, of_store, put_there}
+use Rattle.rpg_store.proofs.Listing.{number_there, of_store, put_there, read_there}
 use Rattle.rpg_store.proofs.listed.ListedStoreStore.set_number.Goals as goal
 
 pub place-at-requires : goal.place-at-requires
@@ -24,13 +23,22 @@ index_mut-requires c =
     let p : c.place-at.result ≡ spot c.self.inside.slots.items (c.args.field, c.args.position) = c.place-at.ensures ∙ ap (λ slots. spot slots (c.args.field, c.args.position)) c.deref.ensures.value in
     omega (arith, a.inside)
 
+pub put_number-requires : goal.put_number-requires
+put_number-requires c =
+    let t = number_there _ c.requires.there in
+    let a = of_store c.self.inside.slots.items c.self.inside.list.items c.args.self.now c.args.field c.args.position _ c.self.view_is c.self.invariant t.1 in
+    let p : c.place-at.result ≡ spot c.self.inside.slots.items (c.args.field, c.args.position) = c.place-at.ensures ∙ ap (λ slots. spot slots (c.args.field, c.args.position)) c.deref.ensures.value in
+    let r = read_there c.self.inside.slots.items c.self.inside.list.items c.args.field c.args.position _ c.place-at.result c.index_mut.result.now a p c.index_mut.ensures.value in
+    subst (λ (v : Value). IsNumber (Some v)) (sym r) tt
+
 pub returns-clause-contents : goal.returns-clause-contents
 returns-clause-contents c =
     let t = number_there _ c.requires.there in
     let a = of_store c.self.inside.slots.items c.self.inside.list.items c.args.self.now c.args.field c.args.position _ c.self.view_is c.self.invariant t.1 in
     let p : c.place-at.result ≡ spot c.self.inside.slots.items (c.args.field, c.args.position) = c.place-at.ensures ∙ ap (λ slots. spot slots (c.args.field, c.args.position)) c.deref.ensures.value in
     put_there c.self.inside.slots.items c.self.inside.list.items c.args.field c.args.position _ c.place-at.result _ c.self.invariant a p
-    ∙ ap (λ (s : Listed). maps.insert (contents_of s) (c.args.field, c.args.position) (Number (to_z w64 (of_z w64 c.args.n)))) c.self.view_is
+    ∙ ap (λ (s : Listed). maps.insert (contents_of s) (c.args.field, c.args.position) (held c.put_number.new.value)) c.self.view_is
+    ∙ ap (λ v. maps.insert (contents_of c.args.self.now) (c.args.field, c.args.position) v) c.put_number.ensures
     ∙ ap (λ n. maps.insert (contents_of c.args.self.now) (c.args.field, c.args.position) (Number n)) (to_z-of_z c.ranges.n)
 
 pub returns-clause-currents : goal.returns-clause-currents
