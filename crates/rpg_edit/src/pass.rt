@@ -1,0 +1,98 @@
+//! Numbers written at their marks, leading zeros suppressed.
+//!
+//! A number is written from its last mark to the first: what shows at a mark depends on the digits in front of those that follow it,
+//! and these are what is left of the number once it is divided by ten for each digit written.
+
+ghost use Rattle.std.specs.Prelude.{◌≡◌, ◌+◌, ◌^◌, ◌<◌, ◌≤◌, [], ◌∷◌, length, replicate, unsigned_abs};
+ghost use Rattle.std.specs.Int.{is_negative};
+ghost use Rattle.rpg_edit.specs.Edited.{character};
+ghost use Rattle.rpg_edit.specs.Written.{Writes};
+
+use crate::mark::Mark;
+use crate::suppression::{Number, Pass, Suppression};
+
+impl Pass {
+    /// A pass over a text that ends at this place.
+    pub(crate) fn new(n: i64, suppression: Suppression, end: usize) -> Pass
+        ensures negative { result.number.negative ≡ is_negative n }
+        ensures size { result.number.size ≡ unsigned_abs n }
+        ensures suppression { result.suppression ≡ suppression }
+        ensures start { result.start ≡ end }
+        ensures after { result.after ≡ 0 }
+    {
+        Pass {
+            number: Number {
+                negative: n < 0,
+                size: n.unsigned_abs(),
+            },
+            suppression,
+            start: end,
+            after: 0,
+            rest: n.unsigned_abs(),
+        }
+    }
+
+    /// What stands at a mark that the digits written so far follow.
+    fn character(&self, mark: Mark) -> u8
+        ensures { result ≡ character self.now.number.negative self.now.number.size
+            self.now.suppression.kept self.now.suppression.fill mark self.now.after }
+    {
+        let kept = usize::from(self.suppression.kept);
+        match mark {
+            Mark::Digit if self.rest != 0 || self.after < kept => b'0' + (self.rest % 10) as u8,
+            Mark::Insert(character) if self.rest != 0 || self.after <= kept => character,
+            Mark::Digit | Mark::Insert(_) => self.suppression.fill,
+            Mark::Always(character) => character,
+            Mark::Sign(character) if self.number.negative => character,
+            Mark::Sign(_) => b' ',
+        }
+    }
+
+    /// Goes on in front of a digit.
+    fn pass_digit(&mut self)
+        requires { self.old.after + 1 + self.old.start < 2 ^ 64 }
+        ensures after { self.new.after ≡ self.old.after + 1 }
+        ensures start { self.new.start ≡ self.old.start }
+        ensures number { self.new.number ≡ self.old.number }
+        ensures suppression { self.new.suppression ≡ self.old.suppression }
+    {
+        self.rest /= 10;
+        self.after += 1;
+    }
+
+    /// Writes what stands at the next mark.
+    pub(crate) fn put(&mut self, mark: Mark, out: &mut [u8])
+        requires room { 1 ≤ self.old.start }
+        requires within { self.old.start ≤ length out.old }
+        ensures { Writes (mark ∷ []) self.old out.old self.new out.new }
+    {
+        self.start -= 1;
+        out[self.start] = self.character(mark);
+        if mark.is_place() {
+            self.pass_digit();
+        }
+    }
+
+    pub(crate) fn put_digits(&mut self, count: u8, out: &mut [u8])
+        requires room { count ≤ self.old.start }
+        requires within { self.old.start ≤ length out.old }
+        ensures { Writes (replicate count Mark.Digit) self.old out.old self.new out.new }
+    {
+        for _ in 0..count {
+            self.put(Mark::Digit, out);
+        }
+    }
+
+    /// Writes what stands at all marks.
+    pub(crate) fn put_all(&mut self, marks: &[Mark], out: &mut [u8])
+        requires room { length marks.now ≤ self.old.start }
+        requires within { self.old.start ≤ length out.old }
+        ensures { Writes marks.now self.old out.old self.new out.new }
+    {
+        let mut left = marks.len();
+        while left > 0 {
+            left -= 1;
+            self.put(marks[left], out);
+        }
+    }
+}
