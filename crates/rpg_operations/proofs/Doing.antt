@@ -14,7 +14,8 @@ use Rattle.rpg_effect.specs.declared.operation.Side.{Side}
 use Rattle.rpg_effect.specs.declared.form.Kind.{Kind}
 use Rattle.rpg_effect.specs.declared.row.Shape.{Shape}
 use Rattle.rpg_effect.specs.declared.row.Shape.TheVariants as shapes
-use Rattle.rpg_operations.specs.Good.{AreEntries, IsEntry, IsValue, reads_index}
+use Rattle.rpg_operations.specs.Good.{AreEntries, AreResolved, IsEntry, IsResolved, IsValue, entry_in, reads_index}
+use Rattle.rpg_operations.specs.declared.resolved.Resolved.{Resolved}
 use Rattle.rpg_operations.proofs.Rights.{reads_shape}
 use Rattle.rpg_effect.specs.Forms.{form_at}
 
@@ -69,3 +70,49 @@ module _ (forms : List FieldForm) where
   unfolding row_of holds_positions
   look_positions a b None s h = h.positions
   look_positions a b (Some r) s h = h.positions
+
+  -- ---- the same of operands with the forms of their fields
+
+  abbrev pub HasNumber : Resolved → Type 0
+  HasNumber r = IsResolved forms kinds.Number r
+
+  abbrev pub IsAlike : Resolved → Resolved → Type 0
+  IsAlike a r = IsResolved forms (kind_of (form_at forms a.entry.field)) r
+
+  pub compute_resolved : (f : Operator) (half : Bool) (a b r : Resolved) (s : Shows) → AreResolved forms (Compute f half a b r s) → HasNumber a × (HasNumber b × HasNumber r)
+  compute_resolved f half a b r s h =
+      let e = compute_entries f half a.entry b.entry r.entry s h.entries in
+      (record { value = e.0; form = h.formed.0 }, (record { value = e.1.0; form = h.formed.1.0 }, record { value = e.1.1; form = h.formed.1.1 }))
+
+  pub divide_resolved : (half : Bool) (a b r : Resolved) (s : Shows) → AreResolved forms (Divide half a b r s) → HasNumber a × (HasNumber b × HasNumber r)
+  divide_resolved half a b r s h =
+      let e = divide_entries half a.entry b.entry r.entry s h.entries in
+      (record { value = e.0; form = h.formed.0 }, (record { value = e.1.0; form = h.formed.1.0 }, record { value = e.1.1; form = h.formed.1.1 }))
+
+  pub assign_resolved : (negated half : Bool) (b r : Resolved) (s : Shows) → AreResolved forms (Assign negated half b r s) → HasNumber b × HasNumber r
+  assign_resolved negated half b r s h =
+      let e = assign_entries negated half b.entry r.entry s h.entries in
+      (record { value = e.0; form = h.formed.0 }, record { value = e.1; form = h.formed.1 })
+
+  pub remainder_resolved : (r : Resolved) (s : Shows) → AreResolved forms (TakeRemainder r s) → HasNumber r
+  remainder_resolved r s h = record { value = remainder_entries r.entry s h.entries; form = h.formed }
+
+  pub cross_resolved : (half : Bool) (b r : Resolved) (s : Shows) → AreResolved forms (CrossFoot half b r s) → HasNumber b × HasNumber r
+  cross_resolved half b r s h =
+      let e = cross_entries half b.entry r.entry s h.entries in
+      (record { value = e.0; form = h.formed.0 }, record { value = e.1; form = h.formed.1 })
+
+  pub compare_resolved : (a b : Resolved) (s : Shows) → AreResolved forms (Compare a b s) → IsAlike a a × IsAlike a b
+  compare_resolved a b s h =
+      let e = compare_entries a.entry b.entry s h.entries in
+      (record { value = e.0; form = h.formed.0 }, record { value = e.1; form = h.formed.1 })
+
+  pub move_resolved : (side : Side) (b r : Resolved) → AreResolved forms (Move side b r) → IsAlike b b × IsAlike r r
+  move_resolved side b r h =
+      let e = move_entries side b.entry r.entry h.entries in
+      (record { value = e.0; form = h.formed.0 }, record { value = e.1; form = h.formed.1 })
+
+  pub look_resolved : (a b : Resolved) (r : Option Resolved) (s : Shows) → AreResolved forms (LookUp a b r s) → IsAlike a a × IsAlike a b
+  look_resolved a b r s h =
+      let e = look_entries a.entry b.entry (option_map entry_in r) s h.entries in
+      (record { value = e.0; form = h.formed.0 }, record { value = e.1; form = h.formed.1 })

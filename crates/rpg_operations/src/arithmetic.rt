@@ -9,11 +9,12 @@ ghost use Rattle.rpg_effect.specs.Forms as forms_of;
 ghost use Rattle.rpg_effect.specs.World.{number_at};
 ghost use Rattle.rpg_effect.specs.declared.form.Kind.TheVariants as kinds;
 ghost use Rattle.rpg_effect.specs.Ends.{end_of, GoesOn};
-ghost use Rattle.rpg_operations.specs.Good.{IsValue};
+ghost use Rattle.rpg_operations.specs.Good.{IsResolved, IsValue};
 ghost use Rattle.rpg_memory.specs.Memory.{rest_value, world_of};
 ghost use Rattle.rpg_operations.specs.Ready.{IsReady, forms_in};
 
 use crate::reading::{number_at, target_of};
+use crate::resolved::Resolved;
 use crate::showing::show;
 use rpg_decimal::{Num, Rest, Scale, Target, add, div, keep, mult, remainder, sub};
 use rpg_effect::operation::{Entry, Operator, Shows};
@@ -62,16 +63,16 @@ pub fn computed<S: Store + Drop>(
     memory: &Memory<S>,
     operator: Operator,
     half: bool,
-    factor1: Entry<u16>,
-    factor2: Entry<u16>,
-    to: Entry<u16>,
+    factor1: Resolved,
+    factor2: Resolved,
+    to: Resolved,
 ) -> i64
     requires ready { IsReady S.forms S.contents S.currents rows.now.fields.items memory.now }
-    requires factor1 { IsValue rows.now.fields.items kinds.Number factor1.field factor1.position }
-    requires factor2 { IsValue rows.now.fields.items kinds.Number factor2.field factor2.position }
-    requires to { IsValue rows.now.fields.items kinds.Number to.field to.position }
-    ensures value { result ≡ acts.kept half (forms_in rows.now to.field) (acts.computed operator (acts.exact (forms_in rows.now) (world_of S.contents S.currents memory.now) factor1) (acts.exact (forms_in rows.now) (world_of S.contents S.currents memory.now) factor2)) }
-    ensures length { unsigned_abs result < 10 ^ forms_of.length_of (forms_in rows.now to.field) }
+    requires factor1 { IsResolved rows.now.fields.items kinds.Number factor1 }
+    requires factor2 { IsResolved rows.now.fields.items kinds.Number factor2 }
+    requires to { IsResolved rows.now.fields.items kinds.Number to }
+    ensures value { result ≡ acts.kept half (forms_in rows.now to.entry.field) (acts.computed operator (acts.exact (forms_in rows.now) (world_of S.contents S.currents memory.now) factor1.entry) (acts.exact (forms_in rows.now) (world_of S.contents S.currents memory.now) factor2.entry)) }
+    ensures length { unsigned_abs result < 10 ^ forms_of.length_of (forms_in rows.now to.entry.field) }
 {
     let a = number_at(rows, memory, factor1);
     let b = number_at(rows, memory, factor2);
@@ -84,14 +85,14 @@ pub fn assigned<S: Store + Drop>(
     memory: &Memory<S>,
     is_negated: bool,
     half: bool,
-    factor2: Entry<u16>,
-    to: Entry<u16>,
+    factor2: Resolved,
+    to: Resolved,
 ) -> i64
     requires ready { IsReady S.forms S.contents S.currents rows.now.fields.items memory.now }
-    requires factor2 { IsValue rows.now.fields.items kinds.Number factor2.field factor2.position }
-    requires to { IsValue rows.now.fields.items kinds.Number to.field to.position }
-    ensures value { result ≡ acts.kept half (forms_in rows.now to.field) (with_decimals (acts.assigned is_negated (number_at (world_of S.contents S.currents memory.now) factor2.field factor2.position)) (forms_of.decimals_of (forms_in rows.now factor2.field))) }
-    ensures length { unsigned_abs result < 10 ^ forms_of.length_of (forms_in rows.now to.field) }
+    requires factor2 { IsResolved rows.now.fields.items kinds.Number factor2 }
+    requires to { IsResolved rows.now.fields.items kinds.Number to }
+    ensures value { result ≡ acts.kept half (forms_in rows.now to.entry.field) (with_decimals (acts.assigned is_negated (number_at (world_of S.contents S.currents memory.now) factor2.entry.field factor2.entry.position)) (forms_of.decimals_of (forms_in rows.now factor2.entry.field))) }
+    ensures length { unsigned_abs result < 10 ^ forms_of.length_of (forms_in rows.now to.entry.field) }
 {
     let b = number_at(rows, memory, factor2);
     let scale = Scale { value: b.dec };
@@ -141,17 +142,17 @@ pub fn divide<S: Store + Drop>(
     rows: &Rows,
     memory: &mut Memory<S>,
     half: bool,
-    factor1: Entry<u16>,
-    factor2: Entry<u16>,
-    to: Entry<u16>,
+    factor1: Resolved,
+    factor2: Resolved,
+    to: Resolved,
 ) -> Option<i64>
     requires ready { IsReady S.forms S.contents S.currents rows.now.fields.items memory.old }
-    requires factor1 { IsValue rows.now.fields.items kinds.Number factor1.field factor1.position }
-    requires factor2 { IsValue rows.now.fields.items kinds.Number factor2.field factor2.position }
-    requires to { IsValue rows.now.fields.items kinds.Number to.field to.position }
-    ensures quotient { result ≡ option_map (acts.kept half (forms_in rows.now to.field)) (acts.divided (acts.exact (forms_in rows.now) (world_of S.contents S.currents memory.old) factor1) (acts.exact (forms_in rows.now) (world_of S.contents S.currents memory.old) factor2)) }
-    ensures length { IfSome result (λ n. unsigned_abs n < 10 ^ forms_of.length_of (forms_in rows.now to.field)) }
-    ensures world { IfSome result (λ n. world_of S.contents S.currents memory.new ≡ record (world_of S.contents S.currents memory.old) { remainder = acts.remainder_after (forms_in rows.now) half (world_of S.contents S.currents memory.old) factor1 factor2 to }) }
+    requires factor1 { IsResolved rows.now.fields.items kinds.Number factor1 }
+    requires factor2 { IsResolved rows.now.fields.items kinds.Number factor2 }
+    requires to { IsResolved rows.now.fields.items kinds.Number to }
+    ensures quotient { result ≡ option_map (acts.kept half (forms_in rows.now to.entry.field)) (acts.divided (acts.exact (forms_in rows.now) (world_of S.contents S.currents memory.old) factor1.entry) (acts.exact (forms_in rows.now) (world_of S.contents S.currents memory.old) factor2.entry)) }
+    ensures length { IfSome result (λ n. unsigned_abs n < 10 ^ forms_of.length_of (forms_in rows.now to.entry.field)) }
+    ensures world { IfSome result (λ n. world_of S.contents S.currents memory.new ≡ record (world_of S.contents S.currents memory.old) { remainder = acts.remainder_after (forms_in rows.now) half (world_of S.contents S.currents memory.old) factor1.entry factor2.entry to.entry }) }
     ensures none { result ≡ None → memory.new ≡ memory.old }
     ensures ready { IsReady S.forms S.contents S.currents rows.now.fields.items memory.new }
     ensures form { memory.new.form ≡ memory.old.form }
@@ -169,11 +170,11 @@ pub fn divide<S: Store + Drop>(
 }
 
 /// The result of MVR: what the last division left.
-pub fn kept_remainder<S: Store + Drop>(rows: &Rows, memory: &Memory<S>, to: Entry<u16>) -> i64
+pub fn kept_remainder<S: Store + Drop>(rows: &Rows, memory: &Memory<S>, to: Resolved) -> i64
     requires ready { IsReady S.forms S.contents S.currents rows.now.fields.items memory.now }
-    requires to { IsValue rows.now.fields.items kinds.Number to.field to.position }
-    ensures value { result ≡ acts.kept false (forms_in rows.now to.field) (world_of S.contents S.currents memory.now).remainder }
-    ensures length { unsigned_abs result < 10 ^ forms_of.length_of (forms_in rows.now to.field) }
+    requires to { IsResolved rows.now.fields.items kinds.Number to }
+    ensures value { result ≡ acts.kept false (forms_in rows.now to.entry.field) (world_of S.contents S.currents memory.now).remainder }
+    ensures length { unsigned_abs result < 10 ^ forms_of.length_of (forms_in rows.now to.entry.field) }
 {
     let rest = memory.remainder;
     keep(rest.value, rest.dec, target_of(rows, to, false))

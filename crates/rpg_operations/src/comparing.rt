@@ -1,15 +1,15 @@
 //! How entries stand to each other.
 ghost use Rattle.std.specs.Prelude.{◌≡◌};
 ghost use Rattle.rpg_effect.specs.Act as acts;
-ghost use Rattle.rpg_operations.specs.Good.{IsValue};
+ghost use Rattle.rpg_operations.specs.Good.{IsResolved};
 ghost use Rattle.rpg_memory.specs.Memory.{world_of};
 ghost use Rattle.rpg_operations.specs.Ready.{IsReady, forms_in};
 ghost use Rattle.rpg_effect.specs.Forms as forms_of;
 
 use crate::reading::number_at;
+use crate::resolved::Resolved;
 use rpg_decimal::{compare, compare_text};
 use rpg_effect::form::Kind;
-use rpg_effect::operation::Entry;
 use rpg_memory::memory::Memory;
 use rpg_program::row::Rows;
 use rpg_store::store::Store;
@@ -21,19 +21,19 @@ pub fn compared<S: Store + Drop>(
     rows: &Rows,
     memory: &Memory<S>,
     kind: Kind,
-    a: Entry<u16>,
-    b: Entry<u16>,
+    a: Resolved,
+    b: Resolved,
 ) -> Ordering
     requires ready { IsReady S.forms S.contents S.currents rows.now.fields.items memory.now }
-    requires a { IsValue rows.now.fields.items kind a.field a.position }
-    requires b { IsValue rows.now.fields.items kind b.field b.position }
-    ensures { result ≡ acts.order_by (forms_in rows.now) kind (world_of S.contents S.currents memory.now) a b }
+    requires a { IsResolved rows.now.fields.items kind a }
+    requires b { IsResolved rows.now.fields.items kind b }
+    ensures { result ≡ acts.order_by (forms_in rows.now) kind (world_of S.contents S.currents memory.now) a.entry b.entry }
 {
     match kind {
         Kind::Number => compare(number_at(rows, memory, a), number_at(rows, memory, b)),
         Kind::Text => compare_text(
-            memory.store.text(a.field, a.position),
-            memory.store.text(b.field, b.position),
+            memory.store.text(a.entry.field, a.entry.position),
+            memory.store.text(b.entry.field, b.entry.position),
         ),
     }
 }

@@ -8,6 +8,7 @@ pub mod laws;
 pub mod operations;
 pub mod places;
 pub mod reading;
+pub mod resolved;
 pub mod resolving;
 pub mod searching;
 pub mod showing;

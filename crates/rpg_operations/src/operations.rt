@@ -8,19 +8,20 @@ ghost use Rattle.rpg_effect.specs.Weights as weights;
 ghost use Rattle.rpg_effect.specs.Rows as rows_of;
 ghost use Rattle.rpg_effect.specs.Showing.{shown};
 ghost use Rattle.rpg_effect.specs.Ends.{end_of, GoesOn};
-ghost use Rattle.rpg_operations.specs.Good.{AreEntries, IsRight, IsValue, IsRightEnd};
+ghost use Rattle.rpg_operations.specs.Good.{AreResolved, IsResolved, IsRight, IsRightEnd, entry_in};
 ghost use Rattle.rpg_memory.specs.Memory.{world_of};
 ghost use Rattle.rpg_operations.specs.Ready.{IsReady, forms_in};
 
 use crate::arithmetic::{assigned, computed, divide, kept_remainder, store};
 use crate::comparing::compared;
 use crate::places::move_places;
-use crate::reading::{entries_of, form_at, kind_of};
+use crate::resolved::Resolved;
 use crate::resolving::resolved;
 use crate::searching::look_up;
 use crate::showing::{set, show};
 use crate::summing::summed;
-use rpg_effect::operation::{Action, Entry, Operand, Shows};
+use rpg_columns::forms::{entries_of, form_at};
+use rpg_effect::operation::{Action, Operand, Shows};
 use rpg_effect::outcome::End;
 use rpg_memory::memory::Memory;
 use rpg_program::row::Rows;
@@ -28,8 +29,8 @@ use rpg_store::store::Store;
 
 /// The weight of an operation: one, and the entries that XFOOT and LOKUP go through.
 #[tactic(auto, unfolding(rpg_effect::specs::Weights::row_weight, rpg_effect::specs::Rows::row_of))]
-pub fn weight(rows: &Rows, action: Action<Operand<u16>>) -> u32
-    ensures { result ≡ weights.row_weight (forms_in rows.now) (rows_of.row_of (rows_of.form_of (forms_in rows.now)) action) }
+pub fn weight(rows: &Rows, action: &Action<Operand<u16>>) -> u32
+    ensures { result ≡ weights.row_weight (forms_in rows.now) (rows_of.row_of (rows_of.form_of (forms_in rows.now)) action.now) }
 {
     match action {
         Action::CrossFoot { factor2, .. } => 1
@@ -49,30 +50,29 @@ pub fn weight(rows: &Rows, action: Action<Operand<u16>>) -> u32
 fn compare<S: Store + Drop>(
     rows: &Rows,
     memory: &mut Memory<S>,
-    factor1: Entry<u16>,
-    factor2: Entry<u16>,
+    factor1: Resolved,
+    factor2: Resolved,
     shows: Shows,
 ) -> End
     requires ready { IsReady S.forms S.contents S.currents rows.now.fields.items memory.old }
-    requires factor1 { IsValue rows.now.fields.items (forms_of.kind_of (forms_in rows.now factor1.field)) factor1.field factor1.position }
-    requires factor2 { IsValue rows.now.fields.items (forms_of.kind_of (forms_in rows.now factor1.field)) factor2.field factor2.position }
+    requires factor1 { IsResolved rows.now.fields.items (forms_of.kind_of (forms_in rows.now factor1.entry.field)) factor1 }
+    requires factor2 { IsResolved rows.now.fields.items (forms_of.kind_of (forms_in rows.now factor1.entry.field)) factor2 }
     ensures goes { end_of result ≡ GoesOn }
-    ensures world { world_of S.contents S.currents memory.new ≡ record (world_of S.contents S.currents memory.old) { on = shown shows (acts.order_by (forms_in rows.now) (forms_of.kind_of (forms_in rows.now factor1.field)) (world_of S.contents S.currents memory.old) factor1 factor2) (world_of S.contents S.currents memory.old).on } }
+    ensures world { world_of S.contents S.currents memory.new ≡ record (world_of S.contents S.currents memory.old) { on = shown shows (acts.order_by (forms_in rows.now) (forms_of.kind_of (forms_in rows.now factor1.entry.field)) (world_of S.contents S.currents memory.old) factor1.entry factor2.entry) (world_of S.contents S.currents memory.old).on } }
     ensures ready { IsReady S.forms S.contents S.currents rows.now.fields.items memory.new }
     ensures form { memory.new.form ≡ memory.old.form }
 {
-    let kind = kind_of(form_at(rows, factor1.field));
-    let order = compared(rows, memory, kind, factor1, factor2);
+    let order = compared(rows, memory, factor1.form.kind, factor1, factor2);
     show(&mut memory.on, shows, order);
     End::GoesOn
 }
 
 /// Does an operation on entries.
 #[tactic(auto, unfolding(rpg_effect::specs::Act::act))]
-pub fn act<S: Store + Drop>(rows: &Rows, memory: &mut Memory<S>, action: Action<Entry<u16>>) -> End
+pub fn act<S: Store + Drop>(rows: &Rows, memory: &mut Memory<S>, action: Action<Resolved>) -> End
     requires ready { IsReady S.forms S.contents S.currents rows.now.fields.items memory.old }
-    requires entries { AreEntries rows.now.fields.items action }
-    ensures done { quiet (end_of result) (world_of S.contents S.currents memory.new) ≡ acts.act (forms_in rows.now) action (world_of S.contents S.currents memory.old) }
+    requires entries { AreResolved rows.now.fields.items action }
+    ensures done { quiet (end_of result) (world_of S.contents S.currents memory.new) ≡ acts.act (forms_in rows.now) (of.with_operands entry_in action) (world_of S.contents S.currents memory.old) }
     ensures ends { IsRightEnd (end_of result) }
     ensures ready { IsReady S.forms S.contents S.currents rows.now.fields.items memory.new }
     ensures form { memory.new.form ≡ memory.old.form }
@@ -87,7 +87,7 @@ pub fn act<S: Store + Drop>(rows: &Rows, memory: &mut Memory<S>, action: Action<
             shows,
         } => {
             let n = computed(rows, memory, operator, half, factor1, factor2, to);
-            store(rows, memory, to, shows, n)
+            store(rows, memory, to.entry, shows, n)
         }
         Action::Divide {
             half,
@@ -97,7 +97,7 @@ pub fn act<S: Store + Drop>(rows: &Rows, memory: &mut Memory<S>, action: Action<
             shows,
         } => match divide(rows, memory, half, factor1, factor2, to) {
             None => End::Halt(1),
-            Some(quotient) => store(rows, memory, to, shows, quotient),
+            Some(quotient) => store(rows, memory, to.entry, shows, quotient),
         },
         Action::Assign {
             is_negated,
@@ -107,11 +107,11 @@ pub fn act<S: Store + Drop>(rows: &Rows, memory: &mut Memory<S>, action: Action<
             shows,
         } => {
             let n = assigned(rows, memory, is_negated, half, factor2, to);
-            store(rows, memory, to, shows, n)
+            store(rows, memory, to.entry, shows, n)
         }
         Action::TakeRemainder { result: to, shows } => {
             let n = kept_remainder(rows, memory, to);
-            store(rows, memory, to, shows, n)
+            store(rows, memory, to.entry, shows, n)
         }
         Action::CrossFoot {
             half,
@@ -120,7 +120,7 @@ pub fn act<S: Store + Drop>(rows: &Rows, memory: &mut Memory<S>, action: Action<
             shows,
         } => {
             let n = summed(rows, memory, half, factor2, to);
-            store(rows, memory, to, shows, n)
+            store(rows, memory, to.entry, shows, n)
         }
         Action::Compare {
             factor1,
@@ -150,11 +150,11 @@ pub fn act<S: Store + Drop>(rows: &Rows, memory: &mut Memory<S>, action: Action<
 pub fn operate<S: Store + Drop>(
     rows: &Rows,
     memory: &mut Memory<S>,
-    action: Action<Operand<u16>>,
+    action: &Action<Operand<u16>>,
 ) -> End
     requires ready { IsReady S.forms S.contents S.currents rows.now.fields.items memory.old }
-    requires right { IsRight rows.now.fields.items action }
-    ensures done { quiet (end_of result) (world_of S.contents S.currents memory.new) ≡ of.operate (forms_in rows.now) action (world_of S.contents S.currents memory.old) }
+    requires right { IsRight rows.now.fields.items action.now }
+    ensures done { quiet (end_of result) (world_of S.contents S.currents memory.new) ≡ of.operate (forms_in rows.now) action.now (world_of S.contents S.currents memory.old) }
     ensures ends { IsRightEnd (end_of result) }
     ensures ready { IsReady S.forms S.contents S.currents rows.now.fields.items memory.new }
     ensures form { memory.new.form ≡ memory.old.form }

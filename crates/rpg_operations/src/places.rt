@@ -8,15 +8,15 @@ ghost use Rattle.rpg_effect.specs.declared.form.Kind.TheVariants as kinds;
 ghost use Rattle.rpg_effect.specs.Ends.{end_of, GoesOn};
 ghost use Rattle.rpg_effect.specs.declared.operation.Side.TheVariants as sides;
 ghost use Rattle.rpg_effect.specs.World.{number_at};
-ghost use Rattle.rpg_operations.specs.Good.{IsValue, IsRightEnd};
+ghost use Rattle.rpg_operations.specs.Good.{IsResolved, IsRightEnd};
 ghost use Rattle.rpg_program.specs.Kept.{IsCharacter};
 ghost use Rattle.rpg_memory.specs.Memory.{world_of};
 ghost use Rattle.rpg_operations.specs.Ready.{IsReady, forms_in};
 
-use crate::reading::{form_at, kind_of, length_of};
+use crate::resolved::Resolved;
 use rpg_decimal::{Figure, Source, move_left, move_left_text, move_right, move_right_text};
 use rpg_effect::form::Kind;
-use rpg_effect::operation::{Entry, Side};
+use rpg_effect::operation::Side;
 use rpg_effect::outcome::End;
 use rpg_memory::memory::Memory;
 use rpg_program::row::Rows;
@@ -24,14 +24,16 @@ use rpg_store::store::{Store, set_text};
 
 /// The digits of a number field.
 #[tactic(auto, using(crate::proofs::Values::numbers))]
-fn figure_at<S: Store + Drop>(rows: &Rows, memory: &Memory<S>, operand: Entry<u16>) -> Figure
+fn figure_at<S: Store + Drop>(rows: &Rows, memory: &Memory<S>, operand: Resolved) -> Figure
     requires ready { IsReady S.forms S.contents S.currents rows.now.fields.items memory.now }
-    requires kind { IsValue rows.now.fields.items kinds.Number operand.field operand.position }
-    ensures value { result.value ≡ number_at (world_of S.contents S.currents memory.now) operand.field operand.position }
-    ensures length { result.len ≡ forms_of.length_of (forms_in rows.now operand.field) }
+    requires kind { IsResolved rows.now.fields.items kinds.Number operand }
+    ensures value { result.value ≡ number_at (world_of S.contents S.currents memory.now) operand.entry.field operand.entry.position }
+    ensures length { result.len ≡ forms_of.length_of (forms_in rows.now operand.entry.field) }
 {
-    let value = memory.store.number(operand.field, operand.position);
-    let len = length_of(form_at(rows, operand.field)) as u8;
+    let value = memory
+        .store
+        .number(operand.entry.field, operand.entry.position);
+    let len = operand.form.length as u8;
     Figure { value, len }
 }
 
@@ -40,18 +42,22 @@ fn figure_at<S: Store + Drop>(rows: &Rows, memory: &Memory<S>, operand: Entry<u1
 fn source_at<'m, S: Store + Drop>(
     rows: &Rows,
     memory: &'m Memory<S>,
-    factor2: Entry<u16>,
+    factor2: Resolved,
 ) -> Source<'m>
     requires ready { IsReady S.forms S.contents S.currents rows.now.fields.items memory.now }
-    requires kind { IsValue rows.now.fields.items (forms_of.kind_of (forms_in rows.now factor2.field)) factor2.field factor2.position }
-    ensures text { sources.text_of result ≡ acts.source_text (forms_in rows.now) (forms_of.kind_of (forms_in rows.now factor2.field)) (world_of S.contents S.currents memory.now) factor2 }
+    requires kind { IsResolved rows.now.fields.items (forms_of.kind_of (forms_in rows.now factor2.entry.field)) factor2 }
+    ensures text { sources.text_of result ≡ acts.source_text (forms_in rows.now) (forms_of.kind_of (forms_in rows.now factor2.entry.field)) (world_of S.contents S.currents memory.now) factor2.entry }
     ensures characters { All IsCharacter (sources.text_of result) }
-    ensures right { (len : ℕ) (old : ℤ) → sources.moved_right result len old ≡ acts.number_after (forms_in rows.now) (forms_of.kind_of (forms_in rows.now factor2.field)) sides.Right (world_of S.contents S.currents memory.now) factor2 len old }
-    ensures left { (len : ℕ) (old : ℤ) → sources.moved_left result len old ≡ acts.number_after (forms_in rows.now) (forms_of.kind_of (forms_in rows.now factor2.field)) sides.Left (world_of S.contents S.currents memory.now) factor2 len old }
+    ensures right { (len : ℕ) (old : ℤ) → sources.moved_right result len old ≡ acts.number_after (forms_in rows.now) (forms_of.kind_of (forms_in rows.now factor2.entry.field)) sides.Right (world_of S.contents S.currents memory.now) factor2.entry len old }
+    ensures left { (len : ℕ) (old : ℤ) → sources.moved_left result len old ≡ acts.number_after (forms_in rows.now) (forms_of.kind_of (forms_in rows.now factor2.entry.field)) sides.Left (world_of S.contents S.currents memory.now) factor2.entry len old }
 {
-    match kind_of(form_at(rows, factor2.field)) {
+    match factor2.form.kind {
         Kind::Number => Source::Number(figure_at(rows, memory, factor2)),
-        Kind::Text => Source::Text(memory.store.text(factor2.field, factor2.position)),
+        Kind::Text => Source::Text(
+            memory
+                .store
+                .text(factor2.entry.field, factor2.entry.position),
+        ),
     }
 }
 
@@ -60,14 +66,14 @@ fn number_after<S: Store + Drop>(
     rows: &Rows,
     memory: &Memory<S>,
     side: Side,
-    factor2: Entry<u16>,
-    to: Entry<u16>,
+    factor2: Resolved,
+    to: Resolved,
 ) -> Option<i64>
     requires ready { IsReady S.forms S.contents S.currents rows.now.fields.items memory.now }
-    requires factor2 { IsValue rows.now.fields.items (forms_of.kind_of (forms_in rows.now factor2.field)) factor2.field factor2.position }
-    requires to { IsValue rows.now.fields.items kinds.Number to.field to.position }
-    ensures value { result ≡ acts.number_after (forms_in rows.now) (forms_of.kind_of (forms_in rows.now factor2.field)) side (world_of S.contents S.currents memory.now) factor2 (forms_of.length_of (forms_in rows.now to.field)) (number_at (world_of S.contents S.currents memory.now) to.field to.position) }
-    ensures length { IfSome result (λ n. unsigned_abs n < 10 ^ forms_of.length_of (forms_in rows.now to.field)) }
+    requires factor2 { IsResolved rows.now.fields.items (forms_of.kind_of (forms_in rows.now factor2.entry.field)) factor2 }
+    requires to { IsResolved rows.now.fields.items kinds.Number to }
+    ensures value { result ≡ acts.number_after (forms_in rows.now) (forms_of.kind_of (forms_in rows.now factor2.entry.field)) side (world_of S.contents S.currents memory.now) factor2.entry (forms_of.length_of (forms_in rows.now to.entry.field)) (number_at (world_of S.contents S.currents memory.now) to.entry.field to.entry.position) }
+    ensures length { IfSome result (λ n. unsigned_abs n < 10 ^ forms_of.length_of (forms_in rows.now to.entry.field)) }
 {
     let before = figure_at(rows, memory, to);
     let source = source_at(rows, memory, factor2);
@@ -83,13 +89,13 @@ fn move_to_number<S: Store + Drop>(
     rows: &Rows,
     memory: &mut Memory<S>,
     side: Side,
-    factor2: Entry<u16>,
-    to: Entry<u16>,
+    factor2: Resolved,
+    to: Resolved,
 ) -> End
     requires ready { IsReady S.forms S.contents S.currents rows.now.fields.items memory.old }
-    requires factor2 { IsValue rows.now.fields.items (forms_of.kind_of (forms_in rows.now factor2.field)) factor2.field factor2.position }
-    requires to { IsValue rows.now.fields.items kinds.Number to.field to.position }
-    ensures done { quiet (end_of result) (world_of S.contents S.currents memory.new) ≡ acts.moved (forms_in rows.now) (forms_of.kind_of (forms_in rows.now factor2.field)) kinds.Number side (world_of S.contents S.currents memory.old) factor2 to }
+    requires factor2 { IsResolved rows.now.fields.items (forms_of.kind_of (forms_in rows.now factor2.entry.field)) factor2 }
+    requires to { IsResolved rows.now.fields.items kinds.Number to }
+    ensures done { quiet (end_of result) (world_of S.contents S.currents memory.new) ≡ acts.moved (forms_in rows.now) (forms_of.kind_of (forms_in rows.now factor2.entry.field)) kinds.Number side (world_of S.contents S.currents memory.old) factor2.entry to.entry }
     ensures ends { IsRightEnd (end_of result) }
     ensures ready { IsReady S.forms S.contents S.currents rows.now.fields.items memory.new }
     ensures form { memory.new.form ≡ memory.old.form }
@@ -97,7 +103,9 @@ fn move_to_number<S: Store + Drop>(
     match number_after(rows, memory, side, factor2, to) {
         None => End::Halt(4),
         Some(n) => {
-            memory.store.set_number(to.field, to.position, n);
+            memory
+                .store
+                .set_number(to.entry.field, to.entry.position, n);
             End::GoesOn
         }
     }
@@ -118,22 +126,22 @@ fn move_to_text<S: Store + Drop>(
     rows: &Rows,
     memory: &mut Memory<S>,
     side: Side,
-    factor2: Entry<u16>,
-    to: Entry<u16>,
+    factor2: Resolved,
+    to: Resolved,
 )
     requires ready { IsReady S.forms S.contents S.currents rows.now.fields.items memory.old }
-    requires factor2 { IsValue rows.now.fields.items (forms_of.kind_of (forms_in rows.now factor2.field)) factor2.field factor2.position }
-    requires to { IsValue rows.now.fields.items kinds.Text to.field to.position }
-    ensures world { quiet GoesOn (world_of S.contents S.currents memory.new) ≡ acts.moved (forms_in rows.now) (forms_of.kind_of (forms_in rows.now factor2.field)) kinds.Text side (world_of S.contents S.currents memory.old) factor2 to }
+    requires factor2 { IsResolved rows.now.fields.items (forms_of.kind_of (forms_in rows.now factor2.entry.field)) factor2 }
+    requires to { IsResolved rows.now.fields.items kinds.Text to }
+    ensures world { quiet GoesOn (world_of S.contents S.currents memory.new) ≡ acts.moved (forms_in rows.now) (forms_of.kind_of (forms_in rows.now factor2.entry.field)) kinds.Text side (world_of S.contents S.currents memory.old) factor2.entry to.entry }
     ensures ready { IsReady S.forms S.contents S.currents rows.now.fields.items memory.new }
     ensures form { memory.new.form ≡ memory.old.form }
 {
     let mut places = [0; 256];
-    let old = memory.store.text(to.field, to.position);
+    let old = memory.store.text(to.entry.field, to.entry.position);
     let text = &mut places[..old.len()];
     text.copy_from_slice(old);
     put_over(side, source_at(rows, memory, factor2), text);
-    set_text(&mut memory.store, to.field, to.position, text);
+    set_text(&mut memory.store, to.entry.field, to.entry.position, text);
 }
 
 /// Moves factor 2 to the result field.
@@ -141,18 +149,18 @@ pub fn move_places<S: Store + Drop>(
     rows: &Rows,
     memory: &mut Memory<S>,
     side: Side,
-    factor2: Entry<u16>,
-    to: Entry<u16>,
+    factor2: Resolved,
+    to: Resolved,
 ) -> End
     requires ready { IsReady S.forms S.contents S.currents rows.now.fields.items memory.old }
-    requires factor2 { IsValue rows.now.fields.items (forms_of.kind_of (forms_in rows.now factor2.field)) factor2.field factor2.position }
-    requires to { IsValue rows.now.fields.items (forms_of.kind_of (forms_in rows.now to.field)) to.field to.position }
-    ensures done { quiet (end_of result) (world_of S.contents S.currents memory.new) ≡ acts.moved (forms_in rows.now) (forms_of.kind_of (forms_in rows.now factor2.field)) (forms_of.kind_of (forms_in rows.now to.field)) side (world_of S.contents S.currents memory.old) factor2 to }
+    requires factor2 { IsResolved rows.now.fields.items (forms_of.kind_of (forms_in rows.now factor2.entry.field)) factor2 }
+    requires to { IsResolved rows.now.fields.items (forms_of.kind_of (forms_in rows.now to.entry.field)) to }
+    ensures done { quiet (end_of result) (world_of S.contents S.currents memory.new) ≡ acts.moved (forms_in rows.now) (forms_of.kind_of (forms_in rows.now factor2.entry.field)) (forms_of.kind_of (forms_in rows.now to.entry.field)) side (world_of S.contents S.currents memory.old) factor2.entry to.entry }
     ensures ends { IsRightEnd (end_of result) }
     ensures ready { IsReady S.forms S.contents S.currents rows.now.fields.items memory.new }
     ensures form { memory.new.form ≡ memory.old.form }
 {
-    match kind_of(form_at(rows, to.field)) {
+    match to.form.kind {
         Kind::Number => move_to_number(rows, memory, side, factor2, to),
         Kind::Text => {
             move_to_text(rows, memory, side, factor2, to);

@@ -1,14 +1,16 @@
 //! Operations on the entries that their operands name.
-ghost use Rattle.std.specs.Prelude.{◌≡◌, IfSome, true};
+ghost use Rattle.std.specs.Prelude.{◌≡◌, IfSome};
+ghost use Rattle.std.specs.Option.{option_map};
 ghost use Rattle.rpg_effect.specs.Operate as of;
-ghost use Rattle.rpg_operations.specs.Good.{AreEntries, IsRight, reads_if_any};
+ghost use Rattle.rpg_operations.specs.Good.{AreResolved, CanBeResolved, HasOwnForm, HaveForms, IsRight, entry_in};
 ghost use Rattle.rpg_operations.specs.Ready.{entry_if_any};
 ghost use Rattle.rpg_memory.specs.Memory.{world_of};
 ghost use Rattle.rpg_operations.specs.Ready.{IsReady, forms_in};
 ghost use Rattle.rpg_effect.specs.Forms as forms_of;
 
-use crate::entry::entry_of;
-use rpg_effect::operation::{Action, Entry, Operand};
+use crate::entry::resolve;
+use crate::resolved::Resolved;
+use rpg_effect::operation::{Action, Operand};
 use rpg_memory::memory::Memory;
 use rpg_program::row::Rows;
 use rpg_store::store::Store;
@@ -17,17 +19,18 @@ use rpg_store::store::Store;
 fn entry_if_any<S: Store + Drop>(
     rows: &Rows,
     memory: &Memory<S>,
-    operand: Option<Operand<u16>>,
-) -> Option<Option<Entry<u16>>>
+    operand: &Option<Operand<u16>>,
+) -> Option<Option<Resolved>>
     requires ready { IsReady S.forms S.contents S.currents rows.now.fields.items memory.now }
-    requires index { reads_if_any rows.now.fields.items operand ≡ true }
-    ensures { result ≡ entry_if_any (forms_in rows.now) (world_of S.contents S.currents memory.now).fields operand }
+    requires operand { IfSome operand.now (λ o. CanBeResolved rows.now.fields.items o) }
+    ensures entry { option_map (λ o. option_map entry_in o) result ≡ entry_if_any (forms_in rows.now) (world_of S.contents S.currents memory.now).fields operand.now }
+    ensures form { IfSome result (λ o. IfSome o (λ r. HasOwnForm rows.now.fields.items r)) }
 {
     match operand {
         None => Some(None),
-        Some(operand) => match entry_of(rows, memory, operand) {
+        Some(operand) => match resolve(rows, memory, operand) {
             None => None,
-            Some(entry) => Some(Some(entry)),
+            Some(resolved) => Some(Some(resolved)),
         }
     }
 }
@@ -37,11 +40,12 @@ fn entry_if_any<S: Store + Drop>(
 fn with_entries<S: Store + Drop>(
     rows: &Rows,
     memory: &Memory<S>,
-    action: Action<Operand<u16>>,
-) -> Option<Action<Entry<u16>>>
+    action: &Action<Operand<u16>>,
+) -> Option<Action<Resolved>>
     requires ready { IsReady S.forms S.contents S.currents rows.now.fields.items memory.now }
-    requires right { IsRight rows.now.fields.items action }
-    ensures { result ≡ of.resolved (forms_in rows.now) (world_of S.contents S.currents memory.now).fields action }
+    requires right { IsRight rows.now.fields.items action.now }
+    ensures value { option_map (of.with_operands entry_in) result ≡ of.resolved (forms_in rows.now) (world_of S.contents S.currents memory.now).fields action.now }
+    ensures forms { IfSome result (λ a. HaveForms rows.now.fields.items a) }
 {
     match action {
         Action::Compute {
@@ -52,16 +56,16 @@ fn with_entries<S: Store + Drop>(
             result: to,
             shows,
         } => {
-            let factor1 = entry_of(rows, memory, factor1)?;
-            let factor2 = entry_of(rows, memory, factor2)?;
-            let to = entry_of(rows, memory, to)?;
+            let factor1 = resolve(rows, memory, factor1)?;
+            let factor2 = resolve(rows, memory, factor2)?;
+            let to = resolve(rows, memory, to)?;
             Some(Action::Compute {
-                operator,
-                half,
+                operator: *operator,
+                half: *half,
                 factor1,
                 factor2,
                 result: to,
-                shows,
+                shows: *shows,
             })
         }
         Action::Divide {
@@ -71,15 +75,15 @@ fn with_entries<S: Store + Drop>(
             result: to,
             shows,
         } => {
-            let factor1 = entry_of(rows, memory, factor1)?;
-            let factor2 = entry_of(rows, memory, factor2)?;
-            let to = entry_of(rows, memory, to)?;
+            let factor1 = resolve(rows, memory, factor1)?;
+            let factor2 = resolve(rows, memory, factor2)?;
+            let to = resolve(rows, memory, to)?;
             Some(Action::Divide {
-                half,
+                half: *half,
                 factor1,
                 factor2,
                 result: to,
-                shows,
+                shows: *shows,
             })
         }
         Action::Assign {
@@ -89,19 +93,22 @@ fn with_entries<S: Store + Drop>(
             result: to,
             shows,
         } => {
-            let factor2 = entry_of(rows, memory, factor2)?;
-            let to = entry_of(rows, memory, to)?;
+            let factor2 = resolve(rows, memory, factor2)?;
+            let to = resolve(rows, memory, to)?;
             Some(Action::Assign {
-                is_negated,
-                half,
+                is_negated: *is_negated,
+                half: *half,
                 factor2,
                 result: to,
-                shows,
+                shows: *shows,
             })
         }
         Action::TakeRemainder { result: to, shows } => {
-            let to = entry_of(rows, memory, to)?;
-            Some(Action::TakeRemainder { result: to, shows })
+            let to = resolve(rows, memory, to)?;
+            Some(Action::TakeRemainder {
+                result: to,
+                shows: *shows,
+            })
         }
         Action::CrossFoot {
             half,
@@ -109,13 +116,13 @@ fn with_entries<S: Store + Drop>(
             result: to,
             shows,
         } => {
-            let factor2 = entry_of(rows, memory, factor2)?;
-            let to = entry_of(rows, memory, to)?;
+            let factor2 = resolve(rows, memory, factor2)?;
+            let to = resolve(rows, memory, to)?;
             Some(Action::CrossFoot {
-                half,
+                half: *half,
                 factor2,
                 result: to,
-                shows,
+                shows: *shows,
             })
         }
         Action::Compare {
@@ -123,12 +130,12 @@ fn with_entries<S: Store + Drop>(
             factor2,
             shows,
         } => {
-            let factor1 = entry_of(rows, memory, factor1)?;
-            let factor2 = entry_of(rows, memory, factor2)?;
+            let factor1 = resolve(rows, memory, factor1)?;
+            let factor2 = resolve(rows, memory, factor2)?;
             Some(Action::Compare {
                 factor1,
                 factor2,
-                shows,
+                shows: *shows,
             })
         }
         Action::LookUp {
@@ -137,14 +144,14 @@ fn with_entries<S: Store + Drop>(
             result: to,
             shows,
         } => {
-            let factor1 = entry_of(rows, memory, factor1)?;
-            let factor2 = entry_of(rows, memory, factor2)?;
+            let factor1 = resolve(rows, memory, factor1)?;
+            let factor2 = resolve(rows, memory, factor2)?;
             let to = entry_if_any(rows, memory, to)?;
             Some(Action::LookUp {
                 factor1,
                 factor2,
                 result: to,
-                shows,
+                shows: *shows,
             })
         }
         Action::Move {
@@ -152,29 +159,31 @@ fn with_entries<S: Store + Drop>(
             factor2,
             result: to,
         } => {
-            let factor2 = entry_of(rows, memory, factor2)?;
-            let to = entry_of(rows, memory, to)?;
+            let factor2 = resolve(rows, memory, factor2)?;
+            let to = resolve(rows, memory, to)?;
             Some(Action::Move {
-                side,
+                side: *side,
                 factor2,
                 result: to,
             })
         }
-        Action::SetIndicators { is_on, named } => Some(Action::SetIndicators { is_on, named }),
+        Action::SetIndicators { is_on, named } => Some(Action::SetIndicators {
+            is_on: *is_on,
+            named: *named,
+        }),
     }
 }
 
 /// The operation on the entries that its operands name now, if no index is out of range.
-#[tactic(auto, using(crate::proofs::Rights::entries_if))]
 pub fn resolved<S: Store + Drop>(
     rows: &Rows,
     memory: &Memory<S>,
-    action: Action<Operand<u16>>,
-) -> Option<Action<Entry<u16>>>
+    action: &Action<Operand<u16>>,
+) -> Option<Action<Resolved>>
     requires ready { IsReady S.forms S.contents S.currents rows.now.fields.items memory.now }
-    requires right { IsRight rows.now.fields.items action }
-    ensures value { result ≡ of.resolved (forms_in rows.now) (world_of S.contents S.currents memory.now).fields action }
-    ensures entries { IfSome result (λ a. AreEntries rows.now.fields.items a) }
+    requires right { IsRight rows.now.fields.items action.now }
+    ensures value { option_map (of.with_operands entry_in) result ≡ of.resolved (forms_in rows.now) (world_of S.contents S.currents memory.now).fields action.now }
+    ensures entries { IfSome result (λ a. AreResolved rows.now.fields.items a) }
 {
     with_entries(rows, memory, action)
 }

@@ -8,13 +8,14 @@ ghost use Rattle.std.specs.Option.{option_map};
 ghost use Rattle.rpg_effect.specs.Forms as forms_of;
 ghost use Rattle.rpg_effect.specs.Rows as rows_of;
 ghost use Rattle.rpg_effect.specs.Search as of;
-ghost use Rattle.rpg_operations.specs.Good.{FitsPosition, HasPosition, IsValue, reads_index, IsRightEnd};
+ghost use Rattle.rpg_operations.specs.Good.{FitsPosition, HasPosition, IsResolved, reads_index, entry_in, IsRightEnd};
 ghost use Rattle.rpg_memory.specs.Memory.{world_of};
 ghost use Rattle.rpg_operations.specs.Ready.{IsReady, forms_in};
 
 use crate::comparing::compared;
-use crate::reading::{entries_of, form_at, is_table, kind_of};
+use crate::resolved::Resolved;
 use crate::showing::show_if_any;
+use rpg_columns::forms::{form_at, is_table_form};
 use rpg_effect::operation::{Entry, Found, Index, Shows};
 use rpg_effect::outcome::End;
 use rpg_memory::memory::Memory;
@@ -49,44 +50,49 @@ fn same_order(a: Ordering, b: Ordering) -> bool
 fn stands<S: Store + Drop>(
     rows: &Rows,
     memory: &Memory<S>,
-    factor1: Entry<u16>,
-    factor2: Entry<u16>,
+    factor1: Resolved,
+    factor2: Resolved,
     order: Ordering,
     position: u16,
 ) -> bool
     requires ready { IsReady S.forms S.contents S.currents rows.now.fields.items memory.now }
-    requires factor1 { IsValue rows.now.fields.items (forms_of.kind_of (forms_in rows.now factor1.field)) factor1.field factor1.position }
-    requires factor2 { IsValue rows.now.fields.items (forms_of.kind_of (forms_in rows.now factor1.field)) factor2.field factor2.position }
+    requires factor1 { IsResolved rows.now.fields.items (forms_of.kind_of (forms_in rows.now factor1.entry.field)) factor1 }
+    requires factor2 { IsResolved rows.now.fields.items (forms_of.kind_of (forms_in rows.now factor1.entry.field)) factor2 }
     requires low { 1 ≤ position }
-    requires high { position ≤ forms_of.entries_of (forms_in rows.now factor2.field) }
-    ensures { result ≡ of.stands (acts.standing (forms_in rows.now) (world_of S.contents S.currents memory.now) factor1 factor2) order position }
+    requires high { position ≤ forms_of.entries_of (forms_in rows.now factor2.entry.field) }
+    ensures { result ≡ of.stands (acts.standing (forms_in rows.now) (world_of S.contents S.currents memory.now) factor1.entry factor2.entry) order position }
 {
-    let kind = kind_of(form_at(rows, factor1.field));
     let entry = Entry {
-        field: factor2.field,
-        index: factor2.index,
         position,
+        ..factor2.entry
     };
-    same_order(order, compared(rows, memory, kind, entry, factor1))
+    let other = Resolved {
+        entry,
+        form: factor2.form,
+    };
+    same_order(
+        order,
+        compared(rows, memory, factor1.form.kind, other, factor1),
+    )
 }
 
 /// The first position, from one to the last, whose entry stands so to factor 1.
 fn first_one<S: Store + Drop>(
     rows: &Rows,
     memory: &Memory<S>,
-    factor1: Entry<u16>,
-    factor2: Entry<u16>,
+    factor1: Resolved,
+    factor2: Resolved,
     order: Ordering,
     from: u16,
     last: u16,
 ) -> Option<u16>
     requires ready { IsReady S.forms S.contents S.currents rows.now.fields.items memory.now }
-    requires factor1 { IsValue rows.now.fields.items (forms_of.kind_of (forms_in rows.now factor1.field)) factor1.field factor1.position }
-    requires factor2 { IsValue rows.now.fields.items (forms_of.kind_of (forms_in rows.now factor1.field)) factor2.field factor2.position }
+    requires factor1 { IsResolved rows.now.fields.items (forms_of.kind_of (forms_in rows.now factor1.entry.field)) factor1 }
+    requires factor2 { IsResolved rows.now.fields.items (forms_of.kind_of (forms_in rows.now factor1.entry.field)) factor2 }
     requires low { 1 ≤ from }
-    requires last { last ≡ forms_of.entries_of (forms_in rows.now factor2.field) }
+    requires last { last ≡ forms_of.entries_of (forms_in rows.now factor2.entry.field) }
     requires few { last ≤ 9999 }
-    ensures { result ≡ of.first_one (acts.standing (forms_in rows.now) (world_of S.contents S.currents memory.now) factor1 factor2) order (of.positions from last) }
+    ensures { result ≡ of.first_one (acts.standing (forms_in rows.now) (world_of S.contents S.currents memory.now) factor1.entry factor2.entry) order (of.positions from last) }
 {
     'positions: for position in from..last + 1 {
         if stands(rows, memory, factor1, factor2, order, position) {
@@ -100,20 +106,20 @@ fn first_one<S: Store + Drop>(
 fn last_one<S: Store + Drop>(
     rows: &Rows,
     memory: &Memory<S>,
-    factor1: Entry<u16>,
-    factor2: Entry<u16>,
+    factor1: Resolved,
+    factor2: Resolved,
     order: Ordering,
     from: u16,
     last: u16,
 ) -> Option<u16>
     requires ready { IsReady S.forms S.contents S.currents rows.now.fields.items memory.now }
-    requires factor1 { IsValue rows.now.fields.items (forms_of.kind_of (forms_in rows.now factor1.field)) factor1.field factor1.position }
-    requires factor2 { IsValue rows.now.fields.items (forms_of.kind_of (forms_in rows.now factor1.field)) factor2.field factor2.position }
+    requires factor1 { IsResolved rows.now.fields.items (forms_of.kind_of (forms_in rows.now factor1.entry.field)) factor1 }
+    requires factor2 { IsResolved rows.now.fields.items (forms_of.kind_of (forms_in rows.now factor1.entry.field)) factor2 }
     requires low { 1 ≤ from }
     requires some { from ≤ last }
-    requires last { last ≡ forms_of.entries_of (forms_in rows.now factor2.field) }
+    requires last { last ≡ forms_of.entries_of (forms_in rows.now factor2.entry.field) }
     requires few { last ≤ 9999 }
-    ensures { result ≡ of.last_one (acts.standing (forms_in rows.now) (world_of S.contents S.currents memory.now) factor1 factor2) order (of.positions from last) }
+    ensures { result ≡ of.last_one (acts.standing (forms_in rows.now) (world_of S.contents S.currents memory.now) factor1.entry factor2.entry) order (of.positions from last) }
 {
     'positions: for back in 0..last + 1 - from {
         let position = last - back;
@@ -125,13 +131,13 @@ fn last_one<S: Store + Drop>(
 }
 
 /// From where a search goes: the first entry, or the one that its index names.
-fn start_of(factor2: Entry<u16>) -> u16
-    ensures { result ≡ acts.start_of factor2 }
+fn start_of(factor2: Resolved) -> u16
+    ensures { result ≡ acts.start_of factor2.entry }
 {
-    match factor2.index {
+    match factor2.entry.index {
         Index::Blank => 1,
-        Index::Literal(_) => factor2.position,
-        Index::Field(_) => factor2.position,
+        Index::Literal(_) => factor2.entry.position,
+        Index::Field(_) => factor2.entry.position,
     }
 }
 
@@ -140,17 +146,17 @@ fn start_of(factor2: Entry<u16>) -> u16
 fn nearest<S: Store + Drop>(
     rows: &Rows,
     memory: &Memory<S>,
-    factor1: Entry<u16>,
-    factor2: Entry<u16>,
+    factor1: Resolved,
+    factor2: Resolved,
     order: Ordering,
 ) -> Option<u16>
     requires ready { IsReady S.forms S.contents S.currents rows.now.fields.items memory.now }
-    requires factor1 { IsValue rows.now.fields.items (forms_of.kind_of (forms_in rows.now factor1.field)) factor1.field factor1.position }
-    requires factor2 { IsValue rows.now.fields.items (forms_of.kind_of (forms_in rows.now factor1.field)) factor2.field factor2.position }
-    ensures { result ≡ of.nearest (acts.standing (forms_in rows.now) (world_of S.contents S.currents memory.now) factor1 factor2) order (of.positions (acts.start_of factor2) (forms_of.entries_of (forms_in rows.now factor2.field))) }
+    requires factor1 { IsResolved rows.now.fields.items (forms_of.kind_of (forms_in rows.now factor1.entry.field)) factor1 }
+    requires factor2 { IsResolved rows.now.fields.items (forms_of.kind_of (forms_in rows.now factor1.entry.field)) factor2 }
+    ensures { result ≡ of.nearest (acts.standing (forms_in rows.now) (world_of S.contents S.currents memory.now) factor1.entry factor2.entry) order (of.positions (acts.start_of factor2.entry) (forms_of.entries_of (forms_in rows.now factor2.entry.field))) }
 {
     let from = start_of(factor2);
-    let last = entries_of(form_at(rows, factor2.field));
+    let last = factor2.form.entries;
     match order {
         Ordering::Less => last_one(rows, memory, factor1, factor2, order, from, last),
         Ordering::Equal => first_one(rows, memory, factor1, factor2, order, from, last),
@@ -162,15 +168,15 @@ fn nearest<S: Store + Drop>(
 fn nearest_if_asked<S: Store + Drop>(
     rows: &Rows,
     memory: &Memory<S>,
-    factor1: Entry<u16>,
-    factor2: Entry<u16>,
+    factor1: Resolved,
+    factor2: Resolved,
     order: Ordering,
     indicator: Option<u8>,
 ) -> Option<Found>
     requires ready { IsReady S.forms S.contents S.currents rows.now.fields.items memory.now }
-    requires factor1 { IsValue rows.now.fields.items (forms_of.kind_of (forms_in rows.now factor1.field)) factor1.field factor1.position }
-    requires factor2 { IsValue rows.now.fields.items (forms_of.kind_of (forms_in rows.now factor1.field)) factor2.field factor2.position }
-    ensures { result ≡ of.if_asked indicator (of.found_as order (of.nearest (acts.standing (forms_in rows.now) (world_of S.contents S.currents memory.now) factor1 factor2) order (of.positions (acts.start_of factor2) (forms_of.entries_of (forms_in rows.now factor2.field))))) }
+    requires factor1 { IsResolved rows.now.fields.items (forms_of.kind_of (forms_in rows.now factor1.entry.field)) factor1 }
+    requires factor2 { IsResolved rows.now.fields.items (forms_of.kind_of (forms_in rows.now factor1.entry.field)) factor2 }
+    ensures { result ≡ of.if_asked indicator (of.found_as order (of.nearest (acts.standing (forms_in rows.now) (world_of S.contents S.currents memory.now) factor1.entry factor2.entry) order (of.positions (acts.start_of factor2.entry) (forms_of.entries_of (forms_in rows.now factor2.entry.field))))) }
 {
     match indicator {
         None => None,
@@ -186,14 +192,14 @@ fn nearest_if_asked<S: Store + Drop>(
 fn search<S: Store + Drop>(
     rows: &Rows,
     memory: &Memory<S>,
-    factor1: Entry<u16>,
-    factor2: Entry<u16>,
+    factor1: Resolved,
+    factor2: Resolved,
     shows: Shows,
 ) -> Option<Found>
     requires ready { IsReady S.forms S.contents S.currents rows.now.fields.items memory.now }
-    requires factor1 { IsValue rows.now.fields.items (forms_of.kind_of (forms_in rows.now factor1.field)) factor1.field factor1.position }
-    requires factor2 { IsValue rows.now.fields.items (forms_of.kind_of (forms_in rows.now factor1.field)) factor2.field factor2.position }
-    ensures { result ≡ acts.found_in (forms_in rows.now) (world_of S.contents S.currents memory.now) factor1 factor2 shows }
+    requires factor1 { IsResolved rows.now.fields.items (forms_of.kind_of (forms_in rows.now factor1.entry.field)) factor1 }
+    requires factor2 { IsResolved rows.now.fields.items (forms_of.kind_of (forms_in rows.now factor1.entry.field)) factor2 }
+    ensures { result ≡ acts.found_in (forms_in rows.now) (world_of S.contents S.currents memory.now) factor1.entry factor2.entry shows }
 {
     match nearest_if_asked(rows, memory, factor1, factor2, Ordering::Equal, shows.zero) {
         Some(found) => return Some(found),
@@ -239,7 +245,7 @@ fn make_current<S: Store + Drop>(rows: &Rows, memory: &mut Memory<S>, field: u16
     ensures ready { IsReady S.forms S.contents S.currents rows.now.fields.items memory.new }
     ensures form { memory.new.form ≡ memory.old.form }
 {
-    if is_table(form_at(rows, field)) {
+    if is_table_form(form_at(rows, field)) {
         memory.store.set_current(field, position);
     }
 }
@@ -290,12 +296,12 @@ fn place<S: Store + Drop>(
     }
 }
 
-fn field_of(to: Option<Entry<u16>>) -> Option<u16>
-    ensures { result ≡ option_map acts.field_of_entry to }
+fn field_of(to: Option<Resolved>) -> Option<u16>
+    ensures { result ≡ option_map acts.field_of_entry (option_map entry_in to) }
 {
     match to {
         None => None,
-        Some(to) => Some(to.field),
+        Some(to) => Some(to.entry.field),
     }
 }
 
@@ -313,23 +319,23 @@ fn order_of(found: Option<Found>) -> Option<Ordering>
 pub fn look_up<S: Store + Drop>(
     rows: &Rows,
     memory: &mut Memory<S>,
-    factor1: Entry<u16>,
-    factor2: Entry<u16>,
-    to: Option<Entry<u16>>,
+    factor1: Resolved,
+    factor2: Resolved,
+    to: Option<Resolved>,
     shows: Shows,
 ) -> End
     requires ready { IsReady S.forms S.contents S.currents rows.now.fields.items memory.old }
-    requires factor1 { IsValue rows.now.fields.items (forms_of.kind_of (forms_in rows.now factor1.field)) factor1.field factor1.position }
-    requires factor2 { IsValue rows.now.fields.items (forms_of.kind_of (forms_in rows.now factor1.field)) factor2.field factor2.position }
-    requires reads { reads_index rows.now.fields.items factor2.index ≡ true }
-    requires positions { rows_of.holds_position (forms_in rows.now) factor2.index (option_map acts.field_of_entry to) (forms_of.entries_of (forms_in rows.now factor2.field)) ≡ true }
-    ensures done { quiet (end_of result) (world_of S.contents S.currents memory.new) ≡ acts.looked_up (forms_in rows.now) (world_of S.contents S.currents memory.old) factor2 (option_map acts.field_of_entry to) shows (acts.found_in (forms_in rows.now) (world_of S.contents S.currents memory.old) factor1 factor2 shows) }
+    requires factor1 { IsResolved rows.now.fields.items (forms_of.kind_of (forms_in rows.now factor1.entry.field)) factor1 }
+    requires factor2 { IsResolved rows.now.fields.items (forms_of.kind_of (forms_in rows.now factor1.entry.field)) factor2 }
+    requires reads { reads_index rows.now.fields.items factor2.entry.index ≡ true }
+    requires positions { rows_of.holds_position (forms_in rows.now) factor2.entry.index (option_map acts.field_of_entry (option_map entry_in to)) (forms_of.entries_of (forms_in rows.now factor2.entry.field)) ≡ true }
+    ensures done { quiet (end_of result) (world_of S.contents S.currents memory.new) ≡ acts.looked_up (forms_in rows.now) (world_of S.contents S.currents memory.old) factor2.entry (option_map acts.field_of_entry (option_map entry_in to)) shows (acts.found_in (forms_in rows.now) (world_of S.contents S.currents memory.old) factor1.entry factor2.entry shows) }
     ensures ends { IsRightEnd (end_of result) }
     ensures ready { IsReady S.forms S.contents S.currents rows.now.fields.items memory.new }
     ensures form { memory.new.form ≡ memory.old.form }
 {
     let found = search(rows, memory, factor1, factor2, shows);
-    place(rows, memory, factor2, field_of(to), found);
+    place(rows, memory, factor2.entry, field_of(to), found);
     show_if_any(&mut memory.on, shows, order_of(found));
     End::GoesOn
 }

@@ -4,13 +4,13 @@ ghost use Rattle.rpg_effect.specs.Act as acts;
 ghost use Rattle.rpg_effect.specs.Forms as forms_of;
 ghost use Rattle.rpg_effect.specs.World.{number_at};
 ghost use Rattle.rpg_effect.specs.declared.form.Kind.TheVariants as kinds;
-ghost use Rattle.rpg_operations.specs.Good.{IsValue};
+ghost use Rattle.rpg_operations.specs.Good.{IsResolved};
 ghost use Rattle.rpg_memory.specs.Memory.{world_of};
 ghost use Rattle.rpg_operations.specs.Ready.{IsReady, forms_in};
 
-use crate::reading::{decimals_of, entries_of, form_at, target_of};
+use crate::reading::target_of;
+use crate::resolved::Resolved;
 use rpg_decimal::{Scale, keep};
-use rpg_effect::operation::Entry;
 use rpg_memory::memory::Memory;
 use rpg_program::row::Rows;
 use rpg_store::store::Store;
@@ -25,16 +25,16 @@ fn plus(total: i128, n: i64) -> i128
 
 /// The sum of all entries of an array.
 #[tactic(auto, using(crate::proofs::Values::sums))]
-fn sum<S: Store + Drop>(rows: &Rows, memory: &Memory<S>, array: Entry<u16>) -> i128
+fn sum<S: Store + Drop>(rows: &Rows, memory: &Memory<S>, array: Resolved) -> i128
     requires ready { IsReady S.forms S.contents S.currents rows.now.fields.items memory.now }
-    requires array { IsValue rows.now.fields.items kinds.Number array.field array.position }
-    ensures value { result ≡ acts.sum_to (number_at (world_of S.contents S.currents memory.now) array.field) (forms_of.entries_of (forms_in rows.now array.field)) }
+    requires array { IsResolved rows.now.fields.items kinds.Number array }
+    ensures value { result ≡ acts.sum_to (number_at (world_of S.contents S.currents memory.now) array.entry.field) (forms_of.entries_of (forms_in rows.now array.entry.field)) }
     ensures bound { unsigned_abs result < 10 ^ 36 }
 {
-    let last = entries_of(form_at(rows, array.field));
+    let last = array.form.entries;
     let mut total = 0i128;
     'entries: for position in 1..last + 1 {
-        total = plus(total, memory.store.number(array.field, position));
+        total = plus(total, memory.store.number(array.entry.field, position));
     }
     total
 }
@@ -45,17 +45,17 @@ pub fn summed<S: Store + Drop>(
     rows: &Rows,
     memory: &Memory<S>,
     half: bool,
-    factor2: Entry<u16>,
-    to: Entry<u16>,
+    factor2: Resolved,
+    to: Resolved,
 ) -> i64
     requires ready { IsReady S.forms S.contents S.currents rows.now.fields.items memory.now }
-    requires factor2 { IsValue rows.now.fields.items kinds.Number factor2.field factor2.position }
-    requires to { IsValue rows.now.fields.items kinds.Number to.field to.position }
-    ensures value { result ≡ acts.kept half (forms_in rows.now to.field) (acts.summed (forms_in rows.now) (world_of S.contents S.currents memory.now) factor2) }
-    ensures length { unsigned_abs result < 10 ^ forms_of.length_of (forms_in rows.now to.field) }
+    requires factor2 { IsResolved rows.now.fields.items kinds.Number factor2 }
+    requires to { IsResolved rows.now.fields.items kinds.Number to }
+    ensures value { result ≡ acts.kept half (forms_in rows.now to.entry.field) (acts.summed (forms_in rows.now) (world_of S.contents S.currents memory.now) factor2.entry) }
+    ensures length { unsigned_abs result < 10 ^ forms_of.length_of (forms_in rows.now to.entry.field) }
 {
     let scale = Scale {
-        value: decimals_of(form_at(rows, factor2.field)),
+        value: factor2.form.decimals,
     };
     keep(sum(rows, memory, factor2), scale, target_of(rows, to, half))
 }

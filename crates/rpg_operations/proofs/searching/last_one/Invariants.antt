@@ -7,5 +7,5 @@ use Rattle.rpg_effect.specs.Forms.{form_at}
 
 abbrev pub invariant-positions : goal.invariant-positions
 invariant-positions g l =
-    let s = standing (form_at l.rows.fields.items) (world_of g.S.Store.contents g.S.Store.currents l.memory) l.factor1 l.factor2 in
+    let s = standing (form_at l.rows.fields.items) (world_of g.S.Store.contents g.S.Store.currents l.memory) l.factor1.entry l.factor2.entry in
     last_one s l.order (positions l.from (l.last - l.back)) ≡ last_one s l.order (positions l.from l.last)
