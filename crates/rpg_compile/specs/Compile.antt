@@ -8,6 +8,7 @@ use Rattle.rpg_compile.specs.declared.fault.CompileFault.TheVariants.{At, NoMemo
 use Rattle.rpg_compile.specs.declared.fault.SourceCode.TheVariants.{Sheet, Fault}
 use Rattle.rpg_faults.specs.Faults.{Faultless, IsLeastFault}
 use Rattle.rpg_program.specs.Object.{Object}
+use Rattle.rpg_rules.specs.Accepted.{IsAccepted}
 use Rattle.rpg_spec.specs.Cards.{card_of}
 use Rattle.rpg_sheet.specs.Sheet.{first_fault, source}
 use Rattle.rpg_sheet.specs.declared.sheet.SheetFault.{SheetFault}
@@ -17,11 +18,12 @@ use Rattle.rpg_sheet.specs.declared.sheet.SheetFault.TheVariants as sheet
 abbrev pub cards_in : List ℕ → List SpecCard
 cards_in text = spec_cards (map card_of (source text))
 
--- a source without faults, and the program that it stands for
+-- a source without faults, and the program that it stands for, which obeys all rules
 pub record Compiles (text : List ℕ) (allowance : ℕ) (p : Object) : Type 0 where
   pub readable : first_fault (source text) ≡ None
   pub faultless : Faultless (cards_in text)
   pub program : p ≡ program_of (cards_in text) allowance
+  pub accepted : IsAccepted p
 
 -- a fault of the sheets, as it is answered
 abbrev pub of_sheet : SheetFault → CompileFault

@@ -8,6 +8,7 @@ use crate::fault::{CompileFault, SourceCode};
 use crate::program::program_of;
 use rpg_faults::first_fault;
 use rpg_program::Program;
+use rpg_translation::laws::programs_are_accepted;
 use std::alloc::Global;
 
 /// Compiles a source. `allowance` is what its program may spend in a cycle on backward branches and calls.
@@ -16,6 +17,7 @@ pub fn compile(alloc: Global, text: &[u8], allowance: u16) -> Result<Program, Co
     ensures ok { IfOk result (λ program. compiling.Compiles text.now allowance program) }
     ensures err { IfErr result (λ fault. compiling.IsRefusal fault text.now) }
 {
+    programs_are_accepted();
     let cards = rpg_sheet::cards(alloc, text)?;
     let cards = spec_cards(alloc, &cards)?;
     match first_fault(alloc, &cards)? {
