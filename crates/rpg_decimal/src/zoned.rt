@@ -19,8 +19,10 @@ fn digit_of(c: u8) -> u8
     ensures value { result ≡ digit_of c }
     ensures below { result < 10 }
 {
+    if c.is_ascii_digit() {
+        return c - b'0';
+    }
     match c {
-        b'0'..=b'9' => c - b'0',
         b'A'..=b'I' => c - b'@',
         b'J'..=b'R' => c - b'I',
         _ => 0,
@@ -38,8 +40,11 @@ fn is_minus(c: u8) -> bool
 fn may_stand(last: bool, c: u8) -> bool
     ensures { result ≡ may_stand last c }
 {
+    if c.is_ascii_digit() {
+        return true;
+    }
     match c {
-        b' ' | b'0'..=b'9' => true,
+        b' ' => true,
         b'{' | b'}' | b'A'..=b'R' => last,
         _ => false,
     }
