@@ -63,19 +63,24 @@ module _ (cards : List SpecCard) (none : Faultless cards) (allowance : ℕ) wher
 
   -- ---- numbers
 
-  result_is : (k : CalculationSpec) → is_none k.result_field ≡ false → is_undefined cards k.result_field ≡ false → Holds (at cards none) (result_of table k) (of_result cards none k.result_field)
+  result_is : (k : CalculationSpec) → is_none k.result_field ≡ false → is_undefined cards k.result_field ≡ false →
+      Holds (at cards none) (result_of table k) (of_result cards none k.result_field)
   result_is k some defined = result_holds cards none k.result_field some defined
 
-  result_number : (k : CalculationSpec) → is_none k.result_field ≡ false → is_undefined cards k.result_field ≡ false → has_text (of_result cards none k.result_field) ≡ false → IsNumber (at cards none) (result_of table k)
+  result_number : (k : CalculationSpec) → is_none k.result_field ≡ false → is_undefined cards k.result_field ≡ false →
+      has_text (of_result cards none k.result_field) ≡ false → IsNumber (at cards none) (result_of table k)
   result_number k some defined kind = number_from (at cards none) (result_of table k) (of_result cards none k.result_field) (result_is k some defined) kind
 
-  result_written : (k : CalculationSpec) → is_none k.result_field ≡ false → is_undefined cards k.result_field ≡ false → is_never_written (of_result cards none k.result_field) ≡ false → may_write (at cards none (result_of table k).field) ≡ true
+  result_written : (k : CalculationSpec) → is_none k.result_field ≡ false → is_undefined cards k.result_field ≡ false →
+      is_never_written (of_result cards none k.result_field) ≡ false → may_write (at cards none (result_of table k).field) ≡ true
   result_written k some defined free = may_be_written (at cards none) (result_of table k) (of_result cards none k.result_field) (result_is k some defined) free
 
-  second_is : (k : CalculationSpec) → is_none k.factor_2 ≡ false → is_undefined cards (name_in k.factor_2) ≡ false → HasLiteral cards none k.factor_2 → Holds (at cards none) (factor_of table k.factor_2) (of_factor cards none k.factor_2)
+  second_is : (k : CalculationSpec) → is_none k.factor_2 ≡ false → is_undefined cards (name_in k.factor_2) ≡ false → HasLiteral cards none k.factor_2 →
+      Holds (at cards none) (factor_of table k.factor_2) (of_factor cards none k.factor_2)
   second_is k some defined has = factor_holds cards none k.factor_2 some defined has
 
-  second_number : (k : CalculationSpec) → is_none k.factor_2 ≡ false → is_undefined cards (name_in k.factor_2) ≡ false → HasLiteral cards none k.factor_2 → has_text (of_factor cards none k.factor_2) ≡ false → IsNumber (at cards none) (factor_of table k.factor_2)
+  second_number : (k : CalculationSpec) → is_none k.factor_2 ≡ false → is_undefined cards (name_in k.factor_2) ≡ false → HasLiteral cards none k.factor_2 →
+      has_text (of_factor cards none k.factor_2) ≡ false → IsNumber (at cards none) (factor_of table k.factor_2)
   second_number k some defined has kind = number_from (at cards none) (factor_of table k.factor_2) (of_factor cards none k.factor_2) (second_is k some defined has) kind
 
   -- the operands of ADD, SUB, MULT and DIV
@@ -85,7 +90,8 @@ module _ (cards : List SpecCard) (none : Faultless cards) (allowance : ℕ) wher
     result : IsNumber (at cards none) (result_of table k)
     written : may_write (at cards none (result_of table k).field) ≡ true
 
-  three : (k : CalculationSpec) → bad_operation k (Some op.Add) ≡ false → operation_lacks_name cards k op.Add ≡ false → wrong_in_operation cards k op.Add ≡ false → HasLiteral cards none k.factor_1 → HasLiteral cards none k.factor_2 → AreThree k
+  three : (k : CalculationSpec) → bad_operation k (Some op.Add) ≡ false → operation_lacks_name cards k op.Add ≡ false → wrong_in_operation cards k op.Add ≡ false →
+      HasLiteral cards none k.factor_1 → HasLiteral cards none k.factor_2 → AreThree k
   three k is_filled is_named is_right one two =
       let filled = or_parts _ _ (or_parts _ _ is_filled).0 in
       let named = or_parts _ _ is_named in
@@ -107,7 +113,8 @@ module _ (cards : List SpecCard) (none : Faultless cards) (allowance : ℕ) wher
     result : IsNumber (at cards none) (result_of table k)
     written : may_write (at cards none (result_of table k).field) ≡ true
 
-  two : (k : CalculationSpec) → bad_operation k (Some op.ZeroAdd) ≡ false → operation_lacks_name cards k op.ZeroAdd ≡ false → wrong_in_operation cards k op.ZeroAdd ≡ false → HasLiteral cards none k.factor_2 → AreTwo k
+  two : (k : CalculationSpec) → bad_operation k (Some op.ZeroAdd) ≡ false → operation_lacks_name cards k op.ZeroAdd ≡ false →
+      wrong_in_operation cards k op.ZeroAdd ≡ false → HasLiteral cards none k.factor_2 → AreTwo k
   two k is_filled is_named is_right has =
       let filled = or_parts _ _ (or_parts _ _ is_filled).0 in
       let filled_before = or_parts _ _ filled.0 in
@@ -125,7 +132,8 @@ module _ (cards : List SpecCard) (none : Faultless cards) (allowance : ℕ) wher
   marked : (k : CalculationSpec) (o : Operation) → IsGood k o → AreIndicators (shows_of k.resulting_indicators) → are_settable (shows_of k.resulting_indicators) ≡ true
   marked k o h row = settable_shows k.resulting_indicators h.marks row
 
-  moved : (k : CalculationSpec) → bad_operation k (Some op.Move) ≡ false → operation_lacks_name cards k op.Move ≡ false → wrong_in_operation cards k op.Move ≡ false → HasLiteral cards none k.factor_2 → (side : Side)
+  moved : (k : CalculationSpec) → bad_operation k (Some op.Move) ≡ false → operation_lacks_name cards k op.Move ≡ false →
+      wrong_in_operation cards k op.Move ≡ false → HasLiteral cards none k.factor_2 → (side : Side)
       → (r : PlaceRule) → place_breaks r program Detail (Act (Move side (factor_of table k.factor_2) (result_of table k))) ≡ false
   unfolding program_of
   moved k is_filled is_named is_right has side =

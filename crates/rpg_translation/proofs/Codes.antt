@@ -56,17 +56,20 @@ each_with_first P None ys here h = h
 each_with_first P (Some y) ys here h = (here y refl, h)
 
 module _ (cards : List SpecCard) (none : Faultless cards) (allowance : ℕ) where
-  first_literal : (before : List SpecCard) (c : SpecCard) (after : List SpecCard) (k : CalculationSpec) → cards ≡ before ++ c ∷ after → calculation_on c.spec ≡ Some k → HasLiteral cards none k.factor_1
+  first_literal : (before : List SpecCard) (c : SpecCard) (after : List SpecCard) (k : CalculationSpec) → cards ≡ before ++ c ∷ after →
+      calculation_on c.spec ≡ Some k → HasLiteral cards none k.factor_1
   first_literal before c after k split is l e =
       let first : first_constant c.spec ≡ Some (constant_of l) = first_on c.spec k is ∙ ap (option_and_then factor_constant) e in
       constant_leads cards before c after (constant_of l) split (or_left _ _ (stands_itself (constant_of l) (first_constant c.spec) first))
 
-  second_literal : (before : List SpecCard) (c : SpecCard) (after : List SpecCard) (k : CalculationSpec) → cards ≡ before ++ c ∷ after → calculation_on c.spec ≡ Some k → HasLiteral cards none k.factor_2
+  second_literal : (before : List SpecCard) (c : SpecCard) (after : List SpecCard) (k : CalculationSpec) → cards ≡ before ++ c ∷ after →
+      calculation_on c.spec ≡ Some k → HasLiteral cards none k.factor_2
   second_literal before c after k split is l e =
       let second : second_constant c.spec ≡ Some (constant_of l) = second_on c.spec k is ∙ ap (option_and_then factor_constant) e in
       constant_leads cards before c after (constant_of l) split (or_right (stands_in (constant_of l) (first_constant c.spec)) _ (stands_itself (constant_of l) (second_constant c.spec) second))
 
-  calculation_good : (before : List SpecCard) (c : SpecCard) (after : List SpecCard) (k : CalculationSpec) (o : Operation) → cards ≡ before ++ c ∷ after → calculation_on c.spec ≡ Some k → k.operation ≡ Some o → IsGood cards none allowance k o
+  calculation_good : (before : List SpecCard) (c : SpecCard) (after : List SpecCard) (k : CalculationSpec) (o : Operation) → cards ≡ before ++ c ∷ after →
+      calculation_on c.spec ≡ Some k → k.operation ≡ Some o → IsGood cards none allowance k o
   calculation_good before c after k o split is has =
       let filled : bad_calculation k ≡ false = subst (λ (x : Option CalculationSpec). option_map_or bad_calculation x false ≡ false) is (or_parts _ _ (good_columns cards none before c after split)).0 in
       let all_named : option_map_or (calculation_lacks_name cards) (calculation_on c.spec) false ≡ false =
@@ -92,7 +95,8 @@ module _ (cards : List SpecCard) (none : Faultless cards) (allowance : ℕ) wher
   on_card : (before : List SpecCard) (c : SpecCard) (after : List SpecCard) → cards ≡ before ++ c ∷ after → IsCodeCard c
   on_card before c after split i e = by_card (calculation_on c.spec) refl e
     where
-      by_operation : (k : CalculationSpec) → calculation_on c.spec ≡ Some k → (o : Option Operation) → k.operation ≡ o → option_map (instruction_of (table_of cards) k) o ≡ Some i → IsRight cards none allowance i
+      by_operation : (k : CalculationSpec) → calculation_on c.spec ≡ Some k → (o : Option Operation) → k.operation ≡ o →
+          option_map (instruction_of (table_of cards) k) o ≡ Some i → IsRight cards none allowance i
       by_operation k is None has h = cc
       by_operation k is (Some o) has h = let same : instruction_of (table_of cards) k o ≡ i = cc in
           subst (IsRight cards none allowance) same (instruction_right cards none allowance k o (calculation_good before c after k o split is has))
@@ -105,7 +109,8 @@ module _ (cards : List SpecCard) (none : Faultless cards) (allowance : ℕ) wher
   code_from [] good = tt
   code_from (c ∷ cs) good = each_with_first (IsRight cards none allowance) (option_and_then (instruction_on (table_of cards)) (calculation_on c.spec)) (code_of (table_of cards) cs) good.0 (code_from cs good.1)
 
-  pub code_passes : Each IsInstructionRow (code_of (table_of cards) cards) → (r : PlaceRule) → Each (λ i. place_breaks r (program_of cards allowance) Detail i ≡ false) (code_of (table_of cards) cards)
+  pub code_passes : Each IsInstructionRow (code_of (table_of cards) cards) → (r : PlaceRule) →
+      Each (λ i. place_breaks r (program_of cards allowance) Detail i ≡ false) (code_of (table_of cards) cards)
   code_passes rows r =
       each_both (IsRight cards none allowance) IsInstructionRow (λ i. place_breaks r (program_of cards allowance) Detail i ≡ false) (code_of (table_of cards) cards) (λ i right row. right row r) (code_from cards (each_card cards IsCodeCard on_card)) rows
 

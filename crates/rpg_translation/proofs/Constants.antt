@@ -37,7 +37,8 @@ module _ (x : Constant) (before : List SpecCard) (absent : stands_on x before �
       by_cases true e = sym (alike f e)
       by_cases false e = or_false (is_same x f)
 
-  second_kept : (o p : Option Constant) → (stands_in x o || list_any (is_same x) (option_to_list (option_and_then (λ g. unless (stands_in g o || stands_on g before) g) p))) ≡ (stands_in x o || stands_in x p)
+  second_kept : (o p : Option Constant) →
+      (stands_in x o || list_any (is_same x) (option_to_list (option_and_then (λ g. unless (stands_in g o || stands_on g before) g) p))) ≡ (stands_in x o || stands_in x p)
   second_kept o None = refl
   second_kept o (Some g) = by_cases (stands_in g o) (stands_on g before) refl refl
     where
@@ -45,17 +46,20 @@ module _ (x : Constant) (before : List SpecCard) (absent : stands_on x before �
       either true e stands = let same : x ≡ g = is_same-equal x g e in let here : stands_in x o ≡ true = ap (λ y. stands_in y o) same ∙ stands in rw here refl
       either false e stands = refl
 
-      by_cases : (a b : Bool) → stands_in g o ≡ a → stands_on g before ≡ b → (stands_in x o || list_any (is_same x) (option_to_list (unless (a || b) g))) ≡ (stands_in x o || is_same x g)
+      by_cases : (a b : Bool) → stands_in g o ≡ a → stands_on g before ≡ b →
+          (stands_in x o || list_any (is_same x) (option_to_list (unless (a || b) g))) ≡ (stands_in x o || is_same x g)
       by_cases true b h e = either (is_same x g) refl h
       by_cases false true h e = ap (λ c. stands_in x o || c) (sym (alike g e))
       by_cases false false h e = ap (λ c. stands_in x o || c) (or_false (is_same x g))
 
 -- ---- the list has what stands on the cards
 
-stands_on-push : (x : Constant) (before : List SpecCard) (c : SpecCard) → stands_on x (before ++ c ∷ []) ≡ (stands_on x before || (stands_in x (first_constant c.spec) || stands_in x (second_constant c.spec)))
+stands_on-push : (x : Constant) (before : List SpecCard) (c : SpecCard) →
+    stands_on x (before ++ c ∷ []) ≡ (stands_on x before || (stands_in x (first_constant c.spec) || stands_in x (second_constant c.spec)))
 stands_on-push x before c = list_any-append (λ (d : SpecCard). stands_in x (first_constant d.spec) || stands_in x (second_constant d.spec)) before (c ∷ []) ∙ ap (λ b. stands_on x before || b) (or_false (stands_in x (first_constant c.spec) || stands_in x (second_constant c.spec)))
 
-among : (before cards : List SpecCard) (x : Constant) → (stands_on x before || list_any (is_same x) (constants_from before cards)) ≡ (stands_on x before || stands_on x cards)
+among : (before cards : List SpecCard) (x : Constant) →
+    (stands_on x before || list_any (is_same x) (constants_from before cards)) ≡ (stands_on x before || stands_on x cards)
 among before [] x = refl
 among before (c ∷ cs) x = by_cases (stands_on x before) refl (among (before ++ c ∷ []) cs x)
   where
@@ -96,7 +100,8 @@ place_found : (x : Constant) (xs : List Constant) → list_any (is_same x) xs �
 place_found x [] e = cc
 place_found x (y ∷ xs) e = by_test (is_same x y) refl e (place_found x xs)
   where
-    by_test : (b : Bool) → is_same x y ≡ b → (b || list_any (is_same x) xs) ≡ true → (list_any (is_same x) xs ≡ true → (i : ℕ) × HasPlace (is_same x) xs i × (slice_get xs i ≡ Some x))
+    by_test : (b : Bool) → is_same x y ≡ b → (b || list_any (is_same x) xs) ≡ true →
+        (list_any (is_same x) xs ≡ true → (i : ℕ) × HasPlace (is_same x) xs i × (slice_get xs i ≡ Some x))
         → (i : ℕ) × HasPlace (is_same x) (y ∷ xs) i × (slice_get (y ∷ xs) i ≡ Some x)
     by_test true is h later = (0, (ap (λ b. cond (not b) (1 + position_or_len (is_same x) xs) 0) is, omega arith), ap Some (sym (is_same-equal x y is)))
     by_test false is h later =
@@ -121,11 +126,13 @@ number_leads t x there =
 
 -- ---- the constants of a card
 
-stands_here : (x : Constant) (before : List SpecCard) (c : SpecCard) (after : List SpecCard) → (stands_in x (first_constant c.spec) || stands_in x (second_constant c.spec)) ≡ true → stands_on x (before ++ c ∷ after) ≡ true
+stands_here : (x : Constant) (before : List SpecCard) (c : SpecCard) (after : List SpecCard) →
+    (stands_in x (first_constant c.spec) || stands_in x (second_constant c.spec)) ≡ true → stands_on x (before ++ c ∷ after) ≡ true
 stands_here x [] c after e = or_left _ (stands_on x after) e
 stands_here x (d ∷ ds) c after e = or_right (stands_in x (first_constant d.spec) || stands_in x (second_constant d.spec)) _ (stands_here x ds c after e)
 
-pub constant_leads : (cards before : List SpecCard) (c : SpecCard) (after : List SpecCard) (x : Constant) → cards ≡ before ++ c ∷ after → (stands_in x (first_constant c.spec) || stands_in x (second_constant c.spec)) ≡ true →
+pub constant_leads : (cards before : List SpecCard) (c : SpecCard) (after : List SpecCard) (x : Constant) → cards ≡ before ++ c ∷ after →
+    (stands_in x (first_constant c.spec) || stands_in x (second_constant c.spec)) ≡ true →
     form_at (all_forms (table_of cards)) (constant_number (table_of cards) x) ≡ Some (constant_form x)
 constant_leads cards before c after x split e =
     number_leads (table_of cards) x (among_all cards x ∙ ap (stands_on x) split ∙ stands_here x before c after e)

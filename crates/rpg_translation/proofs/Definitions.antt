@@ -36,7 +36,8 @@ text_plain : (b : Bool) (len : ℕ) → is_none (cond b (Some (plain_form kind.T
 text_plain true len e = (plain_form kind.Text len 0, refl, record { plain = refl; no_array = refl; long = refl })
 text_plain false len e = cc
 
-number_plain : (b : Bool) (len decimals : ℕ) → is_none (cond b (Some (plain_form kind.Number len decimals)) None) ≡ false → HasPlain len (cond b (Some (plain_form kind.Number len decimals)) None)
+number_plain : (b : Bool) (len decimals : ℕ) → is_none (cond b (Some (plain_form kind.Number len decimals)) None) ≡ false →
+    HasPlain len (cond b (Some (plain_form kind.Number len decimals)) None)
 number_plain true len decimals e = (plain_form kind.Number len decimals, refl, record { plain = refl; no_array = refl; long = refl })
 number_plain false len decimals e = cc
 
@@ -53,7 +54,8 @@ no_array_in len o h = subst IsForm (sym h.1) (h.2.no_array)
 pub ordered : (file : Option FileSpec) (f : InputField) → outside_record file f ≡ false → f.from ≤ f.to
 ordered file f good = ltb-false f.to f.from (or_parts _ _ (or_parts _ _ good).0).1
 
-field_if : (b : Bool) (f : InputField) → b ≡ true → (b && is_none (cond b (sized_form (f.to + 1 - f.from) f.decimals) None)) ≡ false → HasPlain (f.to + 1 - f.from) (cond b (sized_form (f.to + 1 - f.from) f.decimals) None)
+field_if : (b : Bool) (f : InputField) → b ≡ true → (b && is_none (cond b (sized_form (f.to + 1 - f.from) f.decimals) None)) ≡ false →
+    HasPlain (f.to + 1 - f.from) (cond b (sized_form (f.to + 1 - f.from) f.decimals) None)
 field_if true f e good = sized_plain (f.to + 1 - f.from) f.decimals good
 field_if false f e good = cc
 
@@ -62,14 +64,16 @@ field_plain file f inside good = field_if (nat_le f.from f.to) f (le-leb f.from 
 
 -- ---- result fields
 
-result_defined : (len : Option ℕ) (name : Option (List ℕ)) (decimals : Option ℕ) → bad_size_of_result len decimals ≡ false → IsDefinition (option_and_then (λ n. option_map (λ (x : List ℕ). (x, sized_form n decimals)) name) len)
+result_defined : (len : Option ℕ) (name : Option (List ℕ)) (decimals : Option ℕ) → bad_size_of_result len decimals ≡ false →
+    IsDefinition (option_and_then (λ n. option_map (λ (x : List ℕ). (x, sized_form n decimals)) name) len)
 result_defined None name decimals good = tt
 result_defined (Some len) None decimals good = tt
 result_defined (Some len) (Some name) decimals good = no_array_in len (sized_form len decimals) (sized_plain len decimals good)
 
 -- ---- all cards
 
-defined_on_card : (file : Option FileSpec) (o : Option InputField) (p : Option CalculationSpec) → option_map_or bad_size_of_field o false ≡ false → option_map_or (outside_record file) o false ≡ false
+defined_on_card : (file : Option FileSpec) (o : Option InputField) (p : Option CalculationSpec) → option_map_or bad_size_of_field o false ≡ false →
+    option_map_or (outside_record file) o false ≡ false
     → option_map_or (λ k. bad_size_of_result k.length k.decimals) p false ≡ false → IsDefinition (first_some (option_map (λ (f : InputField). (f.name, field_form f)) o) (option_and_then definition_by p))
 defined_on_card file None None size inside result = tt
 defined_on_card file None (Some k) size inside result = result_defined k.length k.result_field k.decimals result
@@ -88,7 +92,8 @@ module _ (cards : List SpecCard) (none : Faultless cards) where
       defined_on_card (file_by (input_file_name before) cards) (input_field_on c.spec) (calculation_on c.spec) size.0 (inside_file before c after split) size.1)
 
   -- a definition has the form of its name
-  pub has_form : (before : List SpecCard) (c : SpecCard) (after : List SpecCard) (name : List ℕ) (form : FieldForm) → cards ≡ before ++ c ∷ after → definition_on c.spec ≡ Some (name, Some form) → form_of_name name cards ≡ Good form
+  pub has_form : (before : List SpecCard) (c : SpecCard) (after : List SpecCard) (name : List ℕ) (form : FieldForm) → cards ≡ before ++ c ∷ after →
+      definition_on c.spec ≡ Some (name, Some form) → form_of_name name cards ≡ Good form
   has_form before c after name form split is =
       let alike : is_other form (form_of_name name before) ≡ false = subst (λ (d : Option (List ℕ × Option FieldForm)). option_map_or (λ d. redefines_as before d.0 d.1) d false ≡ false) is (defines_alike cards none before c after split) in
       defined_here cards before c after name form split all_defined is alike

@@ -40,11 +40,13 @@ none_broken test (x ∷ xs) h (suc k) e = none_broken test xs h.1 k e
 
 -- ---- rows made of cards
 
-pub each_first : {X Y : Type 0} (P : Y → Type 0) (f : X → Y) (o : Option X) (ys : List Y) → ((x : X) → o ≡ Some x → P (f x)) → Each P ys → Each P (with_first (option_map f o) ys)
+pub each_first : {X Y : Type 0} (P : Y → Type 0) (f : X → Y) (o : Option X) (ys : List Y) → ((x : X) → o ≡ Some x → P (f x)) → Each P ys →
+    Each P (with_first (option_map f o) ys)
 each_first P f None ys here h = h
 each_first P f (Some x) ys here h = (here x refl, h)
 
-pub only_each_first : {X Y : Type 0} (P : Y → Type 0) (f : X → Y) (o : Option X) (ys : List Y) → ((x : X) → o ≡ Some x → P (f x)) → Each P ys → Each P (only_with_first (option_map f o) ys)
+pub only_each_first : {X Y : Type 0} (P : Y → Type 0) (f : X → Y) (o : Option X) (ys : List Y) → ((x : X) → o ≡ Some x → P (f x)) → Each P ys →
+    Each P (only_with_first (option_map f o) ys)
 only_each_first P f None ys here h = tt
 only_each_first P f (Some x) ys here h = (here x refl, h)
 
@@ -61,12 +63,14 @@ module _ (cards : List SpecCard) where
   pub each_card : (P : SpecCard → Type 0) → Seen cards (λ before c after. P c) → Each P cards
   each_card P h = each_from P h [] cards refl
 
-  front_from : (P : List SpecCard → Type 0) → Seen cards (λ before c after. P before → P (before ++ c ∷ [])) → (done front back : List SpecCard) → cards ≡ done ++ (front ++ back) → P done → P (done ++ front)
+  front_from : (P : List SpecCard → Type 0) → Seen cards (λ before c after. P before → P (before ++ c ∷ [])) → (done front back : List SpecCard) →
+      cards ≡ done ++ (front ++ back) → P done → P (done ++ front)
   front_from P step done [] back split h = subst P (sym (append-nil done)) h
   front_from P step done (c ∷ cs) back split h =
       subst P (append_assoc done (c ∷ []) cs)
       (front_from P step (done ++ c ∷ []) cs back (split ∙ sym (append_assoc done (c ∷ []) (cs ++ back))) (step done c (cs ++ back) split h))
 
   -- what holds of no cards, and goes on card by card, holds of the cards before each
-  pub front_keeps : (P : List SpecCard → Type 0) → P [] → Seen cards (λ before c after. P before → P (before ++ c ∷ [])) → (front back : List SpecCard) → cards ≡ front ++ back → P front
+  pub front_keeps : (P : List SpecCard → Type 0) → P [] → Seen cards (λ before c after. P before → P (before ++ c ∷ [])) → (front back : List SpecCard) →
+      cards ≡ front ++ back → P front
   front_keeps P none step front back split = front_from P step [] front back split none

@@ -41,24 +41,28 @@ module _ (cards : List SpecCard) (dir : Direction → Bool)
   abbrev pub IsOnly : FileSpec → Type 0
   IsOnly f = (only dir cards ≡ Some f) × (1 ≤ f.record_length)
 
-  first_is : (before : List SpecCard) (c : SpecCard) (after : List SpecCard) (f : FileSpec) → cards ≡ before ++ c ∷ after → file_on c.spec ≡ Some f → dir f.direction ≡ true → IsOnly f
+  first_is : (before : List SpecCard) (c : SpecCard) (after : List SpecCard) (f : FileSpec) → cards ≡ before ++ c ∷ after → file_on c.spec ≡ Some f →
+      dir f.direction ≡ true → IsOnly f
   first_is before c after f split is fits =
       let alone = once before c after f split is fits in
       let test = λ (g : FileSpec). dir g.direction in
       let here : first_file test (c ∷ after) ≡ Some f = ap (λ o. or_later test o (first_file test after)) is ∙ ap (λ b. cond b (Some f) (first_file test after)) fits in
       (ap (first_file test) split ∙ first_file-append test before (c ∷ after) ∙ ap (λ o. option_or o (first_file test (c ∷ after))) alone.0 ∙ here, alone.1)
 
-  by_name : (name : List ℕ) (f : FileSpec) (before : List SpecCard) (c : SpecCard) (cs : List SpecCard) (g : FileSpec) → cards ≡ before ++ c ∷ cs → dir f.direction ≡ true → (file_named name cs ≡ Some f → IsOnly f) → file_on c.spec ≡ Some g
+  by_name : (name : List ℕ) (f : FileSpec) (before : List SpecCard) (c : SpecCard) (cs : List SpecCard) (g : FileSpec) → cards ≡ before ++ c ∷ cs →
+      dir f.direction ≡ true → (file_named name cs ≡ Some f → IsOnly f) → file_on c.spec ≡ Some g
       → (b : Bool) → cond b (Some g) (file_named name cs) ≡ Some f → IsOnly f
   by_name name f before c cs g split fits later is true h = let same : g ≡ f = cc in first_is before c cs f split (is ∙ ap Some same) fits
   by_name name f before c cs g split fits later is false h = later h
 
-  by_file : (name : List ℕ) (f : FileSpec) (before : List SpecCard) (c : SpecCard) (cs : List SpecCard) → cards ≡ before ++ c ∷ cs → dir f.direction ≡ true → (file_named name cs ≡ Some f → IsOnly f)
+  by_file : (name : List ℕ) (f : FileSpec) (before : List SpecCard) (c : SpecCard) (cs : List SpecCard) → cards ≡ before ++ c ∷ cs → dir f.direction ≡ true →
+      (file_named name cs ≡ Some f → IsOnly f)
       → (o : Option FileSpec) → file_on c.spec ≡ o → or_later (has_name name) o (file_named name cs) ≡ Some f → IsOnly f
   by_file name f before c cs split fits later None is h = later h
   by_file name f before c cs split fits later (Some g) is h = by_name name f before c cs g split fits later is (has_name name g) h
 
-  named_from : (name : List ℕ) (f : FileSpec) (before after : List SpecCard) → cards ≡ before ++ after → file_named name after ≡ Some f → dir f.direction ≡ true → IsOnly f
+  named_from : (name : List ℕ) (f : FileSpec) (before after : List SpecCard) → cards ≡ before ++ after → file_named name after ≡ Some f → dir f.direction ≡ true →
+      IsOnly f
   named_from name f before [] split e fits = cc
   named_from name f before (c ∷ cs) split e fits =
       by_file name f before c cs split fits (λ h. named_from name f (before ++ c ∷ []) cs (split ∙ sym (append_assoc before (c ∷ []) cs)) h fits) (file_on c.spec) refl e
@@ -75,7 +79,8 @@ module _ (cards : List SpecCard) (dir : Direction → Bool)
   fit name None e h = cc
   fit name (Some f) e h = (f, e, named_is name f e (not-false (dir f.direction) h))
 
-  named_or_latest : (is_behind : Bool) (name last : Option (List ℕ)) → lacks_file cards dir is_behind name ≡ false → (is_behind ≡ true → HasFile last) → HasFile (option_or name last)
+  named_or_latest : (is_behind : Bool) (name last : Option (List ℕ)) → lacks_file cards dir is_behind name ≡ false → (is_behind ≡ true → HasFile last) →
+      HasFile (option_or name last)
   named_or_latest is_behind None last h known = known (not-false is_behind h)
   named_or_latest is_behind (Some name) last h known = fit name (file_named name cards) refl h
 
@@ -86,7 +91,8 @@ module _ (cards : List SpecCard) (dir : Direction → Bool)
     abbrev NamesFile : List SpecCard → Type 0
     NamesFile before = list_any heading before ≡ true → HasFile (latest named before)
 
-    one_more : (before : List SpecCard) (c : SpecCard) (after : List SpecCard) → cards ≡ before ++ c ∷ after → NamesFile before → (b : Bool) → heading c ≡ b → (list_any heading before || (b || false)) ≡ true → HasFile (option_or (named c.spec) (latest named before))
+    one_more : (before : List SpecCard) (c : SpecCard) (after : List SpecCard) → cards ≡ before ++ c ∷ after → NamesFile before → (b : Bool) → heading c ≡ b →
+        (list_any heading before || (b || false)) ≡ true → HasFile (option_or (named c.spec) (latest named before))
     one_more before c after split known true is some = named_or_latest (list_any heading before) (named c.spec) (latest named before) (names before c after split is) known
     one_more before c after split known false is some = subst (λ o. HasFile (option_or o (latest named before))) (sym (bare c is)) (known (or_false_true (list_any heading before) some))
       where

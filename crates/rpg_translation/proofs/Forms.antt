@@ -37,7 +37,8 @@ good_on : (name : List ℕ) (cards : List SpecCard) → AreDefined cards → IsG
 good_on name [] good = tt
 good_on name (c ∷ cs) good = good_or_later name (definition_on c.spec) (defined_on name cs) good.0 (good_on name cs good.1)
 
-given_good : (a b : Bool) (u p : FieldForm) (d : Defined) → is_array u.class ≡ false → is_array p.class ≡ false → IsGood d → IsGood (unless_given (cond a (Some u) (cond b (Some p) None)) d)
+given_good : (a b : Bool) (u p : FieldForm) (d : Defined) → is_array u.class ≡ false → is_array p.class ≡ false → IsGood d →
+    IsGood (unless_given (cond a (Some u) (cond b (Some p) None)) d)
 given_good true b u p d hu hp good = hu
 given_good false true u p d hu hp good = hp
 given_good false false u p d hu hp good = good
@@ -87,7 +88,8 @@ of_first Missing here all form e h good same = e ∙ h
 of_first Bad here all form e h good same = absurd (subst IsGood e good)
 of_first (Good first) here all form e h good same = e ∙ ap Good (same_form-equal first form (not-false _ same))
 
-pub defined_here : (cards before : List SpecCard) (c : SpecCard) (after : List SpecCard) (name : List ℕ) (form : FieldForm) → cards ≡ before ++ c ∷ after → AreDefined cards → definition_on c.spec ≡ Some (name, Some form) →
+pub defined_here : (cards before : List SpecCard) (c : SpecCard) (after : List SpecCard) (name : List ℕ) (form : FieldForm) → cards ≡ before ++ c ∷ after →
+    AreDefined cards → definition_on c.spec ≡ Some (name, Some form) →
     is_other form (form_of_name name before) ≡ false → form_of_name name cards ≡ Good form
 unfolding first_of
 defined_here cards before c after name form split good is same =

@@ -83,10 +83,12 @@ module _ (cards : List SpecCard) (none : Faultless cards) (allowance : ℕ) wher
 
   -- ---- a line whose cards are good
 
-  alternative_asked : (conditions : List Condition) → Each (λ (c : Condition). c.indicator ≡ 129 → ⊥) conditions → All IsAlternativeRow (conditions ∷ []) → list_all (list_all may_be_asked) (conditions ∷ []) ≡ true
+  alternative_asked : (conditions : List Condition) → Each (λ (c : Condition). c.indicator ≡ 129 → ⊥) conditions → All IsAlternativeRow (conditions ∷ []) →
+      list_all (list_all may_be_asked) (conditions ∷ []) ≡ true
   alternative_asked conditions good rows = and_from _ _ (all_may_be_asked conditions good (each_of_all IsConditionRow conditions (rows zero conditions (omega arith)).each)) refl
 
-  line_right : (cs : List SpecCard) (o : OutputRecord) → Each (IsLineCard cards none) cs → 1 ≤ len → bad_in_output o.conditions ≡ false → IsLineRow (line_of (table_of cards) cs o) → (r : LineRule) → line_breaks r program (line_of (table_of cards) cs o) ≡ false
+  line_right : (cs : List SpecCard) (o : OutputRecord) → Each (IsLineCard cards none) cs → 1 ≤ len → bad_in_output o.conditions ≡ false →
+      IsLineRow (line_of (table_of cards) cs o) → (r : LineRule) → line_breaks r program (line_of (table_of cards) cs o) ≡ false
   unfolding program len program_of line_breaks
   line_right cs o good there asks row r = by_rule r
     where
@@ -115,6 +117,7 @@ module _ (cards : List SpecCard) (none : Faultless cards) (allowance : ℕ) wher
   lines_right [] good = tt
   lines_right (c ∷ cs) good = each_first IsLineRight (line_of (table_of cards) cs) (line_on c.spec) (lines_of (table_of cards) cs) (λ o is row r. line_right cs o good.1 (good.0.line o is).0 (good.0.line o is).1 row r) (lines_right cs good.1)
 
-  pub lines_pass : Each IsLineRow (lines_of (table_of cards) cards) → (r : LineRule) → Each (λ l. line_breaks r (program_of cards allowance) l ≡ false) (lines_of (table_of cards) cards)
+  pub lines_pass : Each IsLineRow (lines_of (table_of cards) cards) → (r : LineRule) →
+      Each (λ l. line_breaks r (program_of cards allowance) l ≡ false) (lines_of (table_of cards) cards)
   unfolding program
   lines_pass rows r = each_both IsLineRight IsLineRow (λ l. line_breaks r (program_of cards allowance) l ≡ false) (lines_of (table_of cards) cards) (λ l right row. right row r) (lines_right cards (line_cards cards none)) rows

@@ -26,7 +26,8 @@ marks_type (Some n) good within = of_type (nat_le 1 n) (nat_le n 99) (nat_le 101
 inside : (first last n : ℕ) → first ≤ n → n ≤ last → is_within first last n ≡ true
 inside first last n l h = and_from _ _ (le-leb first n l) (le-leb n last h)
 
-settable_by : (n : ℕ) → 1 ≤ n → n ≤ 129 → (n ≡ 100 → ⊥) → (n ≡ 111 → ⊥) → (n ≡ 129 → ⊥) → (nat_le n 99 ≡ true) ⊎ (nat_le n 99 ≡ false) → (nat_le n 110 ≡ true) ⊎ (nat_le n 110 ≡ false) → is_settable n ≡ true
+settable_by : (n : ℕ) → 1 ≤ n → n ≤ 129 → (n ≡ 100 → ⊥) → (n ≡ 111 → ⊥) → (n ≡ 129 → ⊥) → (nat_le n 99 ≡ true) ⊎ (nat_le n 99 ≡ false) →
+    (nat_le n 110 ≡ true) ⊎ (nat_le n 110 ≡ false) → is_settable n ≡ true
 settable_by n low high no_l0 no_1p no_mr (inl a) b = or_left _ _ (inside 1 99 n low (leb-true n 99 a))
 settable_by n low high no_l0 no_1p no_mr (inr a) (inl b) = let above = leb-false n 99 a in or_right (is_within 1 99 n) _ (or_left _ _ (inside 101 110 n (omega arith) (leb-true n 110 b)))
 settable_by n low high no_l0 no_1p no_mr (inr a) (inr b) = let above = leb-false n 110 b in or_right (is_within 1 99 n) _ (or_right (is_within 101 110 n) _ (inside 112 128 n (omega arith) (omega arith)))

@@ -38,27 +38,32 @@ option_or_assoc : {X : Type 0} (a b c : Option X) → option_or (option_or a b) 
 option_or_assoc None b c = refl
 option_or_assoc (Some x) b c = refl
 
-with_name-form : (fields : Fields) (name q : List ℕ) (form : FieldForm) → form_of (with_name fields name form) q ≡ option_or (form_of fields q) (cond (pointwise nat_eq q name) (Some form) None)
+with_name-form : (fields : Fields) (name q : List ℕ) (form : FieldForm) →
+    form_of (with_name fields name form) q ≡ option_or (form_of fields q) (cond (pointwise nat_eq q name) (Some form) None)
 with_name-form fields name q form = by_cases (is_some (form_of fields name)) refl
   where
-    by_cases : (b : Bool) → is_some (form_of fields name) ≡ b → form_of (cond b fields (fields ++ (name, form) ∷ [])) q ≡ option_or (form_of fields q) (cond (pointwise nat_eq q name) (Some form) None)
+    by_cases : (b : Bool) → is_some (form_of fields name) ≡ b →
+        form_of (cond b fields (fields ++ (name, form) ∷ [])) q ≡ option_or (form_of fields q) (cond (pointwise nat_eq q name) (Some form) None)
     by_cases true e = known_stays (pointwise nat_eq) nat_list_eq_equiv fields q name form e
     by_cases false e = lookup_push (pointwise nat_eq q) fields name form
 
-or_later-form : (name q : List ℕ) (form : FieldForm) (later : Defined) → option_or (cond (pointwise nat_eq q name) (Some form) None) (form_in later) ≡ form_in (or_later q (Some (name, Some form)) later)
+or_later-form : (name q : List ℕ) (form : FieldForm) (later : Defined) →
+    option_or (cond (pointwise nat_eq q name) (Some form) None) (form_in later) ≡ form_in (or_later q (Some (name, Some form)) later)
 or_later-form name q form later = by_cases (pointwise nat_eq q name)
   where
     by_cases : (b : Bool) → option_or (cond b (Some form) None) (form_in later) ≡ form_in (cond b (Good form) later)
     by_cases true = refl
     by_cases false = refl
 
-one_definition : (fields : Fields) (q : List ℕ) (d : Option (List ℕ × Option FieldForm)) (later : Defined) → IsDefinition d → option_or (form_of (with_definition fields d) q) (form_in later) ≡ option_or (form_of fields q) (form_in (or_later q d later))
+one_definition : (fields : Fields) (q : List ℕ) (d : Option (List ℕ × Option FieldForm)) (later : Defined) → IsDefinition d →
+    option_or (form_of (with_definition fields d) q) (form_in later) ≡ option_or (form_of fields q) (form_in (or_later q d later))
 one_definition fields q None later good = refl
 one_definition fields q (Some (name, None)) later good = absurd good
 one_definition fields q (Some (name, Some form)) later good =
     ap (λ o. option_or o (form_in later)) (with_name-form fields name q form) ∙ option_or_assoc (form_of fields q) _ (form_in later) ∙ ap (option_or (form_of fields q)) (or_later-form name q form later)
 
-fields_from-form : (fields : Fields) (cards : List SpecCard) (q : List ℕ) → AreDefined cards → form_of (fields_from fields cards) q ≡ option_or (form_of fields q) (form_in (defined_on q cards))
+fields_from-form : (fields : Fields) (cards : List SpecCard) (q : List ℕ) → AreDefined cards →
+    form_of (fields_from fields cards) q ≡ option_or (form_of fields q) (form_in (defined_on q cards))
 fields_from-form fields [] q good = or_none (form_of fields q)
   where
     or_none : {X : Type 0} (o : Option X) → o ≡ option_or o None
@@ -83,11 +88,13 @@ HasPlace test xs i = (position_or_len test xs ≡ i) × (i < length xs)
 pub place_position : {X : Type 0} (test : X → Bool) (xs : List X) (i : ℕ) → HasPlace test xs i → position test xs ≡ Some i
 place_position test xs i h = ap (λ k. cond (nat_lt k (length xs)) (Some k) None) h.0 ∙ ap (λ b. cond b (Some i) None) (lt-ltb i (length xs) h.1)
 
-place_of : (test : List ℕ → Bool) (fields : Fields) (form : FieldForm) → lookup test fields ≡ Some form → (i : ℕ) × HasPlace test (keys_of fields) i × (slice_get (forms fields) i ≡ Some form)
+place_of : (test : List ℕ → Bool) (fields : Fields) (form : FieldForm) → lookup test fields ≡ Some form →
+    (i : ℕ) × HasPlace test (keys_of fields) i × (slice_get (forms fields) i ≡ Some form)
 place_of test [] form e = cc
 place_of test (f ∷ fs) form e = by_test (test f.0) refl e (λ h. place_of test fs form h)
   where
-    by_test : (b : Bool) → test f.0 ≡ b → cond b (Some f.1) (lookup test fs) ≡ Some form → (lookup test fs ≡ Some form → (i : ℕ) × HasPlace test (keys_of fs) i × (slice_get (forms fs) i ≡ Some form))
+    by_test : (b : Bool) → test f.0 ≡ b → cond b (Some f.1) (lookup test fs) ≡ Some form →
+        (lookup test fs ≡ Some form → (i : ℕ) × HasPlace test (keys_of fs) i × (slice_get (forms fs) i ≡ Some form))
         → (i : ℕ) × HasPlace test (f.0 ∷ keys_of fs) i × (slice_get (f.1 ∷ forms fs) i ≡ Some form)
     by_test true is h later = (0, (ap (λ b. cond (not b) (1 + position_or_len test (keys_of fs)) 0) is, omega arith), h)
     by_test false is h later =
@@ -111,5 +118,6 @@ number_leads t name form e =
     let number : number_in t.names name ≡ found.0 + 1 = ap (λ o. unwrap_or (option_map (λ i. i + 1) o) 0) (place_position (pointwise nat_eq name) (keys_of t.names) found.0 found.1) in
     ap (form_at (all_forms t)) number ∙ form_at-next (all_forms t) found.0 ∙ slice_get-append (forms t.names) _ found.0 form found.2
 
-pub name_leads : (cards : List SpecCard) (name : List ℕ) (form : FieldForm) → AreDefined cards → form_of_name name cards ≡ Good form → form_at (all_forms (table_of cards)) (number_in (fields_of cards) name) ≡ Some form
+pub name_leads : (cards : List SpecCard) (name : List ℕ) (form : FieldForm) → AreDefined cards → form_of_name name cards ≡ Good form →
+    form_at (all_forms (table_of cards)) (number_in (fields_of cards) name) ≡ Some form
 name_leads cards name form good e = number_leads (table_of cards) name form (fields_of-form cards name good ∙ ap form_in e)

@@ -28,11 +28,13 @@ none_from (Some x) e = cc
 low : (first last n : ℕ) → is_between first last n ≡ true → first ≤ n
 low first last n e = leb-true _ _ (and_parts _ _ e).0
 
-input_alone : (before : List SpecCard) (f : FileSpec) (d : Direction) → bad_for before f d ≡ false → is_input d ≡ true → (input_file before ≡ None) × (1 ≤ f.record_length)
+input_alone : (before : List SpecCard) (f : FileSpec) (d : Direction) → bad_for before f d ≡ false → is_input d ≡ true →
+    (input_file before ≡ None) × (1 ≤ f.record_length)
 input_alone before f Input good is = let parts = or_parts _ _ good in (none_from (input_file before) parts.0, low 1 9999 f.record_length (not-false _ parts.1))
 input_alone before f Output good is = cc
 
-output_alone : (before : List SpecCard) (f : FileSpec) (d : Direction) → bad_for before f d ≡ false → is_output d ≡ true → (output_file before ≡ None) × (1 ≤ f.record_length)
+output_alone : (before : List SpecCard) (f : FileSpec) (d : Direction) → bad_for before f d ≡ false → is_output d ≡ true →
+    (output_file before ≡ None) × (1 ≤ f.record_length)
 output_alone before f Input good is = cc
 output_alone before f Output good is = let parts = or_parts _ _ (or_parts _ _ good).0 in (none_from (output_file before) parts.0, low 1 132 f.record_length (not-false _ parts.1))
 
@@ -55,33 +57,40 @@ module _ (cards : List SpecCard) (none : Faultless cards) where
       subst (λ (all : List SpecCard). option_map_or (λ r. lacks_file all is_output (list_any is_line before) r.file) (line_on c.spec) false ≡ false) (sym split)
       (or_parts _ _ (good_files cards none before c after split)).1
 
-  good_for : (before : List SpecCard) (c : SpecCard) (after : List SpecCard) (f : FileSpec) → cards ≡ before ++ c ∷ after → file_on c.spec ≡ Some f → bad_for before f f.direction ≡ false
+  good_for : (before : List SpecCard) (c : SpecCard) (after : List SpecCard) (f : FileSpec) → cards ≡ before ++ c ∷ after → file_on c.spec ≡ Some f →
+      bad_for before f f.direction ≡ false
   good_for before c after f split is = (or_parts _ _ (subst (λ (o : Option FileSpec). option_map_or (bad_file before) o false ≡ false) is (good_file before c after split))).1
 
-  input_once : (before : List SpecCard) (c : SpecCard) (after : List SpecCard) (f : FileSpec) → cards ≡ before ++ c ∷ after → file_on c.spec ≡ Some f → is_input f.direction ≡ true → (input_file before ≡ None) × (1 ≤ f.record_length)
+  input_once : (before : List SpecCard) (c : SpecCard) (after : List SpecCard) (f : FileSpec) → cards ≡ before ++ c ∷ after → file_on c.spec ≡ Some f →
+      is_input f.direction ≡ true → (input_file before ≡ None) × (1 ≤ f.record_length)
   input_once before c after f split is fits = input_alone before f f.direction (good_for before c after f split is) fits
 
-  output_once : (before : List SpecCard) (c : SpecCard) (after : List SpecCard) (f : FileSpec) → cards ≡ before ++ c ∷ after → file_on c.spec ≡ Some f → is_output f.direction ≡ true → (output_file before ≡ None) × (1 ≤ f.record_length)
+  output_once : (before : List SpecCard) (c : SpecCard) (after : List SpecCard) (f : FileSpec) → cards ≡ before ++ c ∷ after → file_on c.spec ≡ Some f →
+      is_output f.direction ≡ true → (output_file before ≡ None) × (1 ≤ f.record_length)
   output_once before c after f split is fits = output_alone before f f.direction (good_for before c after f split is) fits
 
   -- ---- the file of a type and of a line
 
-  type_names : (before : List SpecCard) (o : Option RecordType) → is_some o ≡ true → option_map_or (λ t. lacks_file cards is_input (list_any is_type before) t.file) o false ≡ false →
+  type_names : (before : List SpecCard) (o : Option RecordType) → is_some o ≡ true →
+      option_map_or (λ t. lacks_file cards is_input (list_any is_type before) t.file) o false ≡ false →
       lacks_file cards is_input (list_any is_type before) (option_and_then (λ t. t.file) o) ≡ false
   type_names before None is h = cc
   type_names before (Some t) is h = h
 
-  line_names : (before : List SpecCard) (o : Option OutputRecord) → is_some o ≡ true → option_map_or (λ r. lacks_file cards is_output (list_any is_line before) r.file) o false ≡ false →
+  line_names : (before : List SpecCard) (o : Option OutputRecord) → is_some o ≡ true →
+      option_map_or (λ r. lacks_file cards is_output (list_any is_line before) r.file) o false ≡ false →
       lacks_file cards is_output (list_any is_line before) (option_and_then (λ r. r.file) o) ≡ false
   line_names before None is h = cc
   line_names before (Some r) is h = h
 
-  pub input_before : (before after : List SpecCard) → cards ≡ before ++ after → list_any is_type before ≡ true → BelongsTo cards (input_file_name before) (input_file cards)
+  pub input_before : (before after : List SpecCard) → cards ≡ before ++ after → list_any is_type before ≡ true →
+      BelongsTo cards (input_file_name before) (input_file cards)
   input_before before after split some =
       let h = file_before cards is_input input_once type_file_on is_type (λ b c a s is. type_names b (type_on c.spec) is (good_type b c a s)) (λ c no. ap (option_and_then (λ t. t.file)) (none_from (type_on c.spec) no)) before after split some in
       (h.0, h.1, h.2.0, h.2.1)
 
-  pub output_before : (before after : List SpecCard) → cards ≡ before ++ after → list_any is_line before ≡ true → BelongsTo cards (output_file_name before) (output_file cards)
+  pub output_before : (before after : List SpecCard) → cards ≡ before ++ after → list_any is_line before ≡ true →
+      BelongsTo cards (output_file_name before) (output_file cards)
   output_before before after split some =
       let h = file_before cards is_output output_once line_file_on is_line (λ b c a s is. line_names b (line_on c.spec) is (good_line b c a s)) (λ c no. ap (option_and_then (λ r. r.file)) (none_from (line_on c.spec) no)) before after split some in
       (h.0, h.1, h.2.0, h.2.1)

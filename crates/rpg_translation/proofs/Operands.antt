@@ -58,7 +58,8 @@ alike kinds.Number kinds.Text e = cc
 alike kinds.Text kinds.Number e = cc
 
 -- the kind of the second is that of the first
-pub kinds_alike : (at : ℕ → Option FieldForm) (a b : Operand ℕ) (f g : FieldForm) → HoldsForm at a f → HoldsForm at b g → differ (Some f) (Some g) ≡ false → same_kind (kind_of (at b.field)) (kind_of (at a.field)) ≡ true
+pub kinds_alike : (at : ℕ → Option FieldForm) (a b : Operand ℕ) (f g : FieldForm) → HoldsForm at a f → HoldsForm at b g → differ (Some f) (Some g) ≡ false →
+    same_kind (kind_of (at b.field)) (kind_of (at a.field)) ≡ true
 kinds_alike at a b f g ha hb e =
     subst (λ (o : Option FieldForm). same_kind (kind_of o) (kind_of (at a.field)) ≡ true) (sym hb.leads)
     (subst (λ (o : Option FieldForm). same_kind g.kind (kind_of o) ≡ true) (sym ha.leads) (alike f.kind g.kind e))
@@ -114,13 +115,15 @@ module _ (cards : List SpecCard) (none : Faultless cards) where
       let there = form_there (form_of_name name cards) (name_good name cards (all_defined cards none)) defined in
       (there.0, ap form_in there.1, holds at (number_in (fields_of cards) name) there.0 (name_leads cards name there.0 (all_defined cards none) there.1) there.2)
 
-  pub factor_holds : (o : Option Factor) → is_none o ≡ false → is_undefined cards (name_in o) ≡ false → HasLiteral o → Holds at (factor_of (table_of cards) o) (of_factor o)
+  pub factor_holds : (o : Option Factor) → is_none o ≡ false → is_undefined cards (name_in o) ≡ false → HasLiteral o →
+      Holds at (factor_of (table_of cards) o) (of_factor o)
   factor_holds None some defined has = cc
   factor_holds (Some (factor.Name name)) some defined has = result_holds (Some name) refl defined
   factor_holds (Some (factor.Literal l)) some defined has =
       (constant_form (constant_of l), refl, holds at (constant_number (table_of cards) (constant_of l)) (constant_form (constant_of l)) (has l refl) (constant_no_array l))
 
   -- a blank factor 1 is the result field
-  pub first_number : (o : Option Factor) (r : Option (List ℕ)) → is_undefined cards (name_in o) ≡ false → HasLiteral o → has_text (of_factor o) ≡ false → IsNumber at (operand_of (table_of cards) r) → IsNumber at (first_or_result (table_of cards) o r)
+  pub first_number : (o : Option Factor) (r : Option (List ℕ)) → is_undefined cards (name_in o) ≡ false → HasLiteral o → has_text (of_factor o) ≡ false →
+      IsNumber at (operand_of (table_of cards) r) → IsNumber at (first_or_result (table_of cards) o r)
   first_number None r defined has kind result = result
   first_number (Some f) r defined has kind result = number_from at (unindexed (factor_number (table_of cards) f)) (of_factor (Some f)) (factor_holds (Some f) refl defined has) kind

@@ -43,10 +43,12 @@ use Rattle.rpg_translation.proofs.OnlyFiles.{BelongsTo, output_before}
 
 -- ---- an operand without an index
 
-one_entry : (forms : ℕ → Option FieldForm) (form : FieldForm) → is_array form.class ≡ false → (has_operand forms (Some form) indexes.Blank && is_shaped forms (Some form) shapes.One indexes.Blank) ≡ true
+one_entry : (forms : ℕ → Option FieldForm) (form : FieldForm) → is_array form.class ≡ false →
+    (has_operand forms (Some form) indexes.Blank && is_shaped forms (Some form) shapes.One indexes.Blank) ≡ true
 one_entry forms form plain = not_from_false (is_array form.class) plain
 
-pub unindexed_there : (forms : ℕ → Option FieldForm) (n : ℕ) (form : FieldForm) → forms n ≡ Some form → is_array form.class ≡ false → (has_entry forms (unindexed n) && is_one_entry forms (unindexed n)) ≡ true
+pub unindexed_there : (forms : ℕ → Option FieldForm) (n : ℕ) (form : FieldForm) → forms n ≡ Some form → is_array form.class ≡ false →
+    (has_entry forms (unindexed n) && is_one_entry forms (unindexed n)) ≡ true
 unindexed_there forms n form e plain =
     subst (λ (o : Option FieldForm). (has_operand forms o indexes.Blank && is_shaped forms o shapes.One indexes.Blank) ≡ true) (sym e) (one_entry forms form plain)
 
@@ -55,7 +57,8 @@ pub record PutsOut (forms : ℕ → Option FieldForm) (end : ℕ) (o : Operand �
   pub there : (has_entry forms o && is_one_entry forms o) ≡ true
   pub room : length_of (forms o.field) ≤ end
 
-puts_out : (forms : ℕ → Option FieldForm) (end n : ℕ) (form : FieldForm) → forms n ≡ Some form → is_array form.class ≡ false → form.length ≤ end → PutsOut forms end (unindexed n)
+puts_out : (forms : ℕ → Option FieldForm) (end n : ℕ) (form : FieldForm) → forms n ≡ Some form → is_array form.class ≡ false → form.length ≤ end →
+    PutsOut forms end (unindexed n)
 puts_out forms end n form e plain room = record {
   there = unindexed_there forms n form e plain;
   room = let long : length_of (forms n) ≡ form.length = ap length_of e in omega (arith, long, room);
@@ -68,7 +71,8 @@ module _ (cards : List SpecCard) (none : Faultless cards) where
   abbrev HasConstant : Option (List ℕ) → Type 0
   HasConstant constant = (text : List ℕ) → constant ≡ Some text → forms (constant_number (table_of cards) (Text text)) ≡ Some (constant_form (Text text))
 
-  operand_there : (name constant : Option (List ℕ)) (end : ℕ) → (is_none name && is_none constant) ≡ false → is_undefined cards name ≡ false → option_map_or (λ n. is_wider (form_of_name n cards) end) name false ≡ false
+  operand_there : (name constant : Option (List ℕ)) (end : ℕ) → (is_none name && is_none constant) ≡ false → is_undefined cards name ≡ false →
+      option_map_or (λ n. is_wider (form_of_name n cards) end) name false ≡ false
       → option_map_or (λ (text : List ℕ). nat_lt end (length text)) constant false ≡ false → HasConstant constant → PutsOut forms end (output_operand_of (table_of cards) name constant)
   operand_there None None end some defined narrow short has = cc
   operand_there None (Some text) end some defined narrow short has =
@@ -108,7 +112,8 @@ module _ (cards : List SpecCard) (none : Faultless cards) where
   length_from : (name : Option (List ℕ)) → BelongsTo cards name (output_file cards) → 1 ≤ program.length_of (output_file cards)
   length_from name file = subst (λ (o : Option FileSpec). 1 ≤ program.length_of o) (sym file.2) file.3
 
-  line_there : (before : List SpecCard) (c : SpecCard) (after : List SpecCard) (r : OutputRecord) → cards ≡ before ++ c ∷ after → line_on c.spec ≡ Some r → 1 ≤ program.length_of (output_file cards)
+  line_there : (before : List SpecCard) (c : SpecCard) (after : List SpecCard) (r : OutputRecord) → cards ≡ before ++ c ∷ after → line_on c.spec ≡ Some r →
+      1 ≤ program.length_of (output_file cards)
   line_there before c after r split is =
       let some : list_any is_line (before ++ c ∷ []) ≡ true = list_any-append is_line before (c ∷ []) ∙ or_right (list_any is_line before) _ (or_left (is_line c) false (ap is_some is)) in
       length_from (output_file_name (before ++ c ∷ [])) (output_before cards none (before ++ c ∷ []) after (split ∙ sym (append_assoc before (c ∷ []) after)) some)
@@ -125,14 +130,16 @@ module _ (cards : List SpecCard) (none : Faultless cards) where
       subst (λ (all : List SpecCard). option_map_or (outside_line all (file_by (output_file_name before) all)) (output_field_on c.spec) false ≡ false) (sym split)
       (or_parts _ _ (well_placed cards none before c after split)).1
 
-  has_constant : (before : List SpecCard) (c : SpecCard) (after : List SpecCard) (f : OutputField) → cards ≡ before ++ c ∷ after → output_field_on c.spec ≡ Some f → HasConstant f.constant
+  has_constant : (before : List SpecCard) (c : SpecCard) (after : List SpecCard) (f : OutputField) → cards ≡ before ++ c ∷ after → output_field_on c.spec ≡ Some f →
+      HasConstant f.constant
   has_constant before c after f split is text e =
       let first : first_constant c.spec ≡ Some (Text text) =
       ap (λ o. first_some (option_and_then (λ (x : OutputField). option_map Text x.constant) o) (option_and_then (λ k. option_and_then factor_constant k.factor_1) (calculation_on c.spec))) is
       ∙ ap (λ o. first_some (option_map Text o) (option_and_then (λ k. option_and_then factor_constant k.factor_1) (calculation_on c.spec))) e in
       constant_leads cards before c after (Text text) split (or_left _ _ (stands_itself (Text text) (first_constant c.spec) first))
 
-  output_fits : (before : List SpecCard) (c : SpecCard) (after : List SpecCard) (f : OutputField) → cards ≡ before ++ c ∷ after → output_field_on c.spec ≡ Some f → IsOutputFit f
+  output_fits : (before : List SpecCard) (c : SpecCard) (after : List SpecCard) (f : OutputField) → cards ≡ before ++ c ∷ after → output_field_on c.spec ≡ Some f →
+      IsOutputFit f
   output_fits before c after f split is =
       let some : (is_none f.name && is_none f.constant) ≡ false = subst (λ (o : Option OutputField). option_map_or (λ f. is_none f.name && is_none f.constant) o false ≡ false) is (or_parts _ _ (good_columns cards none before c after split)).1 in
       let names : option_map_or (λ (f : OutputField). is_undefined cards f.name) (output_field_on c.spec) false ≡ false =

@@ -46,7 +46,8 @@ module _ (p : Object) (s : Section) where
   abbrev at : ℕ → Option FieldForm
   at n = form_at p.fields n
 
-  pub compute_right : (o : Operator) (half : Bool) (a b r : Operand ℕ) (t : Shows) → IsNumber at a → IsNumber at b → IsNumber at r → may_write (at r.field) ≡ true → are_settable t ≡ true
+  pub compute_right : (o : Operator) (half : Bool) (a b r : Operand ℕ) (t : Shows) → IsNumber at a → IsNumber at b → IsNumber at r → may_write (at r.field) ≡ true →
+      are_settable t ≡ true
       → (rule : PlaceRule) → place_breaks rule p s (Act (Compute o half a b r t)) ≡ false
   unfolding row_of holds_positions
   compute_right o half a b r t ha hb hr w m = right (Compute o half a b r t) (record {
@@ -85,7 +86,8 @@ module _ (p : Object) (s : Section) where
     positions = refl;
   })
 
-  pub remainder_right : (r : Operand ℕ) (t : Shows) → IsNumber at r → may_write (at r.field) ≡ true → are_settable t ≡ true → (rule : PlaceRule) → place_breaks rule p s (Act (TakeRemainder r t)) ≡ false
+  pub remainder_right : (r : Operand ℕ) (t : Shows) → IsNumber at r → may_write (at r.field) ≡ true → are_settable t ≡ true → (rule : PlaceRule) →
+      place_breaks rule p s (Act (TakeRemainder r t)) ≡ false
   unfolding row_of holds_positions
   remainder_right r t hr w m = right (TakeRemainder r t) (record {
     good = hr.there;
@@ -101,7 +103,8 @@ module _ (p : Object) (s : Section) where
   abbrev pub IsThere : Operand ℕ → Type 0
   IsThere o = (has_entry at o && is_one_entry at o) ≡ true
 
-  pub compare_right : (a b : Operand ℕ) (t : Shows) → IsThere a → IsThere b → same_kind (kind_of (at b.field)) (kind_of (at a.field)) ≡ true → are_settable t ≡ true → has_shows t ≡ true
+  pub compare_right : (a b : Operand ℕ) (t : Shows) → IsThere a → IsThere b → same_kind (kind_of (at b.field)) (kind_of (at a.field)) ≡ true →
+      are_settable t ≡ true → has_shows t ≡ true
       → (rule : PlaceRule) → place_breaks rule p s (Act (Compare a b t)) ≡ false
   unfolding row_of holds_positions
   compare_right a b t ha hb k m some = right (Compare a b t) (record {
@@ -114,7 +117,8 @@ module _ (p : Object) (s : Section) where
     positions = refl;
   })
 
-  pub move_right : (side : Side) (b r : Operand ℕ) → IsThere b → IsThere r → may_write (at r.field) ≡ true → (rule : PlaceRule) → place_breaks rule p s (Act (Move side b r)) ≡ false
+  pub move_right : (side : Side) (b r : Operand ℕ) → IsThere b → IsThere r → may_write (at r.field) ≡ true → (rule : PlaceRule) →
+      place_breaks rule p s (Act (Move side b r)) ≡ false
   unfolding row_of holds_positions
   move_right side b r hb hr w = right (Move side b r) (record {
     good = and_from _ _ hb hr;

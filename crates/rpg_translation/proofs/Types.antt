@@ -42,7 +42,8 @@ use Rattle.rpg_translation.proofs.OnlyFiles.{BelongsTo, input_before}
 
 -- ---- columns of the record
 
-fits : (g : FileSpec) (f : InputField) (n : ℕ) (form : FieldForm) → outside_record (Some g) f ≡ false → IsPlainOf (f.to + 1 - f.from) form → fits_columns g.record_length (record { from = f.from; to = f.to; field = n; shows = no_shows }) (Some form) ≡ true
+fits : (g : FileSpec) (f : InputField) (n : ℕ) (form : FieldForm) → outside_record (Some g) f ≡ false → IsPlainOf (f.to + 1 - f.from) form →
+    fits_columns g.record_length (record { from = f.from; to = f.to; field = n; shows = no_shows }) (Some form) ≡ true
 fits g f n form inside plain =
     let a = or_parts _ _ inside in
     let b = or_parts _ _ a.0 in
@@ -70,7 +71,8 @@ module _ (cards : List SpecCard) (none : Faultless cards) where
       behind true b is h = not-false b h
       behind false b is h = cc
 
-  input_fits : (before : List SpecCard) (c : SpecCard) (after : List SpecCard) (f : InputField) → cards ≡ before ++ c ∷ after → input_field_on c.spec ≡ Some f → IsInputFit f
+  input_fits : (before : List SpecCard) (c : SpecCard) (after : List SpecCard) (f : InputField) → cards ≡ before ++ c ∷ after → input_field_on c.spec ≡ Some f →
+      IsInputFit f
   input_fits before c after f split is =
       let file : BelongsTo cards (input_file_name before) (input_file cards) = input_before cards none before (c ∷ after) split (type_before before c after split (ap is_some is)) in
       let inside : outside_record (file_by (input_file_name before) cards) f ≡ false =
@@ -123,7 +125,8 @@ module _ (cards : List SpecCard) (none : Faultless cards) where
     inputs_right (c ∷ cs) good = only_each_first IsInputRight (input_of (table_of cards)) (input_field_on c.spec) (inputs_of (table_of cards) cs) (λ f is. input_right f (good.0.input f is)) (inputs_right cs good.1)
 
     -- a type whose cards are good
-    type_right : (cs : List SpecCard) (t : RecordType) → Each IsTypeCard cs → bad_on_type t.indicator ≡ false → IsTypeRow (type_of (table_of cards) cs t) → (r : TypeRule) → type_breaks r program (type_of (table_of cards) cs t) ≡ false
+    type_right : (cs : List SpecCard) (t : RecordType) → Each IsTypeCard cs → bad_on_type t.indicator ≡ false → IsTypeRow (type_of (table_of cards) cs t) →
+        (r : TypeRule) → type_breaks r program (type_of (table_of cards) cs t) ≡ false
     unfolding type_breaks
     type_right cs t good marks row V3 = refl
     type_right cs t good marks row V4 = not_from_true _ (marks_type t.indicator marks row.indicator)
@@ -138,6 +141,7 @@ module _ (cards : List SpecCard) (none : Faultless cards) where
     types_right [] good = tt
     types_right (c ∷ cs) good = each_first IsTypeRight (type_of (table_of cards) cs) (type_on c.spec) (types_of (table_of cards) cs) (λ t is row r. type_right cs t good.1 (good.0.type t is) row r) (types_right cs good.1)
 
-    pub types_pass : Each IsTypeRow (types_of (table_of cards) cards) → (r : TypeRule) → Each (λ t. type_breaks r (program_of cards allowance) t ≡ false) (types_of (table_of cards) cards)
+    pub types_pass : Each IsTypeRow (types_of (table_of cards) cards) → (r : TypeRule) →
+        Each (λ t. type_breaks r (program_of cards allowance) t ≡ false) (types_of (table_of cards) cards)
     unfolding program
     types_pass rows r = each_both IsTypeRight IsTypeRow (λ t. type_breaks r (program_of cards allowance) t ≡ false) (types_of (table_of cards) cards) (λ t right row. right row r) (types_right cards type_cards) rows
