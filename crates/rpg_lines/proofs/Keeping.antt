@@ -117,10 +117,18 @@ fits-blanked forms fields f e fits i =
     let v = value_in fields (f, e) in
     fits_one forms fields f e (blanked v) fits i (blank_has i.form.kind i.form.length v (value_there forms fields fits f e i)) (text_blanked v)
 
+zero_blanked : (k : Kind) (len : ℕ) (v : Option Value) → k ≡ kinds.Number → HasForm k len v → Number (pos 0) ≡ blanked v
+zero_blanked kinds.Number len (Some (Number n)) is h = refl
+zero_blanked kinds.Number len (Some (Text t)) is h = absurd h
+zero_blanked kinds.Number len None is h = refl
+zero_blanked kinds.Text len v is h = cc
+
 -- a number becomes zero
-pub blanked_number : (fields : Fields nat_cmp) (f e : ℕ) (n : ℤ) → value_in fields (f, e) ≡ Some (Number n) →
-    with_value (f, e) (Number (pos 0)) fields ≡ blanked_at (f, e) fields
-blanked_number fields f e n h = ap (λ (v : Option Value). with_value (f, e) (blanked v) fields) (sym h)
+pub blanked_number : (forms : List FieldForm) (fields : Fields nat_cmp) (f e : ℕ) → AreFit forms fields → IsEntry forms f e →
+    kind_of (form_at forms f) ≡ kinds.Number → with_value (f, e) (Number (pos 0)) fields ≡ blanked_at (f, e) fields
+blanked_number forms fields f e fits i k =
+    ap (λ (v : Value). with_value (f, e) v fields)
+    (zero_blanked i.form.kind i.form.length _ (ap kind_of (sym i.there) ∙ k) (value_there forms fields fits f e i))
 
 -- a text becomes blanks
 pub blanked_text : (fields : Fields nat_cmp) (f e : ℕ) (t : List ℕ) → value_in fields (f, e) ≡ Some (Text t) →

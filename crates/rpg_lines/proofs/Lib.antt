@@ -1,4 +1,5 @@
 pub mod Operands
+pub mod Passages
 pub mod Words
 pub mod Moving
 pub mod Fields
@@ -9,5 +10,4 @@ pub mod Left
 pub mod Following
 pub mod OneLine
 pub mod AllLines
-pub mod Blanks
 pub mod Weighing

@@ -3,4 +3,5 @@ pub mod Ready
 pub mod Right
 pub mod Drafts
 pub mod Outputs
+pub mod Passages
 pub mod Weighed

@@ -2,7 +2,7 @@
 ghost use Rattle.std.specs.Prelude.{◌≡◌, ◌≤◌, ◌<◌, ◌+◌, length, None};
 ghost use Rattle.arrayvec.specs.ArrayVec.{array_vec_len};
 ghost use Rattle.rpg_effect.specs.Ends.{end_of};
-ghost use Rattle.rpg_effect.specs.Forms.{form_at};
+ghost use Rattle.rpg_effect.specs.Forms as forms;
 ghost use Rattle.rpg_effect.specs.LineFaults as faults;
 ghost use Rattle.rpg_effect.specs.Lines as lines;
 ghost use Rattle.rpg_lines.specs.Drafts.{draft_of};
@@ -14,6 +14,7 @@ ghost use Rattle.rpg_program.specs.Object.{seen};
 use crate::field::{count_page, lay_value};
 use crate::reading::position_of;
 use arrayvec::ArrayVec;
+use rpg_columns::forms::form_at;
 use rpg_effect::line::LineField;
 use rpg_effect::outcome::End;
 use rpg_memory::condition::three_hold;
@@ -53,15 +54,15 @@ fn with_field<S: Store>(
     store: &mut S,
     text: &mut [u8],
     to_blank: &mut Entries,
-    field: LineField<u16>,
+    field: &LineField<u16>,
 ) -> End
     requires fields { HasFields S.forms S.contents S.currents rows.now.fields.items store.old }
-    requires right { faults.field_fault (form_at rows.now.fields.items) (word_at (seen rows.now)) (length text.old) field ≡ None }
+    requires right { faults.field_fault (forms.form_at rows.now.fields.items) (word_at (seen rows.now)) (length text.old) field.now ≡ None }
     requires room { array_vec_len to_blank.old < 200 }
     requires entries { AreEntries rows.now.fields.items to_blank.old.items }
     ensures drafted { lines.drafted (end_of result) (draft_of (fields_of S.contents S.currents store.new) text.new to_blank.new.items) ≡
-        lines.with_field (form_at rows.now.fields.items) (word_at (seen rows.now)) on.now
-        (length text.old) (draft_of (fields_of S.contents S.currents store.old) text.old to_blank.old.items) field }
+        lines.with_field (forms.form_at rows.now.fields.items) (word_at (seen rows.now)) on.now
+        (length text.old) (draft_of (fields_of S.contents S.currents store.old) text.old to_blank.old.items) field.now }
     ensures fields { HasFields S.forms S.contents S.currents rows.now.fields.items store.new }
     ensures entries { AreEntries rows.now.fields.items to_blank.new.items }
     ensures few { array_vec_len to_blank.new ≤ array_vec_len to_blank.old + 1 }
@@ -69,17 +70,14 @@ fn with_field<S: Store>(
     if !three_hold(on, field.conditions) {
         return End::GoesOn;
     }
-    match position_of(rows, store, field.operand) {
+    let operand = field.operand;
+    let form = form_at(rows, operand.field);
+    match position_of(rows, store, form, operand) {
         None => End::Halt(BAD_INDEX),
         Some(position) => {
             count_page(rows, store, field, position);
-            lay_value(rows, store, text, field, position);
-            remember(
-                rows,
-                to_blank,
-                field.is_blanked,
-                (field.operand.field, position),
-            );
+            lay_value(rows, store, text, field, form, position);
+            remember(rows, to_blank, field.is_blanked, (operand.field, position));
             End::GoesOn
         }
     }
@@ -95,17 +93,17 @@ pub fn assemble<S: Store>(
     fields: &[LineField<u16>],
 ) -> End
     requires fields { HasFields S.forms S.contents S.currents rows.now.fields.items store.old }
-    requires right { faults.AreRight (form_at rows.now.fields.items) (word_at (seen rows.now)) (length text.old) fields.now }
+    requires right { faults.AreRight (forms.form_at rows.now.fields.items) (word_at (seen rows.now)) (length text.old) fields.now }
     requires room { array_vec_len to_blank.old + length fields.now ≤ 200 }
     requires entries { AreEntries rows.now.fields.items to_blank.old.items }
     ensures drafted { lines.drafted (end_of result) (draft_of (fields_of S.contents S.currents store.new) text.new to_blank.new.items) ≡
-        lines.assembled (form_at rows.now.fields.items) (word_at (seen rows.now)) on.now
+        lines.assembled (forms.form_at rows.now.fields.items) (word_at (seen rows.now)) on.now
         (length text.old) fields.now (draft_of (fields_of S.contents S.currents store.old) text.old to_blank.old.items) }
     ensures fields { HasFields S.forms S.contents S.currents rows.now.fields.items store.new }
     ensures entries { AreEntries rows.now.fields.items to_blank.new.items }
 {
     'fields: for field in fields {
-        match with_field(rows, on, store, text, to_blank, *field) {
+        match with_field(rows, on, store, text, to_blank, field) {
             End::GoesOn => {}
             End::Halt(number) => return End::Halt(number),
         }

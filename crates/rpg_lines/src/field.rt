@@ -1,5 +1,5 @@
 //! Fields of lines: how they are edited, their text in the line, PAGE, and blank after.
-ghost use Rattle.std.specs.Prelude.{◌≡◌, ◌≤◌, ◌<◌, ◌^◌, length, unsigned_abs, replicate, slice_index, EachIndex, true, Some};
+ghost use Rattle.std.specs.Prelude.{◌≡◌, ◌≤◌, ◌<◌, ◌^◌, length, unsigned_abs, replicate, true, Some};
 ghost use Rattle.rpg_edit.specs.How.{edited, width_of, IsFit};
 ghost use Rattle.rpg_effect.specs.Editing as edits;
 ghost use Rattle.rpg_effect.specs.Forms as forms;
@@ -14,7 +14,7 @@ ghost use Rattle.rpg_program.specs.Object.{seen};
 
 use crate::reading::word_at;
 use rpg_columns::forms::{form_at, kind_of};
-use rpg_edit::{EditWord, Fill, How, edit, width};
+use rpg_edit::{EditWord, Fill, How, edit_at_end};
 use rpg_effect::form::{FieldForm, Kind};
 use rpg_effect::line::{Editing, LineField, Source};
 use rpg_program::row::Rows;
@@ -40,30 +40,16 @@ fn how_of(rows: &Rows, form: FieldForm, editing: Editing<u16>, fill: Fill) -> Ho
     }
 }
 
-/// Writes the text of a number, which is as wide as `out`.
-#[tactic(auto, using(crate::proofs::Fields::writing))]
-fn write_number(n: i64, form: FieldForm, how: &How, out: &mut [u8])
-    requires numeric { IsNumeric form }
-    requires fits { unsigned_abs n < 10 ^ form.length }
-    requires fit { IsFit form.length form.decimals how.now }
-    requires width { length out.old ≡ width_of form.length form.decimals how.now }
-    ensures { out.new ≡ edited n form.length form.decimals how.now }
-{
-    edit(n, form.length as u8, form.decimals, how, out);
-}
-
 /// Lays a number over the line, ending at that place.
-#[tactic(auto, unfolding(rpg_effect::specs::Lines::laid_over))]
 fn lay_number(text: &mut [u8], end: u16, n: i64, form: FieldForm, how: &How)
     requires numeric { IsNumeric form }
     requires fits { unsigned_abs n < 10 ^ form.length }
-    requires fit { IsFit form.length form.decimals how.now }
     requires width { width_of form.length form.decimals how.now ≤ end }
     requires end { end ≤ length text.old }
     ensures text { text.new ≡ lines.laid_over text.old end (edited n form.length form.decimals how.now) }
 {
-    let start = end as usize - width(form.length as u8, form.decimals, how);
-    write_number(n, form, how, &mut text[start..end as usize]);
+    let line = &mut text[..end as usize];
+    edit_at_end(n, form.length as u8, form.decimals, how, line);
 }
 
 /// Lays a text over the line, ending at that place.
@@ -77,26 +63,26 @@ fn lay_text(text: &mut [u8], end: u16, part: &[u8])
     text[start..end as usize].copy_from_slice(part);
 }
 
-/// Lays the value of an entry over the line.
+/// Lays the value of an entry over the line; `form` is that of its field.
 pub fn lay_value<S: Store>(
     rows: &Rows,
     store: &S,
     text: &mut [u8],
-    field: LineField<u16>,
+    field: &LineField<u16>,
+    form: Option<FieldForm>,
     entry: u16,
 )
     requires fields { HasFields S.forms S.contents S.currents rows.now.fields.items store.now }
-    requires right { IsRight (forms.form_at rows.now.fields.items) (constants.word_at (seen rows.now)) (length text.old) field }
-    requires entry { IsEntry rows.now.fields.items field.operand.field entry }
-    ensures text { text.new ≡ lines.laid_over text.old field.end
-        (edits.text_of (forms.form_at rows.now.fields.items field.operand.field)
-        (edits.how_of (constants.word_at (seen rows.now)) field.editing field.fill)
-        (value_in (fields_of S.contents S.currents store.now) (field.operand.field, entry))) }
+    requires right { IsRight (forms.form_at rows.now.fields.items) (constants.word_at (seen rows.now)) (length text.old) field.now }
+    requires form { form ≡ forms.form_at rows.now.fields.items field.now.operand.field }
+    requires entry { IsEntry rows.now.fields.items field.now.operand.field entry }
+    ensures text { text.new ≡ lines.laid_over text.old field.now.end
+        (edits.text_of (forms.form_at rows.now.fields.items field.now.operand.field)
+        (edits.how_of (constants.word_at (seen rows.now)) field.now.editing field.now.fill)
+        (value_in (fields_of S.contents S.currents store.now) (field.now.operand.field, entry))) }
 {
     let number = field.operand.field;
-    let Some(form) = form_at(rows, number) else {
-        unreachable!()
-    };
+    let Some(form) = form else { unreachable!() };
     match form.kind {
         Kind::Number => {
             let how = how_of(rows, form, field.editing, field.fill);
@@ -116,11 +102,11 @@ fn next_page(n: i64) -> i64
 }
 
 /// PAGE is made one more before it is printed.
-pub fn count_page<S: Store>(rows: &Rows, store: &mut S, field: LineField<u16>, entry: u16)
+pub fn count_page<S: Store>(rows: &Rows, store: &mut S, field: &LineField<u16>, entry: u16)
     requires fields { HasFields S.forms S.contents S.currents rows.now.fields.items store.old }
-    requires source { faults.fits_source field.source (forms.form_at rows.now.fields.items field.operand.field) ≡ true }
-    requires entry { IsEntry rows.now.fields.items field.operand.field entry }
-    ensures counted { fields_of S.contents S.currents store.new ≡ lines.counted field.source (field.operand.field, entry) (fields_of S.contents S.currents store.old) }
+    requires source { faults.fits_source field.now.source (forms.form_at rows.now.fields.items field.now.operand.field) ≡ true }
+    requires entry { IsEntry rows.now.fields.items field.now.operand.field entry }
+    ensures counted { fields_of S.contents S.currents store.new ≡ lines.counted field.now.source (field.now.operand.field, entry) (fields_of S.contents S.currents store.old) }
     ensures fields { HasFields S.forms S.contents S.currents rows.now.fields.items store.new }
 {
     match field.source {
@@ -132,20 +118,11 @@ pub fn count_page<S: Store>(rows: &Rows, store: &mut S, field: LineField<u16>, e
     }
 }
 
-fn write_blanks(text: &mut [u8])
-    ensures { EachIndex text.new (λ k. slice_index text.new k ≡ 32) }
-{
-    for byte in text.iter_mut() {
-        *byte = b' ';
-    }
-}
-
 /// Blanks in every place.
-#[tactic(auto, using(crate::proofs::Blanks::blanks))]
 pub fn blank_text(text: &mut [u8])
     ensures { text.new ≡ replicate (length text.old) 32 }
 {
-    write_blanks(text);
+    text.fill(b' ');
 }
 
 fn blank_number_entry<S: Store>(rows: &Rows, store: &mut S, entry: (u16, u16))
@@ -155,7 +132,6 @@ fn blank_number_entry<S: Store>(rows: &Rows, store: &mut S, entry: (u16, u16))
     ensures blanked { fields_of S.contents S.currents store.new ≡ lines.blanked_at (entry.0, entry.1) (fields_of S.contents S.currents store.old) }
     ensures fields { HasFields S.forms S.contents S.currents rows.now.fields.items store.new }
 {
-    let _old = store.number(entry.0, entry.1);
     store.set_number(entry.0, entry.1, 0);
 }
 

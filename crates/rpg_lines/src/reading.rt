@@ -10,7 +10,8 @@ ghost use Rattle.rpg_lines.specs.Ready.{HasFields, fields_of};
 ghost use Rattle.rpg_program.specs.Constants as constants;
 ghost use Rattle.rpg_program.specs.Object.{seen};
 
-use rpg_columns::forms::{entries_of, form_at, is_table_form};
+use rpg_columns::forms::{entries_of, is_table_form};
+use rpg_effect::form::FieldForm;
 use rpg_effect::operation::{Index, Operand};
 use rpg_effect::value::Value;
 use rpg_program::row::Rows;
@@ -57,11 +58,12 @@ fn in_range(entries: u16, n: i64) -> Option<u16>
 }
 
 /// The current entry of a table, of any other field the first.
-fn current_of<S: Store>(rows: &Rows, store: &S, field: u16) -> u16
+fn current_of<S: Store>(rows: &Rows, store: &S, form: Option<FieldForm>, field: u16) -> u16
     requires fields { HasFields S.forms S.contents S.currents rows.now.fields.items store.now }
+    requires form { form ≡ forms.form_at rows.now.fields.items field }
     ensures { Some result ≡ named.position_by (forms.form_at rows.now.fields.items) (fields_of S.contents S.currents store.now) field indexes.Blank }
 {
-    if is_table_form(form_at(rows, field)) {
+    if is_table_form(form) {
         store.current(field)
     } else {
         1
@@ -70,29 +72,38 @@ fn current_of<S: Store>(rows: &Rows, store: &S, field: u16) -> u16
 
 /// The position that an operand names, whether its field is there or not.
 #[tactic(auto, using(crate::proofs::Operands::indexes), unfolding(rpg_effect::specs::Entries::position_of))]
-fn position_named<S: Store>(rows: &Rows, store: &S, operand: Operand<u16>) -> Option<u16>
+fn position_named<S: Store>(
+    rows: &Rows,
+    store: &S,
+    form: Option<FieldForm>,
+    operand: Operand<u16>,
+) -> Option<u16>
     requires fields { HasFields S.forms S.contents S.currents rows.now.fields.items store.now }
+    requires form { form ≡ forms.form_at rows.now.fields.items operand.field }
     requires index { rules.is_one_entry (forms.form_at rows.now.fields.items) operand ≡ true }
     ensures { result ≡ named.position_of (forms.form_at rows.now.fields.items) (fields_of S.contents S.currents store.now) operand }
 {
     match operand.index {
-        Index::Blank => Some(current_of(rows, store, operand.field)),
+        Index::Blank => Some(current_of(rows, store, form, operand.field)),
         Index::Literal(n) => Some(n),
-        Index::Field(other) => in_range(
-            entries_of(form_at(rows, operand.field)),
-            store.number(other, 1),
-        ),
+        Index::Field(other) => in_range(entries_of(form), store.number(other, 1)),
     }
 }
 
-/// The position that an operand names, where its index is in range.
+/// The position that an operand names, where its index is in range; `form` is that of its field.
 #[tactic(auto, using(crate::proofs::Operands::entries))]
-pub fn position_of<S: Store>(rows: &Rows, store: &S, operand: Operand<u16>) -> Option<u16>
+pub fn position_of<S: Store>(
+    rows: &Rows,
+    store: &S,
+    form: Option<FieldForm>,
+    operand: Operand<u16>,
+) -> Option<u16>
     requires fields { HasFields S.forms S.contents S.currents rows.now.fields.items store.now }
+    requires form { form ≡ forms.form_at rows.now.fields.items operand.field }
     requires there { rules.has_entry (forms.form_at rows.now.fields.items) operand ≡ true }
     requires index { rules.is_one_entry (forms.form_at rows.now.fields.items) operand ≡ true }
     ensures value { result ≡ named.position_of (forms.form_at rows.now.fields.items) (fields_of S.contents S.currents store.now) operand }
     ensures entry { IfSome result (λ e. IsEntry rows.now.fields.items operand.field e) }
 {
-    position_named(rows, store, operand)
+    position_named(rows, store, form, operand)
 }

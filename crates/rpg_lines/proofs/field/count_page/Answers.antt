@@ -12,7 +12,7 @@ pub set_number-requires-clause-length : goal.set_number-requires-clause-length
 set_number-requires-clause-length g c =
     let forms = c.args.rows.now.fields.items in
     let old = fields_of g.S.Store.contents g.S.Store.currents c.args.store.now in
-    let f = c.args.field.operand.field in
+    let f = c.args.field.now.operand.field in
     let page = ap (λ s. fits_source s (form_at forms f)) (sym c.in-Page.is) ∙ c.requires.source in
     let read : to_z w64 (of_z w64 c.number-n.result) ≡ c.number-n.result = search rules in
     let wrote : to_z w64 (of_z w64 c.next_page.result) ≡ c.next_page.result = search rules in
@@ -26,7 +26,7 @@ returns-in-Page-clause-fields g c =
     let currents = g.S.Store.currents in
     let forms = c.args.rows.now.fields.items in
     let old = fields_of contents currents c.args.store.now in
-    let f = c.args.field.operand.field in
+    let f = c.args.field.now.operand.field in
     let page = ap (λ s. fits_source s (form_at forms f)) (sym c.in-Page.is) ∙ c.requires.source in
     let read : to_z w64 (of_z w64 c.number-n.result) ≡ c.number-n.result = search rules in
     let m = to_z w64 (of_z w64 c.next_page.result) in
