@@ -1,4 +1,4 @@
-//! The ways in which an object program runs: over a reader and writers, over a list of records, and by either store.
+//! The ways in which an object program runs: over a reader and writers, and by either store over a list of records.
 
 use crate::outcome::Outputs;
 use rpg_cli::{Answer, Counted, Job, JobEnd, Report, execute, line, run_records};
