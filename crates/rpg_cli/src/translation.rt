@@ -14,7 +14,7 @@ use std::alloc::Global;
 /// The bytes of the object program that the source is compiled to.
 pub fn compile_to_bytes(alloc: Global, text: &[u8], allowance: u16) -> Result<Vec<u8>, CompileFault>
     requires { 0 < allowance }
-    // What is read in the bytes is that very program.
+    // The program keeps all rules, and what is read in the bytes is that very program.
     ensures ok { IfOk result (λ bytes. (p : Object) × Compiles text.now allowance p × IsSpelled p bytes.items × (reading bytes.items ≡ Ok p)) }
     ensures refused { IfErr result (λ fault. IsRefusal fault text.now) }
     ensures faultless { IfOk result (λ bytes. first_fault bytes.items ≡ None) }
