@@ -1,5 +1,5 @@
 #!/usr/bin/env bash
-# Compiles, verifies and runs an example with each of its allocations refused in turn: the answer must be `no memory`, status 1. Nothing is
+# Compiles, verifies and runs examples with each of its allocations refused in turn: the answer must be `no memory`, status 1. Nothing is
 # written by a compilation, and of a run's print a first part.
 set -euo pipefail
 
@@ -95,3 +95,20 @@ refuse compile "compiled" "$work/refused.obj" "$work/lister.obj" compile "$liste
 refuse verify "accepted, bound 5" "$work/unwritten" "" verify "$total/total.obj"
 refuse run "end of job, cycles 3, steps 5 of 5" "$work/print" "$total/total.expected" \
     run "$total/total.obj" "$total/amounts.txt" "$work/print" --date 010576
+
+# An object program that writes a disk file and prints behind it.
+hex=$(tr -d '\n' << 'OBJECT'
+5250474f424a000103e80050007800060000000500010002000300000000000001040006000000010100000400000001010000020000000101000003
+000000010103000100000001303030303030303030303030303030310100000000000001000100020003000000000102000100000001000100000001
+000101330000000400000000000300000000020400000000000100010000000100010100000100040000000000060000000001000004000000030000
+0004000000000000000011000000000000000000000000000000000000000100000400000005000000040000000000000000
+OBJECT
+)
+printf "$(sed 's/../\\x&/g' <<< "$hex")" > "$work/disk.obj"
+printf '05\n12\n' > "$work/numbers.txt"
+printf '  1\n  1\n' > "$work/print.expected"
+printf '   005\n   013\n' > "$work/disk.expected"
+for written in print disk; do
+    refuse run "end of job, cycles 3, steps 8 of 8" "$work/$written" "$work/$written.expected" \
+        run "$work/disk.obj" "$work/numbers.txt" "$work/print" --date 010576 --disk "$work/disk"
+done

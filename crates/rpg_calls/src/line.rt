@@ -48,9 +48,13 @@ impl<'a> Line<'a> {
         self.rest.trim_start().starts_with('"')
     }
 
-    /// The text in the quotes that come next.
+    /// The text in the quotes that come next, or between bars, which may hold quotes.
     pub fn text(&mut self) -> Option<&'a str> {
-        let (text, behind) = self.rest.trim_start().strip_prefix('"')?.split_once('"')?;
+        let rest = self.rest.trim_start();
+        let (text, behind) = match rest.strip_prefix('|') {
+            Some(rest) => rest.split_once('|')?,
+            None => rest.strip_prefix('"')?.split_once('"')?,
+        };
         self.rest = behind;
         Some(text)
     }

@@ -3,6 +3,7 @@
 //! README.md says how a line is written.
 #![tactic(auto)]
 
+mod cards;
 mod decimal;
 mod edited;
 mod errors;
@@ -20,9 +21,10 @@ use std::{env, fs, io};
 
 /// What the lines of a file speak of, one behind another.
 #[derive(Drop)]
-struct State {
+struct State<'a> {
     form: Form,
     symbols: Symbols,
+    card: &'a str,
 }
 
 /// What came of a line.
@@ -34,11 +36,12 @@ enum Verdict {
     Bad,
 }
 
-impl State {
-    fn new(alloc: Global) -> Result<State, AllocError> {
+impl<'a> State<'a> {
+    fn new(alloc: Global) -> Result<State<'a>, AllocError> {
         Ok(State {
             form: Form::new(),
             symbols: names::no_names(alloc)?,
+            card: "",
         })
     }
 
@@ -46,7 +49,7 @@ impl State {
         &mut self,
         alloc: Global,
         call: &str,
-        line: Line<'_>,
+        line: Line<'a>,
     ) -> Result<Option<bool>, AllocError> {
         if call == "say" {
             return errors::is_told(alloc, line);
@@ -58,14 +61,15 @@ impl State {
         let told = decimal::is_told(call, line)
             .or(moves::is_told(call, line))
             .or(edited::is_told(call, line))
-            .or(names::is_told(&mut self.symbols, call, line));
+            .or(names::is_told(&mut self.symbols, call, line))
+            .or(cards::is_told(alloc, &mut self.card, call, line));
         match told {
             Some(told) => Ok(Some(told)),
             None => printed::is_told(alloc, &mut self.form, call, line),
         }
     }
 
-    fn judge(&mut self, alloc: Global, line: &str) -> Result<Verdict, AllocError> {
+    fn judge(&mut self, alloc: Global, line: &'a str) -> Result<Verdict, AllocError> {
         let mut rest = Line::new(line);
         let Some(call) = rest.word() else {
             return Ok(Verdict::Bad);

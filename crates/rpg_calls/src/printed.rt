@@ -104,9 +104,9 @@ fn is_line(alloc: Global, form: &mut Form, text: &[u8], wanted: &[u8]) -> Result
     Ok(out.as_slice() == wanted)
 }
 
-/// The bytes of a text: `\n` stands for a line feed, `\f` for a form feed, `\r` for a carriage return, and `\` before any
-/// other character for that character.
-fn unescaped(alloc: Global, text: &str) -> Result<Vec<u8>, AllocError> {
+/// The bytes of a text: `\n` stands for a line feed, `\f` for a form feed, `\r` for a carriage return, `\u` for the byte below the
+/// blank, and `\` before any other character for that character.
+pub fn unescaped(alloc: Global, text: &str) -> Result<Vec<u8>, AllocError> {
     let mut bytes = Vec::new(alloc);
     let mut is_escaped = false;
     for byte in text.bytes() {
@@ -118,6 +118,7 @@ fn unescaped(alloc: Global, text: &str) -> Result<Vec<u8>, AllocError> {
             b'n' if is_escaped => b'\n',
             b'f' if is_escaped => 0x0C,
             b'r' if is_escaped => b'\r',
+            b'u' if is_escaped => 0x1F,
             _ => byte,
         })?;
         is_escaped = false;

@@ -1,5 +1,6 @@
 //! A case: a source or an object, and what a run of it is given and is to give.
 
+use crate::devices::Devices;
 use crate::mark::{Mark, mark_of};
 use std::alloc::{AllocError, Global};
 
@@ -16,6 +17,10 @@ pub enum Task {
     Run,
     /// The object is damaged in each place and run.
     Sweep,
+    /// The object is run cycle by cycle, and past its end.
+    Cycles,
+    /// The object is damaged in each place, read and spelled.
+    Damage,
 }
 
 /// What a case asks: the line that a task is to answer, of `rpg2` or of a sweep.
@@ -32,8 +37,6 @@ enum Part {
     Prose,
     /// Cards of the source, or hex of the object.
     Text,
-    /// Hex of the object, each line so many times.
-    Times(usize),
     /// What stands for this card or for the bytes from this one on.
     Change(usize),
     Input,
@@ -74,11 +77,15 @@ pub struct Case<'a> {
     pub input: Vec<&'a str>,
     pub print: Vec<&'a str>,
     pub disk: Vec<&'a str>,
+    /// What the devices of a run do, where it isn't all that they are asked.
+    pub devices: Option<Devices>,
     pub spelling: Spelling,
     pub compiled: Vec<&'a str>,
     /// Whether a mark of the case isn't known.
     pub is_bad: bool,
     part: Part,
+    /// How often each of the next lines stands.
+    times: usize,
 }
 
 impl<'a> Case<'a> {
@@ -94,10 +101,12 @@ impl<'a> Case<'a> {
             input: Vec::new(alloc),
             print: Vec::new(alloc),
             disk: Vec::new(alloc),
+            devices: None,
             spelling: Spelling::Unasked,
             compiled: Vec::new(alloc),
             is_bad: false,
             part: Part::Prose,
+            times: 1,
         }
     }
 
@@ -105,12 +114,16 @@ impl<'a> Case<'a> {
     pub fn take(&mut self, line: &'a str) -> Result<Option<Question<'a>>, AllocError> {
         let (task, line) = match mark_of(line) {
             None => {
-                self.add(line)?;
+                for _ in 0..self.times {
+                    self.add(line)?;
+                }
                 return Ok(None);
             }
             Some(Mark::Verify(answer)) => (Task::Verify, answer),
             Some(Mark::Answer(answer)) => (Task::Run, answer),
             Some(Mark::Sweep(answer)) => (Task::Sweep, answer),
+            Some(Mark::Cycles(answer)) => (Task::Cycles, answer),
+            Some(Mark::Damage(answer)) => (Task::Damage, answer),
             Some(mark) => {
                 self.begin(mark);
                 return Ok(None);
@@ -126,19 +139,20 @@ impl<'a> Case<'a> {
         self.print.clear();
         self.disk.clear();
         self.compiled.clear();
+        self.devices = None;
         self.spelling = Spelling::Unasked;
-        self.part = Part::Prose;
+        self.begin_part(Part::Prose);
+    }
+
+    fn begin_part(&mut self, part: Part) {
+        self.part = part;
+        self.times = 1;
     }
 
     fn add(&mut self, line: &'a str) -> Result<(), AllocError> {
         match self.part {
             Part::Prose => {}
             Part::Text => self.text.push(line)?,
-            Part::Times(count) => {
-                for _ in 0..count {
-                    self.text.push(line)?;
-                }
-            }
             Part::Change(at) => {
                 self.changes.push(Change { at, line })?;
                 self.part = Part::Change(at.saturating_add(1));
@@ -156,27 +170,31 @@ impl<'a> Case<'a> {
             Mark::Case(name) => self.begin_case(name),
             Mark::Source => self.begin_text(Kind::Source),
             Mark::Object => self.begin_text(Kind::Object),
-            Mark::Times(count) => self.part = Part::Times(count),
-            Mark::Change(at) => self.part = Part::Change(at),
+            Mark::Times(count) => self.times = count,
+            Mark::Change(at) => self.begin_part(Part::Change(at)),
             Mark::Allowance(number) => self.allowance = u16::try_from(number).unwrap_or(0),
             Mark::Date(date) => self.date = date,
             Mark::Input => {
                 self.is_run = true;
-                self.part = Part::Input;
+                self.begin_part(Part::Input);
             }
-            Mark::Print => self.part = Part::Print,
-            Mark::Disk => self.part = Part::Disk,
+            Mark::Device(said) => self.take_device(said),
+            Mark::Print => self.begin_part(Part::Print),
+            Mark::Disk => self.begin_part(Part::Disk),
             Mark::Compiled => {
                 self.spelling = Spelling::Given;
-                self.part = Part::Compiled;
+                self.begin_part(Part::Compiled);
             }
             Mark::Again => {
                 self.spelling = Spelling::Again;
-                self.part = Part::Prose;
+                self.begin_part(Part::Prose);
             }
-            Mark::Verify(_) | Mark::Answer(_) | Mark::Sweep(_) | Mark::Unknown => {
-                self.is_bad = true
-            }
+            Mark::Verify(_)
+            | Mark::Answer(_)
+            | Mark::Sweep(_)
+            | Mark::Cycles(_)
+            | Mark::Damage(_)
+            | Mark::Unknown => self.is_bad = true,
         }
     }
 
@@ -192,6 +210,12 @@ impl<'a> Case<'a> {
     fn begin_text(&mut self, kind: Kind) {
         self.kind = kind;
         self.text.clear();
-        self.part = Part::Text;
+        self.begin_part(Part::Text);
+    }
+
+    fn take_device(&mut self, said: &str) {
+        let mut devices = self.devices.unwrap_or(Devices::new());
+        self.is_bad = self.is_bad || !devices.take(said);
+        self.devices = Some(devices);
     }
 }

@@ -4,6 +4,9 @@
 #![tactic(auto)]
 
 mod case;
+mod cycles;
+mod damage;
+mod devices;
 mod mark;
 mod outcome;
 mod runs;

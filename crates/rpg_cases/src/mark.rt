@@ -9,7 +9,7 @@ pub enum Mark<'a> {
     Source,
     /// `--- object`: bytes in hex follow.
     Object,
-    /// `--- times N`: hex follows, each line of which stands N times.
+    /// `--- times N`: each line that follows stands N times.
     Times(usize),
     /// `--- card N`: what stands for card N and those behind it follows. `--- byte N`: hex for the bytes from N on follows.
     Change(usize),
@@ -17,6 +17,8 @@ pub enum Mark<'a> {
     Allowance(usize),
     /// `--- date DIGITS`
     Date(&'a str),
+    /// `--- device WORDS`: what the reader and the writers do.
+    Device(&'a str),
     /// `--- input`, `--- print` and `--- disk`: text follows.
     Input,
     Print,
@@ -31,6 +33,10 @@ pub enum Mark<'a> {
     Answer(&'a str),
     /// `--- sweep LINE` ends a run that runs it damaged in each place.
     Sweep(&'a str),
+    /// `--- cycles LINE` ends a run that goes past the job's end.
+    Cycles(&'a str),
+    /// `--- damage LINE` ends a run that reads it damaged in each place.
+    Damage(&'a str),
     /// Some other word.
     Unknown,
 }
@@ -54,6 +60,9 @@ pub fn mark_of(line: &str) -> Option<Mark<'_>> {
         ("verify", _) => Mark::Verify(value),
         ("answer", _) => Mark::Answer(value),
         ("sweep", _) => Mark::Sweep(value),
+        ("cycles", _) => Mark::Cycles(value),
+        ("damage", _) => Mark::Damage(value),
+        ("device", _) => Mark::Device(value),
         ("card" | "byte", Ok(at)) => Mark::Change(at),
         ("times", Ok(count)) => Mark::Times(count),
         ("allowance", Ok(number)) => Mark::Allowance(number),

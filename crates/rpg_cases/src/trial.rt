@@ -1,6 +1,9 @@
 //! What a case gives when it is compiled and run in memory, and what it wants.
 
 use crate::case::{Case, Change, Kind, Spelling, Task};
+use crate::cycles::cycles_of;
+use crate::damage::damage;
+use crate::devices::run_over;
 use crate::outcome::{Outputs, Told, Wanted};
 use crate::runs::{
     Given, accepted, line_of, records_of, run_listed_records, run_listed_values, run_streamed,
@@ -10,16 +13,6 @@ use crate::sweep::sweep;
 use rpg_cli::{Answer, compile_to_bytes, verify_bytes};
 use rpg_object::{decode, encode};
 use std::alloc::{AllocError, Global};
-
-/// The source, a card a line.
-fn source_of(alloc: Global, cards: &[&str]) -> Result<Vec<u8>, AllocError> {
-    let mut source = Vec::new(alloc);
-    for card in cards {
-        source.extend_from_slice(card.as_bytes())?;
-        source.push(b'\n')?;
-    }
-    Ok(source)
-}
 
 /// The cards, with the changed ones in the place of theirs or behind the last.
 fn cards_of<'a>(alloc: Global, case: &Case<'a>) -> Result<Vec<&'a str>, AllocError> {
@@ -72,18 +65,24 @@ fn text_of(alloc: Global, lines: &[&str]) -> Result<Vec<u8>, AllocError> {
     Ok(bytes)
 }
 
-/// What is told where nothing is printed or stored.
-fn said(answer: Vec<u8>, object: Vec<u8>, alloc: Global) -> Told {
+/// What is told of one run.
+fn told_once(outputs: Outputs, object: Vec<u8>) -> Told {
     Told {
-        outputs: Outputs {
-            answer,
-            print: Vec::new(alloc),
-            disk: Vec::new(alloc),
-        },
+        outputs,
         listed_records: None,
         listed_values: None,
         object,
     }
+}
+
+/// What is told where nothing is printed or stored.
+fn said(answer: Vec<u8>, object: Vec<u8>, alloc: Global) -> Told {
+    let outputs = Outputs {
+        answer,
+        print: Vec::new(alloc),
+        disk: Vec::new(alloc),
+    };
+    told_once(outputs, object)
 }
 
 /// What is told of an answer where nothing runs.
@@ -91,38 +90,26 @@ fn answered(alloc: Global, answer: Answer, object: Vec<u8>) -> Result<Told, Allo
     Ok(said(line_of(alloc, &answer)?, object, alloc))
 }
 
-/// What the object gives when it runs over the case's input, in each way.
-fn run(alloc: Global, case: &Case<'_>, object: Vec<u8>) -> Result<Told, AllocError> {
-    let input = text_of(alloc, case.input.as_slice())?;
-    let date = case.date.as_bytes();
-    let streamed = run_streamed(
-        alloc,
-        &object,
-        Given {
-            date,
-            input: &input,
-        },
-    );
+/// What the object gives when it runs, in each way.
+fn run(alloc: Global, given: Given<'_>, object: Vec<u8>) -> Result<Told, AllocError> {
+    let streamed = run_streamed(alloc, &object, given);
     let mut told = answered(alloc, streamed.answer, object)?;
     told.outputs.print = streamed.print;
     told.outputs.disk = streamed.disk;
     if let Some(program) = accepted(alloc, &told.object) {
-        let records = records_of(alloc, &input)?;
-        told.listed_records = run_listed_records(alloc, &program, date, &records)?;
-        told.listed_values = run_listed_values(alloc, &program, date, &records)?;
+        let records = records_of(alloc, given.input)?;
+        told.listed_records = run_listed_records(alloc, &program, given.date, &records)?;
+        told.listed_values = run_listed_values(alloc, &program, given.date, &records)?;
     }
     Ok(told)
 }
 
-/// What the object gives when it is damaged in each place.
-fn swept(alloc: Global, case: &Case<'_>, object: Vec<u8>) -> Result<Told, AllocError> {
-    let input = text_of(alloc, case.input.as_slice())?;
-    let given = Given {
-        date: case.date.as_bytes(),
-        input: &input,
-    };
-    let line = sweep(alloc, &object, given)?;
-    Ok(said(line, object, alloc))
+/// What the object gives when it runs cycle by cycle; nothing where it is refused.
+fn cycled(alloc: Global, given: Given<'_>, object: Vec<u8>) -> Result<Told, AllocError> {
+    match accepted(alloc, &object) {
+        Some(program) => Ok(told_once(cycles_of(alloc, &program, given)?, object)),
+        None => Ok(said(Vec::new(alloc), object, alloc)),
+    }
 }
 
 /// What the verifier says of the object.
@@ -142,13 +129,45 @@ fn spelled_again(alloc: Global, object: &[u8]) -> Result<Vec<u8>, AllocError> {
     }
 }
 
+/// What the task gives over the case's input.
+fn told_over_input(
+    alloc: Global,
+    case: &Case<'_>,
+    task: Task,
+    object: Vec<u8>,
+) -> Result<Told, AllocError> {
+    let input = text_of(alloc, case.input.as_slice())?;
+    let given = Given {
+        date: case.date.as_bytes(),
+        input: &input,
+    };
+    match (task, case.devices) {
+        (Task::Sweep, _) => Ok(said(sweep(alloc, &object, given)?, object, alloc)),
+        (Task::Cycles, _) => cycled(alloc, given, object),
+        (_, None) => run(alloc, given, object),
+        (_, Some(devices)) => {
+            let outputs = run_over(alloc, &object, given, devices)?;
+            Ok(told_once(outputs, object))
+        }
+    }
+}
+
+fn told_of_bytes(
+    alloc: Global,
+    case: &Case<'_>,
+    task: Task,
+    object: Vec<u8>,
+) -> Result<Told, AllocError> {
+    match task {
+        Task::Verify => verified(alloc, object),
+        Task::Damage => Ok(said(damage(alloc, &object)?, object, alloc)),
+        Task::Run | Task::Sweep | Task::Cycles => told_over_input(alloc, case, task, object),
+    }
+}
+
 fn told_of_object(alloc: Global, case: &Case<'_>, task: Task) -> Result<Told, AllocError> {
     let object = object_of(alloc, case)?;
-    let mut told = match task {
-        Task::Verify => verified(alloc, object)?,
-        Task::Run => run(alloc, case, object)?,
-        Task::Sweep => swept(alloc, case, object)?,
-    };
+    let mut told = told_of_bytes(alloc, case, task, object)?;
     if let Spelling::Again = case.spelling {
         told.object = spelled_again(alloc, &told.object)?;
     }
@@ -157,16 +176,13 @@ fn told_of_object(alloc: Global, case: &Case<'_>, task: Task) -> Result<Told, Al
 
 fn told_of_source(alloc: Global, case: &Case<'_>, task: Task) -> Result<Told, AllocError> {
     let cards = cards_of(alloc, case)?;
-    let source = source_of(alloc, &cards)?;
-    match (
-        compile_to_bytes(alloc, &source, case.allowance.max(1)),
-        task,
-    ) {
-        (Err(fault), _) => answered(alloc, Answer::from(fault), Vec::new(alloc)),
-        (Ok(object), Task::Verify) => verified(alloc, object),
-        (Ok(object), Task::Sweep) => swept(alloc, case, object),
-        (Ok(object), Task::Run) if case.is_run => run(alloc, case, object),
-        (Ok(object), Task::Run) => answered(alloc, Answer::Compiled, object),
+    let source = text_of(alloc, &cards)?;
+    match compile_to_bytes(alloc, &source, case.allowance.max(1)) {
+        Err(fault) => answered(alloc, Answer::from(fault), Vec::new(alloc)),
+        Ok(object) if matches!(&task, Task::Run) && !case.is_run => {
+            answered(alloc, Answer::Compiled, object)
+        }
+        Ok(object) => told_of_bytes(alloc, case, task, object),
     }
 }
 

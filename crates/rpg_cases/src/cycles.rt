@@ -1,0 +1,119 @@
+//! Jobs cycle by cycle, and past their end.
+
+use crate::outcome::Outputs;
+use crate::runs::{Given, records_of};
+use rpg_cli::Job;
+use rpg_cycle::{CycleEnd, StartFault};
+use rpg_store::Store;
+use rpg_verify::Verified;
+use std::alloc::{AllocError, Global};
+
+/// What is told of a job's cycles so far, and what they put out.
+#[derive(Drop)]
+struct Tale {
+    outputs: Outputs,
+    is_over: bool,
+}
+
+fn end_words(end: CycleEnd) -> &'static str {
+    match end {
+        CycleEnd::GoesOn => "goes on",
+        CycleEnd::EndOfJob => "end of job",
+        CycleEnd::Halt(_) => "halt",
+        CycleEnd::Failed => "failed",
+    }
+}
+
+impl Tale {
+    fn say(&mut self, words: &str) -> Result<(), AllocError> {
+        self.outputs.answer.extend_from_slice(words.as_bytes())
+    }
+
+    /// Tells whether the job needs a record.
+    fn tell_need<S: Store + Drop>(&mut self, job: &Job<'_, S>) -> Result<(), AllocError> {
+        if job.needs_record() {
+            self.say(", wants a record")?;
+        }
+        Ok(())
+    }
+
+    /// Tells how a cycle ended, how many steps it took unless the job had ended before, and how many bytes it prints.
+    fn tell_cycle<S: Store + Drop>(
+        &mut self,
+        alloc: Global,
+        job: &mut Job<'_, S>,
+        end: CycleEnd,
+    ) -> Result<(), AllocError> {
+        self.say("; ")?;
+        self.say(end_words(end))?;
+        if let CycleEnd::Halt(number) = end {
+            let words = format!(in alloc; " {number}")?;
+            self.say(words.as_str())?;
+        }
+        if !self.is_over {
+            let words = format!(in alloc; ", steps {}", job.steps())?;
+            self.say(words.as_str())?;
+        }
+        self.is_over = !matches!(&end, CycleEnd::GoesOn);
+        let output = job.take_output();
+        if !output.print.is_empty() {
+            let words = format!(in alloc; ", {} bytes", output.print.len())?;
+            self.say(words.as_str())?;
+        }
+        self.outputs.print.extend_from_slice(&output.print)?;
+        self.outputs.disk.extend_from_slice(&output.disk)
+    }
+}
+
+/// Does a job's cycles: one for each record, one behind the last, and two more, with the last record and with none.
+fn tell_cycles<S: Store + Drop>(
+    alloc: Global,
+    tale: &mut Tale,
+    job: &mut Job<'_, S>,
+    records: &[Vec<u8>],
+) -> Result<(), AllocError> {
+    let count = records.len();
+    for turn in 0..count.saturating_add(3) {
+        let place = if turn == count.saturating_add(1) {
+            count.saturating_sub(1)
+        } else {
+            turn
+        };
+        let next = match records.get(place) {
+            None => None,
+            Some(record) => Some(record.as_slice()),
+        };
+        match job.cycle(next) {
+            Ok(end) => tale.tell_cycle(alloc, job, end)?,
+            Err(_) => tale.say("; no memory")?,
+        }
+        tale.tell_need(job)?;
+    }
+    Ok(())
+}
+
+/// What is told of a job's cycles over the input's records.
+pub fn cycles_of(
+    alloc: Global,
+    program: &Verified,
+    given: Given<'_>,
+) -> Result<Outputs, AllocError> {
+    let mut tale = Tale {
+        outputs: Outputs {
+            answer: Vec::new(alloc),
+            print: Vec::new(alloc),
+            disk: Vec::new(alloc),
+        },
+        is_over: false,
+    };
+    match Job::start(alloc, program, given.date) {
+        Err(StartFault::NoMemory) => tale.say("no memory")?,
+        Err(StartFault::D1) => tale.say("bad date")?,
+        Ok(mut job) => {
+            tale.say("starts")?;
+            tale.tell_need(&job)?;
+            tell_cycles(alloc, &mut tale, &mut job, &records_of(alloc, given.input)?)?;
+        }
+    }
+    Ok(tale.outputs)
+}

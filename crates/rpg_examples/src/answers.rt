@@ -1,0 +1,97 @@
+//! The lines and statuses of answers, of which no session gives some.
+
+use rpg_cli::{Answer, CompileFault, SourceCode, line};
+use rpg_compile::{FaultCode, SheetCode};
+use rpg_object::Code;
+use rpg_rules::{PlaceRule, Rule};
+use std::io::{self, Write};
+
+const F16: SourceCode = SourceCode::Fault(FaultCode::F16);
+
+const S1: SourceCode = SourceCode::Sheet(SheetCode::S1);
+
+const OF_SOURCES: [Answer; 3] = [
+    Answer::Compiled,
+    Answer::Source { card: 6, code: F16 },
+    Answer::Source {
+        card: 65_535,
+        code: S1,
+    },
+];
+
+const OF_OBJECTS: [Answer; 5] = [
+    Answer::Accepted { bound: 4 },
+    Answer::Refused {
+        rule: Rule::Place(PlaceRule::V21),
+        row: 7,
+    },
+    Answer::NotAnObject {
+        offset: 117,
+        code: Code::NotAllowed,
+    },
+    Answer::NotAnObject {
+        offset: 0,
+        code: Code::NoObject,
+    },
+    Answer::NotAnObject {
+        offset: 60,
+        code: Code::LeftOver,
+    },
+];
+
+const OF_JOBS: [Answer; 3] = [
+    Answer::EndOfJob {
+        cycles: 4,
+        most: 3,
+        bound: 3,
+    },
+    Answer::Halt {
+        number: 5,
+        cycles: 1,
+        most: 4,
+        bound: 5,
+    },
+    Answer::Halt {
+        number: 255,
+        cycles: u64::MAX,
+        most: u64::MAX,
+        bound: u64::MAX,
+    },
+];
+
+const OF_FILES: [Answer; 6] = [
+    Answer::BadDate,
+    Answer::DiskFileWanted,
+    Answer::InputFailed,
+    Answer::OutputFailed,
+    Answer::FileTooLarge,
+    Answer::NoMemory,
+];
+
+/// Refusals, as an error prints them.
+const REFUSALS: [CompileFault; 3] = [
+    CompileFault::At { card: 5, code: S1 },
+    CompileFault::At { card: 5, code: F16 },
+    CompileFault::NoMemory,
+];
+
+fn say_each<R: Print + AllocGlobal>(rt: &R, answers: &[Answer]) -> io::Result<()> {
+    for answer in answers {
+        let said = line(answer);
+        io::writer(rt).write_all(said.text.as_slice())?;
+        println!(rt; "; status {}", said.status)?;
+    }
+    Ok(())
+}
+
+/// Prints each answer's line and status, and what refusals print.
+pub fn say<R: Print + AllocGlobal>(rt: &R) -> io::Result<()> {
+    say_each(rt, &OF_SOURCES)?;
+    say_each(rt, &OF_OBJECTS)?;
+    say_each(rt, &OF_JOBS)?;
+    say_each(rt, &OF_FILES)?;
+    for fault in &REFUSALS {
+        println!(rt; "{fault}")?;
+    }
+    Ok(())
+}
