@@ -1,4 +1,4 @@
-use Rattle.std.proofs.Common.{arith, refl, sym}
+use Rattle.std.proofs.Common.{arith, refl}
 use Rattle.rpg_decimal.specs.declared.whole.TheConstants.{POWERS_OF_TEN}
 use Rattle.rpg_decimal.proofs.WholeLemmas.{ten_at, ten_le, ten_pos}
 use Rattle.rpg_decimal.proofs.whole.power_of_ten.Goals as goal
