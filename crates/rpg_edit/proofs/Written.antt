@@ -1,5 +1,5 @@
 -- Texts written from the last mark to the first.
-use Rattle.std.proofs.Common.{◌-◌, ℤ, unsigned_abs, ◌≡◌, ℕ, zero, suc, ◌+◌, ◌/◌, ◌^◌, ◌≤◌, Bool, List, [], ◌∷◌, ◌++◌, length, take, drop, refl, sym, ap, ◌∙◌, arith, append_assoc, length-append, length-drop, append-nil, add-one, pow-suc, get_or, drop-cons, ◌<◌, replicate}
+use Rattle.std.proofs.Common.{◌-◌, ℤ, unsigned_abs, ◌≡◌, ℕ, suc, ◌+◌, ◌/◌, ◌^◌, ◌≤◌, Bool, List, [], ◌∷◌, ◌++◌, length, take, drop, refl, sym, ap, ◌∙◌, arith, append_assoc, length-append, length-drop, append-nil, add-one, pow-suc, get_or, drop-cons, ◌<◌, replicate}
 use Rattle.rpg_edit.specs.declared.mark.Mark.TheVariants.{Digit}
 use Rattle.std.proofs.Math.Nat.{div-div-eq-div-mul}
 use Rattle.std.proofs.lemmas.List.{take-take, drop_all, take-append-drop, take_all}
