@@ -4,8 +4,8 @@ ghost use Rattle.std.specs.Prelude.{◌≡◌, length, take, option_copied};
 ghost use Rattle.rpg_faults.specs.Cards.{operand};
 ghost use Rattle.rpg_faults.specs.Names as names;
 
-use rpg_effect::form::{Class, FieldForm, Kind};
 use rpg_cards::{Defined, IndexedCards, Need, SpecCard, columns, sized_form};
+use rpg_effect::form::{Class, FieldForm, Kind};
 use rpg_spec::{CalculationSpec, Factor, OutputField};
 use rpg_symbols::Name;
 

@@ -4,8 +4,8 @@ ghost use Rattle.std.specs.Prelude.{◌≡◌};
 ghost use Rattle.rpg_faults.specs.Operands as operands;
 
 use crate::names::{is_same_kind, operand};
-use rpg_effect::form::{Class, FieldForm, Kind};
 use rpg_cards::{Defined, IndexedCards, Kinds, Need, SpecCard, columns};
+use rpg_effect::form::{Class, FieldForm, Kind};
 use rpg_spec::{CalculationSpec, Factor};
 use rpg_symbols::Name;
 
