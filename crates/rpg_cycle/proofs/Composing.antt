@@ -6,7 +6,7 @@ use Rattle.rpg_edit.specs.Paper.{Placed, Position, bytes_from, end_from}
 use Rattle.rpg_effect.proofs.Putting.{disk-append, end_from-lines}
 use Rattle.rpg_effect.specs.Put.{Bytes, disk_bytes, line_of, with_output}
 use Rattle.rpg_cycle.specs.Doing.{Does, DoesBehind, Passes, under_way}
-use Rattle.rpg_cycle.specs.Earlier.{Selected}
+use Rattle.rpg_records.specs.Earlier.{Selected}
 use Rattle.rpg_cycle.specs.Ends.{End, GoesOn, EndOfJob, Halt}
 use Rattle.rpg_cycle.specs.Phases.{Done, Phase, UnderWay, does, done, either, passes, unless, ◌before◌}
 use Rattle.rpg_cycle.specs.Stages.{IfStops, UnlessNoMemory, job_end}

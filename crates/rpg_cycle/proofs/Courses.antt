@@ -7,7 +7,7 @@ use Rattle.rpg_effect.proofs.Putting.{end_from-lines}
 use Rattle.rpg_effect.specs.Put.{Bytes, line_of, with_output}
 use Rattle.rpg_cycle.proofs.Composing.{output_both, output_none}
 use Rattle.rpg_cycle.proofs.Ending.{never_on}
-use Rattle.rpg_cycle.specs.Earlier.{Selected, left_by, with_record}
+use Rattle.rpg_records.specs.Earlier.{Selected, left_by, with_record}
 use Rattle.rpg_cycle.specs.Ends.{End, GoesOn, EndOfJob, Halt, Wrong}
 use Rattle.rpg_cycle.specs.Job.{AtWork, Cycles, DoesCycle, feed_at, with_feed}
 use Rattle.rpg_cycle.specs.Phases.{UnderWay}

@@ -1,6 +1,6 @@
 -- Where cycles and runs end.
 use Rattle.std.proofs.Common.{◌≡◌, ℕ, ◌≤◌, ◌+◌, Bool, true, false, cond, ◌||◌, List, [], ◌∷◌, length, Option, None, is_none, refl, ap, ◌∙◌, arith}
-use Rattle.rpg_cycle.specs.Earlier.{Left, Selected, with_record}
+use Rattle.rpg_records.specs.Earlier.{Left, Selected, with_record}
 use Rattle.rpg_cycle.specs.Ends.{End, GoesOn, EndOfJob, Halt, Wrong}
 use Rattle.rpg_cycle.specs.Indicators.{is_on, last_record, level_indicators, with_all, with_one}
 use Rattle.rpg_cycle.specs.Phases.{CycleOn, Done, Phase, UnderWay, begun, detail_calculations, detail_lines, done, either, end_where_last, fill_fields, halt_where_asked, is_bypassed, output, overflow_lines, passes, section, select_record, set_off, total_time, ◌before◌}

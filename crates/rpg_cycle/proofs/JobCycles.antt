@@ -3,10 +3,10 @@ use Rattle.std.proofs.Common.{◌≡◌, ℕ, List, [], Option, None, Some, refl
 use Rattle.rpg_edit.specs.Paper.{Position, end_from}
 use Rattle.rpg_effect.specs.Put.{Bytes, line_of, with_output}
 use Rattle.rpg_cycle.specs.Doing.{Does, under_way}
-use Rattle.rpg_cycle.specs.Earlier.{Left, Selected, left_by, with_record}
+use Rattle.rpg_records.specs.Earlier.{Left, Selected, left_by, with_record}
 use Rattle.rpg_cycle.specs.Ends.{End, GoesOn}
 use Rattle.rpg_cycle.specs.Job.{AtWork, DoesCycle, feed_at, with_feed}
-use Rattle.rpg_cycle.specs.Keeping.{kept_levels, noted, selected_as}
+use Rattle.rpg_records.specs.Keeping.{kept_levels, noted, selected_as}
 use Rattle.rpg_cycle.specs.Phases.{Cycle, CycleOn, UnderWay, begun}
 use Rattle.rpg_cycle.specs.Stages.{Ended, Going, Stage, job_end, stage_at}
 use Rattle.rpg_cycle.specs.declared.ends.JobEnd.{JobEnd}

@@ -2,17 +2,12 @@ pub mod Composing
 pub mod Courses
 pub mod Dating
 pub mod Ending
-pub mod Fitting
-pub mod Fronts
 pub mod JobCycles
-pub mod Joining
 pub mod Machining
 pub mod Nine
 pub mod OneRun
 pub mod Others
-pub mod Recording
 pub mod Selecting
 pub mod Spending
-pub mod Trying
 pub mod Turning
 pub mod Unneeded

@@ -2,9 +2,9 @@
 use Rattle.std.proofs.Common.{◌≡◌, ℕ, List, Option, None, Some, refl, sym, subst}
 use Rattle.rpg_effect.specs.Ends as effects
 use Rattle.rpg_cycle.specs.Doing.{Does, Passes}
-use Rattle.rpg_cycle.specs.Earlier.{Selected}
+use Rattle.rpg_records.specs.Earlier.{Selected}
 use Rattle.rpg_cycle.specs.Ends.{End, GoesOn, end_of}
-use Rattle.rpg_cycle.specs.Keeping.{selected_as}
+use Rattle.rpg_records.specs.Keeping.{selected_as}
 use Rattle.rpg_cycle.specs.Phases.{by_machine, fill_fields, output, section}
 use Rattle.rpg_machine.specs.Outputs.{FillsFields, PutsOut}
 use Rattle.rpg_machine.specs.Run.{RunsTo}

@@ -2,9 +2,9 @@
 use Rattle.std.proofs.Common.{◌≡◌, ℕ, Bool, List, Option, None, Some, refl, ap, ◌∙◌, subst}
 use Rattle.rpg_cycle.proofs.Composing.{goes, ends}
 use Rattle.rpg_cycle.specs.Doing.{Does}
-use Rattle.rpg_cycle.specs.Earlier.{Left, Selected}
+use Rattle.rpg_records.specs.Earlier.{Left, Selected}
 use Rattle.rpg_cycle.specs.Ends.{End, GoesOn}
-use Rattle.rpg_cycle.specs.Keeping.{kept_levels}
+use Rattle.rpg_records.specs.Keeping.{kept_levels}
 use Rattle.rpg_cycle.specs.Phases.{Phase, ◌before◌}
 use Rattle.rpg_cycle.specs.Stages.{job_end}
 use Rattle.rpg_cycle.specs.declared.ends.JobEnd.{JobEnd}

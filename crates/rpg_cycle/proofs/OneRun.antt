@@ -5,7 +5,7 @@ use Rattle.rpg_effect.specs.Effect.{Effect}
 use Rattle.rpg_effect.specs.Ends as effects
 use Rattle.rpg_effect.specs.Put.{Bytes}
 use Rattle.rpg_effect.specs.World.{Fields, World}
-use Rattle.rpg_cycle.specs.Earlier.{Left, Selected, left_by, with_record}
+use Rattle.rpg_records.specs.Earlier.{Left, Selected, left_by, with_record}
 use Rattle.rpg_cycle.specs.Ends.{End, GoesOn, EndOfJob, Halt, Wrong, end_of}
 use Rattle.rpg_cycle.specs.Phases.{CycleOn, Done, Phase, UnderWay, begun, by_machine, does, either, fill_from, from_there, output, passes, section, unless, ◌before◌}
 use Rattle.rpg_cycle.specs.Runs.{Course, IsRun, Runs, ends_or, printed, stored, with_cycle}

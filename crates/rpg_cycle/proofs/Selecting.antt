@@ -9,12 +9,12 @@ use Rattle.rpg_cycle.proofs.Composing.{quietly}
 use Rattle.rpg_cycle.proofs.Spending.{found_few, tried_few}
 use Rattle.rpg_cycle.proofs.Turning.{all_keep, all_on, type_keeps, type_on}
 use Rattle.rpg_cycle.specs.Doing.{Does}
-use Rattle.rpg_cycle.specs.Earlier.{Left, Selected, control_fields}
+use Rattle.rpg_records.specs.Earlier.{Left, Selected, control_fields}
 use Rattle.rpg_cycle.specs.Ends.{End, GoesOn, Halt}
-use Rattle.rpg_cycle.specs.Fitting.{IsControlIn}
-use Rattle.rpg_cycle.specs.Identifying.{IsOf, IsOfNone, filled, identified, is_good, trial_weight}
+use Rattle.rpg_records.specs.Fitting.{IsControlIn}
+use Rattle.rpg_records.specs.Identifying.{IsOf, IsOfNone, filled, identified, is_good, trial_weight}
 use Rattle.rpg_cycle.specs.Indicators.{is_on, last_record, level_indicators, with_all, with_levels, with_one, with_type}
-use Rattle.rpg_cycle.specs.Levels.{is_inside}
+use Rattle.rpg_records.specs.Levels.{broken_in, is_inside}
 use Rattle.rpg_cycle.specs.Phases.{broken_level, done, indicator_of, read_record, select_record}
 use Rattle.rpg_cycle.specs.Selecting.{HasRead, IsCompared, IsUntaken, TakesType}
 use Rattle.rpg_cycle.specs.Spending.{Selects, Spends}
@@ -104,7 +104,7 @@ taken_selects p full t bytes now a b c one two =
     let few : trial_weight p.types full + (length (control_fields p t) + length (inputs_at p t)) ≤ types_weight p.types =
     subst (λ (k : ℕ). trial_weight p.types full + (length (control_fields p k) + length (inputs_at p k)) ≤ types_weight p.types) (sym row) x.few in
     let typed = type_keeps (indicator_of (slice_get p.types t)) (charged (trial_weight p.types full) a.config) in
-    let leveled = all_keep (take (Rattle.rpg_cycle.specs.Selecting.broken_in (control_fields p t) full bytes) level_indicators) true (charged (length (control_fields p t)) b.config) in
+    let leveled = all_keep (take (broken_in (control_fields p t) full bytes) level_indicators) true (charged (length (control_fields p t)) b.config) in
     record {
       few = omega (
         arith,

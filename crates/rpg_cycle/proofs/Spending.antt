@@ -11,8 +11,8 @@ use Rattle.rpg_effect.specs.Weights.{is_at_detail, is_at_total, is_in_cycle, lin
 use Rattle.rpg_effect.specs.declared.line.Time.{Time}
 use Rattle.rpg_effect.specs.declared.line.Time.TheVariants as times
 use Rattle.rpg_cycle.proofs.Turning.{off_keeps}
-use Rattle.rpg_cycle.specs.Earlier.{levels_of}
-use Rattle.rpg_cycle.specs.Identifying.{IsOf, Misplaced, holds, identified, is_there, trial_weight}
+use Rattle.rpg_records.specs.Earlier.{levels_of}
+use Rattle.rpg_records.specs.Identifying.{IsOf, Misplaced, holds, identified, is_there, trial_weight}
 use Rattle.rpg_cycle.specs.Phases.{all_off}
 use Rattle.rpg_cycle.specs.Spending.{Spends, cycle_weight, first_cost}
 use Rattle.rpg_machine.specs.Config.{Config}

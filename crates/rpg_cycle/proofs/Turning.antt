@@ -1,5 +1,5 @@
 -- Indicators that are turned, and steps that are charged, wherever the form is.
-use Rattle.std.proofs.Common.{◌≡◌, ℕ, ◌<◌, Bool, true, false, cond, eqb, List, [], ◌∷◌, length, get_or, All, map, Option, None, Some, refl, sym, ap, ◌∙◌, subst}
+use Rattle.std.proofs.Common.{◌≡◌, ℕ, ◌<◌, Bool, true, false, cond, eqb, List, [], ◌∷◌, All, map, Option, None, Some, refl, sym, ap, ◌∙◌, subst}
 use Rattle.std.proofs.lemmas.List.{get_or-map, length-map}
 use Rattle.std.specs.Option.{ForSome}
 use Rattle.rpg_edit.specs.Paper.{Position}
@@ -7,7 +7,7 @@ use Rattle.rpg_effect.specs.Input.{TypeRow}
 use Rattle.rpg_cycle.proofs.Composing.{quietly}
 use Rattle.rpg_cycle.specs.Doing.{Passes}
 use Rattle.rpg_cycle.specs.Ends.{GoesOn}
-use Rattle.rpg_cycle.specs.Fitting.{IsTypeIn}
+use Rattle.rpg_records.specs.Fitting.{IsTypeIn}
 use Rattle.rpg_cycle.specs.Indicators.{first_page, last_record, level_indicators, with_all, with_one, with_type, without_type, without_types}
 use Rattle.rpg_cycle.specs.Phases.{all_off, done, has_no_overflow, set_off, with_config}
 use Rattle.rpg_machine.specs.Config.{Config}
@@ -95,9 +95,3 @@ pub row_indicators : (len : ℕ) (ts : List RecordType) → All (IsTypeIn len) (
 row_indicators len ts h k d inside =
     subst (λ (t : TypeRow ℕ). ForSome t.indicator IsIndicator) (get_or-map type_row ts k d (type_row d) inside)
     (h k (type_row d) (subst (λ n. k < n) (sym (length-map ts type_row)) inside)).indicator
-
--- a type in a row of the program
-pub row_fits : (len : ℕ) (ts : List RecordType) (k : ℕ) (d : RecordType) → All (IsTypeIn len) (map type_row ts) → k < length ts → IsTypeIn len (type_row (get_or ts k d))
-row_fits len ts k d h inside =
-    subst (λ (t : TypeRow ℕ). IsTypeIn len t) (get_or-map type_row ts k d (type_row d) inside)
-    (h k (type_row d) (subst (λ n. k < n) (sym (length-map ts type_row)) inside))

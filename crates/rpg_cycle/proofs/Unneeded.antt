@@ -5,7 +5,7 @@ use Rattle.std.specs.Option.{ForSome}
 use Rattle.rpg_effect.specs.Forms.{form_at}
 use Rattle.rpg_effect.specs.Input.{TypeRow}
 use Rattle.rpg_cycle.proofs.Others.{IsOther, details_keep, insert_other, remove_other}
-use Rattle.rpg_cycle.specs.Earlier.{Left, Selected, left_by}
+use Rattle.rpg_records.specs.Earlier.{Left, Selected, left_by}
 use Rattle.rpg_cycle.specs.Ends.{End, GoesOn, EndOfJob, Halt, Wrong}
 use Rattle.rpg_cycle.specs.Indicators.{any_on, first_page, halt_indicators, is_on, last_record, level_indicators, with_all, with_one, without_type, without_types}
 use Rattle.rpg_cycle.specs.Phases.{Cycle, CycleOn, Done, Phase, UnderWay, all_off, begun, detail_calculations, detail_lines, done, end_where_last, fill_fields, halt_where_asked, needs_record, overflow_lines, read_record, select_record, set_off, total_time, ◌before◌}

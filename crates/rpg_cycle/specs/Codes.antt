@@ -4,7 +4,7 @@ use Rattle.std.proofs.Common.{inl, inr}
 use Rattle.std.specs.Coded.{Coded, code_by, coded×, coded⊎, coded_ℕ, coded_bool, coded_list, coded_option}
 use base.Stored.{coded_unit}
 use Rattle.rpg_effect.specs.Ends.{Fault, Jump, Storage, Kind, Return}
-use Rattle.rpg_cycle.specs.Earlier.{Left}
+use Rattle.rpg_records.specs.Earlier.{Left}
 use Rattle.rpg_cycle.specs.Ends.{End, GoesOn, EndOfJob, Halt, Wrong}
 use Rattle.rpg_cycle.specs.Stages.{Stage, Going, Ended, Failed}
 

@@ -2,7 +2,7 @@
 use Rattle.std.specs.Prelude.{◌≡◌, Option}
 use Rattle.rpg_edit.specs.Paper.{Position, end_from}
 use Rattle.rpg_effect.specs.Put.{line_of, with_output}
-use Rattle.rpg_cycle.specs.Earlier.{Selected}
+use Rattle.rpg_records.specs.Earlier.{Selected}
 use Rattle.rpg_cycle.specs.Ends.{End}
 use Rattle.rpg_cycle.specs.Phases.{Phase, UnderWay}
 use Rattle.rpg_machine.specs.Config.{Config, Output}

@@ -4,7 +4,7 @@ use Rattle.std.specs.Ordering.{nat_cmp}
 use Rattle.rpg_edit.specs.Paper.{Position, end_from}
 use Rattle.rpg_effect.specs.Put.{Bytes, line_of, with_output}
 use Rattle.rpg_effect.specs.World.{Fields}
-use Rattle.rpg_cycle.specs.Earlier.{Left, Selected, left_by, with_record}
+use Rattle.rpg_records.specs.Earlier.{Left, Selected, left_by, with_record}
 use Rattle.rpg_cycle.specs.Ends.{End, GoesOn}
 use Rattle.rpg_machine.specs.Running as machines
 use Rattle.rpg_machine.specs.Ready.{IsReady}

@@ -1,15 +1,9 @@
 pub mod Codes
 pub mod Dating
 pub mod Doing
-pub mod Earlier
 pub mod Ends
-pub mod Fitting
-pub mod Fronts
-pub mod Identifying
 pub mod Indicators
 pub mod Job
-pub mod Keeping
-pub mod Levels
 pub mod Phases
 pub mod Running
 pub mod Runs
@@ -17,4 +11,3 @@ pub mod Selecting
 pub mod Spending
 pub mod Stages
 pub mod Starting
-pub mod Trying

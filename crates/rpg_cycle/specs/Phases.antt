@@ -1,11 +1,11 @@
 -- One cycle of a job: its nine phases, one after another.
 use Rattle.std.specs.Prelude.{◌≡◌, ℕ, Bool, true, false, not, ◌&&◌, ◌||◌, List, [], ◌∷◌, length, slice_get, Option, None, Some, is_none, if◌then◌else◌}
 use Rattle.std.specs.List.{list_all}
-use Rattle.rpg_cycle.specs.Earlier.{Left, Selected, control_fields, is_any, last_of_level, left_by}
+use Rattle.rpg_records.specs.Earlier.{Left, Selected, control_fields, is_any, last_of_level, left_by}
 use Rattle.rpg_cycle.specs.Ends.{End, GoesOn, EndOfJob, Halt, Wrong, end_of}
-use Rattle.rpg_cycle.specs.Identifying.{Trial, IsOf, IsOfNone, Misplaced, filled, identified, is_good, trial_weight}
+use Rattle.rpg_records.specs.Identifying.{Trial, IsOf, IsOfNone, Misplaced, filled, identified, is_good, trial_weight}
 use Rattle.rpg_cycle.specs.Indicators.{any_on, first_page, halt_indicators, is_on, last_record, level_indicators, with_all, with_levels, with_one, with_type, without_types}
-use Rattle.rpg_cycle.specs.Levels.{bytes_of, differs, highest_broken, is_inside}
+use Rattle.rpg_records.specs.Levels.{bytes_of, differs, highest_broken, is_inside}
 use Rattle.rpg_effect.specs.Ends as effects
 use Rattle.rpg_effect.specs.Input.{TypeRow}
 use Rattle.rpg_machine.specs.Config.{Config, Output, charged, no_output, with_more}

@@ -1,7 +1,7 @@
 -- Whole runs: a cycle for each record, and one for the end of the file, until one ends the job.
 use Rattle.std.specs.Prelude.{◌≡◌, ℕ, ◌+◌, ◌++◌, ℤ, List, [], ◌∷◌, max, None, Some}
 use Rattle.std.specs.Ordering.{nat_cmp}
-use Rattle.rpg_cycle.specs.Earlier.{Selected, with_record}
+use Rattle.rpg_records.specs.Earlier.{Selected, with_record}
 use Rattle.rpg_cycle.specs.Ends.{End, GoesOn, EndOfJob, Halt, Wrong}
 use Rattle.rpg_cycle.specs.Phases.{Cycle, UnderWay, begun}
 use Rattle.rpg_cycle.specs.Starting.{start_of}

@@ -1,12 +1,12 @@
 -- What the parts of the selection of a record do.
-use Rattle.std.specs.Prelude.{◌≡◌, ℕ, ◌<◌, ◌-◌, ◌≤◌, All, List, length, slice_get, slice_index_or, Option, None, Some}
-use Rattle.rpg_cycle.specs.Earlier.{Left, Selected}
+use Rattle.std.specs.Prelude.{◌≡◌, ℕ, ◌<◌, ◌≤◌, All, List, length, slice_get, Option, Some}
+use Rattle.rpg_records.specs.Earlier.{Left, Selected}
 use Rattle.rpg_cycle.specs.Ends.{End, Halt}
-use Rattle.rpg_cycle.specs.Fitting.{IsControlIn}
-use Rattle.rpg_cycle.specs.Identifying.{IsOf, IsOfNone, identified, trial_weight}
+use Rattle.rpg_records.specs.Fitting.{IsControlIn}
+use Rattle.rpg_records.specs.Identifying.{IsOf, IsOfNone, identified, trial_weight}
 use Rattle.rpg_cycle.specs.Indicators.{with_levels, with_type}
-use Rattle.rpg_cycle.specs.Keeping.{renewed}
-use Rattle.rpg_cycle.specs.Levels.{bytes_of, differs, highest_broken}
+use Rattle.rpg_records.specs.Keeping.{renewed}
+use Rattle.rpg_records.specs.Levels.{broken_in}
 use Rattle.rpg_cycle.specs.Phases.{done, indicator_of, read_record}
 use Rattle.rpg_cycle.specs.Stages.{job_end}
 use Rattle.rpg_cycle.specs.declared.ends.JobEnd.{JobEnd}
@@ -29,10 +29,6 @@ pub record IsUntaken (p : Object) (text : List ℕ) (old : Running) (e : JobEnd)
   pub few : trial_weight p.types text ≤ 20000
   pub end : job_end e ≡ Halt 3
   pub machine : new ≡ record old { config = charged (trial_weight p.types text) old.config }
-
--- the highest level of these bytes that is broken
-abbrev pub broken_in : List ControlField → List ℕ → List (Option (List ℕ)) → ℕ
-broken_in fs text bytes = highest_broken (λ k. differs (slice_index_or bytes (k - 1) None) (bytes_of fs text k)) 9
 
 -- the control fields were compared, and are kept
 pub record IsCompared (fs : List ControlField) (text : List ℕ) (bytes : List (Option (List ℕ))) (old new : Running) (now : List (Option (List ℕ))) : Type 0 where

@@ -2,9 +2,9 @@
 ghost use Rattle.std.specs.Prelude.{◌≡◌, ◌≤◌, ◌<◌, IfOk, None, Option, length};
 ghost use Rattle.std.specs.Option.{ForSome, option_map};
 ghost use Rattle.rpg_cycle.specs.Doing.{Does};
-ghost use Rattle.rpg_cycle.specs.Earlier.{Selected};
+ghost use Rattle.rpg_records.specs.Earlier.{Selected};
 ghost use Rattle.rpg_cycle.specs.Ends.{GoesOn};
-ghost use Rattle.rpg_cycle.specs.Keeping.{kept_levels, left_of, selected_as};
+ghost use Rattle.rpg_records.specs.Keeping.{kept_levels, left_of, selected_as};
 ghost use Rattle.rpg_machine.specs.Ready.{IsReady};
 ghost use Rattle.rpg_cycle.specs.Phases as spec;
 ghost use Rattle.rpg_cycle.specs.Stages.{IfStops, UnlessNoMemory, job_end};
@@ -12,7 +12,6 @@ ghost use Rattle.rpg_machine.specs.Running.{refilled};
 ghost use Rattle.rpg_verify.specs.Bound.{bound};
 
 use crate::ends::Stop;
-use crate::kept::Kept;
 use crate::phases::{
     calculate_details, end_where_last, fill_fields, halt_where_asked, put_out_details,
     put_out_overflow, set_off, take_total_time,
@@ -20,6 +19,7 @@ use crate::phases::{
 use crate::program::is_bounded;
 use crate::selection::select_record;
 use rpg_machine::Machine;
+use rpg_records::Kept;
 use rpg_store::Store;
 use rpg_verify::Verified;
 

@@ -6,8 +6,8 @@ use crate::cycle::run_cycle;
 use crate::date::{Date, put_date};
 use crate::ends::{CycleEnd, JobEnd, Progress, StartFault, Stop};
 use crate::indicators::{LAST_RECORD, is_halt_asked};
-use crate::kept::Kept;
 use rpg_machine::{Machine, Output};
+use rpg_records::Kept;
 use rpg_store::{FlatStore, Store, first_values_fit};
 use rpg_verify::Verified;
 use std::alloc::{AllocError, Global};
@@ -26,7 +26,7 @@ impl<'a, S: Store + Drop> Model for Job<'a, S> {
     ghost use Rattle.std.specs.Coded.{codes};
     ghost use Rattle.rpg_cycle.specs.Codes.{left_code, stage_code};
     ghost use Rattle.rpg_cycle.specs.Job.{AtWork, IsAtWork};
-    ghost use Rattle.rpg_cycle.specs.Keeping.{left_of};
+    ghost use Rattle.rpg_records.specs.Keeping.{left_of};
     ghost use Rattle.rpg_machine.specs.Codes.{config_code};
     ghost use Rattle.rpg_cycle.specs.Stages.{stage_of};
 

@@ -4,7 +4,7 @@ ghost use Rattle.std.specs.Ordering.{nat_cmp};
 ghost use Rattle.rpg_cycle.specs.Runs.{Course, IsRun, Runs};
 ghost use Rattle.rpg_cycle.specs.Ends.{End};
 ghost use Rattle.rpg_cycle.specs.Phases.{Cycle, UnderWay, begun, needs_record};
-ghost use Rattle.rpg_cycle.specs.Earlier.{Selected};
+ghost use Rattle.rpg_records.specs.Earlier.{Selected};
 ghost use Rattle.rpg_effect.specs.Put.{Bytes};
 ghost use Rattle.rpg_effect.specs.World.{Fields};
 ghost use Rattle.rpg_machine.specs.Config.{Config, Output};

@@ -4,15 +4,11 @@
 mod cycle;
 mod date;
 mod ends;
-mod identification;
 mod indicators;
 mod jobs;
-mod kept;
 mod laws;
-mod levels;
 mod phases;
 mod program;
-mod record;
 mod runs;
 mod selection;
 

@@ -4,9 +4,9 @@ ghost use Rattle.std.specs.Option.{ForSome};
 ghost use Rattle.rpg_cycle.specs.Doing.{Does, Passes};
 ghost use Rattle.rpg_cycle.specs.Ends as ends;
 ghost use Rattle.rpg_cycle.specs.Ends.{GoesOn};
-ghost use Rattle.rpg_cycle.specs.Fitting.{IsTypeIn};
+ghost use Rattle.rpg_records.specs.Fitting.{IsTypeIn};
 ghost use Rattle.rpg_cycle.specs.Indicators as lights;
-ghost use Rattle.rpg_cycle.specs.Keeping.{selected_as};
+ghost use Rattle.rpg_records.specs.Keeping.{selected_as};
 ghost use Rattle.rpg_machine.specs.Ready.{IsReady};
 ghost use Rattle.rpg_cycle.specs.Phases as spec;
 ghost use Rattle.rpg_cycle.specs.Phases.{◌before◌};
@@ -22,12 +22,13 @@ ghost use Rattle.rpg_program.specs.declared.section.Section.TheVariants as secti
 
 use crate::ends::{JobEnd, Stop};
 use crate::indicators::{FIRST_PAGE, LAST_RECORD, LEVELS, is_halt_asked, turn_all, turn_type_off};
-use crate::program::{is_bounded, overflow_of, types_of};
+use crate::program::{is_bounded, overflow_of};
 use rpg_effect::outcome::End;
 use rpg_machine::Machine;
 use rpg_machine::time::OutputTime;
 use rpg_program::row::RecordType;
 use rpg_program::section::Section;
+use rpg_records::types_of;
 use rpg_store::Store;
 use rpg_verify::Verified;
 

@@ -1,6 +1,6 @@
 //! Whole runs of a program over records.
 ghost use Rattle.std.specs.Prelude.{◌≡◌, ◌↔◌, ◌≤◌, ◌+◌, None, IfOk, IsErrOf, [], length, true};
-ghost use Rattle.rpg_cycle.specs.Earlier.{left_by};
+ghost use Rattle.rpg_records.specs.Earlier.{left_by};
 ghost use Rattle.rpg_cycle.specs.Running.{RunsOn, RunsWhole, texts};
 ghost use Rattle.rpg_cycle.specs.Stages.{is_going};
 ghost use Rattle.rpg_cycle.specs.Starting.{date_in};

@@ -3,9 +3,9 @@ use Rattle.std.proofs.Common.{◌≡◌, ℕ, ◌+◌, ◌<◌, Bool, true, fals
 use Rattle.std.specs.Io.KnownBytes.{Consumes}
 use Rattle.std.proofs.KnownBytes.{Consumes-nil}
 use Rattle.std.proofs.lemmas.Bool.{and_right}
-use Rattle.rpg_cycle.specs.Earlier.{Selected, left_by}
+use Rattle.rpg_records.specs.Earlier.{Selected, left_by}
 use Rattle.rpg_cycle.specs.Ends.{End, GoesOn}
-use Rattle.rpg_cycle.specs.Identifying.{is_good}
+use Rattle.rpg_records.specs.Identifying.{is_good}
 use Rattle.rpg_cycle.specs.Job.{AtWork, Cycles, DoesCycle}
 use Rattle.rpg_cycle.specs.Phases.{Cycle, UnderWay, begun, needs_record}
 use Rattle.rpg_edit.specs.Paper.{Position}

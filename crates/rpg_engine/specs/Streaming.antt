@@ -1,7 +1,7 @@
 -- What is done with an input a cycle at a time, and what is sent of a cycle's output.
 use Rattle.std.specs.Prelude.{◌≡◌, ℕ, ◌+◌, ◌<◌, ◌⊎◌, Bool, true, List, [], ◌∷◌, Option, None, Some, Result, Ok, Err}
 use Rattle.std.specs.Io.KnownBytes.{Appends}
-use Rattle.rpg_cycle.specs.Earlier.{Selected, left_by}
+use Rattle.rpg_records.specs.Earlier.{Selected, left_by}
 use Rattle.rpg_cycle.specs.Ends.{End, GoesOn}
 use Rattle.rpg_cycle.specs.Job.{AtWork, DoesCycle}
 use Rattle.rpg_cycle.specs.Phases.{Cycle, UnderWay, begun}

@@ -3,7 +3,7 @@ use Rattle.std.proofs.Common.{◌≡◌, ℕ, ℤ, ◌≤◌, List, [], ◌∷�
 use Rattle.std.specs.FinMap as map
 use Rattle.rpg_cycle.proofs.Ending.{few_cycles, never_on}
 use Rattle.rpg_cycle.proofs.OneRun.{runs_same}
-use Rattle.rpg_cycle.specs.Earlier.{Selected, left_by, with_record}
+use Rattle.rpg_records.specs.Earlier.{Selected, left_by, with_record}
 use Rattle.rpg_cycle.specs.Ends.{End, GoesOn, EndOfJob, Halt, Wrong}
 use Rattle.rpg_cycle.specs.Phases.{Cycle, UnderWay, begun}
 use Rattle.rpg_cycle.specs.Runs.{Course, IsRun, Runs, last_cycle, printed, stored, with_cycle}

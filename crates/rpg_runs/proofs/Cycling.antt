@@ -3,7 +3,7 @@ use Rattle.std.proofs.Common.{All, ◌≡◌, ℕ, ◌+◌, ◌*◌, Bool, true,
 use Rattle.std.specs.FinMap as map
 use Rattle.rpg_cycle.proofs.OneRun.{cycle_fixed}
 use Rattle.rpg_cycle.proofs.Spending.{within_bound}
-use Rattle.rpg_cycle.specs.Earlier.{Left, Selected, left_by}
+use Rattle.rpg_records.specs.Earlier.{Left, Selected, left_by}
 use Rattle.rpg_cycle.specs.Ends.{End, GoesOn, EndOfJob, Halt, end_of}
 use Rattle.rpg_cycle.specs.Indicators.{any_on, halt_indicators, is_on, last_record}
 use Rattle.rpg_cycle.specs.Phases.{Cycle, CycleOn, Phase, UnderWay, begun, detail_calculations, detail_lines, end_where_last, fill_fields, halt_where_asked, is_bypassed, output, overflow_lines, section, select_record, set_off, total_time, all_off, with_config, ◌before◌}

@@ -4,15 +4,15 @@ use Rattle.std.proofs.lemmas.List.{length-replicate}
 use Rattle.std.proofs.lemmas.List.Elements.{All-head, All-nil, All-tail}
 use Rattle.std.proofs.lemmas.Option.{get_or_from_slice_get, slice_get_within}
 use Rattle.std.specs.List.{list_all}
-use Rattle.rpg_cycle.proofs.Fitting.{types_fit}
-use Rattle.rpg_cycle.proofs.Recording.{filled_characters}
+use Rattle.rpg_records.proofs.Fitting.{types_fit}
+use Rattle.rpg_records.proofs.Recording.{filled_characters}
 use Rattle.rpg_cycle.proofs.Selecting.{all_inside}
 use Rattle.rpg_cycle.proofs.Spending.{found_few, tried_few}
-use Rattle.rpg_cycle.proofs.Trying.{all_there}
-use Rattle.rpg_cycle.specs.Earlier.{Left, Selected, control_fields, levels_of}
+use Rattle.rpg_records.proofs.Trying.{all_there}
+use Rattle.rpg_records.specs.Earlier.{Left, Selected, control_fields, levels_of}
 use Rattle.rpg_cycle.specs.Ends.{GoesOn, Halt, Wrong}
-use Rattle.rpg_cycle.specs.Fitting.{IsControlIn, IsTypeIn}
-use Rattle.rpg_cycle.specs.Identifying.{Trial, IsOf, IsOfNone, Misplaced, filled, holds, identified, is_character, is_good, is_there, trial_weight}
+use Rattle.rpg_records.specs.Fitting.{IsControlIn, IsTypeIn}
+use Rattle.rpg_records.specs.Identifying.{Trial, IsOf, IsOfNone, Misplaced, filled, holds, identified, is_character, is_good, is_there, trial_weight}
 use Rattle.rpg_cycle.specs.Indicators.{is_on, last_record, level_indicators, with_all, with_levels, with_one, with_type}
 use Rattle.rpg_cycle.specs.Phases.{Done, broken_level, compare, done, identify, indicator_of, read_record, select_record, take_type}
 use Rattle.rpg_effect.specs.Ends as effects

@@ -1,7 +1,7 @@
 -- Phases that nothing stops but the end of the job or a halt, one after another, and what they take.
 use Rattle.std.proofs.Common.{◌≡◌, ℕ, ◌+◌, ◌*◌, ◌≤◌, Bool, true, false, cond, length, Option, None, Some, is_some, All, refl, arith, nat_cmp}
 use Rattle.std.specs.FinMap as map
-use Rattle.rpg_cycle.specs.Earlier.{Selected}
+use Rattle.rpg_records.specs.Earlier.{Selected}
 use Rattle.rpg_cycle.specs.Ends.{End, GoesOn, EndOfJob, Halt, Wrong, end_of}
 use Rattle.rpg_cycle.specs.Phases.{Done, Phase, UnderWay, by_machine, does, done, either, has_no_overflow, passes, unless, ◌before◌}
 use Rattle.rpg_effect.specs.Effect.{Effect}

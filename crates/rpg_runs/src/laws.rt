@@ -2,7 +2,7 @@
 ghost use Rattle.std.specs.Prelude.{◌≡◌, ℕ, ℤ, List, Option, Some, length};
 ghost use Rattle.std.specs.FinMap as map;
 ghost use Rattle.std.specs.Ordering.{nat_cmp};
-ghost use Rattle.rpg_cycle.specs.Earlier.{Selected};
+ghost use Rattle.rpg_records.specs.Earlier.{Selected};
 ghost use Rattle.rpg_cycle.specs.Ends.{End};
 ghost use Rattle.rpg_cycle.specs.Phases.{Cycle, UnderWay, begun};
 ghost use Rattle.rpg_cycle.specs.Runs.{Course, IsRun};

@@ -4,7 +4,7 @@ use Rattle.rpg_cycle.proofs.Composing.{passed_map}
 use Rattle.rpg_cycle.proofs.Nine.{begins, step, stop, last, by_left}
 use Rattle.rpg_cycle.specs.Doing.{Does}
 use Rattle.rpg_cycle.specs.Ends.{GoesOn}
-use Rattle.rpg_cycle.specs.Keeping.{left_of, selected_as}
+use Rattle.rpg_records.specs.Keeping.{left_of, selected_as}
 use Rattle.rpg_cycle.specs.Phases as spec
 use Rattle.rpg_cycle.specs.Phases.{◌before◌}
 use Rattle.rpg_cycle.specs.Stages.{job_end}

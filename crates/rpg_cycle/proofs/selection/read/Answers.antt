@@ -1,11 +1,11 @@
 use Rattle.std.proofs.Common.{◌∙◌, ℕ, List, All, sym, subst, refl}
-use Rattle.rpg_cycle.specs.Earlier.{control_fields}
-use Rattle.rpg_cycle.specs.Keeping.{left_of, seen_levels}
+use Rattle.rpg_records.specs.Earlier.{control_fields}
+use Rattle.rpg_records.specs.Keeping.{left_of, seen_levels}
 use Rattle.rpg_cycle.specs.Selecting.{TakesType, IsCompared}
 use Rattle.rpg_cycle.specs.declared.ends.JobEnd.TheVariants as jobs
-use Rattle.rpg_cycle.specs.declared.levels.LastBytes.{LastBytes}
+use Rattle.rpg_records.specs.declared.levels.LastBytes.{LastBytes}
 use Rattle.rpg_cycle.proofs.Composing.{passed_map}
-use Rattle.rpg_cycle.proofs.Recording.{filled_characters}
+use Rattle.rpg_records.proofs.Recording.{filled_characters}
 use Rattle.rpg_cycle.proofs.Selecting.{refused, untaken, untaken_spends, has_taken, taken_selects}
 use Rattle.rpg_program.specs.Kept.{IsCharacter}
 use Rattle.rpg_cycle.proofs.selection.read.Goals as goal

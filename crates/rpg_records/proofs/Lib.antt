@@ -1,0 +1,5 @@
+pub mod Fitting
+pub mod Fronts
+pub mod Joining
+pub mod Recording
+pub mod Trying

@@ -1,0 +1,14 @@
+//! A record of a program: its text, its type and its control levels, and what a job keeps of earlier records.
+#![tactic(auto)]
+
+mod identification;
+mod kept;
+mod levels;
+mod program;
+mod record;
+
+pub use identification::{Found, identify};
+pub use kept::Kept;
+pub use levels::{LastBytes, compare};
+pub use program::{control_fields, rows_of, type_at, types_of};
+pub use record::{fill, is_good};
