@@ -9,6 +9,7 @@ use Rattle.rpg_cards.specs.Constants.{constants, constants_from, first_constant,
 use Rattle.rpg_cards.specs.SameConstants.{is_same-equal}
 use Rattle.rpg_cards.specs.declared.constants.Constant.{Constant}
 use Rattle.rpg_cards.specs.declared.spec_card.SpecCard.{SpecCard}
+use Rattle.rpg_faults.proofs.SeenLemmas.{constants_push}
 
 abbrev pub with_constant : Option Constant → List Constant → List Constant
 with_constant o known = option_map_or (insert_key is_same known) o known
@@ -89,18 +90,6 @@ among_all cards x = among [] cards x
 
 -- ---- one more card
 
-constants_from-push : (before cards : List SpecCard) (c : SpecCard) → constants_from before (cards ++ c ∷ []) ≡ constants_from before cards ++ (option_to_list (new_first (before ++ cards) c.spec) ++ option_to_list (new_second (before ++ cards) c.spec))
-constants_from-push before [] c =
-    append-nil (option_to_list (new_first before c.spec) ++ option_to_list (new_second before c.spec))
-    ∙ ap (λ b. option_to_list (new_first b c.spec) ++ option_to_list (new_second b c.spec)) (sym (append-nil before))
-constants_from-push before (d ∷ ds) c =
-    let rest = constants_from-push (before ++ d ∷ []) ds c in
-    let front = option_to_list (new_first before d.spec) ++ option_to_list (new_second before d.spec) in
-    let same : (before ++ d ∷ []) ++ ds ≡ before ++ d ∷ ds = append_assoc before (d ∷ []) ds in
-    ap (λ l. front ++ l) rest
-    ∙ sym (append_assoc front (constants_from (before ++ d ∷ []) ds) (option_to_list (new_first ((before ++ d ∷ []) ++ ds) c.spec) ++ option_to_list (new_second ((before ++ d ∷ []) ++ ds) c.spec)))
-    ∙ ap (λ b. (front ++ constants_from (before ++ d ∷ []) ds) ++ (option_to_list (new_first b c.spec) ++ option_to_list (new_second b c.spec))) same
-
 module _ (cards : List SpecCard) where
   -- as a list, what is put behind the others
   put_first : (o : Option Constant) → with_constant o (constants cards) ≡ constants cards ++ option_to_list (option_and_then (λ f. unless (stands_on f cards) f) o)
@@ -132,7 +121,7 @@ module _ (cards : List SpecCard) where
 
 constants-push : (cards : List SpecCard) (c : SpecCard) → constants (cards ++ c ∷ []) ≡ with_constant (second_constant c.spec) (with_constant (first_constant c.spec) (constants cards))
 constants-push cards c =
-    constants_from-push [] cards c ∙ sym (append_assoc (constants cards) (option_to_list (new_first cards c.spec)) (option_to_list (new_second cards c.spec)))
+    constants_push cards c ∙ sym (append_assoc (constants cards) (option_to_list (new_first cards c.spec)) (option_to_list (new_second cards c.spec)))
     ∙ sym (ap (with_constant (second_constant c.spec)) (put_first cards (first_constant c.spec)) ∙ put_second cards (first_constant c.spec) (second_constant c.spec))
 
 pub put_both : (f f' s s' : Option Constant) (k k' known : List Constant) → k' ≡ with_constant f k → f ≡ f' → s ≡ s' → k ≡ known → with_constant s k' ≡ with_constant s' (with_constant f' known)
