@@ -1,5 +1,5 @@
 -- What cards come to with one more behind them.
-use Rattle.std.proofs.Common.{◌≡◌, ℕ, ◌+◌, ◌≤◌, Bool, true, false, not, cond, map, List, [], ◌∷◌, ◌++◌, length, take, Option, None, Some, refl, sym, ap, ◌∙◌, arith, append_assoc, append-nil, length-append}
+use Rattle.std.proofs.Common.{◌≡◌, ℕ, ◌+◌, ◌≤◌, Bool, true, false, not, cond, map, List, [], ◌∷◌, ◌++◌, length, take, Option, None, Some, refl, sym, ap, ◌∙◌, arith, length-append}
 use Rattle.std.proofs.lemmas.Bool.{lt-ltb}
 use Rattle.std.proofs.lemmas.List.Folds.{list_any-append}
 use Rattle.std.proofs.lemmas.List.Sums.{fold-append, sum_by-append, sum_by-cons, sum_by_push}
@@ -8,7 +8,8 @@ use Rattle.std.specs.Cmp.Lexicographic.{bytes_decides, pointwise}
 use Rattle.std.specs.List.{list_any}
 use Rattle.std.specs.Option.{option_map_or, option_or, option_to_list}
 use Rattle.std.specs.Prelude.{◌||◌, count_by, fold, is_some, nat_eq, nat_lt, sum_by}
-use Rattle.rpg_cards.specs.Constants.{constant_form, constants, constants_from, new_first, new_second}
+use Rattle.rpg_cards.proofs.ConstantLemmas.{constants_push}
+use Rattle.rpg_cards.specs.Constants.{constant_form, constants, new_first, new_second}
 use Rattle.rpg_cards.specs.Files.{latest}
 use Rattle.rpg_cards.specs.Names.{defined_as, defined_on, definition_on, form_of_name, or_later, unless_given}
 use Rattle.rpg_cards.specs.declared.constants.Constant.{Constant}
@@ -151,21 +152,6 @@ name_bytes_more before c = ap (sum_by (λ (x : Definition). form_bytes x.1)) (na
     by_definition (Some d) = bytes_grow (names before) d (list_any (is_of d.0) (names before)) (is_missing (form_of_name d.0 before)) (is_known before d.0)
 
 -- ---- the constants with one more card
-
-constants_from-push : (before cards : List SpecCard) (c : SpecCard) → constants_from before (cards ++ c ∷ []) ≡ constants_from before cards ++ (option_to_list (new_first (before ++ cards) c.spec) ++ option_to_list (new_second (before ++ cards) c.spec))
-constants_from-push before [] c =
-    append-nil (option_to_list (new_first before c.spec) ++ option_to_list (new_second before c.spec))
-    ∙ ap (λ b. option_to_list (new_first b c.spec) ++ option_to_list (new_second b c.spec)) (sym (append-nil before))
-constants_from-push before (d ∷ ds) c =
-    let rest = constants_from-push (before ++ d ∷ []) ds c in
-    let front = option_to_list (new_first before d.spec) ++ option_to_list (new_second before d.spec) in
-    let same : (before ++ d ∷ []) ++ ds ≡ before ++ d ∷ ds = append_assoc before (d ∷ []) ds in
-    ap (λ l. front ++ l) rest
-    ∙ sym (append_assoc front (constants_from (before ++ d ∷ []) ds) (option_to_list (new_first ((before ++ d ∷ []) ++ ds) c.spec) ++ option_to_list (new_second ((before ++ d ∷ []) ++ ds) c.spec)))
-    ∙ ap (λ b. (front ++ constants_from (before ++ d ∷ []) ds) ++ (option_to_list (new_first b c.spec) ++ option_to_list (new_second b c.spec))) same
-
-pub constants_push : (before : List SpecCard) (c : SpecCard) → constants (before ++ c ∷ []) ≡ constants before ++ (option_to_list (new_first before c.spec) ++ option_to_list (new_second before c.spec))
-constants_push before c = constants_from-push [] before c
 
 option_number : (o : Option Constant) → length (option_to_list o) ≡ one_if_some o
 option_number None = refl
