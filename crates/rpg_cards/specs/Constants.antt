@@ -4,6 +4,7 @@ use Rattle.std.specs.List.{list_all}
 use Rattle.std.specs.Option.{option_and_then, option_map, option_to_list}
 use Rattle.std.specs.Ordering.{int_eq}
 use Rattle.std.specs.Cmp.Lexicographic.{pointwise}
+use Rattle.indexmap.specs.IndexSet.{insert_all}
 use Rattle.rpg_cards.specs.Cards.{calculation_on, output_field_on}
 use Rattle.rpg_cards.specs.Names.{first_some, form_of_name}
 use Rattle.rpg_cards.specs.declared.constants.Constant.{Constant}
@@ -58,7 +59,20 @@ first_constant s = first_some (option_and_then (λ f. option_map Text f.constant
 abbrev pub second_constant : Spec → Option Constant
 second_constant s = option_and_then (λ c. option_and_then factor_constant c.factor_2) (calculation_on s)
 
--- ---- the constants of cards in their order, equal ones once: each where it comes first
+abbrev pub constants_on : Spec → List Constant
+constants_on s = option_to_list (first_constant s) ++ option_to_list (second_constant s)
+
+-- ---- the constants of cards in their order
+
+abbrev pub constants_in : List SpecCard → List Constant
+constants_in [] = []
+constants_in (c ∷ cs) = constants_on c.spec ++ constants_in cs
+
+-- equal ones once: each where it comes first
+abbrev pub constants : List SpecCard → List Constant
+constants cards = insert_all is_same [] (constants_in cards)
+
+-- ---- what a card has that no card before it has
 
 abbrev pub stands_in : Constant → Option Constant → Bool
 stands_in x None = false
@@ -71,19 +85,11 @@ stands_on x (c ∷ cs) = stands_in x (first_constant c.spec) || stands_in x (sec
 abbrev pub unless : {X : Type 0} → Bool → X → Option X
 unless b x = if b then None else Some x
 
--- what a card has as the first one, behind these cards
 abbrev pub new_first : List SpecCard → Spec → Option Constant
 new_first before s = option_and_then (λ x. unless (stands_on x before) x) (first_constant s)
 
 abbrev pub new_second : List SpecCard → Spec → Option Constant
 new_second before s = option_and_then (λ x. unless (stands_in x (first_constant s) || stands_on x before) x) (second_constant s)
-
-abbrev pub constants_from : List SpecCard → List SpecCard → List Constant
-constants_from before [] = []
-constants_from before (c ∷ cs) = option_to_list (new_first before c.spec) ++ option_to_list (new_second before c.spec) ++ constants_from (before ++ c ∷ []) cs
-
-abbrev pub constants : List SpecCard → List Constant
-constants cards = constants_from [] cards
 
 -- the form of what an operation works with
 abbrev pub form_of_factor : Factor → List SpecCard → Defined

@@ -2,8 +2,8 @@ pub mod FieldLemmas
 pub mod RowLemmas
 pub mod Programs
 pub mod Walks
+pub mod Unpassed
 pub mod Counts
-pub mod Storage
 pub mod Totals
 pub mod Limits
 pub mod Numbering

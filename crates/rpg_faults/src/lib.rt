@@ -2,7 +2,6 @@
 #![tactic(auto)]
 
 mod columns;
-mod constants;
 mod fault;
 mod files;
 mod indicators;
@@ -14,6 +13,7 @@ mod order;
 mod places;
 mod rounding;
 mod seen;
+mod totals;
 
 pub use fault::{Fault, FaultCode};
 pub use least::first_fault;

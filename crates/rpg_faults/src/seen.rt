@@ -4,10 +4,9 @@ ghost use Rattle.std.specs.Prelude.{◌≡◌, [], ◌∷◌, ◌++◌, ◌≤�
 ghost use Rattle.std.specs.Option.{option_map, option_or};
 ghost use Rattle.rpg_faults.specs.Places.{file_by};
 ghost use Rattle.rpg_cards.specs.Files as files;
-ghost use Rattle.rpg_faults.specs.Seen.{IsCounted, HasLengths, IsSummed, IsTotal, IsSeen};
+ghost use Rattle.rpg_faults.specs.Seen.{IsCounted, HasLengths, IsSeen};
 
-use crate::constants::{constant_bytes_by, constants_by, names_in};
-use crate::limits::{GIVEN_BYTES, bytes_by, bytes_in};
+use crate::totals::{GIVEN, NONE, Totals, constants_with, names_of, names_with};
 use rpg_cards::{IndexedCards, SpecCard};
 use rpg_spec::{InputSpec, OutputSpec, Spec, Word};
 
@@ -30,41 +29,16 @@ pub(crate) struct Lengths {
     pub(crate) line: Option<u16>,
 }
 
-/// The bytes of the names that are defined, and the constants with theirs.
-#[derive(Clone, Copy)]
-pub(crate) struct Sums {
-    pub(crate) bytes: u64,
-    pub(crate) constants: u64,
-    pub(crate) constant_bytes: u64,
-}
-
-/// The names of all cards of a source, and their bytes.
-#[derive(Clone, Copy)]
-pub(crate) struct Totals {
-    pub(crate) names: u64,
-    pub(crate) bytes: u64,
-}
-
-impl Totals {
-    fn of_source(source: &IndexedCards) -> Self
-        requires { length source.now ≤ 2000 }
-        ensures { IsTotal source.now result }
-    {
-        Totals {
-            names: names_in(source),
-            bytes: bytes_in(source),
-        }
-    }
-}
-
 /// The cards before a card, with what they come to.
 #[derive(Clone, Copy)]
 pub(crate) struct Seen<'a> {
     pub(crate) before: &'a [SpecCard],
     pub(crate) counts: Counts,
     pub(crate) lengths: Lengths,
-    pub(crate) sums: Sums,
-    pub(crate) totals: Totals,
+    pub(crate) names: Totals,
+    pub(crate) constants: Totals,
+    /// The names of the whole source.
+    pub(crate) all_names: Totals,
 }
 
 impl<'a> Seen<'a> {
@@ -87,12 +61,9 @@ impl<'a> Seen<'a> {
                 record: None,
                 line: None,
             },
-            sums: Sums {
-                bytes: GIVEN_BYTES,
-                constants: 0,
-                constant_bytes: 0,
-            },
-            totals: Totals::of_source(source),
+            names: GIVEN,
+            constants: NONE,
+            all_names: names_of(source),
         }
     }
 
@@ -113,12 +84,13 @@ impl<'a> Seen<'a> {
             before: &source.as_slice()[..self.before.len() + 1],
             counts: self.counts_with(source, card),
             lengths: self.lengths_with(source, card),
-            sums: self.sums_with(source, card),
-            totals: self.totals,
+            names: names_with(self.names, source, self.before, card),
+            constants: constants_with(self.constants, source, self.before, card),
+            all_names: self.all_names,
         }
     }
 
-    fn counts_with(&self, source: &IndexedCards, card: &SpecCard) -> Counts
+    pub(crate) fn counts_with(&self, source: &IndexedCards, card: &SpecCard) -> Counts
         requires { IsSeen source.now self.now }
         ensures { IsCounted (self.now.before.now ++ card.now ∷ []) result }
     {
@@ -174,18 +146,6 @@ impl<'a> Seen<'a> {
                 None => self.lengths.line,
                 Some(name) => length_of(source, name),
             },
-        }
-    }
-
-    fn sums_with(&self, source: &IndexedCards, card: &SpecCard) -> Sums
-        requires { IsSeen source.now self.now }
-        ensures { IsSummed (self.now.before.now ++ card.now ∷ []) result }
-    {
-        Sums {
-            bytes: self.sums.bytes + bytes_by(source, self.before, card) as u64,
-            constants: self.sums.constants + constants_by(source, self.before, card),
-            constant_bytes: self.sums.constant_bytes
-                + constant_bytes_by(source, self.before, card) as u64,
         }
     }
 }

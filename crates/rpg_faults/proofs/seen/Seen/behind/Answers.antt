@@ -1,6 +1,6 @@
 use Rattle.std.proofs.Common.{◌≡◌, ◌+◌, ◌++◌, ◌∷◌, [], length, take, ◌∙◌, sym, ap, subst}
 use Rattle.rpg_faults.proofs.SeenLemmas.{front_more, is_front, front_within}
-use Rattle.rpg_faults.specs.Seen.{IsCounted, HasLengths, IsSummed}
+use Rattle.rpg_faults.specs.Seen.{IsCounted, HasLengths, HasNames, HasConstants}
 use Rattle.rpg_faults.proofs.seen.Seen.behind.Goals as goal
 
 pub returns-clause-before : goal.returns-clause-before
@@ -21,6 +21,8 @@ returns-clause-seen c =
       few = front_within _ before card after cards here c.requires.split c.requires.few;
       counted = subst (λ b. IsCounted b c.counts_with.result) (sym here) c.counts_with.ensures;
       lengths = subst (λ b. HasLengths cards b c.lengths_with.result) (sym here) c.lengths_with.ensures;
-      summed = subst (λ b. IsSummed b c.sums_with.result) (sym here) c.sums_with.ensures;
-      totals = c.requires.seen.totals;
+      few_cards = c.requires.few;
+      names = subst (λ b. HasNames b c.names_with.result) (sym here) c.names_with.ensures;
+      constants = subst (λ b. HasConstants b c.constants_with.result) (sym here) c.constants_with.ensures;
+      all_names = c.requires.seen.all_names;
     }
