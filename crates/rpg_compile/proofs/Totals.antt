@@ -3,14 +3,14 @@ use Rattle.std.proofs.Common.{◌≡◌, ℕ, ◌+◌, ◌≤◌, Bool, true, fa
 use Rattle.std.proofs.lemmas.List.{length-map, map-append}
 use Rattle.std.proofs.lemmas.List.Sums.{sum_by-cons}
 use Rattle.std.specs.Prelude.{fold, is_some, sum_by}
-use Rattle.std.specs.Option.{option_map_or}
+use Rattle.std.specs.Option.{option_to_list}
 use Rattle.rpg_cards.specs.Constants.{constants}
-use Rattle.rpg_cards.specs.Names.{definition_on}
+use Rattle.rpg_cards.specs.Names.{Definition, definition_on, definitions}
 use Rattle.rpg_cards.specs.declared.spec_card.SpecCard.{SpecCard}
 use Rattle.rpg_effect.specs.declared.form.FieldForm.{FieldForm}
 use Rattle.rpg_translation.proofs.Definitions.{all_defined}
 use Rattle.rpg_translation.proofs.Names.{AreDefined, IsDefinition}
-use Rattle.rpg_translation.specs.Fields.{fields_from, fields_of}
+use Rattle.rpg_translation.specs.Fields.{fields_from, fields_of, with_name}
 use Rattle.rpg_translation.specs.Fields as fields
 use Rattle.rpg_translation.specs.Program.{constant_size}
 use Rattle.rpg_compile.proofs.FieldLemmas.{length-fields_from}
@@ -18,7 +18,7 @@ use Rattle.rpg_compile.proofs.Unpassed.{unpassed}
 use Rattle.rpg_compile.proofs.Walks.{all_within}
 use Rattle.rpg_faults.proofs.SeenLemmas.{knows-fields}
 use Rattle.rpg_faults.specs.Faults.{Faultless}
-use Rattle.rpg_faults.specs.Limits.{Definition, bytes_up_to, constant_bytes, fields_up_to, form_bytes, name_bytes, names, with_definition, with_names_of}
+use Rattle.rpg_faults.specs.Limits.{bytes_up_to, constant_bytes, fields_up_to, form_bytes, name_bytes, names, with_definition}
 use Rattle.rpg_symbols.specs.Fields.{Fields, form_of, given, size_of, storage}
 
 -- ---- where every definition has a form, the names are those of the fields
@@ -26,21 +26,22 @@ use Rattle.rpg_symbols.specs.Fields.{Fields, form_of, given, size_of, storage}
 definitions_of : Fields → List Definition
 definitions_of fs = map (λ (f : List ℕ × FieldForm). (f.0, Some f.1)) fs
 
-one_name : (fs : Fields) (o : Option Definition) → IsDefinition o → option_map_or (with_definition (definitions_of fs)) o (definitions_of fs) ≡ definitions_of (fields.with_definition fs o)
+one_name : (fs : Fields) (name : List ℕ) (form : FieldForm) → with_definition (definitions_of fs) (name, Some form) ≡ definitions_of (with_name fs name form)
 unfolding definitions_of
-one_name fs None good = refl
-one_name fs (Some (name, None)) good = absurd good
-one_name fs (Some (name, Some form)) good =
-    ap (λ b. cond b (definitions_of fs) (definitions_of fs ++ (name, Some form) ∷ [])) (knows-fields fs name) ∙ by_cases (is_some (form_of fs name))
+one_name fs name form = ap (λ b. cond b (definitions_of fs) (definitions_of fs ++ (name, Some form) ∷ [])) (knows-fields fs name) ∙ by_cases (is_some (form_of fs name))
   where
     by_cases : (b : Bool) → cond b (definitions_of fs) (definitions_of fs ++ (name, Some form) ∷ []) ≡ definitions_of (cond b fs (fs ++ (name, form) ∷ []))
     by_cases true = refl
     by_cases false = sym (map-append (λ (f : List ℕ × FieldForm). (f.0, Some f.1)) fs ((name, form) ∷ []))
 
-names_from : (fs : Fields) (cards : List SpecCard) → AreDefined cards → fold with_names_of (definitions_of fs) cards ≡ definitions_of (fields_from fs cards)
+one_card : (fs : Fields) (o : Option Definition) (ds : List Definition) → IsDefinition o → fold with_definition (definitions_of fs) (option_to_list o ++ ds) ≡ fold with_definition (definitions_of (fields.with_definition fs o)) ds
+one_card fs None ds good = refl
+one_card fs (Some (name, None)) ds good = absurd good
+one_card fs (Some (name, Some form)) ds good = ap (λ (known : List Definition). fold with_definition known ds) (one_name fs name form)
+
+names_from : (fs : Fields) (cards : List SpecCard) → AreDefined cards → fold with_definition (definitions_of fs) (definitions cards) ≡ definitions_of (fields_from fs cards)
 names_from fs [] good = refl
-names_from fs (c ∷ cs) good =
-    ap (λ (known : List Definition). fold with_names_of known cs) (one_name fs (definition_on c.spec) good.0) ∙ names_from (fields.with_definition fs (definition_on c.spec)) cs good.1
+names_from fs (c ∷ cs) good = one_card fs (definition_on c.spec) (definitions cs) good.0 ∙ names_from (fields.with_definition fs (definition_on c.spec)) cs good.1
 
 bytes_of : (fs : Fields) → sum_by (λ (d : Definition). form_bytes d.1) (definitions_of fs) ≡ storage fs
 unfolding definitions_of
