@@ -1,13 +1,15 @@
 -- What is found first among the cards at the front, and in a list of entries with one more.
 use Rattle.std.proofs.Common.{◌≡◌, ℕ, zero, suc, ◌+◌, ◌<◌, ◌≤◌, Bool, true, false, cond, List, [], ◌∷◌, ◌++◌, length, take, get_or, Option, None, Some, refl, sym, ap, ◌∙◌, arith}
 use Rattle.std.proofs.lemmas.Bool.{le-ltb, lt-ltb}
+use Rattle.std.proofs.lemmas.List.Folds.{list_any-append}
 use Rattle.std.proofs.lemmas.List.{take_more, length-take-le}
 use Rattle.std.specs.Cmp.{IsEquivalence}
 use Rattle.std.specs.Cmp.Lexicographic.{pointwise}
 use Rattle.std.specs.Map.{lookup}
 use Rattle.std.specs.Option.{option_or, option_and_then, option_map_or, option_to_list, is_some}
 use Rattle.std.specs.Prelude.{nat_eq, nat_lt, ◌||◌}
-use Rattle.rpg_cards.specs.Constants.{first_constant, second_constant, is_same, stands_in, stands_on}
+use Rattle.rpg_cards.proofs.ConstantLemmas.{stands_on_card}
+use Rattle.rpg_cards.specs.Constants.{constants_in, constants_on, first_constant, second_constant, is_same, stands_in, stands_on}
 use Rattle.rpg_cards.specs.Index.{first_of, definition_at, constant_at, IsIndex}
 use Rattle.rpg_cards.specs.Names.{Definition, definition_on, definitions, defined_as, first_form}
 use Rattle.rpg_cards.specs.declared.constants.Constant.{Constant}
@@ -163,7 +165,9 @@ constant_at-placed x i s p e = by_cases (stands_in x (first_constant s) || stand
 
 stands_on_first : (x : Constant) (i : ℕ) (cards : List SpecCard) → stands_on x cards ≡ is_some (first_of (constant_at x) i cards)
 stands_on_first x i [] = refl
-stands_on_first x i (c ∷ cs) = by_cases (stands_in x (first_constant c.spec)) (stands_in x (second_constant c.spec)) (stands_on_first x (i + 1) cs)
+stands_on_first x i (c ∷ cs) =
+    list_any-append (is_same x) (constants_on c.spec) (constants_in cs) ∙ ap (λ b. b || stands_on x cs) (stands_on_card x c.spec)
+    ∙ by_cases (stands_in x (first_constant c.spec)) (stands_in x (second_constant c.spec)) (stands_on_first x (i + 1) cs)
   where
     by_cases : (a b : Bool) → stands_on x cs ≡ is_some (first_of (constant_at x) (i + 1) cs)
         → (a || b || stands_on x cs) ≡ is_some (option_or (cond (a || b) (Some i) None) (first_of (constant_at x) (i + 1) cs))
