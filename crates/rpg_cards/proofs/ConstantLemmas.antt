@@ -10,6 +10,7 @@ use Rattle.rpg_cards.specs.Constants.{constants, constants_in, constants_on, fir
 use Rattle.rpg_cards.specs.SameConstants.{is_same-equal}
 use Rattle.rpg_cards.specs.declared.constants.Constant.{Constant}
 use Rattle.rpg_cards.specs.declared.spec_card.SpecCard.{SpecCard}
+use Rattle.rpg_spec.specs.declared.spec.Spec.{Spec}
 
 abbrev pub with_constant : Option Constant → List Constant → List Constant
 with_constant o known = option_map_or (insert_key is_same known) o known
@@ -50,21 +51,14 @@ stands_listed : (x : Constant) (o : Option Constant) → list_any (is_same x) (o
 stands_listed x None = refl
 stands_listed x (Some y) = or_false (is_same x y)
 
-on_cards : (x : Constant) (cards : List SpecCard) → list_any (is_same x) (constants_in cards) ≡ stands_on x cards
-on_cards x [] = refl
-on_cards x (c ∷ cs) =
-    let first = option_to_list (first_constant c.spec) in
-    let second = option_to_list (second_constant c.spec) in
-    list_any-append (is_same x) (first ++ second) (constants_in cs)
-    ∙ ap (λ b. b || list_any (is_same x) (constants_in cs)) (list_any-append (is_same x) first second)
-    ∙ joined (list_any (is_same x) first) (list_any (is_same x) second) (stands_in x (first_constant c.spec)) (stands_in x (second_constant c.spec))
-    (list_any (is_same x) (constants_in cs)) (stands_on x cs) (stands_listed x (first_constant c.spec)) (stands_listed x (second_constant c.spec)) (on_cards x cs)
-  where
-    joined : (a b f s l m : Bool) → a ≡ f → b ≡ s → l ≡ m → ((a || b) || l) ≡ ((f || s) || m)
-    joined a b f s l m e g h = rw (e, g, h) refl
+pub stands_on_card : (x : Constant) (s : Spec) → list_any (is_same x) (constants_on s) ≡ (stands_in x (first_constant s) || stands_in x (second_constant s))
+stands_on_card x s =
+    list_any-append (is_same x) (option_to_list (first_constant s)) (option_to_list (second_constant s))
+    ∙ ap (λ b. b || list_any (is_same x) (option_to_list (second_constant s))) (stands_listed x (first_constant s))
+    ∙ ap (λ b. stands_in x (first_constant s) || b) (stands_listed x (second_constant s))
 
 pub among_all : (cards : List SpecCard) (x : Constant) → list_any (is_same x) (constants cards) ≡ stands_on x cards
-among_all cards x = among x [] (constants_in cards) ∙ on_cards x cards
+among_all cards x = among x [] (constants_in cards)
 
 -- ---- one more card
 

@@ -1,15 +1,17 @@
 -- What is found first among the cards at the front, and in a list of entries with one more.
 use Rattle.std.proofs.Common.{◌≡◌, ℕ, zero, suc, ◌+◌, ◌<◌, ◌≤◌, Bool, true, false, cond, List, [], ◌∷◌, ◌++◌, length, take, get_or, Option, None, Some, refl, sym, ap, ◌∙◌, arith}
 use Rattle.std.proofs.lemmas.Bool.{le-ltb, lt-ltb}
+use Rattle.std.proofs.lemmas.List.Folds.{list_any-append}
 use Rattle.std.proofs.lemmas.List.{take_more, length-take-le}
 use Rattle.std.specs.Cmp.{IsEquivalence}
 use Rattle.std.specs.Cmp.Lexicographic.{pointwise}
 use Rattle.std.specs.Map.{lookup}
-use Rattle.std.specs.Option.{option_or, option_and_then, option_map_or, is_some}
+use Rattle.std.specs.Option.{option_or, option_and_then, option_map_or, option_to_list, is_some}
 use Rattle.std.specs.Prelude.{nat_eq, nat_lt, ◌||◌}
-use Rattle.rpg_cards.specs.Constants.{first_constant, second_constant, is_same, stands_in, stands_on}
+use Rattle.rpg_cards.proofs.ConstantLemmas.{stands_on_card}
+use Rattle.rpg_cards.specs.Constants.{constants_in, constants_on, first_constant, second_constant, is_same, stands_in, stands_on}
 use Rattle.rpg_cards.specs.Index.{first_of, definition_at, constant_at, IsIndex}
-use Rattle.rpg_cards.specs.Names.{definition_on, defined_as, defined_on, or_later}
+use Rattle.rpg_cards.specs.Names.{Definition, definition_on, definitions, defined_as, first_form}
 use Rattle.rpg_cards.specs.declared.constants.Constant.{Constant}
 use Rattle.rpg_cards.specs.declared.index.FirstDefinition.{FirstDefinition}
 use Rattle.rpg_cards.specs.declared.names.Defined.{Defined}
@@ -137,18 +139,18 @@ abbrev pub defined_first : Option FirstDefinition → Defined
 defined_first None = Missing
 defined_first (Some d) = defined_as d.form
 
-pub defined_on_first : (name : List ℕ) (i : ℕ) (cards : List SpecCard) → defined_on name cards ≡ defined_first (first_of (definition_at name) i cards)
+pub first_form_first : (name : List ℕ) (i : ℕ) (cards : List SpecCard) → first_form name (definitions cards) ≡ defined_first (first_of (definition_at name) i cards)
 unfolding named the_first
-defined_on_first name i [] = refl
-defined_on_first name i (c ∷ cs) = by_definition (definition_on c.spec) (defined_on_first name (i + 1) cs)
+first_form_first name i [] = refl
+first_form_first name i (c ∷ cs) = by_definition (definition_on c.spec) (first_form_first name (i + 1) cs)
   where
-    by_test : (b : Bool) (d : List ℕ × Option FieldForm) (later : Option FirstDefinition) → defined_on name cs ≡ defined_first later
-        → cond b (defined_as d.1) (defined_on name cs) ≡ defined_first (option_or (cond b (Some (the_first i d.1)) None) later)
+    by_test : (b : Bool) (d : Definition) (later : Option FirstDefinition) → first_form name (definitions cs) ≡ defined_first later
+        → cond b (defined_as d.1) (first_form name (definitions cs)) ≡ defined_first (option_or (cond b (Some (the_first i d.1)) None) later)
     by_test true d later rest = refl
     by_test false d later rest = rest
 
-    by_definition : (o : Option (List ℕ × Option FieldForm)) → defined_on name cs ≡ defined_first (first_of (definition_at name) (i + 1) cs)
-        → or_later name o (defined_on name cs) ≡ defined_first (option_or (option_and_then (named name i) o) (first_of (definition_at name) (i + 1) cs))
+    by_definition : (o : Option Definition) → first_form name (definitions cs) ≡ defined_first (first_of (definition_at name) (i + 1) cs)
+        → first_form name (option_to_list o ++ definitions cs) ≡ defined_first (option_or (option_and_then (named name i) o) (first_of (definition_at name) (i + 1) cs))
     by_definition None rest = rest
     by_definition (Some d) rest = by_test (pointwise nat_eq name d.0) d (first_of (definition_at name) (i + 1) cs) rest
 
@@ -163,7 +165,9 @@ constant_at-placed x i s p e = by_cases (stands_in x (first_constant s) || stand
 
 stands_on_first : (x : Constant) (i : ℕ) (cards : List SpecCard) → stands_on x cards ≡ is_some (first_of (constant_at x) i cards)
 stands_on_first x i [] = refl
-stands_on_first x i (c ∷ cs) = by_cases (stands_in x (first_constant c.spec)) (stands_in x (second_constant c.spec)) (stands_on_first x (i + 1) cs)
+stands_on_first x i (c ∷ cs) =
+    list_any-append (is_same x) (constants_on c.spec) (constants_in cs) ∙ ap (λ b. b || stands_on x cs) (stands_on_card x c.spec)
+    ∙ by_cases (stands_in x (first_constant c.spec)) (stands_in x (second_constant c.spec)) (stands_on_first x (i + 1) cs)
   where
     by_cases : (a b : Bool) → stands_on x cs ≡ is_some (first_of (constant_at x) (i + 1) cs)
         → (a || b || stands_on x cs) ≡ is_some (option_or (cond (a || b) (Some i) None) (first_of (constant_at x) (i + 1) cs))
@@ -173,8 +177,8 @@ stands_on_first x i (c ∷ cs) = by_cases (stands_in x (first_constant c.spec)) 
 
 -- ---- among the cards at the front
 
-pub defined_before : (name : List ℕ) (n : ℕ) (cards : List SpecCard) → defined_on name (take n cards) ≡ defined_first (only_before (λ (d : FirstDefinition). d.place) n (first_of (definition_at name) 0 cards))
-defined_before name n cards = defined_on_first name 0 (take n cards) ∙ ap defined_first (first_before (definition_at name) (λ (d : FirstDefinition). d.place) (definition_at-placed name) n cards)
+pub defined_before : (name : List ℕ) (n : ℕ) (cards : List SpecCard) → first_form name (definitions (take n cards)) ≡ defined_first (only_before (λ (d : FirstDefinition). d.place) n (first_of (definition_at name) 0 cards))
+defined_before name n cards = first_form_first name 0 (take n cards) ∙ ap defined_first (first_before (definition_at name) (λ (d : FirstDefinition). d.place) (definition_at-placed name) n cards)
 
 pub stands_before : (x : Constant) (n : ℕ) (cards : List SpecCard) → stands_on x (take n cards) ≡ is_some (only_before (λ (p : ℕ). p) n (first_of (constant_at x) 0 cards))
 stands_before x n cards = stands_on_first x 0 (take n cards) ∙ ap (λ o. is_some o) (first_before (constant_at x) (λ (p : ℕ). p) (constant_at-placed x) n cards)
@@ -200,15 +204,15 @@ index_more names names_more constants constants_more cards i c lt is index defin
 -- ---- what the index finds
 
 module _ (names : List (List ℕ × FirstDefinition)) (constants : List (Constant × ℕ)) (cards : List SpecCard) (index : IsIndex names constants cards) where
-  pub defined_found : (name : List ℕ) (all : List SpecCard) (o : Option FirstDefinition) → cards ≡ all → o ≡ lookup (pointwise nat_eq name) names → defined_first o ≡ defined_on name all
+  pub defined_found : (name : List ℕ) (all : List SpecCard) (o : Option FirstDefinition) → cards ≡ all → o ≡ lookup (pointwise nat_eq name) names → defined_first o ≡ first_form name (definitions all)
   defined_found name all o same found =
-      ap defined_first (found ∙ index.defined name) ∙ sym (defined_on_first name 0 cards) ∙ ap (defined_on name) same
+      ap defined_first (found ∙ index.defined name) ∙ sym (first_form_first name 0 cards) ∙ ap (λ xs. first_form name (definitions xs)) same
 
   pub defined_found_before : (name : List ℕ) (all before : List SpecCard) (o : Option FirstDefinition) → cards ≡ all → before ≡ take (length before) all → o ≡ lookup (pointwise nat_eq name) names
-      → defined_first (only_before (λ (d : FirstDefinition). d.place) (length before) o) ≡ defined_on name before
+      → defined_first (only_before (λ (d : FirstDefinition). d.place) (length before) o) ≡ first_form name (definitions before)
   defined_found_before name all before o same front found =
       let whole : before ≡ take (length before) cards = cc in
-      ap (λ p. defined_first (only_before (λ (d : FirstDefinition). d.place) (length before) p)) (found ∙ index.defined name) ∙ sym (defined_before name (length before) cards) ∙ ap (defined_on name) (sym whole)
+      ap (λ p. defined_first (only_before (λ (d : FirstDefinition). d.place) (length before) p)) (found ∙ index.defined name) ∙ sym (defined_before name (length before) cards) ∙ ap (λ xs. first_form name (definitions xs)) (sym whole)
 
   pub stands_found_before : (x : Constant) (all before : List SpecCard) (o : Option ℕ) → cards ≡ all → before ≡ take (length before) all → o ≡ lookup (is_same x) constants
       → is_some (only_before (λ (p : ℕ). p) (length before) o) ≡ stands_on x before
@@ -217,12 +221,12 @@ module _ (names : List (List ℕ × FirstDefinition)) (constants : List (Constan
       ap (λ p. is_some (only_before (λ (q : ℕ). q) (length before) p)) (found ∙ index.standing x) ∙ sym (stands_before x (length before) cards) ∙ ap (stands_on x) (sym whole)
 
   pub defined_in_front : (name : List ℕ) (all before : List SpecCard) (d : FirstDefinition) → cards ≡ all → before ≡ take (length before) all → Some d ≡ lookup (pointwise nat_eq name) names
-      → d.place < length before → defined_as d.form ≡ defined_on name before
+      → d.place < length before → defined_as d.form ≡ first_form name (definitions before)
   defined_in_front name all before d same front found lt =
       ap (λ b. defined_first (cond b (Some d) None)) (sym (lt-ltb d.place (length before) lt)) ∙ defined_found_before name all before (Some d) same front found
 
   pub defined_behind : (name : List ℕ) (all before : List SpecCard) (d : FirstDefinition) → cards ≡ all → before ≡ take (length before) all → Some d ≡ lookup (pointwise nat_eq name) names
-      → length before ≤ d.place → Missing ≡ defined_on name before
+      → length before ≤ d.place → Missing ≡ first_form name (definitions before)
   defined_behind name all before d same front found le =
       ap (λ b. defined_first (cond b (Some d) None)) (sym (le-ltb d.place (length before) le)) ∙ defined_found_before name all before (Some d) same front found
 

@@ -1,6 +1,6 @@
 -- The constants that stand on the cards themselves.
 use Rattle.std.specs.Prelude.{◌≤◌, ◌<◌, ◌^◌, unsigned_abs, IsTrue, List, [], ◌∷◌, ◌++◌, length, Bool, false, ◌&&◌, ◌||◌, ◌==◌, nat_eq, if◌then◌else◌, Option, None, Some}
-use Rattle.std.specs.List.{list_all}
+use Rattle.std.specs.List.{list_all, list_any}
 use Rattle.std.specs.Option.{option_and_then, option_map, option_to_list}
 use Rattle.std.specs.Ordering.{int_eq}
 use Rattle.std.specs.Cmp.Lexicographic.{pointwise}
@@ -79,8 +79,7 @@ stands_in x None = false
 stands_in x (Some c) = is_same x c
 
 abbrev pub stands_on : Constant → List SpecCard → Bool
-stands_on x [] = false
-stands_on x (c ∷ cs) = stands_in x (first_constant c.spec) || stands_in x (second_constant c.spec) || stands_on x cs
+stands_on x cards = list_any (is_same x) (constants_in cards)
 
 abbrev pub unless : {X : Type 0} → Bool → X → Option X
 unless b x = if b then None else Some x

@@ -102,7 +102,7 @@ impl<'a> IndexedCards<'a> {
     }
 
     fn defined(&self, name: &Name) -> Defined
-        ensures { result ≡ names.defined_on name.now self.now }
+        ensures { result ≡ names.first_form name.now (names.definitions self.now) }
     {
         match self.names.get(name) {
             None => Defined::Missing,
@@ -112,7 +112,7 @@ impl<'a> IndexedCards<'a> {
 
     fn defined_before(&self, name: &Name, before: &[SpecCard]) -> Defined
         requires { before.now ≡ take (length before.now) self.now }
-        ensures { result ≡ names.defined_on name.now before.now }
+        ensures { result ≡ names.first_form name.now (names.definitions before.now) }
     {
         match self.names.get(name) {
             None => Defined::Missing,

@@ -3,17 +3,17 @@ use Rattle.std.proofs.Common.{◌≡◌, ℕ, zero, suc, ◌+◌, ◌-◌, ◌^�
 use Rattle.std.proofs.lemmas.Bool.{leb-true, and_parts}
 use Rattle.std.proofs.lemmas.List.{length-map, length-replicate, map-append}
 use Rattle.std.proofs.lemmas.List.Elements.{All-push, All-replicate, All-append, All-cons}
-use Rattle.std.proofs.lemmas.List.Sums.{sum_by-cons, AllPass-from_list_all}
+use Rattle.std.proofs.lemmas.List.Sums.{fold-append, sum_by-cons, AllPass-from_list_all}
 use Rattle.std.specs.List.{list_all}
 use Rattle.std.proofs.lemmas.Option.{some_pair_parts}
 use Rattle.std.specs.Prelude.{All, IsTrue, is_some, if◌then◌else◌}
-use Rattle.std.specs.Option.{option_map, option_and_then}
+use Rattle.std.specs.Option.{option_map, option_and_then, option_to_list}
 use Rattle.rpg_cards.specs.Cards.{calculation_on, input_field_on}
 use Rattle.rpg_cards.specs.Constants.{IsConstant, constant_form, constant_value, constants}
 use Rattle.rpg_cards.specs.declared.constants.Constant.{Constant}
 use Rattle.rpg_cards.specs.declared.constants.Constant.TheVariants as constant
 use Rattle.rpg_cards.specs.Files.{input_file, output_file}
-use Rattle.rpg_cards.specs.Names.{definition_on, definition_by, field_form, first_some, sized_form}
+use Rattle.rpg_cards.specs.Names.{Definition, definition_on, definition_by, definitions, definitions_on, field_form, first_some, sized_form}
 use Rattle.rpg_cards.specs.declared.spec_card.SpecCard.{SpecCard}
 use Rattle.rpg_compile.proofs.RowLemmas.{all_head, all_tail}
 use Rattle.rpg_effect.specs.Input.{TypeRow}
@@ -30,7 +30,7 @@ use Rattle.rpg_spec.specs.declared.spec.Spec.{Spec}
 use Rattle.rpg_symbols.specs.Fields.{Fields, given, form_of, size_of, storage}
 use Rattle.rpg_text.specs.Texts.{is_character}
 use Rattle.rpg_translation.specs.Code.{code_of, instruction_on}
-use Rattle.rpg_translation.specs.Fields.{with_definition, fields_from, fields_of, first_of_kind, forms, first_value, only_value, Table, table_of, all_forms, all_values}
+use Rattle.rpg_translation.specs.Fields.{with_definition, with_definitions, fields_of, first_of_kind, forms, first_value, only_value, Table, table_of, all_forms, all_values}
 use Rattle.rpg_translation.specs.Program.{program_of, length_of, constant_size, KeepsLimits}
 use Rattle.rpg_translation.specs.Tables.{with_first, types_of, lines_of}
 
@@ -99,14 +99,16 @@ name_kept true fields name form h k = h
 name_kept false fields name form h k =
     subst (λ (fs : List FieldForm). All IsSingleRow fs) (sym (map-append (λ (f : List ℕ × FieldForm). f.1) fields ((name, form) ∷ []))) (All-push IsSingleRow (forms fields) form h k)
 
-definition_kept : (fields : Fields) (d : Option (List ℕ × Option FieldForm)) → HasGoodForm d → All IsSingleRow (forms fields) → All IsSingleRow (forms (with_definition fields d))
+definition_kept : (fields : Fields) (d : Option Definition) → HasGoodForm d → All IsSingleRow (forms fields) → All IsSingleRow (forms (with_definitions fields (option_to_list d)))
 definition_kept fields None good h = h
 definition_kept fields (Some (name, None)) good h = h
 definition_kept fields (Some (name, Some form)) good h = name_kept (is_some (form_of fields name)) fields name form h (good name form refl)
 
-fields_kept : (fields : Fields) (cards : List SpecCard) → All IsSingleRow (forms fields) → All IsSingleRow (forms (fields_from fields cards))
+fields_kept : (fields : Fields) (cards : List SpecCard) → All IsSingleRow (forms fields) → All IsSingleRow (forms (with_definitions fields (definitions cards)))
 fields_kept fields [] h = h
-fields_kept fields (c ∷ cs) h = fields_kept (with_definition fields (definition_on c.spec)) cs (definition_kept fields (definition_on c.spec) (by_spec c.spec) h)
+fields_kept fields (c ∷ cs) h =
+    subst (λ (fs : Fields). All IsSingleRow (forms fs)) (sym (fold-append with_definition fields (definitions_on c.spec) (definitions cs)))
+    (fields_kept (with_definitions fields (definitions_on c.spec)) cs (definition_kept fields (definition_on c.spec) (by_spec c.spec) h))
 
 given_kept : All IsSingleRow (forms given)
 given_kept zero d lt = record {

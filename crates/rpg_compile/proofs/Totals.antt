@@ -3,22 +3,21 @@ use Rattle.std.proofs.Common.{◌≡◌, ℕ, ◌+◌, ◌≤◌, Bool, true, fa
 use Rattle.std.proofs.lemmas.List.{length-map, map-append}
 use Rattle.std.proofs.lemmas.List.Sums.{sum_by-cons}
 use Rattle.std.specs.Prelude.{fold, is_some, sum_by}
-use Rattle.std.specs.Option.{option_map_or}
+use Rattle.std.specs.Option.{option_to_list}
 use Rattle.rpg_cards.specs.Constants.{constants}
-use Rattle.rpg_cards.specs.Names.{definition_on}
+use Rattle.rpg_cards.specs.Names.{Definition, definition_on, definitions}
 use Rattle.rpg_cards.specs.declared.spec_card.SpecCard.{SpecCard}
 use Rattle.rpg_effect.specs.declared.form.FieldForm.{FieldForm}
 use Rattle.rpg_translation.proofs.Definitions.{all_defined}
 use Rattle.rpg_translation.proofs.Names.{AreDefined, IsDefinition}
-use Rattle.rpg_translation.specs.Fields.{fields_from, fields_of}
-use Rattle.rpg_translation.specs.Fields as fields
+use Rattle.rpg_translation.specs.Fields.{fields_of, with_definitions, with_name}
 use Rattle.rpg_translation.specs.Program.{constant_size}
-use Rattle.rpg_compile.proofs.FieldLemmas.{length-fields_from}
+use Rattle.rpg_compile.proofs.FieldLemmas.{length-fields_of}
 use Rattle.rpg_compile.proofs.Unpassed.{unpassed}
 use Rattle.rpg_compile.proofs.Walks.{all_within}
 use Rattle.rpg_faults.proofs.SeenLemmas.{knows-fields}
 use Rattle.rpg_faults.specs.Faults.{Faultless}
-use Rattle.rpg_faults.specs.Limits.{Definition, bytes_up_to, constant_bytes, fields_up_to, form_bytes, name_bytes, names, with_definition, with_names_of}
+use Rattle.rpg_faults.specs.Limits.{bytes_up_to, constant_bytes, fields_up_to, form_bytes, name_bytes, names, with_definition}
 use Rattle.rpg_symbols.specs.Fields.{Fields, form_of, given, size_of, storage}
 
 -- ---- where every definition has a form, the names are those of the fields
@@ -26,21 +25,23 @@ use Rattle.rpg_symbols.specs.Fields.{Fields, form_of, given, size_of, storage}
 definitions_of : Fields → List Definition
 definitions_of fs = map (λ (f : List ℕ × FieldForm). (f.0, Some f.1)) fs
 
-one_name : (fs : Fields) (o : Option Definition) → IsDefinition o → option_map_or (with_definition (definitions_of fs)) o (definitions_of fs) ≡ definitions_of (fields.with_definition fs o)
+one_name : (fs : Fields) (name : List ℕ) (form : FieldForm) → with_definition (definitions_of fs) (name, Some form) ≡ definitions_of (with_name fs name form)
 unfolding definitions_of
-one_name fs None good = refl
-one_name fs (Some (name, None)) good = absurd good
-one_name fs (Some (name, Some form)) good =
-    ap (λ b. cond b (definitions_of fs) (definitions_of fs ++ (name, Some form) ∷ [])) (knows-fields fs name) ∙ by_cases (is_some (form_of fs name))
+one_name fs name form = ap (λ b. cond b (definitions_of fs) (definitions_of fs ++ (name, Some form) ∷ [])) (knows-fields fs name) ∙ by_cases (is_some (form_of fs name))
   where
     by_cases : (b : Bool) → cond b (definitions_of fs) (definitions_of fs ++ (name, Some form) ∷ []) ≡ definitions_of (cond b fs (fs ++ (name, form) ∷ []))
     by_cases true = refl
     by_cases false = sym (map-append (λ (f : List ℕ × FieldForm). (f.0, Some f.1)) fs ((name, form) ∷ []))
 
-names_from : (fs : Fields) (cards : List SpecCard) → AreDefined cards → fold with_names_of (definitions_of fs) cards ≡ definitions_of (fields_from fs cards)
-names_from fs [] good = refl
-names_from fs (c ∷ cs) good =
-    ap (λ (known : List Definition). fold with_names_of known cs) (one_name fs (definition_on c.spec) good.0) ∙ names_from (fields.with_definition fs (definition_on c.spec)) cs good.1
+one_card : (fs : Fields) (o : Option Definition) (ds : List Definition) → IsDefinition o → ((more : Fields) → fold with_definition (definitions_of more) ds ≡ definitions_of (with_definitions more ds))
+    → fold with_definition (definitions_of fs) (option_to_list o ++ ds) ≡ definitions_of (with_definitions fs (option_to_list o ++ ds))
+one_card fs None ds good rest = rest fs
+one_card fs (Some (name, None)) ds good rest = absurd good
+one_card fs (Some (name, Some form)) ds good rest = ap (λ (known : List Definition). fold with_definition known ds) (one_name fs name form) ∙ rest (with_name fs name form)
+
+names_with : (fs : Fields) (cards : List SpecCard) → AreDefined cards → fold with_definition (definitions_of fs) (definitions cards) ≡ definitions_of (with_definitions fs (definitions cards))
+names_with fs [] good = refl
+names_with fs (c ∷ cs) good = one_card fs (definition_on c.spec) (definitions cs) good.0 (λ more. names_with more cs good.1)
 
 bytes_of : (fs : Fields) → sum_by (λ (d : Definition). form_bytes d.1) (definitions_of fs) ≡ storage fs
 unfolding definitions_of
@@ -54,7 +55,7 @@ bytes_of (f ∷ fs) =
 module _ (cards : List SpecCard) (none : Faultless cards) where
   names_are : names cards ≡ definitions_of (fields_of cards)
   unfolding definitions_of
-  names_are = names_from given cards (all_defined cards none)
+  names_are = names_with given cards (all_defined cards none)
 
   bytes_are : name_bytes cards ≡ storage (fields_of cards)
   bytes_are = ap (sum_by (λ (d : Definition). form_bytes d.1)) names_are ∙ bytes_of (fields_of cards)
@@ -76,6 +77,6 @@ module _ (cards : List SpecCard) (none : Faultless cards) where
   pub all_fields_within : length cards ≤ 2000 → length (fields_of cards) + length (constants cards) ≤ 4000
   all_fields_within few =
       let number = numbers_are in
-      let low = length-fields_from given cards in
+      let low = length-fields_of cards in
       let all : fields_up_to cards cards ≤ 4000 = all_within (fields_up_to cards) 4000 cards (omega arith) (λ before c after split. (unpassed cards none before c after split).fields) in
       omega arith

@@ -1,7 +1,7 @@
 //! The names of a program.
 
 ghost use Rattle.std.specs.Prelude.{◌≡◌, ◌+◌, ◌<◌, ◌≤◌, length, map, IfOk, OnOk};
-ghost use Rattle.rpg_cards.specs.Names.{definition_on};
+ghost use Rattle.rpg_cards.specs.Names.{definitions_on};
 ghost use Rattle.rpg_translation.specs.Fields as fields;
 ghost use Rattle.rpg_effect.specs.Values.{held};
 ghost use Rattle.rpg_symbols.specs.Fields.{given, storage};
@@ -52,8 +52,8 @@ impl NameTable {
     fn define_on(&mut self, card: &SpecCard) -> Result<(), AllocError>
         requires same { self.old.forms.items ≡ fields.forms self.old.symbols }
         requires few { length self.old.symbols < 4000 }
-        requires room { storage (fields.with_definition self.old.symbols (definition_on card.now.spec)) ≤ 65535 }
-        ensures symbols { OnOk result (self.new.symbols ≡ fields.with_definition self.old.symbols (definition_on card.now.spec)) }
+        requires room { storage (fields.with_definitions self.old.symbols (definitions_on card.now.spec)) ≤ 65535 }
+        ensures symbols { OnOk result (self.new.symbols ≡ fields.with_definitions self.old.symbols (definitions_on card.now.spec)) }
         ensures forms { OnOk result (self.new.forms.items ≡ fields.forms self.new.symbols) }
     {
         let Some(name) = card.defined_name() else {

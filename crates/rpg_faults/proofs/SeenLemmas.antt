@@ -1,24 +1,24 @@
 -- What cards come to with one more behind them.
-use Rattle.std.proofs.Common.{◌≡◌, ℕ, ◌+◌, ◌≤◌, Bool, true, false, not, cond, map, List, [], ◌∷◌, ◌++◌, length, take, Option, None, Some, refl, sym, ap, ◌∙◌, arith, length-append}
+use Rattle.std.proofs.Common.{◌≡◌, ℕ, ◌+◌, ◌≤◌, Bool, true, false, not, cond, map, List, [], ◌∷◌, ◌++◌, length, take, Option, None, Some, refl, sym, ap, ◌∙◌, arith, append_assoc, append-nil, length-append}
 use Rattle.std.proofs.lemmas.Bool.{lt-ltb}
 use Rattle.std.proofs.lemmas.List.Folds.{list_any-append}
 use Rattle.std.proofs.lemmas.List.Sums.{fold-append, sum_by-append, sum_by-cons, sum_by_push}
 use Rattle.std.proofs.Math.Seq.{take-append-add}
 use Rattle.std.specs.Cmp.Lexicographic.{bytes_decides, pointwise}
 use Rattle.std.specs.List.{list_any}
-use Rattle.std.specs.Option.{option_map_or, option_or, option_to_list}
+use Rattle.std.specs.Option.{option_or, option_to_list}
 use Rattle.std.specs.Prelude.{◌||◌, count_by, fold, is_some, nat_eq, nat_lt, sum_by}
 use Rattle.rpg_cards.proofs.ConstantLemmas.{constants_push}
 use Rattle.rpg_cards.specs.Constants.{constant_form, constants, new_first, new_second}
 use Rattle.rpg_cards.specs.Files.{latest}
-use Rattle.rpg_cards.specs.Names.{defined_as, defined_on, definition_on, form_of_name, or_later, unless_given}
+use Rattle.rpg_cards.specs.Names.{Definition, defined_as, definition_on, definitions, definitions_on, first_form, form_of_name, unless_given}
 use Rattle.rpg_cards.specs.declared.constants.Constant.{Constant}
 use Rattle.rpg_cards.specs.declared.names.Defined.{Defined}
 use Rattle.rpg_cards.specs.declared.spec_card.SpecCard.{SpecCard}
 use Rattle.rpg_effect.specs.declared.form.FieldForm.{FieldForm}
 use Rattle.rpg_spec.specs.declared.spec.Spec.{Spec}
 use Rattle.rpg_symbols.specs.Fields.{Fields, form_of, given, size_of}
-use Rattle.rpg_faults.specs.Limits.{Definition, constant_bytes, form_bytes, given_names, is_of, name_bytes, names, with_definition, with_names_of}
+use Rattle.rpg_faults.specs.Limits.{constant_bytes, form_bytes, given_names, is_of, name_bytes, names, with_definition}
 use Rattle.rpg_faults.specs.Names.{is_missing}
 use Rattle.rpg_faults.specs.Seen.{bytes_of, constant_bytes_by, constants_by, name_bytes_by, names_by, one_if_some}
 
@@ -69,35 +69,18 @@ knows-more known d name = by_cases (list_any (is_of d.0) known) refl
     by_cases true e = or_known (list_any (is_of name) known) (pointwise nat_eq name d.0) (λ same. ap (λ (n : List ℕ). list_any (is_of n) known) ((bytes_decides name d.0).0 same) ∙ e)
     by_cases false e = list_any-append (is_of name) known (d ∷ []) ∙ ap (λ b. list_any (is_of name) known || b) (or_false (pointwise nat_eq name d.0))
 
-defines : Option Definition → List ℕ → Bool
-defines None name = false
-defines (Some d) name = pointwise nat_eq name d.0
+first_known : (b : Bool) (o : Option FieldForm) (later : Defined) → not (is_missing (cond b (defined_as o) later)) ≡ (b || not (is_missing later))
+first_known true None later = refl
+first_known true (Some form) later = refl
+first_known false o later = refl
 
-knows-card : (known : List Definition) (o : Option Definition) (name : List ℕ) → list_any (is_of name) (option_map_or (with_definition known) o known) ≡ (list_any (is_of name) known || defines o name)
-unfolding defines
-knows-card known None name = sym (or_false (list_any (is_of name) known))
-knows-card known (Some d) name = knows-more known d name
-
-not_missing : (o : Option FieldForm) → not (is_missing (defined_as o)) ≡ true
-not_missing None = refl
-not_missing (Some f) = refl
-
-or_later-known : (name : List ℕ) (o : Option Definition) (later : Defined) → not (is_missing (or_later name o later)) ≡ (defines o name || not (is_missing later))
-unfolding defines
-or_later-known name None later = refl
-or_later-known name (Some d) later = by_test (pointwise nat_eq name d.0)
-  where
-    by_test : (b : Bool) → not (is_missing (cond b (defined_as d.1) later)) ≡ (b || not (is_missing later))
-    by_test true = not_missing d.1
-    by_test false = refl
-
-knows-cards : (known : List Definition) (cards : List SpecCard) (name : List ℕ) → list_any (is_of name) (fold with_names_of known cards) ≡ (list_any (is_of name) known || not (is_missing (defined_on name cards)))
-knows-cards known [] name = sym (or_false (list_any (is_of name) known))
-knows-cards known (c ∷ cs) name =
-    knows-cards (with_names_of known c) cs name
-    ∙ ap (λ b. b || not (is_missing (defined_on name cs))) (knows-card known (definition_on c.spec) name)
-    ∙ or_assoc (list_any (is_of name) known) (defines (definition_on c.spec) name) (not (is_missing (defined_on name cs)))
-    ∙ ap (λ b. list_any (is_of name) known || b) (sym (or_later-known name (definition_on c.spec) (defined_on name cs)))
+knows-definitions : (known ds : List Definition) (name : List ℕ) → list_any (is_of name) (fold with_definition known ds) ≡ (list_any (is_of name) known || not (is_missing (first_form name ds)))
+knows-definitions known [] name = sym (or_false (list_any (is_of name) known))
+knows-definitions known (d ∷ ds) name =
+    knows-definitions (with_definition known d) ds name
+    ∙ ap (λ b. b || not (is_missing (first_form name ds))) (knows-more known d name)
+    ∙ or_assoc (list_any (is_of name) known) (pointwise nat_eq name d.0) (not (is_missing (first_form name ds)))
+    ∙ ap (λ b. list_any (is_of name) known || b) (sym (first_known (pointwise nat_eq name d.0) d.1 (first_form name ds)))
 
 -- a field is known by its name
 pub knows-fields : (fields : Fields) (name : List ℕ) → list_any (is_of name) (map (λ (f : List ℕ × FieldForm). (f.0, Some f.1)) fields) ≡ is_some (form_of fields name)
@@ -116,13 +99,17 @@ unless_given-known (Some f) d = refl
 -- a name is among those of cards where it has a first definition
 is_known : (cards : List SpecCard) (name : List ℕ) → list_any (is_of name) (names cards) ≡ not (is_missing (form_of_name name cards))
 is_known cards name =
-    knows-cards given_names cards name ∙ ap (λ b. b || not (is_missing (defined_on name cards))) (knows-fields given name)
-    ∙ unless_given-known (form_of given name) (defined_on name cards)
+    knows-definitions given_names (definitions cards) name ∙ ap (λ b. b || not (is_missing (first_form name (definitions cards)))) (knows-fields given name)
+    ∙ unless_given-known (form_of given name) (first_form name (definitions cards))
 
 -- ---- the names with one more card
 
-names-push : (before : List SpecCard) (c : SpecCard) → names (before ++ c ∷ []) ≡ with_names_of (names before) c
-names-push before c = fold-append with_names_of given_names before (c ∷ [])
+definitions-push : (before : List SpecCard) (c : SpecCard) → definitions (before ++ c ∷ []) ≡ definitions before ++ definitions_on c.spec
+definitions-push [] c = append-nil (definitions_on c.spec)
+definitions-push (d ∷ ds) c = ap (λ (l : List Definition). definitions_on d.spec ++ l) (definitions-push ds c) ∙ sym (append_assoc (definitions_on d.spec) (definitions ds) (definitions_on c.spec))
+
+names-push : (before : List SpecCard) (c : SpecCard) → names (before ++ c ∷ []) ≡ fold with_definition (names before) (definitions_on c.spec)
+names-push before c = ap (fold with_definition given_names) (definitions-push before c) ∙ fold-append with_definition given_names (definitions before) (definitions_on c.spec)
 
 number_grows : (known : List Definition) (d : Definition) (b missing : Bool) → b ≡ not missing → length (cond b known (known ++ d ∷ [])) ≡ length known + cond missing 1 0
 number_grows known d true true e = absurd cc
@@ -140,14 +127,14 @@ bytes_grow known d false false e = absurd cc
 pub names_more : (before : List SpecCard) (c : SpecCard) → length (names (before ++ c ∷ [])) ≡ length (names before) + names_by before (definition_on c.spec)
 names_more before c = ap length (names-push before c) ∙ by_definition (definition_on c.spec)
   where
-    by_definition : (o : Option Definition) → length (option_map_or (with_definition (names before)) o (names before)) ≡ length (names before) + names_by before o
+    by_definition : (o : Option Definition) → length (fold with_definition (names before) (option_to_list o)) ≡ length (names before) + names_by before o
     by_definition None = omega arith
     by_definition (Some d) = number_grows (names before) d (list_any (is_of d.0) (names before)) (is_missing (form_of_name d.0 before)) (is_known before d.0)
 
 pub name_bytes_more : (before : List SpecCard) (c : SpecCard) → name_bytes (before ++ c ∷ []) ≡ name_bytes before + name_bytes_by before (definition_on c.spec)
 name_bytes_more before c = ap (sum_by (λ (x : Definition). form_bytes x.1)) (names-push before c) ∙ by_definition (definition_on c.spec)
   where
-    by_definition : (o : Option Definition) → sum_by (λ (x : Definition). form_bytes x.1) (option_map_or (with_definition (names before)) o (names before)) ≡ name_bytes before + name_bytes_by before o
+    by_definition : (o : Option Definition) → sum_by (λ (x : Definition). form_bytes x.1) (fold with_definition (names before) (option_to_list o)) ≡ name_bytes before + name_bytes_by before o
     by_definition None = omega arith
     by_definition (Some d) = bytes_grow (names before) d (list_any (is_of d.0) (names before)) (is_missing (form_of_name d.0 before)) (is_known before d.0)
 

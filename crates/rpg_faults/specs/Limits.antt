@@ -2,9 +2,8 @@
 use Rattle.std.specs.Prelude.{ℕ, ◌+◌, Bool, ◌&&◌, ◌||◌, nat_eq, nat_le, nat_lt, List, [], ◌∷◌, ◌++◌, length, count_by, fold, map, sum_by, Option, None, Some, if◌then◌else◌}
 use Rattle.std.specs.Cmp.Lexicographic.{pointwise}
 use Rattle.std.specs.List.{list_any}
-use Rattle.std.specs.Option.{option_map_or}
 use Rattle.rpg_cards.specs.Constants.{constant_form, constants}
-use Rattle.rpg_cards.specs.Names.{definition_on}
+use Rattle.rpg_cards.specs.Names.{Definition, definitions}
 use Rattle.rpg_cards.specs.declared.constants.Constant.{Constant}
 use Rattle.rpg_cards.specs.declared.spec_card.SpecCard.{SpecCard}
 use Rattle.rpg_effect.specs.declared.form.FieldForm.{FieldForm}
@@ -38,10 +37,6 @@ passes_count before c =
 
 -- ---- names: the given ones, and then each with its first definition
 
--- a name with its form: none where its length or decimals are past their limit
-abbrev pub Definition : Type 0
-Definition = List ℕ × Option FieldForm
-
 abbrev pub is_of : List ℕ → Definition → Bool
 is_of name d = pointwise nat_eq name d.0
 
@@ -49,14 +44,11 @@ is_of name d = pointwise nat_eq name d.0
 abbrev pub with_definition : List Definition → Definition → List Definition
 with_definition known d = if list_any (is_of d.0) known then known else known ++ d ∷ []
 
-abbrev pub with_names_of : List Definition → SpecCard → List Definition
-with_names_of known c = option_map_or (with_definition known) (definition_on c.spec) known
-
 abbrev pub given_names : List Definition
 given_names = map (λ (f : List ℕ × FieldForm). (f.0, Some f.1)) given
 
 abbrev pub names : List SpecCard → List Definition
-names cards = fold with_names_of given_names cards
+names cards = fold with_definition given_names (definitions cards)
 
 -- ---- bytes: a name without a form takes none
 

@@ -1,8 +1,9 @@
 -- F1, F2, F3: names, their definitions and their forms.
 use Rattle.std.specs.Prelude.{ℕ, ◌==◌, List, Bool, true, false, not, ◌&&◌, ◌||◌, nat_le, Option, None, Some, is_some, is_none}
+use Rattle.std.specs.List.{list_any}
 use Rattle.std.specs.Option.{option_map_or}
 use Rattle.rpg_cards.specs.Cards.{input_field_on, calculation_on, output_field_on}
-use Rattle.rpg_cards.specs.Names.{definition_on, field_form, form_of_name, sized_form}
+use Rattle.rpg_cards.specs.Names.{Definition, definitions_on, field_form, form_of_name, sized_form}
 use Rattle.rpg_cards.specs.Operations.{columns}
 use Rattle.rpg_cards.specs.declared.names.Defined.{Defined}
 use Rattle.rpg_cards.specs.declared.names.Defined.TheVariants.{Missing, Bad, Good}
@@ -87,7 +88,7 @@ redefines_as before name None = false
 redefines_as before name (Some form) = is_other form (form_of_name name before)
 
 abbrev pub redefines : List SpecCard → SpecCard → Bool
-redefines before c = option_map_or (λ d. redefines_as before d.0 d.1) (definition_on c.spec) false
+redefines before c = list_any (λ (d : Definition). redefines_as before d.0 d.1) (definitions_on c.spec)
 
 -- ---- F3: a field that is too long or has too many decimals, and decimals where no length is given
 

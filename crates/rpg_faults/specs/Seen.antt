@@ -3,11 +3,11 @@ use Rattle.std.specs.Prelude.{◌≡◌, ℕ, ◌+◌, ◌*◌, ◌≤◌, List,
 use Rattle.std.specs.Option.{option_map}
 use Rattle.rpg_cards.specs.Constants.{constant_form, constants, new_first, new_second}
 use Rattle.rpg_cards.specs.Files.{input_file_name, output_file_name}
-use Rattle.rpg_cards.specs.Names.{form_of_name}
+use Rattle.rpg_cards.specs.Names.{Definition, form_of_name}
 use Rattle.rpg_cards.specs.declared.constants.Constant.{Constant}
 use Rattle.rpg_cards.specs.declared.spec_card.SpecCard.{SpecCard}
 use Rattle.rpg_faults.specs.Cards.{is_type, is_input_field, is_calculation, is_line, is_output_field}
-use Rattle.rpg_faults.specs.Limits.{Definition, count_of, count_since, form_bytes, names, name_bytes, constant_bytes}
+use Rattle.rpg_faults.specs.Limits.{count_of, count_since, form_bytes, names, name_bytes, constant_bytes}
 use Rattle.rpg_faults.specs.Names.{is_missing}
 use Rattle.rpg_faults.specs.Places.{file_by}
 use Rattle.rpg_faults.specs.declared.seen.Counts.{Counts}

@@ -1,12 +1,13 @@
 -- The constants of cards have numbers, which lead to their forms.
 use Rattle.std.proofs.Common.{◌≡◌, ℕ, zero, suc, ◌+◌, Bool, true, false, not, cond, ◌||◌, List, [], ◌∷◌, ◌++◌, map, length, slice_get, Option, Some, refl, sym, ap, ◌∙◌, arith}
 use Rattle.std.proofs.lemmas.Bool.{or_left, or_right}
+use Rattle.std.proofs.lemmas.List.Folds.{list_any-append}
 use Rattle.std.proofs.lemmas.Option.{slice_get-map}
 use Rattle.std.specs.List.{list_any, position_or_len}
 use Rattle.std.specs.Option.{option_map}
 use Rattle.std.specs.Prelude.{unwrap_or}
-use Rattle.rpg_cards.proofs.ConstantLemmas.{among_all}
-use Rattle.rpg_cards.specs.Constants.{constant_form, first_constant, second_constant, is_same, stands_in, stands_on}
+use Rattle.rpg_cards.proofs.ConstantLemmas.{among_all, stands_on_card}
+use Rattle.rpg_cards.specs.Constants.{constant_form, constants_in, constants_on, first_constant, second_constant, is_same, stands_in, stands_on}
 use Rattle.rpg_cards.specs.SameConstants.{is_same_equiv, is_same-equal}
 use Rattle.rpg_cards.specs.declared.constants.Constant.{Constant}
 use Rattle.rpg_cards.specs.declared.spec_card.SpecCard.{SpecCard}
@@ -54,8 +55,10 @@ number_leads t x there =
 
 stands_here : (x : Constant) (before : List SpecCard) (c : SpecCard) (after : List SpecCard) →
     (stands_in x (first_constant c.spec) || stands_in x (second_constant c.spec)) ≡ true → stands_on x (before ++ c ∷ after) ≡ true
-stands_here x [] c after e = or_left _ (stands_on x after) e
-stands_here x (d ∷ ds) c after e = or_right (stands_in x (first_constant d.spec) || stands_in x (second_constant d.spec)) _ (stands_here x ds c after e)
+stands_here x [] c after e =
+    list_any-append (is_same x) (constants_on c.spec) (constants_in after) ∙ or_left (list_any (is_same x) (constants_on c.spec)) (stands_on x after) (stands_on_card x c.spec ∙ e)
+stands_here x (d ∷ ds) c after e =
+    list_any-append (is_same x) (constants_on d.spec) (constants_in (ds ++ c ∷ after)) ∙ or_right (list_any (is_same x) (constants_on d.spec)) _ (stands_here x ds c after e)
 
 pub constant_leads : (cards before : List SpecCard) (c : SpecCard) (after : List SpecCard) (x : Constant) → cards ≡ before ++ c ∷ after →
     (stands_in x (first_constant c.spec) || stands_in x (second_constant c.spec)) ≡ true →

@@ -1,11 +1,12 @@
 -- The definitions of a faultless source are those of plain fields.
 use Rattle.std.proofs.Common.{◌≡◌, ℕ, ◌+◌, ◌-◌, ◌≤◌, Bool, true, false, cond, List, ◌∷◌, ◌++◌, Option, None, Some, refl, sym, subst}
 use Rattle.std.proofs.lemmas.Bool.{ltb-false, le-leb, or_parts}
-use Rattle.std.specs.Option.{option_and_then, option_map, option_map_or}
+use Rattle.std.specs.List.{list_any}
+use Rattle.std.specs.Option.{option_and_then, option_map, option_map_or, option_to_list}
 use Rattle.std.specs.Prelude.{◌&&◌, nat_le, is_none}
 use Rattle.rpg_cards.specs.Cards.{calculation_on, input_field_on}
 use Rattle.rpg_cards.specs.Files.{input_file_name}
-use Rattle.rpg_cards.specs.Names.{definition_by, definition_on, field_form, first_some, form_of_name, plain_form, sized_form}
+use Rattle.rpg_cards.specs.Names.{Definition, definition_by, definition_on, field_form, first_some, form_of_name, plain_form, sized_form}
 use Rattle.rpg_cards.specs.declared.names.Defined.TheVariants.{Good}
 use Rattle.rpg_cards.specs.declared.spec_card.SpecCard.{SpecCard}
 use Rattle.rpg_effect.specs.Forms.{is_array, is_plain}
@@ -95,5 +96,5 @@ module _ (cards : List SpecCard) (none : Faultless cards) where
   pub has_form : (before : List SpecCard) (c : SpecCard) (after : List SpecCard) (name : List ℕ) (form : FieldForm) → cards ≡ before ++ c ∷ after →
       definition_on c.spec ≡ Some (name, Some form) → form_of_name name cards ≡ Good form
   has_form before c after name form split is =
-      let alike : is_other form (form_of_name name before) ≡ false = subst (λ (d : Option (List ℕ × Option FieldForm)). option_map_or (λ d. redefines_as before d.0 d.1) d false ≡ false) is (defines_alike cards none before c after split) in
+      let alike : is_other form (form_of_name name before) ≡ false = (or_parts _ _ (subst (λ (o : Option Definition). list_any (λ (d : Definition). redefines_as before d.0 d.1) (option_to_list o) ≡ false) is (defines_alike cards none before c after split))).0 in
       defined_here cards before c after name form split all_defined is alike

@@ -1,10 +1,11 @@
 -- The forms of names: none is bad, none is an array's, and each definition has the one of the first.
-use Rattle.std.proofs.Common.{◌≡◌, ℕ, Bool, true, false, cond, List, [], ◌∷◌, ◌++◌, Option, None, Some, refl, ap, ◌∙◌, subst}
+use Rattle.std.proofs.Common.{◌≡◌, ℕ, Bool, true, false, cond, List, [], ◌∷◌, ◌++◌, Option, None, Some, refl, sym, ap, ◌∙◌, subst, append_assoc}
 use Rattle.std.proofs.lemmas.Bool.{not-false}
 use Rattle.std.proofs.lemmas.Cmp.{nat_list_eq_equiv}
 use Rattle.std.specs.Cmp.Lexicographic.{pointwise}
+use Rattle.std.specs.Option.{option_to_list}
 use Rattle.std.specs.Prelude.{nat_eq, codes}
-use Rattle.rpg_cards.specs.Names.{definition_on, defined_as, defined_on, form_of_name, or_later, unless_given}
+use Rattle.rpg_cards.specs.Names.{Definition, definition_on, definitions, definitions_on, defined_as, first_form, form_of_name, unless_given}
 use Rattle.rpg_cards.specs.declared.names.Defined.{Defined}
 use Rattle.rpg_cards.specs.declared.names.Defined.TheVariants.{Missing, Bad, Good}
 use Rattle.rpg_cards.specs.declared.spec_card.SpecCard.{SpecCard}
@@ -24,18 +25,18 @@ IsGood Missing = Unit {0}
 IsGood Bad = ⊥
 IsGood (Good form) = is_array form.class ≡ false
 
-good_or_later : (name : List ℕ) (d : Option (List ℕ × Option FieldForm)) (later : Defined) → IsDefinition d → IsGood later → IsGood (or_later name d later)
-good_or_later name None later good rest = rest
-good_or_later name (Some (n, None)) later good rest = absurd good
-good_or_later name (Some (n, Some form)) later good rest = by_test (pointwise nat_eq name n)
+good_first : (name : List ℕ) (d : Option Definition) (ds : List Definition) → IsDefinition d → IsGood (first_form name ds) → IsGood (first_form name (option_to_list d ++ ds))
+good_first name None ds good rest = rest
+good_first name (Some (n, None)) ds good rest = absurd good
+good_first name (Some (n, Some form)) ds good rest = by_test (pointwise nat_eq name n)
   where
-    by_test : (b : Bool) → IsGood (cond b (Good form) later)
+    by_test : (b : Bool) → IsGood (cond b (Good form) (first_form name ds))
     by_test true = good
     by_test false = rest
 
-good_on : (name : List ℕ) (cards : List SpecCard) → AreDefined cards → IsGood (defined_on name cards)
+good_on : (name : List ℕ) (cards : List SpecCard) → AreDefined cards → IsGood (first_form name (definitions cards))
 good_on name [] good = tt
-good_on name (c ∷ cs) good = good_or_later name (definition_on c.spec) (defined_on name cs) good.0 (good_on name cs good.1)
+good_on name (c ∷ cs) good = good_first name (definition_on c.spec) (definitions cs) good.0 (good_on name cs good.1)
 
 given_good : (a b : Bool) (u p : FieldForm) (d : Defined) → is_array u.class ≡ false → is_array p.class ≡ false → IsGood d →
     IsGood (unless_given (cond a (Some u) (cond b (Some p) None)) d)
@@ -44,7 +45,7 @@ given_good false true u p d hu hp good = hp
 given_good false false u p d hu hp good = good
 
 pub name_good : (name : List ℕ) (cards : List SpecCard) → AreDefined cards → IsGood (form_of_name name cards)
-name_good name cards good = given_good (pointwise nat_eq name (codes "UDATE")) (pointwise nat_eq name (codes "PAGE")) (number_form class.Date 6) (number_form class.Plain 4) (defined_on name cards) refl refl (good_on name cards good)
+name_good name cards good = given_good (pointwise nat_eq name (codes "UDATE")) (pointwise nat_eq name (codes "PAGE")) (number_form class.Date 6) (number_form class.Plain 4) (first_form name (definitions cards)) refl refl (good_on name cards good)
 
 -- a name that isn't missing has a form, of no array
 pub form_there : (d : Defined) → IsGood d → is_missing d ≡ false → (form : FieldForm) × (d ≡ Good form) × (is_array form.class ≡ false)
@@ -59,27 +60,26 @@ first_of Missing later = later
 first_of Bad later = Bad
 first_of (Good form) later = Good form
 
-or_later-first : (name : List ℕ) (d : Option (List ℕ × Option FieldForm)) (a b : Defined) → or_later name d (first_of a b) ≡ first_of (or_later name d a) b
+first_form-append : (name : List ℕ) (xs ys : List Definition) → first_form name (xs ++ ys) ≡ first_of (first_form name xs) (first_form name ys)
 unfolding first_of
-or_later-first name None a b = refl
-or_later-first name (Some (n, o)) a b = by_test (pointwise nat_eq name n) o
+first_form-append name [] ys = refl
+first_form-append name (d ∷ ds) ys = ap (λ later. cond (pointwise nat_eq name d.0) (defined_as d.1) later) (first_form-append name ds ys) ∙ by_test (pointwise nat_eq name d.0) d.1
   where
-    by_test : (t : Bool) (o : Option FieldForm) → cond t (defined_as o) (first_of a b) ≡ first_of (cond t (defined_as o) a) b
+    by_test : (t : Bool) (o : Option FieldForm) → cond t (defined_as o) (first_of (first_form name ds) (first_form name ys)) ≡ first_of (cond t (defined_as o) (first_form name ds)) (first_form name ys)
     by_test true None = refl
     by_test true (Some form) = refl
     by_test false o = refl
 
-defined_on-append : (name : List ℕ) (xs ys : List SpecCard) → defined_on name (xs ++ ys) ≡ first_of (defined_on name xs) (defined_on name ys)
-unfolding first_of
-defined_on-append name [] ys = refl
-defined_on-append name (c ∷ cs) ys = ap (or_later name (definition_on c.spec)) (defined_on-append name cs ys) ∙ or_later-first name (definition_on c.spec) (defined_on name cs) (defined_on name ys)
+definitions-append : (xs ys : List SpecCard) → definitions (xs ++ ys) ≡ definitions xs ++ definitions ys
+definitions-append [] ys = refl
+definitions-append (c ∷ cs) ys = ap (λ (l : List Definition). definitions_on c.spec ++ l) (definitions-append cs ys) ∙ sym (append_assoc (definitions_on c.spec) (definitions cs) (definitions ys))
 
 unless_given-first : (o : Option FieldForm) (a b : Defined) → unless_given o (first_of a b) ≡ first_of (unless_given o a) b
 unfolding first_of
 unless_given-first None a b = refl
 unless_given-first (Some form) a b = refl
 
-itself : (name : List ℕ) (form : FieldForm) (later : Defined) → or_later name (Some (name, Some form)) later ≡ Good form
+itself : (name : List ℕ) (form : FieldForm) (later : Defined) → cond (pointwise nat_eq name name) (Good form) later ≡ Good form
 itself name form later = ap (λ b. cond b (Good form) later) ((nat_list_eq_equiv).refl name)
 
 of_first : (before here all : Defined) (form : FieldForm) → all ≡ first_of before here → here ≡ Good form → IsGood all → is_other form before ≡ false → all ≡ Good form
@@ -93,7 +93,8 @@ pub defined_here : (cards before : List SpecCard) (c : SpecCard) (after : List S
     is_other form (form_of_name name before) ≡ false → form_of_name name cards ≡ Good form
 unfolding first_of
 defined_here cards before c after name form split good is same =
-    let here : defined_on name (c ∷ after) ≡ Good form = ap (λ d. or_later name d (defined_on name after)) is ∙ itself name form (defined_on name after) in
-    let joined : form_of_name name cards ≡ first_of (form_of_name name before) (defined_on name (c ∷ after)) =
-    ap (form_of_name name) split ∙ ap (unless_given (form_of given name)) (defined_on-append name before (c ∷ after)) ∙ unless_given-first (form_of given name) (defined_on name before) (defined_on name (c ∷ after)) in
-    of_first (form_of_name name before) (defined_on name (c ∷ after)) (form_of_name name cards) form joined here (name_good name cards good) same
+    let here : first_form name (definitions (c ∷ after)) ≡ Good form = ap (λ d. first_form name (option_to_list d ++ definitions after)) is ∙ itself name form (first_form name (definitions after)) in
+    let behind = ap (first_form name) (definitions-append before (c ∷ after)) ∙ first_form-append name (definitions before) (definitions (c ∷ after)) in
+    let joined : form_of_name name cards ≡ first_of (form_of_name name before) (first_form name (definitions (c ∷ after))) =
+    ap (form_of_name name) split ∙ ap (unless_given (form_of given name)) behind ∙ unless_given-first (form_of given name) (first_form name (definitions before)) (first_form name (definitions (c ∷ after))) in
+    of_first (form_of_name name before) (first_form name (definitions (c ∷ after))) (form_of_name name cards) form joined here (name_good name cards good) same

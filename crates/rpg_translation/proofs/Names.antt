@@ -5,10 +5,10 @@ use Rattle.std.proofs.lemmas.Bool.{lt-ltb}
 use Rattle.std.specs.Cmp.Lexicographic.{pointwise}
 use Rattle.std.specs.List.{position_or_len}
 use Rattle.std.specs.Map.{lookup, keys_of}
-use Rattle.std.specs.Option.{option_or, option_map}
+use Rattle.std.specs.Option.{option_or, option_map, option_to_list}
 use Rattle.std.specs.Prelude.{is_some, position, unwrap_or, nat_eq, nat_lt}
 use Rattle.rpg_cards.proofs.IndexLemmas.{known_stays, lookup_push}
-use Rattle.rpg_cards.specs.Names.{definition_on, defined_on, form_of_name, or_later, unless_given}
+use Rattle.rpg_cards.specs.Names.{Definition, definition_on, definitions, first_form, form_of_name, unless_given}
 use Rattle.rpg_cards.specs.declared.names.Defined.{Defined}
 use Rattle.rpg_cards.specs.declared.names.Defined.TheVariants.{Good}
 use Rattle.rpg_cards.specs.declared.spec_card.SpecCard.{SpecCard}
@@ -16,7 +16,7 @@ use Rattle.rpg_effect.specs.Forms.{form_at, is_array}
 use Rattle.rpg_effect.specs.declared.form.FieldForm.{FieldForm}
 use Rattle.rpg_faults.specs.Operands.{form_in}
 use Rattle.rpg_symbols.specs.Fields.{Fields, given, form_of}
-use Rattle.rpg_translation.specs.Fields.{Table, table_of, all_forms, fields_from, fields_of, forms, number_in, with_definition, with_name}
+use Rattle.rpg_translation.specs.Fields.{Table, table_of, all_forms, fields_of, forms, number_in, with_definitions, with_name}
 use Rattle.rpg_translation.proofs.Each.{Each}
 
 -- ---- definitions with a form, of no array
@@ -25,7 +25,7 @@ abbrev pub IsForm : Option FieldForm → Type 0
 IsForm None = ⊥
 IsForm (Some form) = is_array form.class ≡ false
 
-abbrev pub IsDefinition : Option (List ℕ × Option FieldForm) → Type 0
+abbrev pub IsDefinition : Option Definition → Type 0
 IsDefinition None = Unit {0}
 IsDefinition (Some d) = IsForm d.1
 
@@ -47,29 +47,32 @@ with_name-form fields name q form = by_cases (is_some (form_of fields name)) ref
     by_cases true e = known_stays (pointwise nat_eq) nat_list_eq_equiv fields q name form e
     by_cases false e = lookup_push (pointwise nat_eq q) fields name form
 
-or_later-form : (name q : List ℕ) (form : FieldForm) (later : Defined) →
-    option_or (cond (pointwise nat_eq q name) (Some form) None) (form_in later) ≡ form_in (or_later q (Some (name, Some form)) later)
-or_later-form name q form later = by_cases (pointwise nat_eq q name)
+first_form-in : (name q : List ℕ) (form : FieldForm) (later : Defined) →
+    option_or (cond (pointwise nat_eq q name) (Some form) None) (form_in later) ≡ form_in (cond (pointwise nat_eq q name) (Good form) later)
+first_form-in name q form later = by_cases (pointwise nat_eq q name)
   where
     by_cases : (b : Bool) → option_or (cond b (Some form) None) (form_in later) ≡ form_in (cond b (Good form) later)
     by_cases true = refl
     by_cases false = refl
 
-one_definition : (fields : Fields) (q : List ℕ) (d : Option (List ℕ × Option FieldForm)) (later : Defined) → IsDefinition d →
-    option_or (form_of (with_definition fields d) q) (form_in later) ≡ option_or (form_of fields q) (form_in (or_later q d later))
-one_definition fields q None later good = refl
-one_definition fields q (Some (name, None)) later good = absurd good
-one_definition fields q (Some (name, Some form)) later good =
-    ap (λ o. option_or o (form_in later)) (with_name-form fields name q form) ∙ option_or_assoc (form_of fields q) _ (form_in later) ∙ ap (option_or (form_of fields q)) (or_later-form name q form later)
+one_card : (fields : Fields) (q : List ℕ) (d : Option Definition) (ds : List Definition) → IsDefinition d →
+    ((more : Fields) → form_of (with_definitions more ds) q ≡ option_or (form_of more q) (form_in (first_form q ds))) →
+    form_of (with_definitions fields (option_to_list d ++ ds)) q ≡ option_or (form_of fields q) (form_in (first_form q (option_to_list d ++ ds)))
+one_card fields q None ds good rest = rest fields
+one_card fields q (Some (name, None)) ds good rest = absurd good
+one_card fields q (Some (name, Some form)) ds good rest =
+    let later = first_form q ds in
+    rest (with_name fields name form) ∙ ap (λ o. option_or o (form_in later)) (with_name-form fields name q form) ∙ option_or_assoc (form_of fields q) _ (form_in later)
+    ∙ ap (option_or (form_of fields q)) (first_form-in name q form later)
 
-fields_from-form : (fields : Fields) (cards : List SpecCard) (q : List ℕ) → AreDefined cards →
-    form_of (fields_from fields cards) q ≡ option_or (form_of fields q) (form_in (defined_on q cards))
-fields_from-form fields [] q good = or_none (form_of fields q)
+with_definitions-form : (fields : Fields) (cards : List SpecCard) (q : List ℕ) → AreDefined cards →
+    form_of (with_definitions fields (definitions cards)) q ≡ option_or (form_of fields q) (form_in (first_form q (definitions cards)))
+with_definitions-form fields [] q good = or_none (form_of fields q)
   where
     or_none : {X : Type 0} (o : Option X) → o ≡ option_or o None
     or_none None = refl
     or_none (Some x) = refl
-fields_from-form fields (c ∷ cs) q good = fields_from-form (with_definition fields (definition_on c.spec)) cs q good.1 ∙ one_definition fields q (definition_on c.spec) (defined_on q cs) good.0
+with_definitions-form fields (c ∷ cs) q good = one_card fields q (definition_on c.spec) (definitions cs) good.0 (λ more. with_definitions-form more cs q good.1)
 
 given_or : (o : Option FieldForm) (d : Defined) → option_or o (form_in d) ≡ form_in (unless_given o d)
 given_or None d = refl
@@ -77,7 +80,7 @@ given_or (Some form) d = refl
 
 -- a name has the form of its first definition
 pub fields_of-form : (cards : List SpecCard) (name : List ℕ) → AreDefined cards → form_of (fields_of cards) name ≡ form_in (form_of_name name cards)
-fields_of-form cards name good = fields_from-form given cards name good ∙ given_or (form_of given name) (defined_on name cards)
+fields_of-form cards name good = with_definitions-form given cards name good ∙ given_or (form_of given name) (first_form name (definitions cards))
 
 -- ---- the place of a name
 

@@ -1,9 +1,9 @@
 -- The fields of a program: UDATE and PAGE, then the names that cards define, in the order of their first definitions, then the constants.
 use Rattle.std.specs.Option.{option_map}
-use Rattle.std.specs.Prelude.{ℕ, ◌+◌, ◌++◌, length, position, List, [], ◌∷◌, Option, None, Some, is_some, unwrap_or, map, replicate, pos, if◌then◌else◌}
+use Rattle.std.specs.Prelude.{ℕ, ◌+◌, ◌++◌, fold, length, position, List, [], ◌∷◌, Option, None, Some, is_some, unwrap_or, map, replicate, pos, if◌then◌else◌}
 use Rattle.rpg_cards.specs.declared.spec_card.SpecCard.{SpecCard}
 use Rattle.rpg_cards.specs.Constants.{constant_form, constant_of, constant_value, constants, is_same}
-use Rattle.rpg_cards.specs.Names.{definition_on}
+use Rattle.rpg_cards.specs.Names.{Definition, definitions}
 use Rattle.rpg_cards.specs.declared.constants.Constant.{Constant}
 use Rattle.rpg_effect.specs.declared.form.FieldForm.{FieldForm}
 use Rattle.rpg_effect.specs.declared.form.Kind.{Kind}
@@ -21,18 +21,16 @@ abbrev pub with_form : Fields → List ℕ → Option FieldForm → Fields
 with_form fields name None = fields
 with_form fields name (Some form) = with_name fields name form
 
--- what a card defines, unless its form is bad
-abbrev pub with_definition : Fields → Option (List ℕ × Option FieldForm) → Fields
-with_definition fields None = fields
-with_definition fields (Some d) = with_form fields d.0 d.1
+-- a definition, unless its form is bad
+abbrev pub with_definition : Fields → Definition → Fields
+with_definition fields d = with_form fields d.0 d.1
 
--- those that stand already, and what further cards define
-abbrev pub fields_from : Fields → List SpecCard → Fields
-fields_from fields [] = fields
-fields_from fields (c ∷ cs) = fields_from (with_definition fields (definition_on c.spec)) cs
+-- those that stand already, and what is defined further
+abbrev pub with_definitions : Fields → List Definition → Fields
+with_definitions fields ds = fold with_definition fields ds
 
 abbrev pub fields_of : List SpecCard → Fields
-fields_of cards = fields_from given cards
+fields_of cards = with_definitions given (definitions cards)
 
 -- the number of a name, its place from 1; 0 where it isn't defined
 abbrev pub number_in : Fields → List ℕ → ℕ
