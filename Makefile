@@ -3,9 +3,12 @@
 EXAMPLE := examples/invoices
 RPG2 := crates/rpg2/out/rpg2
 
-# The processors that one proof takes. Two crates are proved side by side, each with so many; on two processors, `make JOBS=1`.
-JOBS := 2
-MAKEFLAGS += -j2
+# The engine's crates stand one on the other: the longest chain, and what is waited for at the end. Each of their proofs takes so many
+# processors; the others' take one each, and of it what the chain leaves. On two processors, `make JOBS=2`.
+JOBS := 3
+CHAIN := rpg_decimal rpg_edit rpg_effect rpg_program rpg_columns rpg_rules rpg_verify rpg_store rpg_memory rpg_operations rpg_lines \
+	rpg_machine rpg_records rpg_cycle rpg_engine rpg_cli
+MAKEFLAGS += -j8
 
 # crates.txt says which crate stands on which.
 CRATES := $(shell sed -n 's/^\([a-z][a-z0-9_]*\)[: ].*/\1/p' crates.txt)
@@ -48,7 +51,7 @@ bench: $(RPG2)
 # A target a library: it is proved once those below it are.
 define library_rule
 $(call library,$(1)): $(foreach it,$(call below,$(1)),$(call library,$(it))) $(call sources,$(1))
-	build/library.sh $(1) $(JOBS)
+	$(if $(filter $(1),$(CHAIN)),build/library.sh $(1) $(JOBS),nice build/library.sh $(1) 1)
 endef
 $(foreach it,$(filter-out $(PROGRAMS),$(CRATES)),$(eval $(call library_rule,$(it))))
 
