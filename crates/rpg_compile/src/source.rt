@@ -5,10 +5,9 @@ ghost use Rattle.rpg_compile.specs.Compile as compiling;
 
 use crate::cards::spec_cards;
 use crate::fault::{CompileFault, SourceCode};
-use crate::program::program_of;
 use rpg_faults::first_fault;
 use rpg_program::Program;
-use rpg_translation::laws::programs_are_accepted;
+use rpg_translator::translate;
 use std::alloc::Global;
 
 /// Compiles a source. `allowance` is what its program may spend in a cycle on backward branches and calls.
@@ -17,7 +16,6 @@ pub fn compile(alloc: Global, text: &[u8], allowance: u16) -> Result<Program, Co
     ensures ok { IfOk result (λ program. compiling.Compiles text.now allowance program) }
     ensures err { IfErr result (λ fault. compiling.IsRefusal fault text.now) }
 {
-    programs_are_accepted();
     let cards = rpg_sheet::cards(alloc, text)?;
     let cards = spec_cards(alloc, &cards)?;
     match first_fault(alloc, &cards)? {
@@ -25,6 +23,6 @@ pub fn compile(alloc: Global, text: &[u8], allowance: u16) -> Result<Program, Co
             card: fault.card,
             code: SourceCode::Fault(fault.code),
         }),
-        None => Ok(program_of(alloc, &cards, allowance)?),
+        None => Ok(translate(alloc, &cards, allowance)?),
     }
 }

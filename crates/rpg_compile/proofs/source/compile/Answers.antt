@@ -1,6 +1,5 @@
 use Rattle.std.proofs.Common.{◌∙◌, ◌≤◌, length, sym, ap, subst}
 use Rattle.rpg_cards.specs.Cards.{spec_cards, Numbered}
-use Rattle.rpg_compile.proofs.Limits.{faultless_keeps_limits}
 use Rattle.rpg_faults.specs.Faults.{Faultless, IsLeastFault}
 use Rattle.rpg_compile.proofs.source.compile.Goals as goal
 
@@ -12,7 +11,7 @@ returns-in-Some-clause-err c =
     let cards = c.deref.ensures.value ∙ c.in_ok-cards-2.ensures.cards ∙ ap spec_cards c.in_ok-cards.ensures.cards in
     (c.in_ok-cards.ensures.faultless, subst (λ cs. IsLeastFault cs c.in-Some.fault) cards (rw c.in-Some.is at c.in_ok-fault.ensures))
 
-pub program_of-requires-clause-limits : goal.program_of-requires-clause-limits
-program_of-requires-clause-limits c =
+pub translate-requires-clause-faultless : goal.translate-requires-clause-faultless
+translate-requires-clause-faultless c =
     let same = c.deref.ensures.value ∙ sym c.deref-in-None.ensures.value in
-    faultless_keeps_limits c.deref-in-None.result.now (subst Faultless same (rw c.in-None.is at c.in_ok-fault.ensures)) (subst (λ cs. length cs ≤ 2000) (sym c.deref-in-None.ensures.value) c.in_ok-cards-2.ensures.few)
+    subst Faultless same (rw c.in-None.is at c.in_ok-fault.ensures)
