@@ -3,12 +3,12 @@
 EXAMPLE := examples/invoices
 RPG2 := crates/rpg2/out/rpg2
 
-# The engine's crates stand one on the other: the longest chain, and what is waited for at the end. Each of their proofs takes so many
-# processors; the others' take one each, and of it what the chain leaves. On two processors, `make JOBS=2`.
-JOBS := 3
-CHAIN := rpg_decimal rpg_edit rpg_effect rpg_program rpg_columns rpg_rules rpg_verify rpg_store rpg_memory rpg_operations rpg_lines \
-	rpg_machine rpg_records rpg_cycle rpg_engine rpg_cli
-MAKEFLAGS += -j8
+# So many libraries are proved side by side, one job each. Those that are waited for at the end, one on the other, with nothing beside them,
+# take all processors but one.
+PROCESSORS := $(shell nproc)
+LAST := rpg_machine rpg_cycle rpg_engine rpg_cli
+jobs = $(if $(filter $(1),$(LAST)),$(shell echo $$(($(PROCESSORS) > 2 ? $(PROCESSORS) - 1 : 1))),1)
+MAKEFLAGS += -j$(PROCESSORS)
 
 # crates.txt says which crate stands on which.
 CRATES := $(shell sed -n 's/^\([a-z][a-z0-9_]*\)[: ].*/\1/p' crates.txt)
@@ -48,14 +48,15 @@ bench: $(RPG2)
 	bench/compile.sh
 	bench/sales.sh
 
-# A target a library: it is proved once those below it are.
+# A target a library: it is proved once those below it are. Where more are ready than processors, those that crates.txt names first for a
+# crate come first: so the engine stands before what else rpg_cli uses.
 define library_rule
 $(call library,$(1)): $(foreach it,$(call below,$(1)),$(call library,$(it))) $(call sources,$(1))
-	$(if $(filter $(1),$(CHAIN)),build/library.sh $(1) $(JOBS),nice build/library.sh $(1) 1)
+	build/library.sh $(1) $(call jobs,$(1))
 endef
 $(foreach it,$(filter-out $(PROGRAMS),$(CRATES)),$(eval $(call library_rule,$(it))))
 
 # Only what is proved is built: README says how long the first build takes.
 $(RPG2): $(foreach it,$(call below,rpg2),$(call library,$(it))) $(call sources,rpg2)
-	cd crates/rpg2 && rt run --jobs $(JOBS) -- --help > /dev/null
+	cd crates/rpg2 && rt run --jobs $(call jobs,rpg_cli) -- --help > /dev/null
 	@touch $(RPG2)
