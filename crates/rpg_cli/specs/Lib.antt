@@ -2,5 +2,4 @@
 pub mod Answers
 pub mod Outcomes
 pub mod Saying
-pub mod SourceCodes
 pub mod Verification

@@ -5,7 +5,6 @@ mod answer;
 mod files;
 mod program;
 mod sending;
-mod source_code;
 mod text;
 mod translation;
 mod verification;

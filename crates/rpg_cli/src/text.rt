@@ -4,10 +4,9 @@ ghost use Rattle.std.specs.Prelude.{◌≡◌, ◌+◌, ◌≤◌, ◌++◌, len
 ghost use Rattle.arrayvec.specs.ArrayVec.{array_vec_len};
 ghost use Rattle.rpg_rules.specs.Rules.{number};
 ghost use Rattle.rpg_cli.specs.Answers.{code_text, exit_status, line_text, run_text};
-ghost use Rattle.rpg_cli.specs.SourceCodes.{source_code_text};
+ghost use Rattle.rpg_compile.specs.Codes.{text as source_code_text};
 
 use crate::answer::{Answer, Line};
-use crate::source_code::source_code_text;
 use arrayvec::ArrayVec;
 use itoa::Buffer;
 use rpg_compile::SourceCode;
@@ -61,7 +60,7 @@ fn put_source_fault(text: &mut Text, card: u16, code: SourceCode)
     put(text, b"card ");
     put_number(text, u64::from(card));
     put(text, b": ");
-    put(text, source_code_text(code));
+    put(text, code.text().as_str().as_bytes());
 }
 
 fn put_object_fault(text: &mut Text, offset: usize, code: Code)

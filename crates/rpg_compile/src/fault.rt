@@ -1,8 +1,10 @@
 //! Why a source isn't compiled.
 
-ghost use Rattle.std.specs.Prelude.{◌≡◌};
+ghost use Rattle.std.specs.Prelude.{◌≡◌, ◌≤◌, length};
+ghost use Rattle.rpg_compile.specs.Codes as codes;
 ghost use Rattle.rpg_compile.specs.declared.fault.CompileFault.TheVariants.{NoMemory};
 
+use arrayvec::ArrayString;
 use rpg_faults::FaultCode;
 use rpg_sheet::{SheetCode, SheetFault};
 use std::alloc::AllocError;
@@ -15,6 +17,19 @@ pub enum SourceCode {
     Sheet(SheetCode),
     #[error("{0}")]
     Fault(FaultCode),
+}
+
+impl SourceCode {
+    /// The letter and the number.
+    pub fn text(self) -> ArrayString<4>
+        ensures value { result.bytes ≡ codes.text self }
+        ensures len { length result.bytes ≤ 4 }
+    {
+        match self {
+            SourceCode::Sheet(code) => code.text(),
+            SourceCode::Fault(code) => code.text(),
+        }
+    }
 }
 
 /// Why a source has no program.

@@ -1,213 +1,132 @@
 -- The least code of the first card that breaks a rule is the least fault.
-use Rattle.std.proofs.Common.{◌≡◌, ℕ, ◌+◌, ◌≤◌, ◌⊎◌, inl, inr, Bool, true, false, cond, List, [], ◌∷◌, ◌++◌, Option, Some, None, MatchOption, refl, sym, ap, ◌∙◌, subst, arith, append_assoc, append-nil}
+use Rattle.std.proofs.Common.{◌≡◌, ℕ, ◌+◌, ◌≤◌, ◌⊎◌, inl, inr, Bool, true, false, List, [], ◌∷◌, ◌++◌, Option, Some, None, MatchOption, refl, sym, ap, ◌∙◌, arith, append_assoc, append-nil}
+use Rattle.std.proofs.lemmas.Bool.{and_parts, both_ways, cond_both, false_from_ne_true, leb-true}
+use Rattle.std.specs.Prelude.{◌&&◌, ◌↔◌, find, nat_le}
+use Rattle.std.specs.List.{list_all}
+use Rattle.std.specs.Option.{option_map, option_or}
 use Rattle.rpg_cards.specs.Cards.{Numbered}
 use Rattle.rpg_cards.specs.declared.spec_card.SpecCard.{SpecCard}
 use Rattle.rpg_faults.specs.declared.fault.FaultCode.{FaultCode}
-use Rattle.rpg_faults.specs.declared.fault.FaultCode.TheVariants.{F1, F2, F3, F4, F6, F7, F8, F9, F12, F15, F16}
+use Rattle.rpg_faults.specs.declared.fault.FaultCode.TheVariants.{F1, F7}
 use Rattle.rpg_faults.specs.declared.fault.Fault.{Fault}
 use Rattle.rpg_faults.specs.Cards.{Rule}
-use Rattle.rpg_faults.specs.Faults.{rule, source_rule, place, codes, least_code, fault_on, fault_from, least_fault, IsBroken, HasFault, NotAfter, IsLeastFault, Faultless}
+use Rattle.rpg_faults.specs.Codes.{number}
+use Rattle.rpg_faults.specs.Faults.{rule, source_rule, codes, fault_on, fault_from, least_fault, IsBroken, HasFault, NotAfter, IsLeastFault, Faultless}
 use Rattle.rpg_faults.specs.Files.{lacks_input}
-use Rattle.std.specs.Option.{option_map, option_or}
 
--- ---- the first card that breaks a rule
+-- ---- the cards that break a rule
 
 -- a card of these breaks a rule, where others stand before them
-pub record Breaks (r : Rule) (before after : List SpecCard) (n : ℕ) : Type 0 where
-  pub front : List SpecCard
-  pub at : SpecCard
-  pub back : List SpecCard
-  pub split : after ≡ front ++ at ∷ back
-  pub here : at.number ≡ n
-  pub broken : r (before ++ front) at back ≡ true
+abbrev Breaks : Rule → List SpecCard → List SpecCard → ℕ → Type 0
+Breaks r before [] n = ⊥
+Breaks r before (c ∷ after) n = ((c.number ≡ n) × (r before c after ≡ true)) ⊎ Breaks r (before ++ c ∷ []) after n
 
--- numbers go up
-later : (low : ℕ) (front : List SpecCard) (at : SpecCard) (back : List SpecCard) → Numbered low (front ++ at ∷ back) → low ≤ at.number
-later low [] at back h = h.0
-later low (c ∷ front) at back h = let e = later (c.number + 1) front at back h.1 in let k = h.0 in omega arith
+breaks_behind : (r : Rule) (n : ℕ) (before front : List SpecCard) (at : SpecCard) (back : List SpecCard) → at.number ≡ n → r (before ++ front) at back ≡ true → Breaks r before (front ++ at ∷ back) n
+breaks_behind r n before [] at back e t = inl (e, ap (λ l. r l at back) (sym (append-nil before)) ∙ t)
+breaks_behind r n before (c ∷ front) at back e t = inr (breaks_behind r n (before ++ c ∷ []) front at back e (ap (λ l. r l at back) (append_assoc before (c ∷ []) front) ∙ t))
 
-under : (r : Rule) (before after : List SpecCard) (c : SpecCard) (n : ℕ) → Breaks r (before ++ c ∷ []) after n → Breaks r before (c ∷ after) n
-under r before after c n b = record {
-  front = c ∷ b.front;
-  at = b.at;
-  back = b.back;
-  split = ap (λ (l : List SpecCard). c ∷ l) b.split;
-  here = b.here;
-  broken = ap (λ l. r l b.at b.back) (sym (append_assoc before (c ∷ []) b.front)) ∙ b.broken;
-}
+broken_among : (r : Rule) (cards : List SpecCard) (n : ℕ) (before after : List SpecCard) → cards ≡ before ++ after → Breaks r before after n → IsBroken r cards n
+broken_among r cards n before [] split b = absurd b
+broken_among r cards n before (c ∷ after) split (inl b) = record { before = before; card = c; after = after; split = split; here = b.0; broken = b.1 }
+broken_among r cards n before (c ∷ after) split (inr b) = broken_among r cards n (before ++ c ∷ []) after (split ∙ sym (append_assoc before (c ∷ []) after)) b
 
--- a card that breaks the rule is the first one, or a later one
-first_or : (r : Rule) (before after : List SpecCard) (c : SpecCard) (n : ℕ) → Breaks r before (c ∷ after) n → ((c.number ≡ n) × (r before c after ≡ true)) ⊎ Breaks r (before ++ c ∷ []) after n
-first_or r before after c n b = at_front b.front b.at b.back b.split b.here b.broken
-  where
-    at_front : (front : List SpecCard) (at : SpecCard) (back : List SpecCard) → c ∷ after ≡ front ++ at ∷ back → at.number ≡ n → r (before ++ front) at back ≡ true → ((c.number ≡ n) × (r before c after ≡ true)) ⊎ Breaks r (before ++ c ∷ []) after n
-    at_front [] at back e h t =
-        let same : c ≡ at = cc in
-        let rest : after ≡ back = cc in
-        let nothing = append-nil before in
-        inl (ap (λ (d : SpecCard). d.number) same ∙ h, cc)
-    at_front (d ∷ front) at back e h t =
-        let same : c ≡ d = cc in
-        let rest : after ≡ front ++ at ∷ back = cc in
-        inr (record { front = front; at = at; back = back; split = rest; here = h; broken = ap (λ l. r l at back) (append_assoc before (c ∷ []) front ∙ ap (λ (x : SpecCard). before ++ x ∷ front) same) ∙ t })
-
-none_there : (r : Rule) (before : List SpecCard) (n : ℕ) → Breaks r before [] n → ⊥
-none_there r before n b = at_front b.front b.split
-  where
-    at_front : (front : List SpecCard) → [] ≡ front ++ b.at ∷ b.back → ⊥
-    at_front [] e = cc
-    at_front (c ∷ front) e = cc
-
--- a card behind has a number that is at least so great
-number_up : (r : Rule) (low : ℕ) (before after : List SpecCard) (n : ℕ) → Numbered low after → Breaks r before after n → low ≤ n
-number_up r low before after n h b =
-    let up = later low b.front b.at b.back (subst (Numbered low) b.split h) in
-    let same = b.here in
-    omega arith
+-- the number of such a card is at least the first one's
+number_up : (r : Rule) (n low : ℕ) (before after : List SpecCard) → Numbered low after → Breaks r before after n → low ≤ n
+number_up r n low before [] h b = absurd b
+number_up r n low before (c ∷ after) h (inl b) = let up = h.0 in let same = b.0 in omega arith
+number_up r n low before (c ∷ after) h (inr b) = let up = h.0 in let later = number_up r n (c.number + 1) (before ++ c ∷ []) after h.1 b in omega arith
 
 -- ---- all codes in their order
 
-abbrev pub IsOneOf : FaultCode → List FaultCode → Type 0
+abbrev IsOneOf : FaultCode → List FaultCode → Type 0
 IsOneOf k [] = ⊥
 IsOneOf k (x ∷ xs) = (k ≡ x) ⊎ IsOneOf k xs
 
-abbrev pub Ascends : ℕ → List FaultCode → Type 0
-Ascends m [] = Unit {0}
-Ascends m (k ∷ ks) = (m ≤ place k) × Ascends (place k + 1) ks
-
-above : (m : ℕ) (k : FaultCode) (ks : List FaultCode) → Ascends m ks → IsOneOf k ks → m ≤ place k
-above m k [] h i = absurd i
-above m k (x ∷ xs) h i = by_place i (above (place x + 1) k xs h.1)
-  where
-    by_place : (k ≡ x) ⊎ IsOneOf k xs → (IsOneOf k xs → place x + 1 ≤ place k) → m ≤ place k
-    by_place (inl e) later = let same : place k ≡ place x = ap place e in let l = h.0 in omega arith
-    by_place (inr j) later = let l = h.0 in let r = later j in omega arith
-
--- ---- the least code of a card
-
-abbrev pub IsLeastCode : List SpecCard → SpecCard → List SpecCard → List FaultCode → Option FaultCode → Type 0
-IsLeastCode before c after ks o =
-    MatchOption o ((k : FaultCode) → IsOneOf k ks → rule k before c after ≡ true → ⊥)
-    (λ j. (rule j before c after ≡ true) × ((k : FaultCode) → IsOneOf k ks → rule k before c after ≡ true → place j ≤ place k))
-
-is_least_code : (before : List SpecCard) (c : SpecCard) (after : List SpecCard) (m : ℕ) (ks : List FaultCode) → Ascends m ks → IsLeastCode before c after ks (least_code before c after ks)
-is_least_code before c after m [] a = λ k i t. i
-is_least_code before c after m (x ∷ xs) a = by_cases (rule x before c after) refl (is_least_code before c after (place x + 1) xs a.1)
-  where
-    no_less : (k : FaultCode) → IsOneOf k (x ∷ xs) → place x ≤ place k
-    no_less k (inl e) = let same : place k ≡ place x = ap place e in omega arith
-    no_less k (inr i) = let low = above (place x + 1) k xs a.1 i in omega arith
-
-    passed : rule x before c after ≡ false → (o : Option FaultCode) → IsLeastCode before c after xs o → IsLeastCode before c after (x ∷ xs) o
-    passed f None i = λ k one t. elim one [ inl e ↦ cc | inr j ↦ i k j t ]
-    passed f (Some j) i = (i.0, λ k one t. elim one [ inl e ↦ absurd cc | inr l ↦ i.1 k l t ])
-
-    by_cases : (b : Bool) → rule x before c after ≡ b → IsLeastCode before c after xs (least_code before c after xs) → IsLeastCode before c after (x ∷ xs) (cond b (Some x) (least_code before c after xs))
-    by_cases true t i = (t, λ k one _. no_less k one)
-    by_cases false f i = passed f (least_code before c after xs) i
-
 all_codes : (k : FaultCode) → IsOneOf k codes
 all_codes F1 = inl refl
-all_codes F2 = inr (inl refl)
-all_codes F3 = inr (inr (inl refl))
-all_codes F4 = inr (inr (inr (inl refl)))
-all_codes F6 = inr (inr (inr (inr (inl refl))))
-all_codes F7 = inr (inr (inr (inr (inr (inl refl)))))
-all_codes F8 = inr (inr (inr (inr (inr (inr (inl refl))))))
-all_codes F9 = inr (inr (inr (inr (inr (inr (inr (inl refl)))))))
-all_codes F12 = inr (inr (inr (inr (inr (inr (inr (inr (inl refl))))))))
-all_codes F15 = inr (inr (inr (inr (inr (inr (inr (inr (inr (inl refl)))))))))
-all_codes F16 = inr (inr (inr (inr (inr (inr (inr (inr (inr (inr (inl refl))))))))))
+all_codes _ = search (inl, inr) depth 13
 
-codes_ascend : Ascends 0 codes
-codes_ascend = (omega arith, (omega arith, (omega arith, (omega arith, (omega arith, (omega arith, (omega arith, (omega arith, (omega arith, (omega arith, (omega arith, tt)))))))))))
+each : (test : FaultCode → Bool) (k : FaultCode) (ks : List FaultCode) → list_all test ks ≡ true → IsOneOf k ks → test k ≡ true
+each test k [] a i = absurd i
+each test k (x ∷ xs) a (inl e) = ap test e ∙ (and_parts _ _ a).0
+each test k (x ∷ xs) a (inr i) = each test k xs (and_parts _ _ a).1 i
+
+abbrev ascends : List FaultCode → Bool
+ascends [] = true
+ascends (x ∷ xs) = list_all (λ k. nat_le (number x) (number k)) (x ∷ xs) && ascends xs
+
+-- the least of the codes that pass a test
+abbrev IsLeastCode : (FaultCode → Bool) → Option FaultCode → Type 0
+IsLeastCode test o = MatchOption o ((k : FaultCode) → ¬ (test k ≡ true)) (λ j. (test j ≡ true) × ((k : FaultCode) → test k ≡ true → number j ≤ number k))
+
+-- it is the first one in a list that has all of them
+least_in : (test : FaultCode → Bool) (ks : List FaultCode) → ascends ks ≡ true → ((k : FaultCode) → test k ≡ true → IsOneOf k ks) → IsLeastCode test (find test ks)
+least_in test [] a among = among
+least_in test (x ∷ xs) a among =
+    cond_both (test x) (Some x) (find test xs) (IsLeastCode test)
+    (λ t. (t, λ k p. leb-true _ _ (each (λ j. nat_le (number x) (number j)) k (x ∷ xs) (and_parts _ _ a).0 (among k p))))
+    (λ f. least_in test xs (and_parts _ _ a).1 (λ k p. elim (among k p) [ inl e ↦ absurd (both_ways (test x) f (sym (ap test e) ∙ p)) | inr i ↦ i ]))
+
+least_code : (test : FaultCode → Bool) → IsLeastCode test (find test codes)
+least_code test = least_in test codes refl (λ k p. all_codes k)
 
 -- ---- the first card that breaks a rule
 
-abbrev pub IsFirst : List SpecCard → List SpecCard → Option Fault → Type 0
-IsFirst before after o =
-    MatchOption o ((g : Fault) → Breaks (rule g.code) before after g.card → ⊥)
-    (λ f. Breaks (rule f.code) before after f.card × ((g : Fault) → Breaks (rule g.code) before after g.card → NotAfter f g))
+abbrev IsLeast : List SpecCard → Option Fault → Type 0
+IsLeast cards o = MatchOption o (Faultless cards) (λ f. IsLeastFault cards f)
 
-is_first : (low : ℕ) (before after : List SpecCard) → Numbered low after → IsFirst before after (fault_from before after)
-is_first low before [] h = λ g b. none_there (rule g.code) before g.card b
-is_first low before (c ∷ cs) h = by_code (least_code before c cs codes) (is_least_code before c cs 0 codes codes_ascend) (is_first (c.number + 1) (before ++ c ∷ []) cs h.1)
+-- all faults are those of cards that stand behind others
+abbrev AreBehind : List SpecCard → List SpecCard → List SpecCard → Type 0
+AreBehind cards before after = (g : Fault) → HasFault cards g ↔ Breaks (rule g.code) before after g.card
+
+least_from : (cards : List SpecCard) (low : ℕ) (before after : List SpecCard) → Numbered low after → AreBehind cards before after → IsLeast cards (fault_from before after)
+least_from cards low before [] h behind = λ g f. (behind g).0 f
+least_from cards low before (c ∷ cs) h behind =
+    by_code (find (λ k. rule k before c cs) codes) (least_code (λ k. rule k before c cs)) (least_from cards (c.number + 1) (before ++ c ∷ []) cs h.1)
   where
-    Here : Fault → Type 0
-    Here g = (c.number ≡ g.card) × (rule g.code before c cs ≡ true)
-
-    passed : ((k : FaultCode) → IsOneOf k codes → rule k before c cs ≡ true → ⊥) → (o : Option Fault) → IsFirst (before ++ c ∷ []) cs o → IsFirst before (c ∷ cs) o
-    passed none None i = λ g b. elim (first_or (rule g.code) before cs c g.card b) [ inl x ↦ none g.code (all_codes g.code) x.1 | inr y ↦ i g y ]
-    passed none (Some f) i = (under (rule f.code) before cs c f.card i.0, λ g b. elim (first_or (rule g.code) before cs c g.card b) [ inl x ↦ absurd (none g.code (all_codes g.code) x.1) | inr y ↦ i.1 g y ])
-
-    not_after : (k : FaultCode) → ((j : FaultCode) → IsOneOf j codes → rule j before c cs ≡ true → place k ≤ place j) → (g : Fault) → Breaks (rule g.code) before (c ∷ cs) g.card → NotAfter (fault_on c k) g
-    not_after k low g b = elim (first_or (rule g.code) before cs c g.card b) [
-      | inl x ↦ inr (x.0, low g.code (all_codes g.code) x.1)
-      | inr y ↦ inl (let up = number_up (rule g.code) (c.number + 1) (before ++ c ∷ []) cs g.card h.1 y in omega arith)
-    ]
-
-    by_code : (o : Option FaultCode) → IsLeastCode before c cs codes o → IsFirst (before ++ c ∷ []) cs (fault_from (before ++ c ∷ []) cs) → IsFirst before (c ∷ cs) (option_or (option_map (fault_on c) o) (fault_from (before ++ c ∷ []) cs))
-    by_code None none behind = passed none (fault_from (before ++ c ∷ []) cs) behind
-    by_code (Some k) is behind =
-        (record { front = []; at = c; back = cs; split = refl; here = refl; broken = ap (λ l. rule k l c cs) (append-nil before) ∙ is.0 }, not_after k is.1)
+    by_code : (o : Option FaultCode) → IsLeastCode (λ k. rule k before c cs) o → (AreBehind cards (before ++ c ∷ []) cs → IsLeast cards (fault_from (before ++ c ∷ []) cs)) → IsLeast cards (option_or (option_map (fault_on c) o) (fault_from (before ++ c ∷ []) cs))
+    by_code None none later = later (λ g. (λ f. elim ((behind g).0 f) [ inl b ↦ absurd (none g.code b.1) | inr b ↦ b ], λ b. (behind g).1 (inr b)))
+    by_code (Some k) first later = record {
+      is = (behind (fault_on c k)).1 (inl (refl, first.0));
+      least = λ g f. elim ((behind g).0 f) [
+        | inl b ↦ inr (b.0, first.1 g.code b.1)
+        | inr b ↦ inl (let up = number_up (rule g.code) g.card (c.number + 1) (before ++ c ∷ []) cs h.1 b in omega arith)
+      ];
+    }
 
 -- ---- all of a source
 
-broken_at : (r : Rule) (cards : List SpecCard) (n : ℕ) → Breaks r [] cards n → IsBroken r cards n
-broken_at r cards n b = record { before = b.front; card = b.at; after = b.back; split = b.split; here = b.here; broken = b.broken }
-
-breaks_at : (r : Rule) (cards : List SpecCard) (n : ℕ) → IsBroken r cards n → Breaks r [] cards n
-breaks_at r cards n b = record { front = b.before; at = b.card; back = b.after; split = b.split; here = b.here; broken = b.broken }
+breaks_in : (r : Rule) (cards : List SpecCard) (n : ℕ) → IsBroken r cards n → Breaks r [] cards n
+breaks_in r cards n b = rw b.split (breaks_behind r n [] b.before b.card b.after b.here b.broken)
 
 -- of the source as a whole only F7 is broken
-as_whole : (cards : List SpecCard) (k : FaultCode) → source_rule k cards ≡ true → (k ≡ F7) × (lacks_input cards ≡ true)
+as_whole : (cards : List SpecCard) (k : FaultCode) → source_rule k cards ≡ true → (number F7 ≤ number k) × (lacks_input cards ≡ true)
 unfolding source_rule
-as_whole cards F7 e = (refl, e)
-as_whole cards F1 e = absurd cc
-as_whole cards F2 e = absurd cc
-as_whole cards F3 e = absurd cc
-as_whole cards F4 e = absurd cc
-as_whole cards F6 e = absurd cc
-as_whole cards F8 e = absurd cc
-as_whole cards F9 e = absurd cc
-as_whole cards F12 e = absurd cc
-as_whole cards F15 e = absurd cc
-as_whole cards F16 e = absurd cc
+as_whole cards F7 e = (omega arith, e)
+as_whole cards _ e = absurd cc
 
-pub least : (cards : List SpecCard) → Numbered 1 cards → MatchOption (least_fault cards) (Faultless cards) (λ f. IsLeastFault cards f)
+pub least : (cards : List SpecCard) → Numbered 1 cards → IsLeast cards (least_fault cards)
 unfolding source_rule
-least cards numbered = by_source (lacks_input cards) refl
+least cards numbered = cond_both (lacks_input cards) (Some whole) (fault_from [] cards) (IsLeast cards) (λ t. record { is = inr (refl, t); least = not_before }) (λ e. least_from cards 1 [] cards numbered (behind e))
   where
     whole : Fault
     whole = record { card = 0; code = F7 }
 
-    not_before_whole : (g : Fault) → HasFault cards g → NotAfter whole g
-    not_before_whole g (inl b) = inl (let up = number_up (rule g.code) 1 [] cards g.card numbered (breaks_at (rule g.code) cards g.card b) in omega arith)
-    not_before_whole g (inr s) = inr (sym s.0, (let same : place g.code ≡ place F7 = ap place (as_whole cards g.code s.1).0 in omega arith))
+    not_before : (g : Fault) → HasFault cards g → NotAfter whole g
+    not_before g (inl b) = inl (let up = number_up (rule g.code) g.card 1 [] cards numbered (breaks_in (rule g.code) cards g.card b) in omega arith)
+    not_before g (inr s) = inr (sym s.0, (as_whole cards g.code s.1).0)
 
-    by_cards : lacks_input cards ≡ false → (o : Option Fault) → IsFirst [] cards o → MatchOption o (Faultless cards) (λ f. IsLeastFault cards f)
-    by_cards e None i = λ g h. elim h [ inl b ↦ i g (breaks_at (rule g.code) cards g.card b) | inr s ↦ (let t = (as_whole cards g.code s.1).1 in cc) ]
-    by_cards e (Some f) i = record {
-      is = inl (broken_at (rule f.code) cards f.card i.0);
-      least = λ g h. elim h [ inl b ↦ i.1 g (breaks_at (rule g.code) cards g.card b) | inr s ↦ absurd (let t = (as_whole cards g.code s.1).1 in cc) ];
-    }
-
-    by_source : (b : Bool) → lacks_input cards ≡ b → MatchOption (cond b (Some whole) (fault_from [] cards)) (Faultless cards) (λ f. IsLeastFault cards f)
-    by_source true t = record { is = inr (refl, t); least = not_before_whole }
-    by_source false e = by_cards e (fault_from [] cards) (is_first 1 [] cards numbered)
+    behind : lacks_input cards ≡ false → AreBehind cards [] cards
+    behind e g = (
+      λ f. elim f [ inl b ↦ breaks_in (rule g.code) cards g.card b | inr s ↦ absurd (both_ways (lacks_input cards) e (as_whole cards g.code s.1).1) ],
+      λ b. inl (broken_among (rule g.code) cards g.card [] cards refl b),
+    )
 
 -- ---- what a source without faults keeps
 
 pub rule-faultless : (cards : List SpecCard) → Faultless cards → (code : FaultCode) (before : List SpecCard) (card : SpecCard) (after : List SpecCard) → cards ≡ before ++ card ∷ after → rule code before card after ≡ false
-rule-faultless cards f code before card after split = by_cases (rule code before card after) refl
-  where
-    by_cases : (b : Bool) → rule code before card after ≡ b → b ≡ false
-    by_cases true t = absurd (f (record { card = card.number; code = code }) (inl (record { before = before; card = card; after = after; split = split; here = refl; broken = t })))
-    by_cases false t = refl
+rule-faultless cards none code before card after split =
+    false_from_ne_true _ (λ t. none (record { card = card.number; code = code }) (inl (record { before = before; card = card; after = after; split = split; here = refl; broken = t })))
 
 pub source_rule-faultless : (cards : List SpecCard) → Faultless cards → (code : FaultCode) → source_rule code cards ≡ false
-source_rule-faultless cards f code = by_cases (source_rule code cards) refl
-  where
-    by_cases : (b : Bool) → source_rule code cards ≡ b → b ≡ false
-    by_cases true t = absurd (f (record { card = 0; code = code }) (inr (refl, t)))
-    by_cases false t = refl
+source_rule-faultless cards none code = false_from_ne_true _ (λ t. none (record { card = 0; code = code }) (inr (refl, t)))

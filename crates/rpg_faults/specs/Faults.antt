@@ -1,11 +1,12 @@
 -- The faults of a source without sheet faults, as a set of pairs, and the least of them.
-use Rattle.std.specs.Prelude.{◌≡◌, ℕ, ◌<◌, ◌≤◌, ◌⊎◌, Bool, true, false, List, [], ◌∷◌, ◌++◌, Option, None, Some, if◌then◌else◌}
+use Rattle.std.specs.Prelude.{◌≡◌, ℕ, ◌<◌, ◌≤◌, ◌⊎◌, Bool, true, false, List, [], ◌∷◌, ◌++◌, Option, None, Some, find, if◌then◌else◌}
 use Rattle.std.specs.Option.{option_map, option_or}
 use Rattle.rpg_cards.specs.declared.spec_card.SpecCard.{SpecCard}
 use Rattle.rpg_faults.specs.declared.fault.FaultCode.{FaultCode}
 use Rattle.rpg_faults.specs.declared.fault.FaultCode.TheVariants.{F1, F2, F3, F4, F6, F7, F8, F9, F12, F15, F16}
 use Rattle.rpg_faults.specs.declared.fault.Fault.{Fault}
 use Rattle.rpg_faults.specs.Cards.{Rule}
+use Rattle.rpg_faults.specs.Codes.{number}
 use Rattle.rpg_faults.specs.Columns.{bad_columns}
 use Rattle.rpg_faults.specs.Files.{breaks_files, lacks_input}
 use Rattle.rpg_faults.specs.Indicators.{bad_indicator}
@@ -34,17 +35,8 @@ rule F16 before c after = misplaces (before ++ c ∷ after) before c
 
 -- what the source as a whole breaks
 unfoldable pub source_rule : FaultCode → List SpecCard → Bool
-source_rule F1 cards = false
-source_rule F2 cards = false
-source_rule F3 cards = false
-source_rule F4 cards = false
-source_rule F6 cards = false
 source_rule F7 cards = lacks_input cards
-source_rule F8 cards = false
-source_rule F9 cards = false
-source_rule F12 cards = false
-source_rule F15 cards = false
-source_rule F16 cards = false
+source_rule _ cards = false
 
 -- ---- the set: pairs of a card and a code
 
@@ -66,21 +58,8 @@ Faultless cards = (f : Fault) → ¬ HasFault cards f
 
 -- ---- the least of them, by card and then by code
 
-abbrev pub place : FaultCode → ℕ
-place F1 = 1
-place F2 = 2
-place F3 = 3
-place F4 = 4
-place F6 = 6
-place F7 = 7
-place F8 = 8
-place F9 = 9
-place F12 = 12
-place F15 = 15
-place F16 = 16
-
 abbrev pub NotAfter : Fault → Fault → Type 0
-NotAfter f g = (f.card < g.card) ⊎ ((f.card ≡ g.card) × (place f.code ≤ place g.code))
+NotAfter f g = (f.card < g.card) ⊎ ((f.card ≡ g.card) × (number f.code ≤ number g.code))
 
 pub record IsLeastFault (cards : List SpecCard) (f : Fault) : Type 0 where
   pub is : HasFault cards f
@@ -92,16 +71,12 @@ codes = F1 ∷ F2 ∷ F3 ∷ F4 ∷ F6 ∷ F7 ∷ F8 ∷ F9 ∷ F12 ∷ F15 ∷ 
 
 -- ---- how it is found: on the first card that breaks a rule, the least code; before all cards what the source as a whole breaks
 
-abbrev pub least_code : List SpecCard → SpecCard → List SpecCard → List FaultCode → Option FaultCode
-least_code before c after [] = None
-least_code before c after (k ∷ ks) = if rule k before c after then Some k else least_code before c after ks
-
 abbrev pub fault_on : SpecCard → FaultCode → Fault
 fault_on c code = record { card = c.number; code = code }
 
 abbrev pub fault_from : List SpecCard → List SpecCard → Option Fault
 fault_from before [] = None
-fault_from before (c ∷ after) = option_or (option_map (fault_on c) (least_code before c after codes)) (fault_from (before ++ c ∷ []) after)
+fault_from before (c ∷ after) = option_or (option_map (fault_on c) (find (λ code. rule code before c after) codes)) (fault_from (before ++ c ∷ []) after)
 
 abbrev pub least_fault : List SpecCard → Option Fault
 least_fault cards = if lacks_input cards then Some (record { card = 0; code = F7 }) else fault_from [] cards

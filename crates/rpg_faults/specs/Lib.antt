@@ -9,4 +9,5 @@ pub mod Order
 pub mod Places
 pub mod Rounding
 pub mod Seen
+pub mod Codes
 pub mod Faults

@@ -1,6 +1,6 @@
 //! The least fault.
 
-ghost use Rattle.std.specs.Prelude.{◌≡◌, [], ◌++◌, ◌∷◌, ◌≤◌, length, MatchOption, IfOk};
+ghost use Rattle.std.specs.Prelude.{◌≡◌, [], ◌++◌, ◌∷◌, ◌≤◌, find, length, MatchOption, IfOk};
 ghost use Rattle.rpg_cards.specs.Cards.{Numbered};
 ghost use Rattle.rpg_faults.specs.Faults as faults;
 ghost use Rattle.rpg_faults.specs.Seen.{IsSeen};
@@ -18,21 +18,6 @@ use crate::rounding::bad_rounding;
 use crate::seen::Seen;
 use rpg_cards::{IndexedCards, SpecCard};
 use std::alloc::{AllocError, Global};
-
-/// All codes, the least first.
-const CODES: [FaultCode; 11] = [
-    FaultCode::F1,
-    FaultCode::F2,
-    FaultCode::F3,
-    FaultCode::F4,
-    FaultCode::F6,
-    FaultCode::F7,
-    FaultCode::F8,
-    FaultCode::F9,
-    FaultCode::F12,
-    FaultCode::F15,
-    FaultCode::F16,
-];
 
 /// The least fault by card, then by code, found in one pass over the cards. An error is for want of memory.
 pub fn first_fault(alloc: Global, cards: &[SpecCard]) -> Result<Option<Fault>, AllocError>
@@ -65,7 +50,7 @@ fn first_on_cards(source: &IndexedCards) -> Option<Fault>
     let mut seen = Seen::nothing(source);
     let mut rest = source.as_slice();
     while let Some((card, after)) = rest.split_first() {
-        if let Some(code) = least_code(&CODES, source, &seen, card, after) {
+        if let Some(code) = least_code(&FaultCode::all(), source, &seen, card, after) {
             return Some(Fault {
                 card: card.number,
                 code,
@@ -87,7 +72,7 @@ fn least_code(
 ) -> Option<FaultCode>
     requires split { source.now ≡ seen.now.before.now ++ card.now ∷ after.now }
     requires seen { IsSeen source.now seen.now }
-    ensures { result ≡ faults.least_code seen.now.before.now card.now after.now codes.now }
+    ensures { result ≡ find (λ code. faults.rule code seen.now.before.now card.now after.now) codes.now }
 {
     for code in codes {
         if breaks(*code, source, seen, card, after) {

@@ -1,15 +1,19 @@
 //! The sheets of a source, and what can be wrong with its cards.
 
-ghost use Rattle.std.specs.Prelude.{◌≡◌, ◌≤◌, length, IsTrue, vec_len};
+ghost use Rattle.std.specs.Prelude.{◌≡◌, ◌≤◌, length, IsTrue, Some, vec_len};
 ghost use Rattle.rpg_readers.specs.Readable.{is_readable};
 ghost use Rattle.rpg_spec.specs.Cards as cards;
 ghost use Rattle.std.specs.List.{list_all};
+ghost use Rattle.rpg_sheet.specs.Codes as codes;
 ghost use Rattle.rpg_sheet.specs.Seen.{sheet_code};
 ghost use Rattle.rpg_sheet.specs.declared.sheet.SheetFault.TheVariants.{NoMemory};
 
+use arrayvec::ArrayString;
+use itoa::Buffer;
 use rpg_readers::Card;
 use rpg_spec::FormType;
 use std::alloc::AllocFailed;
+use std::fmt;
 use std::marker::Model;
 use thiserror::Error;
 
@@ -28,26 +32,47 @@ pub(crate) fn place(sheet: FormType) -> u8
 }
 
 /// What is wrong with a card.
-#[derive(Clone, Copy, Debug, PartialEq, Eq, Error)]
+#[derive(Clone, Copy, Debug, PartialEq, Eq)]
 pub enum SheetCode {
     /// The card has more than 80 characters.
-    #[error("S1")]
-    S1,
+    S1 = 1,
     /// It has a byte that is no character.
-    #[error("S2")]
-    S2,
+    S2 = 2,
     /// Its form type is unknown.
-    #[error("S3")]
-    S3,
+    S3 = 3,
     /// Its form type is earlier than one before.
-    #[error("S4")]
-    S4,
+    S4 = 4,
     /// Some columns have a bad value.
-    #[error("S5")]
-    S5,
+    S5 = 5,
     /// It is card 2,001.
-    #[error("S6")]
-    S6,
+    S6 = 6,
+}
+
+impl SheetCode {
+    pub fn number(self) -> u8
+        ensures { result ≡ codes.number self }
+    {
+        self as u8
+    }
+
+    /// The letter S and the number.
+    pub fn text(self) -> ArrayString<4>
+        ensures value { result.bytes ≡ codes.text self }
+        ensures len { length result.bytes ≤ 4 }
+    {
+        let mut text = ArrayString::new();
+        text.push_str("S");
+        text.push_str(Buffer::new().format(self.number()));
+        text
+    }
+}
+
+impl fmt::Display for SheetCode {
+    ghost output = { λ code. Some (codes.text code) };
+
+    fn fmt<W: fmt::Write>(&self, f: &mut fmt::Formatter<W>) -> fmt::Result {
+        f.write_str(self.text().as_str())
+    }
 }
 
 /// Why a source has no cards.

@@ -1,6 +1,7 @@
 use Rattle.std.proofs.Common.{◌≡◌, drop}
-use Rattle.rpg_faults.specs.Faults.{least_code}
+use Rattle.std.specs.List.{find}
+use Rattle.rpg_faults.specs.Faults.{rule}
 use Rattle.rpg_faults.proofs.least.least_code.Given as goal
 
 abbrev pub invariant-loop-code : goal.invariant-loop-code
-invariant-loop-code l = least_code l.seen.before.now l.card l.after (drop l.code-index l.codes) ≡ least_code l.seen.before.now l.card l.after l.codes
+invariant-loop-code l = find (λ code. rule code l.seen.before.now l.card l.after) (drop l.code-index l.codes) ≡ find (λ code. rule code l.seen.before.now l.card l.after) l.codes
