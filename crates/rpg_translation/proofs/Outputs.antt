@@ -8,6 +8,7 @@ use Rattle.std.specs.Prelude.{◌&&◌, is_none, is_some, nat_lt}
 use Rattle.rpg_cards.specs.Cards.{calculation_on, line_on, output_field_on}
 use Rattle.rpg_cards.specs.Constants.{constant_form, factor_constant, first_constant}
 use Rattle.rpg_cards.specs.Files.{output_file, output_file_name}
+use Rattle.rpg_cards.specs.Groups.{groups, output_role}
 use Rattle.rpg_cards.specs.Names.{first_some, form_of_name}
 use Rattle.rpg_cards.specs.declared.constants.Constant.TheVariants.{Text}
 use Rattle.rpg_cards.specs.declared.names.Defined.{Defined}
@@ -36,7 +37,7 @@ use Rattle.rpg_translation.specs.Tables.{output_operand_of, unindexed}
 use Rattle.rpg_translation.proofs.Broken.{good_columns, good_indicator, has_heading, has_names, well_placed}
 use Rattle.rpg_translation.proofs.Constants.{constant_leads, stands_itself}
 use Rattle.rpg_translation.proofs.Definitions.{all_defined}
-use Rattle.rpg_translation.proofs.Each.{Each, Seen, each_card}
+use Rattle.rpg_translation.proofs.Each.{AtRole, Each, InGroup, Seen, at_role, each_card, each_group}
 use Rattle.rpg_translation.proofs.Forms.{form_there, name_good}
 use Rattle.rpg_translation.proofs.Names.{name_leads}
 use Rattle.rpg_translation.proofs.OnlyFiles.{BelongsTo, output_before}
@@ -89,9 +90,8 @@ module _ (cards : List SpecCard) (none : Faultless cards) where
     pub inside : f.end ≤ program.length_of (output_file cards)
     pub conditions : bad_in_output f.conditions ≡ false
 
-  pub record IsLineCard (c : SpecCard) : Type 0 where
-    pub line : (r : OutputRecord) → line_on c.spec ≡ Some r → (1 ≤ program.length_of (output_file cards)) × (bad_in_output r.conditions ≡ false)
-    pub field : (f : OutputField) → output_field_on c.spec ≡ Some f → IsOutputFit f
+  abbrev pub IsLineGood : OutputRecord → Type 0
+  IsLineGood r = (1 ≤ program.length_of (output_file cards)) × (bad_in_output r.conditions ≡ false)
 
   field_conditions : (s : Spec) (f : OutputField) → bad_on_card s ≡ false → output_field_on s ≡ Some f → bad_in_output f.conditions ≡ false
   field_conditions (spec.Header h) f good is = cc
@@ -157,8 +157,7 @@ module _ (cards : List SpecCard) (none : Faultless cards) where
         conditions = field_conditions c.spec f (good_indicator cards none before c after split) is;
       }
 
-  pub line_cards : Each IsLineCard cards
-  line_cards = each_card cards IsLineCard (λ before c after split. record {
-    line = λ r is. (line_there before c after r split is, line_conditions c.spec r (good_indicator cards none before c after split) is);
-    field = λ f is. output_fits before c after f split is;
-  })
+  pub line_groups : Each (InGroup IsLineGood IsOutputFit) (groups output_role cards)
+  line_groups = each_group IsLineGood IsOutputFit output_role cards (each_card cards (λ c. AtRole IsLineGood IsOutputFit (output_role c.spec)) (λ before c after split.
+      at_role IsLineGood IsOutputFit (λ r. r.file) (line_on c.spec) (output_field_on c.spec)
+      (λ r is. (line_there before c after r split is, line_conditions c.spec r (good_indicator cards none before c after split) is)) (λ f is. output_fits before c after f split is)))
