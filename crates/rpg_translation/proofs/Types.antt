@@ -1,12 +1,11 @@
 -- The record types of faultless cards break no rule.
-use Rattle.std.proofs.Common.{◌≡◌, ℕ, ◌+◌, ◌-◌, Bool, true, false, not, List, ◌∷◌, ◌++◌, map, Option, Some, refl, sym, ap, ◌∙◌, subst, arith}
-use Rattle.std.proofs.lemmas.Bool.{and_from, eq-eqb, eqb-false, le-leb, ltb-false, not-false, not_from_true, or_parts}
-use Rattle.std.specs.List.{list_any}
+use Rattle.std.proofs.Common.{◌≡◌, ℕ, ◌+◌, ◌-◌, Bool, true, false, List, ◌∷◌, ◌++◌, map, Option, Some, refl, sym, ap, ◌∙◌, subst, arith}
+use Rattle.std.proofs.lemmas.Bool.{and_from, eq-eqb, eqb-false, le-leb, ltb-false, not_from_true, or_parts}
 use Rattle.std.specs.Option.{option_and_then, option_map, option_map_or}
-use Rattle.std.specs.Prelude.{◌&&◌, ◌==◌, is_some, nat_le}
+use Rattle.std.specs.Prelude.{◌==◌, is_some, nat_le}
 use Rattle.rpg_cards.specs.Cards.{calculation_on, input_field_on, type_on}
-use Rattle.rpg_cards.specs.Files.{input_file, input_file_name}
-use Rattle.rpg_cards.specs.Groups.{Group, groups, input_role}
+use Rattle.rpg_cards.specs.Files.{input_file}
+use Rattle.rpg_cards.specs.Groups.{Group, groups, input_role, open_file, open_group}
 use Rattle.rpg_cards.specs.Names.{definition_by, definition_on, field_form, first_some}
 use Rattle.rpg_cards.specs.declared.spec_card.SpecCard.{SpecCard}
 use Rattle.rpg_effect.specs.Forms.{form_at, kind_of}
@@ -15,7 +14,6 @@ use Rattle.rpg_effect.specs.declared.form.FieldForm.{FieldForm}
 use Rattle.rpg_effect.specs.declared.form.Kind.{Kind}
 use Rattle.rpg_effect.specs.declared.form.Kind.TheVariants as kinds
 use Rattle.rpg_effect.specs.declared.input.InputField as row
-use Rattle.rpg_faults.specs.Cards.{is_input_field, is_type}
 use Rattle.rpg_faults.specs.Faults.{Faultless}
 use Rattle.rpg_faults.specs.Indicators.{bad_on_card, bad_on_type}
 use Rattle.rpg_faults.specs.Names.{bad_size_of_field}
@@ -39,7 +37,7 @@ use Rattle.rpg_translation.proofs.Definitions.{IsPlainOf, HasPlain, all_defined,
 use Rattle.rpg_translation.proofs.Each.{AtRole, Each, InGroup, Seen, at_role, each_both, each_card, each_group, each_map, each_passes, each_row}
 use Rattle.rpg_translation.proofs.Marks.{marks_type}
 use Rattle.rpg_translation.proofs.Names.{name_leads}
-use Rattle.rpg_translation.proofs.OnlyFiles.{BelongsTo, input_before}
+use Rattle.rpg_translation.proofs.OnlyFiles.{BelongsTo, input_before, some_open}
 
 -- ---- columns of the record
 
@@ -65,21 +63,17 @@ module _ (cards : List SpecCard) (none : Faultless cards) where
   abbrev pub IsInputFit : InputField → Type 0
   IsInputFit f = fits_columns (length_of (input_file cards)) (input_of (table_of cards) f) (form_at (all_forms (table_of cards)) (number_in (fields_of cards) f.name)) ≡ true
 
-  type_before : Seen cards (λ before c after. is_input_field c ≡ true → list_any is_type before ≡ true)
-  type_before before c after split is = behind (is_input_field c) (list_any is_type before) is (or_parts _ _ (has_heading cards none before c after split)).0
-    where
-      behind : (a b : Bool) → a ≡ true → (a && not b) ≡ false → b ≡ true
-      behind true b is h = not-false b h
-      behind false b is h = cc
+  type_before : Seen cards (λ before c after. is_some (input_field_on c.spec) ≡ true → is_some (open_group input_role before) ≡ true)
+  type_before before c after split is = some_open (is_some (input_field_on c.spec)) (open_group input_role before) is (or_parts _ _ (has_heading cards none before c after split)).0
 
   input_fits : (before : List SpecCard) (c : SpecCard) (after : List SpecCard) (f : InputField) → cards ≡ before ++ c ∷ after → input_field_on c.spec ≡ Some f →
       IsInputFit f
   input_fits before c after f split is =
-      let file : BelongsTo cards (input_file_name before) (input_file cards) = input_before cards none before (c ∷ after) split (type_before before c after split (ap is_some is)) in
-      let inside : outside_record (file_by (input_file_name before) cards) f ≡ false =
-      subst (λ (o : Option InputField). option_map_or (outside_record (file_by (input_file_name before) cards)) o false ≡ false) is (inside_file cards none before c after split) in
+      let file : BelongsTo cards (open_file input_role before) (input_file cards) = input_before cards none before (c ∷ after) split (type_before before c after split (ap is_some is)) in
+      let inside : outside_record (file_by (open_file input_role before) cards) f ≡ false =
+      subst (λ (o : Option InputField). option_map_or (outside_record (file_by (open_file input_role before) cards)) o false ≡ false) is (inside_file cards none before c after split) in
       let size : bad_size_of_field f ≡ false = subst (λ (o : Option InputField). option_map_or bad_size_of_field o false ≡ false) is (or_parts _ _ (good_size cards none before c after split)).0 in
-      let plain : HasPlain (f.to + 1 - f.from) (field_form f) = field_plain (file_by (input_file_name before) cards) f inside size in
+      let plain : HasPlain (f.to + 1 - f.from) (field_form f) = field_plain (file_by (open_file input_role before) cards) f inside size in
       let defines : definition_on c.spec ≡ Some (f.name, Some plain.0) =
       ap (λ o. first_some (option_map (λ (x : InputField). (x.name, field_form x)) o) (option_and_then definition_by (calculation_on c.spec))) is ∙ ap (λ o. Some (f.name, o)) plain.1 in
       let leads = name_leads cards f.name plain.0 (all_defined cards none) (has_form cards none before c after f.name plain.0 split defines) in

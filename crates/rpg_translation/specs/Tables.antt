@@ -2,7 +2,7 @@
 use Rattle.std.specs.List.{filter_map}
 use Rattle.std.specs.Option.{option_map}
 use Rattle.std.specs.Prelude.{ℕ, false, List, [], ◌∷◌, map, Option, None, Some, slice_get}
-use Rattle.rpg_cards.specs.Groups.{Group, groups, input_role, output_role}
+use Rattle.rpg_cards.specs.Groups.{Group, Role, followers, groups, input_role, output_role}
 use Rattle.rpg_cards.specs.declared.spec_card.SpecCard.{SpecCard}
 use Rattle.rpg_cards.specs.declared.constants.Constant.TheVariants.{Text}
 use Rattle.rpg_translation.specs.Fields.{Table, number_in, constant_number}
@@ -26,6 +26,11 @@ use Rattle.rpg_spec.specs.declared.input.InputField.{InputField}
 use Rattle.rpg_spec.specs.declared.input.RecordType.{RecordType}
 use Rattle.rpg_spec.specs.declared.output.OutputField.{OutputField}
 use Rattle.rpg_spec.specs.declared.output.OutputRecord.{OutputRecord}
+use Rattle.rpg_spec.specs.declared.spec.Spec.{Spec}
+
+-- the group that a heading opens; rows don't tell its file
+abbrev pub group_of : {H F : Type 0} → (Spec → Role H F) → H → List SpecCard → Group H F
+group_of role h behind = record { heading = h; followers = followers role behind; file = None }
 
 -- ---- record types
 
