@@ -1,2 +1,3 @@
 pub mod IndexLemmas
 pub mod ConstantLemmas
+pub mod GroupLemmas

@@ -1,13 +1,11 @@
--- The files of a source, and which file a card belongs to.
+-- The files of a source.
 use Rattle.std.specs.Prelude.{ℕ, List, [], ◌∷◌, Bool, true, false, nat_eq, if◌then◌else◌, Option, None, Some}
-use Rattle.std.specs.Option.{option_and_then, option_or}
 use Rattle.std.specs.Cmp.Lexicographic.{pointwise}
-use Rattle.rpg_cards.specs.Cards.{file_on, type_on, line_on}
+use Rattle.rpg_cards.specs.Cards.{file_on}
 use Rattle.rpg_cards.specs.declared.spec_card.SpecCard.{SpecCard}
 use Rattle.rpg_spec.specs.declared.file.Direction.{Direction}
 use Rattle.rpg_spec.specs.declared.file.Direction.TheVariants.{Input, Output}
 use Rattle.rpg_spec.specs.declared.file.FileSpec.{FileSpec}
-use Rattle.rpg_spec.specs.declared.spec.Spec.{Spec}
 
 abbrev pub is_input : Direction → Bool
 is_input Input = true
@@ -40,23 +38,3 @@ input_file cards = first_file (λ f. is_input f.direction) cards
 -- the file that lines are put out on
 abbrev pub output_file : List SpecCard → Option FileSpec
 output_file cards = first_file (λ f. is_output f.direction) cards
-
--- ---- a type or record card without a file name belongs to the file of the one before
-
-abbrev pub latest : (Spec → Option (List ℕ)) → List SpecCard → Option (List ℕ)
-latest named [] = None
-latest named (c ∷ cs) = option_or (latest named cs) (named c.spec)
-
-abbrev pub type_file_on : Spec → Option (List ℕ)
-type_file_on s = option_and_then (λ t. t.file) (type_on s)
-
-abbrev pub line_file_on : Spec → Option (List ℕ)
-line_file_on s = option_and_then (λ r. r.file) (line_on s)
-
--- the file name of the last of these type cards
-abbrev pub input_file_name : List SpecCard → Option (List ℕ)
-input_file_name cards = latest type_file_on cards
-
--- the file name of the last of these record cards
-abbrev pub output_file_name : List SpecCard → Option (List ℕ)
-output_file_name cards = latest line_file_on cards

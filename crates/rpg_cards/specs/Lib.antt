@@ -3,5 +3,6 @@ pub mod Names
 pub mod Constants
 pub mod SameConstants
 pub mod Files
+pub mod Groups
 pub mod Operations
 pub mod Index

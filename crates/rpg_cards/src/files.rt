@@ -1,4 +1,4 @@
-//! The files of a source, and which file a card belongs to.
+//! The files of a source.
 
 ghost use Rattle.std.specs.Prelude.{◌≡◌, option_copied};
 ghost use Rattle.std.specs.Option.{option_map};

@@ -1,51 +1,23 @@
 -- What cards come to with one more behind them.
 use Rattle.std.proofs.Common.{◌≡◌, ℕ, ◌+◌, ◌≤◌, Bool, true, false, not, cond, map, List, [], ◌∷◌, ◌++◌, length, take, Option, None, Some, refl, sym, ap, ◌∙◌, arith, append_assoc, append-nil, length-append}
-use Rattle.std.proofs.lemmas.Bool.{lt-ltb}
 use Rattle.std.proofs.lemmas.List.Folds.{list_any-append}
-use Rattle.std.proofs.lemmas.List.Sums.{fold-append, sum_by-append, sum_by-cons, sum_by_push}
+use Rattle.std.proofs.lemmas.List.Sums.{fold-append, sum_by-append, sum_by_push}
 use Rattle.std.proofs.Math.Seq.{take-append-add}
 use Rattle.std.specs.Cmp.Lexicographic.{bytes_decides, pointwise}
 use Rattle.std.specs.List.{list_any}
-use Rattle.std.specs.Option.{option_or, option_to_list}
-use Rattle.std.specs.Prelude.{◌||◌, count_by, fold, is_some, nat_eq, nat_lt, sum_by}
+use Rattle.std.specs.Option.{option_to_list}
+use Rattle.std.specs.Prelude.{◌||◌, fold, is_some, nat_eq, sum_by}
 use Rattle.rpg_cards.proofs.ConstantLemmas.{constants_push}
 use Rattle.rpg_cards.specs.Constants.{constant_form, constants, new_first, new_second}
-use Rattle.rpg_cards.specs.Files.{latest}
 use Rattle.rpg_cards.specs.Names.{Definition, defined_as, definition_on, definitions, definitions_on, first_form, form_of_name, unless_given}
 use Rattle.rpg_cards.specs.declared.constants.Constant.{Constant}
 use Rattle.rpg_cards.specs.declared.names.Defined.{Defined}
 use Rattle.rpg_cards.specs.declared.spec_card.SpecCard.{SpecCard}
 use Rattle.rpg_effect.specs.declared.form.FieldForm.{FieldForm}
-use Rattle.rpg_spec.specs.declared.spec.Spec.{Spec}
 use Rattle.rpg_symbols.specs.Fields.{Fields, form_of, given, size_of}
 use Rattle.rpg_faults.specs.Limits.{constant_bytes, form_bytes, given_names, is_of, name_bytes, names, with_definition}
 use Rattle.rpg_faults.specs.Names.{is_missing}
 use Rattle.rpg_faults.specs.Seen.{bytes_of, constant_bytes_by, constants_by, name_bytes_by, names_by, one_if_some}
-
--- ---- cards of a kind
-
--- there is one where there are more than none
-pub any_counted : {X : Type 0} (p : X → Bool) (xs : List X) → nat_lt 0 (count_by p xs) ≡ list_any p xs
-any_counted p [] = refl
-any_counted p (x ∷ xs) = ap (nat_lt 0) (sum_by-cons (λ y. cond (p y) 1 0) x xs) ∙ by_cases (p x) (any_counted p xs)
-  where
-    by_cases : (b : Bool) → nat_lt 0 (count_by p xs) ≡ list_any p xs → nat_lt 0 (cond b 1 0 + count_by p xs) ≡ (b || list_any p xs)
-    by_cases true rest = lt-ltb 0 (1 + count_by p xs) (omega arith)
-    by_cases false rest = let same : 0 + count_by p xs ≡ count_by p xs = omega arith in ap (nat_lt 0) same ∙ rest
-
--- ---- the latest of what cards name
-
-pub latest-push : (named : Spec → Option (List ℕ)) (before : List SpecCard) (c : SpecCard) → latest named (before ++ c ∷ []) ≡ option_or (named c.spec) (latest named before)
-latest-push named [] c = by_cases (named c.spec)
-  where
-    by_cases : (o : Option (List ℕ)) → o ≡ option_or o None
-    by_cases None = refl
-    by_cases (Some n) = refl
-latest-push named (d ∷ ds) c = ap (λ o. option_or o (named d.spec)) (latest-push named ds c) ∙ by_cases (named c.spec)
-  where
-    by_cases : (o : Option (List ℕ)) → option_or (option_or o (latest named ds)) (named d.spec) ≡ option_or o (option_or (latest named ds) (named d.spec))
-    by_cases None = refl
-    by_cases (Some n) = refl
 
 -- ---- names that are known
 

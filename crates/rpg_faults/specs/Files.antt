@@ -1,9 +1,9 @@
 -- F7: files that are unknown, given twice or of the wrong direction.
 use Rattle.std.specs.Prelude.{ℕ, List, Bool, true, false, not, ◌||◌, Option, None, Some, is_some, is_none}
 use Rattle.std.specs.Option.{option_map_or}
-use Rattle.std.specs.List.{list_any}
 use Rattle.rpg_cards.specs.Cards.{file_on, type_on, line_on}
 use Rattle.rpg_cards.specs.Files.{file_named, input_file, output_file, is_input, is_output}
+use Rattle.rpg_cards.specs.Groups.{input_role, open_group, output_role}
 use Rattle.rpg_text.specs.Texts.{is_between}
 use Rattle.rpg_cards.specs.declared.spec_card.SpecCard.{SpecCard}
 use Rattle.rpg_spec.specs.declared.file.Device.{Device}
@@ -11,7 +11,6 @@ use Rattle.rpg_spec.specs.declared.file.Device.TheVariants.{Printer, Other}
 use Rattle.rpg_spec.specs.declared.file.Direction.{Direction}
 use Rattle.rpg_spec.specs.declared.file.Direction.TheVariants.{Input, Output}
 use Rattle.rpg_spec.specs.declared.file.FileSpec.{FileSpec}
-use Rattle.rpg_faults.specs.Cards.{is_type, is_line}
 
 -- ---- F cards
 
@@ -41,8 +40,8 @@ lacks_file cards direction is_behind (Some name) = is_unfit direction (file_name
 abbrev pub breaks_files : List SpecCard → List SpecCard → SpecCard → Bool
 breaks_files cards before c =
     option_map_or (bad_file before) (file_on c.spec) false
-    || option_map_or (λ t. lacks_file cards is_input (list_any is_type before) t.file) (type_on c.spec) false
-    || option_map_or (λ r. lacks_file cards is_output (list_any is_line before) r.file) (line_on c.spec) false
+    || option_map_or (λ t. lacks_file cards is_input (is_some (open_group input_role before)) t.file) (type_on c.spec) false
+    || option_map_or (λ r. lacks_file cards is_output (is_some (open_group output_role before)) r.file) (line_on c.spec) false
 
 -- ---- the source as a whole
 

@@ -1,14 +1,15 @@
 -- F6: limits that are passed, at the card with which a count or a sum passes.
-use Rattle.std.specs.Prelude.{ℕ, ◌+◌, Bool, ◌&&◌, ◌||◌, nat_eq, nat_le, nat_lt, List, [], ◌∷◌, ◌++◌, length, count_by, fold, map, sum_by, Option, None, Some, if◌then◌else◌}
+use Rattle.std.specs.Prelude.{ℕ, ◌+◌, Bool, ◌&&◌, ◌||◌, nat_eq, nat_le, nat_lt, List, [], ◌∷◌, ◌++◌, length, fold, map, sum_by, Option, None, Some, if◌then◌else◌}
 use Rattle.std.specs.Cmp.Lexicographic.{pointwise}
 use Rattle.std.specs.List.{list_any}
 use Rattle.rpg_cards.specs.Constants.{constant_form, constants}
+use Rattle.rpg_cards.specs.Groups.{Role, calculation_role, groups, input_role, open_followers, output_role}
 use Rattle.rpg_cards.specs.Names.{Definition, definitions}
 use Rattle.rpg_cards.specs.declared.constants.Constant.{Constant}
 use Rattle.rpg_cards.specs.declared.spec_card.SpecCard.{SpecCard}
 use Rattle.rpg_effect.specs.declared.form.FieldForm.{FieldForm}
+use Rattle.rpg_spec.specs.declared.spec.Spec.{Spec}
 use Rattle.rpg_symbols.specs.Fields.{given, size_of}
-use Rattle.rpg_faults.specs.Cards.{is_type, is_input_field, is_calculation, is_line, is_output_field}
 
 -- what the cards come to is within a limit before a card, and past it with the card
 abbrev pub passes : (List SpecCard → ℕ) → ℕ → List SpecCard → SpecCard → Bool
@@ -16,24 +17,17 @@ passes measure limit before c = nat_le (measure before) limit && nat_lt limit (m
 
 -- ---- counts
 
-abbrev pub count_of : (SpecCard → Bool) → List SpecCard → ℕ
-count_of kind cards = count_by kind cards
-
--- the cards of a kind since the last heading
-abbrev pub counts : (SpecCard → Bool) → (SpecCard → Bool) → ℕ → SpecCard → ℕ
-counts heading kind n c = if heading c then 0 else if kind c then n + 1 else n
-
-abbrev pub count_since : (SpecCard → Bool) → (SpecCard → Bool) → List SpecCard → ℕ
-count_since heading kind cards = fold (counts heading kind) 0 cards
+abbrev pub group_count : {H F : Type 0} → (Spec → Role H F) → List SpecCard → ℕ
+group_count role cards = length (groups role cards)
 
 -- 1,000 calculations, 200 record types with 500 fields each, 1,000 lines with 200 fields each
 abbrev pub passes_count : List SpecCard → SpecCard → Bool
 passes_count before c =
-    passes (count_of is_calculation) 1000 before c
-    || passes (count_of is_type) 200 before c
-    || passes (count_since is_type is_input_field) 500 before c
-    || passes (count_of is_line) 1000 before c
-    || passes (count_since is_line is_output_field) 200 before c
+    passes (group_count calculation_role) 1000 before c
+    || passes (group_count input_role) 200 before c
+    || passes (open_followers input_role) 500 before c
+    || passes (group_count output_role) 1000 before c
+    || passes (open_followers output_role) 200 before c
 
 -- ---- names: the given ones, and then each with its first definition
 

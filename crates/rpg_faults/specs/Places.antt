@@ -2,7 +2,8 @@
 use Rattle.std.specs.Prelude.{ℕ, List, length, Bool, false, ◌||◌, ◌==◌, nat_lt, Option, None, Some}
 use Rattle.std.specs.Option.{option_map_or, option_and_then}
 use Rattle.rpg_cards.specs.Cards.{input_field_on, output_field_on}
-use Rattle.rpg_cards.specs.Files.{file_named, input_file_name, output_file_name}
+use Rattle.rpg_cards.specs.Files.{file_named}
+use Rattle.rpg_cards.specs.Groups.{input_role, open_file, output_role}
 use Rattle.rpg_cards.specs.Names.{form_of_name}
 use Rattle.rpg_cards.specs.declared.names.Defined.{Defined}
 use Rattle.rpg_cards.specs.declared.names.Defined.TheVariants.{Missing, Bad, Good}
@@ -42,5 +43,5 @@ outside_line cards file f = f.end == 0 || is_past file f.end || field_is_wider c
 
 abbrev pub misplaces : List SpecCard → List SpecCard → SpecCard → Bool
 misplaces cards before c =
-    option_map_or (outside_record (file_by (input_file_name before) cards)) (input_field_on c.spec) false
-    || option_map_or (outside_line cards (file_by (output_file_name before) cards)) (output_field_on c.spec) false
+    option_map_or (outside_record (file_by (open_file input_role before) cards)) (input_field_on c.spec) false
+    || option_map_or (outside_line cards (file_by (open_file output_role before) cards)) (output_field_on c.spec) false

@@ -1,7 +1,8 @@
 -- F15: H where nothing is rounded, and MVR where no division has left a remainder.
-use Rattle.std.specs.Prelude.{◌-◌, List, length, Bool, true, false, not, ◌&&◌, ◌||◌, Option, None, Some, slice_get}
+use Rattle.std.specs.Prelude.{List, Bool, true, false, not, ◌&&◌, ◌||◌, Option, None, Some}
 use Rattle.std.specs.Option.{option_map_or}
 use Rattle.rpg_cards.specs.Cards.{calculation_on}
+use Rattle.rpg_cards.specs.Groups.{calculation_role, open_heading}
 use Rattle.rpg_cards.specs.Operations.{columns}
 use Rattle.rpg_cards.specs.declared.spec_card.SpecCard.{SpecCard}
 use Rattle.rpg_spec.specs.declared.calculation.CalculationSpec.{CalculationSpec}
@@ -14,42 +15,22 @@ cannot_half_adjust None = true
 cannot_half_adjust (Some o) = not (columns o).may_half_adjust
 
 abbrev pub is_division : Option Operation → Bool
-is_division None = false
-is_division (Some op.Add) = false
-is_division (Some op.Subtract) = false
-is_division (Some op.Multiply) = false
 is_division (Some op.Divide) = true
-is_division (Some op.MoveRemainder) = false
-is_division (Some op.ZeroAdd) = false
-is_division (Some op.ZeroSubtract) = false
-is_division (Some op.Compare) = false
-is_division (Some op.Move) = false
-is_division (Some op.MoveLeft) = false
+is_division _ = false
 
 abbrev pub is_remainder : Option Operation → Bool
-is_remainder None = false
-is_remainder (Some op.Add) = false
-is_remainder (Some op.Subtract) = false
-is_remainder (Some op.Multiply) = false
-is_remainder (Some op.Divide) = false
 is_remainder (Some op.MoveRemainder) = true
-is_remainder (Some op.ZeroAdd) = false
-is_remainder (Some op.ZeroSubtract) = false
-is_remainder (Some op.Compare) = false
-is_remainder (Some op.Move) = false
-is_remainder (Some op.MoveLeft) = false
+is_remainder _ = false
 
 -- a division that isn't half adjusted leaves a remainder
 abbrev pub leaves_remainder : CalculationSpec → Bool
 leaves_remainder k = is_division k.operation && not k.half_adjust
 
-abbrev pub follows_division : Option SpecCard → Bool
-follows_division None = false
-follows_division (Some c) = option_map_or leaves_remainder (calculation_on c.spec) false
+abbrev pub follows_division : List SpecCard → Bool
+follows_division before = option_map_or leaves_remainder (open_heading calculation_role before) false
 
--- a calculation behind that card
-abbrev pub rounds_wrongly : Option SpecCard → CalculationSpec → Bool
-rounds_wrongly last k = (k.half_adjust && cannot_half_adjust k.operation) || (is_remainder k.operation && not (follows_division last))
+abbrev pub rounds_wrongly : Bool → CalculationSpec → Bool
+rounds_wrongly is_behind_division k = (k.half_adjust && cannot_half_adjust k.operation) || (is_remainder k.operation && not is_behind_division)
 
 abbrev pub bad_rounding : List SpecCard → SpecCard → Bool
-bad_rounding before c = option_map_or (rounds_wrongly (slice_get before (length before - 1))) (calculation_on c.spec) false
+bad_rounding before c = option_map_or (rounds_wrongly (follows_division before)) (calculation_on c.spec) false

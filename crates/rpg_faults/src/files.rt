@@ -5,7 +5,6 @@ ghost use Rattle.rpg_faults.specs.Files as files;
 ghost use Rattle.rpg_faults.specs.Seen.{IsSeen};
 ghost use Rattle.rpg_cards.specs.Files as known;
 
-use crate::order::{has_line, has_type};
 use crate::seen::Seen;
 use rpg_cards::{IndexedCards, SpecCard, file_named, input_file, output_file};
 use rpg_spec::{Device, Direction, FileSpec, Word};
@@ -18,11 +17,11 @@ pub(crate) fn breaks_files(source: &IndexedCards, seen: &Seen, card: &SpecCard) 
         return bad_file(seen.before, file);
     }
     if let Some(record_type) = card.record_type() {
-        return lacks_input_file(source, has_type(source, seen), &record_type.file);
+        return lacks_input_file(source, seen.sheets.types.is_open, &record_type.file);
     }
     match card.line() {
         None => false,
-        Some(line) => lacks_output_file(source, has_line(source, seen), &line.file),
+        Some(line) => lacks_output_file(source, seen.sheets.lines.is_open, &line.file),
     }
 }
 

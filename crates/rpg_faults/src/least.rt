@@ -105,7 +105,7 @@ fn breaks(
         FaultCode::F8 => bad_indicator(card),
         FaultCode::F9 => bad_columns(card),
         FaultCode::F12 => lacks_heading(source, seen, card),
-        FaultCode::F15 => bad_rounding(seen.before, card),
+        FaultCode::F15 => bad_rounding(source, seen, card),
         FaultCode::F16 => misplaces(source, seen, card),
     }
 }

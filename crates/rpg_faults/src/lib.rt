@@ -4,6 +4,7 @@
 mod columns;
 mod fault;
 mod files;
+mod groups;
 mod indicators;
 mod least;
 mod limits;

@@ -35,22 +35,24 @@ fn passes_count(source: &IndexedCards, seen: &Seen, card: &SpecCard) -> bool
     requires { IsSeen source.now seen.now }
     ensures { result ≡ limits.passes_count seen.now.before.now card.now }
 {
-    let before = seen.counts;
-    let with = seen.counts_with(source, card);
+    let before = seen.sheets;
+    let with = seen.sheets_with(source, card);
     passes(
-        before.calculations as u64,
-        with.calculations as u64,
+        before.calculations.number as u64,
+        with.calculations.number as u64,
         CALCULATIONS,
-    ) || passes(before.types as u64, with.types as u64, RECORD_TYPES)
+    ) || passes(
+        before.types.number as u64,
+        with.types.number as u64,
+        RECORD_TYPES,
+    ) || passes(
+        before.types.followers as u64,
+        with.types.followers as u64,
+        FIELDS_OF_A_TYPE,
+    ) || passes(before.lines.number as u64, with.lines.number as u64, LINES)
         || passes(
-            before.fields_of_type as u64,
-            with.fields_of_type as u64,
-            FIELDS_OF_A_TYPE,
-        )
-        || passes(before.lines as u64, with.lines as u64, LINES)
-        || passes(
-            before.fields_of_line as u64,
-            with.fields_of_line as u64,
+            before.lines.followers as u64,
+            with.lines.followers as u64,
             FIELDS_OF_A_LINE,
         )
 }

@@ -15,11 +15,11 @@ pub(crate) fn misplaces(source: &IndexedCards, seen: &Seen, card: &SpecCard) -> 
     ensures { result ≡ places.misplaces source.now seen.now.before.now card.now }
 {
     if let Some(field) = card.input_field() {
-        return outside_record(seen.lengths.record, field);
+        return outside_record(seen.sheets.types.record_length, field);
     }
     match card.output_field() {
         None => false,
-        Some(field) => outside_line(source, seen.lengths.line, field),
+        Some(field) => outside_line(source, seen.sheets.lines.record_length, field),
     }
 }
 

@@ -1,25 +1,28 @@
 //! F15: H where nothing is rounded, and MVR where no division has left a remainder.
 
-ghost use Rattle.std.specs.Prelude.{◌≡◌, option_copied};
+ghost use Rattle.std.specs.Prelude.{◌≡◌};
 ghost use Rattle.rpg_faults.specs.Rounding as rounding;
+ghost use Rattle.rpg_faults.specs.Seen.{IsSeen};
 
-use rpg_cards::{SpecCard, columns};
+use crate::seen::Seen;
+use rpg_cards::{IndexedCards, SpecCard, columns};
 use rpg_spec::{CalculationSpec, Operation};
 
-pub(crate) fn bad_rounding(before: &[SpecCard], card: &SpecCard) -> bool
-    ensures { result ≡ rounding.bad_rounding before.now card.now }
+pub(crate) fn bad_rounding(source: &IndexedCards, seen: &Seen, card: &SpecCard) -> bool
+    requires { IsSeen source.now seen.now }
+    ensures { result ≡ rounding.bad_rounding seen.now.before.now card.now }
 {
     match card.calculation() {
         None => false,
-        Some(calculation) => rounds_wrongly(before.last(), calculation),
+        Some(calculation) => rounds_wrongly(seen.leaves_remainder, calculation),
     }
 }
 
-fn rounds_wrongly(last: Option<&SpecCard>, calculation: &CalculationSpec) -> bool
-    ensures { result ≡ rounding.rounds_wrongly (option_copied last.entry) calculation.now }
+fn rounds_wrongly(is_behind_division: bool, calculation: &CalculationSpec) -> bool
+    ensures { result ≡ rounding.rounds_wrongly is_behind_division calculation.now }
 {
     (calculation.half_adjust && cannot_half_adjust(calculation.operation))
-        || (is_remainder(calculation.operation) && !follows_division(last))
+        || (is_remainder(calculation.operation) && !is_behind_division)
 }
 
 fn cannot_half_adjust(operation: Option<Operation>) -> bool
@@ -31,16 +34,10 @@ fn cannot_half_adjust(operation: Option<Operation>) -> bool
     }
 }
 
-fn follows_division(last: Option<&SpecCard>) -> bool
-    ensures { result ≡ rounding.follows_division (option_copied last.entry) }
+pub(crate) fn leaves_remainder(calculation: &CalculationSpec) -> bool
+    ensures { result ≡ rounding.leaves_remainder calculation.now }
 {
-    let Some(card) = last else {
-        return false;
-    };
-    match card.calculation() {
-        None => false,
-        Some(calculation) => is_division(calculation.operation) && !calculation.half_adjust,
-    }
+    is_division(calculation.operation) && !calculation.half_adjust
 }
 
 fn is_division(operation: Option<Operation>) -> bool

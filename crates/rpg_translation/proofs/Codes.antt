@@ -1,9 +1,10 @@
--- The instructions of faultless cards break no rule, card by card.
-use Rattle.std.proofs.Common.{◌≡◌, ℕ, false, List, [], ◌∷◌, ◌++◌, Option, None, Some, refl, sym, ap, ◌∙◌, subst}
+-- The instructions of faultless cards break no rule, calculation by calculation.
+use Rattle.std.proofs.Common.{◌≡◌, ℕ, false, List, ◌∷◌, ◌++◌, Option, None, Some, refl, sym, ap, ◌∙◌, subst}
 use Rattle.std.proofs.lemmas.Bool.{or_left, or_parts, or_right}
 use Rattle.std.specs.Option.{option_and_then, option_map, option_map_or}
 use Rattle.rpg_cards.specs.Cards.{calculation_on}
 use Rattle.rpg_cards.specs.Constants.{constant_of, factor_constant, first_constant, second_constant, stands_in}
+use Rattle.rpg_cards.specs.Groups.{calculation_role, groups}
 use Rattle.rpg_cards.specs.declared.spec_card.SpecCard.{SpecCard}
 use Rattle.rpg_effect.specs.declared.operation.Instruction.{Instruction}
 use Rattle.rpg_faults.specs.Columns.{bad_calculation, bad_operation}
@@ -23,11 +24,10 @@ use Rattle.rpg_spec.specs.declared.spec.Spec.TheVariants as spec
 use Rattle.rpg_translation.specs.Code.{code_of, instruction_of, instruction_on}
 use Rattle.rpg_translation.specs.Fields.{Table, table_of}
 use Rattle.rpg_translation.specs.Program.{program_of}
-use Rattle.rpg_translation.specs.Tables.{with_first}
 use Rattle.rpg_translation.proofs.Broken.{good_columns, good_indicator, has_names, right_operands}
 use Rattle.rpg_translation.proofs.Calculations.{IsGood, IsRight, instruction_right}
 use Rattle.rpg_translation.proofs.Constants.{constant_leads, stands_itself}
-use Rattle.rpg_translation.proofs.Each.{Each, each_both, each_card}
+use Rattle.rpg_translation.proofs.Each.{AtRole, Each, InGroup, at_role, each_always, each_both, each_card, each_group, each_map, each_row_if_any}
 use Rattle.rpg_translation.proofs.Operands.{HasLiteral}
 
 -- ---- what a calculation card has
@@ -48,12 +48,6 @@ first_on (spec.Output o) k is = cc
 
 second_on : (s : Spec) (k : CalculationSpec) → calculation_on s ≡ Some k → second_constant s ≡ option_and_then factor_constant k.factor_2
 second_on s k is = ap (λ o. option_and_then (λ (x : CalculationSpec). option_and_then factor_constant x.factor_2) o) is
-
--- ---- rows made of calculations
-
-each_with_first : {Y : Type 0} (P : Y → Type 0) (o : Option Y) (ys : List Y) → ((y : Y) → o ≡ Some y → P y) → Each P ys → Each P (with_first o ys)
-each_with_first P None ys here h = h
-each_with_first P (Some y) ys here h = (here y refl, h)
 
 module _ (cards : List SpecCard) (none : Faultless cards) (allowance : ℕ) where
   first_literal : (before : List SpecCard) (c : SpecCard) (after : List SpecCard) (k : CalculationSpec) → cards ≡ before ++ c ∷ after →
@@ -87,32 +81,32 @@ module _ (cards : List SpecCard) (none : Faultless cards) (allowance : ℕ) wher
         second_literal = second_literal before c after k split is;
       }
 
-  -- ---- all cards
+  -- ---- all calculations
 
-  abbrev IsCodeCard : SpecCard → Type 0
-  IsCodeCard c = (i : Instruction ℕ) → option_and_then (instruction_on (table_of cards)) (calculation_on c.spec) ≡ Some i → IsRight cards none allowance i
+  abbrev IsCodeGood : CalculationSpec → Type 0
+  IsCodeGood k = (i : Instruction ℕ) → instruction_on (table_of cards) k ≡ Some i → IsRight cards none allowance i
 
-  on_card : (before : List SpecCard) (c : SpecCard) (after : List SpecCard) → cards ≡ before ++ c ∷ after → IsCodeCard c
-  on_card before c after split i e = by_card (calculation_on c.spec) refl e
+  calculation_right : (before : List SpecCard) (c : SpecCard) (after : List SpecCard) → cards ≡ before ++ c ∷ after → (k : CalculationSpec) → calculation_on c.spec ≡ Some k → IsCodeGood k
+  calculation_right before c after split k is i e = by_operation k.operation refl e
     where
-      by_operation : (k : CalculationSpec) → calculation_on c.spec ≡ Some k → (o : Option Operation) → k.operation ≡ o →
-          option_map (instruction_of (table_of cards) k) o ≡ Some i → IsRight cards none allowance i
-      by_operation k is None has h = cc
-      by_operation k is (Some o) has h = let same : instruction_of (table_of cards) k o ≡ i = cc in
+      by_operation : (o : Option Operation) → k.operation ≡ o → option_map (instruction_of (table_of cards) k) o ≡ Some i → IsRight cards none allowance i
+      by_operation None has h = cc
+      by_operation (Some o) has h = let same : instruction_of (table_of cards) k o ≡ i = cc in
           subst (IsRight cards none allowance) same (instruction_right cards none allowance k o (calculation_good before c after k o split is has))
 
-      by_card : (x : Option CalculationSpec) → calculation_on c.spec ≡ x → option_and_then (instruction_on (table_of cards)) x ≡ Some i → IsRight cards none allowance i
-      by_card None is h = cc
-      by_card (Some k) is h = by_operation k is k.operation refl h
+  abbrev NothingFollows : ⊥ → Type 0
+  NothingFollows f = Unit {0}
 
-  code_from : (cs : List SpecCard) → Each IsCodeCard cs → Each (IsRight cards none allowance) (code_of (table_of cards) cs)
-  code_from [] good = tt
-  code_from (c ∷ cs) good = each_with_first (IsRight cards none allowance) (option_and_then (instruction_on (table_of cards)) (calculation_on c.spec)) (code_of (table_of cards) cs) good.0 (code_from cs good.1)
+  code_groups : Each (InGroup IsCodeGood NothingFollows) (groups calculation_role cards)
+  code_groups = each_group IsCodeGood NothingFollows calculation_role cards (each_card cards (λ c. AtRole IsCodeGood NothingFollows (calculation_role c.spec)) (λ before c after split.
+      at_role IsCodeGood NothingFollows (λ k. None) (calculation_on c.spec) None (calculation_right before c after split) (λ f no. tt)))
 
   pub code_passes : Each IsInstructionRow (code_of (table_of cards) cards) → (r : PlaceRule) →
       Each (λ i. place_breaks r (program_of cards allowance) Detail i ≡ false) (code_of (table_of cards) cards)
   code_passes rows r =
-      each_both (IsRight cards none allowance) IsInstructionRow (λ i. place_breaks r (program_of cards allowance) Detail i ≡ false) (code_of (table_of cards) cards) (λ i right row. right row r) (code_from cards (each_card cards IsCodeCard on_card)) rows
+      let right = each_map (InGroup IsCodeGood NothingFollows) (λ g. IsCodeGood g.heading) (groups calculation_role cards) (λ g good. good.0) code_groups in
+      each_both (IsRight cards none allowance) IsInstructionRow (λ i. place_breaks r (program_of cards allowance) Detail i ≡ false) (code_of (table_of cards) cards) (λ i right row. right row r)
+      (each_row_if_any (IsRight cards none allowance) (λ g. instruction_on (table_of cards) g.heading) (groups calculation_role cards) right) rows
 
 -- ---- no returns among them
 
@@ -128,14 +122,14 @@ no_return table k op.Compare = refl
 no_return table k op.Move = refl
 no_return table k op.MoveLeft = refl
 
-on_calculation : (table : Table) (x : Option CalculationSpec) (i : Instruction ℕ) → option_and_then (instruction_on table) x ≡ Some i → is_return i ≡ false
-on_calculation table None i e = cc
-on_calculation table (Some k) i e = by_operation k.operation e
+no_return_on : (table : Table) (k : CalculationSpec) (i : Instruction ℕ) → instruction_on table k ≡ Some i → is_return i ≡ false
+no_return_on table k i e = by_operation k.operation e
   where
     by_operation : (o : Option Operation) → option_map (instruction_of table k) o ≡ Some i → is_return i ≡ false
     by_operation None h = cc
     by_operation (Some o) h = let same : instruction_of table k o ≡ i = cc in subst (λ (x : Instruction ℕ). is_return x ≡ false) same (no_return table k o)
 
-pub no_returns : (table : Table) (cs : List SpecCard) → Each (λ i. is_return i ≡ false) (code_of table cs)
-no_returns table [] = tt
-no_returns table (c ∷ cs) = each_with_first (λ i. is_return i ≡ false) (option_and_then (instruction_on table) (calculation_on c.spec)) (code_of table cs) (on_calculation table (calculation_on c.spec)) (no_returns table cs)
+pub no_returns : (table : Table) (cards : List SpecCard) → Each (λ i. is_return i ≡ false) (code_of table cards)
+no_returns table cards =
+    each_row_if_any (λ i. is_return i ≡ false) (λ g. instruction_on table g.heading) (groups calculation_role cards)
+    (each_always (λ g. (i : Instruction ℕ) → instruction_on table g.heading ≡ Some i → is_return i ≡ false) (groups calculation_role cards) (λ g. no_return_on table g.heading))

@@ -5,7 +5,7 @@ use Rattle.std.specs.List.{list_any}
 use Rattle.std.specs.Option.{option_and_then, option_map, option_map_or, option_to_list}
 use Rattle.std.specs.Prelude.{◌&&◌, nat_le, is_none}
 use Rattle.rpg_cards.specs.Cards.{calculation_on, input_field_on}
-use Rattle.rpg_cards.specs.Files.{input_file_name}
+use Rattle.rpg_cards.specs.Groups.{input_role, open_file}
 use Rattle.rpg_cards.specs.Names.{Definition, definition_by, definition_on, field_form, first_some, form_of_name, plain_form, sized_form}
 use Rattle.rpg_cards.specs.declared.names.Defined.TheVariants.{Good}
 use Rattle.rpg_cards.specs.declared.spec_card.SpecCard.{SpecCard}
@@ -82,15 +82,15 @@ defined_on_card file (Some f) p size inside result = no_array_in (f.to + 1 - f.f
 
 module _ (cards : List SpecCard) (none : Faultless cards) where
   -- an input field is inside the records of its file
-  pub inside_file : Seen cards (λ before c after. option_map_or (outside_record (file_by (input_file_name before) cards)) (input_field_on c.spec) false ≡ false)
+  pub inside_file : Seen cards (λ before c after. option_map_or (outside_record (file_by (open_file input_role before) cards)) (input_field_on c.spec) false ≡ false)
   inside_file before c after split =
-      subst (λ (all : List SpecCard). option_map_or (outside_record (file_by (input_file_name before) all)) (input_field_on c.spec) false ≡ false) (sym split)
+      subst (λ (all : List SpecCard). option_map_or (outside_record (file_by (open_file input_role before) all)) (input_field_on c.spec) false ≡ false) (sym split)
       (or_parts _ _ (well_placed cards none before c after split)).0
 
   pub all_defined : AreDefined cards
   all_defined = each_card cards (λ c. IsDefinition (definition_on c.spec)) (λ before c after split.
       let size = or_parts _ _ (good_size cards none before c after split) in
-      defined_on_card (file_by (input_file_name before) cards) (input_field_on c.spec) (calculation_on c.spec) size.0 (inside_file before c after split) size.1)
+      defined_on_card (file_by (open_file input_role before) cards) (input_field_on c.spec) (calculation_on c.spec) size.0 (inside_file before c after split) size.1)
 
   -- a definition has the form of its name
   pub has_form : (before : List SpecCard) (c : SpecCard) (after : List SpecCard) (name : List ℕ) (form : FieldForm) → cards ≡ before ++ c ∷ after →

@@ -1,12 +1,13 @@
 -- What holds of each element of a list, as a chain of pairs.
-use Rattle.std.proofs.Common.{◌≡◌, zero, suc, Bool, true, false, List, [], ◌∷◌, ◌++◌, map, Option, None, Some, refl, sym, ◌∙◌, subst, arith, append-nil, append_assoc}
+use Rattle.std.proofs.Common.{◌≡◌, ℕ, zero, suc, Bool, true, false, List, [], ◌∷◌, ◌++◌, map, Option, None, Some, refl, sym, ◌∙◌, subst, arith, append-nil, append_assoc}
 use Rattle.std.proofs.lemmas.Bool.{and_from, or_from}
-use Rattle.std.specs.List.{list_all, list_any}
-use Rattle.std.specs.Option.{option_map}
+use Rattle.std.specs.List.{cons_option, filter_map, list_all, list_any}
+use Rattle.std.specs.Option.{option_or}
 use Rattle.std.specs.Prelude.{All}
+use Rattle.rpg_cards.specs.Groups.{Role, Heading, Follower, Apart, Group, following, followers, groups, groups_from, opening, role_of}
 use Rattle.rpg_cards.specs.declared.spec_card.SpecCard.{SpecCard}
 use Rattle.rpg_rules.proofs.Kept.{NoneTrue}
-use Rattle.rpg_translation.specs.Tables.{with_first, only_with_first}
+use Rattle.rpg_spec.specs.declared.spec.Spec.{Spec}
 
 abbrev pub Each : {X : Type 0} → (X → Type 0) → List X → Type 0
 Each P [] = Unit {0}
@@ -38,17 +39,62 @@ none_broken test [] h k e = cc
 none_broken test (x ∷ xs) h zero e = absurd (let no = h.0 in cc)
 none_broken test (x ∷ xs) h (suc k) e = none_broken test xs h.1 k e
 
--- ---- rows made of cards
+-- ---- rows
 
-pub each_first : {X Y : Type 0} (P : Y → Type 0) (f : X → Y) (o : Option X) (ys : List Y) → ((x : X) → o ≡ Some x → P (f x)) → Each P ys →
-    Each P (with_first (option_map f o) ys)
-each_first P f None ys here h = h
-each_first P f (Some x) ys here h = (here x refl, h)
+pub each_row : {X Y : Type 0} (P : X → Type 0) (Q : Y → Type 0) (row : X → Y) (xs : List X) → ((x : X) → P x → Q (row x)) → Each P xs → Each Q (map row xs)
+each_row P Q row [] f h = tt
+each_row P Q row (x ∷ xs) f h = (f x h.0, each_row P Q row xs f h.1)
 
-pub only_each_first : {X Y : Type 0} (P : Y → Type 0) (f : X → Y) (o : Option X) (ys : List Y) → ((x : X) → o ≡ Some x → P (f x)) → Each P ys →
-    Each P (only_with_first (option_map f o) ys)
-only_each_first P f None ys here h = tt
-only_each_first P f (Some x) ys here h = (here x refl, h)
+pub each_row_if_any : {X Y : Type 0} (Q : Y → Type 0) (row : X → Option Y) (xs : List X) → Each (λ x. (y : Y) → row x ≡ Some y → Q y) xs → Each Q (filter_map row xs)
+each_row_if_any Q row [] h = tt
+each_row_if_any Q row (x ∷ xs) h = by_cases (row x) h.0 (each_row_if_any Q row xs h.1)
+  where
+    by_cases : (o : Option _) → ((y : _) → o ≡ Some y → Q y) → Each Q (filter_map row xs) → Each Q (cons_option o (filter_map row xs))
+    by_cases None here rest = rest
+    by_cases (Some y) here rest = (here y refl, rest)
+
+pub each_always : {X : Type 0} (P : X → Type 0) (xs : List X) → ((x : X) → P x) → Each P xs
+each_always P [] f = tt
+each_always P (x ∷ xs) f = (f x, each_always P xs f)
+
+-- ---- groups of cards
+
+module _ {H F : Type 0} (P : H → Type 0) (Q : F → Type 0) where
+  -- what holds of a heading, or of a follower
+  abbrev pub AtRole : Role H F → Type 0
+  AtRole (Heading h name) = P h
+  AtRole (Follower f) = Q f
+  AtRole Apart = Unit {0}
+
+  abbrev pub InGroup : Group H F → Type 0
+  InGroup g = P g.heading × Each Q g.followers
+
+  pub at_role : (file : H → Option (List ℕ)) (o : Option H) (p : Option F) → ((h : H) → o ≡ Some h → P h) → ((f : F) → p ≡ Some f → Q f) → AtRole (role_of file o p)
+  at_role file (Some h) p heads follows = heads h refl
+  at_role file None (Some f) heads follows = follows f refl
+  at_role file None None heads follows = tt
+
+  each_follower : (role : Spec → Role H F) (cards : List SpecCard) → Each (λ c. AtRole (role c.spec)) cards → Each Q (followers role cards)
+  each_follower role [] good = tt
+  each_follower role (c ∷ cs) good = by_role (role c.spec) good.0 (each_follower role cs good.1)
+    where
+      by_role : (r : Role H F) → AtRole r → Each Q (followers role cs) → Each Q (following r (followers role cs))
+      by_role (Heading h name) here rest = tt
+      by_role (Follower f) here rest = (here, rest)
+      by_role Apart here rest = rest
+
+  each_group_from : (role : Spec → Role H F) (file : Option (List ℕ)) (cards : List SpecCard) → Each (λ c. AtRole (role c.spec)) cards → Each InGroup (groups_from role file cards)
+  each_group_from role file [] good = tt
+  each_group_from role file (c ∷ cs) good = by_role (role c.spec) good.0 (λ own. each_group_from role own cs good.1)
+    where
+      by_role : (r : Role H F) → AtRole r → ((own : Option (List ℕ)) → Each InGroup (groups_from role own cs)) → Each InGroup (opening r file (followers role cs) (λ own. groups_from role own cs))
+      by_role (Heading h name) here rest = ((here, each_follower role cs good.1), rest (option_or name file))
+      by_role (Follower f) here rest = rest file
+      by_role Apart here rest = rest file
+
+  -- groups of good cards are good
+  pub each_group : (role : Spec → Role H F) (cards : List SpecCard) → Each (λ c. AtRole (role c.spec)) cards → Each InGroup (groups role cards)
+  each_group role cards good = each_group_from role None cards good
 
 -- ---- cards, each seen with those before it and those behind it
 

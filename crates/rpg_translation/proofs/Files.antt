@@ -1,14 +1,13 @@
 -- The one input file and the one output file of a faultless source.
-use Rattle.std.proofs.Common.{◌≡◌, ◌≤◌, Bool, true, false, cond, ◌||◌, List, [], ◌∷◌, ◌++◌, Option, None, Some, refl, sym, ap, ◌∙◌, subst, append_assoc}
+use Rattle.std.proofs.Common.{◌≡◌, ◌≤◌, Bool, true, false, cond, List, [], ◌∷◌, ◌++◌, Option, None, Some, refl, sym, ap, ◌∙◌, subst, append_assoc}
 use Rattle.std.proofs.lemmas.Bool.{not-false}
-use Rattle.std.proofs.lemmas.List.Folds.{list_any-append}
-use Rattle.std.specs.List.{list_any}
-use Rattle.std.specs.Option.{option_or}
-use Rattle.std.specs.Prelude.{ℕ}
+use Rattle.std.specs.Option.{option_map_or, option_or}
+use Rattle.std.specs.Prelude.{ℕ, is_some}
+use Rattle.rpg_cards.proofs.GroupLemmas.{open_group-push}
 use Rattle.rpg_cards.specs.Cards.{file_on}
-use Rattle.rpg_cards.specs.Files.{first_file, or_later, file_named, has_name, latest}
+use Rattle.rpg_cards.specs.Files.{first_file, or_later, file_named, has_name}
+use Rattle.rpg_cards.specs.Groups.{Group, Role, file_of, open_file, open_group, role_of, with_card}
 use Rattle.rpg_cards.specs.declared.spec_card.SpecCard.{SpecCard}
-use Rattle.rpg_faults.proofs.SeenLemmas.{latest-push}
 use Rattle.rpg_faults.specs.Files.{is_unfit, lacks_file}
 use Rattle.rpg_faults.specs.Places.{file_by}
 use Rattle.rpg_spec.specs.declared.file.Direction.{Direction}
@@ -70,7 +69,7 @@ module _ (cards : List SpecCard) (dir : Direction → Bool)
   pub named_is : (name : List ℕ) (f : FileSpec) → file_named name cards ≡ Some f → dir f.direction ≡ true → IsOnly f
   named_is name f e fits = named_from name f [] cards refl e fits
 
-  -- ---- the file that the last heading names
+  -- ---- the file of the open group
 
   abbrev pub HasFile : Option (List ℕ) → Type 0
   HasFile name = (f : FileSpec) × (file_by name cards ≡ Some f) × IsOnly f
@@ -79,30 +78,29 @@ module _ (cards : List SpecCard) (dir : Direction → Bool)
   fit name None e h = cc
   fit name (Some f) e h = (f, e, named_is name f e (not-false (dir f.direction) h))
 
-  named_or_latest : (is_behind : Bool) (name last : Option (List ℕ)) → lacks_file cards dir is_behind name ≡ false → (is_behind ≡ true → HasFile last) →
+  named_or_before : (is_behind : Bool) (name last : Option (List ℕ)) → lacks_file cards dir is_behind name ≡ false → (is_behind ≡ true → HasFile last) →
       HasFile (option_or name last)
-  named_or_latest is_behind None last h known = known (not-false is_behind h)
-  named_or_latest is_behind (Some name) last h known = fit name (file_named name cards) refl h
+  named_or_before is_behind None last h known = known (not-false is_behind h)
+  named_or_before is_behind (Some name) last h known = fit name (file_named name cards) refl h
 
-  -- the cards before each name a file, where one of them is a heading
-  module _ (named : Spec → Option (List ℕ)) (heading : SpecCard → Bool)
-      (names : (before : List SpecCard) (c : SpecCard) (after : List SpecCard) → cards ≡ before ++ c ∷ after → heading c ≡ true → lacks_file cards dir (list_any heading before) (named c.spec) ≡ false)
-      (bare : (c : SpecCard) → heading c ≡ false → named c.spec ≡ None) where
-    abbrev NamesFile : List SpecCard → Type 0
-    NamesFile before = list_any heading before ≡ true → HasFile (latest named before)
+  -- each heading names a file, or is behind another
+  module _ {H F : Type 0} (file : H → Option (List ℕ)) (heading : Spec → Option H) (follower : Spec → Option F)
+      (names : Seen cards (λ before c after. option_map_or (λ h. lacks_file cards dir (is_some (open_group (λ s. role_of file (heading s) (follower s)) before)) (file h)) (heading c.spec) false ≡ false)) where
+    abbrev role : Spec → Role H F
+    role s = role_of file (heading s) (follower s)
 
-    one_more : (before : List SpecCard) (c : SpecCard) (after : List SpecCard) → cards ≡ before ++ c ∷ after → NamesFile before → (b : Bool) → heading c ≡ b →
-        (list_any heading before || (b || false)) ≡ true → HasFile (option_or (named c.spec) (latest named before))
-    one_more before c after split known true is some = named_or_latest (list_any heading before) (named c.spec) (latest named before) (names before c after split is) known
-    one_more before c after split known false is some = subst (λ o. HasFile (option_or o (latest named before))) (sym (bare c is)) (known (or_false_true (list_any heading before) some))
-      where
-        or_false_true : (b : Bool) → (b || false) ≡ true → b ≡ true
-        or_false_true true e = refl
-        or_false_true false e = cc
+    abbrev IsFiled : Option (Group H F) → Type 0
+    IsFiled o = is_some o ≡ true → HasFile (file_of o)
 
-    step : Seen cards (λ before c after. NamesFile before → NamesFile (before ++ c ∷ []))
-    step before c after split known some =
-        subst HasFile (sym (latest-push named before c)) (one_more before c after split known (heading c) refl (sym (list_any-append heading before (c ∷ [])) ∙ some))
+    one_more : (o : Option (Group H F)) (h : Option H) (f : Option F) → option_map_or (λ x. lacks_file cards dir (is_some o) (file x)) h false ≡ false → IsFiled o →
+        IsFiled (with_card o (role_of file h f))
+    one_more o (Some h) f fits known some = named_or_before (is_some o) (file h) (file_of o) fits known
+    one_more None None (Some f) fits known some = known some
+    one_more (Some g) None (Some f) fits known some = known some
+    one_more o None None fits known some = known some
 
-    pub file_before : (before after : List SpecCard) → cards ≡ before ++ after → list_any heading before ≡ true → HasFile (latest named before)
-    file_before before after split = front_keeps cards NamesFile (λ some. cc) step before after split
+    step : Seen cards (λ before c after. IsFiled (open_group role before) → IsFiled (open_group role (before ++ c ∷ [])))
+    step before c after split known = subst IsFiled (sym (open_group-push role before c)) (one_more (open_group role before) (heading c.spec) (follower c.spec) (names before c after split) known)
+
+    pub file_before : (before after : List SpecCard) → cards ≡ before ++ after → is_some (open_group role before) ≡ true → HasFile (open_file role before)
+    file_before before after split = front_keeps cards (λ front. IsFiled (open_group role front)) (λ some. cc) step before after split

@@ -1,10 +1,10 @@
 -- The lines of faultless cards break no rule.
-use Rattle.std.proofs.Common.{◌≡◌, ℕ, zero, ◌≤◌, Bool, true, false, not, List, [], ◌∷◌, Option, refl, arith}
+use Rattle.std.proofs.Common.{◌≡◌, ℕ, zero, ◌≤◌, Bool, true, false, not, List, [], ◌∷◌, map, Option, refl, arith}
 use Rattle.std.proofs.lemmas.Bool.{and_from, le-leb, ne_eqb, not_from_true}
 use Rattle.std.specs.List.{list_all}
 use Rattle.std.specs.Prelude.{All, ◌&&◌}
-use Rattle.rpg_cards.specs.Cards.{line_on, output_field_on}
 use Rattle.rpg_cards.specs.Files.{output_file}
+use Rattle.rpg_cards.specs.Groups.{Group, groups, output_role}
 use Rattle.rpg_cards.specs.declared.spec_card.SpecCard.{SpecCard}
 use Rattle.rpg_effect.specs.Editing.{width_as}
 use Rattle.rpg_edit.specs.declared.how.How.TheVariants as hows
@@ -16,7 +16,6 @@ use Rattle.rpg_effect.specs.declared.form.Kind.{Kind}
 use Rattle.rpg_effect.specs.declared.form.Kind.TheVariants as kinds
 use Rattle.rpg_effect.specs.declared.line.LineField.{LineField}
 use Rattle.rpg_faults.specs.Faults.{Faultless}
-use Rattle.rpg_faults.specs.Indicators.{bad_in_output}
 use Rattle.rpg_program.specs.Constants.{word_at}
 use Rattle.rpg_program.specs.Kept.{IsAlternativeRow, IsConditionRow, IsLineFieldRow, IsLineRow}
 use Rattle.rpg_program.specs.Object.{LineRow, Object}
@@ -29,10 +28,10 @@ use Rattle.rpg_spec.specs.declared.output.OutputRecord.{OutputRecord}
 use Rattle.rpg_translation.specs.Fields.{table_of}
 use Rattle.rpg_translation.specs.Program as made
 use Rattle.rpg_translation.specs.Program.{program_of}
-use Rattle.rpg_translation.specs.Tables.{conditions_of, line_field_of, line_fields_of, line_of, lines_of}
+use Rattle.rpg_translation.specs.Tables.{conditions_of, line_field_of, line_of, lines_of}
 use Rattle.rpg_translation.proofs.Conditions.{all_may_be_asked, no_mr, places_asked}
-use Rattle.rpg_translation.proofs.Each.{Each, each_both, each_first, each_map, each_of_all, each_passes, none_passes, only_each_first}
-use Rattle.rpg_translation.proofs.Outputs.{IsLineCard, IsOutputFit, forms, line_cards}
+use Rattle.rpg_translation.proofs.Each.{Each, InGroup, each_both, each_map, each_of_all, each_passes, each_row, none_passes}
+use Rattle.rpg_translation.proofs.Outputs.{IsLineGood, IsOutputFit, forms, line_groups}
 
 -- a field that isn't edited is as wide as it is long
 plain_width : (k : Kind) (form : Option FieldForm) → width_as k form hows.Plain ≡ length_of form
@@ -77,31 +76,29 @@ module _ (cards : List SpecCard) (none : Faultless cards) (allowance : ℕ) wher
         asked = places_asked (conditions_of f.conditions) (no_mr f.conditions fit.conditions) row.conditions;
       }
 
-  fields_right : (cs : List SpecCard) → Each (IsLineCard cards none) cs → Each IsFieldGood (line_fields_of (table_of cards) cs)
-  fields_right [] good = tt
-  fields_right (c ∷ cs) good = only_each_first IsFieldGood (line_field_of (table_of cards)) (output_field_on c.spec) (line_fields_of (table_of cards) cs) (λ f is. field_right f (good.0.field f is)) (fields_right cs good.1)
-
   -- ---- a line whose cards are good
 
   alternative_asked : (conditions : List Condition) → Each (λ (c : Condition). c.indicator ≡ 129 → ⊥) conditions → All IsAlternativeRow (conditions ∷ []) →
       list_all (list_all may_be_asked) (conditions ∷ []) ≡ true
   alternative_asked conditions good rows = and_from _ _ (all_may_be_asked conditions good (each_of_all IsConditionRow conditions (rows zero conditions (omega arith)).each)) refl
 
-  line_right : (cs : List SpecCard) (o : OutputRecord) → Each (IsLineCard cards none) cs → 1 ≤ len → bad_in_output o.conditions ≡ false →
-      IsLineRow (line_of (table_of cards) cs o) → (r : LineRule) → line_breaks r program (line_of (table_of cards) cs o) ≡ false
+  line_right : (g : Group OutputRecord OutputField) → InGroup (IsLineGood cards none) (IsOutputFit cards none) g → IsLineRow (line_of (table_of cards) g) → (r : LineRule) →
+      line_breaks r program (line_of (table_of cards) g) ≡ false
   unfolding program len program_of line_breaks
-  line_right cs o good there asks row r = by_rule r
+  line_right g good row r = by_rule r
     where
       fields : List (LineField ℕ)
-      fields = line_fields_of (table_of cards) cs
+      fields = map (line_field_of (table_of cards)) g.followers
 
       right : Each IsFieldRight fields
-      right = each_both IsFieldGood IsLineFieldRow IsFieldRight fields (λ f h g. h g) (fields_right cs good) (each_of_all IsLineFieldRow fields row.fields)
+      right =
+          each_both IsFieldGood IsLineFieldRow IsFieldRight fields (λ f h g. h g)
+          (each_row (IsOutputFit cards none) IsFieldGood (line_field_of (table_of cards)) g.followers field_right good.1) (each_of_all IsLineFieldRow fields row.fields)
 
-      by_rule : (r : LineRule) → line_breaks r program (line_of (table_of cards) cs o) ≡ false
-      by_rule V2 = ne_eqb len 0 (λ e. omega (arith, there, e))
+      by_rule : (r : LineRule) → line_breaks r program (line_of (table_of cards) g) ≡ false
+      by_rule V2 = ne_eqb len 0 (λ e. let there = good.0.0 in omega (arith, there, e))
       by_rule V8 = refl
-      by_rule V9 = not_from_true _ (alternative_asked (conditions_of o.conditions) (no_mr o.conditions asks) row.alternatives)
+      by_rule V9 = not_from_true _ (alternative_asked (conditions_of g.heading.conditions) (no_mr g.heading.conditions good.0.1) row.alternatives)
       by_rule V10 = not_from_true _ (each_passes (is_field_there program) fields (each_map IsFieldRight (λ f. is_field_there program f ≡ true) fields (λ f h. h.there) right))
       by_rule V11 = not_from_true _ (each_passes (is_field_edited program) fields (each_map IsFieldRight (λ f. is_field_edited program f ≡ true) fields (λ f h. h.edited) right))
       by_rule V12 = none_passes (lacks_word program) fields (each_map IsFieldRight (λ f. lacks_word program f ≡ false) fields (λ f h. h.worded) right)
@@ -112,12 +109,9 @@ module _ (cards : List SpecCard) (none : Faultless cards) (allowance : ℕ) wher
   abbrev IsLineRight : LineRow → Type 0
   IsLineRight l = IsLineRow l → (r : LineRule) → line_breaks r program l ≡ false
 
-  lines_right : (cs : List SpecCard) → Each (IsLineCard cards none) cs → Each IsLineRight (lines_of (table_of cards) cs)
-  unfolding len
-  lines_right [] good = tt
-  lines_right (c ∷ cs) good = each_first IsLineRight (line_of (table_of cards) cs) (line_on c.spec) (lines_of (table_of cards) cs) (λ o is row r. line_right cs o good.1 (good.0.line o is).0 (good.0.line o is).1 row r) (lines_right cs good.1)
-
   pub lines_pass : Each IsLineRow (lines_of (table_of cards) cards) → (r : LineRule) →
       Each (λ l. line_breaks r (program_of cards allowance) l ≡ false) (lines_of (table_of cards) cards)
   unfolding program
-  lines_pass rows r = each_both IsLineRight IsLineRow (λ l. line_breaks r (program_of cards allowance) l ≡ false) (lines_of (table_of cards) cards) (λ l right row. right row r) (lines_right cards (line_cards cards none)) rows
+  lines_pass rows r =
+      each_both IsLineRight IsLineRow (λ l. line_breaks r (program_of cards allowance) l ≡ false) (lines_of (table_of cards) cards) (λ l right row. right row r)
+      (each_row (InGroup (IsLineGood cards none) (IsOutputFit cards none)) IsLineRight (line_of (table_of cards)) (groups output_role cards) line_right (line_groups cards none)) rows

@@ -1,13 +1,12 @@
 -- Which file a field belongs to: the one that records are read from, or the one that lines are put out on.
-use Rattle.std.proofs.Common.{◌≡◌, ◌≤◌, true, false, List, ◌∷◌, ◌++◌, ℕ, Option, None, Some, refl, sym, ap, subst}
+use Rattle.std.proofs.Common.{◌≡◌, ◌≤◌, Bool, true, false, List, ◌∷◌, ◌++◌, ℕ, Option, None, Some, refl, sym, subst}
 use Rattle.std.proofs.lemmas.Bool.{or_parts, and_parts, leb-true, not-false}
-use Rattle.std.specs.List.{list_any}
-use Rattle.std.specs.Option.{option_map_or, option_and_then}
-use Rattle.std.specs.Prelude.{is_some}
-use Rattle.rpg_cards.specs.Cards.{file_on, type_on, line_on}
-use Rattle.rpg_cards.specs.Files.{input_file, output_file, input_file_name, output_file_name, is_input, is_output, type_file_on, line_file_on}
+use Rattle.std.specs.Option.{option_map_or}
+use Rattle.std.specs.Prelude.{◌&&◌, is_none, is_some}
+use Rattle.rpg_cards.specs.Cards.{file_on, input_field_on, line_on, output_field_on, type_on}
+use Rattle.rpg_cards.specs.Files.{input_file, output_file, is_input, is_output}
+use Rattle.rpg_cards.specs.Groups.{input_role, open_file, open_group, output_role}
 use Rattle.rpg_cards.specs.declared.spec_card.SpecCard.{SpecCard}
-use Rattle.rpg_faults.specs.Cards.{is_type, is_line}
 use Rattle.rpg_faults.specs.Faults.{Faultless}
 use Rattle.rpg_faults.specs.Files.{bad_file, bad_for, lacks_file}
 use Rattle.rpg_faults.specs.Places.{file_by}
@@ -24,6 +23,12 @@ use Rattle.rpg_translation.proofs.Files.{file_before}
 none_from : {X : Type 0} (o : Option X) → is_some o ≡ false → o ≡ None
 none_from None e = refl
 none_from (Some x) e = cc
+
+-- what a follower asks for
+pub some_open : {X : Type 0} (follows : Bool) (o : Option X) → follows ≡ true → (follows && is_none o) ≡ false → is_some o ≡ true
+some_open true None is h = cc
+some_open true (Some x) is h = refl
+some_open false o is h = cc
 
 low : (first last n : ℕ) → is_between first last n ≡ true → first ≤ n
 low first last n e = leb-true _ _ (and_parts _ _ e).0
@@ -47,14 +52,14 @@ module _ (cards : List SpecCard) (none : Faultless cards) where
   good_file : Seen cards (λ before c after. option_map_or (bad_file before) (file_on c.spec) false ≡ false)
   good_file before c after split = (or_parts _ _ (or_parts _ _ (good_files cards none before c after split)).0).0
 
-  good_type : Seen cards (λ before c after. option_map_or (λ t. lacks_file cards is_input (list_any is_type before) t.file) (type_on c.spec) false ≡ false)
+  good_type : Seen cards (λ before c after. option_map_or (λ t. lacks_file cards is_input (is_some (open_group input_role before)) t.file) (type_on c.spec) false ≡ false)
   good_type before c after split =
-      subst (λ (all : List SpecCard). option_map_or (λ t. lacks_file all is_input (list_any is_type before) t.file) (type_on c.spec) false ≡ false) (sym split)
+      subst (λ (all : List SpecCard). option_map_or (λ t. lacks_file all is_input (is_some (open_group input_role before)) t.file) (type_on c.spec) false ≡ false) (sym split)
       (or_parts _ _ (or_parts _ _ (good_files cards none before c after split)).0).1
 
-  good_line : Seen cards (λ before c after. option_map_or (λ r. lacks_file cards is_output (list_any is_line before) r.file) (line_on c.spec) false ≡ false)
+  good_line : Seen cards (λ before c after. option_map_or (λ r. lacks_file cards is_output (is_some (open_group output_role before)) r.file) (line_on c.spec) false ≡ false)
   good_line before c after split =
-      subst (λ (all : List SpecCard). option_map_or (λ r. lacks_file all is_output (list_any is_line before) r.file) (line_on c.spec) false ≡ false) (sym split)
+      subst (λ (all : List SpecCard). option_map_or (λ r. lacks_file all is_output (is_some (open_group output_role before)) r.file) (line_on c.spec) false ≡ false) (sym split)
       (or_parts _ _ (good_files cards none before c after split)).1
 
   good_for : (before : List SpecCard) (c : SpecCard) (after : List SpecCard) (f : FileSpec) → cards ≡ before ++ c ∷ after → file_on c.spec ≡ Some f →
@@ -71,26 +76,14 @@ module _ (cards : List SpecCard) (none : Faultless cards) where
 
   -- ---- the file of a type and of a line
 
-  type_names : (before : List SpecCard) (o : Option RecordType) → is_some o ≡ true →
-      option_map_or (λ t. lacks_file cards is_input (list_any is_type before) t.file) o false ≡ false →
-      lacks_file cards is_input (list_any is_type before) (option_and_then (λ t. t.file) o) ≡ false
-  type_names before None is h = cc
-  type_names before (Some t) is h = h
-
-  line_names : (before : List SpecCard) (o : Option OutputRecord) → is_some o ≡ true →
-      option_map_or (λ r. lacks_file cards is_output (list_any is_line before) r.file) o false ≡ false →
-      lacks_file cards is_output (list_any is_line before) (option_and_then (λ r. r.file) o) ≡ false
-  line_names before None is h = cc
-  line_names before (Some r) is h = h
-
-  pub input_before : (before after : List SpecCard) → cards ≡ before ++ after → list_any is_type before ≡ true →
-      BelongsTo cards (input_file_name before) (input_file cards)
+  pub input_before : (before after : List SpecCard) → cards ≡ before ++ after → is_some (open_group input_role before) ≡ true →
+      BelongsTo cards (open_file input_role before) (input_file cards)
   input_before before after split some =
-      let h = file_before cards is_input input_once type_file_on is_type (λ b c a s is. type_names b (type_on c.spec) is (good_type b c a s)) (λ c no. ap (option_and_then (λ t. t.file)) (none_from (type_on c.spec) no)) before after split some in
+      let h = file_before cards is_input input_once (λ (t : RecordType). t.file) type_on input_field_on good_type before after split some in
       (h.0, h.1, h.2.0, h.2.1)
 
-  pub output_before : (before after : List SpecCard) → cards ≡ before ++ after → list_any is_line before ≡ true →
-      BelongsTo cards (output_file_name before) (output_file cards)
+  pub output_before : (before after : List SpecCard) → cards ≡ before ++ after → is_some (open_group output_role before) ≡ true →
+      BelongsTo cards (open_file output_role before) (output_file cards)
   output_before before after split some =
-      let h = file_before cards is_output output_once line_file_on is_line (λ b c a s is. line_names b (line_on c.spec) is (good_line b c a s)) (λ c no. ap (option_and_then (λ r. r.file)) (none_from (line_on c.spec) no)) before after split some in
+      let h = file_before cards is_output output_once (λ (r : OutputRecord). r.file) line_on output_field_on good_line before after split some in
       (h.0, h.1, h.2.0, h.2.1)

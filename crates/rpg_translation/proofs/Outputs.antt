@@ -1,13 +1,13 @@
 -- What stands on the output cards of a faultless source is there, and has room in the line.
-use Rattle.std.proofs.Common.{◌≡◌, ℕ, ◌≤◌, Bool, true, false, not, List, [], ◌∷◌, ◌++◌, length, Option, None, Some, refl, sym, ap, ◌∙◌, subst, arith, append_assoc}
-use Rattle.std.proofs.lemmas.Bool.{ltb-false, not-false, not_from_false, or_left, or_parts, or_right}
-use Rattle.std.proofs.lemmas.List.Folds.{list_any-append}
-use Rattle.std.specs.List.{list_any}
+use Rattle.std.proofs.Common.{◌≡◌, ℕ, ◌≤◌, true, false, List, [], ◌∷◌, ◌++◌, length, Option, None, Some, refl, sym, ap, ◌∙◌, subst, arith, append_assoc}
+use Rattle.std.proofs.lemmas.Bool.{ltb-false, not_from_false, or_left, or_parts}
 use Rattle.std.specs.Option.{option_and_then, option_map, option_map_or}
 use Rattle.std.specs.Prelude.{◌&&◌, is_none, is_some, nat_lt}
+use Rattle.rpg_cards.proofs.GroupLemmas.{open_group-push}
 use Rattle.rpg_cards.specs.Cards.{calculation_on, line_on, output_field_on}
 use Rattle.rpg_cards.specs.Constants.{constant_form, factor_constant, first_constant}
-use Rattle.rpg_cards.specs.Files.{output_file, output_file_name}
+use Rattle.rpg_cards.specs.Files.{output_file}
+use Rattle.rpg_cards.specs.Groups.{groups, open_file, open_group, output_role, role_of, with_card}
 use Rattle.rpg_cards.specs.Names.{first_some, form_of_name}
 use Rattle.rpg_cards.specs.declared.constants.Constant.TheVariants.{Text}
 use Rattle.rpg_cards.specs.declared.names.Defined.{Defined}
@@ -19,7 +19,6 @@ use Rattle.rpg_effect.specs.declared.form.FieldForm.{FieldForm}
 use Rattle.rpg_effect.specs.declared.operation.Index.TheVariants as indexes
 use Rattle.rpg_effect.specs.declared.operation.Operand.{Operand}
 use Rattle.rpg_effect.specs.declared.row.Shape.TheVariants as shapes
-use Rattle.rpg_faults.specs.Cards.{is_line, is_output_field}
 use Rattle.rpg_faults.specs.Faults.{Faultless}
 use Rattle.rpg_faults.specs.Indicators.{bad_in_output, bad_on_card}
 use Rattle.rpg_faults.specs.Names.{is_undefined}
@@ -36,10 +35,10 @@ use Rattle.rpg_translation.specs.Tables.{output_operand_of, unindexed}
 use Rattle.rpg_translation.proofs.Broken.{good_columns, good_indicator, has_heading, has_names, well_placed}
 use Rattle.rpg_translation.proofs.Constants.{constant_leads, stands_itself}
 use Rattle.rpg_translation.proofs.Definitions.{all_defined}
-use Rattle.rpg_translation.proofs.Each.{Each, Seen, each_card}
+use Rattle.rpg_translation.proofs.Each.{AtRole, Each, InGroup, Seen, at_role, each_card, each_group}
 use Rattle.rpg_translation.proofs.Forms.{form_there, name_good}
 use Rattle.rpg_translation.proofs.Names.{name_leads}
-use Rattle.rpg_translation.proofs.OnlyFiles.{BelongsTo, output_before}
+use Rattle.rpg_translation.proofs.OnlyFiles.{BelongsTo, output_before, some_open}
 
 -- ---- an operand without an index
 
@@ -89,9 +88,8 @@ module _ (cards : List SpecCard) (none : Faultless cards) where
     pub inside : f.end ≤ program.length_of (output_file cards)
     pub conditions : bad_in_output f.conditions ≡ false
 
-  pub record IsLineCard (c : SpecCard) : Type 0 where
-    pub line : (r : OutputRecord) → line_on c.spec ≡ Some r → (1 ≤ program.length_of (output_file cards)) × (bad_in_output r.conditions ≡ false)
-    pub field : (f : OutputField) → output_field_on c.spec ≡ Some f → IsOutputFit f
+  abbrev pub IsLineGood : OutputRecord → Type 0
+  IsLineGood r = (1 ≤ program.length_of (output_file cards)) × (bad_in_output r.conditions ≡ false)
 
   field_conditions : (s : Spec) (f : OutputField) → bad_on_card s ≡ false → output_field_on s ≡ Some f → bad_in_output f.conditions ≡ false
   field_conditions (spec.Header h) f good is = cc
@@ -115,19 +113,15 @@ module _ (cards : List SpecCard) (none : Faultless cards) where
   line_there : (before : List SpecCard) (c : SpecCard) (after : List SpecCard) (r : OutputRecord) → cards ≡ before ++ c ∷ after → line_on c.spec ≡ Some r →
       1 ≤ program.length_of (output_file cards)
   line_there before c after r split is =
-      let some : list_any is_line (before ++ c ∷ []) ≡ true = list_any-append is_line before (c ∷ []) ∙ or_right (list_any is_line before) _ (or_left (is_line c) false (ap is_some is)) in
-      length_from (output_file_name (before ++ c ∷ [])) (output_before cards none (before ++ c ∷ []) after (split ∙ sym (append_assoc before (c ∷ []) after)) some)
+      let opened = open_group-push output_role before c ∙ ap (λ o. with_card (open_group output_role before) (role_of (λ (x : OutputRecord). x.file) o (output_field_on c.spec))) is in
+      length_from (open_file output_role (before ++ c ∷ [])) (output_before cards none (before ++ c ∷ []) after (split ∙ sym (append_assoc before (c ∷ []) after)) (ap is_some opened))
 
-  line_before : Seen cards (λ before c after. is_output_field c ≡ true → list_any is_line before ≡ true)
-  line_before before c after split is = behind (is_output_field c) (list_any is_line before) is (or_parts _ _ (has_heading cards none before c after split)).1
-    where
-      behind : (a b : Bool) → a ≡ true → (a && not b) ≡ false → b ≡ true
-      behind true b is h = not-false b h
-      behind false b is h = cc
+  line_before : Seen cards (λ before c after. is_some (output_field_on c.spec) ≡ true → is_some (open_group output_role before) ≡ true)
+  line_before before c after split is = some_open (is_some (output_field_on c.spec)) (open_group output_role before) is (or_parts _ _ (has_heading cards none before c after split)).1
 
-  inside_line : Seen cards (λ before c after. option_map_or (outside_line cards (file_by (output_file_name before) cards)) (output_field_on c.spec) false ≡ false)
+  inside_line : Seen cards (λ before c after. option_map_or (outside_line cards (file_by (open_file output_role before) cards)) (output_field_on c.spec) false ≡ false)
   inside_line before c after split =
-      subst (λ (all : List SpecCard). option_map_or (outside_line all (file_by (output_file_name before) all)) (output_field_on c.spec) false ≡ false) (sym split)
+      subst (λ (all : List SpecCard). option_map_or (outside_line all (file_by (open_file output_role before) all)) (output_field_on c.spec) false ≡ false) (sym split)
       (or_parts _ _ (well_placed cards none before c after split)).1
 
   has_constant : (before : List SpecCard) (c : SpecCard) (after : List SpecCard) (f : OutputField) → cards ≡ before ++ c ∷ after → output_field_on c.spec ≡ Some f →
@@ -145,11 +139,11 @@ module _ (cards : List SpecCard) (none : Faultless cards) where
       let names : option_map_or (λ (f : OutputField). is_undefined cards f.name) (output_field_on c.spec) false ≡ false =
       subst (λ (all : List SpecCard). option_map_or (λ (f : OutputField). is_undefined all f.name) (output_field_on c.spec) false ≡ false) (sym split) (or_parts _ _ (has_names cards none before c after split)).1 in
       let defined : is_undefined cards f.name ≡ false = subst (λ (o : Option OutputField). option_map_or (λ f. is_undefined cards f.name) o false ≡ false) is names in
-      let inside : outside_line cards (file_by (output_file_name before) cards) f ≡ false = subst (λ (o : Option OutputField). option_map_or (outside_line cards (file_by (output_file_name before) cards)) o false ≡ false) is (inside_line before c after split) in
+      let inside : outside_line cards (file_by (open_file output_role before) cards) f ≡ false = subst (λ (o : Option OutputField). option_map_or (outside_line cards (file_by (open_file output_role before) cards)) o false ≡ false) is (inside_line before c after split) in
       let three = or_parts _ _ inside in
       let two = or_parts _ _ three.0 in
       let one = or_parts _ _ two.0 in
-      let file : BelongsTo cards (output_file_name before) (output_file cards) = output_before cards none before (c ∷ after) split (line_before before c after split (ap is_some is)) in
+      let file : BelongsTo cards (open_file output_role before) (output_file cards) = output_before cards none before (c ∷ after) split (line_before before c after split (ap is_some is)) in
       let past : nat_lt file.0.record_length f.end ≡ false = subst (λ (o : Option FileSpec). is_past o f.end ≡ false) file.1 one.1 in
       record {
         operand = operand_there f.name f.constant f.end some defined two.1 three.1 (has_constant before c after f split is);
@@ -157,8 +151,7 @@ module _ (cards : List SpecCard) (none : Faultless cards) where
         conditions = field_conditions c.spec f (good_indicator cards none before c after split) is;
       }
 
-  pub line_cards : Each IsLineCard cards
-  line_cards = each_card cards IsLineCard (λ before c after split. record {
-    line = λ r is. (line_there before c after r split is, line_conditions c.spec r (good_indicator cards none before c after split) is);
-    field = λ f is. output_fits before c after f split is;
-  })
+  pub line_groups : Each (InGroup IsLineGood IsOutputFit) (groups output_role cards)
+  line_groups = each_group IsLineGood IsOutputFit output_role cards (each_card cards (λ c. AtRole IsLineGood IsOutputFit (output_role c.spec)) (λ before c after split.
+      at_role IsLineGood IsOutputFit (λ r. r.file) (line_on c.spec) (output_field_on c.spec)
+      (λ r is. (line_there before c after r split is, line_conditions c.spec r (good_indicator cards none before c after split) is)) (λ f is. output_fits before c after f split is)))

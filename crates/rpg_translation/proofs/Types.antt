@@ -1,11 +1,11 @@
 -- The record types of faultless cards break no rule.
-use Rattle.std.proofs.Common.{◌≡◌, ℕ, ◌+◌, ◌-◌, Bool, true, false, not, List, [], ◌∷◌, ◌++◌, Option, Some, refl, sym, ap, ◌∙◌, subst, arith}
-use Rattle.std.proofs.lemmas.Bool.{and_from, eq-eqb, eqb-false, le-leb, ltb-false, not-false, not_from_true, or_parts}
-use Rattle.std.specs.List.{list_any}
+use Rattle.std.proofs.Common.{◌≡◌, ℕ, ◌+◌, ◌-◌, Bool, true, false, List, ◌∷◌, ◌++◌, map, Option, Some, refl, sym, ap, ◌∙◌, subst, arith}
+use Rattle.std.proofs.lemmas.Bool.{and_from, eq-eqb, eqb-false, le-leb, ltb-false, not_from_true, or_parts}
 use Rattle.std.specs.Option.{option_and_then, option_map, option_map_or}
-use Rattle.std.specs.Prelude.{◌&&◌, ◌==◌, is_some, nat_le}
+use Rattle.std.specs.Prelude.{◌==◌, is_some, nat_le}
 use Rattle.rpg_cards.specs.Cards.{calculation_on, input_field_on, type_on}
-use Rattle.rpg_cards.specs.Files.{input_file, input_file_name}
+use Rattle.rpg_cards.specs.Files.{input_file}
+use Rattle.rpg_cards.specs.Groups.{Group, groups, input_role, open_file, open_group}
 use Rattle.rpg_cards.specs.Names.{definition_by, definition_on, field_form, first_some}
 use Rattle.rpg_cards.specs.declared.spec_card.SpecCard.{SpecCard}
 use Rattle.rpg_effect.specs.Forms.{form_at, kind_of}
@@ -14,7 +14,6 @@ use Rattle.rpg_effect.specs.declared.form.FieldForm.{FieldForm}
 use Rattle.rpg_effect.specs.declared.form.Kind.{Kind}
 use Rattle.rpg_effect.specs.declared.form.Kind.TheVariants as kinds
 use Rattle.rpg_effect.specs.declared.input.InputField as row
-use Rattle.rpg_faults.specs.Cards.{is_input_field, is_type}
 use Rattle.rpg_faults.specs.Faults.{Faultless}
 use Rattle.rpg_faults.specs.Indicators.{bad_on_card, bad_on_type}
 use Rattle.rpg_faults.specs.Names.{bad_size_of_field}
@@ -32,13 +31,13 @@ use Rattle.rpg_spec.specs.declared.spec.Spec.{Spec}
 use Rattle.rpg_spec.specs.declared.spec.Spec.TheVariants as spec
 use Rattle.rpg_translation.specs.Fields.{all_forms, fields_of, number_in, table_of}
 use Rattle.rpg_translation.specs.Program.{length_of, program_of}
-use Rattle.rpg_translation.specs.Tables.{input_of, inputs_of, no_shows, type_of, types_of}
+use Rattle.rpg_translation.specs.Tables.{input_of, no_shows, type_of, types_of}
 use Rattle.rpg_translation.proofs.Broken.{good_indicator, good_size, has_heading}
 use Rattle.rpg_translation.proofs.Definitions.{IsPlainOf, HasPlain, all_defined, field_plain, has_form, inside_file}
-use Rattle.rpg_translation.proofs.Each.{Each, Seen, each_both, each_card, each_first, each_map, each_passes, only_each_first}
+use Rattle.rpg_translation.proofs.Each.{AtRole, Each, InGroup, Seen, at_role, each_both, each_card, each_group, each_map, each_passes, each_row}
 use Rattle.rpg_translation.proofs.Marks.{marks_type}
 use Rattle.rpg_translation.proofs.Names.{name_leads}
-use Rattle.rpg_translation.proofs.OnlyFiles.{BelongsTo, input_before}
+use Rattle.rpg_translation.proofs.OnlyFiles.{BelongsTo, input_before, some_open}
 
 -- ---- columns of the record
 
@@ -64,21 +63,17 @@ module _ (cards : List SpecCard) (none : Faultless cards) where
   abbrev pub IsInputFit : InputField → Type 0
   IsInputFit f = fits_columns (length_of (input_file cards)) (input_of (table_of cards) f) (form_at (all_forms (table_of cards)) (number_in (fields_of cards) f.name)) ≡ true
 
-  type_before : Seen cards (λ before c after. is_input_field c ≡ true → list_any is_type before ≡ true)
-  type_before before c after split is = behind (is_input_field c) (list_any is_type before) is (or_parts _ _ (has_heading cards none before c after split)).0
-    where
-      behind : (a b : Bool) → a ≡ true → (a && not b) ≡ false → b ≡ true
-      behind true b is h = not-false b h
-      behind false b is h = cc
+  type_before : Seen cards (λ before c after. is_some (input_field_on c.spec) ≡ true → is_some (open_group input_role before) ≡ true)
+  type_before before c after split is = some_open (is_some (input_field_on c.spec)) (open_group input_role before) is (or_parts _ _ (has_heading cards none before c after split)).0
 
   input_fits : (before : List SpecCard) (c : SpecCard) (after : List SpecCard) (f : InputField) → cards ≡ before ++ c ∷ after → input_field_on c.spec ≡ Some f →
       IsInputFit f
   input_fits before c after f split is =
-      let file : BelongsTo cards (input_file_name before) (input_file cards) = input_before cards none before (c ∷ after) split (type_before before c after split (ap is_some is)) in
-      let inside : outside_record (file_by (input_file_name before) cards) f ≡ false =
-      subst (λ (o : Option InputField). option_map_or (outside_record (file_by (input_file_name before) cards)) o false ≡ false) is (inside_file cards none before c after split) in
+      let file : BelongsTo cards (open_file input_role before) (input_file cards) = input_before cards none before (c ∷ after) split (type_before before c after split (ap is_some is)) in
+      let inside : outside_record (file_by (open_file input_role before) cards) f ≡ false =
+      subst (λ (o : Option InputField). option_map_or (outside_record (file_by (open_file input_role before) cards)) o false ≡ false) is (inside_file cards none before c after split) in
       let size : bad_size_of_field f ≡ false = subst (λ (o : Option InputField). option_map_or bad_size_of_field o false ≡ false) is (or_parts _ _ (good_size cards none before c after split)).0 in
-      let plain : HasPlain (f.to + 1 - f.from) (field_form f) = field_plain (file_by (input_file_name before) cards) f inside size in
+      let plain : HasPlain (f.to + 1 - f.from) (field_form f) = field_plain (file_by (open_file input_role before) cards) f inside size in
       let defines : definition_on c.spec ≡ Some (f.name, Some plain.0) =
       ap (λ o. first_some (option_map (λ (x : InputField). (x.name, field_form x)) o) (option_and_then definition_by (calculation_on c.spec))) is ∙ ap (λ o. Some (f.name, o)) plain.1 in
       let leads = name_leads cards f.name plain.0 (all_defined cards none) (has_form cards none before c after f.name plain.0 split defines) in
@@ -89,9 +84,8 @@ module _ (cards : List SpecCard) (none : Faultless cards) where
 
   -- ---- what each card gives to a type
 
-  pub record IsTypeCard (c : SpecCard) : Type 0 where
-    pub type : (t : RecordType) → type_on c.spec ≡ Some t → bad_on_type t.indicator ≡ false
-    pub input : (f : InputField) → input_field_on c.spec ≡ Some f → IsInputFit f
+  abbrev IsTypeGood : RecordType → Type 0
+  IsTypeGood t = bad_on_type t.indicator ≡ false
 
   type_marks : (s : Spec) (t : RecordType) → bad_on_card s ≡ false → type_on s ≡ Some t → bad_on_type t.indicator ≡ false
   type_marks (spec.Header h) t good is = cc
@@ -101,11 +95,10 @@ module _ (cards : List SpecCard) (none : Faultless cards) where
   type_marks (spec.Calculation k) t good is = cc
   type_marks (spec.Output o) t good is = cc
 
-  type_cards : Each IsTypeCard cards
-  type_cards = each_card cards IsTypeCard (λ before c after split. record {
-    type = λ t is. type_marks c.spec t (good_indicator cards none before c after split) is;
-    input = λ f is. input_fits before c after f split is;
-  })
+  type_groups : Each (InGroup IsTypeGood IsInputFit) (groups input_role cards)
+  type_groups = each_group IsTypeGood IsInputFit input_role cards (each_card cards (λ c. AtRole IsTypeGood IsInputFit (input_role c.spec)) (λ before c after split.
+      at_role IsTypeGood IsInputFit (λ t. t.file) (type_on c.spec) (input_field_on c.spec)
+      (λ t is. type_marks c.spec t (good_indicator cards none before c after split) is) (λ f is. input_fits before c after f split is)))
 
   -- ---- the rules
 
@@ -120,28 +113,30 @@ module _ (cards : List SpecCard) (none : Faultless cards) where
     unfolding program program_of
     input_right f fit = (fit, shown_none (kind_of (form_at (all_forms (table_of cards)) (number_in (fields_of cards) f.name))))
 
-    inputs_right : (cs : List SpecCard) → Each IsTypeCard cs → Each IsInputRight (inputs_of (table_of cards) cs)
-    inputs_right [] good = tt
-    inputs_right (c ∷ cs) good = only_each_first IsInputRight (input_of (table_of cards)) (input_field_on c.spec) (inputs_of (table_of cards) cs) (λ f is. input_right f (good.0.input f is)) (inputs_right cs good.1)
-
     -- a type whose cards are good
-    type_right : (cs : List SpecCard) (t : RecordType) → Each IsTypeCard cs → bad_on_type t.indicator ≡ false → IsTypeRow (type_of (table_of cards) cs t) →
-        (r : TypeRule) → type_breaks r program (type_of (table_of cards) cs t) ≡ false
+    type_right : (g : Group RecordType InputField) → InGroup IsTypeGood IsInputFit g → IsTypeRow (type_of (table_of cards) g) → (r : TypeRule) → type_breaks r program (type_of (table_of cards) g) ≡ false
     unfolding type_breaks
-    type_right cs t good marks row V3 = refl
-    type_right cs t good marks row V4 = not_from_true _ (marks_type t.indicator marks row.indicator)
-    type_right cs t good marks row V5 = refl
-    type_right cs t good marks row V6 = not_from_true _ (each_passes (is_input_in program) (inputs_of (table_of cards) cs) (each_map IsInputRight (λ f. is_input_in program f ≡ true) (inputs_of (table_of cards) cs) (λ f h. h.0) (inputs_right cs good)))
-    type_right cs t good marks row V7 = not_from_true _ (each_passes (is_input_shown program) (inputs_of (table_of cards) cs) (each_map IsInputRight (λ f. is_input_shown program f ≡ true) (inputs_of (table_of cards) cs) (λ f h. h.1) (inputs_right cs good)))
+    type_right g good kept r = by_rule r
+      where
+        inputs : List (row.InputField ℕ)
+        inputs = map (input_of (table_of cards)) g.followers
+
+        right : Each IsInputRight inputs
+        right = each_row IsInputFit IsInputRight (input_of (table_of cards)) g.followers input_right good.1
+
+        by_rule : (r : TypeRule) → type_breaks r program (type_of (table_of cards) g) ≡ false
+        by_rule V3 = refl
+        by_rule V4 = not_from_true _ (marks_type g.heading.indicator good.0 kept.indicator)
+        by_rule V5 = refl
+        by_rule V6 = not_from_true _ (each_passes (is_input_in program) inputs (each_map IsInputRight (λ f. is_input_in program f ≡ true) inputs (λ f h. h.0) right))
+        by_rule V7 = not_from_true _ (each_passes (is_input_shown program) inputs (each_map IsInputRight (λ f. is_input_shown program f ≡ true) inputs (λ f h. h.1) right))
 
     abbrev IsTypeRight : TypeRow ℕ → Type 0
     IsTypeRight t = IsTypeRow t → (r : TypeRule) → type_breaks r program t ≡ false
 
-    types_right : (cs : List SpecCard) → Each IsTypeCard cs → Each IsTypeRight (types_of (table_of cards) cs)
-    types_right [] good = tt
-    types_right (c ∷ cs) good = each_first IsTypeRight (type_of (table_of cards) cs) (type_on c.spec) (types_of (table_of cards) cs) (λ t is row r. type_right cs t good.1 (good.0.type t is) row r) (types_right cs good.1)
-
     pub types_pass : Each IsTypeRow (types_of (table_of cards) cards) → (r : TypeRule) →
         Each (λ t. type_breaks r (program_of cards allowance) t ≡ false) (types_of (table_of cards) cards)
     unfolding program
-    types_pass rows r = each_both IsTypeRight IsTypeRow (λ t. type_breaks r (program_of cards allowance) t ≡ false) (types_of (table_of cards) cards) (λ t right row. right row r) (types_right cards type_cards) rows
+    types_pass rows r =
+        each_both IsTypeRight IsTypeRow (λ t. type_breaks r (program_of cards allowance) t ≡ false) (types_of (table_of cards) cards) (λ t right row. right row r)
+        (each_row (InGroup IsTypeGood IsInputFit) IsTypeRight (type_of (table_of cards)) (groups input_role cards) type_right type_groups) rows

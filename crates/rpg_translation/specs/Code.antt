@@ -1,10 +1,11 @@
--- The instructions of calculation cards.
-use Rattle.std.specs.Prelude.{ℕ, true, false, List, [], ◌∷◌, Option, None, Some}
-use Rattle.std.specs.Option.{option_map, option_and_then}
-use Rattle.rpg_cards.specs.Cards.{calculation_on}
+-- The instructions of calculations.
+use Rattle.std.specs.List.{filter_map}
+use Rattle.std.specs.Option.{option_map}
+use Rattle.std.specs.Prelude.{ℕ, true, false, List, Option, None, Some}
+use Rattle.rpg_cards.specs.Groups.{calculation_role, groups}
 use Rattle.rpg_cards.specs.declared.spec_card.SpecCard.{SpecCard}
 use Rattle.rpg_translation.specs.Fields.{Table, factor_number}
-use Rattle.rpg_translation.specs.Tables.{operand_of, unindexed, with_first}
+use Rattle.rpg_translation.specs.Tables.{operand_of, unindexed}
 use Rattle.rpg_effect.specs.declared.operation.Action.{Action}
 use Rattle.rpg_effect.specs.declared.operation.Action.TheVariants.{Compute, Divide, Assign, TakeRemainder, Compare, Move}
 use Rattle.rpg_effect.specs.declared.operation.Instruction.{Instruction}
@@ -55,11 +56,10 @@ instruction_of table c op.Compare = Act (Compare (factor_of table c.factor_1) (f
 instruction_of table c op.Move = Act (Move Right (factor_of table c.factor_2) (result_of table c))
 instruction_of table c op.MoveLeft = Act (Move Left (factor_of table c.factor_2) (result_of table c))
 
--- what a C card becomes
+-- what a calculation becomes
 abbrev pub instruction_on : Table → CalculationSpec → Option (Instruction ℕ)
 instruction_on table c = option_map (instruction_of table c) c.operation
 
--- an instruction for each C card
+-- an instruction for each group of C cards with an operation
 abbrev pub code_of : Table → List SpecCard → List (Instruction ℕ)
-code_of table [] = []
-code_of table (c ∷ cs) = with_first (option_and_then (instruction_on table) (calculation_on c.spec)) (code_of table cs)
+code_of table cards = filter_map (λ g. instruction_on table g.heading) (groups calculation_role cards)

@@ -1,7 +1,8 @@
--- Record types and lines, from the I and O cards.
-use Rattle.std.specs.Prelude.{ℕ, false, List, [], ◌∷◌, Option, None, Some, slice_get}
+-- Record types and lines, from the groups of I and O cards.
+use Rattle.std.specs.List.{filter_map}
 use Rattle.std.specs.Option.{option_map}
-use Rattle.rpg_cards.specs.Cards.{type_on, input_field_on, line_on, output_field_on}
+use Rattle.std.specs.Prelude.{ℕ, false, List, [], ◌∷◌, map, Option, None, Some, slice_get}
+use Rattle.rpg_cards.specs.Groups.{Group, Role, followers, groups, input_role, output_role}
 use Rattle.rpg_cards.specs.declared.spec_card.SpecCard.{SpecCard}
 use Rattle.rpg_cards.specs.declared.constants.Constant.TheVariants.{Text}
 use Rattle.rpg_translation.specs.Fields.{Table, number_in, constant_number}
@@ -25,18 +26,11 @@ use Rattle.rpg_spec.specs.declared.input.InputField.{InputField}
 use Rattle.rpg_spec.specs.declared.input.RecordType.{RecordType}
 use Rattle.rpg_spec.specs.declared.output.OutputField.{OutputField}
 use Rattle.rpg_spec.specs.declared.output.OutputRecord.{OutputRecord}
+use Rattle.rpg_spec.specs.declared.spec.Spec.{Spec}
 
--- ---- cards that belong together
-
--- an item in front, if there is one
-abbrev pub with_first : {X : Type 0} → Option X → List X → List X
-with_first None xs = xs
-with_first (Some x) xs = x ∷ xs
-
--- an item in front, and nothing at all if there is none
-abbrev pub only_with_first : {X : Type 0} → Option X → List X → List X
-only_with_first None xs = []
-only_with_first (Some x) xs = x ∷ xs
+-- the group that a heading opens; rows don't tell its file
+abbrev pub group_of : {H F : Type 0} → (Spec → Role H F) → H → List SpecCard → Group H F
+group_of role h behind = record { heading = h; followers = followers role behind; file = None }
 
 -- ---- record types
 
@@ -47,19 +41,12 @@ no_shows = record { plus = None; minus = None; zero = None }
 abbrev pub input_of : Table → InputField → row.InputField ℕ
 input_of table f = record { from = f.from; to = f.to; field = number_in table.names f.name; shows = no_shows }
 
--- an input field for each field card at the front
-abbrev pub inputs_of : Table → List SpecCard → List (row.InputField ℕ)
-inputs_of table [] = []
-inputs_of table (c ∷ cs) = only_with_first (option_map (input_of table) (input_field_on c.spec)) (inputs_of table cs)
+-- a record type, with an input field for each card that follows it
+abbrev pub type_of : Table → Group RecordType InputField → TypeRow ℕ
+type_of table g = record { indicator = g.heading.indicator; codes = []; levels = []; inputs = map (input_of table) g.followers }
 
--- a type card, and the cards behind it
-abbrev pub type_of : Table → List SpecCard → RecordType → TypeRow ℕ
-type_of table behind t = record { indicator = t.indicator; codes = []; levels = []; inputs = inputs_of table behind }
-
--- a type for each type card
 abbrev pub types_of : Table → List SpecCard → List (TypeRow ℕ)
-types_of table [] = []
-types_of table (c ∷ cs) = with_first (option_map (type_of table cs) (type_on c.spec)) (types_of table cs)
+types_of table cards = map (type_of table) (groups input_role cards)
 
 -- ---- lines
 
@@ -68,8 +55,7 @@ condition_of c = record { indicator = c.indicator; is_negated = c.negated }
 
 -- those that stand, in their order
 abbrev pub standing : List (Option sheet.Condition) → List Condition
-standing [] = []
-standing (o ∷ os) = with_first (option_map condition_of o) (standing os)
+standing os = filter_map (option_map condition_of) os
 
 abbrev pub conditions_of : Three (Option sheet.Condition) → List Condition
 conditions_of t = standing (t.first ∷ t.second ∷ t.third ∷ [])
@@ -104,22 +90,16 @@ line_field_of table f = record {
   conditions = in_places (conditions_of f.conditions);
 }
 
--- a field for each field card at the front
-abbrev pub line_fields_of : Table → List SpecCard → List (LineField ℕ)
-line_fields_of table [] = []
-line_fields_of table (c ∷ cs) = only_with_first (option_map (line_field_of table) (output_field_on c.spec)) (line_fields_of table cs)
-
--- A detail line of the printer, spaced once behind. It has one alternative: all conditions of its card.
-abbrev pub line_of : Table → List SpecCard → OutputRecord → LineRow
-line_of table behind r = record {
+-- A detail line of the printer, spaced once behind, with a field for each card that follows it. It has one alternative: all conditions
+-- of its card.
+abbrev pub line_of : Table → Group OutputRecord OutputField → LineRow
+line_of table g = record {
   file = Printer;
   time = Detail;
   spacing = record { space_before = 0; space_after = 1; skip_before = 0; skip_after = 0 };
-  alternatives = conditions_of r.conditions ∷ [];
-  fields = line_fields_of table behind;
+  alternatives = conditions_of g.heading.conditions ∷ [];
+  fields = map (line_field_of table) g.followers;
 }
 
--- a line for each record card
 abbrev pub lines_of : Table → List SpecCard → List LineRow
-lines_of table [] = []
-lines_of table (c ∷ cs) = with_first (option_map (line_of table cs) (line_on c.spec)) (lines_of table cs)
+lines_of table cards = map (line_of table) (groups output_role cards)

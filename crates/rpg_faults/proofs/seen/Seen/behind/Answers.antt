@@ -1,6 +1,10 @@
 use Rattle.std.proofs.Common.{◌≡◌, ◌+◌, ◌++◌, ◌∷◌, [], length, take, ◌∙◌, sym, ap, subst}
+use Rattle.std.specs.Option.{option_map_or}
+use Rattle.rpg_cards.specs.Cards.{calculation_on}
+use Rattle.rpg_faults.proofs.GroupLemmas.{follows_division-push}
 use Rattle.rpg_faults.proofs.SeenLemmas.{front_more, is_front, front_within}
-use Rattle.rpg_faults.specs.Seen.{IsCounted, HasLengths, HasNames, HasConstants}
+use Rattle.rpg_faults.specs.Rounding.{follows_division, leaves_remainder}
+use Rattle.rpg_faults.specs.Seen.{AreSheets, HasNames, HasConstants}
 use Rattle.rpg_faults.proofs.seen.Seen.behind.Goals as goal
 
 pub returns-clause-before : goal.returns-clause-before
@@ -19,8 +23,10 @@ returns-clause-seen c =
     record {
       front = is_front _ before card cards here front;
       few = front_within _ before card after cards here c.requires.split c.requires.few;
-      counted = subst (λ b. IsCounted b c.counts_with.result) (sym here) c.counts_with.ensures;
-      lengths = subst (λ b. HasLengths cards b c.lengths_with.result) (sym here) c.lengths_with.ensures;
+      sheets = subst (λ b. AreSheets cards b c.sheets_with.result) (sym here) c.sheets_with.ensures;
+      remainder =
+          c.leaves_remainder_with.ensures ∙ ap (option_map_or leaves_remainder (calculation_on card.spec)) c.requires.seen.remainder ∙ sym (follows_division-push before card)
+          ∙ ap follows_division (sym here);
       few_cards = c.requires.few;
       names = subst (λ b. HasNames b c.names_with.result) (sym here) c.names_with.ensures;
       constants = subst (λ b. HasConstants b c.constants_with.result) (sym here) c.constants_with.ensures;
