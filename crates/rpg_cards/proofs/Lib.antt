@@ -1,2 +1,3 @@
+pub mod InsertLemmas
+pub mod ItemLemmas
 pub mod IndexLemmas
-pub mod ConstantLemmas
