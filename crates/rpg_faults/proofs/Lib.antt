@@ -1,3 +1,4 @@
 pub mod Forms
 pub mod LeastLemmas
 pub mod SeenLemmas
+pub mod TotalLemmas

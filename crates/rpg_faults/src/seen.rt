@@ -84,8 +84,8 @@ impl<'a> Seen<'a> {
             before: &source.as_slice()[..self.before.len() + 1],
             counts: self.counts_with(source, card),
             lengths: self.lengths_with(source, card),
-            names: names_with(self.names, source, self.before, card),
-            constants: constants_with(self.constants, source, self.before, card),
+            names: names_with(self.names, source, card),
+            constants: constants_with(self.constants, source, card),
             all_names: self.all_names,
         }
     }
