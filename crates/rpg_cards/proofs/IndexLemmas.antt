@@ -1,38 +1,33 @@
--- What is found first among the cards at the front, and in a list of entries with one more.
-use Rattle.std.proofs.Common.{◌≡◌, ℕ, zero, suc, ◌+◌, ◌<◌, ◌≤◌, Bool, true, false, cond, List, [], ◌∷◌, ◌++◌, length, take, get_or, Option, None, Some, refl, sym, ap, ◌∙◌, arith}
-use Rattle.std.proofs.lemmas.Bool.{le-ltb, lt-ltb}
-use Rattle.std.proofs.lemmas.List.Folds.{list_any-append}
-use Rattle.std.proofs.lemmas.List.{take_more, length-take-le}
+-- What is found first in a list and in its front, and what an index finds.
+use Rattle.std.proofs.Common.{◌≡◌, ℕ, zero, suc, ◌+◌, ◌<◌, ◌≤◌, Bool, true, false, not, cond, List, [], ◌∷◌, ◌++◌, length, map, take, get_or, Option, None, Some, refl, sym, ap, ◌∙◌, arith}
+use Rattle.std.proofs.lemmas.Bool.{le-leb, le-ltb, lt-leb, lt-ltb, ltb-false, ltb-true}
 use Rattle.std.specs.Cmp.{IsEquivalence}
 use Rattle.std.specs.Cmp.Lexicographic.{pointwise}
+use Rattle.std.specs.List.{list_any}
 use Rattle.std.specs.Map.{lookup}
-use Rattle.std.specs.Option.{option_or, option_and_then, option_map_or, option_to_list, is_some}
-use Rattle.std.specs.Prelude.{nat_eq, nat_lt, ◌||◌}
-use Rattle.rpg_cards.proofs.ConstantLemmas.{stands_on_card}
-use Rattle.rpg_cards.specs.Constants.{constants_in, constants_on, first_constant, second_constant, is_same, stands_in, stands_on}
-use Rattle.rpg_cards.specs.Index.{first_of, definition_at, constant_at, IsIndex}
-use Rattle.rpg_cards.specs.Names.{Definition, definition_on, definitions, defined_as, first_form}
+use Rattle.std.specs.Option.{option_or, is_some}
+use Rattle.std.specs.Prelude.{nat_eq, nat_le, nat_lt, ◌||◌}
+use Rattle.rpg_cards.proofs.ItemLemmas.{definitions-take, constants_in-take}
+use Rattle.rpg_cards.specs.Constants.{constants_in, constants_on, is_same}
+use Rattle.rpg_cards.specs.Index.{defined_first, first_at, place_of, placed, IsIndex}
+use Rattle.rpg_cards.specs.Names.{definitions, definitions_on, defined_as, defined_field, first_form, is_new_name, is_of}
 use Rattle.rpg_cards.specs.declared.constants.Constant.{Constant}
 use Rattle.rpg_cards.specs.declared.index.FirstDefinition.{FirstDefinition}
 use Rattle.rpg_cards.specs.declared.names.Defined.{Defined}
-use Rattle.rpg_cards.specs.declared.names.Defined.TheVariants.{Missing}
-use Rattle.rpg_effect.specs.declared.form.FieldForm.{FieldForm}
+use Rattle.rpg_cards.specs.declared.names.Definition.{Definition}
 use Rattle.rpg_cards.specs.declared.spec_card.SpecCard.{SpecCard}
-use Rattle.rpg_spec.specs.declared.spec.Spec.{Spec}
+use Rattle.rpg_effect.specs.declared.form.FieldForm.{FieldForm}
+use Rattle.rpg_symbols.specs.Fields.{Fields, form_of, given}
 
 -- ---- entries
 
-option_or_assoc : {X : Type 0} (a b c : Option X) → option_or (option_or a b) c ≡ option_or a (option_or b c)
+pub option_or_assoc : {X : Type 0} (a b c : Option X) → option_or (option_or a b) c ≡ option_or a (option_or b c)
 option_or_assoc None b c = refl
 option_or_assoc (Some x) b c = refl
 
 option_or_none : {X : Type 0} (a : Option X) → option_or a None ≡ a
 option_or_none None = refl
 option_or_none (Some x) = refl
-
-or_cond : {X : Type 0} (b : Bool) (x : X) (o : Option X) → cond b (Some x) o ≡ option_or (cond b (Some x) None) o
-or_cond true x o = refl
-or_cond false x o = refl
 
 pub lookup_push : {K V : Type 0} (test : K → Bool) (es : List (K × V)) (k : K) (v : V) → lookup test (es ++ (k, v) ∷ []) ≡ option_or (lookup test es) (cond (test k) (Some v) None)
 lookup_push test [] k v = refl
@@ -63,176 +58,157 @@ module _ {K V : Type 0} (eq : K → K → Bool) (laws : IsEquivalence eq) where
       by_cases true e = found (lookup (eq k) es) (lookup (eq q) es) known (lookup_congr es q k e)
       by_cases false e = sym (option_or_none (lookup (eq q) es))
 
--- ---- the first of cards
+-- ---- the first of a list
 
 -- what is found, where its place is below n
-abbrev pub only_before : {X : Type 0} → (X → ℕ) → ℕ → Option X → Option X
+abbrev pub only_before : {Y : Type 0} → (Y → ℕ) → ℕ → Option Y → Option Y
 only_before place n None = None
-only_before place n (Some x) = cond (nat_lt (place x) n) (Some x) None
+only_before place n (Some y) = cond (nat_lt (place y) n) (Some y) None
 
-module _ {X : Type 0} (has : ℕ → Spec → Option X) where
-  pub first_of-append : (i : ℕ) (xs ys : List SpecCard) → first_of has i (xs ++ ys) ≡ option_or (first_of has i xs) (first_of has (i + length xs) ys)
-  first_of-append i [] ys = ap (λ k. first_of has k ys) (omega arith)
-  first_of-append i (c ∷ cs) ys =
-      let rest = first_of-append (i + 1) cs ys in
-      let same : i + 1 + length cs ≡ i + length (c ∷ cs) = omega arith in
-      ap (option_or (has i c.spec)) (rest ∙ ap (λ k. option_or (first_of has (i + 1) cs) (first_of has k ys)) same) ∙ sym (option_or_assoc (has i c.spec) (first_of has (i + 1) cs) (first_of has (i + length (c ∷ cs)) ys))
+module _ {X Y : Type 0} (test : X → Bool) (made : ℕ → X → Y) where
+  pub first_at-append : (i : ℕ) (xs ys : List X) → first_at test made i (xs ++ ys) ≡ option_or (first_at test made i xs) (first_at test made (i + length xs) ys)
+  first_at-append i [] ys = ap (λ k. first_at test made k ys) (omega arith)
+  first_at-append i (x ∷ xs) ys = by_cases (test x) (first_at-append (i + 1) xs ys) (omega arith)
+    where
+      by_cases : (b : Bool) → first_at test made (i + 1) (xs ++ ys) ≡ option_or (first_at test made (i + 1) xs) (first_at test made (i + 1 + length xs) ys) → i + 1 + length xs ≡ i + length (x ∷ xs)
+          → cond b (Some (made i x)) (first_at test made (i + 1) (xs ++ ys)) ≡ option_or (cond b (Some (made i x)) (first_at test made (i + 1) xs)) (first_at test made (i + length (x ∷ xs)) ys)
+      by_cases true rest same = refl
+      by_cases false rest same = rest ∙ ap (λ k. option_or (first_at test made (i + 1) xs) (first_at test made k ys)) same
 
-  -- one more card
-  pub first_of-push : (xs : List SpecCard) (c : SpecCard) → first_of has 0 (xs ++ c ∷ []) ≡ option_or (first_of has 0 xs) (has (length xs) c.spec)
-  first_of-push xs c =
-      let place : 0 + length xs ≡ length xs = omega arith in
-      first_of-append 0 xs (c ∷ []) ∙ ap (λ k. option_or (first_of has 0 xs) (first_of has k (c ∷ []))) place ∙ ap (option_or (first_of has 0 xs)) (option_or_none (has (length xs) c.spec))
+  -- an item passes where one is found
+  pub any_first : (i : ℕ) (xs : List X) → list_any test xs ≡ is_some (first_at test made i xs)
+  any_first i [] = refl
+  any_first i (x ∷ xs) = by_cases (test x) (any_first (i + 1) xs)
+    where
+      by_cases : (b : Bool) → list_any test xs ≡ is_some (first_at test made (i + 1) xs) → (b || list_any test xs) ≡ is_some (cond b (Some (made i x)) (first_at test made (i + 1) xs))
+      by_cases true rest = refl
+      by_cases false rest = rest
 
   -- what is found is told by its place
-  module _ (place : X → ℕ) (placed : (i : ℕ) (s : Spec) (x : X) → has i s ≡ Some x → place x ≡ i) where
-    from_place : (i : ℕ) (cs : List SpecCard) (x : X) → first_of has i cs ≡ Some x → i ≤ place x
-    from_place i [] x e = absurd cc
-    from_place i (c ∷ cs) x e = by_cases (has i c.spec) refl (from_place (i + 1) cs x)
+  module _ (place : Y → ℕ) (kept : (i : ℕ) (x : X) → place (made i x) ≡ i) where
+    from_place : (i : ℕ) (xs : List X) (y : Y) → first_at test made i xs ≡ Some y → i ≤ place y
+    from_place i [] y e = absurd cc
+    from_place i (x ∷ xs) y e = by_cases (test x) e (from_place (i + 1) xs y)
       where
-        by_cases : (o : Option X) → has i c.spec ≡ o → (first_of has (i + 1) cs ≡ Some x → i + 1 ≤ place x) → i ≤ place x
-        by_cases (Some y) h rest = let same : has i c.spec ≡ Some x = cc in let p = placed i c.spec x same in omega arith
-        by_cases None h rest = let behind : first_of has (i + 1) cs ≡ Some x = cc in let p = rest behind in omega arith
+        by_cases : (b : Bool) → cond b (Some (made i x)) (first_at test made (i + 1) xs) ≡ Some y → (first_at test made (i + 1) xs ≡ Some y → i + 1 ≤ place y) → i ≤ place y
+        by_cases true e rest = let same : made i x ≡ y = cc in let p = ap place same in let q = kept i x in omega arith
+        by_cases false e rest = let p = rest e in omega arith
 
-    nothing_before : (i : ℕ) (cs : List SpecCard) → None ≡ only_before place i (first_of has i cs)
-    nothing_before i cs = by_cases (first_of has i cs) (from_place i cs)
+    nothing_before : (i : ℕ) (xs : List X) → None ≡ only_before place i (first_at test made i xs)
+    nothing_before i xs = by_cases (first_at test made i xs) (from_place i xs)
       where
-        by_cases : (o : Option X) → ((x : X) → o ≡ Some x → i ≤ place x) → None ≡ only_before place i o
+        by_cases : (o : Option Y) → ((y : Y) → o ≡ Some y → i ≤ place y) → None ≡ only_before place i o
         by_cases None low = refl
-        by_cases (Some x) low = let p = low x refl in rw (le-ltb (place x) i p) refl
+        by_cases (Some y) low = let p = low y refl in rw (le-ltb (place y) i p) refl
 
-    before_from : (i n : ℕ) (cs : List SpecCard) → first_of has i (take n cs) ≡ only_before place (i + n) (first_of has i cs)
-    before_from i zero cs = nothing_before i cs ∙ ap (λ k. only_before place k (first_of has i cs)) (omega arith)
+    before_from : (i n : ℕ) (xs : List X) → first_at test made i (take n xs) ≡ only_before place (i + n) (first_at test made i xs)
+    before_from i zero xs = nothing_before i xs ∙ ap (λ k. only_before place k (first_at test made i xs)) (omega arith)
     before_from i (suc n) [] = refl
-    before_from i (suc n) (c ∷ cs) = by_cases (has i c.spec) refl (before_from (i + 1) n cs)
+    before_from i (suc n) (x ∷ xs) = by_cases (test x) (before_from (i + 1) n xs)
       where
-        by_cases : (o : Option X) → has i c.spec ≡ o → first_of has (i + 1) (take n cs) ≡ only_before place (i + 1 + n) (first_of has (i + 1) cs)
-            → option_or o (first_of has (i + 1) (take n cs)) ≡ only_before place (i + suc n) (option_or o (first_of has (i + 1) cs))
-        by_cases (Some x) h rest = let p = placed i c.spec x h in let low : place x < i + suc n = omega arith in rw (lt-ltb (place x) (i + suc n) low) refl
-        by_cases None h rest = rest ∙ ap (λ k. only_before place k (first_of has (i + 1) cs)) (omega arith)
+        by_cases : (b : Bool) → first_at test made (i + 1) (take n xs) ≡ only_before place (i + 1 + n) (first_at test made (i + 1) xs)
+            → cond b (Some (made i x)) (first_at test made (i + 1) (take n xs)) ≡ only_before place (i + suc n) (cond b (Some (made i x)) (first_at test made (i + 1) xs))
+        by_cases true rest = let p = kept i x in let low : place (made i x) < i + suc n = omega arith in rw (lt-ltb (place (made i x)) (i + suc n) low) refl
+        by_cases false rest = rest ∙ ap (λ k. only_before place k (first_at test made (i + 1) xs)) (omega arith)
 
-    pub first_before : (n : ℕ) (cs : List SpecCard) → first_of has 0 (take n cs) ≡ only_before place n (first_of has 0 cs)
-    first_before n cs = let n_is : 0 + n ≡ n = omega arith in before_from 0 n cs ∙ ap (λ k. only_before place k (first_of has 0 cs)) n_is
+    pub first_before : (n : ℕ) (xs : List X) → first_at test made 0 (take n xs) ≡ only_before place n (first_at test made 0 xs)
+    first_before n xs = let n_is : 0 + n ≡ n = omega arith in before_from 0 n xs ∙ ap (λ k. only_before place k (first_at test made 0 xs)) n_is
+
+  -- ---- entries that find what a list has, and more items behind it
+
+  pub noted_more : {K : Type 0} (found : K → Bool) (entries more : List (K × Y)) (xs items : List X) → lookup found entries ≡ first_at test made 0 xs
+      → lookup found more ≡ option_or (lookup found entries) (first_at test made (length xs) items) → lookup found more ≡ first_at test made 0 (xs ++ items)
+  noted_more found entries more xs items was noted =
+      let place : 0 + length xs ≡ length xs = omega arith in
+      noted ∙ ap (λ o. option_or o (first_at test made (length xs) items)) was ∙ ap (λ k. option_or (first_at test made 0 xs) (first_at test made k items)) (sym place) ∙ sym (first_at-append 0 xs items)
+
+  -- one item more of those that are being noted
+  pub noted_one : {K : Type 0} (found : K → Bool) (old entries more : List (K × Y)) (start place : ℕ) (done : List X) (x : X) → place ≡ start + length done
+      → lookup found entries ≡ option_or (lookup found old) (first_at test made start done)
+      → lookup found more ≡ option_or (lookup found entries) (cond (test x) (Some (made place x)) None)
+      → lookup found more ≡ option_or (lookup found old) (first_at test made start (done ++ x ∷ []))
+  noted_one found old entries more start place done x at was noted =
+      noted ∙ ap (λ o. option_or o (cond (test x) (Some (made place x)) None)) was ∙ option_or_assoc (lookup found old) (first_at test made start done) (cond (test x) (Some (made place x)) None)
+      ∙ ap (λ k. option_or (lookup found old) (option_or (first_at test made start done) (cond (test x) (Some (made k x)) None))) at
+      ∙ ap (option_or (lookup found old)) (sym (first_at-append start done (x ∷ [])))
 
 -- ---- names
 
-the_first : ℕ → Option FieldForm → FirstDefinition
-the_first i form = record { place = i; form = form }
-
-named : List ℕ → ℕ → List ℕ × Option FieldForm → Option FirstDefinition
-named name i d = cond (pointwise nat_eq name d.0) (Some (the_first i d.1)) None
-
-named-placed : (name : List ℕ) (i : ℕ) (o : Option (List ℕ × Option FieldForm)) (d : FirstDefinition) → option_and_then (named name i) o ≡ Some d → d.place ≡ i
-unfolding named the_first
-named-placed name i None d e = absurd cc
-named-placed name i (Some t) d e = by_cases (pointwise nat_eq name t.0) e
-  where
-    by_cases : (b : Bool) → cond b (Some (the_first i t.1)) None ≡ Some d → d.place ≡ i
-    by_cases true e = ap (λ o. option_map_or (λ (x : FirstDefinition). x.place) o 0) (sym e)
-    by_cases false e = absurd cc
-
-pub definition_at-placed : (name : List ℕ) (i : ℕ) (s : Spec) (d : FirstDefinition) → definition_at name i s ≡ Some d → d.place ≡ i
-unfolding named the_first
-definition_at-placed name i s d e = named-placed name i (definition_on s) d e
-
-abbrev pub defined_first : Option FirstDefinition → Defined
-defined_first None = Missing
-defined_first (Some d) = defined_as d.form
-
-pub first_form_first : (name : List ℕ) (i : ℕ) (cards : List SpecCard) → first_form name (definitions cards) ≡ defined_first (first_of (definition_at name) i cards)
-unfolding named the_first
+pub first_form_first : (name : List ℕ) (i : ℕ) (ds : List Definition) → first_form name ds ≡ defined_first (first_at (is_of name) placed i ds)
 first_form_first name i [] = refl
-first_form_first name i (c ∷ cs) = by_definition (definition_on c.spec) (first_form_first name (i + 1) cs)
+first_form_first name i (d ∷ ds) = by_test (is_of name d) (first_form_first name (i + 1) ds)
   where
-    by_test : (b : Bool) (d : Definition) (later : Option FirstDefinition) → first_form name (definitions cs) ≡ defined_first later
-        → cond b (defined_as d.1) (first_form name (definitions cs)) ≡ defined_first (option_or (cond b (Some (the_first i d.1)) None) later)
-    by_test true d later rest = refl
-    by_test false d later rest = rest
+    by_test : (b : Bool) → first_form name ds ≡ defined_first (first_at (is_of name) placed (i + 1) ds)
+        → cond b (defined_as d.form) (first_form name ds) ≡ defined_first (cond b (Some (placed i d)) (first_at (is_of name) placed (i + 1) ds))
+    by_test true rest = refl
+    by_test false rest = rest
 
-    by_definition : (o : Option Definition) → first_form name (definitions cs) ≡ defined_first (first_of (definition_at name) (i + 1) cs)
-        → first_form name (option_to_list o ++ definitions cs) ≡ defined_first (option_or (option_and_then (named name i) o) (first_of (definition_at name) (i + 1) cs))
-    by_definition None rest = rest
-    by_definition (Some d) rest = by_test (pointwise nat_eq name d.0) d (first_of (definition_at name) (i + 1) cs) rest
-
--- ---- constants
-
-constant_at-placed : (x : Constant) (i : ℕ) (s : Spec) (p : ℕ) → constant_at x i s ≡ Some p → p ≡ i
-constant_at-placed x i s p e = by_cases (stands_in x (first_constant s) || stands_in x (second_constant s)) e
+-- a field is known by its name
+pub known_fields : (fields : Fields) (name : List ℕ) → list_any (is_of name) (map defined_field fields) ≡ is_some (form_of fields name)
+known_fields [] name = refl
+known_fields (f ∷ fs) name = by_test (pointwise nat_eq name f.0) (known_fields fs name)
   where
-    by_cases : (b : Bool) → cond b (Some i) None ≡ Some p → p ≡ i
-    by_cases true e = cc
-    by_cases false e = absurd cc
+    by_test : (b : Bool) → list_any (is_of name) (map defined_field fs) ≡ is_some (form_of fs name) → (b || list_any (is_of name) (map defined_field fs)) ≡ is_some (cond b (Some f.1) (form_of fs name))
+    by_test true rest = refl
+    by_test false rest = rest
 
-stands_on_first : (x : Constant) (i : ℕ) (cards : List SpecCard) → stands_on x cards ≡ is_some (first_of (constant_at x) i cards)
-stands_on_first x i [] = refl
-stands_on_first x i (c ∷ cs) =
-    list_any-append (is_same x) (constants_on c.spec) (constants_in cs) ∙ ap (λ b. b || stands_on x cs) (stands_on_card x c.spec)
-    ∙ by_cases (stands_in x (first_constant c.spec)) (stands_in x (second_constant c.spec)) (stands_on_first x (i + 1) cs)
+-- an answer that a name is new, where it isn't given
+pub new_name : (name : List ℕ) (o : Option FieldForm) (p : Option FirstDefinition) (ds : List Definition) (new : Bool) → o ≡ form_of given name → is_some o ≡ false
+    → p ≡ first_at (is_of name) placed 0 ds → is_some p ≡ not new → new ≡ is_new_name name ds
+new_name name o p ds new known none found answer =
+    turned new (is_some p) answer ∙ ap (λ (q : Option FirstDefinition). not (is_some q)) found ∙ ap not (sym (any_first (is_of name) placed 0 ds))
+    ∙ ap (λ b. not (b || list_any (is_of name) ds)) (sym none ∙ ap (λ (q : Option FieldForm). is_some q) known ∙ sym (known_fields given name))
   where
-    by_cases : (a b : Bool) → stands_on x cs ≡ is_some (first_of (constant_at x) (i + 1) cs)
-        → (a || b || stands_on x cs) ≡ is_some (option_or (cond (a || b) (Some i) None) (first_of (constant_at x) (i + 1) cs))
-    by_cases true b rest = refl
-    by_cases false true rest = refl
-    by_cases false false rest = rest
+    turned : (a b : Bool) → b ≡ not a → a ≡ not b
+    turned true b e = ap not (sym e)
+    turned false b e = ap not (sym e)
 
--- ---- among the cards at the front
+-- ---- what an index finds
 
-pub defined_before : (name : List ℕ) (n : ℕ) (cards : List SpecCard) → first_form name (definitions (take n cards)) ≡ defined_first (only_before (λ (d : FirstDefinition). d.place) n (first_of (definition_at name) 0 cards))
-defined_before name n cards = first_form_first name 0 (take n cards) ∙ ap defined_first (first_before (definition_at name) (λ (d : FirstDefinition). d.place) (definition_at-placed name) n cards)
+no_less : (p n : ℕ) → nat_le n p ≡ not (nat_lt p n)
+no_less p n = by_cases (nat_lt p n) refl
+  where
+    by_cases : (b : Bool) → nat_lt p n ≡ b → nat_le n p ≡ not b
+    by_cases true e = lt-leb n p (ltb-true p n e)
+    by_cases false e = le-leb n p (ltb-false p n e)
 
-pub stands_before : (x : Constant) (n : ℕ) (cards : List SpecCard) → stands_on x (take n cards) ≡ is_some (only_before (λ (p : ℕ). p) n (first_of (constant_at x) 0 cards))
-stands_before x n cards = stands_on_first x 0 (take n cards) ∙ ap (λ o. is_some o) (first_before (constant_at x) (λ (p : ℕ). p) (constant_at-placed x) n cards)
+pub not_below : (p n : ℕ) → nat_le n p ≡ not (is_some (only_before (λ (q : ℕ). q) n (Some p)))
+not_below p n = no_less p n ∙ by_cases (nat_lt p n)
+  where
+    by_cases : (b : Bool) → not b ≡ not (is_some (cond b (Some p) None))
+    by_cases true = refl
+    by_cases false = refl
+
+module _ (names : List (List ℕ × FirstDefinition)) (constants : List (Constant × ℕ)) (cards : List SpecCard) (index : IsIndex names constants cards) where
+  pub found_before : (name : List ℕ) (n : ℕ) (all : List SpecCard) (o : Option FirstDefinition) → cards ≡ all → o ≡ lookup (pointwise nat_eq name) names
+      → only_before (λ (d : FirstDefinition). d.place) n o ≡ first_at (is_of name) placed 0 (take n (definitions all))
+  found_before name n all o same found =
+      ap (only_before (λ (d : FirstDefinition). d.place) n) (found ∙ index.defined name) ∙ sym (first_before (is_of name) placed (λ (d : FirstDefinition). d.place) (λ i d. refl) n (definitions cards))
+      ∙ ap (λ cs. first_at (is_of name) placed 0 (take n (definitions cs))) same
+
+  pub stands_before : (x : Constant) (n : ℕ) (all : List SpecCard) (o : Option ℕ) → cards ≡ all → o ≡ lookup (is_same x) constants
+      → is_some (only_before (λ (p : ℕ). p) n o) ≡ list_any (is_same x) (take n (constants_in all))
+  stands_before x n all o same found =
+      ap (λ (p : Option ℕ). is_some (only_before (λ (q : ℕ). q) n p)) (found ∙ index.standing x)
+      ∙ ap (λ (p : Option ℕ). is_some p) (sym (first_before (is_same x) place_of (λ (p : ℕ). p) (λ i x. refl) n (constants_in cards)))
+      ∙ sym (any_first (is_same x) place_of 0 (take n (constants_in cards)))
+      ∙ ap (λ cs. list_any (is_same x) (take n (constants_in cs))) same
 
 -- ---- one more card
 
 pub index_more : (names names_more : List (List ℕ × FirstDefinition)) (constants constants_more : List (Constant × ℕ)) (cards : List SpecCard) (i : ℕ) (c : SpecCard)
-    → i < length cards → c ≡ get_or cards i c → IsIndex names constants (take i cards)
-    → ((name : List ℕ) → lookup (pointwise nat_eq name) names_more ≡ option_or (lookup (pointwise nat_eq name) names) (definition_at name i c.spec))
-    → ((x : Constant) → lookup (is_same x) constants_more ≡ option_or (lookup (is_same x) constants) (constant_at x i c.spec))
+    (n m : ℕ) (ds : List Definition) (xs : List Constant) → i < length cards → c ≡ get_or cards i c → IsIndex names constants (take i cards)
+    → n ≡ length (definitions (take i cards)) → m ≡ length (constants_in (take i cards)) → ds ≡ definitions_on c.spec → xs ≡ constants_on c.spec
+    → ((name : List ℕ) → lookup (pointwise nat_eq name) names_more ≡ option_or (lookup (pointwise nat_eq name) names) (first_at (is_of name) placed n ds))
+    → ((x : Constant) → lookup (is_same x) constants_more ≡ option_or (lookup (is_same x) constants) (first_at (is_same x) place_of m xs))
     → IsIndex names_more constants_more (take (i + 1) cards)
-index_more names names_more constants constants_more cards i c lt is index defines stands =
-    let more : take (i + 1) cards ≡ take i cards ++ c ∷ [] = rw (take_more cards i c lt, ← is) refl in
-    let at : length (take i cards) ≡ i = length-take-le i cards (omega arith) in
-    record {
-      defined = λ name. defines name ∙ ap (λ o. option_or o (definition_at name i c.spec)) (index.defined name) ∙ grown (definition_at name) at more;
-      standing = λ x. stands x ∙ ap (λ o. option_or o (constant_at x i c.spec)) (index.standing x) ∙ grown (constant_at x) at more;
-    }
-  where
-    grown : {X : Type 0} (has : ℕ → Spec → Option X) → length (take i cards) ≡ i → take (i + 1) cards ≡ take i cards ++ c ∷ [] → option_or (first_of has 0 (take i cards)) (has i c.spec) ≡ first_of has 0 (take (i + 1) cards)
-    grown has at more = ap (λ k. option_or (first_of has 0 (take i cards)) (has k c.spec)) (sym at) ∙ sym (first_of-push has (take i cards) c) ∙ ap (first_of has 0) (sym more)
-
--- ---- what the index finds
-
-module _ (names : List (List ℕ × FirstDefinition)) (constants : List (Constant × ℕ)) (cards : List SpecCard) (index : IsIndex names constants cards) where
-  pub defined_found : (name : List ℕ) (all : List SpecCard) (o : Option FirstDefinition) → cards ≡ all → o ≡ lookup (pointwise nat_eq name) names → defined_first o ≡ first_form name (definitions all)
-  defined_found name all o same found =
-      ap defined_first (found ∙ index.defined name) ∙ sym (first_form_first name 0 cards) ∙ ap (λ xs. first_form name (definitions xs)) same
-
-  pub defined_found_before : (name : List ℕ) (all before : List SpecCard) (o : Option FirstDefinition) → cards ≡ all → before ≡ take (length before) all → o ≡ lookup (pointwise nat_eq name) names
-      → defined_first (only_before (λ (d : FirstDefinition). d.place) (length before) o) ≡ first_form name (definitions before)
-  defined_found_before name all before o same front found =
-      let whole : before ≡ take (length before) cards = cc in
-      ap (λ p. defined_first (only_before (λ (d : FirstDefinition). d.place) (length before) p)) (found ∙ index.defined name) ∙ sym (defined_before name (length before) cards) ∙ ap (λ xs. first_form name (definitions xs)) (sym whole)
-
-  pub stands_found_before : (x : Constant) (all before : List SpecCard) (o : Option ℕ) → cards ≡ all → before ≡ take (length before) all → o ≡ lookup (is_same x) constants
-      → is_some (only_before (λ (p : ℕ). p) (length before) o) ≡ stands_on x before
-  stands_found_before x all before o same front found =
-      let whole : before ≡ take (length before) cards = cc in
-      ap (λ p. is_some (only_before (λ (q : ℕ). q) (length before) p)) (found ∙ index.standing x) ∙ sym (stands_before x (length before) cards) ∙ ap (stands_on x) (sym whole)
-
-  pub defined_in_front : (name : List ℕ) (all before : List SpecCard) (d : FirstDefinition) → cards ≡ all → before ≡ take (length before) all → Some d ≡ lookup (pointwise nat_eq name) names
-      → d.place < length before → defined_as d.form ≡ first_form name (definitions before)
-  defined_in_front name all before d same front found lt =
-      ap (λ b. defined_first (cond b (Some d) None)) (sym (lt-ltb d.place (length before) lt)) ∙ defined_found_before name all before (Some d) same front found
-
-  pub defined_behind : (name : List ℕ) (all before : List SpecCard) (d : FirstDefinition) → cards ≡ all → before ≡ take (length before) all → Some d ≡ lookup (pointwise nat_eq name) names
-      → length before ≤ d.place → Missing ≡ first_form name (definitions before)
-  defined_behind name all before d same front found le =
-      ap (λ b. defined_first (cond b (Some d) None)) (sym (le-ltb d.place (length before) le)) ∙ defined_found_before name all before (Some d) same front found
-
-  pub stands_in_front : (x : Constant) (all before : List SpecCard) (p : ℕ) → cards ≡ all → before ≡ take (length before) all → Some p ≡ lookup (is_same x) constants → nat_lt p (length before) ≡ stands_on x before
-  stands_in_front x all before p same front found = told (nat_lt p (length before)) ∙ stands_found_before x all before (Some p) same front found
-    where
-      told : (b : Bool) → b ≡ is_some (cond b (Some p) None)
-      told true = refl
-      told false = refl
+index_more names names_more constants constants_more cards i c n m ds xs lt is index at_name at_constant defines has noted_names noted_constants = record {
+  defined = λ name.
+      noted_more (is_of name) placed (pointwise nat_eq name) names names_more (definitions (take i cards)) ds (index.defined name)
+      (noted_names name ∙ ap (λ k. option_or (lookup (pointwise nat_eq name) names) (first_at (is_of name) placed k ds)) at_name)
+      ∙ ap (first_at (is_of name) placed 0) (ap (λ l. definitions (take i cards) ++ l) defines ∙ sym (definitions-take cards i c lt is));
+  standing = λ x.
+      noted_more (is_same x) place_of (is_same x) constants constants_more (constants_in (take i cards)) xs (index.standing x)
+      (noted_constants x ∙ ap (λ k. option_or (lookup (is_same x) constants) (first_at (is_same x) place_of k xs)) at_constant)
+      ∙ ap (first_at (is_same x) place_of 0) (ap (λ l. constants_in (take i cards) ++ l) has ∙ sym (constants_in-take cards i c lt is));
+}

@@ -1,3 +1,4 @@
+pub mod InsertLemmas
+pub mod ItemLemmas
 pub mod IndexLemmas
-pub mod ConstantLemmas
 pub mod GroupLemmas

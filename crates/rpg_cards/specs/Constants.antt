@@ -1,12 +1,12 @@
 -- The constants that stand on the cards themselves.
-use Rattle.std.specs.Prelude.{◌≤◌, ◌<◌, ◌^◌, unsigned_abs, IsTrue, List, [], ◌∷◌, ◌++◌, length, Bool, false, ◌&&◌, ◌||◌, ◌==◌, nat_eq, if◌then◌else◌, Option, None, Some}
-use Rattle.std.specs.List.{list_all, list_any}
-use Rattle.std.specs.Option.{option_and_then, option_map, option_to_list}
+use Rattle.std.specs.Prelude.{◌≤◌, ◌<◌, ◌^◌, unsigned_abs, IsTrue, List, [], ◌∷◌, ◌++◌, length, Bool, false, ◌&&◌, ◌==◌, nat_eq, Option, None, Some}
+use Rattle.std.specs.List.{list_all}
+use Rattle.std.specs.Option.{option_and_then, option_map, option_or, option_to_list}
 use Rattle.std.specs.Ordering.{int_eq}
 use Rattle.std.specs.Cmp.Lexicographic.{pointwise}
 use Rattle.indexmap.specs.IndexSet.{insert_all}
 use Rattle.rpg_cards.specs.Cards.{calculation_on, output_field_on}
-use Rattle.rpg_cards.specs.Names.{first_some, form_of_name}
+use Rattle.rpg_cards.specs.Names.{form_of_name}
 use Rattle.rpg_cards.specs.declared.constants.Constant.{Constant}
 use Rattle.rpg_cards.specs.declared.constants.Constant.TheVariants.{Number, Text}
 use Rattle.rpg_cards.specs.declared.names.Defined.{Defined}
@@ -54,7 +54,7 @@ is_same (Text s) (Text t) = pointwise nat_eq s t
 -- ---- the constants of a card: those of factor 1 or of an output field, and then that of factor 2
 
 abbrev pub first_constant : Spec → Option Constant
-first_constant s = first_some (option_and_then (λ f. option_map Text f.constant) (output_field_on s)) (option_and_then (λ c. option_and_then factor_constant c.factor_1) (calculation_on s))
+first_constant s = option_or (option_and_then (λ f. option_map Text f.constant) (output_field_on s)) (option_and_then (λ c. option_and_then factor_constant c.factor_1) (calculation_on s))
 
 abbrev pub second_constant : Spec → Option Constant
 second_constant s = option_and_then (λ c. option_and_then factor_constant c.factor_2) (calculation_on s)
@@ -71,24 +71,6 @@ constants_in (c ∷ cs) = constants_on c.spec ++ constants_in cs
 -- equal ones once: each where it comes first
 abbrev pub constants : List SpecCard → List Constant
 constants cards = insert_all is_same [] (constants_in cards)
-
--- ---- what a card has that no card before it has
-
-abbrev pub stands_in : Constant → Option Constant → Bool
-stands_in x None = false
-stands_in x (Some c) = is_same x c
-
-abbrev pub stands_on : Constant → List SpecCard → Bool
-stands_on x cards = list_any (is_same x) (constants_in cards)
-
-abbrev pub unless : {X : Type 0} → Bool → X → Option X
-unless b x = if b then None else Some x
-
-abbrev pub new_first : List SpecCard → Spec → Option Constant
-new_first before s = option_and_then (λ x. unless (stands_on x before) x) (first_constant s)
-
-abbrev pub new_second : List SpecCard → Spec → Option Constant
-new_second before s = option_and_then (λ x. unless (stands_in x (first_constant s) || stands_on x before) x) (second_constant s)
 
 -- the form of what an operation works with
 abbrev pub form_of_factor : Factor → List SpecCard → Defined

@@ -1,34 +1,37 @@
--- The first card of each name and of each constant.
-use Rattle.std.specs.Prelude.{◌≡◌, ℕ, ◌+◌, Bool, List, [], ◌∷◌, ◌||◌, nat_eq, if◌then◌else◌, Option, None, Some}
+-- Where each name and each constant stands first.
+use Rattle.std.specs.Prelude.{◌≡◌, ℕ, ◌+◌, Bool, List, [], ◌∷◌, nat_eq, if◌then◌else◌, Option, None, Some}
 use Rattle.std.specs.Cmp.Lexicographic.{pointwise}
 use Rattle.std.specs.Map.{lookup}
-use Rattle.std.specs.Option.{option_and_then, option_or}
-use Rattle.rpg_cards.specs.Constants.{first_constant, second_constant, is_same, stands_in}
+use Rattle.rpg_cards.specs.Constants.{constants_in, is_same}
 use Rattle.rpg_cards.specs.Files.{first_file}
-use Rattle.rpg_cards.specs.Names.{definition_on}
+use Rattle.rpg_cards.specs.Names.{defined_as, definitions, is_of}
 use Rattle.rpg_cards.specs.declared.constants.Constant.{Constant}
 use Rattle.rpg_cards.specs.declared.index.FirstDefinition.{FirstDefinition}
+use Rattle.rpg_cards.specs.declared.names.Defined.{Defined}
+use Rattle.rpg_cards.specs.declared.names.Defined.TheVariants.{Missing}
+use Rattle.rpg_cards.specs.declared.names.Definition.{Definition}
 use Rattle.rpg_cards.specs.declared.spec_card.SpecCard.{SpecCard}
 use Rattle.rpg_spec.specs.declared.file.FileSpec.{FileSpec}
-use Rattle.rpg_spec.specs.declared.spec.Spec.{Spec}
 
--- what the first card that has something has, where a card may be asked for its place; the first card stands at place i
-abbrev pub first_of : {X : Type 0} → (ℕ → Spec → Option X) → ℕ → List SpecCard → Option X
-first_of has i [] = None
-first_of has i (c ∷ cs) = option_or (has i c.spec) (first_of has (i + 1) cs)
+-- what is made of the first item that passes a test and of its place; the first item of the list stands at place i
+abbrev pub first_at : {X Y : Type 0} → (X → Bool) → (ℕ → X → Y) → ℕ → List X → Option Y
+first_at test made i [] = None
+first_at test made i (x ∷ xs) = if test x then Some (made i x) else first_at test made (i + 1) xs
 
--- a card that defines a name
-abbrev pub definition_at : List ℕ → ℕ → Spec → Option FirstDefinition
-definition_at name i s = option_and_then (λ d. if pointwise nat_eq name d.0 then Some (record { place = i; form = d.1 }) else None) (definition_on s)
+abbrev pub placed : ℕ → Definition → FirstDefinition
+placed i d = record { place = i; form = d.form }
 
--- a card with a constant
-abbrev pub constant_at : Constant → ℕ → Spec → Option ℕ
-constant_at x i s = if stands_in x (first_constant s) || stands_in x (second_constant s) then Some i else None
+abbrev pub place_of : ℕ → Constant → ℕ
+place_of i x = i
 
--- each name with its first definition, and each constant with the place of its first card
+abbrev pub defined_first : Option FirstDefinition → Defined
+defined_first None = Missing
+defined_first (Some d) = defined_as d.form
+
+-- each name with its first definition, and each constant with its first place
 pub record IsIndex (names : List (List ℕ × FirstDefinition)) (constants : List (Constant × ℕ)) (cards : List SpecCard) : Type 0 where
-  pub defined : (name : List ℕ) → lookup (pointwise nat_eq name) names ≡ first_of (definition_at name) 0 cards
-  pub standing : (x : Constant) → lookup (is_same x) constants ≡ first_of (constant_at x) 0 cards
+  pub defined : (name : List ℕ) → lookup (pointwise nat_eq name) names ≡ first_at (is_of name) placed 0 (definitions cards)
+  pub standing : (x : Constant) → lookup (is_same x) constants ≡ first_at (is_same x) place_of 0 (constants_in cards)
 
 -- the same first file by each test
 abbrev pub HasSameFiles : List SpecCard → List SpecCard → Type 0

@@ -1,10 +1,13 @@
 -- The names that cards define, and their forms.
-use Rattle.std.specs.Prelude.{ℕ, ◌+◌, ◌-◌, List, [], ◌∷◌, ◌++◌, false, ◌&&◌, nat_le, nat_eq, if◌then◌else◌, Option, None, Some}
+use Rattle.std.specs.Prelude.{ℕ, ◌+◌, ◌-◌, List, [], ◌∷◌, ◌++◌, map, Bool, false, not, ◌&&◌, ◌||◌, nat_le, nat_eq, if◌then◌else◌, Option, None, Some}
+use Rattle.std.specs.List.{list_any}
 use Rattle.std.specs.Option.{option_map, option_and_then, option_to_list}
 use Rattle.std.specs.Cmp.Lexicographic.{pointwise}
+use Rattle.indexmap.specs.IndexSet.{insert_all}
 use Rattle.rpg_cards.specs.Cards.{input_field_on, calculation_on}
 use Rattle.rpg_cards.specs.declared.names.Defined.{Defined}
 use Rattle.rpg_cards.specs.declared.names.Defined.TheVariants.{Missing, Bad, Good}
+use Rattle.rpg_cards.specs.declared.names.Definition.{Definition}
 use Rattle.rpg_cards.specs.declared.spec_card.SpecCard.{SpecCard}
 use Rattle.rpg_effect.specs.declared.form.Class.TheVariants as class
 use Rattle.rpg_effect.specs.declared.form.FieldForm.{FieldForm}
@@ -33,24 +36,19 @@ sized_form len (Some decimals) = if is_between 1 15 len && nat_le decimals 9 && 
 abbrev pub field_form : InputField → Option FieldForm
 field_form f = if nat_le f.from f.to then sized_form (f.to + 1 - f.from) f.decimals else None
 
--- a name with its form: none where its length or decimals are past their limit
-abbrev pub Definition : Type 0
-Definition = List ℕ × Option FieldForm
+abbrev pub definition_of : InputField → Definition
+definition_of f = record { name = f.name; form = field_form f }
 
 -- a result field is defined where its length is given
+abbrev pub definition_sized : CalculationSpec → ℕ → List ℕ → Definition
+definition_sized c len name = record { name = name; form = sized_form len c.decimals }
+
 abbrev pub definition_by : CalculationSpec → Option Definition
-definition_by c = option_and_then (λ len. option_map (λ name. (name, sized_form len c.decimals)) c.result_field) c.length
-
-abbrev pub first_some : {X : Type 0} → Option X → Option X → Option X
-first_some (Some x) o = Some x
-first_some None o = o
-
-abbrev pub definition_on : Spec → Option Definition
-definition_on s = first_some (option_map (λ f. (f.name, field_form f)) (input_field_on s)) (option_and_then definition_by (calculation_on s))
+definition_by c = option_and_then (λ len. option_map (definition_sized c len) c.result_field) c.length
 
 -- what a card defines: an input field, or a result field
 abbrev pub definitions_on : Spec → List Definition
-definitions_on s = option_to_list (definition_on s)
+definitions_on s = option_to_list (option_map definition_of (input_field_on s)) ++ option_to_list (option_and_then definition_by (calculation_on s))
 
 -- what cards define, in their order
 abbrev pub definitions : List SpecCard → List Definition
@@ -63,14 +61,38 @@ abbrev pub defined_as : Option FieldForm → Defined
 defined_as None = Bad
 defined_as (Some form) = Good form
 
+abbrev pub is_of : List ℕ → Definition → Bool
+is_of name d = pointwise nat_eq name d.name
+
 abbrev pub first_form : List ℕ → List Definition → Defined
 first_form name [] = Missing
-first_form name (d ∷ ds) = if pointwise nat_eq name d.0 then defined_as d.1 else first_form name ds
+first_form name (d ∷ ds) = if is_of name d then defined_as d.form else first_form name ds
 
 abbrev pub unless_given : Option FieldForm → Defined → Defined
 unless_given (Some form) d = Good form
 unless_given None d = d
 
--- the date and the page number come before all cards
+-- the date and the page number come before all definitions
+abbrev pub form_by : List ℕ → List Definition → Defined
+form_by name ds = unless_given (form_of given name) (first_form name ds)
+
 abbrev pub form_of_name : List ℕ → List SpecCard → Defined
-form_of_name name cards = unless_given (form_of given name) (first_form name (definitions cards))
+form_of_name name cards = form_by name (definitions cards)
+
+-- ---- names: the given ones, and then each with its first definition
+
+abbrev pub defined_field : List ℕ × FieldForm → Definition
+defined_field f = record { name = f.0; form = Some f.1 }
+
+abbrev pub given_names : List Definition
+given_names = map defined_field given
+
+abbrev pub same_name : Definition → Definition → Bool
+same_name d = is_of d.name
+
+abbrev pub names : List SpecCard → List Definition
+names cards = insert_all same_name given_names (definitions cards)
+
+-- neither given nor among these definitions
+abbrev pub is_new_name : List ℕ → List Definition → Bool
+is_new_name name ds = not (list_any (is_of name) given_names || list_any (is_of name) ds)

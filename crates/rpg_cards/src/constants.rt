@@ -8,7 +8,9 @@ ghost use Rattle.rpg_cards.specs.Constants as constants;
 ghost use Rattle.rpg_cards.specs.SameConstants.{is_same_equiv, hashed, hashed_alike};
 ghost use Rattle.rpg_cards.specs.declared.constants.Constant.TheVariants.{Text};
 
+use crate::names::add;
 use crate::spec_card::SpecCard;
+use arrayvec::ArrayVec;
 use rpg_effect::form::{Class, FieldForm, Kind};
 use rpg_spec::{Factor, Literal, NumericLiteral, TextLiteral, Word};
 use std::hash::{Hash, Hasher};
@@ -110,6 +112,13 @@ impl Constant {
     }
 }
 
+/// What lies in an unused place of a list.
+impl Default for Constant {
+    fn default() -> Self {
+        Constant::Number(NumericLiteral::new(0, 1, 0))
+    }
+}
+
 /// Equal where one field can stand for both: their kind, length, decimals and value are the same.
 impl PartialEq for Constant {
     ghost eq = { constants.is_same };
@@ -163,9 +172,18 @@ pub fn factor_constant(factor: &Factor) -> Option<Constant>
 }
 
 impl SpecCard {
-    /// The constant of an output field, or of factor 1.
+    /// The constants of the card: that of an output field or of factor 1, and that of factor 2.
+    pub fn constants(&self) -> ArrayVec<Constant, 2>
+        ensures { result.items ≡ constants.constants_on self.now.spec }
+    {
+        let mut constants = ArrayVec::new();
+        add(&mut constants, self.first_constant());
+        add(&mut constants, self.second_constant());
+        constants
+    }
+
     #[tactic(auto, unfolding(crate::specs::Constants::first_constant))]
-    pub fn first_constant(&self) -> Option<Constant>
+    fn first_constant(&self) -> Option<Constant>
         ensures { result ≡ constants.first_constant self.now.spec }
     {
         if let Some(field) = self.output_field() {
@@ -175,20 +193,10 @@ impl SpecCard {
         factor_constant(self.calculation()?.factor_1.as_ref()?)
     }
 
-    /// The constant of factor 2.
     #[tactic(auto, unfolding(crate::specs::Constants::second_constant))]
-    pub fn second_constant(&self) -> Option<Constant>
+    fn second_constant(&self) -> Option<Constant>
         ensures { result ≡ constants.second_constant self.now.spec }
     {
         factor_constant(self.calculation()?.factor_2.as_ref()?)
-    }
-}
-
-pub(crate) fn stands_in(constant: &Constant, other: &Option<Constant>) -> bool
-    ensures { result ≡ constants.stands_in constant.now other.now }
-{
-    match other {
-        None => false,
-        Some(other) => constant == other,
     }
 }

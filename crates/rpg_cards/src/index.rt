@@ -1,20 +1,24 @@
-//! The cards of a source, with the first card of each name and of each constant.
+//! The cards of a source, with the first place of each name and of each constant.
 
-ghost use Rattle.std.specs.Prelude.{◌≡◌, ℕ, List, length, take, Some, None, nat_eq, if◌then◌else◌, option_copied, IfOk, OnOk};
+ghost use Rattle.std.specs.Prelude.{◌≡◌, ℕ, ◌+◌, ◌<◌, ◌^◌, List, take, not, Some, None, nat_eq, if◌then◌else◌, option_copied, IfOk, OnOk};
 ghost use Rattle.std.specs.Cmp.Lexicographic.{pointwise};
+ghost use Rattle.std.specs.List.{list_any};
 ghost use Rattle.std.specs.Map.{lookup};
 ghost use Rattle.std.specs.Option.{option_or};
+ghost use Rattle.arrayvec.specs.ArrayVec.{array_vec_len};
 ghost use Rattle.rpg_cards.specs.Constants as constants;
-ghost use Rattle.rpg_cards.specs.Constants.{is_same, stands_in};
+ghost use Rattle.rpg_cards.specs.Constants.{is_same};
 ghost use Rattle.rpg_cards.specs.Files as files;
-ghost use Rattle.rpg_cards.specs.Index.{constant_at, definition_at, HasSameFiles};
+ghost use Rattle.rpg_cards.specs.Index.{defined_first, first_at, place_of, placed, HasSameFiles};
 ghost use Rattle.rpg_cards.specs.Names as names;
+ghost use Rattle.rpg_cards.specs.Names.{is_of};
 ghost use Rattle.rpg_cards.specs.declared.constants.Constant.{Constant};
 
-use crate::constants::{Constant, factor_constant, stands_in};
+use crate::constants::{Constant, factor_constant};
 use crate::files::{file_named, input_file};
-use crate::names::{Defined, as_defined, given_form};
+use crate::names::{Defined, Definition, given_form};
 use crate::spec_card::SpecCard;
+use arrayvec::ArrayVec;
 use indexmap::IndexMap;
 use rpg_effect::form::FieldForm;
 use rpg_spec::{Factor, FileSpec, Word};
@@ -23,12 +27,15 @@ use std::alloc::{AllocError, Global};
 use std::hash::Hash;
 use std::marker::Model;
 
-/// Where a name is defined first, and in which form: none where its length or its decimals are past their limit.
+/// The place of a name's first definition among all definitions, and its form: none where its length or its decimals are past their limit.
 #[derive(Clone, Copy)]
 pub struct FirstDefinition {
     place: usize,
     form: Option<FieldForm>,
 }
+
+/// No memory has room for more.
+const MOST_CARDS: usize = usize::MAX / 2;
 
 /// The cards of a source, in which a name or a constant is found at once.
 #[derive(Drop)]
@@ -57,14 +64,16 @@ impl<'a> IndexedCards<'a> {
     pub fn new(alloc: Global, cards: &'a [SpecCard]) -> Result<Self, AllocError>
         ensures { IfOk result (λ indexed. indexed ≡ cards.now) }
     {
+        if cards.len() > MOST_CARDS {
+            return Err(AllocError);
+        }
         let mut names = IndexMap::new(alloc);
         let mut constants = IndexMap::new(alloc);
-        let mut i = 0;
-        while i < cards.len() {
-            let card = &cards[i];
-            note_name(&mut names, i, card)?;
-            note_constants(&mut constants, i, card)?;
-            i += 1;
+        let mut name_place = 0;
+        let mut constant_place = 0;
+        for card in cards {
+            name_place = note_names(&mut names, name_place, card.definitions())?;
+            constant_place = note_constants(&mut constants, constant_place, card.constants())?;
         }
         Ok(IndexedCards {
             cards,
@@ -86,41 +95,44 @@ impl<'a> IndexedCards<'a> {
     {
         match given_form(name) {
             Some(form) => Defined::Good(form),
-            None => self.defined(name),
+            None => defined_first(self.first_definition(name)),
         }
     }
 
-    /// The form of a name, by its first definition among the cards at the front.
-    pub fn form_before(&self, name: &Name, before: &[SpecCard]) -> Defined
-        requires { before.now ≡ take (length before.now) self.now }
-        ensures { result ≡ names.form_of_name name.now before.now }
+    /// The form of a name, by the definitions at the front, so many of them.
+    pub fn form_before(&self, name: &Name, place: usize) -> Defined
+        ensures { result ≡ names.form_by name.now (take place (names.definitions self.now)) }
     {
         match given_form(name) {
             Some(form) => Defined::Good(form),
-            None => self.defined_before(name, before),
+            None => defined_first(self.first_before(name, place)),
         }
     }
 
-    fn defined(&self, name: &Name) -> Defined
-        ensures { result ≡ names.first_form name.now (names.definitions self.now) }
+    /// Whether a name is neither given nor among so many definitions at the front.
+    pub fn is_new_name(&self, place: usize, name: &Name) -> bool
+        ensures { result ≡ names.is_new_name name.now (take place (names.definitions self.now)) }
     {
-        match self.names.get(name) {
-            None => Defined::Missing,
-            Some(first) => as_defined(first.form),
-        }
+        given_form(name).is_none() && self.first_before(name, place).is_none()
     }
 
-    fn defined_before(&self, name: &Name, before: &[SpecCard]) -> Defined
-        requires { before.now ≡ take (length before.now) self.now }
-        ensures { result ≡ names.first_form name.now (names.definitions before.now) }
+    fn first_definition(&self, name: &Name) -> Option<FirstDefinition>
+        ensures { result ≡ first_at (is_of name.now) placed 0 (names.definitions self.now) }
+    {
+        self.names.get(name).copied()
+    }
+
+    /// The first definition of a name, if it is among so many at the front.
+    fn first_before(&self, name: &Name, place: usize) -> Option<FirstDefinition>
+        ensures { result ≡ first_at (is_of name.now) placed 0 (take place (names.definitions self.now)) }
     {
         match self.names.get(name) {
-            None => Defined::Missing,
+            None => None,
             Some(first) => {
-                if first.place < before.len() {
-                    as_defined(first.form)
+                if first.place < place {
+                    Some(*first)
                 } else {
-                    Defined::Missing
+                    None
                 }
             }
         }
@@ -139,39 +151,13 @@ impl<'a> IndexedCards<'a> {
         }
     }
 
-    /// What a card has as factor 1 or in an output field, where no card before it has the same.
-    pub fn new_first(&self, before: &[SpecCard], card: &SpecCard) -> Option<Constant>
-        requires { before.now ≡ take (length before.now) self.now }
-        ensures { result ≡ constants.new_first before.now card.now.spec }
-    {
-        let constant = card.first_constant()?;
-        if self.stands_before(&constant, before) {
-            None
-        } else {
-            Some(constant)
-        }
-    }
-
-    /// What a card has as factor 2, where neither its factor 1 nor a card before it is the same.
-    pub fn new_second(&self, before: &[SpecCard], card: &SpecCard) -> Option<Constant>
-        requires { before.now ≡ take (length before.now) self.now }
-        ensures { result ≡ constants.new_second before.now card.now.spec }
-    {
-        let constant = card.second_constant()?;
-        if stands_in(&constant, &card.first_constant()) || self.stands_before(&constant, before) {
-            None
-        } else {
-            Some(constant)
-        }
-    }
-
-    fn stands_before(&self, constant: &Constant, before: &[SpecCard]) -> bool
-        requires { before.now ≡ take (length before.now) self.now }
-        ensures { result ≡ constants.stands_on constant.now before.now }
+    /// Whether a constant isn't among so many at the front.
+    pub fn is_new_constant(&self, place: usize, constant: &Constant) -> bool
+        ensures { result ≡ not (list_any (is_same constant.now) (take place (constants.constants_in self.now))) }
     {
         match self.constants.get(constant) {
-            None => false,
-            Some(place) => *place < before.len(),
+            None => true,
+            Some(first) => *first >= place,
         }
     }
 
@@ -204,50 +190,61 @@ fn from_first_file(cards: &[SpecCard]) -> &[SpecCard]
     rest
 }
 
-/// Notes what a card defines, unless a card before it does.
-fn note_name(
-    names: &mut IndexMap<Name, FirstDefinition>,
-    place: usize,
-    card: &SpecCard,
-) -> Result<(), AllocError>
-    ensures { OnOk result ((name : List ℕ) → lookup (pointwise nat_eq name) names.new.entries ≡ option_or (lookup (pointwise nat_eq name) names.old.entries) (definition_at name place card.now.spec)) }
+fn defined_first(first: Option<FirstDefinition>) -> Defined
+    ensures { result ≡ defined_first first }
 {
-    match card.defined_name() {
-        None => Ok(()),
-        Some(name) => note(
-            names,
-            Name::new(name.as_slice()),
+    match first {
+        None => Defined::Missing,
+        Some(
             FirstDefinition {
-                place,
-                form: card.defined_form(),
+                place: _,
+                form: None,
             },
-        ),
+        ) => Defined::Bad,
+        Some(
+            FirstDefinition {
+                place: _,
+                form: Some(form),
+            },
+        ) => Defined::Good(form),
     }
 }
 
-/// Notes the constants of a card that no card before it has.
+/// Notes definitions, whose places are counted on from this one, where their names have none before. Answers the place behind them.
+fn note_names(
+    names: &mut IndexMap<Name, FirstDefinition>,
+    start: usize,
+    definitions: ArrayVec<Definition, 2>,
+) -> Result<usize, AllocError>
+    requires { start + array_vec_len definitions < 2 ^ 64 }
+    ensures place { IfOk result (λ place. place ≡ start + array_vec_len definitions) }
+    ensures noted { OnOk result ((name : List ℕ) → lookup (pointwise nat_eq name) names.new.entries ≡ option_or (lookup (pointwise nat_eq name) names.old.entries) (first_at (is_of name) placed start definitions.items)) }
+{
+    let mut place = start;
+    for definition in definitions {
+        let Definition { name, form } = definition;
+        note(names, name, FirstDefinition { place, form })?;
+        place += 1;
+    }
+    Ok(place)
+}
+
+/// Notes constants, whose places are counted on from this one, where they have none before. Answers the place behind them.
 fn note_constants(
     constants: &mut IndexMap<Constant, usize>,
-    place: usize,
-    card: &SpecCard,
-) -> Result<(), AllocError>
-    ensures { OnOk result ((x : Constant) → lookup (is_same x) constants.new.entries ≡ option_or (lookup (is_same x) constants.old.entries) (constant_at x place card.now.spec)) }
+    start: usize,
+    items: ArrayVec<Constant, 2>,
+) -> Result<usize, AllocError>
+    requires { start + array_vec_len items < 2 ^ 64 }
+    ensures place { IfOk result (λ place. place ≡ start + array_vec_len items) }
+    ensures noted { OnOk result ((x : Constant) → lookup (is_same x) constants.new.entries ≡ option_or (lookup (is_same x) constants.old.entries) (first_at (is_same x) place_of start items.items)) }
 {
-    note_constant(constants, place, card.first_constant())?;
-    note_constant(constants, place, card.second_constant())
-}
-
-fn note_constant(
-    constants: &mut IndexMap<Constant, usize>,
-    place: usize,
-    constant: Option<Constant>,
-) -> Result<(), AllocError>
-    ensures { OnOk result ((x : Constant) → lookup (is_same x) constants.new.entries ≡ option_or (lookup (is_same x) constants.old.entries) (if stands_in x constant then Some place else None)) }
-{
-    match constant {
-        None => Ok(()),
-        Some(constant) => note(constants, constant, place),
+    let mut place = start;
+    for constant in items {
+        note(constants, constant, place)?;
+        place += 1;
     }
+    Ok(place)
 }
 
 /// Puts a value at a key that has none.

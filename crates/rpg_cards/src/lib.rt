@@ -11,6 +11,6 @@ mod spec_card;
 pub use constants::{Constant, ConstantText, factor_constant};
 pub use files::{file_named, input_file, output_file};
 pub use index::IndexedCards;
-pub use names::{Defined, sized_form};
+pub use names::{Defined, Definition, field_form, sized_form};
 pub use operations::{Kinds, Need, OperationColumns, columns};
 pub use spec_card::SpecCard;

@@ -1,14 +1,34 @@
 //! The names that cards define, and their forms.
 
-ghost use Rattle.std.specs.Prelude.{◌≡◌, ◌≤◌, Some, None, option_copied};
-ghost use Rattle.std.specs.Option.{option_map, option_and_then};
+ghost use Rattle.std.specs.Prelude.{◌≡◌, ◌+◌, ◌<◌, ◌≤◌, ◌++◌, Some, None};
+ghost use Rattle.std.specs.Option.{option_map, option_and_then, option_to_list};
+ghost use Rattle.arrayvec.specs.ArrayVec.{array_vec_len};
+ghost use Rattle.rpg_cards.specs.Cards.{input_field_on, calculation_on};
 ghost use Rattle.rpg_cards.specs.Names as names;
 ghost use Rattle.rpg_symbols.specs.Fields as fields;
 
 use crate::spec_card::SpecCard;
+use arrayvec::ArrayVec;
 use rpg_effect::form::{Class, FieldForm, Kind};
 use rpg_spec::InputField;
 use rpg_symbols::Name;
+
+/// A name that a card defines, with its form: none where its length or its decimals are past their limit.
+#[derive(Drop)]
+pub struct Definition {
+    pub name: Name,
+    pub form: Option<FieldForm>,
+}
+
+/// What lies in an unused place of a list.
+impl Default for Definition {
+    fn default() -> Self {
+        Definition {
+            name: Name::new(b""),
+            form: None,
+        }
+    }
+}
 
 /// What the first definition of a name says of its form.
 #[derive(Clone, Copy)]
@@ -56,35 +76,52 @@ const fn plain(kind: Kind, length: u16, decimals: u8) -> FieldForm
 }
 
 impl SpecCard {
-    /// The name that the card defines.
-    #[tactic(auto, unfolding(crate::specs::Names::definition_on, crate::specs::Names::definition_by))]
-    pub fn defined_name(&self) -> Option<&Name>
-        ensures { option_copied result ≡ option_map (λ d. d.0) (names.definition_on self.now.spec) }
+    /// What the card defines: an input field, or a result field.
+    pub fn definitions(&self) -> ArrayVec<Definition, 2>
+        ensures { result.items ≡ names.definitions_on self.now.spec }
     {
-        if let Some(field) = self.input_field() {
-            return Some(&field.name);
-        }
-        let calculation = self.calculation()?;
-        calculation.length?;
-        calculation.result_field.as_ref()
+        let mut definitions = ArrayVec::new();
+        add(&mut definitions, self.field_definition());
+        add(&mut definitions, self.result_definition());
+        definitions
     }
 
-    /// The form that it defines its name in.
-    #[tactic(auto, unfolding(crate::specs::Names::definition_on, crate::specs::Names::definition_by))]
-    pub fn defined_form(&self) -> Option<FieldForm>
-        ensures { result ≡ option_and_then (λ d. d.1) (names.definition_on self.now.spec) }
+    fn field_definition(&self) -> Option<Definition>
+        ensures { result ≡ option_map names.definition_of (input_field_on self.now.spec) }
     {
-        if let Some(field) = self.input_field() {
-            return field_form(field);
-        }
+        let field = self.input_field()?;
+        Some(Definition {
+            name: Name::new(field.name.as_slice()),
+            form: field_form(field),
+        })
+    }
+
+    fn result_definition(&self) -> Option<Definition>
+        ensures { result ≡ option_and_then names.definition_by (calculation_on self.now.spec) }
+    {
         let calculation = self.calculation()?;
-        calculation.result_field.as_ref()?;
-        sized_form(calculation.length?, calculation.decimals)
+        let length = calculation.length?;
+        let name = calculation.result_field.as_ref()?;
+        Some(Definition {
+            name: Name::new(name.as_slice()),
+            form: sized_form(length, calculation.decimals),
+        })
+    }
+}
+
+/// One more item, if there is one.
+pub(crate) fn add<T: Drop>(items: &mut ArrayVec<T, 2>, item: Option<T>)
+    requires { array_vec_len items.old < 2 }
+    ensures items { items.new.items ≡ items.old.items ++ option_to_list item }
+    ensures few { array_vec_len items.new ≤ array_vec_len items.old + 1 }
+{
+    if let Some(item) = item {
+        items.push(item);
     }
 }
 
 /// The form of an input field: none where its columns are turned round.
-fn field_form(field: &InputField) -> Option<FieldForm>
+pub fn field_form(field: &InputField) -> Option<FieldForm>
     ensures { result ≡ names.field_form field.now }
 {
     if field.from <= field.to {
@@ -117,14 +154,5 @@ const fn given(class: Class, length: u16) -> FieldForm
         decimals: 0,
         is_ascending: false,
         entries: 1,
-    }
-}
-
-pub(crate) fn as_defined(form: Option<FieldForm>) -> Defined
-    ensures { result ≡ names.defined_as form }
-{
-    match form {
-        Some(form) => Defined::Good(form),
-        None => Defined::Bad,
     }
 }

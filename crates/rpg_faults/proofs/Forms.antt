@@ -1,29 +1,16 @@
 -- Forms that agree in every part are equal.
+use denote.Enum.Bare.{same_true}
+use mathlib.Core.Bool.{beq}
 use Rattle.std.proofs.Common.{◌≡◌, Bool, true, false, ℕ, refl}
 use Rattle.std.proofs.lemmas.Bool.{and_parts, eqb-true}
-use Rattle.std.specs.Prelude.{◌==◌}
+use Rattle.rpg_effect.specs.contracts.form.Class as class
+use Rattle.rpg_effect.specs.contracts.form.Kind as kind
 use Rattle.rpg_effect.specs.declared.form.Class.{Class}
-use Rattle.rpg_effect.specs.declared.form.Class.TheVariants as class
 use Rattle.rpg_effect.specs.declared.form.FieldForm.{FieldForm}
 use Rattle.rpg_effect.specs.declared.form.Kind.{Kind}
-use Rattle.rpg_effect.specs.declared.form.Kind.TheVariants as kind
-use Rattle.rpg_faults.specs.Names.{same_kind, class_number, same_flag, same_form}
+use Rattle.rpg_faults.specs.Names.{same_form}
 
-kind_equal : (a b : Kind) → same_kind a b ≡ true → a ≡ b
-kind_equal kind.Number kind.Number e = refl
-kind_equal kind.Text kind.Text e = refl
-kind_equal kind.Number kind.Text e = cc
-kind_equal kind.Text kind.Number e = cc
-
-class_equal : (a b : Class) → (class_number a == class_number b) ≡ true → a ≡ b
-class_equal class.Plain class.Plain e = refl
-class_equal class.Array class.Array e = refl
-class_equal class.Table class.Table e = refl
-class_equal class.Constant class.Constant e = refl
-class_equal class.Date class.Date e = refl
-class_equal _ _ e = cc
-
-flag_equal : (a b : Bool) → same_flag a b ≡ true → a ≡ b
+flag_equal : (a b : Bool) → beq a b ≡ true → a ≡ b
 flag_equal true true e = refl
 flag_equal false false e = refl
 flag_equal true false e = cc
@@ -40,8 +27,8 @@ made_equal f g e =
     let p3 = and_parts _ _ p4.0 in
     let p2 = and_parts _ _ p3.0 in
     let p1 = and_parts _ _ p2.0 in
-    let k : f.kind ≡ g.kind = kind_equal f.kind g.kind p1.0 in
-    let c : f.class ≡ g.class = class_equal f.class g.class p1.1 in
+    let k : f.kind ≡ g.kind = same_true kind.the_type tt f.kind g.kind p1.0 in
+    let c : f.class ≡ g.class = same_true class.the_type tt f.class g.class p1.1 in
     let l : f.length ≡ g.length = eqb-true f.length g.length p2.1 in
     let d : f.decimals ≡ g.decimals = eqb-true f.decimals g.decimals p3.1 in
     let a : f.is_ascending ≡ g.is_ascending = flag_equal f.is_ascending g.is_ascending p4.1 in

@@ -1,18 +1,20 @@
 -- F1, F2, F3: names, their definitions and their forms.
+use denote.Enum.Bare.{sameb}
+use mathlib.Core.Bool.{beq}
 use Rattle.std.specs.Prelude.{ℕ, ◌==◌, List, Bool, true, false, not, ◌&&◌, ◌||◌, nat_le, Option, None, Some, is_some, is_none}
 use Rattle.std.specs.List.{list_any}
 use Rattle.std.specs.Option.{option_map_or}
 use Rattle.rpg_cards.specs.Cards.{input_field_on, calculation_on, output_field_on}
-use Rattle.rpg_cards.specs.Names.{Definition, definitions_on, field_form, form_of_name, sized_form}
+use Rattle.rpg_cards.specs.Names.{definitions, definitions_on, field_form, form_by, form_of_name, sized_form}
 use Rattle.rpg_cards.specs.Operations.{columns}
 use Rattle.rpg_cards.specs.declared.names.Defined.{Defined}
 use Rattle.rpg_cards.specs.declared.names.Defined.TheVariants.{Missing, Bad, Good}
+use Rattle.rpg_cards.specs.declared.names.Definition.{Definition}
 use Rattle.rpg_cards.specs.declared.spec_card.SpecCard.{SpecCard}
-use Rattle.rpg_effect.specs.declared.form.Class.{Class}
-use Rattle.rpg_effect.specs.declared.form.Class.TheVariants as class
+use Rattle.rpg_effect.specs.contracts.form.Class as class
+use Rattle.rpg_effect.specs.contracts.form.Kind as kind
 use Rattle.rpg_effect.specs.declared.form.FieldForm.{FieldForm}
 use Rattle.rpg_effect.specs.declared.form.Kind.{Kind}
-use Rattle.rpg_effect.specs.declared.form.Kind.TheVariants as kind
 use Rattle.rpg_spec.specs.declared.calculation.CalculationSpec.{CalculationSpec}
 use Rattle.rpg_spec.specs.declared.calculation.Operation.{Operation}
 use Rattle.rpg_spec.specs.declared.input.InputField.{InputField}
@@ -56,39 +58,24 @@ lacks_name cards c = option_map_or (calculation_lacks_name cards) (calculation_o
 -- ---- F2: a name that is defined again in another form
 
 abbrev pub same_kind : Kind → Kind → Bool
-same_kind kind.Number kind.Number = true
-same_kind kind.Number kind.Text = false
-same_kind kind.Text kind.Number = false
-same_kind kind.Text kind.Text = true
-
-abbrev pub class_number : Class → ℕ
-class_number class.Plain = 0
-class_number class.Array = 1
-class_number class.Table = 2
-class_number class.Constant = 3
-class_number class.Date = 4
-
-abbrev pub same_flag : Bool → Bool → Bool
-same_flag true b = b
-same_flag false b = not b
+same_kind k l = sameb kind.the_type k l
 
 abbrev pub same_form : FieldForm → FieldForm → Bool
 same_form f g =
-    same_kind f.kind g.kind && class_number f.class == class_number g.class && f.length == g.length && f.decimals == g.decimals
-    && same_flag f.is_ascending g.is_ascending && f.entries == g.entries
+    same_kind f.kind g.kind && sameb class.the_type f.class g.class && f.length == g.length && f.decimals == g.decimals
+    && beq f.is_ascending g.is_ascending && f.entries == g.entries
 
 abbrev pub is_other : FieldForm → Defined → Bool
 is_other form Missing = false
 is_other form Bad = false
 is_other form (Good first) = not (same_form first form)
 
--- a definition with its form
-abbrev pub redefines_as : List SpecCard → List ℕ → Option FieldForm → Bool
-redefines_as before name None = false
-redefines_as before name (Some form) = is_other form (form_of_name name before)
+-- a definition whose name has another form by those before
+abbrev pub redefines_as : List Definition → Definition → Bool
+redefines_as before d = option_map_or (λ form. is_other form (form_by d.name before)) d.form false
 
 abbrev pub redefines : List SpecCard → SpecCard → Bool
-redefines before c = list_any (λ (d : Definition). redefines_as before d.0 d.1) (definitions_on c.spec)
+redefines before c = list_any (redefines_as (definitions before)) (definitions_on c.spec)
 
 -- ---- F3: a field that is too long or has too many decimals, and decimals where no length is given
 

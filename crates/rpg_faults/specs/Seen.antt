@@ -1,14 +1,15 @@
 -- What the cards before a card come to.
-use Rattle.std.specs.Prelude.{◌≡◌, ℕ, ◌+◌, ◌*◌, ◌≤◌, true, List, length, take, Option, None, Some, is_some, if◌then◌else◌}
+use Rattle.std.specs.Prelude.{◌≡◌, ℕ, ◌+◌, ◌*◌, ◌≤◌, true, Bool, List, [], ◌∷◌, ◌++◌, length, sum_by, take, Option, None, Some, is_some, if◌then◌else◌}
 use Rattle.std.specs.Option.{option_map, option_map_or}
-use Rattle.rpg_cards.specs.Constants.{constant_form, constants, new_first, new_second}
+use Rattle.indexmap.specs.IndexSet.{insert_all}
+use Rattle.rpg_cards.specs.Constants.{constants_in, is_same}
 use Rattle.rpg_cards.specs.Files.{file_named}
 use Rattle.rpg_cards.specs.Groups.{Apart, Follower, Group, Heading, Role, calculation_role, file_of, input_role, open_group, output_role}
-use Rattle.rpg_cards.specs.Names.{Definition, form_of_name}
+use Rattle.rpg_cards.specs.Names.{definitions, given_names, same_name}
 use Rattle.rpg_cards.specs.declared.constants.Constant.{Constant}
+use Rattle.rpg_cards.specs.declared.names.Definition.{Definition}
 use Rattle.rpg_cards.specs.declared.spec_card.SpecCard.{SpecCard}
-use Rattle.rpg_faults.specs.Limits.{group_count, form_bytes, names, name_bytes, constant_bytes}
-use Rattle.rpg_faults.specs.Names.{is_missing}
+use Rattle.rpg_faults.specs.Limits.{bytes_of, definition_bytes, group_count}
 use Rattle.rpg_faults.specs.Places.{file_by}
 use Rattle.rpg_faults.specs.Rounding.{follows_division}
 use Rattle.rpg_faults.specs.declared.groups.Groups.{Groups}
@@ -21,7 +22,6 @@ use Rattle.rpg_spec.specs.declared.input.RecordType.{RecordType}
 use Rattle.rpg_spec.specs.declared.output.OutputField.{OutputField}
 use Rattle.rpg_spec.specs.declared.output.OutputRecord.{OutputRecord}
 use Rattle.rpg_spec.specs.declared.spec.Spec.{Spec}
-use Rattle.rpg_symbols.specs.Fields.{size_of}
 
 -- ---- groups of cards
 
@@ -52,46 +52,31 @@ with_role cards (Heading h name) g = record { number = g.number + 1; is_open = t
 with_role cards (Follower f) g = record g { followers = if g.is_open then g.followers + 1 else g.followers }
 with_role cards Apart g = g
 
--- ---- what a card adds
+-- ---- names and constants
 
--- a name that is defined for the first time
-abbrev pub names_by : List SpecCard → Option Definition → ℕ
-names_by before None = 0
-names_by before (Some d) = if is_missing (form_of_name d.0 before) then 1 else 0
+-- a list begins with these
+abbrev pub BeginsWith : {X : Type 0} → List X → List X → Type 0
+BeginsWith {X} xs front = (back : List X) × (xs ≡ front ++ back)
 
-abbrev pub name_bytes_by : List SpecCard → Option Definition → ℕ
-name_bytes_by before None = 0
-name_bytes_by before (Some d) = if is_missing (form_of_name d.0 before) then form_bytes d.1 else 0
+-- how many items there are, how many of them are not among the known ones nor like an earlier one, and the bytes of these with those of the known
+pub record HasTotals (X : Type 0) (same : X → X → Bool) (size : X → ℕ) (known items : List X) (t : Totals) : Type 0 where
+  pub count : t.items ≡ length items
+  pub number : t.number ≡ length (insert_all same known items)
+  pub storage : t.bytes ≡ sum_by size (insert_all same known items)
+  pub few : t.number ≤ 2 + length items
+  pub few_bytes : t.bytes ≤ 10 + 4294967295 * length items
 
-abbrev pub one_if_some : {X : Type 0} → Option X → ℕ
-one_if_some None = 0
-one_if_some (Some x) = 1
+abbrev pub HasNames : List Definition → Totals → Type 0
+HasNames items t = HasTotals Definition same_name definition_bytes given_names items t
 
-abbrev pub bytes_of : Option Constant → ℕ
-bytes_of None = 0
-bytes_of (Some c) = size_of (constant_form c)
+abbrev pub HasConstants : List Constant → Totals → Type 0
+HasConstants items t = HasTotals Constant is_same bytes_of [] items t
 
-abbrev pub constants_by : List SpecCard → SpecCard → ℕ
-constants_by before c = one_if_some (new_first before c.spec) + one_if_some (new_second before c.spec)
-
-abbrev pub constant_bytes_by : List SpecCard → SpecCard → ℕ
-constant_bytes_by before c = bytes_of (new_first before c.spec) + bytes_of (new_second before c.spec)
+-- a card stands behind these, whose items have been seen
+abbrev pub SeenBefore : {X : Type 0} → (List X → Totals → Type 0) → (List SpecCard → List X) → List SpecCard → SpecCard → Totals → List SpecCard → Type 0
+SeenBefore Has items cards c t before = BeginsWith cards (before ++ c ∷ []) × Has (items before) t
 
 -- ---- what is known of the cards before a card
-
--- their names
-pub record HasNames (cards : List SpecCard) (t : Totals) : Type 0 where
-  pub number : t.number ≡ length (names cards)
-  pub bytes : t.bytes ≡ name_bytes cards
-  pub few : t.number ≤ 2 + length cards
-  pub few_bytes : t.bytes ≤ 10 + 4294967295 * length cards
-
--- their constants
-pub record HasConstants (cards : List SpecCard) (t : Totals) : Type 0 where
-  pub number : t.number ≡ length (constants cards)
-  pub bytes : t.bytes ≡ constant_bytes cards
-  pub few : t.number ≤ 2 * length cards
-  pub few_bytes : t.bytes ≤ 131070 * length cards
 
 pub record IsSeen (cards : List SpecCard) (s : Seen) : Type 0 where
   pub front : s.before.now ≡ take (length s.before.now) cards
@@ -99,6 +84,6 @@ pub record IsSeen (cards : List SpecCard) (s : Seen) : Type 0 where
   pub few_cards : length cards ≤ 2000
   pub sheets : AreSheets cards s.before.now s.sheets
   pub remainder : s.leaves_remainder ≡ follows_division s.before.now
-  pub names : HasNames s.before.now s.names
-  pub constants : HasConstants s.before.now s.constants
-  pub all_names : HasNames cards s.all_names
+  pub names : HasNames (definitions s.before.now) s.names
+  pub constants : HasConstants (constants_in s.before.now) s.constants
+  pub all_names : HasNames (definitions cards) s.all_names

@@ -97,7 +97,7 @@ fn breaks(
 {
     match code {
         FaultCode::F1 => lacks_name(source, card),
-        FaultCode::F2 => redefines(source, seen.before, card),
+        FaultCode::F2 => redefines(source, seen, card),
         FaultCode::F3 => bad_size(card),
         FaultCode::F4 => wrong_operand(source, card),
         FaultCode::F6 => passes_limit(source, seen, card),

@@ -1,8 +1,8 @@
 //! F6: limits that are passed.
 
-ghost use Rattle.std.specs.Prelude.{◌≡◌, ◌&&◌, nat_le, nat_lt};
+ghost use Rattle.std.specs.Prelude.{◌≡◌, [], ◌∷◌, ◌++◌, ◌&&◌, nat_le, nat_lt};
 ghost use Rattle.rpg_faults.specs.Limits as limits;
-ghost use Rattle.rpg_faults.specs.Seen.{IsSeen};
+ghost use Rattle.rpg_faults.specs.Seen.{BeginsWith, IsSeen};
 
 use crate::seen::Seen;
 use crate::totals::{constants_with, names_with};
@@ -25,7 +25,8 @@ const STORAGE: u64 = 65535;
 const FIELDS: u64 = 4000;
 
 pub(crate) fn passes_limit(source: &IndexedCards, seen: &Seen, card: &SpecCard) -> bool
-    requires { IsSeen source.now seen.now }
+    requires seen { IsSeen source.now seen.now }
+    requires next { BeginsWith source.now (seen.now.before.now ++ card.now ∷ []) }
     ensures { result ≡ limits.passes_limit source.now seen.now.before.now card.now }
 {
     passes_count(source, seen, card) || passes_storage(source, seen, card)
@@ -58,16 +59,26 @@ fn passes_count(source: &IndexedCards, seen: &Seen, card: &SpecCard) -> bool
 }
 
 fn passes_storage(source: &IndexedCards, seen: &Seen, card: &SpecCard) -> bool
-    requires { IsSeen source.now seen.now }
+    requires seen { IsSeen source.now seen.now }
+    requires next { BeginsWith source.now (seen.now.before.now ++ card.now ∷ []) }
     ensures { result ≡ limits.passes_storage source.now seen.now.before.now card.now }
 {
-    let names = names_with(seen.names, source, seen.before, card);
+    let names = names_with(seen.names, source, card);
+    let constants = constants_with(seen.constants, source, card);
     let before = seen.constants;
-    let with = constants_with(before, source, seen.before, card);
     let all = seen.all_names;
-    passes(seen.names.bytes, names.bytes, STORAGE)
-        || passes(all.bytes + before.bytes, all.bytes + with.bytes, STORAGE)
-        || passes(all.number + before.number, all.number + with.number, FIELDS)
+    passes(seen.names.number, names.number, FIELDS)
+        || passes(seen.names.bytes, names.bytes, STORAGE)
+        || passes(
+            all.bytes + before.bytes,
+            all.bytes + constants.bytes,
+            STORAGE,
+        )
+        || passes(
+            all.number + before.number,
+            all.number + constants.number,
+            FIELDS,
+        )
 }
 
 /// What comes before a card is within a limit, and what comes with it is past it.

@@ -1,11 +1,17 @@
 //! F1, F2, F3: names, their definitions and their forms.
 
-ghost use Rattle.std.specs.Prelude.{◌≡◌, length, take, option_copied};
+ghost use Rattle.std.specs.Prelude.{◌≡◌, take, option_copied};
+ghost use Rattle.std.specs.List.{list_any};
+ghost use Rattle.rpg_cards.specs.Names.{definitions};
 ghost use Rattle.rpg_faults.specs.Cards.{operand};
 ghost use Rattle.rpg_faults.specs.Names as names;
+ghost use Rattle.rpg_faults.specs.Seen.{IsSeen};
 
-use rpg_cards::{Defined, IndexedCards, Need, SpecCard, columns, sized_form};
-use rpg_effect::form::{Class, FieldForm, Kind};
+use crate::seen::Seen;
+use rpg_cards::{
+    Defined, Definition, IndexedCards, Need, SpecCard, columns, field_form, sized_form,
+};
+use rpg_effect::form::FieldForm;
 use rpg_spec::{CalculationSpec, Factor, OutputField};
 use rpg_symbols::Name;
 
@@ -77,7 +83,7 @@ fn is_undefined(source: &IndexedCards, name: Option<&Name>) -> bool
     }
 }
 
-pub(crate) fn is_missing(defined: Defined) -> bool
+fn is_missing(defined: Defined) -> bool
     ensures { result ≡ names.is_missing defined }
 {
     match defined {
@@ -87,17 +93,32 @@ pub(crate) fn is_missing(defined: Defined) -> bool
 }
 
 /// F2: a name that is defined again in another form.
-pub(crate) fn redefines(source: &IndexedCards, before: &[SpecCard], card: &SpecCard) -> bool
-    requires { before.now ≡ take (length before.now) source.now }
-    ensures { result ≡ names.redefines before.now card.now }
+pub(crate) fn redefines(source: &IndexedCards, seen: &Seen, card: &SpecCard) -> bool
+    requires { IsSeen source.now seen.now }
+    ensures { result ≡ names.redefines seen.now.before.now card.now }
 {
-    let Some(name) = card.defined_name() else {
+    are_other(source, seen.names.items, card.definitions().as_slice())
+}
+
+/// Whether one of these has another form by the definitions at the front, so many of them.
+fn are_other(source: &IndexedCards, place: usize, items: &[Definition]) -> bool
+    ensures { result ≡ list_any (names.redefines_as (take place (definitions source.now))) items.now }
+{
+    for definition in items {
+        if is_other(source, place, definition) {
+            return true;
+        }
+    }
+    false
+}
+
+fn is_other(source: &IndexedCards, place: usize, definition: &Definition) -> bool
+    ensures { result ≡ names.redefines_as (take place (definitions source.now)) definition.now }
+{
+    let Some(form) = definition.form else {
         return false;
     };
-    let Some(form) = card.defined_form() else {
-        return false;
-    };
-    match source.form_before(name, before) {
+    match source.form_before(&definition.name, place) {
         Defined::Missing => false,
         Defined::Bad => false,
         Defined::Good(first) => !is_same(&first, &form),
@@ -107,35 +128,12 @@ pub(crate) fn redefines(source: &IndexedCards, before: &[SpecCard], card: &SpecC
 fn is_same(a: &FieldForm, b: &FieldForm) -> bool
     ensures { result ≡ names.same_form a.now b.now }
 {
-    is_same_kind(a.kind, b.kind)
-        && class_number(a.class) == class_number(b.class)
+    a.kind == b.kind
+        && a.class == b.class
         && a.length == b.length
         && a.decimals == b.decimals
         && a.is_ascending == b.is_ascending
         && a.entries == b.entries
-}
-
-pub(crate) fn is_same_kind(a: Kind, b: Kind) -> bool
-    ensures { result ≡ names.same_kind a b }
-{
-    match (a, b) {
-        (Kind::Number, Kind::Number) => true,
-        (Kind::Number, Kind::Text) => false,
-        (Kind::Text, Kind::Number) => false,
-        (Kind::Text, Kind::Text) => true,
-    }
-}
-
-fn class_number(class: Class) -> u8
-    ensures { result ≡ names.class_number class }
-{
-    match class {
-        Class::Plain => 0,
-        Class::Array => 1,
-        Class::Table => 2,
-        Class::Constant => 3,
-        Class::Date => 4,
-    }
 }
 
 /// F3: a length or decimals past their limit, or decimals without a length.
@@ -143,7 +141,7 @@ pub(crate) fn bad_size(card: &SpecCard) -> bool
     ensures { result ≡ names.bad_size card.now }
 {
     if let Some(field) = card.input_field() {
-        return field.from <= field.to && card.defined_form().is_none();
+        return field.from <= field.to && field_form(field).is_none();
     }
     match card.calculation() {
         None => false,

@@ -3,7 +3,7 @@
 ghost use Rattle.std.specs.Prelude.{◌≡◌};
 ghost use Rattle.rpg_faults.specs.Operands as operands;
 
-use crate::names::{is_same_kind, operand};
+use crate::names::operand;
 use rpg_cards::{Defined, IndexedCards, Kinds, Need, SpecCard, columns};
 use rpg_effect::form::{Class, FieldForm, Kind};
 use rpg_spec::{CalculationSpec, Factor};
@@ -101,7 +101,7 @@ fn differ(first: Option<FieldForm>, second: Option<FieldForm>) -> bool
     };
     match second {
         None => false,
-        Some(second) => !is_same_kind(first.kind, second.kind),
+        Some(second) => first.kind != second.kind,
     }
 }
 

@@ -62,8 +62,8 @@ impl<'a> Seen<'a> {
             before: &source.as_slice()[..self.before.len() + 1],
             sheets: self.sheets_with(source, card),
             leaves_remainder: self.leaves_remainder_with(card),
-            names: names_with(self.names, source, self.before, card),
-            constants: constants_with(self.constants, source, self.before, card),
+            names: names_with(self.names, source, card),
+            constants: constants_with(self.constants, source, card),
             all_names: self.all_names,
         }
     }

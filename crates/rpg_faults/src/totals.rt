@@ -1,151 +1,134 @@
 //! How many names and constants cards have, and the bytes that they take.
 
-ghost use Rattle.std.specs.Prelude.{◌≡◌, [], ◌∷◌, ◌++◌, ◌≤◌, length, take};
-ghost use Rattle.rpg_cards.specs.Names.{definition_on};
-ghost use Rattle.rpg_faults.specs.Seen as seen;
-ghost use Rattle.rpg_faults.specs.Seen.{HasNames, HasConstants};
+ghost use Rattle.std.specs.Prelude.{◌≡◌, List, [], ◌∷◌, ◌++◌, ◌+◌, ◌*◌, ◌<◌, ◌≤◌, length, take, if◌then◌else◌};
+ghost use Rattle.rpg_cards.specs.Constants.{constants_in};
+ghost use Rattle.rpg_cards.specs.Names.{definitions};
+ghost use Rattle.rpg_cards.specs.declared.spec_card.SpecCard.{SpecCard};
+ghost use Rattle.rpg_faults.specs.Limits as limits;
+ghost use Rattle.rpg_faults.specs.Seen.{HasConstants, HasNames, SeenBefore};
+ghost use Rattle.rpg_symbols.specs.Fields.{size_of};
 
-use crate::names::is_missing;
-use rpg_cards::{Constant, IndexedCards, SpecCard};
+use rpg_cards::{Constant, Definition, IndexedCards, SpecCard};
+use rpg_effect::form::FieldForm;
 
-/// Names or constants with their bytes.
+/// Names or constants: how many items were seen, how many of these are new, and the bytes of the new ones.
 #[derive(Clone, Copy)]
 pub(crate) struct Totals {
+    pub(crate) items: usize,
     pub(crate) number: u64,
     pub(crate) bytes: u64,
 }
 
 /// The date and the page number.
 pub(crate) const GIVEN: Totals = Totals {
+    items: 0,
     number: 2,
     bytes: 10,
 };
 
 pub(crate) const NONE: Totals = Totals {
+    items: 0,
     number: 0,
     bytes: 0,
 };
 
-/// The names of all cards.
-pub(crate) fn names_of(source: &IndexedCards) -> Totals
-    requires { length source.now ≤ 2000 }
-    ensures { HasNames source.now result }
-{
-    let cards = source.as_slice();
-    let mut names = GIVEN;
-    let mut i = 0;
-    while i < cards.len() {
-        names = names_with(names, source, &cards[..i], &cards[i]);
-        i += 1;
-    }
-    names
-}
-
-/// The names of the cards at the front and of one more card.
-pub(crate) fn names_with(
-    names: Totals,
-    source: &IndexedCards,
-    before: &[SpecCard],
-    card: &SpecCard,
-) -> Totals
-    requires front { before.now ≡ take (length before.now) source.now }
-    requires few { length before.now ≤ 2000 }
-    requires names { HasNames before.now names }
-    ensures { HasNames (before.now ++ card.now ∷ []) result }
-{
-    Totals {
-        number: names.number + names_by(source, before, card),
-        bytes: names.bytes + name_bytes_by(source, before, card) as u64,
-    }
-}
-
-/// One where a card is the first that defines its name.
-fn names_by(source: &IndexedCards, before: &[SpecCard], card: &SpecCard) -> u64
-    requires { before.now ≡ take (length before.now) source.now }
-    ensures value { result ≡ seen.names_by before.now (definition_on card.now.spec) }
-    ensures few { result ≤ 1 }
-{
-    match card.defined_name() {
-        None => 0,
-        Some(name) => {
-            if is_missing(source.form_before(name, before)) {
-                1
-            } else {
-                0
+impl Totals {
+    fn with(self, is_new: bool, bytes: u32) -> Self
+        requires items { self.items < 4000 }
+        requires number { self.number ≤ 4002 }
+        requires bytes { self.bytes ≤ 10 + 4294967295 * 4000 }
+        ensures items { result.items ≡ self.items + 1 }
+        ensures number { result.number ≡ self.number + (if is_new then 1 else 0) }
+        ensures bytes { result.bytes ≡ self.bytes + (if is_new then bytes else 0) }
+    {
+        let items = self.items + 1;
+        if is_new {
+            Totals {
+                items,
+                number: self.number + 1,
+                bytes: self.bytes + bytes as u64,
+            }
+        } else {
+            Totals {
+                items,
+                number: self.number,
+                bytes: self.bytes,
             }
         }
     }
 }
 
-/// The bytes of the field that a card defines for the first time.
-fn name_bytes_by(source: &IndexedCards, before: &[SpecCard], card: &SpecCard) -> u32
-    requires { before.now ≡ take (length before.now) source.now }
-    ensures { result ≡ seen.name_bytes_by before.now (definition_on card.now.spec) }
+/// The names of all cards.
+pub(crate) fn names_of(source: &IndexedCards) -> Totals
+    requires { length source.now ≤ 2000 }
+    ensures { HasNames (definitions source.now) result }
 {
-    let Some(name) = card.defined_name() else {
-        return 0;
-    };
-    if !is_missing(source.form_before(name, before)) {
-        return 0;
+    let mut names = GIVEN;
+    for card in source.as_slice() {
+        names = names_with(names, source, card);
     }
-    match card.defined_form() {
+    names
+}
+
+/// The names of the cards at the front and of the next card.
+pub(crate) fn names_with(names: Totals, source: &IndexedCards, card: &SpecCard) -> Totals
+    requires few { length source.now ≤ 2000 }
+    requires seen { (before : List SpecCard) × SeenBefore HasNames definitions source.now card.now names before }
+    ensures { (before : List SpecCard) → SeenBefore HasNames definitions source.now card.now names before → HasNames (definitions (before ++ card.now ∷ [])) result }
+{
+    let defined = card.definitions();
+    let items = defined.as_slice();
+    let mut names = names;
+    for definition in items {
+        names = with_name(names, source, definition);
+    }
+    names
+}
+
+fn with_name(names: Totals, source: &IndexedCards, definition: &Definition) -> Totals
+    requires few { names.items < 4000 }
+    requires seen { HasNames (take names.items (definitions source.now)) names }
+    ensures { HasNames (take names.items (definitions source.now) ++ definition.now ∷ []) result }
+{
+    let is_new = source.is_new_name(names.items, &definition.name);
+    names.with(is_new, form_bytes(definition.form))
+}
+
+fn form_bytes(form: Option<FieldForm>) -> u32
+    ensures { result ≡ limits.form_bytes form }
+{
+    match form {
         None => 0,
-        Some(form) => form.length as u32 * form.entries as u32,
+        Some(form) => size(&form),
     }
 }
 
-/// The constants of the cards at the front and of one more card.
-pub(crate) fn constants_with(
-    constants: Totals,
-    source: &IndexedCards,
-    before: &[SpecCard],
-    card: &SpecCard,
-) -> Totals
-    requires front { before.now ≡ take (length before.now) source.now }
-    requires few { length before.now ≤ 2000 }
-    requires constants { HasConstants before.now constants }
-    ensures { HasConstants (before.now ++ card.now ∷ []) result }
+fn size(form: &FieldForm) -> u32
+    ensures { result ≡ size_of form.now }
 {
-    Totals {
-        number: constants.number + constants_by(source, before, card),
-        bytes: constants.bytes + constant_bytes_by(source, before, card) as u64,
+    form.length as u32 * form.entries as u32
+}
+
+/// The constants of the cards at the front and of the next card.
+pub(crate) fn constants_with(constants: Totals, source: &IndexedCards, card: &SpecCard) -> Totals
+    requires few { length source.now ≤ 2000 }
+    requires seen { (before : List SpecCard) × SeenBefore HasConstants constants_in source.now card.now constants before }
+    ensures { (before : List SpecCard) → SeenBefore HasConstants constants_in source.now card.now constants before → HasConstants (constants_in (before ++ card.now ∷ [])) result }
+{
+    let written = card.constants();
+    let items = written.as_slice();
+    let mut constants = constants;
+    for constant in items {
+        constants = with_constant(constants, source, constant);
     }
+    constants
 }
 
-/// How many constants a card has first.
-fn constants_by(source: &IndexedCards, before: &[SpecCard], card: &SpecCard) -> u64
-    requires { before.now ≡ take (length before.now) source.now }
-    ensures value { result ≡ seen.constants_by before.now card.now }
-    ensures few { result ≤ 2 }
+fn with_constant(constants: Totals, source: &IndexedCards, constant: &Constant) -> Totals
+    requires few { constants.items < 4000 }
+    requires seen { HasConstants (take constants.items (constants_in source.now)) constants }
+    ensures { HasConstants (take constants.items (constants_in source.now) ++ constant.now ∷ []) result }
 {
-    one_if_some(&source.new_first(before, card)) + one_if_some(&source.new_second(before, card))
-}
-
-fn one_if_some(constant: &Option<Constant>) -> u64
-    ensures value { result ≡ seen.one_if_some constant.now }
-    ensures few { result ≤ 1 }
-{
-    match constant {
-        None => 0,
-        Some(_) => 1,
-    }
-}
-
-/// The bytes of the constants that a card has first.
-fn constant_bytes_by(source: &IndexedCards, before: &[SpecCard], card: &SpecCard) -> u32
-    requires { before.now ≡ take (length before.now) source.now }
-    ensures value { result ≡ seen.constant_bytes_by before.now card.now }
-    ensures few { result ≤ 131070 }
-{
-    bytes_of(&source.new_first(before, card)) + bytes_of(&source.new_second(before, card))
-}
-
-fn bytes_of(constant: &Option<Constant>) -> u32
-    ensures value { result ≡ seen.bytes_of constant.now }
-    ensures few { result ≤ 65535 }
-{
-    match constant {
-        None => 0,
-        Some(constant) => constant.form().length as u32,
-    }
+    let is_new = source.is_new_constant(constants.items, constant);
+    constants.with(is_new, size(&constant.form()))
 }

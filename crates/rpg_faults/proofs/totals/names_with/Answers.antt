@@ -1,18 +1,43 @@
-use Rattle.std.proofs.Common.{[], ◌∷◌, arith, length-append}
-use Rattle.rpg_faults.proofs.SeenLemmas.{names_more, name_bytes_more}
+use Rattle.std.proofs.Common.{◌++◌, sym, ap, ◌∙◌, subst, arith}
+use Rattle.rpg_cards.proofs.ItemLemmas.{few_definitions, definitions-append, definitions-push}
+use Rattle.rpg_cards.specs.Names.{definitions}
+use Rattle.rpg_faults.proofs.TotalLemmas.{all_seen, at_start, one_seen, some_in_front, within}
+use Rattle.rpg_faults.specs.Seen.{HasNames}
 use Rattle.rpg_faults.proofs.totals.names_with.Goals as goal
 
+pub loop-definition-init : goal.loop-definition-init
+loop-definition-init c =
+    let before = c.requires.seen.0 in
+    let same = c.as_slice-items.ensures.value ∙ c.definitions-defined.ensures in
+    let push = definitions-push before c.args.card.now ∙ ap (λ l. definitions before ++ l) (sym same) in
+    at_start HasNames (λ xs t has. has.count) definitions definitions-append c.args.source.now before c.args.card.now c.as_slice-items.result.now push c.args.names c.requires.seen.1
+
+pub with_name-names-requires-clause-few : goal.with_name-names-requires-clause-few
+with_name-names-requires-clause-few c =
+    let before = c.requires.seen.0 in
+    let same = c.as_slice-items.ensures.value ∙ c.definitions-defined.ensures in
+    let push = definitions-push before c.args.card.now ∙ ap (λ l. definitions before ++ l) (sym same) in
+    let few = few_definitions c.args.source.now in
+    let inside = within HasNames (λ xs t has. has.count) definitions definitions-append c.args.source.now before c.args.card.now c.as_slice-items.result.now push c.args.names c.requires.seen.1 c.loop-definition.definition-index c.loop-definition.names c.loop-definition.invariant c.loop-definition-test.true in
+    omega (arith, c.requires.few)
+
+pub with_name-names-requires-clause-seen : goal.with_name-names-requires-clause-seen
+with_name-names-requires-clause-seen c =
+    let before = c.requires.seen.0 in
+    let same = c.as_slice-items.ensures.value ∙ c.definitions-defined.ensures in
+    let push = definitions-push before c.args.card.now ∙ ap (λ l. definitions before ++ l) (sym same) in
+    let front = some_in_front HasNames (λ xs t has. has.count) definitions definitions-append c.args.source.now before c.args.card.now c.as_slice-items.result.now push c.args.names c.requires.seen.1 c.loop-definition.definition-index c.loop-definition.names c.loop-definition.invariant in
+    subst (λ l. HasNames l c.loop-definition.names) (sym front) c.loop-definition.invariant
+
+pub loop-definition-preserved : goal.loop-definition-preserved
+loop-definition-preserved c =
+    let before = c.requires.seen.0 in
+    let same = c.as_slice-items.ensures.value ∙ c.definitions-defined.ensures in
+    let push = definitions-push before c.args.card.now ∙ ap (λ l. definitions before ++ l) (sym same) in
+    one_seen HasNames (λ xs t has. has.count) definitions definitions-append c.args.source.now before c.args.card.now c.as_slice-items.result.now push c.args.names c.requires.seen.1 c.loop-definition.definition-index c.loop-definition.names c.with_name-names.result c.definition-item.result c.loop-definition.invariant c.loop-definition-test.true c.definition-item.is c.with_name-names.ensures
+
 pub returns : goal.returns
-returns c =
-    let before = c.args.before.now in
-    let card = c.args.card.now in
-    let number = names_more before card in
-    let bytes = name_bytes_more before card in
-    let longer = length-append before (card ∷ []) in
-    let was = c.requires.names in
-    record {
-      number = omega (arith, c.names_by.ensures.value);
-      bytes = omega (arith, c.name_bytes_by.ensures);
-      few = omega (arith, c.names_by.ensures.few);
-      few_bytes = omega (arith, c.name_bytes_by.type_inv);
-    }
+returns c before seen =
+    let same = c.as_slice-items.ensures.value ∙ c.definitions-defined.ensures in
+    let push = definitions-push before c.args.card.now ∙ ap (λ l. definitions before ++ l) (sym same) in
+    all_seen HasNames (λ xs t has. has.count) definitions definitions-append c.args.source.now before c.args.card.now c.as_slice-items.result.now push c.args.names seen c.loop-definition.definition-index c.loop-definition.names c.loop-definition.invariant (omega arith)

@@ -1,12 +1,12 @@
-use Rattle.std.proofs.Common.{◌-◌, ◌≤◌, length, take}
+use Rattle.std.proofs.Common.{◌≡◌, length, take}
+use Rattle.rpg_cards.specs.Constants.{constants_in}
 use Rattle.rpg_cards.specs.Index.{IsIndex}
+use Rattle.rpg_cards.specs.Names.{definitions}
 use Rattle.rpg_cards.proofs.index.IndexedCards.new.Given as goal
 
-abbrev pub invariant-loop-i : goal.invariant-loop-i
-invariant-loop-i l = record {
-  index : IsIndex l.names.entries l.constants.entries (take l.i l.cards);
-  within : l.i ≤ length l.cards;
+abbrev pub invariant-loop-card : goal.invariant-loop-card
+invariant-loop-card l = record {
+  index : IsIndex l.names.entries l.constants.entries (take l.card-index l.cards);
+  names : l.name_place ≡ length (definitions (take l.card-index l.cards));
+  constants : l.constant_place ≡ length (constants_in (take l.card-index l.cards));
 }
-
-abbrev pub decreases-loop-i : goal.decreases-loop-i
-decreases-loop-i l = length l.cards - l.i

@@ -1,8 +1,11 @@
 use Rattle.std.proofs.Common.{◌≡◌, ◌+◌, ◌++◌, ◌∷◌, [], length, take, ◌∙◌, sym, ap, subst}
 use Rattle.std.specs.Option.{option_map_or}
 use Rattle.rpg_cards.specs.Cards.{calculation_on}
+use Rattle.rpg_cards.specs.Constants.{constants_in}
+use Rattle.rpg_cards.specs.Names.{definitions}
 use Rattle.rpg_faults.proofs.GroupLemmas.{follows_division-push}
 use Rattle.rpg_faults.proofs.SeenLemmas.{front_more, is_front, front_within}
+use Rattle.rpg_faults.proofs.TotalLemmas.{begins_split}
 use Rattle.rpg_faults.specs.Rounding.{follows_division, leaves_remainder}
 use Rattle.rpg_faults.specs.Seen.{AreSheets, HasNames, HasConstants}
 use Rattle.rpg_faults.proofs.seen.Seen.behind.Goals as goal
@@ -20,6 +23,7 @@ returns-clause-seen c =
     let cards = c.args.source.now in
     let front = front_more before card after cards c.requires.split in
     let here : take (length before + 1) c.as_slice.result.now ≡ before ++ card ∷ [] = ap (take (length before + 1)) c.as_slice.ensures ∙ front in
+    let begins = begins_split cards before card after c.requires.split in
     record {
       front = is_front _ before card cards here front;
       few = front_within _ before card after cards here c.requires.split c.requires.few;
@@ -28,7 +32,17 @@ returns-clause-seen c =
           c.leaves_remainder_with.ensures ∙ ap (option_map_or leaves_remainder (calculation_on card.spec)) c.requires.seen.remainder ∙ sym (follows_division-push before card)
           ∙ ap follows_division (sym here);
       few_cards = c.requires.few;
-      names = subst (λ b. HasNames b c.names_with.result) (sym here) c.names_with.ensures;
-      constants = subst (λ b. HasConstants b c.constants_with.result) (sym here) c.constants_with.ensures;
+      names = subst (λ b. HasNames (definitions b) c.names_with.result) (sym here) (c.names_with.ensures before (begins, c.requires.seen.names));
+      constants = subst (λ b. HasConstants (constants_in b) c.constants_with.result) (sym here) (c.constants_with.ensures before (begins, c.requires.seen.constants));
       all_names = c.requires.seen.all_names;
     }
+
+pub names_with-requires-clause-seen : goal.names_with-requires-clause-seen
+names_with-requires-clause-seen c =
+    let seen = c.args.self.now in
+    (seen.before.now, (begins_split c.args.source.now seen.before.now c.args.card.now c.args.after.now c.requires.split, c.requires.seen.names))
+
+pub constants_with-requires-clause-seen : goal.constants_with-requires-clause-seen
+constants_with-requires-clause-seen c =
+    let seen = c.args.self.now in
+    (seen.before.now, (begins_split c.args.source.now seen.before.now c.args.card.now c.args.after.now c.requires.split, c.requires.seen.constants))
