@@ -10,7 +10,7 @@ use crate::whole::{fit, power_of_ten, rounded_quotient, with_sign_of};
 use thiserror::Error;
 
 /// A division by zero.
-#[derive(Clone, Copy, Debug, PartialEq, Eq, Error)]
+#[derive(Clone, Copy, Debug, Error)]
 #[error("division by zero")]
 pub struct ZeroDivisor;
 

@@ -13,7 +13,7 @@ use crate::whole::power_of_ten;
 use crate::zoned::{BadDigit, read_zoned, write_zoned};
 
 /// What is moved: a number by its digits, or a text.
-#[derive(Clone, Copy, Debug)]
+#[derive(Clone, Copy)]
 pub enum Source<'a> {
     Number(Figure),
     Text(&'a [u8]),

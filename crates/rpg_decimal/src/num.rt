@@ -2,14 +2,14 @@
 ghost use Rattle.std.specs.Prelude.{◌≡◌, ◌^◌, ◌<◌, ◌≤◌, unsigned_abs};
 
 /// How many digits stand behind a point.
-#[derive(Clone, Copy, Debug, PartialEq, Eq)]
+#[derive(Clone, Copy)]
 pub struct Scale {
     pub value: u8,
     pub ghost in_range: { value ≤ 18 },
 }
 
 /// The number `value` with its point before the last `dec` digits.
-#[derive(Clone, Copy, Debug, PartialEq, Eq)]
+#[derive(Clone, Copy)]
 pub struct Num {
     pub value: i64,
     pub dec: u8,
@@ -18,7 +18,7 @@ pub struct Num {
 }
 
 /// What a result is kept in: `len` digits, `dec` of them behind the point, and whether it is half adjusted.
-#[derive(Clone, Copy, Debug, PartialEq, Eq)]
+#[derive(Clone, Copy)]
 pub struct Target {
     pub len: u8,
     pub dec: u8,
@@ -29,7 +29,7 @@ pub struct Target {
 }
 
 /// A whole number of `len` digits.
-#[derive(Clone, Copy, Debug, PartialEq, Eq)]
+#[derive(Clone, Copy)]
 pub struct Figure {
     pub value: i64,
     pub len: u8,
@@ -39,7 +39,7 @@ pub struct Figure {
 }
 
 /// What a division leaves: `value` with its point before the last `dec` digits.
-#[derive(Clone, Copy, Debug, PartialEq, Eq)]
+#[derive(Clone, Copy)]
 pub struct Rest {
     pub value: i128,
     pub dec: Scale,

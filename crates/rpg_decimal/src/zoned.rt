@@ -8,7 +8,7 @@ ghost use Rattle.rpg_decimal.specs.Zoned.{digit_of, is_minus, may_stand, last_ch
 use thiserror::Error;
 
 /// A character that no number has at its place, counted from 0.
-#[derive(Clone, Copy, Debug, PartialEq, Eq, Error)]
+#[derive(Clone, Copy, Debug, Error)]
 #[error("a bad digit at {spot}")]
 pub struct BadDigit {
     pub spot: usize,
