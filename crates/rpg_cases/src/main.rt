@@ -1,21 +1,26 @@
-//! Cases as data: compiles and runs each case of the files that its words name, and prints a line for each run.
+//! Cases and sessions as data: does what the files say that its words name, and prints a line for each run of a case, and what comes of
+//! each command of a session.
 //!
-//! README.md says how a file of cases is written.
+//! README.md says how they are written.
 #![tactic(auto)]
 
+mod answers;
 mod case;
+mod command;
 mod cycles;
 mod damage;
 mod devices;
 mod mark;
 mod outcome;
 mod runs;
+mod session;
 mod spelling;
 mod sweep;
 mod trial;
 
 use case::{Case, Question};
 use outcome::write_report;
+use session::play;
 use std::alloc::Global;
 use std::io::{self, Write};
 use std::{env, fs};
@@ -55,7 +60,11 @@ fn main(rt: HostRuntime) -> io::Result<()> {
     let mut out = io::writer(&rt);
     for path in words.iter().skip(1) {
         let text = fs::read_to_string(&rt, path.as_str())?;
-        run_all(rt.alloc(), &mut out, text.as_str())?;
+        if path.as_str().ends_with(".session") {
+            play(&rt, text.as_str())?;
+        } else {
+            run_all(rt.alloc(), &mut out, text.as_str())?;
+        }
     }
-    Ok(())
+    answers::say(&rt)
 }

@@ -8,7 +8,7 @@ use crate::outcome::{Outputs, Told, Wanted};
 use crate::runs::{
     Given, accepted, line_of, records_of, run_listed_records, run_listed_values, run_streamed,
 };
-use crate::spelling::{push_hex, push_text};
+use crate::spelling::{hex_of, push_hex, text_of};
 use crate::sweep::sweep;
 use rpg_cli::{Answer, compile_to_bytes, verify_bytes};
 use rpg_object::{decode, encode};
@@ -41,28 +41,12 @@ fn put_over(alloc: Global, object: &mut Vec<u8>, change: Change<'_>) -> Result<(
     Ok(())
 }
 
-fn hex_of(alloc: Global, lines: &[&str]) -> Result<Vec<u8>, AllocError> {
-    let mut bytes = Vec::new(alloc);
-    for line in lines {
-        push_hex(&mut bytes, line)?;
-    }
-    Ok(bytes)
-}
-
 fn object_of(alloc: Global, case: &Case<'_>) -> Result<Vec<u8>, AllocError> {
     let mut object = hex_of(alloc, case.text.as_slice())?;
     for change in case.changes.iter() {
         put_over(alloc, &mut object, *change)?;
     }
     Ok(object)
-}
-
-fn text_of(alloc: Global, lines: &[&str]) -> Result<Vec<u8>, AllocError> {
-    let mut bytes = Vec::new(alloc);
-    for line in lines {
-        push_text(&mut bytes, line)?;
-    }
-    Ok(bytes)
 }
 
 /// What is told of one run.

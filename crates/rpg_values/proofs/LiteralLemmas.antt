@@ -1,5 +1,5 @@
 -- How literals are written.
-use Rattle.std.proofs.Common.{◌≡◌, ℕ, zero, suc, ◌+◌, ◌-◌, ◌<◌, ◌≤◌, Bool, true, false, List, [], ◌∷◌, ◌++◌, length, Option, Some, None, refl, sym, ap, ◌∙◌, arith, inl, inr, take, ℤ, unsigned_abs, length-append, get_or, ◌≢◌, ◌↔◌}
+use Rattle.std.proofs.Common.{◌≡◌, ℕ, zero, suc, ◌+◌, ◌-◌, ◌<◌, ◌≤◌, Bool, true, false, List, [], ◌∷◌, ◌++◌, length, Option, Some, None, refl, sym, ap, ◌∙◌, arith, inl, inr, take, ℤ, unsigned_abs, length-append, append_assoc, get_or, ◌≢◌, ◌↔◌}
 use Rattle.std.specs.Prelude.{position, ◌⊎◌, if◌then◌else◌, not, option_map, slice_range}
 use Rattle.std.specs.List.{list_all, position_or_len, before_first, after_first}
 use Rattle.std.specs.Char.{is_ascii_digit}
@@ -138,3 +138,14 @@ quoted_writes text t = (there (is_enclosed text) refl, back)
     back h =
         let some = doubled_some t h.1 in
         rw (h.0, enclosed (doubled t) some, between (doubled t)) (undoubled-doubled t)
+
+-- one more character is done
+pub one_more : (text word behind : List ℕ) (c : ℕ) (rest : Option (List ℕ))
+    → rest ≡ option_map (λ (t : List ℕ). c ∷ t) (undoubled behind) → undoubled text ≡ option_map (λ (t : List ℕ). word ++ t) rest
+    → undoubled text ≡ option_map (λ (t : List ℕ). (word ++ c ∷ []) ++ t) (undoubled behind)
+one_more text word behind c rest first so_far = by (undoubled behind) (rw first at so_far)
+  where
+    by : (o : Option (List ℕ)) → undoubled text ≡ option_map (λ (t : List ℕ). word ++ t) (option_map (λ (t : List ℕ). c ∷ t) o)
+        → undoubled text ≡ option_map (λ (t : List ℕ). (word ++ c ∷ []) ++ t) o
+    by None e = e
+    by (Some t) e = e ∙ ap (λ (u : List ℕ). Some u) (sym (append_assoc word (c ∷ []) t))

@@ -1,6 +1,6 @@
 //! Literals: numbers and texts that stand on the card itself, from the first column of their range on.
 
-ghost use Rattle.std.specs.Prelude.{◌≡◌, ◌≢◌, ℕ, ◌+◌, ◌-◌, ◌^◌, ◌≤◌, ◌<◌, ◌↔◌, List, [], length, position, IfSome, IsTrue};
+ghost use Rattle.std.specs.Prelude.{◌≡◌, ◌≢◌, ℕ, ◌+◌, ◌-◌, ◌^◌, ◌≤◌, ◌<◌, ◌↔◌, List, [], ◌∷◌, None, length, option_map, position, IfNone, IfSome, IsTrue};
 ghost use Rattle.std.specs.List.{list_all, before_first, after_first};
 ghost use Rattle.std.specs.Str.Parse.{starts_with_minus, without_leading_sign};
 ghost use Rattle.rpg_spec.specs.Values as values;
@@ -125,20 +125,31 @@ fn is_enclosed(text: &[u8]) -> bool
 }
 
 /// The text whose apostrophes are written twice: none where one of them stands alone.
+#[tactic(auto, using(crate::proofs::LiteralLemmas::one_more))]
 fn undoubled<const N: usize>(text: &[u8]) -> Option<Word<N>>
     requires { length text.now ≤ N }
     ensures { result ≡ values.undoubled text.now }
 {
     let mut word = Word::new(b"");
     let mut rest = text;
-    loop {
-        let (character, behind) = match rest {
-            [] => return Some(word),
-            [b'\'', b'\'', behind @ ..] => (b'\'', behind),
-            [b'\'', ..] => return None,
-            [character, behind @ ..] => (*character, behind),
-        };
+    while !rest.is_empty() {
+        let (character, behind) = first_undoubled(rest)?;
         word.push(character);
         rest = behind;
+    }
+    Some(word)
+}
+
+/// The character that stands first, and what is behind it: none where it is an apostrophe that stands alone.
+fn first_undoubled(text: &[u8]) -> Option<(u8, &[u8])>
+    requires { 0 < length text.now }
+    ensures first { IfSome result (λ first. values.undoubled text.now ≡ option_map (λ t. first.0 ∷ t) (values.undoubled first.1.now)) }
+    ensures shorter { IfSome result (λ first. length first.1.now < length text.now) }
+    ensures alone { IfNone result (values.undoubled text.now ≡ None) }
+{
+    match text {
+        [b'\'', b'\'', behind @ ..] => Some((b'\'', behind)),
+        [b'\'', ..] | [] => None,
+        [character, behind @ ..] => Some((*character, behind)),
     }
 }

@@ -1,7 +1,7 @@
 //! A session: commands, and behind a command that begins a file its lines.
 
 use crate::command::obey;
-use std::alloc::{AllocError, Global};
+use crate::spelling::{hex_of, text_of};
 use std::rt::Files;
 use std::{fs, io};
 
@@ -24,36 +24,6 @@ fn lines_behind(command: &str) -> Lines<'_> {
     }
 }
 
-fn text_of(alloc: Global, lines: &[&str]) -> Result<Vec<u8>, AllocError> {
-    let mut text = Vec::new(alloc);
-    for line in lines {
-        text.extend_from_slice(line.as_bytes())?;
-        text.push(b'\n')?;
-    }
-    Ok(text)
-}
-
-fn digit(byte: u8) -> u8 {
-    match byte {
-        b'0'..=b'9' => byte - b'0',
-        b'a'..=b'f' => byte - b'a' + 10,
-        _ => 0,
-    }
-}
-
-/// The bytes of lines of hex, two digits each.
-fn bytes_of(alloc: Global, lines: &[&str]) -> Result<Vec<u8>, AllocError> {
-    let mut bytes = Vec::new(alloc);
-    for line in lines {
-        for pair in line.as_bytes().chunks_exact(2) {
-            if let [high, low] = pair {
-                bytes.push(u8::wrapping_mul(digit(*high), 16) | digit(*low))?;
-            }
-        }
-    }
-    Ok(bytes)
-}
-
 /// Writes the file that the lines are.
 fn write_lines<R: Files + AllocGlobal>(
     rt: &R,
@@ -63,7 +33,7 @@ fn write_lines<R: Files + AllocGlobal>(
     match behind {
         Lines::Prose => Ok(()),
         Lines::Text(path) => fs::write(rt, path, &text_of(rt.alloc(), lines)?),
-        Lines::Hex(path) => fs::write(rt, path, &bytes_of(rt.alloc(), lines)?),
+        Lines::Hex(path) => fs::write(rt, path, &hex_of(rt.alloc(), lines)?),
     }
 }
 
