@@ -1,7 +1,7 @@
 -- What cards come to with one more behind them.
 use Rattle.std.proofs.Common.{◌≡◌, ℕ, ◌+◌, ◌≤◌, List, [], ◌∷◌, ◌++◌, length, take, sym, ap, ◌∙◌, arith, length-append}
 use Rattle.std.proofs.Math.Seq.{take-append-add}
-use Rattle.std.specs.List.{list_any}
+use Rattle.rpg_cards.specs.declared.spec_card.SpecCard.{SpecCard}
 
 -- ---- the cards at the front
 
