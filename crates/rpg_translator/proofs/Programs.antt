@@ -4,15 +4,16 @@ use Rattle.std.proofs.lemmas.Bool.{leb-true, and_parts}
 use Rattle.std.proofs.lemmas.List.{length-map, length-replicate, map-append}
 use Rattle.std.proofs.lemmas.List.Elements.{All-push, All-replicate, All-append, All-cons}
 use Rattle.std.proofs.lemmas.List.Sums.{fold-append, sum_by-cons, AllPass-from_list_all}
-use Rattle.std.specs.List.{list_all}
+use Rattle.std.specs.List.{cons_option, filter_map, list_all}
 use Rattle.std.proofs.lemmas.Option.{some_pair_parts}
 use Rattle.std.specs.Prelude.{All, IsTrue, is_some, if◌then◌else◌}
-use Rattle.std.specs.Option.{option_map, option_and_then, option_to_list}
+use Rattle.std.specs.Option.{option_map, option_and_then, option_or, option_to_list}
 use Rattle.rpg_cards.specs.Cards.{calculation_on, input_field_on}
 use Rattle.rpg_cards.specs.Constants.{IsConstant, constant_form, constant_value, constants}
 use Rattle.rpg_cards.specs.declared.constants.Constant.{Constant}
 use Rattle.rpg_cards.specs.declared.constants.Constant.TheVariants as constant
 use Rattle.rpg_cards.specs.Files.{input_file, output_file}
+use Rattle.rpg_cards.specs.Groups.{calculation_role, followers, groups_from, opening, role_of}
 use Rattle.rpg_cards.specs.Names.{Definition, definition_on, definition_by, definitions, definitions_on, field_form, first_some, sized_form}
 use Rattle.rpg_cards.specs.declared.spec_card.SpecCard.{SpecCard}
 use Rattle.rpg_translator.proofs.RowLemmas.{all_head, all_tail}
@@ -32,7 +33,7 @@ use Rattle.rpg_text.specs.Texts.{is_character}
 use Rattle.rpg_translation.specs.Code.{code_of, instruction_on}
 use Rattle.rpg_translation.specs.Fields.{with_definition, with_definitions, fields_of, first_of_kind, forms, first_value, only_value, Table, table_of, all_forms, all_values}
 use Rattle.rpg_translation.specs.Program.{program_of, length_of, constant_size, KeepsLimits}
-use Rattle.rpg_translation.specs.Tables.{with_first, types_of, lines_of}
+use Rattle.rpg_translation.specs.Tables.{types_of, lines_of}
 
 -- a field that an object program may have, of one entry
 record IsSingleRow (f : FieldForm) : Type 0 where
@@ -183,16 +184,26 @@ storage_of-constants (c ∷ cs) = let rest = storage_of-constants cs in let one 
 
 -- ---- instructions
 
-with_first-length : {X : Type 0} (o : Option X) (xs : List X) → length (with_first o xs) ≤ 1 + length xs
-with_first-length None xs = omega arith
-with_first-length (Some x) xs = omega arith
+length_if_any : {X : Type 0} (o : Option X) (xs : List X) → length (cons_option o xs) ≤ 1 + length xs
+length_if_any None xs = omega arith
+length_if_any (Some x) xs = omega arith
+
+code_from : Table → Option (List ℕ) → List SpecCard → List (Instruction ℕ)
+code_from table file cards = filter_map (λ g. instruction_on table g.heading) (groups_from calculation_role file cards)
+
+code_from-length : (table : Table) (file : Option (List ℕ)) (cards : List SpecCard) → length (code_from table file cards) ≤ length cards
+unfolding code_from
+code_from-length table file [] = omega arith
+code_from-length table file (c ∷ cs) = by_card (calculation_on c.spec) (λ own. code_from-length table own cs)
+  where
+    by_card : (o : Option CalculationSpec) → ((own : Option (List ℕ)) → length (code_from table own cs) ≤ length cs)
+        → length (filter_map (λ g. instruction_on table g.heading) (opening (role_of (λ k. None) o None) file (followers calculation_role cs) (λ own. groups_from calculation_role own cs))) ≤ length (c ∷ cs)
+    by_card None rest = let few = rest file in omega arith
+    by_card (Some k) rest = let few = rest (option_or None file) in let one = length_if_any (instruction_on table k) (code_from table (option_or None file) cs) in omega arith
 
 code_of-length : (table : Table) (cards : List SpecCard) → length (code_of table cards) ≤ length cards
-code_of-length table [] = omega arith
-code_of-length table (c ∷ cs) =
-    let rest = code_of-length table cs in
-    let one = with_first-length (option_and_then (instruction_on table) (calculation_on c.spec)) (code_of table cs) in
-    omega arith
+unfolding code_from
+code_of-length table cards = code_from-length table None cards
 
 -- ---- the program
 

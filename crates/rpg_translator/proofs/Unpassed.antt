@@ -1,20 +1,20 @@
 -- No card of a faultless source passes a limit.
 use Rattle.std.proofs.Common.{◌≡◌, false, List, ap, ◌∙◌}
 use Rattle.std.proofs.lemmas.Bool.{or_parts}
+use Rattle.rpg_cards.specs.Groups.{input_role, open_followers, output_role}
 use Rattle.rpg_cards.specs.declared.spec_card.SpecCard.{SpecCard}
 use Rattle.rpg_faults.proofs.LeastLemmas.{rule-faultless}
-use Rattle.rpg_faults.specs.Cards.{is_type, is_input_field, is_line, is_output_field}
 use Rattle.rpg_faults.specs.Faults.{rule, Faultless}
-use Rattle.rpg_faults.specs.Limits.{bytes_up_to, count_of, count_since, fields_up_to, name_bytes, passes, passes_limit}
+use Rattle.rpg_faults.specs.Limits.{bytes_up_to, fields_up_to, group_count, name_bytes, passes, passes_limit}
 use Rattle.rpg_faults.specs.declared.fault.FaultCode.TheVariants.{F6}
 use Rattle.rpg_translation.proofs.Each.{Seen}
 
 -- each limit that a program has
 pub record Unpassed (cards before : List SpecCard) (c : SpecCard) : Type 0 where
-  pub types : passes (count_of is_type) 200 before c ≡ false
-  pub inputs : passes (count_since is_type is_input_field) 500 before c ≡ false
-  pub lines : passes (count_of is_line) 1000 before c ≡ false
-  pub line_fields : passes (count_since is_line is_output_field) 200 before c ≡ false
+  pub types : passes (group_count input_role) 200 before c ≡ false
+  pub inputs : passes (open_followers input_role) 500 before c ≡ false
+  pub lines : passes (group_count output_role) 1000 before c ≡ false
+  pub line_fields : passes (open_followers output_role) 200 before c ≡ false
   pub bytes : passes name_bytes 65535 before c ≡ false
   pub all_bytes : passes (bytes_up_to cards) 65535 before c ≡ false
   pub fields : passes (fields_up_to cards) 4000 before c ≡ false

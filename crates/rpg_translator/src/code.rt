@@ -1,4 +1,4 @@
-//! Instructions, from the C cards.
+//! Instructions, from the groups of C cards.
 
 ghost use Rattle.std.specs.Prelude.{◌≡◌, All, IfOk};
 ghost use Rattle.rpg_program.specs.Kept.{AreIndicators, IsActionRow, IsInstructionRow, IsOperandRow};
@@ -12,7 +12,7 @@ use rpg_effect::operation::{Action, Instruction, Operand, Operator, Shows, Side}
 use rpg_spec::{CalculationSpec, Factor, Indicator, Operation, Three};
 use std::alloc::{AllocError, Global};
 
-/// An instruction for each C card.
+/// An instruction for each group with an operation.
 pub(crate) fn code_of(
     alloc: Global,
     table: &FieldTable,

@@ -1,6 +1,7 @@
-//! Lines, from the O cards.
+//! Lines, from the groups of O cards.
 
 ghost use Rattle.std.specs.Prelude.{◌≡◌, ◌≤◌, false, All, length, map, IfOk};
+ghost use Rattle.rpg_cards.specs.Groups.{followers, output_role};
 ghost use Rattle.rpg_edit.specs.declared.code.Fill.TheVariants as fills;
 ghost use Rattle.rpg_effect.specs.declared.line.Editing.TheVariants as editings;
 ghost use Rattle.rpg_effect.specs.declared.line.Source.TheVariants as sources;
@@ -19,7 +20,7 @@ use rpg_program::row::Line;
 use rpg_spec::{OutputField, OutputRecord, Three};
 use std::alloc::{AllocError, Global};
 
-/// A line for each record card.
+/// A line for each group.
 pub(crate) fn lines_of(
     alloc: Global,
     table: &FieldTable,
@@ -40,15 +41,15 @@ pub(crate) fn lines_of(
     Ok(lines)
 }
 
-/// The line of a record card, with the cards behind it.
+/// The line of the group that a record card opens, with the cards behind it.
 fn line_of(
     alloc: Global,
     table: &FieldTable,
     output: &OutputRecord,
     behind: &[SpecCard],
 ) -> Result<Line, AllocError>
-    requires { length (tables.line_fields_of table.now behind.now) ≤ 200 }
-    ensures row { IfOk result (λ l. line_row l ≡ tables.line_of table.now behind.now output.now) }
+    requires { length (followers output_role behind.now) ≤ 200 }
+    ensures row { IfOk result (λ l. line_row l ≡ tables.line_of table.now (tables.group_of output_role output.now behind.now)) }
     ensures kept { IfOk result (λ l. IsLineRow (line_row l)) }
 {
     let fields = line_fields_of(alloc, table, behind)?;
@@ -94,19 +95,22 @@ fn condition_of(condition: rpg_spec::Condition) -> Condition
     }
 }
 
-/// A field for each field card at the front.
+/// A field for each field card up to the next record card.
 fn line_fields_of(
     alloc: Global,
     table: &FieldTable,
     cards: &[SpecCard],
 ) -> Result<Vec<LineField<u16>>, AllocError>
-    ensures fields { IfOk result (λ v. v.items ≡ tables.line_fields_of table.now cards.now) }
+    ensures fields { IfOk result (λ v. v.items ≡ map (tables.line_field_of table.now) (followers output_role cards.now)) }
     ensures rows { IfOk result (λ v. All IsLineFieldRow v.items) }
 {
     let mut fields = Vec::new(alloc);
     for card in cards {
-        let Some(field) = card.output_field() else {
+        let None = card.line() else {
             return Ok(fields);
+        };
+        let Some(field) = card.output_field() else {
+            continue;
         };
         fields.push(line_field_of(table, field))?;
     }

@@ -1,6 +1,7 @@
-//! Record types, from the I cards.
+//! Record types, from the groups of I cards.
 
 ghost use Rattle.std.specs.Prelude.{◌≡◌, ◌≤◌, All, length, map, IfOk};
+ghost use Rattle.rpg_cards.specs.Groups.{followers, input_role};
 ghost use Rattle.rpg_translation.specs.Tables as tables;
 ghost use Rattle.rpg_program.specs.Kept.{IsInputRow, IsTypeRow};
 ghost use Rattle.rpg_program.specs.Object.{type_row};
@@ -13,7 +14,7 @@ use rpg_effect::operation::Shows;
 use rpg_program::row::RecordType;
 use std::alloc::{AllocError, Global};
 
-/// A type for each type card.
+/// A type for each group.
 pub(crate) fn types_of(
     alloc: Global,
     table: &FieldTable,
@@ -34,15 +35,15 @@ pub(crate) fn types_of(
     Ok(types)
 }
 
-/// The type of a type card, with the cards behind it.
+/// The type of the group that a type card opens, with the cards behind it.
 fn type_of(
     alloc: Global,
     table: &FieldTable,
     record_type: &rpg_spec::RecordType,
     behind: &[SpecCard],
 ) -> Result<RecordType, AllocError>
-    requires { length (tables.inputs_of table.now behind.now) ≤ 500 }
-    ensures row { IfOk result (λ t. type_row t ≡ tables.type_of table.now behind.now record_type.now) }
+    requires { length (followers input_role behind.now) ≤ 500 }
+    ensures row { IfOk result (λ t. type_row t ≡ tables.type_of table.now (tables.group_of input_role record_type.now behind.now)) }
     ensures kept { IfOk result (λ t. IsTypeRow (type_row t)) }
 {
     Ok(RecordType {
@@ -53,19 +54,22 @@ fn type_of(
     })
 }
 
-/// An input field for each field card at the front.
+/// An input field for each field card up to the next type card.
 fn inputs_of(
     alloc: Global,
     table: &FieldTable,
     cards: &[SpecCard],
 ) -> Result<Vec<InputField<u16>>, AllocError>
-    ensures inputs { IfOk result (λ v. v.items ≡ tables.inputs_of table.now cards.now) }
+    ensures inputs { IfOk result (λ v. v.items ≡ map (tables.input_of table.now) (followers input_role cards.now)) }
     ensures rows { IfOk result (λ v. All IsInputRow v.items) }
 {
     let mut inputs = Vec::new(alloc);
     for card in cards {
-        let Some(field) = card.input_field() else {
+        let None = card.record_type() else {
             return Ok(inputs);
+        };
+        let Some(field) = card.input_field() else {
+            continue;
         };
         let number = table.number_in(&field.name);
         inputs.push(input_of(field.from, field.to, number))?;

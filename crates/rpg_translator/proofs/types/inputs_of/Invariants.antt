@@ -1,11 +1,12 @@
-use Rattle.std.proofs.Common.{◌≡◌, ◌++◌, drop}
+use Rattle.std.proofs.Common.{◌≡◌, ◌++◌, drop, map}
 use Rattle.std.specs.Prelude.{All}
-use Rattle.rpg_translation.specs.Tables.{inputs_of}
+use Rattle.rpg_cards.specs.Groups.{followers, input_role}
+use Rattle.rpg_translation.specs.Tables.{input_of}
 use Rattle.rpg_program.specs.Kept.{IsInputRow}
 use Rattle.rpg_translator.proofs.types.inputs_of.Given as goal
 
 abbrev pub invariant-loop-card : goal.invariant-loop-card
 invariant-loop-card l = record {
-  so_far : l.inputs.items ++ inputs_of l.table (drop l.card-index l.cards) ≡ inputs_of l.table l.cards;
+  so_far : l.inputs.items ++ map (input_of l.table) (followers input_role (drop l.card-index l.cards)) ≡ map (input_of l.table) (followers input_role l.cards);
   rows : All IsInputRow l.inputs.items;
 }
