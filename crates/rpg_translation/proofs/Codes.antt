@@ -1,9 +1,9 @@
 -- The instructions of faultless cards break no rule, calculation by calculation.
 use Rattle.std.proofs.Common.{◌≡◌, ℕ, false, List, ◌∷◌, ◌++◌, Option, None, Some, refl, sym, ap, ◌∙◌, subst}
-use Rattle.std.proofs.lemmas.Bool.{or_left, or_parts, or_right}
+use Rattle.std.proofs.lemmas.Bool.{or_parts}
 use Rattle.std.specs.Option.{option_and_then, option_map, option_map_or}
 use Rattle.rpg_cards.specs.Cards.{calculation_on}
-use Rattle.rpg_cards.specs.Constants.{constant_of, factor_constant, first_constant, second_constant, stands_in}
+use Rattle.rpg_cards.specs.Constants.{constant_of, factor_constant, first_constant, second_constant}
 use Rattle.rpg_cards.specs.Groups.{calculation_role, groups}
 use Rattle.rpg_cards.specs.declared.spec_card.SpecCard.{SpecCard}
 use Rattle.rpg_effect.specs.declared.operation.Instruction.{Instruction}
@@ -26,7 +26,7 @@ use Rattle.rpg_translation.specs.Fields.{Table, table_of}
 use Rattle.rpg_translation.specs.Program.{program_of}
 use Rattle.rpg_translation.proofs.Broken.{good_columns, good_indicator, has_names, right_operands}
 use Rattle.rpg_translation.proofs.Calculations.{IsGood, IsRight, instruction_right}
-use Rattle.rpg_translation.proofs.Constants.{constant_leads, stands_itself}
+use Rattle.rpg_translation.proofs.Constants.{constant_leads, stands_first, stands_second}
 use Rattle.rpg_translation.proofs.Each.{AtRole, Each, InGroup, at_role, each_always, each_both, each_card, each_group, each_map, each_row_if_any}
 use Rattle.rpg_translation.proofs.Operands.{HasLiteral}
 
@@ -54,13 +54,13 @@ module _ (cards : List SpecCard) (none : Faultless cards) (allowance : ℕ) wher
       calculation_on c.spec ≡ Some k → HasLiteral cards none k.factor_1
   first_literal before c after k split is l e =
       let first : first_constant c.spec ≡ Some (constant_of l) = first_on c.spec k is ∙ ap (option_and_then factor_constant) e in
-      constant_leads cards before c after (constant_of l) split (or_left _ _ (stands_itself (constant_of l) (first_constant c.spec) first))
+      constant_leads cards before c after (constant_of l) split (stands_first (constant_of l) (first_constant c.spec) (second_constant c.spec) first)
 
   second_literal : (before : List SpecCard) (c : SpecCard) (after : List SpecCard) (k : CalculationSpec) → cards ≡ before ++ c ∷ after →
       calculation_on c.spec ≡ Some k → HasLiteral cards none k.factor_2
   second_literal before c after k split is l e =
       let second : second_constant c.spec ≡ Some (constant_of l) = second_on c.spec k is ∙ ap (option_and_then factor_constant) e in
-      constant_leads cards before c after (constant_of l) split (or_right (stands_in (constant_of l) (first_constant c.spec)) _ (stands_itself (constant_of l) (second_constant c.spec) second))
+      constant_leads cards before c after (constant_of l) split (stands_second (constant_of l) (first_constant c.spec) (second_constant c.spec) second)
 
   calculation_good : (before : List SpecCard) (c : SpecCard) (after : List SpecCard) (k : CalculationSpec) (o : Operation) → cards ≡ before ++ c ∷ after →
       calculation_on c.spec ≡ Some k → k.operation ≡ Some o → IsGood cards none allowance k o

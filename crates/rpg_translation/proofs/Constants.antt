@@ -4,10 +4,10 @@ use Rattle.std.proofs.lemmas.Bool.{or_left, or_right}
 use Rattle.std.proofs.lemmas.List.Folds.{list_any-append}
 use Rattle.std.proofs.lemmas.Option.{slice_get-map}
 use Rattle.std.specs.List.{list_any, position_or_len}
-use Rattle.std.specs.Option.{option_map}
+use Rattle.std.specs.Option.{option_map, option_to_list}
 use Rattle.std.specs.Prelude.{unwrap_or}
-use Rattle.rpg_cards.proofs.ConstantLemmas.{among_all, stands_on_card}
-use Rattle.rpg_cards.specs.Constants.{constant_form, constants_in, constants_on, first_constant, second_constant, is_same, stands_in, stands_on}
+use Rattle.rpg_cards.proofs.InsertLemmas.{among}
+use Rattle.rpg_cards.specs.Constants.{constant_form, constants_in, constants_on, is_same}
 use Rattle.rpg_cards.specs.SameConstants.{is_same_equiv, is_same-equal}
 use Rattle.rpg_cards.specs.declared.constants.Constant.{Constant}
 use Rattle.rpg_cards.specs.declared.spec_card.SpecCard.{SpecCard}
@@ -53,18 +53,21 @@ number_leads t x there =
 
 -- ---- the constants of a card
 
-stands_here : (x : Constant) (before : List SpecCard) (c : SpecCard) (after : List SpecCard) →
-    (stands_in x (first_constant c.spec) || stands_in x (second_constant c.spec)) ≡ true → stands_on x (before ++ c ∷ after) ≡ true
-stands_here x [] c after e =
-    list_any-append (is_same x) (constants_on c.spec) (constants_in after) ∙ or_left (list_any (is_same x) (constants_on c.spec)) (stands_on x after) (stands_on_card x c.spec ∙ e)
+stands_here : (x : Constant) (before : List SpecCard) (c : SpecCard) (after : List SpecCard) → list_any (is_same x) (constants_on c.spec) ≡ true → list_any (is_same x) (constants_in (before ++ c ∷ after)) ≡ true
+stands_here x [] c after e = list_any-append (is_same x) (constants_on c.spec) (constants_in after) ∙ or_left (list_any (is_same x) (constants_on c.spec)) _ e
 stands_here x (d ∷ ds) c after e =
     list_any-append (is_same x) (constants_on d.spec) (constants_in (ds ++ c ∷ after)) ∙ or_right (list_any (is_same x) (constants_on d.spec)) _ (stands_here x ds c after e)
 
-pub constant_leads : (cards before : List SpecCard) (c : SpecCard) (after : List SpecCard) (x : Constant) → cards ≡ before ++ c ∷ after →
-    (stands_in x (first_constant c.spec) || stands_in x (second_constant c.spec)) ≡ true →
+pub constant_leads : (cards before : List SpecCard) (c : SpecCard) (after : List SpecCard) (x : Constant) → cards ≡ before ++ c ∷ after → list_any (is_same x) (constants_on c.spec) ≡ true →
     form_at (all_forms (table_of cards)) (constant_number (table_of cards) x) ≡ Some (constant_form x)
 constant_leads cards before c after x split e =
-    number_leads (table_of cards) x (among_all cards x ∙ ap (stands_on x) split ∙ stands_here x before c after e)
+    number_leads (table_of cards) x (among is_same is_same_equiv x [] (constants_in cards) ∙ ap (λ cs. list_any (is_same x) (constants_in cs)) split ∙ stands_here x before c after e)
 
-pub stands_itself : (x : Constant) (o : Option Constant) → o ≡ Some x → stands_in x o ≡ true
-stands_itself x o e = ap (stands_in x) e ∙ (is_same_equiv).refl x
+stands_itself : (x : Constant) (o : Option Constant) → o ≡ Some x → list_any (is_same x) (option_to_list o) ≡ true
+stands_itself x o e = ap (λ (p : Option Constant). list_any (is_same x) (option_to_list p)) e ∙ ap (λ b. b || false) ((is_same_equiv).refl x)
+
+pub stands_first : (x : Constant) (o p : Option Constant) → o ≡ Some x → list_any (is_same x) (option_to_list o ++ option_to_list p) ≡ true
+stands_first x o p e = list_any-append (is_same x) (option_to_list o) (option_to_list p) ∙ or_left (list_any (is_same x) (option_to_list o)) _ (stands_itself x o e)
+
+pub stands_second : (x : Constant) (o p : Option Constant) → p ≡ Some x → list_any (is_same x) (option_to_list o ++ option_to_list p) ≡ true
+stands_second x o p e = list_any-append (is_same x) (option_to_list o) (option_to_list p) ∙ or_right (list_any (is_same x) (option_to_list o)) _ (stands_itself x p e)

@@ -1,27 +1,26 @@
 -- The definitions of a faultless source are those of plain fields.
-use Rattle.std.proofs.Common.{◌≡◌, ℕ, ◌+◌, ◌-◌, ◌≤◌, Bool, true, false, cond, List, ◌∷◌, ◌++◌, Option, None, Some, refl, sym, subst}
+use Rattle.std.proofs.Common.{◌≡◌, ℕ, ◌+◌, ◌-◌, ◌≤◌, Bool, true, false, cond, List, [], ◌∷◌, ◌++◌, Option, None, Some, refl, sym, ap, ◌∙◌, subst}
 use Rattle.std.proofs.lemmas.Bool.{ltb-false, le-leb, or_parts}
-use Rattle.std.specs.List.{list_any}
 use Rattle.std.specs.Option.{option_and_then, option_map, option_map_or, option_to_list}
 use Rattle.std.specs.Prelude.{◌&&◌, nat_le, is_none}
 use Rattle.rpg_cards.specs.Cards.{calculation_on, input_field_on}
 use Rattle.rpg_cards.specs.Groups.{input_role, open_file}
-use Rattle.rpg_cards.specs.Names.{Definition, definition_by, definition_on, field_form, first_some, form_of_name, plain_form, sized_form}
+use Rattle.rpg_cards.specs.Names.{definition_by, field_form, form_of_name, plain_form, sized_form, definition_of, definition_sized, definitions, definitions_on, defined_as, first_form}
 use Rattle.rpg_cards.specs.declared.names.Defined.TheVariants.{Good}
 use Rattle.rpg_cards.specs.declared.spec_card.SpecCard.{SpecCard}
 use Rattle.rpg_effect.specs.Forms.{is_array, is_plain}
 use Rattle.rpg_effect.specs.declared.form.FieldForm.{FieldForm}
 use Rattle.rpg_effect.specs.declared.form.Kind.TheVariants as kind
 use Rattle.rpg_faults.specs.Faults.{Faultless}
-use Rattle.rpg_faults.specs.Names.{bad_size_of_field, bad_size_of_result, is_other, redefines_as}
+use Rattle.rpg_faults.specs.Names.{bad_size_of_field, bad_size_of_result}
 use Rattle.rpg_faults.specs.Places.{file_by, outside_record}
 use Rattle.rpg_spec.specs.declared.calculation.CalculationSpec.{CalculationSpec}
 use Rattle.rpg_spec.specs.declared.file.FileSpec.{FileSpec}
 use Rattle.rpg_spec.specs.declared.input.InputField.{InputField}
 use Rattle.rpg_text.specs.Texts.{is_between}
 use Rattle.rpg_translation.proofs.Broken.{defines_alike, good_size, well_placed}
-use Rattle.rpg_translation.proofs.Each.{Seen, each_card}
-use Rattle.rpg_translation.proofs.Forms.{defined_here}
+use Rattle.rpg_translation.proofs.Each.{Each, Seen, each_append, each_card}
+use Rattle.rpg_translation.proofs.Forms.{defined_here, itself}
 use Rattle.rpg_translation.proofs.Names.{AreDefined, IsDefinition, IsForm}
 
 -- a plain field of that length
@@ -65,20 +64,34 @@ field_plain file f inside good = field_if (nat_le f.from f.to) f (le-leb f.from 
 
 -- ---- result fields
 
-result_defined : (len : Option ℕ) (name : Option (List ℕ)) (decimals : Option ℕ) → bad_size_of_result len decimals ≡ false →
-    IsDefinition (option_and_then (λ n. option_map (λ (x : List ℕ). (x, sized_form n decimals)) name) len)
-result_defined None name decimals good = tt
-result_defined (Some len) None decimals good = tt
-result_defined (Some len) (Some name) decimals good = no_array_in len (sized_form len decimals) (sized_plain len decimals good)
+result_defined : (k : CalculationSpec) (len : Option ℕ) (name : Option (List ℕ)) → bad_size_of_result len k.decimals ≡ false →
+    Each IsDefinition (option_to_list (option_and_then (λ n. option_map (definition_sized k n) name) len))
+result_defined k None name good = tt
+result_defined k (Some len) None good = tt
+result_defined k (Some len) (Some name) good = (no_array_in len (sized_form len k.decimals) (sized_plain len k.decimals good), tt)
 
 -- ---- all cards
 
-defined_on_card : (file : Option FileSpec) (o : Option InputField) (p : Option CalculationSpec) → option_map_or bad_size_of_field o false ≡ false →
-    option_map_or (outside_record file) o false ≡ false
-    → option_map_or (λ k. bad_size_of_result k.length k.decimals) p false ≡ false → IsDefinition (first_some (option_map (λ (f : InputField). (f.name, field_form f)) o) (option_and_then definition_by p))
-defined_on_card file None None size inside result = tt
-defined_on_card file None (Some k) size inside result = result_defined k.length k.result_field k.decimals result
-defined_on_card file (Some f) p size inside result = no_array_in (f.to + 1 - f.from) (field_form f) (field_plain file f inside size)
+field_defined : (file : Option FileSpec) (o : Option InputField) → option_map_or bad_size_of_field o false ≡ false → option_map_or (outside_record file) o false ≡ false →
+    Each IsDefinition (option_to_list (option_map definition_of o))
+field_defined file None size inside = tt
+field_defined file (Some f) size inside = (no_array_in (f.to + 1 - f.from) (field_form f) (field_plain file f inside size), tt)
+
+calculation_defined : (o : Option CalculationSpec) → option_map_or (λ k. bad_size_of_result k.length k.decimals) o false ≡ false →
+    Each IsDefinition (option_to_list (option_and_then definition_by o))
+calculation_defined None size = tt
+calculation_defined (Some k) size = result_defined k k.length k.result_field size
+
+each_on_cards : (cards : List SpecCard) → Each (λ (c : SpecCard). Each IsDefinition (definitions_on c.spec)) cards → AreDefined cards
+each_on_cards [] h = tt
+each_on_cards (c ∷ cs) h = each_append IsDefinition (definitions_on c.spec) (definitions cs) h.0 (each_on_cards cs h.1)
+
+-- the first definition on a card with an input field is that field's
+pub first_defined : (f : InputField) (o : Option InputField) (p : Option CalculationSpec) → o ≡ Some f →
+    first_form f.name (option_to_list (option_map definition_of o) ++ option_to_list (option_and_then definition_by p)) ≡ defined_as (field_form f)
+first_defined f o p is =
+    ap (λ (x : Option InputField). first_form f.name (option_to_list (option_map definition_of x) ++ option_to_list (option_and_then definition_by p))) is
+    ∙ itself f.name (field_form f) (first_form f.name (option_to_list (option_and_then definition_by p)))
 
 module _ (cards : List SpecCard) (none : Faultless cards) where
   -- an input field is inside the records of its file
@@ -88,13 +101,12 @@ module _ (cards : List SpecCard) (none : Faultless cards) where
       (or_parts _ _ (well_placed cards none before c after split)).0
 
   pub all_defined : AreDefined cards
-  all_defined = each_card cards (λ c. IsDefinition (definition_on c.spec)) (λ before c after split.
+  all_defined = each_on_cards cards (each_card cards (λ c. Each IsDefinition (definitions_on c.spec)) (λ before c after split.
       let size = or_parts _ _ (good_size cards none before c after split) in
-      defined_on_card (file_by (open_file input_role before) cards) (input_field_on c.spec) (calculation_on c.spec) size.0 (inside_file before c after split) size.1)
+      each_append IsDefinition (option_to_list (option_map definition_of (input_field_on c.spec))) (option_to_list (option_and_then definition_by (calculation_on c.spec)))
+      (field_defined (file_by (open_file input_role before) cards) (input_field_on c.spec) size.0 (inside_file before c after split)) (calculation_defined (calculation_on c.spec) size.1)))
 
-  -- a definition has the form of its name
+  -- a card's first definition of a name has the form of the name
   pub has_form : (before : List SpecCard) (c : SpecCard) (after : List SpecCard) (name : List ℕ) (form : FieldForm) → cards ≡ before ++ c ∷ after →
-      definition_on c.spec ≡ Some (name, Some form) → form_of_name name cards ≡ Good form
-  has_form before c after name form split is =
-      let alike : is_other form (form_of_name name before) ≡ false = (or_parts _ _ (subst (λ (o : Option Definition). list_any (λ (d : Definition). redefines_as before d.0 d.1) (option_to_list o) ≡ false) is (defines_alike cards none before c after split))).0 in
-      defined_here cards before c after name form split all_defined is alike
+      first_form name (definitions_on c.spec) ≡ Good form → form_of_name name cards ≡ Good form
+  has_form before c after name form split is = defined_here cards before c after name form split all_defined is (defines_alike cards none before c after split)

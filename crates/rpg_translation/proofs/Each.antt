@@ -25,6 +25,10 @@ pub each_map : {X : Type 0} (P Q : X → Type 0) (xs : List X) → ((x : X) → 
 each_map P Q [] f h = tt
 each_map P Q (x ∷ xs) f h = (f x h.0, each_map P Q xs f h.1)
 
+pub each_append : {X : Type 0} (P : X → Type 0) (xs ys : List X) → Each P xs → Each P ys → Each P (xs ++ ys)
+each_append P [] ys h g = g
+each_append P (x ∷ xs) ys h g = (h.0, each_append P xs ys h.1 g)
+
 pub each_passes : {X : Type 0} (test : X → Bool) (xs : List X) → Each (λ x. test x ≡ true) xs → list_all test xs ≡ true
 each_passes test [] h = refl
 each_passes test (x ∷ xs) h = and_from (test x) (list_all test xs) h.0 (each_passes test xs h.1)

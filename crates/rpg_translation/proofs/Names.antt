@@ -5,18 +5,19 @@ use Rattle.std.proofs.lemmas.Bool.{lt-ltb}
 use Rattle.std.specs.Cmp.Lexicographic.{pointwise}
 use Rattle.std.specs.List.{position_or_len}
 use Rattle.std.specs.Map.{lookup, keys_of}
-use Rattle.std.specs.Option.{option_or, option_map, option_to_list}
+use Rattle.std.specs.Option.{option_or, option_map}
 use Rattle.std.specs.Prelude.{is_some, position, unwrap_or, nat_eq, nat_lt}
-use Rattle.rpg_cards.proofs.IndexLemmas.{known_stays, lookup_push}
-use Rattle.rpg_cards.specs.Names.{Definition, definition_on, definitions, first_form, form_of_name, unless_given}
+use Rattle.rpg_cards.proofs.IndexLemmas.{known_stays, lookup_push, option_or_assoc}
+use Rattle.rpg_cards.specs.Names.{definitions, defined_as, first_form, form_of_name, unless_given}
 use Rattle.rpg_cards.specs.declared.names.Defined.{Defined}
 use Rattle.rpg_cards.specs.declared.names.Defined.TheVariants.{Good}
+use Rattle.rpg_cards.specs.declared.names.Definition.{Definition}
 use Rattle.rpg_cards.specs.declared.spec_card.SpecCard.{SpecCard}
 use Rattle.rpg_effect.specs.Forms.{form_at, is_array}
 use Rattle.rpg_effect.specs.declared.form.FieldForm.{FieldForm}
 use Rattle.rpg_faults.specs.Operands.{form_in}
 use Rattle.rpg_symbols.specs.Fields.{Fields, given, form_of}
-use Rattle.rpg_translation.specs.Fields.{Table, table_of, all_forms, fields_of, forms, number_in, with_definitions, with_name}
+use Rattle.rpg_translation.specs.Fields.{Table, table_of, all_forms, fields_of, forms, number_in, with_definitions, with_form, with_name}
 use Rattle.rpg_translation.proofs.Each.{Each}
 
 -- ---- definitions with a form, of no array
@@ -25,18 +26,13 @@ abbrev pub IsForm : Option FieldForm → Type 0
 IsForm None = ⊥
 IsForm (Some form) = is_array form.class ≡ false
 
-abbrev pub IsDefinition : Option Definition → Type 0
-IsDefinition None = Unit {0}
-IsDefinition (Some d) = IsForm d.1
+abbrev pub IsDefinition : Definition → Type 0
+IsDefinition d = IsForm d.form
 
 abbrev pub AreDefined : List SpecCard → Type 0
-AreDefined cards = Each (λ (c : SpecCard). IsDefinition (definition_on c.spec)) cards
+AreDefined cards = Each IsDefinition (definitions cards)
 
 -- ---- the names that cards add
-
-option_or_assoc : {X : Type 0} (a b c : Option X) → option_or (option_or a b) c ≡ option_or a (option_or b c)
-option_or_assoc None b c = refl
-option_or_assoc (Some x) b c = refl
 
 with_name-form : (fields : Fields) (name q : List ℕ) (form : FieldForm) →
     form_of (with_name fields name form) q ≡ option_or (form_of fields q) (cond (pointwise nat_eq q name) (Some form) None)
@@ -55,24 +51,23 @@ first_form-in name q form later = by_cases (pointwise nat_eq q name)
     by_cases true = refl
     by_cases false = refl
 
-one_card : (fields : Fields) (q : List ℕ) (d : Option Definition) (ds : List Definition) → IsDefinition d →
+one_definition : (fields : Fields) (q name : List ℕ) (o : Option FieldForm) (ds : List Definition) → IsForm o →
     ((more : Fields) → form_of (with_definitions more ds) q ≡ option_or (form_of more q) (form_in (first_form q ds))) →
-    form_of (with_definitions fields (option_to_list d ++ ds)) q ≡ option_or (form_of fields q) (form_in (first_form q (option_to_list d ++ ds)))
-one_card fields q None ds good rest = rest fields
-one_card fields q (Some (name, None)) ds good rest = absurd good
-one_card fields q (Some (name, Some form)) ds good rest =
+    form_of (with_definitions (with_form fields name o) ds) q ≡ option_or (form_of fields q) (form_in (cond (pointwise nat_eq q name) (defined_as o) (first_form q ds)))
+one_definition fields q name None ds good rest = absurd good
+one_definition fields q name (Some form) ds good rest =
     let later = first_form q ds in
     rest (with_name fields name form) ∙ ap (λ o. option_or o (form_in later)) (with_name-form fields name q form) ∙ option_or_assoc (form_of fields q) _ (form_in later)
     ∙ ap (option_or (form_of fields q)) (first_form-in name q form later)
 
-with_definitions-form : (fields : Fields) (cards : List SpecCard) (q : List ℕ) → AreDefined cards →
-    form_of (with_definitions fields (definitions cards)) q ≡ option_or (form_of fields q) (form_in (first_form q (definitions cards)))
+with_definitions-form : (fields : Fields) (ds : List Definition) (q : List ℕ) → Each IsDefinition ds →
+    form_of (with_definitions fields ds) q ≡ option_or (form_of fields q) (form_in (first_form q ds))
 with_definitions-form fields [] q good = or_none (form_of fields q)
   where
     or_none : {X : Type 0} (o : Option X) → o ≡ option_or o None
     or_none None = refl
     or_none (Some x) = refl
-with_definitions-form fields (c ∷ cs) q good = one_card fields q (definition_on c.spec) (definitions cs) good.0 (λ more. with_definitions-form more cs q good.1)
+with_definitions-form fields (d ∷ ds) q good = one_definition fields q d.name d.form ds good.0 (λ more. with_definitions-form more ds q good.1)
 
 given_or : (o : Option FieldForm) (d : Defined) → option_or o (form_in d) ≡ form_in (unless_given o d)
 given_or None d = refl
@@ -80,7 +75,7 @@ given_or (Some form) d = refl
 
 -- a name has the form of its first definition
 pub fields_of-form : (cards : List SpecCard) (name : List ℕ) → AreDefined cards → form_of (fields_of cards) name ≡ form_in (form_of_name name cards)
-fields_of-form cards name good = with_definitions-form given cards name good ∙ given_or (form_of given name) (first_form name (definitions cards))
+fields_of-form cards name good = with_definitions-form given (definitions cards) name good ∙ given_or (form_of given name) (first_form name (definitions cards))
 
 -- ---- the place of a name
 

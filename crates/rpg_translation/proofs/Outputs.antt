@@ -1,14 +1,14 @@
 -- What stands on the output cards of a faultless source is there, and has room in the line.
 use Rattle.std.proofs.Common.{◌≡◌, ℕ, ◌≤◌, true, false, List, [], ◌∷◌, ◌++◌, length, Option, None, Some, refl, sym, ap, ◌∙◌, subst, arith, append_assoc}
-use Rattle.std.proofs.lemmas.Bool.{ltb-false, not_from_false, or_left, or_parts}
-use Rattle.std.specs.Option.{option_and_then, option_map, option_map_or}
+use Rattle.std.proofs.lemmas.Bool.{ltb-false, not_from_false, or_parts}
+use Rattle.std.specs.Option.{option_and_then, option_map, option_map_or, option_or}
 use Rattle.std.specs.Prelude.{◌&&◌, is_none, is_some, nat_lt}
 use Rattle.rpg_cards.proofs.GroupLemmas.{open_group-push}
 use Rattle.rpg_cards.specs.Cards.{calculation_on, line_on, output_field_on}
-use Rattle.rpg_cards.specs.Constants.{constant_form, factor_constant, first_constant}
+use Rattle.rpg_cards.specs.Constants.{constant_form, factor_constant, first_constant, second_constant}
 use Rattle.rpg_cards.specs.Files.{output_file}
 use Rattle.rpg_cards.specs.Groups.{groups, open_file, open_group, output_role, role_of, with_card}
-use Rattle.rpg_cards.specs.Names.{first_some, form_of_name}
+use Rattle.rpg_cards.specs.Names.{form_of_name}
 use Rattle.rpg_cards.specs.declared.constants.Constant.TheVariants.{Text}
 use Rattle.rpg_cards.specs.declared.names.Defined.{Defined}
 use Rattle.rpg_cards.specs.declared.names.Defined.TheVariants.{Good}
@@ -33,7 +33,7 @@ use Rattle.rpg_translation.specs.Fields.{all_forms, constant_number, fields_of, 
 use Rattle.rpg_translation.specs.Program as program
 use Rattle.rpg_translation.specs.Tables.{output_operand_of, unindexed}
 use Rattle.rpg_translation.proofs.Broken.{good_columns, good_indicator, has_heading, has_names, well_placed}
-use Rattle.rpg_translation.proofs.Constants.{constant_leads, stands_itself}
+use Rattle.rpg_translation.proofs.Constants.{constant_leads, stands_first}
 use Rattle.rpg_translation.proofs.Definitions.{all_defined}
 use Rattle.rpg_translation.proofs.Each.{AtRole, Each, InGroup, Seen, at_role, each_card, each_group}
 use Rattle.rpg_translation.proofs.Forms.{form_there, name_good}
@@ -128,9 +128,9 @@ module _ (cards : List SpecCard) (none : Faultless cards) where
       HasConstant f.constant
   has_constant before c after f split is text e =
       let first : first_constant c.spec ≡ Some (Text text) =
-      ap (λ o. first_some (option_and_then (λ (x : OutputField). option_map Text x.constant) o) (option_and_then (λ k. option_and_then factor_constant k.factor_1) (calculation_on c.spec))) is
-      ∙ ap (λ o. first_some (option_map Text o) (option_and_then (λ k. option_and_then factor_constant k.factor_1) (calculation_on c.spec))) e in
-      constant_leads cards before c after (Text text) split (or_left _ _ (stands_itself (Text text) (first_constant c.spec) first))
+      ap (λ o. option_or (option_and_then (λ (x : OutputField). option_map Text x.constant) o) (option_and_then (λ k. option_and_then factor_constant k.factor_1) (calculation_on c.spec))) is
+      ∙ ap (λ o. option_or (option_map Text o) (option_and_then (λ k. option_and_then factor_constant k.factor_1) (calculation_on c.spec))) e in
+      constant_leads cards before c after (Text text) split (stands_first (Text text) (first_constant c.spec) (second_constant c.spec) first)
 
   output_fits : (before : List SpecCard) (c : SpecCard) (after : List SpecCard) (f : OutputField) → cards ≡ before ++ c ∷ after → output_field_on c.spec ≡ Some f →
       IsOutputFit f

@@ -1,12 +1,13 @@
 -- The record types of faultless cards break no rule.
-use Rattle.std.proofs.Common.{◌≡◌, ℕ, ◌+◌, ◌-◌, Bool, true, false, List, ◌∷◌, ◌++◌, map, Option, Some, refl, sym, ap, ◌∙◌, subst, arith}
+use Rattle.std.proofs.Common.{◌≡◌, ℕ, ◌+◌, ◌-◌, true, false, List, ◌∷◌, ◌++◌, map, Option, Some, refl, sym, ap, ◌∙◌, subst, arith}
 use Rattle.std.proofs.lemmas.Bool.{and_from, eq-eqb, eqb-false, le-leb, ltb-false, not_from_true, or_parts}
-use Rattle.std.specs.Option.{option_and_then, option_map, option_map_or}
+use Rattle.std.specs.Option.{option_map_or}
 use Rattle.std.specs.Prelude.{◌==◌, is_some, nat_le}
 use Rattle.rpg_cards.specs.Cards.{calculation_on, input_field_on, type_on}
 use Rattle.rpg_cards.specs.Files.{input_file}
 use Rattle.rpg_cards.specs.Groups.{Group, groups, input_role, open_file, open_group}
-use Rattle.rpg_cards.specs.Names.{definition_by, definition_on, field_form, first_some}
+use Rattle.rpg_cards.specs.Names.{field_form, definitions_on, defined_as, first_form}
+use Rattle.rpg_cards.specs.declared.names.Defined.TheVariants.{Good}
 use Rattle.rpg_cards.specs.declared.spec_card.SpecCard.{SpecCard}
 use Rattle.rpg_effect.specs.Forms.{form_at, kind_of}
 use Rattle.rpg_effect.specs.Input.{TypeRow, fits_columns, fits_shows}
@@ -33,7 +34,7 @@ use Rattle.rpg_translation.specs.Fields.{all_forms, fields_of, number_in, table_
 use Rattle.rpg_translation.specs.Program.{length_of, program_of}
 use Rattle.rpg_translation.specs.Tables.{input_of, no_shows, type_of, types_of}
 use Rattle.rpg_translation.proofs.Broken.{good_indicator, good_size, has_heading}
-use Rattle.rpg_translation.proofs.Definitions.{IsPlainOf, HasPlain, all_defined, field_plain, has_form, inside_file}
+use Rattle.rpg_translation.proofs.Definitions.{IsPlainOf, HasPlain, all_defined, field_plain, has_form, inside_file, first_defined}
 use Rattle.rpg_translation.proofs.Each.{AtRole, Each, InGroup, Seen, at_role, each_both, each_card, each_group, each_map, each_passes, each_row}
 use Rattle.rpg_translation.proofs.Marks.{marks_type}
 use Rattle.rpg_translation.proofs.Names.{name_leads}
@@ -74,8 +75,7 @@ module _ (cards : List SpecCard) (none : Faultless cards) where
       subst (λ (o : Option InputField). option_map_or (outside_record (file_by (open_file input_role before) cards)) o false ≡ false) is (inside_file cards none before c after split) in
       let size : bad_size_of_field f ≡ false = subst (λ (o : Option InputField). option_map_or bad_size_of_field o false ≡ false) is (or_parts _ _ (good_size cards none before c after split)).0 in
       let plain : HasPlain (f.to + 1 - f.from) (field_form f) = field_plain (file_by (open_file input_role before) cards) f inside size in
-      let defines : definition_on c.spec ≡ Some (f.name, Some plain.0) =
-      ap (λ o. first_some (option_map (λ (x : InputField). (x.name, field_form x)) o) (option_and_then definition_by (calculation_on c.spec))) is ∙ ap (λ o. Some (f.name, o)) plain.1 in
+      let defines : first_form f.name (definitions_on c.spec) ≡ Good plain.0 = first_defined f (input_field_on c.spec) (calculation_on c.spec) is ∙ ap defined_as plain.1 in
       let leads = name_leads cards f.name plain.0 (all_defined cards none) (has_form cards none before c after f.name plain.0 split defines) in
       let inside_it : outside_record (Some file.0) f ≡ false = subst (λ (o : Option FileSpec). outside_record o f ≡ false) file.1 inside in
       let fit = fits file.0 f (number_in (fields_of cards) f.name) plain.0 inside_it plain.2 in

@@ -84,12 +84,12 @@ output_within cards none =
 
 -- ---- all limits
 
-pub faultless_keeps_limits : (cards : List SpecCard) → Faultless cards → length cards ≤ 2000 → KeepsLimits cards
-faultless_keeps_limits cards none few = record {
+pub faultless_keeps_limits : (cards : List SpecCard) → Faultless cards → KeepsLimits cards
+faultless_keeps_limits cards none = record {
   shortest_record = (input_within cards none).0;
   longest_record = (input_within cards none).1;
   widest_line = output_within cards none;
-  fields = all_fields_within cards none few;
+  fields = all_fields_within cards none;
   storage = all_storage_within cards none;
   types = few_types (table_of cards) cards none;
   inputs = few_inputs (table_of cards) cards none;

@@ -3,9 +3,8 @@ use Rattle.std.proofs.Common.{◌≡◌, ℕ, zero, suc, ◌+◌, ◌-◌, ◌^�
 use Rattle.std.proofs.lemmas.Bool.{leb-true, and_parts}
 use Rattle.std.proofs.lemmas.List.{length-map, length-replicate, map-append}
 use Rattle.std.proofs.lemmas.List.Elements.{All-push, All-replicate, All-append, All-cons}
-use Rattle.std.proofs.lemmas.List.Sums.{fold-append, sum_by-cons, AllPass-from_list_all}
+use Rattle.std.proofs.lemmas.List.Sums.{sum_by-cons, AllPass-from_list_all}
 use Rattle.std.specs.List.{cons_option, filter_map, list_all}
-use Rattle.std.proofs.lemmas.Option.{some_pair_parts}
 use Rattle.std.specs.Prelude.{All, IsTrue, is_some, if◌then◌else◌}
 use Rattle.std.specs.Option.{option_map, option_and_then, option_or, option_to_list}
 use Rattle.rpg_cards.specs.Cards.{calculation_on, input_field_on}
@@ -14,7 +13,8 @@ use Rattle.rpg_cards.specs.declared.constants.Constant.{Constant}
 use Rattle.rpg_cards.specs.declared.constants.Constant.TheVariants as constant
 use Rattle.rpg_cards.specs.Files.{input_file, output_file}
 use Rattle.rpg_cards.specs.Groups.{calculation_role, followers, groups_from, opening, role_of}
-use Rattle.rpg_cards.specs.Names.{Definition, definition_on, definition_by, definitions, definitions_on, field_form, first_some, sized_form}
+use Rattle.rpg_cards.specs.Names.{Definition, definition_by, definitions, definitions_on, sized_form, definition_of, definition_sized}
+use Rattle.rpg_cards.specs.declared.names.Definition.{Definition}
 use Rattle.rpg_cards.specs.declared.spec_card.SpecCard.{SpecCard}
 use Rattle.rpg_translator.proofs.RowLemmas.{all_head, all_tail}
 use Rattle.rpg_effect.specs.Input.{TypeRow}
@@ -30,8 +30,9 @@ use Rattle.rpg_spec.specs.declared.input.InputField.{InputField}
 use Rattle.rpg_spec.specs.declared.spec.Spec.{Spec}
 use Rattle.rpg_symbols.specs.Fields.{Fields, given, form_of, size_of, storage}
 use Rattle.rpg_text.specs.Texts.{is_character}
+use Rattle.rpg_translation.proofs.Each.{Each, each_append}
 use Rattle.rpg_translation.specs.Code.{code_of, instruction_on}
-use Rattle.rpg_translation.specs.Fields.{with_definition, with_definitions, fields_of, first_of_kind, forms, first_value, only_value, Table, table_of, all_forms, all_values}
+use Rattle.rpg_translation.specs.Fields.{with_definition, with_definitions, with_form, fields_of, first_of_kind, forms, first_value, only_value, Table, table_of, all_forms, all_values}
 use Rattle.rpg_translation.specs.Program.{program_of, length_of, constant_size, KeepsLimits}
 use Rattle.rpg_translation.specs.Tables.{types_of, lines_of}
 
@@ -73,43 +74,41 @@ field_form_kept true len decimals f e = sized_form_kept len decimals f e
 field_form_kept false len decimals f e = absurd cc
 
 -- a definition with a form has one that an object program may have
-abbrev HasGoodForm : Option (List ℕ × Option FieldForm) → Type 0
-HasGoodForm d = (name : List ℕ) (f : FieldForm) → d ≡ Some (name, Some f) → IsSingleRow f
+abbrev HasGoodForm : Definition → Type 0
+HasGoodForm d = (f : FieldForm) → d.form ≡ Some f → IsSingleRow f
 
-same_form : (n m : List ℕ) (o : Option FieldForm) (f : FieldForm) → ◌≡◌ {A = Option (List ℕ × Option FieldForm)} (Some (n, o)) (Some (m, Some f)) → o ≡ Some f
-same_form n m o f e = (some_pair_parts n m o (Some f) e).1
+result_good : (c : CalculationSpec) (len : Option ℕ) (name : Option (List ℕ)) → Each HasGoodForm (option_to_list (option_and_then (λ l. option_map (definition_sized c l) name) len))
+result_good c None name = tt
+result_good c (Some l) None = tt
+result_good c (Some l) (Some n) = (λ f e. sized_form_kept l c.decimals f e, tt)
 
-by_length : (c : CalculationSpec) (len decimals_len : Option ℕ) (res : Option (List ℕ)) (decimals : Option ℕ) → HasGoodForm (option_and_then (λ l. option_map (λ name. (name, sized_form l decimals)) res) len)
-by_length c None dl res decimals name f e = absurd cc
-by_length c (Some l) dl None decimals name f e = absurd cc
-by_length c (Some l) dl (Some n) decimals name f e = sized_form_kept l decimals f (same_form n name _ f e)
+calculation_good : (o : Option CalculationSpec) → Each HasGoodForm (option_to_list (option_and_then definition_by o))
+calculation_good None = tt
+calculation_good (Some c) = result_good c c.length c.result_field
 
-by_calculation : (o : Option CalculationSpec) → HasGoodForm (option_and_then definition_by o)
-by_calculation None name f e = absurd cc
-by_calculation (Some c) name f e = by_length c c.length None c.result_field c.decimals name f e
+field_good : (o : Option InputField) → Each HasGoodForm (option_to_list (option_map definition_of o))
+field_good None = tt
+field_good (Some i) = (λ f e. field_form_kept (leb i.from i.to) (i.to + 1 - i.from) i.decimals f e, tt)
 
-by_card : (i : Option InputField) (o : Option CalculationSpec) → HasGoodForm (first_some (option_map (λ f. (f.name, field_form f)) i) (option_and_then definition_by o))
-by_card None o name f e = by_calculation o name f e
-by_card (Some i) o name f e = field_form_kept (leb i.from i.to) (i.to + 1 - i.from) i.decimals f (same_form i.name name _ f e)
-
-by_spec : (s : Spec) → HasGoodForm (definition_on s)
-by_spec s = by_card (input_field_on s) (calculation_on s)
+all_good : (cards : List SpecCard) → Each HasGoodForm (definitions cards)
+all_good [] = tt
+all_good (c ∷ cs) =
+    each_append HasGoodForm (definitions_on c.spec) (definitions cs)
+    (each_append HasGoodForm (option_to_list (option_map definition_of (input_field_on c.spec))) (option_to_list (option_and_then definition_by (calculation_on c.spec))) (field_good (input_field_on c.spec)) (calculation_good (calculation_on c.spec)))
+    (all_good cs)
 
 name_kept : (known : Bool) (fields : Fields) (name : List ℕ) (form : FieldForm) → All IsSingleRow (forms fields) → IsSingleRow form → All IsSingleRow (forms (if known then fields else fields ++ (name, form) ∷ []))
 name_kept true fields name form h k = h
 name_kept false fields name form h k =
     subst (λ (fs : List FieldForm). All IsSingleRow fs) (sym (map-append (λ (f : List ℕ × FieldForm). f.1) fields ((name, form) ∷ []))) (All-push IsSingleRow (forms fields) form h k)
 
-definition_kept : (fields : Fields) (d : Option Definition) → HasGoodForm d → All IsSingleRow (forms fields) → All IsSingleRow (forms (with_definitions fields (option_to_list d)))
-definition_kept fields None good h = h
-definition_kept fields (Some (name, None)) good h = h
-definition_kept fields (Some (name, Some form)) good h = name_kept (is_some (form_of fields name)) fields name form h (good name form refl)
+form_kept : (fields : Fields) (name : List ℕ) (o : Option FieldForm) → ((f : FieldForm) → o ≡ Some f → IsSingleRow f) → All IsSingleRow (forms fields) → All IsSingleRow (forms (with_form fields name o))
+form_kept fields name None good h = h
+form_kept fields name (Some form) good h = name_kept (is_some (form_of fields name)) fields name form h (good form refl)
 
-fields_kept : (fields : Fields) (cards : List SpecCard) → All IsSingleRow (forms fields) → All IsSingleRow (forms (with_definitions fields (definitions cards)))
-fields_kept fields [] h = h
-fields_kept fields (c ∷ cs) h =
-    subst (λ (fs : Fields). All IsSingleRow (forms fs)) (sym (fold-append with_definition fields (definitions_on c.spec) (definitions cs)))
-    (fields_kept (with_definitions fields (definitions_on c.spec)) cs (definition_kept fields (definition_on c.spec) (by_spec c.spec) h))
+fields_kept : (fields : Fields) (ds : List Definition) → Each HasGoodForm ds → All IsSingleRow (forms fields) → All IsSingleRow (forms (with_definitions fields ds))
+fields_kept fields [] good h = h
+fields_kept fields (d ∷ ds) good h = fields_kept (with_definition fields d) ds good.1 (form_kept fields d.name d.form good.0 h)
 
 given_kept : All IsSingleRow (forms given)
 given_kept zero d lt = record {
@@ -212,7 +211,7 @@ pub is_program : (cards : List SpecCard) (allowance : ℕ) → 0 < allowance →
     → IsProgram (program_of cards allowance)
 unfolding program_of
 is_program cards allowance low high few limits known types lines code =
-    let rows = fields_kept given cards given_kept in
+    let rows = fields_kept given (definitions cards) (all_good cards) given_kept in
     let more = constants_kept (constants cards) known in
     let names = length-map (fields_of cards) (λ (f : List ℕ × FieldForm). f.1) in
     let others = length-map (constants cards) constant_form in

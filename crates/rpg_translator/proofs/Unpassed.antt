@@ -5,7 +5,7 @@ use Rattle.rpg_cards.specs.Groups.{input_role, open_followers, output_role}
 use Rattle.rpg_cards.specs.declared.spec_card.SpecCard.{SpecCard}
 use Rattle.rpg_faults.proofs.LeastLemmas.{rule-faultless}
 use Rattle.rpg_faults.specs.Faults.{rule, Faultless}
-use Rattle.rpg_faults.specs.Limits.{bytes_up_to, fields_up_to, group_count, name_bytes, passes, passes_limit}
+use Rattle.rpg_faults.specs.Limits.{bytes_up_to, fields_up_to, group_count, name_bytes, name_count, passes, passes_limit}
 use Rattle.rpg_faults.specs.declared.fault.FaultCode.TheVariants.{F6}
 use Rattle.rpg_translation.proofs.Each.{Seen}
 
@@ -15,6 +15,7 @@ pub record Unpassed (cards before : List SpecCard) (c : SpecCard) : Type 0 where
   pub inputs : passes (open_followers input_role) 500 before c ≡ false
   pub lines : passes (group_count output_role) 1000 before c ≡ false
   pub line_fields : passes (open_followers output_role) 200 before c ≡ false
+  pub names : passes name_count 4000 before c ≡ false
   pub bytes : passes name_bytes 65535 before c ≡ false
   pub all_bytes : passes (bytes_up_to cards) 65535 before c ≡ false
   pub fields : passes (fields_up_to cards) 4000 before c ≡ false
@@ -27,14 +28,16 @@ none_passed cards before c e =
     let fields_of_type = or_parts _ _ lines.0 in
     let types = or_parts _ _ fields_of_type.0 in
     let fields = or_parts _ _ both.1 in
-    let bytes = or_parts _ _ fields.0 in
+    let all_bytes = or_parts _ _ fields.0 in
+    let bytes = or_parts _ _ all_bytes.0 in
     record {
       types = types.1;
       inputs = fields_of_type.1;
       lines = lines.1;
       line_fields = fields_of_line.1;
-      bytes = bytes.0;
-      all_bytes = bytes.1;
+      names = bytes.0;
+      bytes = bytes.1;
+      all_bytes = all_bytes.1;
       fields = fields.1;
     }
 

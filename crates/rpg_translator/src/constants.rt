@@ -1,12 +1,12 @@
 //! The constants of a program.
 
 ghost use Rattle.std.specs.Prelude.{◌≡◌, ◌++◌, All, map, IfOk, OnOk};
-ghost use Rattle.std.specs.Option.{option_map_or};
-ghost use Rattle.indexmap.specs.IndexSet.{insert_key};
+ghost use Rattle.indexmap.specs.IndexSet.{insert_all};
 ghost use Rattle.rpg_cards.specs.Constants as known;
 ghost use Rattle.rpg_effect.specs.Values.{held};
 ghost use Rattle.rpg_translation.specs.Fields.{only_value};
 
+use arrayvec::ArrayVec;
 use indexmap::IndexSet;
 use rpg_cards::{Constant, SpecCard};
 use rpg_effect::form::FieldForm;
@@ -22,17 +22,16 @@ pub(crate) fn constants_of(
 {
     let mut constants = IndexSet::new(alloc);
     for card in cards {
-        add(&mut constants, card.first_constant())?;
-        add(&mut constants, card.second_constant())?;
+        add(&mut constants, card.constants())?;
     }
     Ok(constants)
 }
 
-/// Puts a constant behind the others, unless it is among them.
-fn add(constants: &mut IndexSet<Constant>, constant: Option<Constant>) -> Result<(), AllocError>
-    ensures { OnOk result (constants.new.keys ≡ option_map_or (insert_key known.is_same constants.old.keys) constant constants.old.keys) }
+/// Puts constants behind the others, each unless it is among them.
+fn add(constants: &mut IndexSet<Constant>, items: ArrayVec<Constant, 2>) -> Result<(), AllocError>
+    ensures { OnOk result (constants.new.keys ≡ insert_all known.is_same constants.old.keys items.items) }
 {
-    if let Some(constant) = constant {
+    for constant in items {
         constants.insert(constant)?;
     }
     Ok(())

@@ -1,12 +1,12 @@
 //! The names of a program.
 
-ghost use Rattle.std.specs.Prelude.{◌≡◌, ◌+◌, ◌<◌, ◌≤◌, length, map, IfOk, OnOk};
+ghost use Rattle.std.specs.Prelude.{◌≡◌, ◌≤◌, length, map, IfOk, OnOk};
 ghost use Rattle.rpg_cards.specs.Names.{definitions_on};
 ghost use Rattle.rpg_translation.specs.Fields as fields;
 ghost use Rattle.rpg_effect.specs.Values.{held};
 ghost use Rattle.rpg_symbols.specs.Fields.{given, storage};
 
-use rpg_cards::SpecCard;
+use rpg_cards::{Definition, SpecCard};
 use rpg_effect::form::{FieldForm, Kind};
 use rpg_effect::value::Value;
 use rpg_symbols::{DefineFault, Name, Symbols};
@@ -22,7 +22,7 @@ pub(crate) struct NameTable {
 impl NameTable {
     /// The names that cards define.
     pub(crate) fn of_cards(alloc: Global, cards: &[SpecCard]) -> Result<Self, AllocError>
-        requires few { length cards.now ≤ 2000 }
+        requires few { length (fields.fields_of cards.now) ≤ 4000 }
         requires storage { storage (fields.fields_of cards.now) ≤ 65535 }
         ensures symbols { IfOk result (λ t. t.symbols ≡ fields.fields_of cards.now) }
         ensures forms { IfOk result (λ t. t.forms.items ≡ fields.forms (fields.fields_of cards.now)) }
@@ -48,27 +48,48 @@ impl NameTable {
         Ok(NameTable { symbols, forms })
     }
 
-    /// One more field, where a card defines a name that isn't known yet.
+    /// One more field for each name that a card defines and that isn't known yet.
     fn define_on(&mut self, card: &SpecCard) -> Result<(), AllocError>
         requires same { self.old.forms.items ≡ fields.forms self.old.symbols }
-        requires few { length self.old.symbols < 4000 }
+        requires few { length (fields.with_definitions self.old.symbols (definitions_on card.now.spec)) ≤ 4000 }
         requires room { storage (fields.with_definitions self.old.symbols (definitions_on card.now.spec)) ≤ 65535 }
         ensures symbols { OnOk result (self.new.symbols ≡ fields.with_definitions self.old.symbols (definitions_on card.now.spec)) }
         ensures forms { OnOk result (self.new.forms.items ≡ fields.forms self.new.symbols) }
     {
-        let Some(name) = card.defined_name() else {
-            return Ok(());
-        };
-        match card.defined_form() {
-            Some(form) => self.define(Name::new(name.as_slice()), form),
+        self.define_all(card.definitions().as_slice())
+    }
+
+    fn define_all(&mut self, definitions: &[Definition]) -> Result<(), AllocError>
+        requires same { self.old.forms.items ≡ fields.forms self.old.symbols }
+        requires few { length (fields.with_definitions self.old.symbols definitions.now) ≤ 4000 }
+        requires room { storage (fields.with_definitions self.old.symbols definitions.now) ≤ 65535 }
+        ensures symbols { OnOk result (self.new.symbols ≡ fields.with_definitions self.old.symbols definitions.now) }
+        ensures forms { OnOk result (self.new.forms.items ≡ fields.forms self.new.symbols) }
+    {
+        for definition in definitions {
+            self.define(definition)?;
+        }
+        Ok(())
+    }
+
+    /// One more field, where the definition has a form and its name isn't known yet.
+    fn define(&mut self, definition: &Definition) -> Result<(), AllocError>
+        requires same { self.old.forms.items ≡ fields.forms self.old.symbols }
+        requires few { length (fields.with_definition self.old.symbols definition.now) ≤ 4000 }
+        requires room { storage (fields.with_definition self.old.symbols definition.now) ≤ 65535 }
+        ensures symbols { OnOk result (self.new.symbols ≡ fields.with_definition self.old.symbols definition.now) }
+        ensures forms { OnOk result (self.new.forms.items ≡ fields.forms self.new.symbols) }
+    {
+        match definition.form {
+            Some(form) => self.define_name(Name::new(definition.name.as_slice()), form),
             None => Ok(()),
         }
     }
 
     /// One more field, where the name isn't known yet.
-    fn define(&mut self, name: Name, form: FieldForm) -> Result<(), AllocError>
+    fn define_name(&mut self, name: Name, form: FieldForm) -> Result<(), AllocError>
         requires same { self.old.forms.items ≡ fields.forms self.old.symbols }
-        requires few { length self.old.symbols < 4000 }
+        requires few { length (fields.with_name self.old.symbols name form) ≤ 4000 }
         requires room { storage (fields.with_name self.old.symbols name form) ≤ 65535 }
         ensures symbols { OnOk result (self.new.symbols ≡ fields.with_name self.old.symbols name form) }
         ensures forms { OnOk result (self.new.forms.items ≡ fields.forms self.new.symbols) }

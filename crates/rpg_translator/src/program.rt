@@ -40,7 +40,6 @@ fn fields_of(
     alloc: Global,
     cards: &[SpecCard],
 ) -> Result<(FieldTable, Vec<FieldForm>, Vec<Vec<Value>>), AllocError>
-    requires few { length cards.now ≤ 2000 }
     requires fields { length (fields.fields_of cards.now) + length (constants cards.now) ≤ 4000 }
     requires storage { storage (fields.fields_of cards.now) ≤ 65535 }
     ensures table { IfOk result (λ t. t.0 ≡ fields.table_of cards.now) }

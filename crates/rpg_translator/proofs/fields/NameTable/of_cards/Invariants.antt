@@ -1,4 +1,4 @@
-use Rattle.std.proofs.Common.{◌≡◌, ◌+◌, ◌≤◌, drop, length}
+use Rattle.std.proofs.Common.{◌≡◌, drop}
 use Rattle.rpg_cards.specs.Names.{definitions}
 use Rattle.rpg_translation.specs.Fields.{fields_of, forms, with_definitions}
 use Rattle.rpg_translator.proofs.fields.NameTable.of_cards.Given as goal
@@ -7,5 +7,4 @@ abbrev pub invariant-loop-card : goal.invariant-loop-card
 invariant-loop-card l = record {
   so_far : with_definitions l.table.symbols (definitions (drop l.card-index l.cards)) ≡ fields_of l.cards;
   same : l.table.forms.items ≡ forms l.table.symbols;
-  few : length l.table.symbols ≤ l.card-index + 2;
 }
