@@ -162,6 +162,11 @@ pub passed_map : (A B : Type 0) (r : Result B Stop) (s : Stop) (P Q : JobEnd →
 passed_map A B (Ok x) s P Q f h g = tt
 passed_map A B (Err x) s P Q f h g = if_stops A B x P Q f (subst (λ (y : Stop). IfStops {A = A} (Err y) P) (sym h) g)
 
+-- nothing is said of an answer that isn't there
+pub ok_of_err : {A E : Type 0} (r : Result A E) (Q : E → Type 0) (P : A → Type 0) → IsErrAnd r Q → IfOk r P
+ok_of_err (Ok x) Q P h = absurd h
+ok_of_err (Err e) Q P h = tt
+
 memory_err : (A B : Type 0) (s : Stop) (P Q : Type 0) → (P → Q) → UnlessNoMemory {A = A} (Err s) P → UnlessNoMemory {A = B} (Err s) Q
 memory_err A B (stops.Ends e) P Q f h = f h
 memory_err A B stops.NoMemory P Q f h = tt

@@ -18,6 +18,9 @@ pub record Leads (C : Phase) (old : Running) (s : Option Selected) (Q : Phase) (
 pub begins : (C : Phase) (a b : Running) → b ≡ refilled a → Leads C (refilled a) None C b None
 begins C a b is = record { rest = λ e new u d. subst (λ (r : Running). Does C r None e new u) is d }
 
+pub whole : (C : Phase) (a : Running) (s : Option Selected) → Leads C a s C a s
+whole C a s = record { rest = λ e new u d. d }
+
 -- one phase more went on
 pub step : {C P Q : Phase} {old mid new : Running} {s t u : Option Selected} → Leads C old s (P before Q) mid t → Does P mid t GoesOn new u → Leads C old s Q new u
 step l d = record { rest = λ e last v r. l.rest e last v (goes d r) }

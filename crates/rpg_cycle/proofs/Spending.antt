@@ -1,5 +1,5 @@
 -- What phases take, and that all of them together are within the bound.
-use Rattle.std.proofs.Common.{◌≡◌, ℕ, ◌≤◌, ◌+◌, ◌-◌, ◌*◌, suc, Bool, true, false, cond, ◌&&◌, not, leb, List, [], ◌∷◌, length, slice_get, slice_index, Option, None, Some, is_some, refl, ap, ◌∙◌, arith}
+use Rattle.std.proofs.Common.{◌≡◌, ℕ, ◌≤◌, ◌<◌, ◌+◌, ◌-◌, ◌*◌, ◌^◌, suc, Bool, true, false, cond, ◌&&◌, not, leb, List, [], ◌∷◌, length, slice_get, slice_index, Option, None, Some, is_some, refl, ap, ◌∙◌, arith}
 use Rattle.std.proofs.lemmas.Bool.Decides.{nat_tests}
 use Rattle.std.specs.List.{list_all}
 use Rattle.rpg_edit.specs.Paper.{Position}
@@ -14,11 +14,12 @@ use Rattle.rpg_cycle.proofs.Turning.{off_keeps}
 use Rattle.rpg_records.specs.Earlier.{levels_of}
 use Rattle.rpg_records.specs.Identifying.{IsOf, Misplaced, holds, identified, is_there, trial_weight}
 use Rattle.rpg_cycle.specs.Phases.{all_off}
-use Rattle.rpg_cycle.specs.Spending.{Spends, cycle_weight, first_cost}
+use Rattle.rpg_cycle.specs.Spending.{Selects, Spends, cycle_weight, first_cost, inputs_weight, reach, record_weight}
 use Rattle.rpg_machine.specs.Config.{Config}
 use Rattle.rpg_machine.specs.Outputs.{FillsFields, PutsOut, inputs_at, inputs_of, output_weight}
-use Rattle.rpg_machine.specs.Running.{Did, Running}
+use Rattle.rpg_machine.specs.Running.{Did, Running, refilled}
 use Rattle.rpg_machine.specs.declared.time.OutputTime.{OutputTime}
+use Rattle.rpg_machine.specs.declared.time.OutputTime.TheVariants as spoken
 use Rattle.rpg_program.specs.Object.{Object, lines_of}
 use Rattle.rpg_program.specs.Sections.{first_of}
 use Rattle.rpg_program.specs.declared.section.Section.TheVariants as sections
@@ -59,6 +60,43 @@ fields_spend p t text e a b same d =
     reach_of p (length (inputs_at p t)) a b
     (ap (λ (c : Config). c.steps) x ∙ ap (λ (q : Object). a.config.steps + length (inputs_at q t)) same)
     (ap (λ (c : Config). c.allowance) x)
+
+-- ---- one phase behind another
+
+chained : (x y z n m : ℕ) → y ≤ x + n → z ≤ y + m → z ≤ x + (n + m)
+chained x y z n m h g = omega (arith, h, g)
+
+widened : (x y n m : ℕ) → y ≤ x + n → y ≤ x + (n + m)
+widened x y n m h = omega (arith, h)
+
+pub and_then : {p : Object} {n m : ℕ} {a b c : Running} → Spends p n a b → Spends p m b c → Spends p (n + m) a c
+and_then {p} {n} {m} {a} {b} {c} h g = record { few = chained (reach p a) (reach p b) (reach p c) n m h.few g.few }
+
+pub and_less : {p : Object} {n : ℕ} (m : ℕ) {a b : Running} → Spends p n a b → Spends p (n + m) a b
+and_less {p} {n} m {a} {b} h = record { few = widened (reach p a) (reach p b) n m h.few }
+
+pub at_no_cost : {p : Object} {n : ℕ} {a b c : Running} → Spends p n a b → Spends p 0 b c → Spends p n a c
+at_no_cost {p} {n} {a} {b} {c} h g = record { few = unpaid (reach p a) (reach p b) (reach p c) n h.few g.few }
+  where
+    unpaid : (x y z n : ℕ) → y ≤ x + n → z ≤ y + 0 → z ≤ x + n
+    unpaid x y z n h g = omega (arith, h, g)
+
+same_n : (n : ℕ) → n ≤ n
+same_n n = omega arith
+
+-- behind the selection the steps stay few
+few_left : (s r0 r1 x i full d t f o c : ℕ) → r0 ≤ 2 ^ 49 → s + x ≤ r1 → r1 ≤ r0 + (f + (o + (i + c))) → full + d + t + f + o + c ≤ 2 ^ 48 → i ≤ 2 ^ 49 → s ≤ 2 ^ 60
+few_left s r0 r1 x i full d t f o c low h1 h2 light small = omega (arith, low, h1, h2, light, small)
+
+pub low_there : (x : ℕ) → x ≤ 2 ^ 49 → x ≤ 2 ^ 59
+low_there x h = omega (arith, h)
+
+pub low_here : (x y : ℕ) → x ≤ y → y < 2 ^ 48 → x ≤ 2 ^ 50
+low_here x y h l = omega (arith, h, l)
+
+pub few_steps : (p : Object) (t : Option ℕ) (a b : Running) → reach p a ≤ 2 ^ 49 → cycle_weight p ≤ 2 ^ 48 → inputs_weight p t ≤ 2 ^ 49 → Spends p (record_weight p t) a b → b.config.steps ≤ 2 ^ 60
+few_steps p t a b low light small h =
+    few_left b.config.steps (reach p a) (reach p b) (b.config.allowance * most p) (inputs_weight p t) (p.allowance * most p) _ _ _ _ _ low (same_n _) h.few light small
 
 -- ---- the trying of types
 
@@ -137,3 +175,38 @@ pub within_bound : (p : Object) → cycle_weight p ≤ bound p
 unfolding bound
 within_bound p =
     omega (arith, detail_cost p, total_cost p, lines_split (lines_of p), output_twice (is_some p.overflow) (lines_weight is_in_cycle (lines_of p)))
+
+-- ---- from the first phase on
+
+-- what a machine reaches where its allowance is full
+pub full_reach : (p : Object) (a b : Running) → a.program ≡ p → b ≡ refilled a → reach p b ≡ p.allowance * most p
+full_reach p a b same is =
+    let one = ap (λ (r : Running). reach p r) is in
+    let two = ap (λ (q : Object). q.allowance * most p) same in
+    omega (arith, one, two)
+
+-- what is within the sum of all phases is within the bound: the detail lines alone, and all of them
+in_first : (s r0 r1 x full d t f o c b : ℕ) → r0 ≡ full → s + x ≤ r1 → r1 ≤ r0 + d → full + d + t + f + o + c ≤ b → s ≤ b
+in_first s r0 r1 x full d t f o c b e h1 h2 h = omega (arith, e, h1, h2, h)
+
+in_all : (s r0 r1 r2 r3 i x full d t f o c b : ℕ) → r0 ≡ full → s + x ≤ r3 → r3 ≤ r2 + (f + (o + (i + c))) → r2 + i ≤ r1 + t → r1 ≤ r0 + d → full + d + t + f + o + c ≤ b → s ≤ b
+in_all s r0 r1 r2 r3 i x full d t f o c b e h1 h2 h3 h4 h = omega (arith, e, h1, h2, h3, h4, h)
+
+in_bits : (r0 r1 r2 i full d t f o c b : ℕ) → r0 ≡ full → r2 + i ≤ r1 + t → r1 ≤ r0 + d → full + d + t + f + o + c ≤ b → b < 2 ^ 48 → r2 + i ≤ 2 ^ 48
+in_bits r0 r1 r2 i full d t f o c b e h1 h2 h low = omega (arith, e, h1, h2, h, low)
+
+module _ (p : Object) (r0 : Running) (full : reach p r0 ≡ p.allowance * most p) where
+  pub lines_bounded : (b : Running) → Spends p (output_weight p spoken.Detail) r0 b → b.config.steps ≤ bound p
+  lines_bounded b h = in_first b.config.steps (reach p r0) (reach p b) (b.config.allowance * most p) (p.allowance * most p) _ _ _ _ _ (bound p) full (same_n _) h.few (within_bound p)
+
+  pub all_bounded : (t : Option ℕ) (a b c : Running) → Spends p (output_weight p spoken.Detail) r0 a → Selects p t a b → Spends p (record_weight p t) b c → c.config.steps ≤ bound p
+  all_bounded t a b c h g f = in_all c.config.steps (reach p r0) (reach p a) (reach p b) (reach p c) (inputs_weight p t) (c.config.allowance * most p) (p.allowance * most p) _ _ _ _ _ (bound p) full (same_n _) f.few g.few h.few (within_bound p)
+
+  pub selected_low : (t : Option ℕ) (a b : Running) → bound p < 2 ^ 48 → Spends p (output_weight p spoken.Detail) r0 a → Selects p t a b → reach p b + inputs_weight p t ≤ 2 ^ 48
+  selected_low t a b low h g = in_bits (reach p r0) (reach p a) (reach p b) (inputs_weight p t) (p.allowance * most p) _ _ _ _ _ (bound p) full g.few h.few (within_bound p) low
+
+pub low_left : (x y : ℕ) → x + y ≤ 2 ^ 48 → x ≤ 2 ^ 49
+low_left x y h = omega (arith, h)
+
+pub low_right : (x y : ℕ) → x + y ≤ 2 ^ 48 → y ≤ 2 ^ 49
+low_right x y h = omega (arith, h)

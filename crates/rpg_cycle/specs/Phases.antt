@@ -195,6 +195,15 @@ CycleOn p left next =
     before fill_fields p
     before detail_calculations p
 
+-- what follows the selection in it
+abbrev pub after_selection : Object → Left → Phase
+after_selection p left =
+    total_time p left
+    before end_where_last
+    before overflow_lines p
+    before fill_fields p
+    before detail_calculations p
+
 -- a cycle behind those that selected the earlier records, the last of these first, with the record that is next, or none at the end of the file
 abbrev pub Cycle : Object → List Selected → Option (List ℕ) → Phase
 Cycle p earlier next = CycleOn p (left_by p earlier) next

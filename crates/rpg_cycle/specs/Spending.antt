@@ -39,6 +39,10 @@ overflow_weight p = if is_some p.overflow then output_weight p times.Overflow el
 abbrev pub totals_weight : Object → ℕ
 totals_weight p = first_cost p sections.Total + output_weight p times.Total
 
+-- the phases behind the selection of a record, or of none
+abbrev pub record_weight : Object → Option ℕ → ℕ
+record_weight p t = totals_weight p + (overflow_weight p + (inputs_weight p t + first_cost p sections.Detail))
+
 -- all phases of a cycle, and what the allowance can lead to
 abbrev pub cycle_weight : Object → ℕ
 cycle_weight p =

@@ -1,13 +1,15 @@
-use Rattle.std.proofs.Common.{ℕ, Bool, List, Option, None, subst}
+use Rattle.std.proofs.Common.{ℕ, Bool, Option, None, ap, ◌∙◌, arith}
 use Rattle.std.specs.Option.{option_map}
-use Rattle.rpg_cycle.proofs.Composing.{passed_map}
-use Rattle.rpg_cycle.proofs.Nine.{begins, step, stop, last, by_left}
-use Rattle.rpg_cycle.specs.Doing.{Does}
+use Rattle.rpg_cycle.proofs.Composing.{memory_both, ok_of_err, passed_map, passed_memory}
+use Rattle.rpg_cycle.proofs.Nine.{begins, by_left, last, step, stop}
+use Rattle.rpg_cycle.proofs.Spending.{all_bounded, at_no_cost, full_reach, lines_bounded, low_here, low_left, low_right, selected_low}
 use Rattle.rpg_cycle.specs.Ends.{GoesOn}
 use Rattle.rpg_records.specs.Keeping.{left_of, selected_as}
 use Rattle.rpg_cycle.specs.Phases as spec
 use Rattle.rpg_cycle.specs.Phases.{◌before◌}
+use Rattle.rpg_cycle.specs.Spending.{inputs_weight, reach}
 use Rattle.rpg_cycle.specs.Stages.{job_end}
+use Rattle.rpg_machine.specs.Running.{Running}
 use Rattle.rpg_machine.specs.declared.time.OutputTime.TheVariants as times
 use Rattle.rpg_program.specs.declared.section.Section.TheVariants as sections
 use Rattle.rpg_cycle.proofs.cycle.run_cycle.Goals as goal
@@ -16,8 +18,7 @@ pub returns-in_err-put_out_details-clause-stops : goal.returns-in_err-put_out_de
 returns-in_err-put_out_details-clause-stops g c =
     let p = c.args.program.now in
     let left = left_of c.args.kept.now in
-    let next = option_map (λ x. x.now) c.args.next in
-    let C = spec.CycleOn p left next in
+    let C = spec.CycleOn p left (option_map (λ x. x.now) c.args.next) in
     let l0 = begins C c.args.machine.now c.refill.new.self c.refill.ensures.refilled in
     passed_map (Unit {0}) _ c.from_residual.result c.in_err-put_out_details.field-0.0 _ _ (λ e h. (None, stop e l0 (h.each None))) c.from_residual.ensures.1 c.in_err-put_out_details.ensures.stops
 
@@ -25,8 +26,7 @@ pub returns-in_err-halt_where_asked-clause-stops : goal.returns-in_err-halt_wher
 returns-in_err-halt_where_asked-clause-stops g c =
     let p = c.args.program.now in
     let left = left_of c.args.kept.now in
-    let next = option_map (λ x. x.now) c.args.next in
-    let C = spec.CycleOn p left next in
+    let C = spec.CycleOn p left (option_map (λ x. x.now) c.args.next) in
     let l0 = begins C c.args.machine.now c.refill.new.self c.refill.ensures.refilled in
     let l1 = step l0 (c.in_ok-put_out_details.ensures.goes.each None) in
     passed_map (Unit {0}) _ c.from_residual-in_err-halt_where_asked.result c.in_err-halt_where_asked.field-0.0 _ _ (λ e h. (None, stop e l1 (h.each None))) c.from_residual-in_err-halt_where_asked.ensures.1 c.in_err-halt_where_asked.ensures.stops
@@ -35,20 +35,18 @@ pub returns-in_err-selected-clause-stops : goal.returns-in_err-selected-clause-s
 returns-in_err-selected-clause-stops g c =
     let p = c.args.program.now in
     let left = left_of c.args.kept.now in
-    let next = option_map (λ x. x.now) c.args.next in
-    let C = spec.CycleOn p left next in
+    let C = spec.CycleOn p left (option_map (λ x. x.now) c.args.next) in
     let l0 = begins C c.args.machine.now c.refill.new.self c.refill.ensures.refilled in
     let l1 = step l0 (c.in_ok-put_out_details.ensures.goes.each None) in
     let l2 = step l1 (c.in_ok-halt_where_asked.ensures.goes.each None) in
     let l3 = step l2 (c.set_off.ensures.goes.each None) in
     passed_map (Option ℕ) _ c.from_residual-in_err-selected.result c.in_err-selected.field-0.0 _ _ (λ e h. (None, stop e l3 h)) c.from_residual-in_err-selected.ensures.1 c.in_err-selected.ensures.stops
 
-pub returns-in_err-take_total_time-clause-stops : goal.returns-in_err-take_total_time-clause-stops
-returns-in_err-take_total_time-clause-stops g c =
+pub returns-in_err-take_record-clause-stops : goal.returns-in_err-take_record-clause-stops
+returns-in_err-take_record-clause-stops g c =
     let p = c.args.program.now in
     let left = left_of c.args.kept.now in
-    let next = option_map (λ x. x.now) c.args.next in
-    let C = spec.CycleOn p left next in
+    let C = spec.CycleOn p left (option_map (λ x. x.now) c.args.next) in
     let l0 = begins C c.args.machine.now c.refill.new.self c.refill.ensures.refilled in
     let l1 = step l0 (c.in_ok-put_out_details.ensures.goes.each None) in
     let l2 = step l1 (c.in_ok-halt_where_asked.ensures.goes.each None) in
@@ -56,90 +54,15 @@ returns-in_err-take_total_time-clause-stops g c =
     let text = c.select_record.new.kept.record.items in
     let s = selected_as c.in_ok-selected.selected text in
     let l4 = step l3 c.in_ok-selected.ensures.goes in
-    let totals = λ (x y : Bool). spec.unless (spec.is_bypassed p x y) (spec.section p sections.Total before spec.output p times.Total) in
-    passed_map (Unit {0}) _ c.from_residual-in_err-take_total_time.result c.in_err-take_total_time.field-0.0 _ _ (λ e h. (s, stop e l4 (by_left totals p c.in_ok-selected.selected text (left_of c.select_record.new.kept) left c.select_record.new.machine c.take_total_time.new.machine s (job_end e) c.in_ok-selected.ensures.kept (h.each s)))) c.from_residual-in_err-take_total_time.ensures.1 c.in_err-take_total_time.ensures.stops
-
-pub returns-in_err-end_where_last-clause-stops : goal.returns-in_err-end_where_last-clause-stops
-returns-in_err-end_where_last-clause-stops g c =
-    let p = c.args.program.now in
-    let left = left_of c.args.kept.now in
-    let next = option_map (λ x. x.now) c.args.next in
-    let C = spec.CycleOn p left next in
-    let l0 = begins C c.args.machine.now c.refill.new.self c.refill.ensures.refilled in
-    let l1 = step l0 (c.in_ok-put_out_details.ensures.goes.each None) in
-    let l2 = step l1 (c.in_ok-halt_where_asked.ensures.goes.each None) in
-    let l3 = step l2 (c.set_off.ensures.goes.each None) in
-    let text = c.select_record.new.kept.record.items in
-    let s = selected_as c.in_ok-selected.selected text in
-    let l4 = step l3 c.in_ok-selected.ensures.goes in
-    let totals = λ (x y : Bool). spec.unless (spec.is_bypassed p x y) (spec.section p sections.Total before spec.output p times.Total) in
-    let l5 = step l4 (by_left totals p c.in_ok-selected.selected text (left_of c.select_record.new.kept) left c.select_record.new.machine c.take_total_time.new.machine s GoesOn c.in_ok-selected.ensures.kept (c.in_ok-take_total_time.ensures.goes.each s)) in
-    passed_map (Unit {0}) _ c.from_residual-in_err-end_where_last.result c.in_err-end_where_last.field-0.0 _ _ (λ e h. (s, stop e l5 (h text))) c.from_residual-in_err-end_where_last.ensures.1 c.in_err-end_where_last.ensures.stops
-
-pub returns-in_err-put_out_overflow-clause-stops : goal.returns-in_err-put_out_overflow-clause-stops
-returns-in_err-put_out_overflow-clause-stops g c =
-    let p = c.args.program.now in
-    let left = left_of c.args.kept.now in
-    let next = option_map (λ x. x.now) c.args.next in
-    let C = spec.CycleOn p left next in
-    let l0 = begins C c.args.machine.now c.refill.new.self c.refill.ensures.refilled in
-    let l1 = step l0 (c.in_ok-put_out_details.ensures.goes.each None) in
-    let l2 = step l1 (c.in_ok-halt_where_asked.ensures.goes.each None) in
-    let l3 = step l2 (c.set_off.ensures.goes.each None) in
-    let text = c.select_record.new.kept.record.items in
-    let s = selected_as c.in_ok-selected.selected text in
-    let l4 = step l3 c.in_ok-selected.ensures.goes in
-    let totals = λ (x y : Bool). spec.unless (spec.is_bypassed p x y) (spec.section p sections.Total before spec.output p times.Total) in
-    let l5 = step l4 (by_left totals p c.in_ok-selected.selected text (left_of c.select_record.new.kept) left c.select_record.new.machine c.take_total_time.new.machine s GoesOn c.in_ok-selected.ensures.kept (c.in_ok-take_total_time.ensures.goes.each s)) in
-    let l6 = step l5 (c.in_ok-end_where_last.ensures.goes text) in
-    passed_map (Unit {0}) _ c.from_residual-in_err-put_out_overflow.result c.in_err-put_out_overflow.field-0.0 _ _ (λ e h. (s, stop e l6 (h.each s))) c.from_residual-in_err-put_out_overflow.ensures.1 c.in_err-put_out_overflow.ensures.stops
-
-pub returns-in_err-fill_fields-clause-stops : goal.returns-in_err-fill_fields-clause-stops
-returns-in_err-fill_fields-clause-stops g c =
-    let p = c.args.program.now in
-    let left = left_of c.args.kept.now in
-    let next = option_map (λ x. x.now) c.args.next in
-    let C = spec.CycleOn p left next in
-    let l0 = begins C c.args.machine.now c.refill.new.self c.refill.ensures.refilled in
-    let l1 = step l0 (c.in_ok-put_out_details.ensures.goes.each None) in
-    let l2 = step l1 (c.in_ok-halt_where_asked.ensures.goes.each None) in
-    let l3 = step l2 (c.set_off.ensures.goes.each None) in
-    let text = c.select_record.new.kept.record.items in
-    let s = selected_as c.in_ok-selected.selected text in
-    let l4 = step l3 c.in_ok-selected.ensures.goes in
-    let totals = λ (x y : Bool). spec.unless (spec.is_bypassed p x y) (spec.section p sections.Total before spec.output p times.Total) in
-    let l5 = step l4 (by_left totals p c.in_ok-selected.selected text (left_of c.select_record.new.kept) left c.select_record.new.machine c.take_total_time.new.machine s GoesOn c.in_ok-selected.ensures.kept (c.in_ok-take_total_time.ensures.goes.each s)) in
-    let l6 = step l5 (c.in_ok-end_where_last.ensures.goes text) in
-    let l7 = step l6 (c.in_ok-put_out_overflow.ensures.goes.each s) in
-    passed_map (Unit {0}) _ c.from_residual-in_err-fill_fields.result c.in_err-fill_fields.field-0.0 _ _ (λ e h. (s, stop e l7 (subst (λ (x : List ℕ). Does (spec.fill_fields p) c.put_out_overflow.new.machine (selected_as c.in_ok-selected.selected x) (job_end e) c.fill_fields.new.machine (selected_as c.in_ok-selected.selected x)) c.deref.ensures.value h))) c.from_residual-in_err-fill_fields.ensures.1 c.in_err-fill_fields.ensures.stops
-
-pub returns-in_err-calculate_details-clause-stops : goal.returns-in_err-calculate_details-clause-stops
-returns-in_err-calculate_details-clause-stops g c =
-    let p = c.args.program.now in
-    let left = left_of c.args.kept.now in
-    let next = option_map (λ x. x.now) c.args.next in
-    let C = spec.CycleOn p left next in
-    let l0 = begins C c.args.machine.now c.refill.new.self c.refill.ensures.refilled in
-    let l1 = step l0 (c.in_ok-put_out_details.ensures.goes.each None) in
-    let l2 = step l1 (c.in_ok-halt_where_asked.ensures.goes.each None) in
-    let l3 = step l2 (c.set_off.ensures.goes.each None) in
-    let text = c.select_record.new.kept.record.items in
-    let s = selected_as c.in_ok-selected.selected text in
-    let l4 = step l3 c.in_ok-selected.ensures.goes in
-    let totals = λ (x y : Bool). spec.unless (spec.is_bypassed p x y) (spec.section p sections.Total before spec.output p times.Total) in
-    let l5 = step l4 (by_left totals p c.in_ok-selected.selected text (left_of c.select_record.new.kept) left c.select_record.new.machine c.take_total_time.new.machine s GoesOn c.in_ok-selected.ensures.kept (c.in_ok-take_total_time.ensures.goes.each s)) in
-    let l6 = step l5 (c.in_ok-end_where_last.ensures.goes text) in
-    let l7 = step l6 (c.in_ok-put_out_overflow.ensures.goes.each s) in
-    let filled = λ (x : List ℕ). Does (spec.fill_fields p) c.put_out_overflow.new.machine (selected_as c.in_ok-selected.selected x) GoesOn c.fill_fields.new.machine (selected_as c.in_ok-selected.selected x) in
-    let l8 = step l7 (subst filled c.deref.ensures.value c.in_ok-fill_fields.ensures.goes) in
-    passed_map (Unit {0}) _ c.from_residual-in_err-calculate_details.result c.in_err-calculate_details.field-0.0 _ _ (λ e h. (s, last l8 (h.each s))) c.from_residual-in_err-calculate_details.ensures.1 c.in_err-calculate_details.ensures.stops
+    let rest = λ (x y : Bool). spec.unless (spec.is_bypassed p x y) (spec.section p sections.Total before spec.output p times.Total)
+    before spec.end_where_last before spec.overflow_lines p before spec.fill_fields p before spec.detail_calculations p in
+    passed_map (Unit {0}) _ c.from_residual-in_err-take_record.result c.in_err-take_record.field-0.0 _ _ (λ e h. (s, last l4 (by_left rest p c.in_ok-selected.selected text (left_of c.select_record.new.kept) left c.select_record.new.machine c.take_record.new.machine s (job_end e) c.in_ok-selected.ensures.kept h))) c.from_residual-in_err-take_record.ensures.1 c.in_err-take_record.ensures.stops
 
 pub returns-clause-goes : goal.returns-clause-goes
 returns-clause-goes g c =
     let p = c.args.program.now in
     let left = left_of c.args.kept.now in
-    let next = option_map (λ x. x.now) c.args.next in
-    let C = spec.CycleOn p left next in
+    let C = spec.CycleOn p left (option_map (λ x. x.now) c.args.next) in
     let l0 = begins C c.args.machine.now c.refill.new.self c.refill.ensures.refilled in
     let l1 = step l0 (c.in_ok-put_out_details.ensures.goes.each None) in
     let l2 = step l1 (c.in_ok-halt_where_asked.ensures.goes.each None) in
@@ -147,10 +70,175 @@ returns-clause-goes g c =
     let text = c.select_record.new.kept.record.items in
     let s = selected_as c.in_ok-selected.selected text in
     let l4 = step l3 c.in_ok-selected.ensures.goes in
-    let totals = λ (x y : Bool). spec.unless (spec.is_bypassed p x y) (spec.section p sections.Total before spec.output p times.Total) in
-    let l5 = step l4 (by_left totals p c.in_ok-selected.selected text (left_of c.select_record.new.kept) left c.select_record.new.machine c.take_total_time.new.machine s GoesOn c.in_ok-selected.ensures.kept (c.in_ok-take_total_time.ensures.goes.each s)) in
-    let l6 = step l5 (c.in_ok-end_where_last.ensures.goes text) in
-    let l7 = step l6 (c.in_ok-put_out_overflow.ensures.goes.each s) in
-    let filled = λ (x : List ℕ). Does (spec.fill_fields p) c.put_out_overflow.new.machine (selected_as c.in_ok-selected.selected x) GoesOn c.fill_fields.new.machine (selected_as c.in_ok-selected.selected x) in
-    let l8 = step l7 (subst filled c.deref.ensures.value c.in_ok-fill_fields.ensures.goes) in
-    last l8 (c.in_ok-calculate_details.ensures.goes.each s)
+    let rest = λ (x y : Bool). spec.unless (spec.is_bypassed p x y) (spec.section p sections.Total before spec.output p times.Total)
+    before spec.end_where_last before spec.overflow_lines p before spec.fill_fields p before spec.detail_calculations p in
+    last l4 (by_left rest p c.in_ok-selected.selected text (left_of c.select_record.new.kept) left c.select_record.new.machine c.take_record.new.machine s GoesOn c.in_ok-selected.ensures.kept c.in_ok-take_record.ensures.goes)
+
+-- ---- what is spent
+
+pub returns-in_err-put_out_details-clause-few : goal.returns-in_err-put_out_details-clause-few
+returns-in_err-put_out_details-clause-few g c =
+    let p = c.args.program.now in
+    let r0 = c.refill.new.self in
+    let full = full_reach p c.args.machine.now r0 c.requires.program c.refill.ensures.refilled in
+    passed_memory (Unit {0}) _ c.from_residual.result c.in_err-put_out_details.field-0.0 _ _ (λ h. lines_bounded p r0 full c.put_out_details.new.machine h) c.from_residual.ensures.1 c.in_err-put_out_details.ensures.spends
+
+pub returns-in_err-halt_where_asked-clause-few : goal.returns-in_err-halt_where_asked-clause-few
+returns-in_err-halt_where_asked-clause-few g c =
+    let p = c.args.program.now in
+    let r0 = c.refill.new.self in
+    let full = full_reach p c.args.machine.now r0 c.requires.program c.refill.ensures.refilled in
+    memory_both c.from_residual-in_err-halt_where_asked.result _ (lines_bounded p r0 full c.put_out_details.new.machine c.in_ok-put_out_details.ensures.spends)
+
+pub returns-in_err-take_record-clause-few : goal.returns-in_err-take_record-clause-few
+returns-in_err-take_record-clause-few g c =
+    let p = c.args.program.now in
+    let r0 = c.refill.new.self in
+    let full = full_reach p c.args.machine.now r0 c.requires.program c.refill.ensures.refilled in
+    passed_memory (Unit {0}) _ c.from_residual-in_err-take_record.result c.in_err-take_record.field-0.0 _ _
+    (λ h. all_bounded p r0 full c.in_ok-selected.selected c.set_off.new.machine c.select_record.new.machine c.take_record.new.machine (at_no_cost c.in_ok-put_out_details.ensures.spends c.set_off.ensures.spends) c.in_ok-selected.ensures.selects h)
+    c.from_residual-in_err-take_record.ensures.1 c.in_err-take_record.ensures.spends
+
+pub returns-clause-few : goal.returns-clause-few
+returns-clause-few g c =
+    let p = c.args.program.now in
+    let r0 = c.refill.new.self in
+    let full = full_reach p c.args.machine.now r0 c.requires.program c.refill.ensures.refilled in
+    all_bounded p r0 full c.in_ok-selected.selected c.set_off.new.machine c.select_record.new.machine c.take_record.new.machine (at_no_cost c.in_ok-put_out_details.ensures.spends c.set_off.ensures.spends) c.in_ok-selected.ensures.selects
+    c.in_ok-take_record.ensures.spends
+
+pub take_record-requires-clause-few : goal.take_record-requires-clause-few
+take_record-requires-clause-few g c =
+    let p = c.args.program.now in
+    let r0 = c.refill.new.self in
+    let full = full_reach p c.args.machine.now r0 c.requires.program c.refill.ensures.refilled in
+    low_left (reach p c.select_record.new.machine) (inputs_weight p c.in_ok-selected.selected)
+    (selected_low p r0 full c.in_ok-selected.selected c.set_off.new.machine c.select_record.new.machine c.is_bounded.ensures.few (at_no_cost c.in_ok-put_out_details.ensures.spends c.set_off.ensures.spends) c.in_ok-selected.ensures.selects)
+
+pub take_record-requires-clause-small : goal.take_record-requires-clause-small
+take_record-requires-clause-small g c =
+    let p = c.args.program.now in
+    let r0 = c.refill.new.self in
+    let full = full_reach p c.args.machine.now r0 c.requires.program c.refill.ensures.refilled in
+    low_right (reach p c.select_record.new.machine) (inputs_weight p c.in_ok-selected.selected)
+    (selected_low p r0 full c.in_ok-selected.selected c.set_off.new.machine c.select_record.new.machine c.is_bounded.ensures.few (at_no_cost c.in_ok-put_out_details.ensures.spends c.set_off.ensures.spends) c.in_ok-selected.ensures.selects)
+
+pub take_record-requires-clause-light : goal.take_record-requires-clause-light
+take_record-requires-clause-light g c = omega (arith, c.is_bounded.ensures.sum, c.is_bounded.ensures.few)
+
+pub select_record-requires-clause-few : goal.select_record-requires-clause-few
+select_record-requires-clause-few g c =
+    let p = c.args.program.now in
+    let r0 = c.refill.new.self in
+    let full = full_reach p c.args.machine.now r0 c.requires.program c.refill.ensures.refilled in
+    low_here _ _ (lines_bounded p r0 full c.set_off.new.machine (at_no_cost c.in_ok-put_out_details.ensures.spends c.set_off.ensures.spends)) c.is_bounded.ensures.few
+
+-- ---- what holds on the way
+
+pub returns-in_err-put_out_details-clause-goes : goal.returns-in_err-put_out_details-clause-goes
+returns-in_err-put_out_details-clause-goes g c = ok_of_err c.from_residual.result _ _ c.from_residual.ensures.1
+
+pub returns-in_err-put_out_details-clause-program : goal.returns-in_err-put_out_details-clause-program
+returns-in_err-put_out_details-clause-program g c = ok_of_err c.from_residual.result _ _ c.from_residual.ensures.1
+
+pub returns-in_err-put_out_details-clause-ready : goal.returns-in_err-put_out_details-clause-ready
+returns-in_err-put_out_details-clause-ready g c = ok_of_err c.from_residual.result _ _ c.from_residual.ensures.1
+
+pub returns-in_err-put_out_details-clause-there : goal.returns-in_err-put_out_details-clause-there
+returns-in_err-put_out_details-clause-there g c = ok_of_err c.from_residual.result _ _ c.from_residual.ensures.1
+
+pub returns-in_err-put_out_details-clause-kept : goal.returns-in_err-put_out_details-clause-kept
+returns-in_err-put_out_details-clause-kept g c = ok_of_err c.from_residual.result _ _ c.from_residual.ensures.1
+
+pub returns-in_err-halt_where_asked-clause-goes : goal.returns-in_err-halt_where_asked-clause-goes
+returns-in_err-halt_where_asked-clause-goes g c = ok_of_err c.from_residual-in_err-halt_where_asked.result _ _ c.from_residual-in_err-halt_where_asked.ensures.1
+
+pub returns-in_err-halt_where_asked-clause-program : goal.returns-in_err-halt_where_asked-clause-program
+returns-in_err-halt_where_asked-clause-program g c = ok_of_err c.from_residual-in_err-halt_where_asked.result _ _ c.from_residual-in_err-halt_where_asked.ensures.1
+
+pub returns-in_err-halt_where_asked-clause-ready : goal.returns-in_err-halt_where_asked-clause-ready
+returns-in_err-halt_where_asked-clause-ready g c = ok_of_err c.from_residual-in_err-halt_where_asked.result _ _ c.from_residual-in_err-halt_where_asked.ensures.1
+
+pub returns-in_err-halt_where_asked-clause-there : goal.returns-in_err-halt_where_asked-clause-there
+returns-in_err-halt_where_asked-clause-there g c = ok_of_err c.from_residual-in_err-halt_where_asked.result _ _ c.from_residual-in_err-halt_where_asked.ensures.1
+
+pub returns-in_err-halt_where_asked-clause-kept : goal.returns-in_err-halt_where_asked-clause-kept
+returns-in_err-halt_where_asked-clause-kept g c = ok_of_err c.from_residual-in_err-halt_where_asked.result _ _ c.from_residual-in_err-halt_where_asked.ensures.1
+
+pub returns-in_err-selected-clause-goes : goal.returns-in_err-selected-clause-goes
+returns-in_err-selected-clause-goes g c = ok_of_err c.from_residual-in_err-selected.result _ _ c.from_residual-in_err-selected.ensures.1
+
+pub returns-in_err-selected-clause-program : goal.returns-in_err-selected-clause-program
+returns-in_err-selected-clause-program g c = ok_of_err c.from_residual-in_err-selected.result _ _ c.from_residual-in_err-selected.ensures.1
+
+pub returns-in_err-selected-clause-ready : goal.returns-in_err-selected-clause-ready
+returns-in_err-selected-clause-ready g c = ok_of_err c.from_residual-in_err-selected.result _ _ c.from_residual-in_err-selected.ensures.1
+
+pub returns-in_err-selected-clause-there : goal.returns-in_err-selected-clause-there
+returns-in_err-selected-clause-there g c = ok_of_err c.from_residual-in_err-selected.result _ _ c.from_residual-in_err-selected.ensures.1
+
+pub returns-in_err-selected-clause-kept : goal.returns-in_err-selected-clause-kept
+returns-in_err-selected-clause-kept g c = ok_of_err c.from_residual-in_err-selected.result _ _ c.from_residual-in_err-selected.ensures.1
+
+pub returns-in_err-take_record-clause-goes : goal.returns-in_err-take_record-clause-goes
+returns-in_err-take_record-clause-goes g c = ok_of_err c.from_residual-in_err-take_record.result _ _ c.from_residual-in_err-take_record.ensures.1
+
+pub returns-in_err-take_record-clause-program : goal.returns-in_err-take_record-clause-program
+returns-in_err-take_record-clause-program g c = ok_of_err c.from_residual-in_err-take_record.result _ _ c.from_residual-in_err-take_record.ensures.1
+
+pub returns-in_err-take_record-clause-ready : goal.returns-in_err-take_record-clause-ready
+returns-in_err-take_record-clause-ready g c = ok_of_err c.from_residual-in_err-take_record.result _ _ c.from_residual-in_err-take_record.ensures.1
+
+pub returns-in_err-take_record-clause-there : goal.returns-in_err-take_record-clause-there
+returns-in_err-take_record-clause-there g c = ok_of_err c.from_residual-in_err-take_record.result _ _ c.from_residual-in_err-take_record.ensures.1
+
+pub returns-in_err-take_record-clause-kept : goal.returns-in_err-take_record-clause-kept
+returns-in_err-take_record-clause-kept g c = ok_of_err c.from_residual-in_err-take_record.result _ _ c.from_residual-in_err-take_record.ensures.1
+
+pub returns-clause-program : goal.returns-clause-program
+returns-clause-program g c = c.in_ok-take_record.ensures.program
+
+pub returns-clause-ready : goal.returns-clause-ready
+returns-clause-ready g c = c.in_ok-take_record.ensures.ready
+
+pub returns-clause-there : goal.returns-clause-there
+returns-clause-there g c = c.in_ok-selected.ensures.there
+
+pub returns-clause-kept : goal.returns-clause-kept
+returns-clause-kept g c = c.in_ok-selected.ensures.kept
+
+pub put_out_details-requires-clause-program : goal.put_out_details-requires-clause-program
+put_out_details-requires-clause-program g c = ap (λ (r : Running). r.program) c.refill.ensures.refilled ∙ c.requires.program
+
+pub put_out_details-requires-clause-ready : goal.put_out_details-requires-clause-ready
+put_out_details-requires-clause-ready g c = c.refill.ensures.ready c.requires.ready
+
+pub set_off-requires-clause-program : goal.set_off-requires-clause-program
+set_off-requires-clause-program g c = c.in_ok-put_out_details.ensures.program
+
+pub set_off-requires-clause-ready : goal.set_off-requires-clause-ready
+set_off-requires-clause-ready g c = c.in_ok-put_out_details.ensures.ready
+
+pub select_record-requires-clause-program : goal.select_record-requires-clause-program
+select_record-requires-clause-program g c = c.set_off.ensures.program
+
+pub select_record-requires-clause-ready : goal.select_record-requires-clause-ready
+select_record-requires-clause-ready g c = c.set_off.ensures.ready
+
+pub take_record-requires-clause-program : goal.take_record-requires-clause-program
+take_record-requires-clause-program g c = c.in_ok-selected.ensures.program
+
+pub take_record-requires-clause-ready : goal.take_record-requires-clause-ready
+take_record-requires-clause-ready g c = c.in_ok-selected.ensures.ready
+
+pub select_record-requires-clause-nine : goal.select_record-requires-clause-nine
+select_record-requires-clause-nine g c = c.requires.nine
+
+pub take_record-requires-clause-there : goal.take_record-requires-clause-there
+take_record-requires-clause-there g c = c.in_ok-selected.ensures.there
+
+pub take_record-requires-clause-whole : goal.take_record-requires-clause-whole
+take_record-requires-clause-whole g c = c.in_ok-selected.ensures.whole
+
+pub take_record-requires-clause-characters : goal.take_record-requires-clause-characters
+take_record-requires-clause-characters g c = c.in_ok-selected.ensures.characters
