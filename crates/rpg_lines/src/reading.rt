@@ -14,6 +14,7 @@ use rpg_columns::forms::{entries_of, is_table_form};
 use rpg_effect::form::FieldForm;
 use rpg_effect::operation::{Index, Operand};
 use rpg_effect::value::Value;
+use rpg_memory::position::in_range;
 use rpg_program::row::Rows;
 use rpg_store::store::Store;
 
@@ -39,21 +40,6 @@ pub fn word_at(rows: &Rows, field: u16) -> &[u8]
     match rows.values.get(usize::from(field) - 1) {
         None => &[],
         Some(values) => first_text(values),
-    }
-}
-
-/// A number as a position, where it is one of the entries.
-fn in_range(entries: u16, n: i64) -> Option<u16>
-    ensures { result ≡ named.in_range entries n }
-{
-    if n < 0 {
-        return None;
-    }
-    let n = n as u64;
-    if 1 <= n && n <= u64::from(entries) {
-        Some(n as u16)
-    } else {
-        None
     }
 }
 

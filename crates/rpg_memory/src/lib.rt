@@ -4,3 +4,4 @@
 pub mod condition;
 pub mod indicators;
 pub mod memory;
+pub mod position;

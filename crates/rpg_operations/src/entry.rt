@@ -15,23 +15,9 @@ use rpg_columns::forms::{form_at, is_table};
 use rpg_effect::form::FieldForm;
 use rpg_effect::operation::{Entry, Index, Operand};
 use rpg_memory::memory::Memory;
+use rpg_memory::position::in_range;
 use rpg_program::row::Rows;
 use rpg_store::store::Store;
-
-/// A number as a position, where it is one of the entries.
-fn in_range(entries: u16, n: i64) -> Option<u16>
-    ensures { result ≡ of.in_range entries n }
-{
-    if n < 0 {
-        return None;
-    }
-    let n = n as u64;
-    if 1 <= n && n <= u64::from(entries) {
-        Some(n as u16)
-    } else {
-        None
-    }
-}
 
 /// The form of a field that is there.
 fn form_of(rows: &Rows, field: u16) -> FieldForm

@@ -1,4 +1,5 @@
 pub mod Lists
+pub mod Measures
 pub mod Sectioning
 pub mod Spanning
 pub mod Values

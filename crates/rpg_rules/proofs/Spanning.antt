@@ -6,7 +6,7 @@ use Rattle.rpg_program.specs.Object.{Object, SubroutineRow, subroutine_row}
 use Rattle.rpg_program.specs.Sections.{body_of, end_of, first_in, first_of, level_in}
 use Rattle.rpg_program.specs.declared.row.Subroutine.{Subroutine}
 use Rattle.rpg_program.specs.declared.section.Section.TheVariants as sections
-use Rattle.rpg_rules.specs.Spans.{IsSpan}
+use Rattle.rpg_columns.specs.Spans.{IsSpan}
 
 pub detail_span : (p : Object) (n : ℕ) → n ≡ length p.detail → IsSpan p (record { section = sections.Detail; level = 0; first = 0; end = n })
 unfolding first_of end_of

@@ -4,6 +4,5 @@ pub mod TypeRules
 pub mod LineRules
 pub mod PlaceRules
 pub mod Rules
-pub mod Spans
 pub mod Accepted
 pub mod Sound

@@ -7,7 +7,6 @@ mod least;
 mod lines;
 mod places;
 mod rule;
-mod spans;
 mod subroutines;
 mod types;
 mod words;

@@ -2,26 +2,25 @@
 
 ghost use Rattle.std.specs.Prelude.{◌≡◌, ◌+◌, ◌≤◌, ◌<◌, length, map, IfSome};
 ghost use Rattle.std.specs.List.{position};
+ghost use Rattle.rpg_columns.specs.Spans.{IsSpan};
 ghost use Rattle.rpg_effect.specs.Control as control;
 ghost use Rattle.rpg_effect.specs.Forms as forms;
 ghost use Rattle.rpg_effect.specs.Rows as rows_words;
 ghost use Rattle.rpg_program.specs.Kept.{IsProgram};
 ghost use Rattle.rpg_program.specs.Object.{seen, subroutine_row};
-ghost use Rattle.rpg_program.specs.Sections as sections;
 ghost use Rattle.rpg_program.specs.declared.section.Section.TheVariants as section_names;
 ghost use Rattle.rpg_rules.specs.Least.{first_true};
 ghost use Rattle.rpg_rules.specs.PlaceRules as words;
 ghost use Rattle.rpg_rules.specs.Rules.{broken};
-ghost use Rattle.rpg_rules.specs.Spans.{IsSpan};
 ghost use Rattle.rpg_rules.specs.declared.rule.Rule.TheVariants as rule_names;
 
 use crate::indicators::{all_asked, are_settable, has_shows};
 use crate::rule::PlaceRule;
-use crate::spans::Span;
 use rpg_columns::columns::{
     columns_of, has_kind, holds_positions, is_current_table, is_good, is_writable_use,
 };
 use rpg_columns::forms::form_at;
+use rpg_columns::spans::{Span, is_higher, is_place};
 use rpg_effect::condition::Conditions;
 use rpg_effect::operation::{Instruction, Operand};
 use rpg_effect::row::{Marks, Row, Use};
@@ -278,25 +277,6 @@ fn is_searched_well(rows: &Rows, row: Row<Operand<u16>>) -> bool
 
 // ---- where control goes
 
-fn has_end(section: Section) -> bool
-    ensures { result ≡ sections.has_end section }
-{
-    match section {
-        Section::Detail | Section::Total => true,
-        Section::Subroutine(_) => false,
-    }
-}
-
-/// Whether a place is in the section, or at the end of detail or total calculations.
-#[tactic(auto, unfolding(rpg_program::specs::Sections::is_place))]
-fn is_place(rows: &Rows, span: Span, place: usize) -> bool
-    requires { IsSpan (seen rows.now) span }
-    ensures { result ≡ sections.is_place (seen rows.now) (record { section = span.section; number = place }) }
-{
-    let _rows = rows;
-    span.first <= place && (place < span.end || (has_end(span.section) && place == span.end))
-}
-
 fn stays_inside(rows: &Rows, span: Span, instruction: Instruction<u16>) -> bool
     requires { IsSpan (seen rows.now) span }
     ensures { result ≡ words.stays_inside (seen rows.now) span.section instruction }
@@ -310,22 +290,12 @@ fn stays_inside(rows: &Rows, span: Span, instruction: Instruction<u16>) -> bool
     }
 }
 
-/// The level of a subroutine, 0 where there is none of that number.
-fn level_of(rows: &Rows, subroutine: u16) -> u16
-    ensures { result ≡ sections.level_of (seen rows.now) (section_names.Subroutine subroutine) }
-{
-    match rows.subroutines.get(usize::from(subroutine)) {
-        None => 0,
-        Some(subroutine) => subroutine.level,
-    }
-}
-
 fn calls_higher(rows: &Rows, span: Span, instruction: Instruction<u16>) -> bool
     requires { IsSpan (seen rows.now) span }
     ensures { result ≡ words.calls_higher (seen rows.now) span.section instruction }
 {
     match instruction {
-        Instruction::Call { subroutine } => span.level < level_of(rows, subroutine),
+        Instruction::Call { subroutine } => is_higher(rows, span, subroutine),
         Instruction::Act(_)
         | Instruction::Except
         | Instruction::Branch { .. }

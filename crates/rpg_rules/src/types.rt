@@ -110,19 +110,18 @@ fn is_measured(measure: u128, n: u128) -> bool
     n == 0 || (n <= 256 && n == measure)
 }
 
+#[tactic(auto, using(crate::proofs::Measures::measured_on, crate::proofs::Measures::not_measured))]
 fn all_measured(measures: &[u128; 9], fields: &[ControlField]) -> bool
     ensures { result ≡ words.all_measured 1 measures.now fields.now }
 {
-    let [m1, m2, m3, m4, m5, m6, m7, m8, m9] = *measures;
-    is_measured(m1, joined(1, fields))
-        && (is_measured(m2, joined(2, fields))
-            && (is_measured(m3, joined(3, fields))
-                && (is_measured(m4, joined(4, fields))
-                    && (is_measured(m5, joined(5, fields))
-                        && (is_measured(m6, joined(6, fields))
-                            && (is_measured(m7, joined(7, fields))
-                                && (is_measured(m8, joined(8, fields))
-                                    && is_measured(m9, joined(9, fields)))))))))
+    let mut level = 1;
+    for measure in measures {
+        if !is_measured(*measure, joined(level, fields)) {
+            return false;
+        }
+        level += 1;
+    }
+    true
 }
 
 fn is_code_in(length: u16, code: &RecordCode) -> bool

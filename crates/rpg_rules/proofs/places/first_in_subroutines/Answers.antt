@@ -4,7 +4,7 @@ use Rattle.rpg_program.specs.Sections.{first_in, instructions_in}
 use Rattle.rpg_program.specs.declared.section.Section.TheVariants as sections
 use Rattle.rpg_rules.specs.Least.{first_true}
 use Rattle.rpg_rules.specs.PlaceRules.{subroutines_judged}
-use Rattle.rpg_rules.specs.Spans.{IsSpan}
+use Rattle.rpg_columns.specs.Spans.{IsSpan}
 use Rattle.rpg_rules.proofs.Sectioning.{left, found_here, found_later, fewer_left}
 use Rattle.rpg_rules.proofs.Spanning.{at_zero, first_behind, subroutine_at, subroutine_span}
 use Rattle.rpg_rules.proofs.places.first_in_subroutines.Goals as goal

@@ -2,7 +2,7 @@
 use Rattle.std.specs.Prelude.{◌≡◌}
 use Rattle.rpg_program.specs.Object.{Object}
 use Rattle.rpg_program.specs.Sections.{end_of, first_of, level_of}
-use Rattle.rpg_rules.specs.declared.spans.Span.{Span}
+use Rattle.rpg_columns.specs.declared.spans.Span.{Span}
 
 -- its first place, its end and its level
 pub record IsSpan (p : Object) (s : Span) : Type 0 where
