@@ -34,7 +34,7 @@ pub fn indicator_number(indicator: Option<u8>) -> u8
 pub fn indicator_at(bytes: &[u8]) -> Result<(Option<u8>, &[u8]), ReadFault>
     ensures { Gives (λ x. (x.0, x.1.now)) result (read_byte indicator_of bytes.now) }
 {
-    byte_at(bytes, |n| indicator_of(n))
+    byte_at(bytes, indicator_of)
 }
 
 /// Reads three indicators.

@@ -72,7 +72,7 @@ pub fn letter_number(letter: Letter) -> u8
 pub fn letter_at(bytes: &[u8]) -> Result<(Letter, &[u8]), ReadFault>
     ensures { Gives (λ x. (x.0, x.1.now)) result (read_byte rows.letter_of bytes.now) }
 {
-    byte_at(bytes, |n| letter_of(n))
+    byte_at(bytes, letter_of)
 }
 
 fn word_field(letter: Letter, n: u16) -> Result<u16, Code>

@@ -41,7 +41,7 @@ fn source_number(source: Source) -> u8
 fn source_at(bytes: &[u8]) -> Result<(Source, &[u8]), ReadFault>
     ensures { Gives (λ x. (x.0, x.1.now)) result (read_byte rows.source_of bytes.now) }
 {
-    byte_at(bytes, |n| source_of(n))
+    byte_at(bytes, source_of)
 }
 
 fn fill_of(n: u8) -> Result<Fill, Code>
@@ -69,7 +69,7 @@ fn fill_number(fill: Fill) -> u8
 fn fill_at(bytes: &[u8]) -> Result<(Fill, &[u8]), ReadFault>
     ensures { Gives (λ x. (x.0, x.1.now)) result (read_byte rows.fill_of bytes.now) }
 {
-    byte_at(bytes, |n| fill_of(n))
+    byte_at(bytes, fill_of)
 }
 
 #[tactic(auto, unfolding(rpg_format::specs::Format::byte, rpg_format::specs::Format::two_bytes, rpg_format::specs::Format::pair, rpg_format::specs::Format::row, crate::specs::Lines::line_field_parts, crate::specs::Lines::line_field))]

@@ -24,7 +24,7 @@ pub const NO_SHOWS: Shows = Shows {
 fn operation_at(bytes: &[u8]) -> Result<(Operation, &[u8]), ReadFault>
     ensures { Gives (λ x. (x.0, x.1.now)) result (read_byte rows.operation_of bytes.now) }
 {
-    byte_at(bytes, |n| operation_of(n))
+    byte_at(bytes, operation_of)
 }
 
 #[tactic(auto, unfolding(rpg_format::specs::Format::byte, crate::specs::Shapes::row_where))]
@@ -34,7 +34,7 @@ fn half_at(bytes: &[u8], columns: Columns) -> Result<(bool, &[u8]), ReadFault>
     if columns.half {
         return flag_at(bytes);
     }
-    let ((), rest) = only_byte_at(bytes, 0, Code::Unused)?;
+    let (_, rest) = only_byte_at(bytes, 0, Code::Unused)?;
     Ok((false, rest))
 }
 
@@ -45,7 +45,7 @@ fn operand_column_at(bytes: &[u8], is_used: bool) -> Result<(Operand<u16>, &[u8]
     if is_used {
         return operand_at(bytes);
     }
-    let ((), rest) = unused_operand_at(bytes)?;
+    let (_, rest) = unused_operand_at(bytes)?;
     Ok((NO_OPERAND, rest))
 }
 
@@ -53,9 +53,9 @@ fn operand_column_at(bytes: &[u8], is_used: bool) -> Result<(Operand<u16>, &[u8]
 fn unused_shows_at(bytes: &[u8]) -> Result<((), &[u8]), ReadFault>
     ensures { Gives (λ x. (x.0, x.1.now)) result (rows.unused_shows.reading bytes.now) }
 {
-    let ((), rest) = only_byte_at(bytes, 0, Code::Unused)?;
-    let ((), rest) = only_byte_at(rest, 0, Code::Unused)?;
-    let ((), rest) = only_byte_at(rest, 0, Code::Unused)?;
+    let (_, rest) = only_byte_at(bytes, 0, Code::Unused)?;
+    let (_, rest) = only_byte_at(rest, 0, Code::Unused)?;
+    let (_, rest) = only_byte_at(rest, 0, Code::Unused)?;
     Ok(((), rest))
 }
 
@@ -66,7 +66,7 @@ fn indicators_at(bytes: &[u8], columns: Columns) -> Result<(Shows, &[u8]), ReadF
     if columns.indicators {
         return shows_at(bytes);
     }
-    let ((), rest) = unused_shows_at(bytes)?;
+    let (_, rest) = unused_shows_at(bytes)?;
     Ok((NO_SHOWS, rest))
 }
 
@@ -77,7 +77,7 @@ fn target_at(bytes: &[u8], columns: Columns) -> Result<(u16, &[u8]), ReadFault>
     if columns.target {
         return any_number_at(bytes);
     }
-    let ((), rest) = only_number_at(bytes, 0, Code::Unused)?;
+    let (_, rest) = only_number_at(bytes, 0, Code::Unused)?;
     Ok((0, rest))
 }
 
@@ -92,7 +92,7 @@ fn negations_column_at(
     if columns.negations {
         return negations_at(bytes, shows);
     }
-    let ((), rest) = only_byte_at(bytes, 0, Code::Unused)?;
+    let (_, rest) = only_byte_at(bytes, 0, Code::Unused)?;
     Ok((0, rest))
 }
 

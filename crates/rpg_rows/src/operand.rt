@@ -57,8 +57,8 @@ pub fn operand_at(bytes: &[u8]) -> Result<(Operand<u16>, &[u8]), ReadFault>
 pub fn unused_operand_at(bytes: &[u8]) -> Result<((), &[u8]), ReadFault>
     ensures { Gives (λ x. (x.0, x.1.now)) result (rows.unused_operand.reading bytes.now) }
 {
-    let ((), rest) = only_number_at(bytes, 0, Code::Unused)?;
-    let ((), rest) = only_number_at(rest, 0, Code::Unused)?;
+    let (_, rest) = only_number_at(bytes, 0, Code::Unused)?;
+    let (_, rest) = only_number_at(rest, 0, Code::Unused)?;
     Ok(((), rest))
 }
 

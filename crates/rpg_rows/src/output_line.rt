@@ -41,7 +41,7 @@ fn file_number(file: File) -> u8
 fn file_at(bytes: &[u8]) -> Result<(File, &[u8]), ReadFault>
     ensures { Gives (λ x. (x.0, x.1.now)) result (read_byte rows.file_of bytes.now) }
 {
-    byte_at(bytes, |n| file_of(n))
+    byte_at(bytes, file_of)
 }
 
 fn time_of(n: u8) -> Result<Time, Code>
@@ -71,7 +71,7 @@ fn time_number(time: Time) -> u8
 fn time_at(bytes: &[u8]) -> Result<(Time, &[u8]), ReadFault>
     ensures { Gives (λ x. (x.0, x.1.now)) result (read_byte rows.time_of bytes.now) }
 {
-    byte_at(bytes, |n| time_of(n))
+    byte_at(bytes, time_of)
 }
 
 /// At least one, and at most 50.
@@ -89,7 +89,7 @@ fn alternative_count(n: u16) -> Result<u16, Code>
 fn alternative_count_at(bytes: &[u8]) -> Result<(u16, &[u8]), ReadFault>
     ensures { Gives (λ x. (x.0, x.1.now)) result (read_two rows.alternative_count bytes.now) }
 {
-    number_at(bytes, |n| alternative_count(n))
+    number_at(bytes, alternative_count)
 }
 
 #[tactic(auto, unfolding(rpg_format::specs::Format::read_byte))]
@@ -157,7 +157,7 @@ pub fn line_at(alloc: Global, bytes: &[u8]) -> Result<(Line, &[u8]), ReadFault>
     let (spacing, rest) = spacing_at(rest)?;
     let (alternative_count, rest) = alternative_count_at(rest)?;
     let (field_count, rest) = count_at(rest, 200)?;
-    let ((), rest) = only_number_at(rest, 0, Code::Unused)?;
+    let (_, rest) = only_number_at(rest, 0, Code::Unused)?;
     let (alternatives, rest) = rows_at(alloc, alternative_count, rest)?;
     let (fields, rest) = rows_at(alloc, field_count, rest)?;
     Ok((

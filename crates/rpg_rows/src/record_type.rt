@@ -22,6 +22,23 @@ use rpg_format::number::{
 use rpg_program::row::RecordType;
 use std::alloc::{AllocError, Global};
 
+#[tactic(auto, unfolding(rpg_format::specs::Format::byte, rpg_format::specs::Format::two_bytes, rpg_format::specs::Format::pair, rpg_format::specs::Format::row, crate::specs::Types::record_code))]
+fn record_code_at(bytes: &[u8]) -> Result<(RecordCode, &[u8]), ReadFault>
+    ensures { Gives (λ x. (x.0, x.1.now)) result (record_code.reading bytes.now) }
+{
+    let (position, rest) = any_number_at(bytes)?;
+    let (is_negated, rest) = flag_at(rest)?;
+    let (character, rest) = byte_between_at(rest, b' ', b'~')?;
+    Ok((
+        RecordCode {
+            position,
+            is_negated,
+            character,
+        },
+        rest,
+    ))
+}
+
 impl Row for RecordCode {
     ghost Seen = { code.RecordCode };
 
@@ -33,19 +50,8 @@ impl Row for RecordCode {
 
     ghost spell = { record_code.spelling };
 
-    #[tactic(auto, unfolding(rpg_format::specs::Format::byte, rpg_format::specs::Format::two_bytes, rpg_format::specs::Format::pair, rpg_format::specs::Format::row, crate::specs::Types::record_code))]
     fn read_row(_alloc: Global, bytes: &[u8]) -> Result<(Self, &[u8]), ReadFault> {
-        let (position, rest) = any_number_at(bytes)?;
-        let (is_negated, rest) = flag_at(rest)?;
-        let (character, rest) = byte_between_at(rest, b' ', b'~')?;
-        Ok((
-            RecordCode {
-                position,
-                is_negated,
-                character,
-            },
-            rest,
-        ))
+        record_code_at(bytes)
     }
 
     #[tactic(auto, unfolding(rpg_format::specs::Format::byte, rpg_format::specs::Format::two_bytes, rpg_format::specs::Format::pair, rpg_format::specs::Format::row, crate::specs::Types::record_code))]
@@ -61,6 +67,25 @@ impl Row for RecordCode {
     }
 }
 
+#[tactic(auto, unfolding(rpg_format::specs::Format::byte, rpg_format::specs::Format::two_bytes, rpg_format::specs::Format::pair, rpg_format::specs::Format::row, crate::specs::Types::control_field))]
+fn control_field_at(bytes: &[u8]) -> Result<(ControlField, &[u8]), ReadFault>
+    ensures { Gives (λ x. (x.0, x.1.now)) result (control_field.reading bytes.now) }
+{
+    let (level, rest) = byte_between_at(bytes, 1, 9)?;
+    let (is_numeric, rest) = flag_at(rest)?;
+    let (from, rest) = any_number_at(rest)?;
+    let (to, rest) = any_number_at(rest)?;
+    Ok((
+        ControlField {
+            level,
+            is_numeric,
+            from,
+            to,
+        },
+        rest,
+    ))
+}
+
 impl Row for ControlField {
     ghost Seen = { control.ControlField };
 
@@ -72,21 +97,8 @@ impl Row for ControlField {
 
     ghost spell = { control_field.spelling };
 
-    #[tactic(auto, unfolding(rpg_format::specs::Format::byte, rpg_format::specs::Format::two_bytes, rpg_format::specs::Format::pair, rpg_format::specs::Format::row, crate::specs::Types::control_field))]
     fn read_row(_alloc: Global, bytes: &[u8]) -> Result<(Self, &[u8]), ReadFault> {
-        let (level, rest) = byte_between_at(bytes, 1, 9)?;
-        let (is_numeric, rest) = flag_at(rest)?;
-        let (from, rest) = any_number_at(rest)?;
-        let (to, rest) = any_number_at(rest)?;
-        Ok((
-            ControlField {
-                level,
-                is_numeric,
-                from,
-                to,
-            },
-            rest,
-        ))
+        control_field_at(bytes)
     }
 
     #[tactic(auto, unfolding(rpg_format::specs::Format::byte, rpg_format::specs::Format::two_bytes, rpg_format::specs::Format::pair, rpg_format::specs::Format::row, crate::specs::Types::control_field))]
@@ -104,6 +116,26 @@ impl Row for ControlField {
     }
 }
 
+#[tactic(auto, unfolding(rpg_format::specs::Format::byte, rpg_format::specs::Format::two_bytes, rpg_format::specs::Format::pair, rpg_format::specs::Format::row, crate::specs::Types::input_field))]
+fn input_field_at(bytes: &[u8]) -> Result<(InputField<u16>, &[u8]), ReadFault>
+    ensures { Gives (λ x. (x.0, x.1.now)) result (input_field.reading bytes.now) }
+{
+    let (from, rest) = any_number_at(bytes)?;
+    let (to, rest) = any_number_at(rest)?;
+    let (field, rest) = any_number_at(rest)?;
+    let (shows, rest) = shows_at(rest)?;
+    let (_, rest) = only_byte_at(rest, 0, Code::Unused)?;
+    Ok((
+        InputField {
+            from,
+            to,
+            field,
+            shows,
+        },
+        rest,
+    ))
+}
+
 impl Row for InputField<u16> {
     ghost Seen = { input.InputField ℕ };
 
@@ -115,22 +147,8 @@ impl Row for InputField<u16> {
 
     ghost spell = { input_field.spelling };
 
-    #[tactic(auto, unfolding(rpg_format::specs::Format::byte, rpg_format::specs::Format::two_bytes, rpg_format::specs::Format::pair, rpg_format::specs::Format::row, crate::specs::Types::input_field))]
     fn read_row(_alloc: Global, bytes: &[u8]) -> Result<(Self, &[u8]), ReadFault> {
-        let (from, rest) = any_number_at(bytes)?;
-        let (to, rest) = any_number_at(rest)?;
-        let (field, rest) = any_number_at(rest)?;
-        let (shows, rest) = shows_at(rest)?;
-        let ((), rest) = only_byte_at(rest, 0, Code::Unused)?;
-        Ok((
-            InputField {
-                from,
-                to,
-                field,
-                shows,
-            },
-            rest,
-        ))
+        input_field_at(bytes)
     }
 
     #[tactic(auto, unfolding(rpg_format::specs::Format::byte, rpg_format::specs::Format::two_bytes, rpg_format::specs::Format::pair, rpg_format::specs::Format::row, crate::specs::Indicators::shows, crate::specs::Types::input_field))]
@@ -158,7 +176,7 @@ pub fn record_type_at(alloc: Global, bytes: &[u8]) -> Result<(RecordType, &[u8])
     ensures { Gives (λ x. (type_row x.0, x.1.now)) result (rows.record_type.reading bytes.now) }
 {
     let (indicator, rest) = indicator_at(bytes)?;
-    let ((), rest) = only_byte_at(rest, 0, Code::Unused)?;
+    let (_, rest) = only_byte_at(rest, 0, Code::Unused)?;
     let (code_count, rest) = count_at(rest, 100)?;
     let (level_count, rest) = count_at(rest, 100)?;
     let (input_count, rest) = count_at(rest, 500)?;
