@@ -41,6 +41,13 @@ fn file_bytes<R: Files + AllocGlobal>(rt: &R, path: &str) -> Result<Vec<u8>, Ans
     Ok(bytes)
 }
 
+/// Makes, or empties, a file of these bytes.
+fn write_bytes<R: Files + AllocGlobal>(rt: &R, path: &str, bytes: &[u8]) -> Result<(), Answer> {
+    let mut file = fs::create(rt, path).map_err(output_fault)?;
+    file.write_all(bytes).map_err(output_fault)?;
+    file.flush().map_err(output_fault)
+}
+
 /// Compiles a source to an object file.
 ///
 /// The object file is made, which empties it, once the source is compiled: a source that is refused leaves it as it was.
@@ -50,9 +57,7 @@ pub(crate) fn compile_files<R: Files + AllocGlobal>(
 ) -> Result<(), Answer> {
     let source = file_bytes(rt, words.source)?;
     let object = compile_to_bytes(rt.alloc(), &source, words.allowance)?;
-    let mut file = fs::create(rt, words.object).map_err(output_fault)?;
-    file.write_all(&object).map_err(output_fault)?;
-    file.flush().map_err(output_fault)
+    write_bytes(rt, words.object, &object)
 }
 
 /// Verifies an object file: the bound of its program.
@@ -110,24 +115,32 @@ fn run_over<I: Read + Drop, P: Write + Drop, D: Write + Drop>(
     Ok(report)
 }
 
-/// Runs an object program over its files.
-///
-/// The object is read and decoded first, and a disk file that is wanted and not named is told. Then the input is opened, and the
-/// printer's file and the disk file are made, which empties them.
-pub(crate) fn run_files<R: Files + AllocGlobal>(
+/// Opens the input, makes the printer's file and the disk file, which empties them, and runs the object program over them.
+fn run_object<R: Files + AllocGlobal>(
     rt: &R,
     words: &RunWords,
+    object: &[u8],
+    disk: Option<&str>,
 ) -> Result<Report, Answer> {
-    let alloc = rt.alloc();
-    let object = file_bytes(rt, words.object)?;
-    let disk = disk_path(alloc, &object, words.disk)?;
     let input = fs::open(rt, words.input).map_err(input_fault)?;
     let print = new_file(rt, words.print)?;
     match disk {
         Some(path) => {
             let disk = new_file(rt, path)?;
-            run_over(alloc, &object, words.date, input, print, disk)
+            run_over(rt.alloc(), object, words.date, input, print, disk)
         }
-        None => run_over(alloc, &object, words.date, input, print, io::sink()),
+        None => run_over(rt.alloc(), object, words.date, input, print, io::sink()),
     }
+}
+
+/// Runs an object program over its files.
+///
+/// The object is read and decoded first, and a disk file that is wanted and not named is told. Then come the other files.
+pub(crate) fn run_files<R: Files + AllocGlobal>(
+    rt: &R,
+    words: &RunWords,
+) -> Result<Report, Answer> {
+    let object = file_bytes(rt, words.object)?;
+    let disk = disk_path(rt.alloc(), &object, words.disk)?;
+    run_object(rt, words, &object, disk)
 }

@@ -4,7 +4,7 @@ ghost use Rattle.std.specs.Prelude.{◌<◌, ◌≤◌};
 
 use crate::command::command;
 use clap::error::ErrorKind;
-use clap::{ArgMatches, Error};
+use clap::{ArgMatches, Command, Error};
 use std::alloc::Global;
 
 /// What the words ask for.
@@ -97,18 +97,28 @@ fn run_words<'a>(given: &ArgMatches<'a>) -> Option<RunWords<'a>> {
     })
 }
 
+fn request_in<'a>(matches: &ArgMatches<'a>) -> Option<Request<'a>> {
+    match matches.subcommand()? {
+        ("compile", given) => compile_words(given).map(Request::Compile),
+        ("verify", given) => verify_words(given).map(Request::Verify),
+        ("run", given) => run_words(given).map(Request::Run),
+        _ => None,
+    }
+}
+
+fn command_wanted(command: &mut Command<'_>) -> Error {
+    match command.error(ErrorKind::MissingSubcommand, "a command is wanted") {
+        Ok(error) => error,
+        Err(error) => Error::from(error),
+    }
+}
+
 fn read<'a>(alloc: Global, words: &'a [String]) -> Result<Request<'a>, Error> {
     let mut command = command(alloc)?;
     let matches = command.try_get_matches_from_mut(words)?;
-    let request = match matches.subcommand() {
-        Some(("compile", given)) => compile_words(given).map(Request::Compile),
-        Some(("verify", given)) => verify_words(given).map(Request::Verify),
-        Some(("run", given)) => run_words(given).map(Request::Run),
-        _ => None,
-    };
-    match request {
+    match request_in(&matches) {
         Some(request) => Ok(request),
-        None => Err(command.error(ErrorKind::MissingSubcommand, "a command is wanted")?),
+        None => Err(command_wanted(&mut command)),
     }
 }
 
