@@ -44,7 +44,7 @@ IsOneOf k (x ∷ xs) = (k ≡ x) ⊎ IsOneOf k xs
 
 all_codes : (k : FaultCode) → IsOneOf k codes
 all_codes F1 = inl refl
-all_codes _ = search (inl, inr) depth 13
+all_codes _ = search (inl, inr) depth 30
 
 each : (test : FaultCode → Bool) (k : FaultCode) (ks : List FaultCode) → list_all test ks ≡ true → IsOneOf k ks → test k ≡ true
 each test k [] a i = absurd i
