@@ -9,7 +9,10 @@ use Rattle.std.specs.List.{list_any}
 use Rattle.std.specs.Prelude.{sum_by}
 use Rattle.indexmap.specs.IndexSet.{insert_all}
 use Rattle.rpg_cards.proofs.InsertLemmas.{with_one}
-use Rattle.rpg_cards.specs.Names.{same_name}
+use Rattle.rpg_cards.proofs.ItemLemmas.{constants_in-push, definitions-push}
+use Rattle.rpg_cards.specs.Constants.{constants_in, constants_on}
+use Rattle.rpg_cards.specs.Names.{definitions, definitions_on, same_name}
+use Rattle.rpg_cards.specs.declared.constants.Constant.{Constant}
 use Rattle.rpg_cards.specs.declared.names.Definition.{Definition}
 use Rattle.rpg_cards.specs.declared.spec_card.SpecCard.{SpecCard}
 use Rattle.rpg_faults.specs.Seen.{BeginsWith, HasTotals, SeenBefore}
@@ -21,10 +24,10 @@ same_name_equiv = on_equiv (λ (d : Definition). d.name) nat_list_eq_equiv
 -- ---- one more item
 
 pub one_more : (X : Type 0) (same : X → X → Bool) (laws : IsEquivalence same) (size : X → ℕ) (known items : List X) (old new : Totals) (x : X) (n : ℕ) (is_new : Bool)
-    → HasTotals X same size known items old → is_new ≡ not (list_any (same x) known || list_any (same x) items) → n ≡ size x → n ≤ 4294967295
+    → old.items < 4000 → HasTotals X same size known items old → is_new ≡ not (list_any (same x) known || list_any (same x) items) → n ≡ size x → n ≤ 4294967295
     → new.items ≡ old.items + 1 → new.number ≡ old.number + cond is_new 1 0 → new.bytes ≡ old.bytes + cond is_new n 0
     → HasTotals X same size known (items ++ x ∷ []) new
-one_more X same laws size known items old new x n is_new was answer sized small count number bytes =
+one_more X same laws size known items old new x n is_new room was answer sized small count number bytes =
     by_cases (list_any (same x) known || list_any (same x) items) is_new answer number bytes (with_one same laws known items x)
   where
     by_cases : (b fresh : Bool) → fresh ≡ not b → new.number ≡ old.number + cond fresh 1 0 → new.bytes ≡ old.bytes + cond fresh n 0
@@ -35,14 +38,14 @@ one_more X same laws size known items old new x n is_new was answer sized small 
         let longer = length_push items x in
         let all = ap length more in
         let sum = ap (sum_by size) more in
-        record { count = omega arith; number = omega arith; storage = omega arith; few = omega arith; few_bytes = omega arith }
+        record { count = omega arith; number = omega arith; storage = omega arith; few_items = omega arith; few = omega arith; few_bytes = omega arith }
     by_cases false true e number bytes more =
         let longer = length_push items x in
         let all = ap length more in
         let sum = ap (sum_by size) more in
         let all_longer = length_push (insert_all same known items) x in
         let sum_longer = sum_by_push size (insert_all same known items) x in
-        record { count = omega arith; number = omega arith; storage = omega arith; few = omega arith; few_bytes = omega arith }
+        record { count = omega arith; number = omega arith; storage = omega arith; few_items = omega arith; few = omega arith; few_bytes = omega arith }
 
 -- ---- cards at the front
 
@@ -109,3 +112,11 @@ module _ {X : Type 0} (Has : List X → Totals → Type 0) (counted : (xs : List
   pub all_seen : (i : ℕ) (u : Totals) → Has (take t.items (items_of cards) ++ take i xs) u → i ≡ length xs → Has (items_of (before ++ c ∷ [])) u
   all_seen i u has end =
       subst (λ l. Has l u) (ap (λ k. take t.items (items_of cards) ++ take k xs) end ∙ ap (λ (l : List X). take t.items (items_of cards) ++ l) (take-length xs) ∙ ap (λ (l : List X). l ++ xs) front_is ∙ sym push) has
+
+-- ---- names and constants
+
+pub names_push : (before : List SpecCard) (c : SpecCard) (xs : List Definition) → xs ≡ definitions_on c.spec → definitions (before ++ c ∷ []) ≡ definitions before ++ xs
+names_push before c xs e = definitions-push before c ∙ ap (λ l. definitions before ++ l) (sym e)
+
+pub constants_push : (before : List SpecCard) (c : SpecCard) (xs : List Constant) → xs ≡ constants_on c.spec → constants_in (before ++ c ∷ []) ≡ constants_in before ++ xs
+constants_push before c xs e = constants_in-push before c ∙ ap (λ l. constants_in before ++ l) (sym e)

@@ -63,8 +63,9 @@ pub record HasTotals (X : Type 0) (same : X → X → Bool) (size : X → ℕ) (
   pub count : t.items ≡ length items
   pub number : t.number ≡ length (insert_all same known items)
   pub storage : t.bytes ≡ sum_by size (insert_all same known items)
-  pub few : t.number ≤ 2 + length items
-  pub few_bytes : t.bytes ≤ 10 + 4294967295 * length items
+  pub few_items : t.items ≤ 4000
+  pub few : t.number ≤ 2 + t.items
+  pub few_bytes : t.bytes ≤ 10 + 4294967295 * t.items
 
 abbrev pub HasNames : List Definition → Totals → Type 0
 HasNames items t = HasTotals Definition same_name definition_bytes given_names items t

@@ -4,7 +4,6 @@ use Rattle.std.proofs.lemmas.List.Sums.{fold-append}
 use Rattle.indexmap.specs.IndexSet.{insert_all, insert_key}
 use Rattle.rpg_cards.proofs.ItemLemmas.{constants_in-take}
 use Rattle.rpg_cards.specs.Constants.{constants, constants_in, constants_on, is_same}
-use Rattle.rpg_cards.specs.declared.constants.Constant.{Constant}
 use Rattle.rpg_cards.specs.declared.spec_card.SpecCard.{SpecCard}
 
 pub constants_more : (cards : List SpecCard) (i : ℕ) (c : SpecCard) → i < length cards → c ≡ get_or cards i c → constants (take (i + 1) cards) ≡ insert_all is_same (constants (take i cards)) (constants_on c.spec)

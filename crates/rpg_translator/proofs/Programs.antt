@@ -27,7 +27,6 @@ use Rattle.rpg_program.specs.Kept.{AreValuesOf, IsCharacter, IsFieldRow, IsInstr
 use Rattle.rpg_program.specs.Object.{LineRow, Object, SubroutineRow}
 use Rattle.rpg_spec.specs.declared.calculation.CalculationSpec.{CalculationSpec}
 use Rattle.rpg_spec.specs.declared.input.InputField.{InputField}
-use Rattle.rpg_spec.specs.declared.spec.Spec.{Spec}
 use Rattle.rpg_symbols.specs.Fields.{Fields, given, form_of, size_of, storage}
 use Rattle.rpg_text.specs.Texts.{is_character}
 use Rattle.rpg_translation.proofs.Each.{Each, each_append}

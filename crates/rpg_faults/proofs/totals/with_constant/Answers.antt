@@ -9,5 +9,5 @@ use Rattle.rpg_faults.proofs.totals.with_constant.Goals as goal
 
 pub returns : goal.returns
 returns c =
-    one_more Constant is_same is_same_equiv bytes_of [] _ c.args.constants _ c.args.constant.now c.size.result c.is_new_constant-is_new.result c.requires.seen
+    one_more Constant is_same is_same_equiv bytes_of [] _ c.args.constants _ c.args.constant.now c.size.result c.is_new_constant-is_new.result c.requires.few c.requires.seen
     c.is_new_constant-is_new.ensures (c.size.ensures ∙ ap size_of c.form.ensures) (omega (arith, c.size.type_inv)) c.with.ensures.items c.with.ensures.number c.with.ensures.bytes
