@@ -124,6 +124,21 @@ pub fn put_text<S: Store + Drop>(
     }
 }
 
+/// Writes a text of one character, as long as it fits: of 256 or of one place.
+pub fn put_character<S: Store + Drop>(
+    store: &mut S,
+    forms: &[FieldForm],
+    field: u16,
+    position: u16,
+    character: u8,
+)
+    requires { IsReady forms.now (S.forms store.old) (S.contents store.old) (S.currents store.old) }
+    ensures { IsReady forms.now (S.forms store.new) (S.contents store.new) (S.currents store.new) }
+{
+    put_text(store, forms, field, position, &[character; 256]);
+    put_text(store, forms, field, position, &[character]);
+}
+
 fn is_table(class: Class) -> bool
     ensures { result ≡ forms_of.is_table class }
 {
