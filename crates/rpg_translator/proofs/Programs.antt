@@ -13,7 +13,7 @@ use Rattle.rpg_cards.specs.declared.constants.Constant.{Constant}
 use Rattle.rpg_cards.specs.declared.constants.Constant.TheVariants as constant
 use Rattle.rpg_cards.specs.Files.{input_file, output_file}
 use Rattle.rpg_cards.specs.Groups.{calculation_role, followers, groups_from, opening, role_of}
-use Rattle.rpg_cards.specs.Names.{Definition, definition_by, definitions, definitions_on, sized_form, definition_of, definition_sized}
+use Rattle.rpg_cards.specs.Names.{definition_by, definitions, definitions_on, sized_form, definition_of, definition_sized}
 use Rattle.rpg_cards.specs.declared.names.Definition.{Definition}
 use Rattle.rpg_cards.specs.declared.spec_card.SpecCard.{SpecCard}
 use Rattle.rpg_translator.proofs.RowLemmas.{all_head, all_tail}
