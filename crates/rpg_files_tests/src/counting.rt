@@ -25,8 +25,8 @@ fn a_read_counts_the_faults_of_the_device(rt: HostRuntime) -> Result<(), Fail> {
         });
         let mut buf = [0; 8];
         let read = reader.read(&mut buf).unwrap_or(0);
-        assert_eq!(rt; read, wanted, "interrupted {times} times");
-        assert_eq!(rt; reader.faults(), faults, "interrupted {times} times");
+        assert_eq!(rt; read, wanted);
+        assert_eq!(rt; reader.faults(), faults);
     }
     Ok(())
 }

@@ -36,7 +36,7 @@ fn records_do_not_depend_on_the_cuts(rt: HostRuntime) -> Result<(), Fail> {
                 until_fault: usize::MAX,
             };
             let told = tell(rt.alloc(), device, 3)?;
-            assert_eq!(rt; told.as_slice(), wanted, "in reads of {most}");
+            assert_eq!(rt; told.as_slice(), wanted);
         }
     }
     Ok(())
@@ -59,7 +59,7 @@ fn a_carriage_return_and_line_feed_stand_at_every_place_of_a_cut(
                 until_fault: usize::MAX,
             };
             let told = tell(rt.alloc(), device, 14)?;
-            assert_eq!(rt; told, wanted, "{len} digits in reads of {most}");
+            assert_eq!(rt; told, wanted);
         }
     }
     Ok(())
@@ -85,7 +85,7 @@ fn a_device_fails_after_each_number_of_bytes(rt: HostRuntime) -> Result<(), Fail
             until_fault,
         };
         let told = tell(rt.alloc(), device, 3)?;
-        assert_eq!(rt; told.as_slice(), wanted, "after {until_fault} bytes");
+        assert_eq!(rt; told.as_slice(), wanted);
     }
     Ok(())
 }
@@ -108,7 +108,7 @@ fn a_device_may_interrupt_999_times_before_each_byte(rt: HostRuntime) -> Result<
             interrupted: 0,
         };
         let told = tell(rt.alloc(), device, 3)?;
-        assert_eq!(rt; told.as_slice(), wanted, "interrupted {times} times");
+        assert_eq!(rt; told.as_slice(), wanted);
     }
     Ok(())
 }
@@ -141,12 +141,8 @@ fn an_input_has_ten_million_records_at_most(rt: HostRuntime) -> Result<(), Fail>
         let mut reader = RecordReader::new(&mut device, room);
         let (records, answer) = count(&mut reader);
         assert_eq!(rt; records, left.min(10_000_000) as u64);
-        assert_eq!(rt; word_of(answer), wanted, "of {left}");
-        assert_eq!(rt;
-            word_of(next_of(&mut reader, 20_000_000)),
-            wanted,
-            "of {left}"
-        );
+        assert_eq!(rt; word_of(answer), wanted);
+        assert_eq!(rt; word_of(next_of(&mut reader, 20_000_000)), wanted);
     }
     Ok(())
 }

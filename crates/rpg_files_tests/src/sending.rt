@@ -28,15 +28,10 @@ fn a_writer_that_fails_has_the_bytes_that_were_sent(rt: HostRuntime) -> Result<(
                 until_fault,
             });
             let sent = sent_to(&mut writer, b"00357\n");
-            assert_eq!(rt; sent, until_fault.min(6), "after {until_fault} bytes");
-            assert_eq!(rt;
-                writer.faults(),
-                u64::from(until_fault < 6),
-                "after {until_fault} bytes"
-            );
+            assert_eq!(rt; sent, until_fault.min(6));
+            assert_eq!(rt; writer.faults(), u64::from(until_fault < 6));
             let written = writer.into_device().written;
-            assert_eq!(rt; written.len(), sent);
-            assert!(rt; b"00357\n".starts_with(written.as_slice()), "{written:?}");
+            assert!(rt; b"00357\n".get(..sent) == Some(written.as_slice()));
         }
     }
     Ok(())
@@ -55,11 +50,10 @@ fn a_writer_may_interrupt_999_times_before_each_byte(rt: HostRuntime) -> Result<
             interrupted: 0,
         });
         let sent = sent_to(&mut writer, b"357");
-        assert_eq!(rt; sent, wanted, "interrupted {times} times");
-        assert_eq!(rt; writer.faults(), faults, "interrupted {times} times");
+        assert_eq!(rt; sent, wanted);
+        assert_eq!(rt; writer.faults(), faults);
         let written = writer.into_device().device.written;
-        assert_eq!(rt; written.len(), sent);
-        assert!(rt; b"357".starts_with(written.as_slice()), "{written:?}");
+        assert!(rt; b"357".get(..sent) == Some(written.as_slice()));
     }
     Ok(())
 }

@@ -151,7 +151,7 @@ fn entries_within(most: u16, length: u16, storage: u32, n: u16) -> Result<u16, C
 fn kind_at(bytes: &[u8]) -> Result<(Kind, &[u8]), ReadFault>
     ensures { Gives (λ x. (x.0, x.1.now)) result (read_byte kind_of bytes.now) }
 {
-    byte_at(bytes, |n| kind_of(n))
+    byte_at(bytes, kind_of)
 }
 
 #[tactic(auto, unfolding(rpg_format::specs::Format::read_byte))]

@@ -65,7 +65,7 @@ fn overflow_number(overflow: Option<u8>) -> u16
 fn overflow_at(bytes: &[u8]) -> Result<(Option<u8>, &[u8]), ReadFault>
     ensures { Gives (λ x. (x.0, x.1.now)) result (read_two overflow_of bytes.now) }
 {
-    number_at(bytes, |n| overflow_of(n))
+    number_at(bytes, overflow_of)
 }
 
 #[tactic(auto, unfolding(rpg_format::specs::Format::two_bytes, rpg_format::specs::Format::pair, rpg_format::specs::Format::row, crate::specs::Header::settings))]
@@ -117,10 +117,10 @@ fn counts_at(bytes: &[u8]) -> Result<(Counts, &[u8]), ReadFault>
 pub fn header_at(bytes: &[u8]) -> Result<(Header, &[u8]), ReadFault>
     ensures { Gives (λ x. (x.0, x.1.now)) result (spec.header.reading bytes.now) }
 {
-    let ((), rest) = only_number_at(bytes, 1, Code::Version)?;
+    let (_, rest) = only_number_at(bytes, 1, Code::Version)?;
     let (settings, rest) = settings_at(rest)?;
     let (counts, rest) = counts_at(rest)?;
-    let ((), rest) = only_number_at(rest, 0, Code::Unused)?;
+    let (_, rest) = only_number_at(rest, 0, Code::Unused)?;
     Ok((Header { settings, counts }, rest))
 }
 
