@@ -23,6 +23,15 @@ pub struct Streamed {
     pub disk: Vec<u8>,
 }
 
+/// What a program puts out over a list of records.
+#[derive(Drop)]
+pub struct Listed {
+    /// By the store in one area of bytes.
+    pub records: Option<Outputs>,
+    /// By the store that keeps each value apart.
+    pub values: Option<Outputs>,
+}
+
 /// The line of `rpg2` for an answer.
 pub fn line_of(alloc: Global, answer: &Answer) -> Result<Vec<u8>, AllocError> {
     Vec::from_slice(alloc, line(answer).text.as_slice())
@@ -71,8 +80,23 @@ pub fn records_of(alloc: Global, input: &[u8]) -> Result<Vec<Vec<u8>>, AllocErro
     Ok(records)
 }
 
+/// Runs an object in the two other ways over its input's records: nothing where it is refused.
+pub fn run_listed(alloc: Global, object: &[u8], given: Given<'_>) -> Result<Listed, AllocError> {
+    let Some(program) = accepted(alloc, object) else {
+        return Ok(Listed {
+            records: None,
+            values: None,
+        });
+    };
+    let records = records_of(alloc, given.input)?;
+    Ok(Listed {
+        records: run_listed_records(alloc, &program, given.date, &records)?,
+        values: run_listed_values(alloc, &program, given.date, &records)?,
+    })
+}
+
 /// Runs a program over a list of records: nothing on a date that is none.
-pub fn run_listed_records(
+fn run_listed_records(
     alloc: Global,
     program: &Verified,
     date: &[u8],
@@ -100,7 +124,7 @@ fn outputs_of(alloc: Global, program: &Verified, run: Run) -> Result<Outputs, Al
 }
 
 /// Runs a program by the store that keeps each value apart: nothing on a date that is none.
-pub fn run_listed_values(
+fn run_listed_values(
     alloc: Global,
     program: &Verified,
     date: &[u8],

@@ -5,9 +5,7 @@ use crate::cycles::cycles_of;
 use crate::damage::damage;
 use crate::devices::run_over;
 use crate::outcome::{Outputs, Told, Wanted};
-use crate::runs::{
-    Given, accepted, line_of, records_of, run_listed_records, run_listed_values, run_streamed,
-};
+use crate::runs::{Given, accepted, line_of, run_listed, run_streamed};
 use crate::spelling::{hex_of, push_hex, text_of};
 use crate::sweep::sweep;
 use rpg_cli::{Answer, compile_to_bytes, verify_bytes};
@@ -77,15 +75,18 @@ fn answered(alloc: Global, answer: Answer, object: Vec<u8>) -> Result<Told, Allo
 /// What the object gives when it runs, in each way.
 fn run(alloc: Global, given: Given<'_>, object: Vec<u8>) -> Result<Told, AllocError> {
     let streamed = run_streamed(alloc, &object, given);
-    let mut told = answered(alloc, streamed.answer, object)?;
-    told.outputs.print = streamed.print;
-    told.outputs.disk = streamed.disk;
-    if let Some(program) = accepted(alloc, &told.object) {
-        let records = records_of(alloc, given.input)?;
-        told.listed_records = run_listed_records(alloc, &program, given.date, &records)?;
-        told.listed_values = run_listed_values(alloc, &program, given.date, &records)?;
-    }
-    Ok(told)
+    let answer = line_of(alloc, &streamed.answer)?;
+    let listed = run_listed(alloc, &object, given)?;
+    Ok(Told {
+        outputs: Outputs {
+            answer,
+            print: streamed.print,
+            disk: streamed.disk,
+        },
+        listed_records: listed.records,
+        listed_values: listed.values,
+        object,
+    })
 }
 
 /// What the object gives when it runs cycle by cycle; nothing where it is refused.

@@ -1,8 +1,8 @@
 //! Names with their numbers and forms.
 
-ghost use Rattle.std.specs.Prelude.{◌≡◌, ◌≢◌, ◌-◌, ◌≤◌, ◌⊎◌, Some, length, slice_get, option_map, IfOk, IfErr, OnErr};
+ghost use Rattle.std.specs.Prelude.{◌≡◌, ◌≢◌, ◌-◌, ◌≤◌, ◌⊎◌, None, Some, length, slice_get, option_map, IfOk, IfErr, OnErr};
 ghost use Rattle.std.specs.Bool.{OnTrue, OnFalse};
-ghost use Rattle.rpg_symbols.specs.Fields.{given, number_form, number_of, size_of, IsKnown, IsAdded, Refuses};
+ghost use Rattle.rpg_symbols.specs.Fields.{form_of, given, number_form, number_of, size_of, IsKnown, IsAdded, Refuses};
 ghost use Rattle.rpg_symbols.specs.declared.symbols.DefineFault.TheVariants.{NoMemory};
 
 use indexmap::IndexMap;
@@ -98,12 +98,23 @@ impl Symbols {
         ensures err { IfErr result (λ fault. Refuses fault self.old name form) }
         ensures unchanged { OnErr result (self.new ≡ self.old) }
     {
-        if let Some((place, _, known)) = self.fields.get_full(&name) {
-            if is_same(known, &form) {
-                return Ok(place as u16 + 1);
-            }
-            return Err(DefineFault::Other);
+        let Some((place, _, known)) = self.fields.get_full(&name) else {
+            return self.add(name, form);
+        };
+        if is_same(known, &form) {
+            Ok(place as u16 + 1)
+        } else {
+            Err(DefineFault::Other)
         }
+    }
+
+    /// Defines a name for the first time. After a fault nothing has changed.
+    fn add(&mut self, name: Name, form: FieldForm) -> Result<u16, DefineFault>
+        requires { form_of self.old name ≡ None }
+        ensures ok { IfOk result (λ n. IsAdded self.old name form self.new n) }
+        ensures err { IfErr result (λ fault. Refuses fault self.old name form) }
+        ensures unchanged { OnErr result (self.new ≡ self.old) }
+    {
         let size = size(&form);
         if self.fields.len() >= FIELDS || self.bytes as u64 + size as u64 > STORAGE {
             return Err(DefineFault::Full);

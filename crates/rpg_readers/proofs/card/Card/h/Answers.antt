@@ -2,6 +2,9 @@ use Rattle.rpg_readers.proofs.Laws.{good_of, least_of}
 use Rattle.rpg_readers.proofs.CardLaws.{header_law}
 use Rattle.rpg_readers.proofs.card.Card.h.Goals as goal
 
+pub returns-clause-value : goal.returns-clause-value
+returns-clause-value c = c.header.ensures
+
 pub returns-clause-good : goal.returns-clause-good
 returns-clause-good c = good_of header_law c.args.self.now _ c.header.ensures
 

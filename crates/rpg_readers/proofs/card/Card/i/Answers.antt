@@ -2,6 +2,9 @@ use Rattle.rpg_readers.proofs.Laws.{good_of, least_of}
 use Rattle.rpg_readers.proofs.CardLaws.{input_card_law}
 use Rattle.rpg_readers.proofs.card.Card.i.Goals as goal
 
+pub returns-clause-value : goal.returns-clause-value
+returns-clause-value c = c.input_card.ensures
+
 pub returns-clause-good : goal.returns-clause-good
 returns-clause-good c = good_of input_card_law c.args.self.now _ c.input_card.ensures
 
