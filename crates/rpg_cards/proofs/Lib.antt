@@ -1,3 +1,4 @@
 pub mod IndexLemmas
 pub mod ConstantLemmas
 pub mod GroupLemmas
+pub mod SheetLemmas

@@ -5,6 +5,7 @@ use Rattle.std.specs.List.{list_any}
 use Rattle.std.specs.Option.{option_and_then, option_map, option_map_or, option_to_list}
 use Rattle.std.specs.Prelude.{◌&&◌, nat_le, is_none}
 use Rattle.rpg_cards.specs.Cards.{calculation_on, input_field_on}
+use Rattle.rpg_cards.specs.Files.{file_by}
 use Rattle.rpg_cards.specs.Groups.{input_role, open_file}
 use Rattle.rpg_cards.specs.Names.{Definition, definition_by, definition_on, field_form, first_some, form_of_name, plain_form, sized_form}
 use Rattle.rpg_cards.specs.declared.names.Defined.TheVariants.{Good}
@@ -14,7 +15,7 @@ use Rattle.rpg_effect.specs.declared.form.FieldForm.{FieldForm}
 use Rattle.rpg_effect.specs.declared.form.Kind.TheVariants as kind
 use Rattle.rpg_faults.specs.Faults.{Faultless}
 use Rattle.rpg_faults.specs.Names.{bad_size_of_field, bad_size_of_result, is_other, redefines_as}
-use Rattle.rpg_faults.specs.Places.{file_by, outside_record}
+use Rattle.rpg_faults.specs.Places.{outside_record}
 use Rattle.rpg_spec.specs.declared.calculation.CalculationSpec.{CalculationSpec}
 use Rattle.rpg_spec.specs.declared.file.FileSpec.{FileSpec}
 use Rattle.rpg_spec.specs.declared.input.InputField.{InputField}

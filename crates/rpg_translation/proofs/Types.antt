@@ -1,10 +1,10 @@
 -- The record types of faultless cards break no rule.
-use Rattle.std.proofs.Common.{◌≡◌, ℕ, ◌+◌, ◌-◌, Bool, true, false, List, ◌∷◌, ◌++◌, map, Option, Some, refl, sym, ap, ◌∙◌, subst, arith}
+use Rattle.std.proofs.Common.{◌≡◌, ℕ, ◌+◌, ◌-◌, true, false, List, ◌∷◌, ◌++◌, map, Option, Some, refl, sym, ap, ◌∙◌, subst, arith}
 use Rattle.std.proofs.lemmas.Bool.{and_from, eq-eqb, eqb-false, le-leb, ltb-false, not_from_true, or_parts}
 use Rattle.std.specs.Option.{option_and_then, option_map, option_map_or}
 use Rattle.std.specs.Prelude.{◌==◌, is_some, nat_le}
 use Rattle.rpg_cards.specs.Cards.{calculation_on, input_field_on, type_on}
-use Rattle.rpg_cards.specs.Files.{input_file}
+use Rattle.rpg_cards.specs.Files.{file_by, input_file}
 use Rattle.rpg_cards.specs.Groups.{Group, groups, input_role, open_file, open_group}
 use Rattle.rpg_cards.specs.Names.{definition_by, definition_on, field_form, first_some}
 use Rattle.rpg_cards.specs.declared.spec_card.SpecCard.{SpecCard}
@@ -17,7 +17,7 @@ use Rattle.rpg_effect.specs.declared.input.InputField as row
 use Rattle.rpg_faults.specs.Faults.{Faultless}
 use Rattle.rpg_faults.specs.Indicators.{bad_on_card, bad_on_type}
 use Rattle.rpg_faults.specs.Names.{bad_size_of_field}
-use Rattle.rpg_faults.specs.Places.{file_by, outside_record}
+use Rattle.rpg_faults.specs.Places.{outside_record}
 use Rattle.rpg_program.specs.Kept.{IsTypeRow}
 use Rattle.rpg_program.specs.Object.{Object}
 use Rattle.rpg_rules.specs.TypeRules.{is_input_in, is_input_shown, type_breaks}
