@@ -17,6 +17,11 @@ closing (Heading h name) o = option_to_list o
 closing (Follower f) o = []
 closing Apart o = []
 
+abbrev pub one_if_heading : {H F : Type 0} → Role H F → ℕ
+one_if_heading (Heading h name) = 1
+one_if_heading (Follower f) = 0
+one_if_heading Apart = 0
+
 module _ {H F : Type 0} (role : Spec → Role H F) where
   -- the groups of cards behind an open group, that one first
   abbrev pub groups_on : Option (Group H F) → List SpecCard → List (Group H F)
@@ -80,11 +85,6 @@ module _ {H F : Type 0} (role : Spec → Role H F) where
       ∙ ap (λ (r : Role H F). closed None before ++ with_followers (following r (followers role after)) g ∷ opening r g.file (followers role after) (λ own. groups_from role own after)) is
 
   -- ---- how many groups there are
-
-  abbrev pub one_if_heading : Role H F → ℕ
-  one_if_heading (Heading h name) = 1
-  one_if_heading (Follower f) = 0
-  one_if_heading Apart = 0
 
   count_from : (file : Option (List ℕ)) (before : List SpecCard) (c : SpecCard) → length (groups_from role file (before ++ c ∷ [])) ≡ length (groups_from role file before) + one_if_heading (role c.spec)
   count_from file [] c = by_role (role c.spec)

@@ -2,3 +2,4 @@ pub mod InsertLemmas
 pub mod ItemLemmas
 pub mod IndexLemmas
 pub mod GroupLemmas
+pub mod SheetLemmas

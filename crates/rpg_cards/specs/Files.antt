@@ -1,6 +1,7 @@
 -- The files of a source.
 use Rattle.std.specs.Prelude.{ℕ, List, [], ◌∷◌, Bool, true, false, nat_eq, if◌then◌else◌, Option, None, Some}
 use Rattle.std.specs.Cmp.Lexicographic.{pointwise}
+use Rattle.std.specs.Option.{option_and_then}
 use Rattle.rpg_cards.specs.Cards.{file_on}
 use Rattle.rpg_cards.specs.declared.spec_card.SpecCard.{SpecCard}
 use Rattle.rpg_spec.specs.declared.file.Direction.{Direction}
@@ -30,6 +31,10 @@ has_name name f = pointwise nat_eq name f.name
 
 abbrev pub file_named : List ℕ → List SpecCard → Option FileSpec
 file_named name cards = first_file (has_name name) cards
+
+-- the file with the name, if there is a name
+abbrev pub file_by : Option (List ℕ) → List SpecCard → Option FileSpec
+file_by name cards = option_and_then (λ n. file_named n cards) name
 
 -- the file that records are read from
 abbrev pub input_file : List SpecCard → Option FileSpec

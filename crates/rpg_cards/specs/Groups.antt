@@ -53,6 +53,9 @@ module _ {H F : Type 0} (role : Spec → Role H F) where
   abbrev pub groups : List SpecCard → List (Group H F)
   groups cards = groups_from None cards
 
+  abbrev pub group_count : List SpecCard → ℕ
+  group_count cards = length (groups cards)
+
   -- ---- the open group: the one that a further card would follow
 
   abbrev pub open_group : List SpecCard → Option (Group H F)

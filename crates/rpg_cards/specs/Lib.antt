@@ -4,5 +4,6 @@ pub mod Constants
 pub mod SameConstants
 pub mod Files
 pub mod Groups
+pub mod Sheets
 pub mod Operations
 pub mod Index

@@ -1,5 +1,4 @@
 pub mod Forms
 pub mod LeastLemmas
 pub mod SeenLemmas
-pub mod GroupLemmas
 pub mod TotalLemmas

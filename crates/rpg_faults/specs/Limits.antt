@@ -1,13 +1,12 @@
 -- F6: limits that are passed, at the card with which a count or a sum passes.
 use Rattle.std.specs.Prelude.{ℕ, ◌+◌, Bool, ◌&&◌, ◌||◌, nat_le, nat_lt, List, [], ◌∷◌, ◌++◌, length, sum_by, Option, None, Some}
 use Rattle.rpg_cards.specs.Constants.{constant_form, constants}
-use Rattle.rpg_cards.specs.Groups.{Role, calculation_role, groups, input_role, open_followers, output_role}
+use Rattle.rpg_cards.specs.Groups.{calculation_role, input_role, open_followers, output_role, group_count}
 use Rattle.rpg_cards.specs.Names.{names}
 use Rattle.rpg_cards.specs.declared.constants.Constant.{Constant}
 use Rattle.rpg_cards.specs.declared.names.Definition.{Definition}
 use Rattle.rpg_cards.specs.declared.spec_card.SpecCard.{SpecCard}
 use Rattle.rpg_effect.specs.declared.form.FieldForm.{FieldForm}
-use Rattle.rpg_spec.specs.declared.spec.Spec.{Spec}
 use Rattle.rpg_symbols.specs.Fields.{size_of}
 
 -- what the cards come to is within a limit before a card, and past it with the card
@@ -15,9 +14,6 @@ abbrev pub passes : (List SpecCard → ℕ) → ℕ → List SpecCard → SpecCa
 passes measure limit before c = nat_le (measure before) limit && nat_lt limit (measure (before ++ c ∷ []))
 
 -- ---- counts
-
-abbrev pub group_count : {H F : Type 0} → (Spec → Role H F) → List SpecCard → ℕ
-group_count role cards = length (groups role cards)
 
 -- 1,000 calculations, 200 record types with 500 fields each, 1,000 lines with 200 fields each
 abbrev pub passes_count : List SpecCard → SpecCard → Bool

@@ -1,8 +1,8 @@
 -- F16: columns outside the record or the line.
 use Rattle.std.specs.Prelude.{ℕ, List, length, Bool, false, ◌||◌, ◌==◌, nat_lt, Option, None, Some}
-use Rattle.std.specs.Option.{option_map_or, option_and_then}
+use Rattle.std.specs.Option.{option_map_or}
 use Rattle.rpg_cards.specs.Cards.{input_field_on, output_field_on}
-use Rattle.rpg_cards.specs.Files.{file_named}
+use Rattle.rpg_cards.specs.Files.{file_by}
 use Rattle.rpg_cards.specs.Groups.{input_role, open_file, output_role}
 use Rattle.rpg_cards.specs.Names.{form_of_name}
 use Rattle.rpg_cards.specs.declared.names.Defined.{Defined}
@@ -16,10 +16,6 @@ use Rattle.rpg_spec.specs.declared.output.OutputField.{OutputField}
 abbrev pub is_past : Option FileSpec → ℕ → Bool
 is_past None column = false
 is_past (Some f) column = nat_lt f.record_length column
-
--- the file with the name, if there is one
-abbrev pub file_by : Option (List ℕ) → List SpecCard → Option FileSpec
-file_by name cards = option_and_then (λ n. file_named n cards) name
 
 -- the columns from 0, to 0, turned round, or past the record
 abbrev pub outside_record : Option FileSpec → InputField → Bool

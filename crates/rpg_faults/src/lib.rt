@@ -4,7 +4,6 @@
 mod columns;
 mod fault;
 mod files;
-mod groups;
 mod indicators;
 mod least;
 mod limits;

@@ -37,7 +37,7 @@ fn passes_count(source: &IndexedCards, seen: &Seen, card: &SpecCard) -> bool
     ensures { result ≡ limits.passes_count seen.now.before.now card.now }
 {
     let before = seen.sheets;
-    let with = seen.sheets_with(source, card);
+    let with = seen.sheets.with(source, seen.before, card);
     passes(
         before.calculations.number as u64,
         with.calculations.number as u64,

@@ -4,12 +4,11 @@ ghost use Rattle.std.specs.Prelude.{◌≡◌, [], ◌∷◌, ◌++◌, ◌≤�
 ghost use Rattle.std.specs.Option.{option_map_or};
 ghost use Rattle.rpg_cards.specs.Cards.{calculation_on};
 ghost use Rattle.rpg_faults.specs.Rounding as rounding;
-ghost use Rattle.rpg_faults.specs.Seen.{AreSheets, IsSeen};
+ghost use Rattle.rpg_faults.specs.Seen.{IsSeen};
 
-use crate::groups::{NO_GROUPS, Sheets};
 use crate::rounding::leaves_remainder;
 use crate::totals::{GIVEN, NONE, Totals, constants_with, names_of, names_with};
-use rpg_cards::{IndexedCards, SpecCard};
+use rpg_cards::{IndexedCards, Sheets, SpecCard};
 
 /// The cards before a card, with what they come to.
 #[derive(Clone, Copy)]
@@ -33,11 +32,7 @@ impl<'a> Seen<'a> {
     {
         Seen {
             before: &source.as_slice()[..0],
-            sheets: Sheets {
-                types: NO_GROUPS,
-                calculations: NO_GROUPS,
-                lines: NO_GROUPS,
-            },
+            sheets: Sheets::none(),
             leaves_remainder: false,
             names: GIVEN,
             constants: NONE,
@@ -60,22 +55,11 @@ impl<'a> Seen<'a> {
     {
         Seen {
             before: &source.as_slice()[..self.before.len() + 1],
-            sheets: self.sheets_with(source, card),
+            sheets: self.sheets.with(source, self.before, card),
             leaves_remainder: self.leaves_remainder_with(card),
             names: names_with(self.names, source, card),
             constants: constants_with(self.constants, source, card),
             all_names: self.all_names,
-        }
-    }
-
-    pub(crate) fn sheets_with(&self, source: &IndexedCards, card: &SpecCard) -> Sheets
-        requires { IsSeen source.now self.now }
-        ensures { AreSheets source.now (self.now.before.now ++ card.now ∷ []) result }
-    {
-        Sheets {
-            types: self.sheets.types.with_type(source, card),
-            calculations: self.sheets.calculations.with_calculation(source, card),
-            lines: self.sheets.lines.with_line(source, card),
         }
     }
 

@@ -4,6 +4,7 @@ use Rattle.std.proofs.lemmas.Bool.{ltb-false, le-leb, or_parts}
 use Rattle.std.specs.Option.{option_and_then, option_map, option_map_or, option_to_list}
 use Rattle.std.specs.Prelude.{◌&&◌, nat_le, is_none}
 use Rattle.rpg_cards.specs.Cards.{calculation_on, input_field_on}
+use Rattle.rpg_cards.specs.Files.{file_by}
 use Rattle.rpg_cards.specs.Groups.{input_role, open_file}
 use Rattle.rpg_cards.specs.Names.{definition_by, field_form, form_of_name, plain_form, sized_form, definition_of, definition_sized, definitions, definitions_on, defined_as, first_form}
 use Rattle.rpg_cards.specs.declared.names.Defined.TheVariants.{Good}

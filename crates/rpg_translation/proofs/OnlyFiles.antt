@@ -4,12 +4,11 @@ use Rattle.std.proofs.lemmas.Bool.{or_parts, and_parts, leb-true, not-false}
 use Rattle.std.specs.Option.{option_map_or}
 use Rattle.std.specs.Prelude.{◌&&◌, is_none, is_some}
 use Rattle.rpg_cards.specs.Cards.{file_on, input_field_on, line_on, output_field_on, type_on}
-use Rattle.rpg_cards.specs.Files.{input_file, output_file, is_input, is_output}
+use Rattle.rpg_cards.specs.Files.{file_by, input_file, output_file, is_input, is_output}
 use Rattle.rpg_cards.specs.Groups.{input_role, open_file, open_group, output_role}
 use Rattle.rpg_cards.specs.declared.spec_card.SpecCard.{SpecCard}
 use Rattle.rpg_faults.specs.Faults.{Faultless}
 use Rattle.rpg_faults.specs.Files.{bad_file, bad_for, lacks_file}
-use Rattle.rpg_faults.specs.Places.{file_by}
 use Rattle.rpg_spec.specs.declared.file.Direction.{Direction}
 use Rattle.rpg_spec.specs.declared.file.Direction.TheVariants.{Input, Output}
 use Rattle.rpg_spec.specs.declared.file.FileSpec.{FileSpec}

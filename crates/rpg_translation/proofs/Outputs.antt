@@ -6,7 +6,7 @@ use Rattle.std.specs.Prelude.{◌&&◌, is_none, is_some, nat_lt}
 use Rattle.rpg_cards.proofs.GroupLemmas.{open_group-push}
 use Rattle.rpg_cards.specs.Cards.{calculation_on, line_on, output_field_on}
 use Rattle.rpg_cards.specs.Constants.{constant_form, factor_constant, first_constant, second_constant}
-use Rattle.rpg_cards.specs.Files.{output_file}
+use Rattle.rpg_cards.specs.Files.{file_by, output_file}
 use Rattle.rpg_cards.specs.Groups.{groups, open_file, open_group, output_role, role_of, with_card}
 use Rattle.rpg_cards.specs.Names.{form_of_name}
 use Rattle.rpg_cards.specs.declared.constants.Constant.TheVariants.{Text}
@@ -22,7 +22,7 @@ use Rattle.rpg_effect.specs.declared.row.Shape.TheVariants as shapes
 use Rattle.rpg_faults.specs.Faults.{Faultless}
 use Rattle.rpg_faults.specs.Indicators.{bad_in_output, bad_on_card}
 use Rattle.rpg_faults.specs.Names.{is_undefined}
-use Rattle.rpg_faults.specs.Places.{file_by, is_past, is_wider, outside_line}
+use Rattle.rpg_faults.specs.Places.{is_past, is_wider, outside_line}
 use Rattle.rpg_spec.specs.declared.file.FileSpec.{FileSpec}
 use Rattle.rpg_spec.specs.declared.output.OutputField.{OutputField}
 use Rattle.rpg_spec.specs.declared.output.OutputRecord.{OutputRecord}

@@ -4,7 +4,7 @@ use Rattle.std.proofs.lemmas.Bool.{and_from, eq-eqb, eqb-false, le-leb, ltb-fals
 use Rattle.std.specs.Option.{option_map_or}
 use Rattle.std.specs.Prelude.{◌==◌, is_some, nat_le}
 use Rattle.rpg_cards.specs.Cards.{calculation_on, input_field_on, type_on}
-use Rattle.rpg_cards.specs.Files.{input_file}
+use Rattle.rpg_cards.specs.Files.{file_by, input_file}
 use Rattle.rpg_cards.specs.Groups.{Group, groups, input_role, open_file, open_group}
 use Rattle.rpg_cards.specs.Names.{field_form, definitions_on, defined_as, first_form}
 use Rattle.rpg_cards.specs.declared.names.Defined.TheVariants.{Good}
@@ -18,7 +18,7 @@ use Rattle.rpg_effect.specs.declared.input.InputField as row
 use Rattle.rpg_faults.specs.Faults.{Faultless}
 use Rattle.rpg_faults.specs.Indicators.{bad_on_card, bad_on_type}
 use Rattle.rpg_faults.specs.Names.{bad_size_of_field}
-use Rattle.rpg_faults.specs.Places.{file_by, outside_record}
+use Rattle.rpg_faults.specs.Places.{outside_record}
 use Rattle.rpg_program.specs.Kept.{IsTypeRow}
 use Rattle.rpg_program.specs.Object.{Object}
 use Rattle.rpg_rules.specs.TypeRules.{is_input_in, is_input_shown, type_breaks}

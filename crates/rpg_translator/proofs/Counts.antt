@@ -1,13 +1,12 @@
 -- A faultless source has no more types, input fields, lines and fields of lines than a program may have.
-use Rattle.std.proofs.Common.{◌≡◌, ℕ, ◌≤◌, List, length, map, arith}
+use Rattle.std.proofs.Common.{ℕ, ◌≤◌, List, length, map, arith}
 use Rattle.std.proofs.lemmas.List.{length-map}
 use Rattle.std.proofs.lemmas.List.Elements.{All-map}
 use Rattle.std.specs.Prelude.{All}
-use Rattle.rpg_cards.specs.Groups.{Group, groups, input_role, open_followers, output_role}
+use Rattle.rpg_cards.specs.Groups.{group_count, groups, input_role, output_role}
 use Rattle.rpg_cards.specs.declared.spec_card.SpecCard.{SpecCard}
 use Rattle.rpg_effect.specs.Input.{TypeRow}
 use Rattle.rpg_faults.specs.Faults.{Faultless}
-use Rattle.rpg_faults.specs.Limits.{group_count}
 use Rattle.rpg_program.specs.Object.{LineRow}
 use Rattle.rpg_translation.specs.Fields.{Table}
 use Rattle.rpg_translation.specs.Tables.{input_of, line_field_of, line_of, lines_of, type_of, types_of}

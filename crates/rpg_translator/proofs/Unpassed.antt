@@ -1,11 +1,11 @@
 -- No card of a faultless source passes a limit.
 use Rattle.std.proofs.Common.{◌≡◌, false, List, ap, ◌∙◌}
 use Rattle.std.proofs.lemmas.Bool.{or_parts}
-use Rattle.rpg_cards.specs.Groups.{input_role, open_followers, output_role}
+use Rattle.rpg_cards.specs.Groups.{group_count, input_role, open_followers, output_role}
 use Rattle.rpg_cards.specs.declared.spec_card.SpecCard.{SpecCard}
 use Rattle.rpg_faults.proofs.LeastLemmas.{rule-faultless}
 use Rattle.rpg_faults.specs.Faults.{rule, Faultless}
-use Rattle.rpg_faults.specs.Limits.{bytes_up_to, fields_up_to, group_count, name_bytes, name_count, passes, passes_limit}
+use Rattle.rpg_faults.specs.Limits.{bytes_up_to, fields_up_to, name_bytes, name_count, passes, passes_limit}
 use Rattle.rpg_faults.specs.declared.fault.FaultCode.TheVariants.{F6}
 use Rattle.rpg_translation.proofs.Each.{Seen}
 

@@ -1,14 +1,27 @@
-use Rattle.std.proofs.Common.{◌≡◌, ◌+◌, ◌++◌, ◌∷◌, [], length, take, ◌∙◌, sym, ap, subst}
-use Rattle.std.specs.Option.{option_map_or}
+use Rattle.std.proofs.Common.{◌≡◌, ◌+◌, ◌++◌, ◌∷◌, [], List, Option, None, Some, false, length, take, ◌∙◌, refl, sym, ap, subst}
+use Rattle.std.specs.Option.{option_map, option_map_or}
+use Rattle.rpg_cards.proofs.GroupLemmas.{open_group-push}
 use Rattle.rpg_cards.specs.Cards.{calculation_on}
 use Rattle.rpg_cards.specs.Constants.{constants_in}
 use Rattle.rpg_cards.specs.Names.{definitions}
-use Rattle.rpg_faults.proofs.GroupLemmas.{follows_division-push}
+use Rattle.rpg_cards.specs.Groups.{calculation_role, open_group, role_of, with_card}
+use Rattle.rpg_cards.specs.Sheets.{AreSheets}
+use Rattle.rpg_cards.specs.declared.spec_card.SpecCard.{SpecCard}
+use Rattle.rpg_spec.specs.declared.calculation.CalculationSpec.{CalculationSpec}
 use Rattle.rpg_faults.proofs.SeenLemmas.{front_more, is_front, front_within}
 use Rattle.rpg_faults.proofs.TotalLemmas.{begins_split}
 use Rattle.rpg_faults.specs.Rounding.{follows_division, leaves_remainder}
-use Rattle.rpg_faults.specs.Seen.{AreSheets, HasNames, HasConstants}
+use Rattle.rpg_faults.specs.Seen.{HasNames, HasConstants}
 use Rattle.rpg_faults.proofs.seen.Seen.behind.Goals as goal
+
+follows_division-push : (before : List SpecCard) (c : SpecCard) → follows_division (before ++ c ∷ []) ≡ option_map_or leaves_remainder (calculation_on c.spec) (follows_division before)
+follows_division-push before c =
+    ap (λ o. option_map_or leaves_remainder (option_map (λ g. g.heading) o) false) (open_group-push calculation_role before c) ∙ by_card (calculation_on c.spec)
+  where
+    by_card : (k : Option CalculationSpec) → option_map_or leaves_remainder (option_map (λ g. g.heading) (with_card (open_group calculation_role before) (role_of (λ k. None) k None))) false
+        ≡ option_map_or leaves_remainder k (follows_division before)
+    by_card None = refl
+    by_card (Some k) = refl
 
 pub returns-clause-before : goal.returns-clause-before
 returns-clause-before c =
@@ -27,7 +40,7 @@ returns-clause-seen c =
     record {
       front = is_front _ before card cards here front;
       few = front_within _ before card after cards here c.requires.split c.requires.few;
-      sheets = subst (λ b. AreSheets cards b c.sheets_with.result) (sym here) c.sheets_with.ensures;
+      sheets = subst (λ b. AreSheets cards b c.with.result) (sym here) c.with.ensures;
       remainder =
           c.leaves_remainder_with.ensures ∙ ap (option_map_or leaves_remainder (calculation_on card.spec)) c.requires.seen.remainder ∙ sym (follows_division-push before card)
           ∙ ap follows_division (sym here);

@@ -1,43 +1,71 @@
-//! What the groups of cards come to.
+//! What the groups of the cards before a card come to.
 
-ghost use Rattle.std.specs.Prelude.{◌≡◌, ◌+◌, ◌≤◌, true, if◌then◌else◌};
+ghost use Rattle.std.specs.Prelude.{◌≡◌, ◌+◌, ◌≤◌, [], ◌∷◌, ◌++◌, length, true, List, if◌then◌else◌};
 ghost use Rattle.std.specs.Option.{option_map};
 ghost use Rattle.rpg_cards.specs.Files as files;
 ghost use Rattle.rpg_cards.specs.Groups.{calculation_role, input_role, output_role};
-ghost use Rattle.rpg_faults.specs.Seen.{length_with, with_role};
+ghost use Rattle.rpg_cards.specs.Sheets.{AreSheets, length_with, with_role};
+ghost use Rattle.rpg_cards.specs.declared.spec_card.SpecCard.{SpecCard};
 
-use rpg_cards::{IndexedCards, SpecCard};
+use crate::index::IndexedCards;
+use crate::spec_card::SpecCard;
 use rpg_spec::Word;
 
 /// The groups of a sheet.
 #[derive(Clone, Copy)]
-pub(crate) struct Groups {
-    pub(crate) number: u16,
+pub struct Groups {
+    pub number: u16,
     /// Whether there is one that a further card would follow.
-    pub(crate) is_open: bool,
+    pub is_open: bool,
     /// How many follow in the open group.
-    pub(crate) followers: u16,
+    pub followers: u16,
     /// The length of the open group's file.
-    pub(crate) record_length: Option<u16>,
+    pub record_length: Option<u16>,
 }
 
 /// Record types, calculations and lines.
 #[derive(Clone, Copy)]
-pub(crate) struct Sheets {
-    pub(crate) types: Groups,
-    pub(crate) calculations: Groups,
-    pub(crate) lines: Groups,
+pub struct Sheets {
+    pub types: Groups,
+    pub calculations: Groups,
+    pub lines: Groups,
 }
 
-pub(crate) const NO_GROUPS: Groups = Groups {
+const NO_GROUPS: Groups = Groups {
     number: 0,
     is_open: false,
     followers: 0,
     record_length: None,
 };
 
+impl Sheets {
+    /// Before all cards.
+    pub fn none() -> Self
+        ensures { (cards : List SpecCard) → AreSheets cards [] result }
+    {
+        Sheets {
+            types: NO_GROUPS,
+            calculations: NO_GROUPS,
+            lines: NO_GROUPS,
+        }
+    }
+
+    /// With the card behind those before.
+    pub fn with(&self, source: &IndexedCards, before: &[SpecCard], card: &SpecCard) -> Self
+        requires few { length before.now ≤ 2000 }
+        requires sheets { AreSheets source.now before.now self.now }
+        ensures { AreSheets source.now (before.now ++ card.now ∷ []) result }
+    {
+        Sheets {
+            types: self.types.with_type(source, card),
+            calculations: self.calculations.with_calculation(source, card),
+            lines: self.lines.with_line(source, card),
+        }
+    }
+}
+
 impl Groups {
-    pub(crate) fn with_type(self, source: &IndexedCards, card: &SpecCard) -> Self
+    fn with_type(self, source: &IndexedCards, card: &SpecCard) -> Self
         requires few { self.number ≤ 2000 }
         requires few_followers { self.followers ≤ 2000 }
         ensures { result ≡ with_role source.now (input_role card.now.spec) self }
@@ -52,7 +80,7 @@ impl Groups {
         }
     }
 
-    pub(crate) fn with_calculation(self, source: &IndexedCards, card: &SpecCard) -> Self
+    fn with_calculation(self, source: &IndexedCards, card: &SpecCard) -> Self
         requires { self.number ≤ 2000 }
         ensures { result ≡ with_role source.now (calculation_role card.now.spec) self }
     {
@@ -63,7 +91,7 @@ impl Groups {
         }
     }
 
-    pub(crate) fn with_line(self, source: &IndexedCards, card: &SpecCard) -> Self
+    fn with_line(self, source: &IndexedCards, card: &SpecCard) -> Self
         requires few { self.number ≤ 2000 }
         requires few_followers { self.followers ≤ 2000 }
         ensures { result ≡ with_role source.now (output_role card.now.spec) self }

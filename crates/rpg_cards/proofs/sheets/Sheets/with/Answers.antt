@@ -1,13 +1,13 @@
-use Rattle.std.proofs.Common.{◌≡◌, ◌++◌, ◌∷◌, [], sym, subst}
+use Rattle.std.proofs.Common.{◌++◌, ◌∷◌, [], sym, subst}
 use Rattle.rpg_cards.specs.Groups.{calculation_role, input_role, output_role}
-use Rattle.rpg_faults.proofs.GroupLemmas.{groups_with}
-use Rattle.rpg_faults.specs.Seen.{HasGroups}
-use Rattle.rpg_faults.proofs.seen.Seen.sheets_with.Goals as goal
+use Rattle.rpg_cards.proofs.SheetLemmas.{groups_with}
+use Rattle.rpg_cards.specs.Sheets.{HasGroups}
+use Rattle.rpg_cards.proofs.sheets.Sheets.with.Goals as goal
 
 pub returns : goal.returns
 returns c =
     let cards = c.args.source.now in
-    let before = c.args.self.now.before.now in
+    let before = c.args.before.now in
     let card = c.args.card.now in
     let was = c.requires.sheets in
     record {

@@ -1,15 +1,12 @@
 -- What groups of cards come to with one more card behind them.
 use Rattle.std.proofs.Common.{◌≡◌, ℕ, ◌+◌, ◌≤◌, Bool, true, false, cond, List, [], ◌∷◌, ◌++◌, length, Option, None, Some, refl, sym, ap, ◌∙◌, subst, arith, length-append}
-use Rattle.std.specs.Option.{option_map, option_map_or, option_or}
+use Rattle.std.specs.Option.{option_map, option_or}
 use Rattle.rpg_cards.proofs.GroupLemmas.{groups-push, one_if_heading, open_group-push}
-use Rattle.rpg_cards.specs.Cards.{calculation_on}
-use Rattle.rpg_cards.specs.Groups.{Apart, Follower, Group, Heading, Role, calculation_role, file_of, open_group, role_of, with_card}
+use Rattle.rpg_cards.specs.Files.{file_by}
+use Rattle.rpg_cards.specs.Groups.{Apart, Follower, Group, Heading, Role, file_of, open_group, with_card}
+use Rattle.rpg_cards.specs.Sheets.{HasGroups, IsOpen, length_with, with_role}
+use Rattle.rpg_cards.specs.declared.sheets.Groups.{Groups}
 use Rattle.rpg_cards.specs.declared.spec_card.SpecCard.{SpecCard}
-use Rattle.rpg_faults.specs.Places.{file_by}
-use Rattle.rpg_faults.specs.Rounding.{follows_division, leaves_remainder}
-use Rattle.rpg_faults.specs.Seen.{HasGroups, IsOpen, length_with, with_role}
-use Rattle.rpg_faults.specs.declared.groups.Groups.{Groups}
-use Rattle.rpg_spec.specs.declared.calculation.CalculationSpec.{CalculationSpec}
 use Rattle.rpg_spec.specs.declared.spec.Spec.{Spec}
 
 length_told : (cards : List SpecCard) (name file : Option (List ℕ)) (len : Option ℕ) → len ≡ option_map (λ f. f.record_length) (file_by file cards)
@@ -37,27 +34,18 @@ module _ {H F : Type 0} (cards : List SpecCard) where
       by_test false = omega arith
   few_with Apart g n a b = (omega arith, omega arith)
 
-  number_with : (role : Spec → Role H F) (r : Role H F) (g : Groups) → (with_role cards r g).number ≡ g.number + one_if_heading role r
-  number_with role (Heading h name) g = refl
-  number_with role (Follower f) g = omega arith
-  number_with role Apart g = omega arith
+  number_with : (r : Role H F) (g : Groups) → (with_role cards r g).number ≡ g.number + one_if_heading r
+  number_with (Heading h name) g = refl
+  number_with (Follower f) g = omega arith
+  number_with Apart g = omega arith
 
   pub groups_with : (role : Spec → Role H F) (before : List SpecCard) (c : SpecCard) (g : Groups) → HasGroups H F role cards before g → HasGroups H F role cards (before ++ c ∷ []) (with_role cards (role c.spec) g)
   groups_with role before c g has =
       let few = few_with (role c.spec) g (length before) has.few has.few_followers in
       let longer = length-append before (c ∷ []) in
       record {
-        number = number_with role (role c.spec) g ∙ ap (λ n. n + one_if_heading role (role c.spec)) has.number ∙ sym (groups-push role before c);
+        number = number_with (role c.spec) g ∙ ap (λ n. n + one_if_heading (role c.spec)) has.number ∙ sym (groups-push role before c);
         last = subst (λ o. IsOpen H F cards o (with_role cards (role c.spec) g)) (sym (open_group-push role before c)) (still_open (open_group role before) (role c.spec) g has.last);
         few = omega (arith, few.0);
         few_followers = omega (arith, few.1);
       }
-
-pub follows_division-push : (before : List SpecCard) (c : SpecCard) → follows_division (before ++ c ∷ []) ≡ option_map_or leaves_remainder (calculation_on c.spec) (follows_division before)
-follows_division-push before c =
-    ap (λ o. option_map_or leaves_remainder (option_map (λ g. g.heading) o) false) (open_group-push calculation_role before c) ∙ by_card (calculation_on c.spec)
-  where
-    by_card : (k : Option CalculationSpec) → option_map_or leaves_remainder (option_map (λ g. g.heading) (with_card (open_group calculation_role before) (role_of (λ k. None) k None))) false
-        ≡ option_map_or leaves_remainder k (follows_division before)
-    by_card None = refl
-    by_card (Some k) = refl
