@@ -1,4 +1,3 @@
-pub mod Forms
 pub mod LeastLemmas
 pub mod SeenLemmas
 pub mod TotalLemmas

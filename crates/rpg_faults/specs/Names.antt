@@ -1,6 +1,5 @@
 -- F1, F2, F3: names, their definitions and their forms.
 use denote.Enum.Bare.{sameb}
-use mathlib.Core.Bool.{beq}
 use Rattle.std.specs.Prelude.{ℕ, ◌==◌, List, Bool, true, false, not, ◌&&◌, ◌||◌, nat_le, Option, None, Some, is_some, is_none}
 use Rattle.std.specs.List.{list_any}
 use Rattle.std.specs.Option.{option_map_or}
@@ -11,7 +10,6 @@ use Rattle.rpg_cards.specs.declared.names.Defined.{Defined}
 use Rattle.rpg_cards.specs.declared.names.Defined.TheVariants.{Missing, Bad, Good}
 use Rattle.rpg_cards.specs.declared.names.Definition.{Definition}
 use Rattle.rpg_cards.specs.declared.spec_card.SpecCard.{SpecCard}
-use Rattle.rpg_effect.specs.contracts.form.Class as class
 use Rattle.rpg_effect.specs.contracts.form.Kind as kind
 use Rattle.rpg_effect.specs.declared.form.FieldForm.{FieldForm}
 use Rattle.rpg_effect.specs.declared.form.Kind.{Kind}
@@ -21,6 +19,7 @@ use Rattle.rpg_spec.specs.declared.input.InputField.{InputField}
 use Rattle.rpg_spec.specs.declared.literal.Factor.{Factor}
 use Rattle.rpg_spec.specs.declared.literal.Factor.TheVariants as factor
 use Rattle.rpg_spec.specs.declared.output.OutputField.{OutputField}
+use Rattle.rpg_symbols.specs.Fields.{same_form}
 use Rattle.rpg_faults.specs.Cards.{operand}
 
 -- ---- F1: a name that is used and that no card defines, before or behind
@@ -59,11 +58,6 @@ lacks_name cards c = option_map_or (calculation_lacks_name cards) (calculation_o
 
 abbrev pub same_kind : Kind → Kind → Bool
 same_kind k l = sameb kind.the_type k l
-
-abbrev pub same_form : FieldForm → FieldForm → Bool
-same_form f g =
-    same_kind f.kind g.kind && sameb class.the_type f.class g.class && f.length == g.length && f.decimals == g.decimals
-    && beq f.is_ascending g.is_ascending && f.entries == g.entries
 
 abbrev pub is_other : FieldForm → Defined → Bool
 is_other form Missing = false

@@ -11,9 +11,8 @@ use crate::seen::Seen;
 use rpg_cards::{
     Defined, Definition, IndexedCards, Need, SpecCard, columns, field_form, sized_form,
 };
-use rpg_effect::form::FieldForm;
 use rpg_spec::{CalculationSpec, Factor, OutputField};
-use rpg_symbols::Name;
+use rpg_symbols::{Name, is_same_form};
 
 /// F1: a name that is used and that no card defines.
 pub(crate) fn lacks_name(source: &IndexedCards, card: &SpecCard) -> bool
@@ -121,19 +120,8 @@ fn is_other(source: &IndexedCards, place: usize, definition: &Definition) -> boo
     match source.form_before(&definition.name, place) {
         Defined::Missing => false,
         Defined::Bad => false,
-        Defined::Good(first) => !is_same(&first, &form),
+        Defined::Good(first) => !is_same_form(&first, &form),
     }
-}
-
-fn is_same(a: &FieldForm, b: &FieldForm) -> bool
-    ensures { result ≡ names.same_form a.now b.now }
-{
-    a.kind == b.kind
-        && a.class == b.class
-        && a.length == b.length
-        && a.decimals == b.decimals
-        && a.is_ascending == b.is_ascending
-        && a.entries == b.entries
 }
 
 /// F3: a length or decimals past their limit, or decimals without a length.

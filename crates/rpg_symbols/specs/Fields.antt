@@ -1,8 +1,12 @@
 -- Names in the order of their first definitions.
-use Rattle.std.specs.Prelude.{◌≡◌, ◌≢◌, ℕ, ◌+◌, ◌*◌, ◌≤◌, ◌<◌, List, [], ◌∷◌, ◌++◌, length, false, Option, None, Some, sum_by, position, nat_eq, codes}
+use denote.Enum.Bare.{sameb}
+use mathlib.Core.Bool.{beq}
+use Rattle.std.specs.Prelude.{◌≡◌, ◌≢◌, ℕ, ◌+◌, ◌*◌, ◌≤◌, ◌<◌, ◌&&◌, ◌==◌, Bool, List, [], ◌∷◌, ◌++◌, length, false, Option, None, Some, sum_by, position, nat_eq, codes}
 use Rattle.std.specs.Option.{option_map}
 use Rattle.std.specs.Map.{lookup, keys_of}
 use Rattle.std.specs.Cmp.Lexicographic.{pointwise}
+use Rattle.rpg_effect.specs.contracts.form.Class as classes
+use Rattle.rpg_effect.specs.contracts.form.Kind as kinds
 use Rattle.rpg_effect.specs.declared.form.FieldForm.{FieldForm}
 use Rattle.rpg_effect.specs.declared.form.Kind.TheVariants as kind
 use Rattle.rpg_effect.specs.declared.form.Class.{Class}
@@ -29,6 +33,12 @@ number_of fields name = option_map (λ i. i + 1) (position (pointwise nat_eq nam
 -- the form of its first definition
 abbrev pub form_of : Fields → List ℕ → Option FieldForm
 form_of fields name = lookup (pointwise nat_eq name) fields
+
+-- two forms that agree in every part
+abbrev pub same_form : FieldForm → FieldForm → Bool
+same_form f g =
+    sameb kinds.the_type f.kind g.kind && sameb classes.the_type f.class g.class && f.length == g.length && f.decimals == g.decimals
+    && beq f.is_ascending g.is_ascending && f.entries == g.entries
 
 -- the bytes that a field takes
 abbrev pub size_of : FieldForm → ℕ

@@ -4,4 +4,4 @@
 mod symbols;
 
 pub use rpg_spec::Indicator;
-pub use symbols::{DefineFault, Name, Symbols};
+pub use symbols::{DefineFault, Name, Symbols, is_same_form};

@@ -2,7 +2,7 @@
 
 ghost use Rattle.std.specs.Prelude.{◌≡◌, ◌≢◌, ◌-◌, ◌≤◌, ◌⊎◌, None, Some, length, slice_get, option_map, IfOk, IfErr, OnErr};
 ghost use Rattle.std.specs.Bool.{OnTrue, OnFalse};
-ghost use Rattle.rpg_symbols.specs.Fields.{form_of, given, number_form, number_of, size_of, IsKnown, IsAdded, Refuses};
+ghost use Rattle.rpg_symbols.specs.Fields.{form_of, given, number_form, number_of, same_form, size_of, IsKnown, IsAdded, Refuses};
 ghost use Rattle.rpg_symbols.specs.declared.symbols.DefineFault.TheVariants.{NoMemory};
 
 use indexmap::IndexMap;
@@ -101,7 +101,7 @@ impl Symbols {
         let Some((place, _, known)) = self.fields.get_full(&name) else {
             return self.add(name, form);
         };
-        if is_same(known, &form) {
+        if is_same_form(known, &form) {
             Ok(place as u16 + 1)
         } else {
             Err(DefineFault::Other)
@@ -147,7 +147,8 @@ const fn number(class: Class, length: u16) -> FieldForm
 }
 
 /// Whether two forms agree in every part.
-fn is_same(a: &FieldForm, b: &FieldForm) -> bool
+pub fn is_same_form(a: &FieldForm, b: &FieldForm) -> bool
+    ensures value { result ≡ same_form a.now b.now }
     ensures same { OnTrue result (a.now ≡ b.now) }
     ensures differs { OnFalse result (a.now ≢ b.now) }
 {

@@ -8,7 +8,7 @@ use Rattle.rpg_effect.specs.contracts.form.Kind as kind
 use Rattle.rpg_effect.specs.declared.form.Class.{Class}
 use Rattle.rpg_effect.specs.declared.form.FieldForm.{FieldForm}
 use Rattle.rpg_effect.specs.declared.form.Kind.{Kind}
-use Rattle.rpg_faults.specs.Names.{same_form}
+use Rattle.rpg_symbols.specs.Fields.{same_form}
 
 flag_equal : (a b : Bool) → beq a b ≡ true → a ≡ b
 flag_equal true true e = refl
