@@ -3,11 +3,8 @@
 EXAMPLE := examples/invoices
 RPG2 := crates/rpg2/out/rpg2
 
-# So many libraries are proved side by side, one job each. Those that are waited for at the end, one on the other, with nothing beside them,
-# take all processors but one.
+# So many libraries are proved side by side, one job each: with more jobs a library takes no less time.
 PROCESSORS := $(shell nproc)
-LAST := rpg_machine rpg_cycle rpg_engine rpg_cli
-jobs = $(if $(filter $(1),$(LAST)),$(shell echo $$(($(PROCESSORS) > 2 ? $(PROCESSORS) - 1 : 1))),1)
 MAKEFLAGS += -j$(PROCESSORS)
 
 # crates.txt says which crate stands on which.
@@ -52,11 +49,11 @@ bench: $(RPG2)
 # crate come first: so the engine stands before what else rpg_cli uses.
 define library_rule
 $(call library,$(1)): $(foreach it,$(call below,$(1)),$(call library,$(it))) $(call sources,$(1))
-	build/library.sh $(1) $(call jobs,$(1))
+	build/library.sh $(1)
 endef
 $(foreach it,$(filter-out $(PROGRAMS),$(CRATES)),$(eval $(call library_rule,$(it))))
 
 # Only what is proved is built: README says how long the first build takes.
 $(RPG2): $(foreach it,$(call below,rpg2),$(call library,$(it))) $(call sources,rpg2)
-	cd crates/rpg2 && rt run --jobs $(call jobs,rpg_cli) -- --help > /dev/null
+	cd crates/rpg2 && rt run --jobs 1 -- --help > /dev/null
 	@touch $(RPG2)

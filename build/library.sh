@@ -1,11 +1,11 @@
 #!/usr/bin/env bash
-# Proves a library: build/library.sh NAME JOBS, at the top of the repository. The Makefile calls it once those below it are proved.
+# Proves a library: build/library.sh NAME, at the top of the repository. The Makefile calls it once those below it are proved.
 #
 # Two rt don't work at the same time above one library, since each keeps the others out of all crates below its own. So the proof
 # runs in a room of its own, with the crate, the crates below it and what is proved of these, and its folder out/ comes back.
 set -euo pipefail
 
-name=$1 jobs=$2
+name=$1
 room=$(mktemp -d "${TMPDIR:-/tmp}/melguda-build.XXXXXX")
 trap 'rm -rf "$room"' EXIT
 mkdir "$room/crates"
@@ -37,7 +37,7 @@ if [ -e "crates/$name/out/incremental" ]; then
     copy "crates/$name/out/incremental" "$room/crates/$name/out/incremental"
 fi
 
-(cd "$room/crates/$name" && rt lib --jobs "$jobs")
+(cd "$room/crates/$name" && rt lib --jobs 1)
 
 mkdir -p "crates/$name/out"
 for part in incremental rlib; do
