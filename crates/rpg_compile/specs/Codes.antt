@@ -2,7 +2,7 @@
 use Rattle.std.specs.Prelude.{ℕ, List}
 use Rattle.rpg_compile.specs.declared.fault.SourceCode.{SourceCode}
 use Rattle.rpg_compile.specs.declared.fault.SourceCode.TheVariants.{Sheet, Fault}
-use Rattle.rpg_faults.specs.Codes as faults
+use Rattle.rpg_card_rules.specs.Codes as faults
 use Rattle.rpg_sheet.specs.Codes as sheets
 
 abbrev pub text : SourceCode → List ℕ

@@ -6,13 +6,14 @@ use Rattle.std.specs.List.{list_all}
 use Rattle.std.specs.Option.{option_map, option_or}
 use Rattle.rpg_cards.specs.Cards.{Numbered}
 use Rattle.rpg_cards.specs.declared.spec_card.SpecCard.{SpecCard}
-use Rattle.rpg_faults.specs.declared.fault.FaultCode.{FaultCode}
-use Rattle.rpg_faults.specs.declared.fault.FaultCode.TheVariants.{F1, F7}
+use Rattle.rpg_card_rules.specs.declared.code.FaultCode.{FaultCode}
+use Rattle.rpg_card_rules.specs.declared.code.FaultCode.TheVariants.{F1, F7}
 use Rattle.rpg_faults.specs.declared.fault.Fault.{Fault}
-use Rattle.rpg_faults.specs.Cards.{Rule}
-use Rattle.rpg_faults.specs.Codes.{number}
-use Rattle.rpg_faults.specs.Faults.{rule, source_rule, codes, fault_on, fault_from, least_fault, IsBroken, HasFault, NotAfter, IsLeastFault, Faultless}
-use Rattle.rpg_faults.specs.Files.{lacks_input}
+use Rattle.rpg_card_rules.specs.Cards.{Rule}
+use Rattle.rpg_card_rules.specs.Codes.{number}
+use Rattle.rpg_faults.specs.Faults.{codes, fault_on, fault_from, least_fault, IsBroken, HasFault, NotAfter, IsLeastFault, Faultless}
+use Rattle.rpg_card_rules.specs.Rules.{rule, source_rule}
+use Rattle.rpg_card_rules.specs.Files.{lacks_input}
 
 -- ---- the cards that break a rule
 

@@ -1,3 +1,1 @@
 pub mod LeastLemmas
-pub mod SeenLemmas
-pub mod TotalLemmas

@@ -1,42 +1,14 @@
 -- The faults of a source without sheet faults, as a set of pairs, and the least of them.
-use Rattle.std.specs.Prelude.{◌≡◌, ℕ, ◌<◌, ◌≤◌, ◌⊎◌, Bool, true, false, List, [], ◌∷◌, ◌++◌, Option, None, Some, find, if◌then◌else◌}
+use Rattle.std.specs.Prelude.{◌≡◌, ℕ, ◌<◌, ◌≤◌, ◌⊎◌, true, List, [], ◌∷◌, ◌++◌, Option, None, Some, find, if◌then◌else◌}
 use Rattle.std.specs.Option.{option_map, option_or}
 use Rattle.rpg_cards.specs.declared.spec_card.SpecCard.{SpecCard}
-use Rattle.rpg_faults.specs.declared.fault.FaultCode.{FaultCode}
-use Rattle.rpg_faults.specs.declared.fault.FaultCode.TheVariants.{F1, F2, F3, F4, F6, F7, F8, F9, F12, F15, F16}
+use Rattle.rpg_card_rules.specs.declared.code.FaultCode.{FaultCode}
+use Rattle.rpg_card_rules.specs.declared.code.FaultCode.TheVariants.{F1, F2, F3, F4, F6, F7, F8, F9, F12, F15, F16}
 use Rattle.rpg_faults.specs.declared.fault.Fault.{Fault}
-use Rattle.rpg_faults.specs.Cards.{Rule}
-use Rattle.rpg_faults.specs.Codes.{number}
-use Rattle.rpg_faults.specs.Columns.{bad_columns}
-use Rattle.rpg_faults.specs.Files.{breaks_files, lacks_input}
-use Rattle.rpg_faults.specs.Indicators.{bad_indicator}
-use Rattle.rpg_faults.specs.Limits.{passes_limit}
-use Rattle.rpg_faults.specs.Names.{lacks_name, redefines, bad_size}
-use Rattle.rpg_faults.specs.Operands.{wrong_operand}
-use Rattle.rpg_faults.specs.Order.{lacks_heading}
-use Rattle.rpg_faults.specs.Places.{misplaces}
-use Rattle.rpg_faults.specs.Rounding.{bad_rounding}
-
--- ---- the rules
-
--- what a card breaks
-unfoldable pub rule : FaultCode → Rule
-rule F1 before c after = lacks_name (before ++ c ∷ after) c
-rule F2 before c after = redefines before c
-rule F3 before c after = bad_size c
-rule F4 before c after = wrong_operand (before ++ c ∷ after) c
-rule F6 before c after = passes_limit (before ++ c ∷ after) before c
-rule F7 before c after = breaks_files (before ++ c ∷ after) before c
-rule F8 before c after = bad_indicator c
-rule F9 before c after = bad_columns c
-rule F12 before c after = lacks_heading before c
-rule F15 before c after = bad_rounding before c
-rule F16 before c after = misplaces (before ++ c ∷ after) before c
-
--- what the source as a whole breaks
-unfoldable pub source_rule : FaultCode → List SpecCard → Bool
-source_rule F7 cards = lacks_input cards
-source_rule _ cards = false
+use Rattle.rpg_card_rules.specs.Cards.{Rule}
+use Rattle.rpg_card_rules.specs.Codes.{number}
+use Rattle.rpg_card_rules.specs.Files.{lacks_input}
+use Rattle.rpg_card_rules.specs.Rules.{rule, source_rule}
 
 -- ---- the set: pairs of a card and a code
 

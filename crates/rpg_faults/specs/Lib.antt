@@ -1,13 +1,1 @@
-pub mod Cards
-pub mod Names
-pub mod Operands
-pub mod Limits
-pub mod Files
-pub mod Indicators
-pub mod Columns
-pub mod Order
-pub mod Places
-pub mod Rounding
-pub mod Seen
-pub mod Codes
 pub mod Faults

@@ -3,19 +3,11 @@
 ghost use Rattle.std.specs.Prelude.{◌≡◌, [], ◌++◌, ◌∷◌, ◌≤◌, find, length, MatchOption, IfOk};
 ghost use Rattle.rpg_cards.specs.Cards.{Numbered};
 ghost use Rattle.rpg_faults.specs.Faults as faults;
-ghost use Rattle.rpg_faults.specs.Seen.{IsSeen};
+ghost use Rattle.rpg_card_rules.specs.Rules as rules;
+ghost use Rattle.rpg_card_rules.specs.Seen.{IsSeen};
 
-use crate::columns::bad_columns;
-use crate::fault::{Fault, FaultCode};
-use crate::files::{breaks_files, lacks_input};
-use crate::indicators::bad_indicator;
-use crate::limits::passes_limit;
-use crate::names::{bad_size, lacks_name, redefines};
-use crate::operands::wrong_operand;
-use crate::order::lacks_heading;
-use crate::places::misplaces;
-use crate::rounding::bad_rounding;
-use crate::seen::Seen;
+use crate::fault::Fault;
+use rpg_card_rules::{FaultCode, Seen, breaks, lacks_input};
 use rpg_cards::{IndexedCards, SpecCard};
 use std::alloc::{AllocError, Global};
 
@@ -50,7 +42,7 @@ fn first_on_cards(source: &IndexedCards) -> Option<Fault>
     let mut seen = Seen::nothing(source);
     let mut rest = source.as_slice();
     while let Some((card, after)) = rest.split_first() {
-        if let Some(code) = least_code(&FaultCode::all(), source, &seen, card, after) {
+        if let Some(code) = least_code(&codes(), source, &seen, card, after) {
             return Some(Fault {
                 card: card.number,
                 code,
@@ -60,6 +52,25 @@ fn first_on_cards(source: &IndexedCards) -> Option<Fault>
         rest = after;
     }
     None
+}
+
+/// All codes, the least first.
+fn codes() -> [FaultCode; 11]
+    ensures { result ≡ faults.codes }
+{
+    [
+        FaultCode::F1,
+        FaultCode::F2,
+        FaultCode::F3,
+        FaultCode::F4,
+        FaultCode::F6,
+        FaultCode::F7,
+        FaultCode::F8,
+        FaultCode::F9,
+        FaultCode::F12,
+        FaultCode::F15,
+        FaultCode::F16,
+    ]
 }
 
 /// The first of these codes whose rule a card breaks.
@@ -72,7 +83,7 @@ fn least_code(
 ) -> Option<FaultCode>
     requires split { source.now ≡ seen.now.before.now ++ card.now ∷ after.now }
     requires seen { IsSeen source.now seen.now }
-    ensures { result ≡ find (λ code. faults.rule code seen.now.before.now card.now after.now) codes.now }
+    ensures { result ≡ find (λ code. rules.rule code seen.now.before.now card.now after.now) codes.now }
 {
     for code in codes {
         if breaks(*code, source, seen, card, after) {
@@ -80,32 +91,4 @@ fn least_code(
         }
     }
     None
-}
-
-/// Whether a card breaks the rule of a code.
-#[tactic(auto, unfolding(crate::specs::Faults::rule))]
-fn breaks(
-    code: FaultCode,
-    source: &IndexedCards,
-    seen: &Seen,
-    card: &SpecCard,
-    after: &[SpecCard],
-) -> bool
-    requires split { source.now ≡ seen.now.before.now ++ card.now ∷ after.now }
-    requires seen { IsSeen source.now seen.now }
-    ensures { result ≡ faults.rule code seen.now.before.now card.now after.now }
-{
-    match code {
-        FaultCode::F1 => lacks_name(source, card),
-        FaultCode::F2 => redefines(source, seen, card),
-        FaultCode::F3 => bad_size(card),
-        FaultCode::F4 => wrong_operand(source, card),
-        FaultCode::F6 => passes_limit(source, seen, card),
-        FaultCode::F7 => breaks_files(source, seen, card),
-        FaultCode::F8 => bad_indicator(card),
-        FaultCode::F9 => bad_columns(card),
-        FaultCode::F12 => lacks_heading(source, seen, card),
-        FaultCode::F15 => bad_rounding(source, seen, card),
-        FaultCode::F16 => misplaces(source, seen, card),
-    }
 }

@@ -1,19 +1,9 @@
-//! The faults of a source without sheet faults.
+//! The least fault of a source without sheet faults.
 #![tactic(auto)]
 
-mod columns;
 mod fault;
-mod files;
-mod indicators;
 mod least;
-mod limits;
-mod names;
-mod operands;
-mod order;
-mod places;
-mod rounding;
-mod seen;
-mod totals;
 
-pub use fault::{Fault, FaultCode};
+pub use fault::Fault;
 pub use least::first_fault;
+pub use rpg_card_rules::FaultCode;

@@ -2,15 +2,16 @@
 use Rattle.std.proofs.Common.{◌≡◌, false, List, ◌∷◌, ◌++◌}
 use Rattle.rpg_cards.specs.declared.spec_card.SpecCard.{SpecCard}
 use Rattle.rpg_faults.proofs.LeastLemmas.{rule-faultless}
-use Rattle.rpg_faults.specs.Columns.{bad_columns}
-use Rattle.rpg_faults.specs.Faults.{rule, Faultless}
-use Rattle.rpg_faults.specs.Files.{breaks_files}
-use Rattle.rpg_faults.specs.Indicators.{bad_indicator}
-use Rattle.rpg_faults.specs.Names.{lacks_name, redefines, bad_size}
-use Rattle.rpg_faults.specs.Operands.{wrong_operand}
-use Rattle.rpg_faults.specs.Order.{lacks_heading}
-use Rattle.rpg_faults.specs.Places.{misplaces}
-use Rattle.rpg_faults.specs.declared.fault.FaultCode.TheVariants.{F1, F2, F3, F4, F7, F8, F9, F12, F16}
+use Rattle.rpg_card_rules.specs.Columns.{bad_columns}
+use Rattle.rpg_faults.specs.Faults.{Faultless}
+use Rattle.rpg_card_rules.specs.Rules.{rule}
+use Rattle.rpg_card_rules.specs.Files.{breaks_files}
+use Rattle.rpg_card_rules.specs.Indicators.{bad_indicator}
+use Rattle.rpg_card_rules.specs.Names.{lacks_name, redefines, bad_size}
+use Rattle.rpg_card_rules.specs.Operands.{wrong_operand}
+use Rattle.rpg_card_rules.specs.Order.{lacks_heading}
+use Rattle.rpg_card_rules.specs.Places.{misplaces}
+use Rattle.rpg_card_rules.specs.declared.code.FaultCode.TheVariants.{F1, F2, F3, F4, F7, F8, F9, F12, F16}
 use Rattle.rpg_translation.proofs.Each.{Seen}
 
 module _ (cards : List SpecCard) (none : Faultless cards) where

@@ -11,11 +11,11 @@ use Rattle.rpg_effect.specs.declared.operation.Instruction.TheVariants.{Act}
 use Rattle.rpg_effect.specs.declared.operation.Operator.TheVariants as operator
 use Rattle.rpg_effect.specs.declared.operation.Side.{Side}
 use Rattle.rpg_effect.specs.declared.operation.Side.TheVariants.{Right, Left}
-use Rattle.rpg_faults.specs.Columns.{any_of, bad_operation}
+use Rattle.rpg_card_rules.specs.Columns.{any_of, bad_operation}
 use Rattle.rpg_faults.specs.Faults.{Faultless}
-use Rattle.rpg_faults.specs.Indicators.{bad_in_result}
-use Rattle.rpg_faults.specs.Names.{is_undefined, name_in, operation_lacks_name}
-use Rattle.rpg_faults.specs.Operands.{differ, has_text, is_never_written, wrong_in_operation}
+use Rattle.rpg_card_rules.specs.Indicators.{bad_in_result}
+use Rattle.rpg_card_rules.specs.Names.{is_undefined, name_in, operation_lacks_name}
+use Rattle.rpg_card_rules.specs.Operands.{differ, has_text, is_never_written, wrong_in_operation}
 use Rattle.rpg_program.specs.Kept.{AreIndicators, IsInstructionRow}
 use Rattle.rpg_program.specs.Object.{Object}
 use Rattle.rpg_program.specs.declared.section.Section.TheVariants.{Detail}

@@ -7,11 +7,11 @@ use Rattle.rpg_cards.specs.Constants.{constant_of, factor_constant, first_consta
 use Rattle.rpg_cards.specs.Groups.{calculation_role, groups}
 use Rattle.rpg_cards.specs.declared.spec_card.SpecCard.{SpecCard}
 use Rattle.rpg_effect.specs.declared.operation.Instruction.{Instruction}
-use Rattle.rpg_faults.specs.Columns.{bad_calculation, bad_operation}
+use Rattle.rpg_card_rules.specs.Columns.{bad_calculation, bad_operation}
 use Rattle.rpg_faults.specs.Faults.{Faultless}
-use Rattle.rpg_faults.specs.Indicators.{bad_in_result, bad_on_card}
-use Rattle.rpg_faults.specs.Names.{calculation_lacks_name, operation_lacks_name}
-use Rattle.rpg_faults.specs.Operands.{wrong_in_calculation, wrong_in_operation}
+use Rattle.rpg_card_rules.specs.Indicators.{bad_in_result, bad_on_card}
+use Rattle.rpg_card_rules.specs.Names.{calculation_lacks_name, operation_lacks_name}
+use Rattle.rpg_card_rules.specs.Operands.{wrong_in_calculation, wrong_in_operation}
 use Rattle.rpg_program.specs.Kept.{IsInstructionRow}
 use Rattle.rpg_program.specs.declared.section.Section.TheVariants.{Detail}
 use Rattle.rpg_rules.specs.PlaceRules.{is_return, place_breaks}

@@ -4,7 +4,7 @@ use Rattle.std.proofs.lemmas.Bool.{and_from, eqb-false, le-leb, or_parts}
 use Rattle.std.specs.Option.{ForSome}
 use Rattle.std.specs.List.{list_all}
 use Rattle.rpg_effect.specs.declared.condition.Condition.{Condition}
-use Rattle.rpg_faults.specs.Indicators.{asks_for_mr, bad_in_output}
+use Rattle.rpg_card_rules.specs.Indicators.{asks_for_mr, bad_in_output}
 use Rattle.rpg_program.specs.Kept.{AreConditions, IsConditionRow}
 use Rattle.rpg_rules.specs.Indicators.{all_asked, if_any, may_be_asked}
 use Rattle.rpg_spec.specs.declared.indicator.Condition as sheet

@@ -13,8 +13,8 @@ use Rattle.rpg_effect.specs.Forms.{is_array, is_plain}
 use Rattle.rpg_effect.specs.declared.form.FieldForm.{FieldForm}
 use Rattle.rpg_effect.specs.declared.form.Kind.TheVariants as kind
 use Rattle.rpg_faults.specs.Faults.{Faultless}
-use Rattle.rpg_faults.specs.Names.{bad_size_of_field, bad_size_of_result}
-use Rattle.rpg_faults.specs.Places.{outside_record}
+use Rattle.rpg_card_rules.specs.Names.{bad_size_of_field, bad_size_of_result}
+use Rattle.rpg_card_rules.specs.Places.{outside_record}
 use Rattle.rpg_spec.specs.declared.calculation.CalculationSpec.{CalculationSpec}
 use Rattle.rpg_spec.specs.declared.file.FileSpec.{FileSpec}
 use Rattle.rpg_spec.specs.declared.input.InputField.{InputField}

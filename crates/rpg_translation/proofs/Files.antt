@@ -8,7 +8,7 @@ use Rattle.rpg_cards.specs.Cards.{file_on}
 use Rattle.rpg_cards.specs.Files.{file_by, first_file, or_later, file_named, has_name}
 use Rattle.rpg_cards.specs.Groups.{Group, Role, file_of, open_file, open_group, role_of, with_card}
 use Rattle.rpg_cards.specs.declared.spec_card.SpecCard.{SpecCard}
-use Rattle.rpg_faults.specs.Files.{is_unfit, lacks_file}
+use Rattle.rpg_card_rules.specs.Files.{is_unfit, lacks_file}
 use Rattle.rpg_spec.specs.declared.file.Direction.{Direction}
 use Rattle.rpg_spec.specs.declared.file.FileSpec.{FileSpec}
 use Rattle.rpg_spec.specs.declared.spec.Spec.{Spec}

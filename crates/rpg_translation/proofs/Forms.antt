@@ -16,7 +16,7 @@ use Rattle.rpg_effect.specs.Forms.{is_array}
 use Rattle.rpg_effect.specs.declared.form.Class.TheVariants as class
 use Rattle.rpg_effect.specs.declared.form.FieldForm.{FieldForm}
 use Rattle.rpg_symbols.proofs.Forms.{same_form-equal}
-use Rattle.rpg_faults.specs.Names.{is_missing, is_other, redefines, redefines_as}
+use Rattle.rpg_card_rules.specs.Names.{is_missing, is_other, redefines, redefines_as}
 use Rattle.rpg_symbols.specs.Fields.{given, form_of, number_form}
 use Rattle.rpg_translation.proofs.Each.{Each}
 use Rattle.rpg_translation.proofs.Names.{AreDefined, IsDefinition, IsForm}

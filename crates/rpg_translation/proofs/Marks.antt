@@ -4,7 +4,7 @@ use Rattle.std.proofs.lemmas.Bool.{and_from, cases_Bool, eqb-false, le-leb, leb-
 use Rattle.std.proofs.Common.{◌⊎◌, inl, inr}
 use Rattle.std.specs.Option.{ForSome}
 use Rattle.std.specs.Prelude.{◌&&◌, nat_le}
-use Rattle.rpg_faults.specs.Indicators.{bad_in_result, bad_on_type, cannot_be_set}
+use Rattle.rpg_card_rules.specs.Indicators.{bad_in_result, bad_on_type, cannot_be_set}
 use Rattle.rpg_program.specs.Kept.{AreIndicators, IsIndicator}
 use Rattle.rpg_rules.specs.Indicators.{are_settable, if_any, is_of_type, is_settable, is_within}
 use Rattle.rpg_spec.specs.declared.indicator.Three.{Three}

@@ -15,7 +15,7 @@ use Rattle.rpg_cards.specs.declared.names.Definition.{Definition}
 use Rattle.rpg_cards.specs.declared.spec_card.SpecCard.{SpecCard}
 use Rattle.rpg_effect.specs.Forms.{form_at, is_array}
 use Rattle.rpg_effect.specs.declared.form.FieldForm.{FieldForm}
-use Rattle.rpg_faults.specs.Operands.{form_in}
+use Rattle.rpg_card_rules.specs.Operands.{form_in}
 use Rattle.rpg_symbols.specs.Fields.{Fields, given, form_of}
 use Rattle.rpg_translation.specs.Fields.{Table, table_of, all_forms, fields_of, forms, number_in, with_definitions, with_form, with_name}
 use Rattle.rpg_translation.proofs.Each.{Each}

@@ -8,7 +8,7 @@ use Rattle.rpg_cards.specs.Files.{file_by, input_file, output_file, is_input, is
 use Rattle.rpg_cards.specs.Groups.{input_role, open_file, open_group, output_role}
 use Rattle.rpg_cards.specs.declared.spec_card.SpecCard.{SpecCard}
 use Rattle.rpg_faults.specs.Faults.{Faultless}
-use Rattle.rpg_faults.specs.Files.{bad_file, bad_for, lacks_file}
+use Rattle.rpg_card_rules.specs.Files.{bad_file, bad_for, lacks_file}
 use Rattle.rpg_spec.specs.declared.file.Direction.{Direction}
 use Rattle.rpg_spec.specs.declared.file.Direction.TheVariants.{Input, Output}
 use Rattle.rpg_spec.specs.declared.file.FileSpec.{FileSpec}

@@ -14,9 +14,9 @@ use Rattle.rpg_effect.specs.declared.form.Kind.{Kind}
 use Rattle.rpg_effect.specs.declared.form.Kind.TheVariants as kinds
 use Rattle.rpg_effect.specs.declared.operation.Operand.{Operand}
 use Rattle.rpg_faults.specs.Faults.{Faultless}
-use Rattle.rpg_faults.specs.Names.{is_undefined, name_in}
-use Rattle.rpg_faults.specs.Names as faults
-use Rattle.rpg_faults.specs.Operands.{differ, form_in, has_text, is_fixed, is_never_written, is_text}
+use Rattle.rpg_card_rules.specs.Names.{is_undefined, name_in}
+use Rattle.rpg_card_rules.specs.Names as faults
+use Rattle.rpg_card_rules.specs.Operands.{differ, form_in, has_text, is_fixed, is_never_written, is_text}
 use Rattle.rpg_spec.specs.declared.literal.Factor.{Factor}
 use Rattle.rpg_spec.specs.declared.literal.Factor.TheVariants as factor
 use Rattle.rpg_spec.specs.declared.literal.Literal.{Literal}

@@ -20,9 +20,9 @@ use Rattle.rpg_effect.specs.declared.operation.Index.TheVariants as indexes
 use Rattle.rpg_effect.specs.declared.operation.Operand.{Operand}
 use Rattle.rpg_effect.specs.declared.row.Shape.TheVariants as shapes
 use Rattle.rpg_faults.specs.Faults.{Faultless}
-use Rattle.rpg_faults.specs.Indicators.{bad_in_output, bad_on_card}
-use Rattle.rpg_faults.specs.Names.{is_undefined}
-use Rattle.rpg_faults.specs.Places.{is_past, is_wider, outside_line}
+use Rattle.rpg_card_rules.specs.Indicators.{bad_in_output, bad_on_card}
+use Rattle.rpg_card_rules.specs.Names.{is_undefined}
+use Rattle.rpg_card_rules.specs.Places.{is_past, is_wider, outside_line}
 use Rattle.rpg_spec.specs.declared.file.FileSpec.{FileSpec}
 use Rattle.rpg_spec.specs.declared.output.OutputField.{OutputField}
 use Rattle.rpg_spec.specs.declared.output.OutputRecord.{OutputRecord}

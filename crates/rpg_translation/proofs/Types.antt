@@ -16,9 +16,9 @@ use Rattle.rpg_effect.specs.declared.form.Kind.{Kind}
 use Rattle.rpg_effect.specs.declared.form.Kind.TheVariants as kinds
 use Rattle.rpg_effect.specs.declared.input.InputField as row
 use Rattle.rpg_faults.specs.Faults.{Faultless}
-use Rattle.rpg_faults.specs.Indicators.{bad_on_card, bad_on_type}
-use Rattle.rpg_faults.specs.Names.{bad_size_of_field}
-use Rattle.rpg_faults.specs.Places.{outside_record}
+use Rattle.rpg_card_rules.specs.Indicators.{bad_on_card, bad_on_type}
+use Rattle.rpg_card_rules.specs.Names.{bad_size_of_field}
+use Rattle.rpg_card_rules.specs.Places.{outside_record}
 use Rattle.rpg_program.specs.Kept.{IsTypeRow}
 use Rattle.rpg_program.specs.Object.{Object}
 use Rattle.rpg_rules.specs.TypeRules.{is_input_in, is_input_shown, type_breaks}

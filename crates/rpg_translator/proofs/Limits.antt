@@ -13,9 +13,10 @@ use Rattle.rpg_translation.specs.Program.{length_of, KeepsLimits}
 use Rattle.rpg_translator.proofs.Counts.{few_types, few_lines, few_inputs, few_line_fields}
 use Rattle.rpg_translator.proofs.Totals.{all_fields_within, all_storage_within}
 use Rattle.rpg_faults.proofs.LeastLemmas.{rule-faultless, source_rule-faultless}
-use Rattle.rpg_faults.specs.Faults.{rule, source_rule, Faultless}
-use Rattle.rpg_faults.specs.Files.{bad_file, bad_for}
-use Rattle.rpg_faults.specs.declared.fault.FaultCode.TheVariants.{F7}
+use Rattle.rpg_faults.specs.Faults.{Faultless}
+use Rattle.rpg_card_rules.specs.Rules.{rule, source_rule}
+use Rattle.rpg_card_rules.specs.Files.{bad_file, bad_for}
+use Rattle.rpg_card_rules.specs.declared.code.FaultCode.TheVariants.{F7}
 use Rattle.rpg_spec.specs.declared.file.Direction.{Direction}
 use Rattle.rpg_spec.specs.declared.file.Direction.TheVariants.{Input, Output}
 use Rattle.rpg_spec.specs.declared.file.FileSpec.{FileSpec}

@@ -18,7 +18,7 @@ use Rattle.rpg_translation.specs.Program.{constant_size}
 use Rattle.rpg_translator.proofs.Unpassed.{unpassed}
 use Rattle.rpg_translator.proofs.Walks.{all_within}
 use Rattle.rpg_faults.specs.Faults.{Faultless}
-use Rattle.rpg_faults.specs.Limits.{bytes_up_to, constant_bytes, definition_bytes, fields_up_to, name_bytes, name_count}
+use Rattle.rpg_card_rules.specs.Limits.{bytes_up_to, constant_bytes, definition_bytes, fields_up_to, name_bytes, name_count}
 use Rattle.rpg_symbols.specs.Fields.{Fields, form_of, given, size_of, storage}
 
 -- ---- where every definition has a form, the names are those of the fields

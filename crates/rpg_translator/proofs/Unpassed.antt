@@ -4,9 +4,10 @@ use Rattle.std.proofs.lemmas.Bool.{or_parts}
 use Rattle.rpg_cards.specs.Groups.{group_count, input_role, open_followers, output_role}
 use Rattle.rpg_cards.specs.declared.spec_card.SpecCard.{SpecCard}
 use Rattle.rpg_faults.proofs.LeastLemmas.{rule-faultless}
-use Rattle.rpg_faults.specs.Faults.{rule, Faultless}
-use Rattle.rpg_faults.specs.Limits.{bytes_up_to, fields_up_to, name_bytes, name_count, passes, passes_limit}
-use Rattle.rpg_faults.specs.declared.fault.FaultCode.TheVariants.{F6}
+use Rattle.rpg_faults.specs.Faults.{Faultless}
+use Rattle.rpg_card_rules.specs.Rules.{rule}
+use Rattle.rpg_card_rules.specs.Limits.{bytes_up_to, fields_up_to, name_bytes, name_count, passes, passes_limit}
+use Rattle.rpg_card_rules.specs.declared.code.FaultCode.TheVariants.{F6}
 use Rattle.rpg_translation.proofs.Each.{Seen}
 
 -- each limit that a program has

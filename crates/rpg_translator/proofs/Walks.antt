@@ -8,7 +8,7 @@ use Rattle.std.specs.Prelude.{All}
 use Rattle.rpg_cards.proofs.GroupLemmas.{closing, groups_on, groups_on-card, open_group-push}
 use Rattle.rpg_cards.specs.Groups.{Apart, Follower, Group, Heading, Role, groups, open_followers, open_group, with_card, with_followers}
 use Rattle.rpg_cards.specs.declared.spec_card.SpecCard.{SpecCard}
-use Rattle.rpg_faults.specs.Limits.{passes}
+use Rattle.rpg_card_rules.specs.Limits.{passes}
 use Rattle.rpg_spec.specs.declared.spec.Spec.{Spec}
 use Rattle.rpg_translation.proofs.Each.{Seen, front_keeps}
 

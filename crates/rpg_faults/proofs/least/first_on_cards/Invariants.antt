@@ -1,6 +1,6 @@
 use Rattle.std.proofs.Common.{◌≡◌, ◌++◌, [], length}
 use Rattle.rpg_faults.specs.Faults.{fault_from}
-use Rattle.rpg_faults.specs.Seen.{IsSeen}
+use Rattle.rpg_card_rules.specs.Seen.{IsSeen}
 use Rattle.rpg_faults.proofs.least.first_on_cards.Given as goal
 
 abbrev pub invariant-loop-card : goal.invariant-loop-card

@@ -1,0 +1,2 @@
+pub mod SeenLemmas
+pub mod TotalLemmas
