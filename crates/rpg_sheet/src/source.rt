@@ -1,4 +1,4 @@
-//! From the bytes of a source to its cards.
+//! From the bytes of a source to what its cards stand for.
 
 ghost use Rattle.std.specs.Prelude.{◌≡◌, ℕ, ◌<◌, ◌||◌, None, Some, map, nat_lt, OnOk, IfOk, IfErr};
 ghost use Rattle.rpg_sheet.specs.Seen as seen;
