@@ -2,10 +2,8 @@
 
 use crate::line::Line;
 use crate::printed::unescaped;
-use rpg_sheet::{
-    Card, Cards, ColumnFault, Factor, FormType, InputSpec, Literal, NumericLiteral, OutputSpec,
-    cards,
-};
+use rpg_sheet::{Card, Factor, InputSpec, Literal, NumericLiteral, OutputSpec, cards};
+use rpg_text::has_only_characters;
 use std::alloc::Global;
 
 const MOVE: &str = "     C                     MOVE           RESULT";
@@ -26,10 +24,10 @@ pub fn is_told<'a>(
             *card = line.text()?;
             Some(true)
         }
-        "with" => tells_column(alloc, card, line),
-        "literal" => tells_literal(alloc, line),
-        "constant" => tells_constant(alloc, line),
-        "indicator" => tells_indicator(alloc, line),
+        "with" => tells_column(card, line),
+        "literal" => tells_literal(line),
+        "constant" => tells_constant(line),
+        "indicator" => tells_indicator(line),
         "cards" => tells_count(alloc, line),
         _ => None,
     }
@@ -43,59 +41,48 @@ fn put(line: &mut [u8], column: usize, text: &str) {
     }
 }
 
-/// A card with this text from a column on, as its only source.
-///
-/// It begins with `/*`, and may so have any characters in its columns from 4 on, also such as no sheet allows.
-fn source_with(alloc: Global, card: &str, column: u8, text: &str) -> Option<Cards> {
+/// A card with this text from a column on: nothing where a byte is no character.
+fn card_with(card: &str, column: u8, text: &str) -> Option<Card> {
     let mut line = [b' '; 80];
     put(&mut line, 1, card);
     put(&mut line, usize::from(column), text);
-    put(&mut line, 1, "/* ");
-    cards(alloc, &line).ok()
-}
-
-/// The column that is named, or 0 where the card is read.
-fn bad_column<T: Drop>(read: Result<T, ColumnFault>) -> u8 {
-    match read {
-        Ok(_) => 0,
-        Err(fault) => fault.column,
+    if has_only_characters(&line) {
+        Some(Card::new(&line))
+    } else {
+        None
     }
 }
 
-fn bad_column_of(card: &Card) -> Option<u8> {
-    Some(match card.form_type()? {
-        FormType::Header => bad_column(card.h()),
-        FormType::File => bad_column(card.f()),
-        FormType::Input => bad_column(card.i()),
-        FormType::Calculation => bad_column(card.c()),
-        FormType::Output => bad_column(card.o()),
+/// The first column of the card's least bad value, or 0 where there is none.
+fn bad_column(card: &Card) -> Option<u8> {
+    Some(match card.read(card.form_type()?) {
+        Ok(_) => 0,
+        Err(fault) => fault.column,
     })
 }
 
 /// `with 24 " 8 0" = 24` or `with 75 "ANY" = read`: the first bad column once the text stands there.
-fn tells_column(alloc: Global, card: &str, mut line: Line<'_>) -> Option<bool> {
+fn tells_column(card: &str, mut line: Line<'_>) -> Option<bool> {
     let (column, text) = (line.count()?, line.text()?);
     let wanted = match line.answer()? {
         "read" => 0,
         column => column.parse().ok()?,
     };
-    let source = source_with(alloc, card, column, text)?;
-    Some(bad_column_of(source.as_slice().first()?)? == wanted)
+    Some(bad_column(&card_with(card, column, text)?)? == wanted)
 }
 
 /// The literal in columns 33 to 42 of a C card.
-fn literal(alloc: Global, text: &str) -> Option<Literal> {
-    let source = source_with(alloc, MOVE, 33, text)?;
-    match source.as_slice().first()?.c().ok()?.factor_2? {
+fn literal(text: &str) -> Option<Literal> {
+    match card_with(MOVE, 33, text)?.c().ok()?.factor_2? {
         Factor::Literal(literal) => Some(literal),
         Factor::Name(_) => None,
     }
 }
 
 /// `literal "1.25" = 125 3.2` or `literal "'A'" = "A"`
-fn tells_literal(alloc: Global, mut line: Line<'_>) -> Option<bool> {
+fn tells_literal(mut line: Line<'_>) -> Option<bool> {
     let text = line.text()?;
-    match literal(alloc, text)? {
+    match literal(text)? {
         Literal::Number(number) => is_number(number, line.answer()?),
         Literal::Text(word) => Some(word.as_slice() == line.answer_text()?.as_bytes()),
     }
@@ -113,10 +100,10 @@ fn is_number(number: NumericLiteral, answer: &str) -> Option<bool> {
 }
 
 /// `constant "'LIST'" = "LIST"` or `constant "" = ""`, in columns 45 to 70 of an O card that ends in column 4 and names no field.
-fn tells_constant(alloc: Global, mut line: Line<'_>) -> Option<bool> {
-    let source = source_with(alloc, CONSTANT, 45, line.text()?)?;
+fn tells_constant(mut line: Line<'_>) -> Option<bool> {
+    let card = card_with(CONSTANT, 45, line.text()?)?;
     let wanted = line.answer_text()?.as_bytes();
-    let OutputSpec::Field(field) = source.as_slice().first()?.o().ok()? else {
+    let OutputSpec::Field(field) = card.o().ok()? else {
         return Some(false);
     };
     let is_constant = match &field.constant {
@@ -127,9 +114,9 @@ fn tells_constant(alloc: Global, mut line: Line<'_>) -> Option<bool> {
 }
 
 /// `indicator "L0" = 100`, in columns 19 and 20 of an I card.
-fn tells_indicator(alloc: Global, mut line: Line<'_>) -> Option<bool> {
-    let source = source_with(alloc, TYPE, 19, line.text()?)?;
-    let InputSpec::Type(record) = source.as_slice().first()?.i().ok()? else {
+fn tells_indicator(mut line: Line<'_>) -> Option<bool> {
+    let card = card_with(TYPE, 19, line.text()?)?;
+    let InputSpec::Type(record) = card.i().ok()? else {
         return Some(false);
     };
     let wanted: u8 = line.answer()?.parse().ok()?;
@@ -140,6 +127,5 @@ fn tells_indicator(alloc: Global, mut line: Line<'_>) -> Option<bool> {
 fn tells_count(alloc: Global, mut line: Line<'_>) -> Option<bool> {
     let text = unescaped(alloc, line.text()?).ok()?;
     let wanted: usize = line.answer()?.parse().ok()?;
-    let source = cards(alloc, &text).ok()?;
-    Some(source.as_slice().len() == wanted)
+    Some(cards(alloc, &text).ok()?.into_vec().len() == wanted)
 }

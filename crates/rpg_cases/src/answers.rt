@@ -70,8 +70,16 @@ const OF_FILES: [Answer; 6] = [
 
 /// Refusals, as an error prints them.
 const REFUSALS: [CompileFault; 3] = [
-    CompileFault::At { card: 5, code: S1 },
-    CompileFault::At { card: 5, code: F16 },
+    CompileFault::At {
+        card: 5,
+        code: S1,
+        column: None,
+    },
+    CompileFault::At {
+        card: 5,
+        code: F16,
+        column: None,
+    },
     CompileFault::NoMemory,
 ];
 

@@ -29,7 +29,7 @@ answer_to_fault (faults.Disk sent) = answer.OutputFailed
 answer_to_fault faults.NoMemory = answer.NoMemory
 
 abbrev pub answer_to_source_fault : CompileFault → Answer
-answer_to_source_fault (source.At card code) = answer.Source card code
+answer_to_source_fault (source.At card code column) = answer.Source card code
 answer_to_source_fault source.NoMemory = answer.NoMemory
 
 abbrev pub answer_to_object_fault : ObjectFault → Answer

@@ -121,7 +121,7 @@ impl From<CompileFault> for Answer {
 
     fn from(fault: CompileFault) -> Answer {
         match fault {
-            CompileFault::At { card, code } => Answer::Source { card, code },
+            CompileFault::At { card, code, .. } => Answer::Source { card, code },
             CompileFault::NoMemory => Answer::NoMemory,
         }
     }

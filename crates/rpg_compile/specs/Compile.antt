@@ -27,11 +27,11 @@ pub record Compiles (text : List ℕ) (allowance : ℕ) (p : Object) : Type 0 wh
 
 -- a fault of the sheets, as it is answered
 abbrev pub of_sheet : SheetFault → CompileFault
-of_sheet (sheet.At card code) = At card (Sheet code)
+of_sheet (sheet.At card code column) = At card (Sheet code) column
 of_sheet sheet.NoMemory = NoMemory
 
 -- what a refusal says: the least fault of the sheets, where there is none the least of the others, and nothing where memory was wanted
 abbrev pub IsRefusal : CompileFault → List ℕ → Type 0
-IsRefusal (At card (Sheet code)) text = first_fault (source text) ≡ Some (sheet.At card code)
-IsRefusal (At card (Fault code)) text = (first_fault (source text) ≡ None) × IsLeastFault (cards_in text) (record { card = card; code = code })
+IsRefusal (At card (Sheet code) column) text = first_fault (source text) ≡ Some (sheet.At card code column)
+IsRefusal (At card (Fault code) column) text = (first_fault (source text) ≡ None) × IsLeastFault (cards_in text) (record { card = card; code = code }) × (column ≡ None)
 IsRefusal NoMemory text = Unit {0}

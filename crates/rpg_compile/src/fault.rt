@@ -35,9 +35,13 @@ impl SourceCode {
 /// Why a source has no program.
 #[derive(Clone, Copy, Debug, PartialEq, Eq, Error)]
 pub enum CompileFault {
-    /// Cards are numbered from 1. Card 0 is the source as a whole.
+    /// Cards are numbered from 1. Card 0 is the source as a whole. The column is the first one of the least bad value, with S5 alone.
     #[error("card {card}: {code}")]
-    At { card: u16, code: SourceCode },
+    At {
+        card: u16,
+        code: SourceCode,
+        column: Option<u8>,
+    },
     #[error("no memory")]
     NoMemory,
 }
@@ -49,9 +53,10 @@ impl From<SheetFault> for CompileFault {
 
     fn from(fault: SheetFault) -> Self {
         match fault {
-            SheetFault::At { card, code } => CompileFault::At {
+            SheetFault::At { card, code, column } => CompileFault::At {
                 card,
                 code: SourceCode::Sheet(code),
+                column,
             },
             SheetFault::NoMemory => CompileFault::NoMemory,
         }

@@ -17,11 +17,12 @@ pub fn compile(alloc: Global, text: &[u8], allowance: u16) -> Result<Program, Co
     ensures err { IfErr result (λ fault. compiling.IsRefusal fault text.now) }
 {
     let cards = rpg_sheet::cards(alloc, text)?;
-    let cards = spec_cards(alloc, &cards)?;
+    let cards = spec_cards(alloc, cards)?;
     match first_fault(alloc, &cards)? {
         Some(fault) => Err(CompileFault::At {
             card: fault.card,
             code: SourceCode::Fault(fault.code),
+            column: None,
         }),
         None => Ok(translate(alloc, &cards, allowance)?),
     }

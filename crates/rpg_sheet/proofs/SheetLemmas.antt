@@ -12,8 +12,8 @@ use Rattle.rpg_sheet.specs.declared.sheet.SheetCode.TheVariants.{S1, S2, S3, S4,
 use Rattle.rpg_sheet.specs.declared.sheet.SheetFault.TheVariants.{At}
 use Rattle.rpg_text.specs.Texts.{is_character}
 use Rattle.rpg_spec.specs.Cards.{card_of, ends_source, is_sheet, form_type, place_of}
-use Rattle.rpg_readers.specs.Readable.{has_bad_column, is_readable}
-use Rattle.rpg_sheet.specs.Sheet.{comes_after, code_of, fault_behind, source}
+use Rattle.rpg_readers.specs.Readable.{has_bad_column}
+use Rattle.rpg_sheet.specs.Sheet.{comes_after, code_of, column_of, fault_behind, source}
 use Rattle.rpg_sheet.specs.Seen.{IsSeen, form_code, sheet_code, code_seen}
 
 -- which of six tests is the first that passes
@@ -81,22 +81,6 @@ few_seen count latest line h = by (nat_lt 80 (length line)) (not (list_all is_ch
     by false false (Some c) e = absurd cc
     by false false None e = grind (arith, common_steps)
 
-pub readable_seen : (count latest : ℕ) (line : List ℕ) → code_seen count latest line ≡ None → is_readable (card_of line) ≡ true
-readable_seen count latest line h = by (nat_lt 80 (length line)) (not (list_all is_character line)) (is_sheet (card_of line)) (form_type (card_of line)) h
-  where
-    by : (a b s : Bool) (f : Option FormType) → (if a then Some S1 else if b then Some S2 else option_or (if s then form_code latest (card_of line) f else None) (if nat_le 2000 count then Some S6 else None)) ≡ None
-        → option_map_or (λ g. not (has_bad_column g (card_of line))) (on_sheet s f) true ≡ true
-    by true b s f e = absurd cc
-    by false true s f e = absurd cc
-    by false false false f e = refl
-    by false false true None e = absurd cc
-    by false false true (Some g) e = two (nat_lt (place_of g) latest) (has_bad_column g (card_of line)) e
-      where
-        two : (l w : Bool) → option_or (if l then Some S4 else if w then Some S5 else None) (if nat_le 2000 count then Some S6 else None) ≡ None → not w ≡ true
-        two true w e = absurd cc
-        two false true e = absurd cc
-        two false false e = refl
-
 -- ---- a line more
 
 pub source_ends : (text line behind : List ℕ) → lines text ≡ line ∷ lines behind → ends_source (card_of line) ≡ true → source text ≡ line ∷ []
@@ -119,7 +103,8 @@ fault_behind-good earlier more count latest line seen good = rw (sym (code_is_se
 
 -- a line with one
 pub fault_behind-bad : (earlier : List (List ℕ)) (text behind : List ℕ) (count latest : ℕ) (line : List ℕ) (code : SheetCode) → lines text ≡ line ∷ lines behind
-    → IsSeen earlier count latest → code_seen count latest line ≡ Some code → fault_behind earlier (source text) ≡ Some (At (count + 1) code)
+    → IsSeen earlier count latest → code_seen count latest line ≡ Some code
+    → fault_behind earlier (source text) ≡ Some (At (count + 1) code (column_of (card_of line) code))
 fault_behind-bad earlier text behind count latest line code cut seen bad =
     let first = source_begins text line behind cut in
     rw (first.1, sym (code_is_seen earlier count latest line seen) ∙ bad, seen.count_is) refl

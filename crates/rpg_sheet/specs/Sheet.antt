@@ -1,5 +1,5 @@
 -- The lines of a source that are cards, and what is wrong with them.
-use Rattle.std.specs.Prelude.{◌≡◌, ℕ, ◌+◌, List, [], ◌∷◌, ◌++◌, length, Bool, false, Option, None, Some, if◌then◌else◌, ◌&&◌, not, nat_le, nat_lt, find}
+use Rattle.std.specs.Prelude.{◌≡◌, ℕ, ◌+◌, List, [], ◌∷◌, ◌++◌, length, Bool, false, Option, None, Some, option_and_then, if◌then◌else◌, ◌&&◌, not, nat_le, nat_lt, find}
 use Rattle.std.specs.List.{list_all, list_any}
 use Rattle.std.specs.Option.{is_none, option_map, option_map_or, option_or}
 use Rattle.std.specs.Str.Lines.{lines}
@@ -8,7 +8,7 @@ use Rattle.rpg_sheet.specs.declared.sheet.SheetCode.TheVariants.{S1, S2, S3, S4,
 use Rattle.rpg_sheet.specs.declared.sheet.SheetFault.{SheetFault}
 use Rattle.rpg_sheet.specs.declared.sheet.SheetFault.TheVariants.{At, NoMemory}
 use Rattle.rpg_spec.specs.Cards.{card_of, ends_source, is_sheet, form_type, sheet_of, place_of}
-use Rattle.rpg_readers.specs.Readable.{has_bad_column}
+use Rattle.rpg_readers.specs.Readable.{has_bad_column, bad_column}
 use Rattle.rpg_text.specs.Texts.{is_character}
 
 -- the items up to the first that passes, and this one
@@ -38,10 +38,22 @@ has earlier line S6 = nat_le 2000 (length earlier)
 abbrev pub code_of : List (List ℕ) → List ℕ → Option SheetCode
 code_of earlier line = find (has earlier line) (S1 ∷ S2 ∷ S3 ∷ S4 ∷ S5 ∷ S6 ∷ [])
 
+-- with S5 the first column of a card's least bad value
+abbrev pub column_of : List ℕ → SheetCode → Option ℕ
+column_of card S1 = None
+column_of card S2 = None
+column_of card S3 = None
+column_of card S4 = None
+column_of card S5 = option_and_then (λ f. bad_column f card) (sheet_of card)
+column_of card S6 = None
+
+abbrev pub fault_under : List (List ℕ) → List ℕ → SheetCode → SheetFault
+fault_under earlier line code = At (length earlier + 1) code (column_of (card_of line) code)
+
 -- the first line with a fault, of lines that come behind others
 abbrev pub fault_behind : List (List ℕ) → List (List ℕ) → Option SheetFault
 fault_behind earlier [] = None
-fault_behind earlier (line ∷ more) = option_or (option_map (At (length earlier + 1)) (code_of earlier line)) (fault_behind (earlier ++ line ∷ []) more)
+fault_behind earlier (line ∷ more) = option_or (option_map (fault_under earlier line) (code_of earlier line)) (fault_behind (earlier ++ line ∷ []) more)
 
 abbrev pub first_fault : List (List ℕ) → Option SheetFault
 first_fault all = fault_behind [] all
@@ -49,4 +61,4 @@ first_fault all = fault_behind [] all
 -- what a refusal says of a source: nothing where memory was wanted
 abbrev pub IsRefusal : SheetFault → List ℕ → Type 0
 IsRefusal NoMemory text = Unit {0}
-IsRefusal (At card code) text = first_fault (source text) ≡ Some (At card code)
+IsRefusal (At card code column) text = first_fault (source text) ≡ Some (At card code column)

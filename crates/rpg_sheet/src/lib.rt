@@ -1,4 +1,4 @@
-//! From a source's bytes to its cards, or what is wrong with the first card that has a fault.
+//! From a source's bytes to what its cards stand for, or what is wrong with the first card that has a fault.
 #![tactic(auto)]
 
 mod sheet;

@@ -1,17 +1,18 @@
 //! The sheets of a source, and what can be wrong with its cards.
 
-ghost use Rattle.std.specs.Prelude.{◌≡◌, ◌≤◌, length, IsTrue, Some, vec_len};
-ghost use Rattle.rpg_readers.specs.Readable.{is_readable};
+ghost use Rattle.std.specs.Prelude.{◌≡◌, ◌≤◌, length, None, Some, vec_len, IfOk, IfErr};
 ghost use Rattle.rpg_spec.specs.Cards as cards;
-ghost use Rattle.std.specs.List.{list_all};
+ghost use Rattle.rpg_spec.specs.Specs.{spec_of};
 ghost use Rattle.rpg_sheet.specs.Codes as codes;
 ghost use Rattle.rpg_sheet.specs.Seen.{sheet_code};
+ghost use Rattle.rpg_sheet.specs.Sheet.{column_of};
+ghost use Rattle.rpg_sheet.specs.declared.sheet.SheetCode.TheVariants.{S5};
 ghost use Rattle.rpg_sheet.specs.declared.sheet.SheetFault.TheVariants.{NoMemory};
 
 use arrayvec::ArrayString;
 use itoa::Buffer;
 use rpg_readers::Card;
-use rpg_spec::FormType;
+use rpg_spec::{ColumnFault, FormType, Spec};
 use std::alloc::AllocFailed;
 use std::fmt;
 use std::marker::Model;
@@ -75,12 +76,42 @@ impl fmt::Display for SheetCode {
     }
 }
 
+/// What is wrong with a card, and with S5 in which column.
+#[derive(Clone, Copy)]
+pub(crate) struct CardFault {
+    pub code: SheetCode,
+    pub column: Option<u8>,
+}
+
+impl From<SheetCode> for CardFault {
+    ghost from_gives = { λ code fault. (fault.code ≡ code) × (fault.column ≡ None) };
+
+    fn from(code: SheetCode) -> Self {
+        CardFault { code, column: None }
+    }
+}
+
+impl From<ColumnFault> for CardFault {
+    ghost from_gives = { λ bad fault. (fault.code ≡ S5) × (fault.column ≡ Some bad.column) };
+
+    fn from(bad: ColumnFault) -> Self {
+        CardFault {
+            code: SheetCode::S5,
+            column: Some(bad.column),
+        }
+    }
+}
+
 /// Why a source has no cards.
 #[derive(Clone, Copy, Debug, PartialEq, Eq, Error)]
 pub enum SheetFault {
-    /// Cards are numbered from 1.
+    /// Cards are numbered from 1. The column is the first one of the least bad value, with S5 alone.
     #[error("card {card}: {code}")]
-    At { card: u16, code: SheetCode },
+    At {
+        card: u16,
+        code: SheetCode,
+        column: Option<u8>,
+    },
     #[error("no memory")]
     NoMemory,
 }
@@ -93,57 +124,52 @@ impl<T: Drop> From<AllocFailed<T>> for SheetFault {
     }
 }
 
-/// The cards of a source without faults: card n is the one at place n - 1.
+/// What the cards of a source without faults stand for: card n at place n - 1. A skipped card and the one that ends the source stand for nothing.
 #[derive(Drop)]
 pub struct Cards {
-    cards: Vec<Card>,
+    specs: Vec<Option<Spec>>,
 }
 
 impl Model for Cards {
-    ghost use Rattle.std.specs.Prelude.{ℕ, List, IsTrue, vec_len, ◌≤◌};
-    ghost use Rattle.std.specs.List.{list_all};
-    ghost use Rattle.rpg_readers.specs.Readable.{is_readable};
+    ghost use Rattle.std.specs.Prelude.{List, Option, vec_len, ◌≤◌};
+    ghost use Rattle.rpg_spec.specs.declared.spec.Spec.{Spec};
 
-    ghost Value = { List (List ℕ) };
+    ghost Value = { List (Option Spec) };
 
-    ghost view = { λ c. c.cards.items };
+    ghost view = { λ c. c.specs.items };
 
-    ghost invariant = { λ c. IsTrue (list_all is_readable c.cards.items) × (vec_len c.cards ≤ 2000) };
+    ghost invariant = { λ c. vec_len c.specs ≤ 2000 };
 }
 
 impl Cards {
-    pub(crate) fn new(cards: Vec<Card>) -> Self
-        requires readable { IsTrue (list_all is_readable cards.items) }
-        requires few { vec_len cards ≤ 2000 }
-        ensures { result ≡ cards.items }
+    pub(crate) fn new(specs: Vec<Option<Spec>>) -> Self
+        requires { vec_len specs ≤ 2000 }
+        ensures { result ≡ specs.items }
     {
-        Cards { cards }
+        Cards { specs }
     }
 
-    pub fn as_slice(&self) -> &[Card]
-        ensures value { result.now ≡ self.now }
-        ensures readable { IsTrue (list_all is_readable self.now) }
-        ensures few { length self.now ≤ 2000 }
+    pub fn into_vec(self) -> Vec<Option<Spec>>
+        ensures value { result.items ≡ self }
+        ensures few { vec_len result ≤ 2000 }
     {
-        self.cards.as_slice()
+        self.specs
     }
 }
 
-/// What is wrong with a card's form type and its columns, behind a sheet at place `latest`.
-pub(crate) fn code(card: &Card, latest: u8) -> Option<SheetCode>
-    ensures { result ≡ sheet_code latest card.now }
+/// What a card stands for behind a sheet at place `latest`, or what is wrong with its form type and its columns.
+pub(crate) fn read(card: &Card, latest: u8) -> Result<Option<Spec>, CardFault>
+    ensures ok { IfOk result (λ spec. (spec ≡ spec_of card.now) × (sheet_code latest card.now ≡ None)) }
+    ensures err { IfErr result (λ fault. (sheet_code latest card.now ≡ Some fault.code) × (fault.column ≡ column_of card.now fault.code)) }
 {
     if !card.is_sheet() {
-        return None;
+        return Ok(None);
     }
     let Some(sheet) = card.form_type() else {
-        return Some(SheetCode::S3);
+        return Err(SheetCode::S3.into());
     };
     if place(sheet) < latest {
-        Some(SheetCode::S4)
-    } else if card.has_bad_column(sheet) {
-        Some(SheetCode::S5)
-    } else {
-        None
+        return Err(SheetCode::S4.into());
     }
+    Ok(Some(card.read(sheet)?))
 }

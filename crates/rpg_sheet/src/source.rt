@@ -1,12 +1,14 @@
-//! From the bytes of a source to its cards.
+//! From the bytes of a source to what its cards stand for.
 
 ghost use Rattle.std.specs.Prelude.{◌≡◌, ℕ, ◌<◌, ◌||◌, None, Some, map, nat_lt, OnOk, IfOk, IfErr};
 ghost use Rattle.rpg_sheet.specs.Seen as seen;
 ghost use Rattle.rpg_sheet.specs.Sheet as sheets;
 ghost use Rattle.rpg_spec.specs.Cards.{card_of};
+ghost use Rattle.rpg_spec.specs.Specs.{spec_of};
 
-use crate::sheet::{Cards, SheetCode, SheetFault, code, place};
+use crate::sheet::{CardFault, Cards, SheetCode, SheetFault, place, read};
 use rpg_readers::Card;
+use rpg_spec::Spec;
 use rpg_text::{first_line, has_only_characters};
 use std::alloc::Global;
 
@@ -16,58 +18,59 @@ const COLUMNS: usize = 80;
 /// How many cards a source has at most.
 const CARDS: usize = 2000;
 
-/// The cards of a source, or the first card that has a fault, with its least code. Behind the card `/*` nothing is read.
+/// What the cards of a source stand for, or the first card that has a fault, with its least code. Behind the card `/*` nothing is read.
 /// `NoMemory` is answered where a growth was refused, in place of any fault behind it.
 pub fn cards(alloc: Global, text: &[u8]) -> Result<Cards, SheetFault>
-    ensures cards { IfOk result (λ cards. cards ≡ map card_of (sheets.source text.now)) }
+    ensures cards { IfOk result (λ cards. cards ≡ map spec_of (map card_of (sheets.source text.now))) }
     ensures faultless { OnOk result (sheets.first_fault (sheets.source text.now) ≡ None) }
     ensures fault { IfErr result (λ fault. sheets.IsRefusal fault text.now) }
 {
-    let mut cards = Vec::new(alloc);
+    let mut specs = Vec::new(alloc);
     let mut rest = text;
     let mut latest = 0;
     while !rest.is_empty() {
         let (line, behind) = first_line(rest);
-        let count = cards.len();
-        let card = match checked(count, latest, line) {
-            Ok(card) => card,
-            Err(code) => {
+        let count = specs.len();
+        let (card, spec) = match checked(count, latest, line) {
+            Ok(read) => read,
+            Err(CardFault { code, column }) => {
                 return Err(SheetFault::At {
                     card: count as u16 + 1,
                     code,
+                    column,
                 });
             }
         };
         latest = latest_after(latest, &card);
-        let ends = card.ends_source();
-        cards.push(card)?;
-        if ends {
-            return Ok(Cards::new(cards));
+        specs.push(spec)?;
+        if card.ends_source() {
+            return Ok(Cards::new(specs));
         }
         rest = behind;
     }
-    Ok(Cards::new(cards))
+    Ok(Cards::new(specs))
 }
 
-/// The card of a line that comes behind `count` others, or its least code.
-fn checked(count: usize, latest: u8, line: &[u8]) -> Result<Card, SheetCode>
-    ensures ok { IfOk result (λ card. (card ≡ card_of line.now) × (seen.code_seen count latest line.now ≡ None)) }
-    ensures err { IfErr result (λ code. seen.code_seen count latest line.now ≡ Some code) }
+/// The card of a line that comes behind `count` others and what it stands for, or what is wrong with it.
+fn checked(count: usize, latest: u8, line: &[u8]) -> Result<(Card, Option<Spec>), CardFault>
+    ensures card { IfOk result (λ read. read.0 ≡ card_of line.now) }
+    ensures spec { IfOk result (λ read. read.1 ≡ spec_of (card_of line.now)) }
+    ensures good { OnOk result (seen.code_seen count latest line.now ≡ None) }
+    ensures code { IfErr result (λ fault. seen.code_seen count latest line.now ≡ Some fault.code) }
+    ensures column { IfErr result (λ fault. fault.column ≡ sheets.column_of (card_of line.now) fault.code) }
 {
     if line.len() > COLUMNS {
-        return Err(SheetCode::S1);
+        return Err(SheetCode::S1.into());
     }
     if !has_only_characters(line) {
-        return Err(SheetCode::S2);
+        return Err(SheetCode::S2.into());
     }
     let card = Card::new(line);
-    if let Some(code) = code(&card, latest) {
-        return Err(code);
-    }
+    let spec = read(&card, latest)?;
     if count >= CARDS {
-        return Err(SheetCode::S6);
+        return Err(SheetCode::S6.into());
     }
-    Ok(card)
+    Ok((card, spec))
 }
 
 /// The place of the latest sheet, once this card is read too.

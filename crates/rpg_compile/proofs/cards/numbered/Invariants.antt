@@ -1,13 +1,14 @@
-use Rattle.std.proofs.Common.{◌≡◌, ◌≤◌, ◌+◌, ◌++◌, length}
-use Rattle.rpg_cards.specs.Cards as cards_of
+use Rattle.std.proofs.Common.{◌≡◌, ◌≤◌, ◌+◌, ◌++◌}
+use Rattle.std.specs.Vec.Iter.{into_iter_items, into_iter_len}
+use Rattle.rpg_compile.specs.Cards as specs_of
 use Rattle.rpg_compile.proofs.cards.numbered.Given as goal
 
 -- the cards that are done, and those left
-abbrev pub invariant-loop-card : goal.invariant-loop-card
-invariant-loop-card l = record {
-  made : l.known.items ++ cards_of.numbered_from l.number l.rest ≡ cards_of.spec_cards l.cards;
-  few : l.number + length l.rest ≤ 2001;
+abbrev pub invariant-loop-spec : goal.invariant-loop-spec
+invariant-loop-spec l = record {
+  made : l.known.items ++ specs_of.numbered l.number (into_iter_items l.rest) ≡ specs_of.numbered 1 l.fn.specs.items;
+  few : l.number + into_iter_len l.rest ≤ 2001;
 }
 
-abbrev pub decreases-loop-card : goal.decreases-loop-card
-decreases-loop-card l = length l.rest
+abbrev pub decreases-loop-spec : goal.decreases-loop-spec
+decreases-loop-spec l = into_iter_len l.rest

@@ -1,9 +1,7 @@
 use Rattle.std.proofs.Common.{◌≡◌, ℕ, ◌≤◌, ◌++◌, List, length, map, vec_len}
 use Rattle.rpg_spec.specs.Cards.{card_of}
-use Rattle.rpg_readers.specs.Readable.{is_readable}
+use Rattle.rpg_spec.specs.Specs.{spec_of}
 use Rattle.rpg_sheet.specs.Sheet.{source, first_fault, fault_behind}
-use Rattle.std.specs.Prelude.{IsTrue}
-use Rattle.std.specs.List.{list_all}
 use Rattle.rpg_sheet.specs.Seen.{IsSeen}
 use Rattle.rpg_sheet.proofs.source.cards.Given as goal
 
@@ -12,11 +10,10 @@ abbrev pub invariant-loop-rest : goal.invariant-loop-rest
 invariant-loop-rest l = record {
   done : List (List ℕ);
   cut : source l.text ≡ done ++ source l.rest;
-  made : l.cards.items ≡ map card_of done;
+  made : l.specs.items ≡ map spec_of (map card_of done);
   good : first_fault (source l.text) ≡ fault_behind done (source l.rest);
-  seen : IsSeen done (vec_len l.cards) l.latest;
-  readable : IsTrue (list_all is_readable l.cards.items);
-  few : vec_len l.cards ≤ 2000;
+  seen : IsSeen done (vec_len l.specs) l.latest;
+  few : vec_len l.specs ≤ 2000;
 }
 
 abbrev pub decreases-loop-rest : goal.decreases-loop-rest
