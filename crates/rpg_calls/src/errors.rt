@@ -2,7 +2,8 @@
 
 use crate::line::Line;
 use rpg_decimal::{BadDigit, ZeroDivisor};
-use rpg_edit::{EditFault, NoMemory};
+use rpg_edit::EditFault;
+use rpg_form::NoMemory;
 use rpg_symbols::DefineFault;
 use std::alloc::{AllocError, Global};
 use std::fmt::Display;

@@ -1,10 +1,10 @@
 -- The marks of edit codes: how many they are, and that they are written part by part.
 use Rattle.std.proofs.Common.{◌≡◌, ℕ, zero, suc, ◌+◌, ◌-◌, ◌/◌, ◌%◌, ◌<◌, ◌≤◌, Bool, true, false, ◌&&◌, ltb, eqb, List, [], ◌∷◌, ◌++◌, length, refl, arith, length-append, add-one, replicate, ◌∙◌}
 use Rattle.std.proofs.lemmas.Bool.Decides.{nat_tests}
-use Rattle.rpg_edit.specs.declared.mark.Mark.{Mark}
-use Rattle.rpg_edit.specs.declared.mark.Mark.TheVariants.{Digit, Insert}
+use Rattle.rpg_marks.specs.declared.mark.Mark.{Mark}
+use Rattle.rpg_marks.specs.declared.mark.Mark.TheVariants.{Digit, Insert}
 use Rattle.rpg_edit.specs.declared.suppression.Pass.{Pass}
-use Rattle.rpg_edit.specs.Code.{comma_marks, whole_marks, decimal_marks}
+use Rattle.rpg_marks.specs.Code.{comma_marks, whole_marks, decimal_marks}
 use Rattle.rpg_edit.specs.Written.{Writes}
 use Rattle.rpg_edit.proofs.Written.{writes-more}
 use Rattle.std.specs.Bool.{if◌then◌else◌}
