@@ -5,8 +5,9 @@ ghost use Rattle.rpg_marks.specs.How.{edited, width_of, IsFit};
 ghost use Rattle.rpg_marks.specs.Word.{IsWordFor};
 
 use crate::line::{Line, Size};
-use rpg_edit::{EditWord, How, edit, width};
+use rpg_edit::edit;
 use rpg_marks::{EditCode, Fill};
+use rpg_widths::{EditWord, How, width};
 
 /// Whether a line of this call tells the call's answer, where the line can be read.
 pub fn is_told(call: &str, line: Line<'_>) -> Option<bool> {

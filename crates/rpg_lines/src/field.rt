@@ -14,12 +14,13 @@ ghost use Rattle.rpg_program.specs.Object.{seen};
 
 use crate::reading::word_at;
 use rpg_columns::forms::{form_at, kind_of};
-use rpg_edit::{EditWord, How, edit_at_end};
+use rpg_edit::edit_at_end;
 use rpg_effect::form::{FieldForm, Kind};
 use rpg_effect::line::{Editing, LineField, Source};
 use rpg_marks::Fill;
 use rpg_program::row::Rows;
 use rpg_store::store::Store;
+use rpg_widths::{EditWord, How};
 
 /// How a number field is edited.
 #[tactic(auto, using(crate::proofs::Fields::fitting))]

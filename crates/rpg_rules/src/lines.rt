@@ -24,12 +24,12 @@ use rpg_columns::columns::{has_entry, is_one_entry};
 use rpg_columns::forms::{
     decimals_of, form_at, is_index_form, kind_of, length_of, may_write, same_kind,
 };
-use rpg_edit::{How, width};
 use rpg_effect::condition::Condition;
 use rpg_effect::form::{FieldForm, Kind};
 use rpg_effect::line::{Editing, File, LineField, Source, Spacing};
 use rpg_marks::{EditCode, Fill};
 use rpg_program::row::{Line, Rows};
+use rpg_widths::{How, width};
 
 /// The first line that breaks a rule.
 #[tactic(auto, using(crate::proofs::Lists::position_seen), unfolding(crate::specs::Rules::broken))]
