@@ -1,5 +1,5 @@
 -- What becomes of two numbers.
-use Rattle.rpg_decimal.specs.Fraction.{Fraction, plus, minus, times}
+use Rattle.rpg_numbers.specs.Fraction.{Fraction, plus, minus, times}
 use Rattle.rpg_calls.specs.declared.decimal.Operation.{Operation}
 use Rattle.rpg_calls.specs.declared.decimal.Operation.TheVariants.{Add, Sub, Mult}
 

@@ -2,11 +2,11 @@
 ghost use Rattle.std.specs.Prelude.{◌≡◌, ◌↔◌, ◌<◌, ◌≤◌, ◌^◌, pos, length, unsigned_abs, false, IfOk, IfErr, Err};
 ghost use Rattle.std.specs.Bool.{OnTrue};
 ghost use Rattle.std.specs.Result.{result_ok};
-ghost use Rattle.rpg_decimal.specs.Fraction.{aligned_number, fraction_cmp, over, rest_decimals, rest_of, stored_number};
+ghost use Rattle.rpg_numbers.specs.Fraction.{aligned_number, fraction_cmp, over, rest_decimals, rest_of, stored_number};
 ghost use Rattle.rpg_decimal.specs.Num.{value_of};
-ghost use Rattle.rpg_decimal.specs.Order.{text_cmp};
-ghost use Rattle.rpg_decimal.specs.Whole as whole;
-ghost use Rattle.rpg_decimal.specs.Zoned.{number_in, zoned_text, IsFirstBad};
+ghost use Rattle.rpg_numbers.specs.Order.{text_cmp};
+ghost use Rattle.rpg_numbers.specs.Whole as whole;
+ghost use Rattle.rpg_numbers.specs.Zoned.{number_in, zoned_text, IsFirstBad};
 ghost use Rattle.rpg_calls.specs.Operations.{result_of};
 
 use crate::line::Line;

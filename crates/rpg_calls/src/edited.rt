@@ -1,11 +1,13 @@
 //! Lines of edited numbers.
 ghost use Rattle.std.specs.Prelude.{◌≡◌, ◌↔◌, ◌≤◌, ◌<◌, ◌^◌, length, unsigned_abs, IsTrue, IfSome};
 ghost use Rattle.std.specs.Bool.{OnTrue};
-ghost use Rattle.rpg_edit.specs.How.{edited, width_of, IsFit};
-ghost use Rattle.rpg_edit.specs.Word.{IsWordFor};
+ghost use Rattle.rpg_marks.specs.How.{edited, width_of, IsFit};
+ghost use Rattle.rpg_marks.specs.Word.{IsWordFor};
 
 use crate::line::{Line, Size};
-use rpg_edit::{EditCode, EditWord, Fill, How, edit, width};
+use rpg_edit::edit;
+use rpg_marks::{EditCode, Fill};
+use rpg_widths::{EditWord, How, width};
 
 /// Whether a line of this call tells the call's answer, where the line can be read.
 pub fn is_told(call: &str, line: Line<'_>) -> Option<bool> {

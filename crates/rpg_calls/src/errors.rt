@@ -2,8 +2,9 @@
 
 use crate::line::Line;
 use rpg_decimal::{BadDigit, ZeroDivisor};
-use rpg_edit::{EditFault, NoMemory};
+use rpg_form::NoMemory;
 use rpg_symbols::DefineFault;
+use rpg_widths::EditFault;
 use std::alloc::{AllocError, Global};
 use std::fmt::Display;
 

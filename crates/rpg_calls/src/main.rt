@@ -14,7 +14,7 @@ mod number;
 mod printed;
 
 use line::Line;
-use rpg_edit::Form;
+use rpg_form::Form;
 use rpg_symbols::Symbols;
 use std::alloc::{AllocError, Global};
 use std::{env, fs, io};

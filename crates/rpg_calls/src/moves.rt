@@ -2,7 +2,7 @@
 ghost use Rattle.std.specs.Prelude.{◌≡◌, ◌≤◌, length, IfErr};
 ghost use Rattle.std.specs.Bool.{OnTrue};
 ghost use Rattle.std.specs.Result.{result_ok};
-ghost use Rattle.rpg_decimal.specs.Move.{overlay_left, overlay_right};
+ghost use Rattle.rpg_numbers.specs.Move.{overlay_left, overlay_right};
 ghost use Rattle.rpg_decimal.specs.Source.{moved_left, moved_right, text_of, IsFirstBadLeft, IsFirstBadRight};
 
 use crate::decimal::{is_same_number, number_or_bad_digit};

@@ -1,11 +1,11 @@
 //! Lines of a printed form, each behind those before it.
 ghost use Rattle.std.specs.Prelude.{◌≡◌, ◌++◌, ◌<◌, ◌≤◌, IfOk, OnOk};
 ghost use Rattle.std.specs.Bool.{OnTrue};
-ghost use Rattle.rpg_edit.specs.Form.{after_line, after_skip, after_space, here_of, way_of};
-ghost use Rattle.rpg_edit.specs.Paper.{trimmed, turns_overflow_on};
+ghost use Rattle.rpg_form.specs.Form.{after_line, after_skip, after_space, here_of, way_of};
+ghost use Rattle.rpg_form.specs.Paper.{trimmed, turns_overflow_on};
 
 use crate::line::Line;
-use rpg_edit::Form;
+use rpg_form::Form;
 use std::alloc::{AllocError, Global};
 
 /// Whether a line of this call tells the call's answer, where the line can be read. `new_form` begins a form.

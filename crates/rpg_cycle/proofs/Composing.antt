@@ -1,8 +1,8 @@
 -- Phases done one after another.
 use Rattle.std.proofs.Common.{Result, Ok, Err, IfOk, ◌≡◌, ℕ, Bool, true, false, [], ◌++◌, List, Option, refl, sym, ap, ◌∙◌, subst, append_assoc, append-nil}
 use Rattle.std.specs.Result.{IsErrAnd}
-use Rattle.rpg_edit.proofs.Papers.{bytes_from-append}
-use Rattle.rpg_edit.specs.Paper.{Placed, Position, bytes_from, end_from}
+use Rattle.rpg_form.proofs.Papers.{bytes_from-append}
+use Rattle.rpg_form.specs.Paper.{Placed, Position, bytes_from, end_from}
 use Rattle.rpg_effect.proofs.Putting.{disk-append, end_from-lines}
 use Rattle.rpg_effect.specs.Put.{Bytes, disk_bytes, line_of, with_output}
 use Rattle.rpg_cycle.specs.Doing.{Does, DoesBehind, Passes, under_way}

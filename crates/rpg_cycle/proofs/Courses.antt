@@ -2,7 +2,7 @@
 use Rattle.std.proofs.Common.{◌≡◌, ℕ, ◌+◌, max, ◌<◌, ◌≤◌, List, [], ◌∷◌, ◌++◌, Option, None, Some, length, get_or, drop, refl, sym, ap, ◌∙◌, subst, append_assoc, append-nil, arith}
 use Rattle.std.proofs.lemmas.List.{drop_more}
 use Rattle.std.specs.Global.{Vec}
-use Rattle.rpg_edit.specs.Paper.{Placed, Position, end_from, paper}
+use Rattle.rpg_form.specs.Paper.{Placed, Position, end_from, paper}
 use Rattle.rpg_effect.proofs.Putting.{end_from-lines}
 use Rattle.rpg_effect.specs.Put.{Bytes, line_of, with_output}
 use Rattle.rpg_cycle.proofs.Composing.{output_both, output_none}

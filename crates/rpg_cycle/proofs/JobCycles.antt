@@ -1,6 +1,6 @@
 -- What a machine's cycle means for the job.
 use Rattle.std.proofs.Common.{◌≡◌, ℕ, List, [], Option, None, Some, refl, sym, ap, ◌∙◌, subst, append-nil}
-use Rattle.rpg_edit.specs.Paper.{Position, end_from}
+use Rattle.rpg_form.specs.Paper.{Position, end_from}
 use Rattle.rpg_effect.specs.Put.{Bytes, line_of, with_output}
 use Rattle.rpg_cycle.specs.Doing.{Does, under_way}
 use Rattle.rpg_records.specs.Earlier.{Left, Selected, left_by, with_record}

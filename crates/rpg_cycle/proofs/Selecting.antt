@@ -2,7 +2,7 @@
 use Rattle.std.proofs.Common.{◌≡◌, ℕ, ◌≤◌, ◌+◌, ◌*◌, suc, Bool, true, false, cond, ◌&&◌, List, [], ◌∷◌, length, slice_get, All, Option, None, Some, refl, sym, ap, ◌∙◌, subst, take, arith}
 use Rattle.std.proofs.lemmas.Bool.Decides.{nat_tests}
 use Rattle.std.specs.List.{list_all}
-use Rattle.rpg_edit.specs.Paper.{Position}
+use Rattle.rpg_form.specs.Paper.{Position}
 use Rattle.rpg_effect.specs.Weights.{types_weight}
 use Rattle.rpg_effect.specs.declared.input.ControlField.{ControlField}
 use Rattle.rpg_cycle.proofs.Composing.{quietly}

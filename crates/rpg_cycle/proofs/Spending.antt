@@ -2,7 +2,7 @@
 use Rattle.std.proofs.Common.{◌≡◌, ℕ, ◌≤◌, ◌<◌, ◌+◌, ◌-◌, ◌*◌, ◌^◌, suc, Bool, true, false, cond, ◌&&◌, not, leb, List, [], ◌∷◌, length, slice_get, slice_index, Option, None, Some, is_some, refl, ap, ◌∙◌, arith}
 use Rattle.std.proofs.lemmas.Bool.Decides.{nat_tests}
 use Rattle.std.specs.List.{list_all}
-use Rattle.rpg_edit.specs.Paper.{Position}
+use Rattle.rpg_form.specs.Paper.{Position}
 use Rattle.rpg_effect.specs.Ends as effects
 use Rattle.rpg_effect.specs.Input.{TypeRow}
 use Rattle.rpg_effect.specs.Lines as lines

@@ -1,6 +1,6 @@
 -- That a machine did a phase, in the words of its calls.
 use Rattle.std.specs.Prelude.{◌≡◌, Option}
-use Rattle.rpg_edit.specs.Paper.{Position, end_from}
+use Rattle.rpg_form.specs.Paper.{Position, end_from}
 use Rattle.rpg_effect.specs.Put.{line_of, with_output}
 use Rattle.rpg_records.specs.Earlier.{Selected}
 use Rattle.rpg_cycle.specs.Ends.{End}

@@ -1,7 +1,7 @@
 -- What a job is to its callers. Of the lines before it remembers only which was placed last, as the machine does.
 use Rattle.std.specs.Prelude.{◌≡◌, ℕ, ℤ, ◌++◌, ◌≤◌, Bool, true, false, ◌&&◌, List, [], Option, None, Some, length}
 use Rattle.std.specs.Ordering.{nat_cmp}
-use Rattle.rpg_edit.specs.Paper.{Position, end_from}
+use Rattle.rpg_form.specs.Paper.{Position, end_from}
 use Rattle.rpg_effect.specs.Put.{Bytes, line_of, with_output}
 use Rattle.rpg_effect.specs.World.{Fields}
 use Rattle.rpg_records.specs.Earlier.{Left, Selected, left_by, with_record}

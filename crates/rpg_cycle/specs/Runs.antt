@@ -5,7 +5,7 @@ use Rattle.rpg_records.specs.Earlier.{Selected, with_record}
 use Rattle.rpg_cycle.specs.Ends.{End, GoesOn, EndOfJob, Halt, Wrong}
 use Rattle.rpg_cycle.specs.Phases.{Cycle, UnderWay, begun}
 use Rattle.rpg_cycle.specs.Starting.{start_of}
-use Rattle.rpg_edit.specs.Paper.{Placed, paper}
+use Rattle.rpg_form.specs.Paper.{Placed, paper}
 use Rattle.rpg_effect.specs.Put.{Bytes, disk_bytes}
 use Rattle.rpg_effect.specs.World.{Fields}
 use Rattle.rpg_machine.specs.Config.{Config, Output, with_more}

@@ -10,7 +10,7 @@ use Rattle.rpg_records.specs.Levels.{broken_in}
 use Rattle.rpg_cycle.specs.Phases.{done, indicator_of, read_record}
 use Rattle.rpg_cycle.specs.Stages.{job_end}
 use Rattle.rpg_cycle.specs.declared.ends.JobEnd.{JobEnd}
-use Rattle.rpg_edit.specs.Paper.{Position}
+use Rattle.rpg_form.specs.Paper.{Position}
 use Rattle.rpg_effect.specs.declared.input.ControlField.{ControlField}
 use Rattle.rpg_machine.specs.Config.{Config, charged}
 use Rattle.rpg_machine.specs.Running.{Running, config_on}

@@ -5,8 +5,8 @@ use Rattle.std.specs.FinMap as map
 use Rattle.std.specs.FinSet as set
 use Rattle.std.specs.Ordering.{nat_cmp}
 use Rattle.rpg_cycle.specs.Indicators.{first_page, level_zero}
-use Rattle.rpg_decimal.specs.Fraction.{with_decimals}
-use Rattle.rpg_decimal.specs.Zoned.{is_digit, number_in}
+use Rattle.rpg_numbers.specs.Fraction.{with_decimals}
+use Rattle.rpg_numbers.specs.Zoned.{is_digit, number_in}
 use Rattle.rpg_effect.specs.Forms.{is_date}
 use Rattle.rpg_effect.specs.Values.{Number}
 use Rattle.rpg_effect.specs.World.{Fields, World, with_value}

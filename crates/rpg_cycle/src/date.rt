@@ -3,7 +3,7 @@ ghost use Rattle.std.specs.Prelude.{◌≡◌, ◌<◌, ◌^◌, Some, length, o
 ghost use Rattle.std.specs.List.{list_all};
 ghost use Rattle.rpg_cycle.specs.Starting.{date_in, dated};
 ghost use Rattle.rpg_cycle.specs.Dating.{fields_in, with_date};
-ghost use Rattle.rpg_decimal.specs.Zoned.{is_digit};
+ghost use Rattle.rpg_numbers.specs.Zoned.{is_digit};
 ghost use Rattle.rpg_effect.specs.Forms.{form_at, is_date};
 ghost use Rattle.rpg_program.specs.Kept.{IsFieldRow};
 ghost use Rattle.rpg_store.specs.Fits.{Fits};

@@ -7,12 +7,12 @@ use Rattle.rpg_decimal.proofs.MoveLemmas.{length-overlay_right, front-overlay_ri
 use Rattle.std.proofs.lemmas.Bool.{cases_lt, le-ltb, lt-ltb, cases_Bool}
 use Rattle.std.specs.Int.{is_negative}
 use Rattle.rpg_decimal.specs.Laws.{from_right, digit_at, MovesFromRight, MovesFromLeft, MovesDigitsFromRight, MovesDigitsFromLeft, SpellsByPlaces, SpellsPlainly}
-use Rattle.rpg_decimal.specs.Zoned.{digit_of, is_digit, is_minus, last_of, Spells, zoned_text, last_character, minus_letter, number_in, is_numeric, spelled_number}
+use Rattle.rpg_numbers.specs.Zoned.{digit_of, is_digit, is_minus, last_of, Spells, zoned_text, last_character, minus_letter, number_in, is_numeric, spelled_number}
 use Rattle.rpg_decimal.specs.Source.{moved_right, moved_left}
 use Rattle.rpg_decimal.specs.declared.moves.Source.{Source}
 use Rattle.rpg_decimal.specs.declared.moves.Source.TheVariants.{Number, Text}
-use Rattle.rpg_decimal.specs.Move.{overlay_right, overlay_left, number_moved_right, number_moved_left}
-use Rattle.rpg_decimal.specs.Place.{place_value, digits, signed_number}
+use Rattle.rpg_numbers.specs.Move.{overlay_right, overlay_left, number_moved_right, number_moved_left}
+use Rattle.rpg_numbers.specs.Place.{place_value, digits, signed_number}
 use Rattle.rpg_decimal.proofs.PlaceLemmas.{place_value-below, place_digit, length-digits, get_or-digits, get_or-digits-below, digits-from_right, place_value-digits}
 use Rattle.rpg_decimal.proofs.ZonedLemmas.{good_from_numeric, numeric_from_good, Spells-zoned, digit_stands, is_minus-letter, last_of_push, last_character-pos, number_some}
 use Rattle.rpg_decimal.proofs.WholeLemmas.{unsigned_abs-neg}

@@ -5,10 +5,10 @@ use Rattle.std.proofs.lemmas.Bool.{le-ltb, cases_lt}
 use Rattle.std.proofs.lemmas.Nat.{pow-add, mul-add-lt}
 use Rattle.std.proofs.lemmas.List.{take_min, length-take-le, get_or_append_left, get_or-take}
 use Rattle.std.specs.Int.{is_negative}
-use Rattle.rpg_decimal.specs.Move.{overlay_right, overlay_left}
-use Rattle.rpg_decimal.specs.Place.{place_value, digits, signed_number}
-use Rattle.rpg_decimal.specs.Whole.{with_sign_of}
-use Rattle.rpg_decimal.specs.Zoned.{may_stand, is_numeric, IsFirstBad}
+use Rattle.rpg_numbers.specs.Move.{overlay_right, overlay_left}
+use Rattle.rpg_numbers.specs.Place.{place_value, digits, signed_number}
+use Rattle.rpg_numbers.specs.Whole.{with_sign_of}
+use Rattle.rpg_numbers.specs.Zoned.{may_stand, is_numeric, IsFirstBad}
 use Rattle.rpg_decimal.proofs.ZonedLemmas.{good_from_numeric}
 use Rattle.rpg_decimal.proofs.PlaceLemmas.{place_value-append, place_value-digits, length-digits}
 use Rattle.rpg_decimal.proofs.WholeLemmas.{ten_pos}

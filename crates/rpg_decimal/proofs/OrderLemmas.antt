@@ -5,7 +5,7 @@ use Rattle.std.specs.Cmp.Lexicographic.{slice_cmp}
 use Rattle.std.proofs.lemmas.Bool.{cases_lt}
 use Rattle.std.proofs.lemmas.Bool.Decides.{nat_tests}
 use Rattle.std.proofs.lemmas.List.{drop_more, drop_all, length-replicate, get_or_append_left, get_or-append_right, get_or-replicate, get_or_past, get_or_default}
-use Rattle.rpg_decimal.specs.Order.{padded_text, character_cmp, rank}
+use Rattle.rpg_numbers.specs.Order.{padded_text, character_cmp, rank}
 
 length-padded : (n : ℕ) (text : List ℕ) → length (padded_text n text) ≡ max (length text) n
 length-padded n text = length-append text (replicate (n - length text) 32) ∙ ap (λ k. length text + k) (length-replicate (n - length text) 32) ∙ omega arith

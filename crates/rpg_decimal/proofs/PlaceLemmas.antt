@@ -4,7 +4,7 @@ use Rattle.std.proofs.Math.Nat.{div-div-eq-div-mul, add-mul-div_right}
 use Rattle.std.proofs.lemmas.Nat.{pow-add, mod-mul-add, mul-add-lt, div-mul-add}
 use Rattle.std.proofs.lemmas.Bool.{cases_lt}
 use Rattle.std.proofs.lemmas.List.{map_more, ext_get_or}
-use Rattle.rpg_decimal.specs.Place.{place_value, digits}
+use Rattle.rpg_numbers.specs.Place.{place_value, digits}
 use Rattle.rpg_decimal.proofs.WholeLemmas.{ten_pos}
 
 -- ---- the numbers of digits

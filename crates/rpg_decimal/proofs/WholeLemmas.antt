@@ -7,8 +7,8 @@ use Rattle.std.proofs.lemmas.Int.{ints}
 use Rattle.std.specs.Int.{w64, w128, ◌∣◌}
 use native.Mathlib.Nat.{zero-mod}
 use lib.Signed.{mag}
-use Rattle.rpg_decimal.specs.Whole.{with_sign_of, rounded_quotient, fit}
-use Rattle.rpg_decimal.specs.Fraction.{with_decimals, aligned_number, stored_number}
+use Rattle.rpg_numbers.specs.Whole.{with_sign_of, rounded_quotient, fit}
+use Rattle.rpg_numbers.specs.Fraction.{with_decimals, aligned_number, stored_number}
 
 -- ---- powers of ten
 

@@ -5,8 +5,8 @@ use Rattle.std.proofs.lemmas.Bool.Decides.{nat_tests}
 use Rattle.std.proofs.lemmas.Int.{ints}
 use Rattle.std.proofs.lemmas.List.{get_or_push, length_push, length-take-le, length-map, drop_more, drop_all, set_at}
 use Rattle.std.specs.Result.{result_ok}
-use Rattle.rpg_decimal.specs.Place.{place_value, digits, signed_number}
-use Rattle.rpg_decimal.specs.Zoned.{may_stand, IsGoodAt, is_numeric, is_digit, is_minus, digit_of, minus_letter, last_of, spelled_number, number_in, last_character, zoned_text, Spells, IsFirstBad}
+use Rattle.rpg_numbers.specs.Place.{place_value, digits, signed_number}
+use Rattle.rpg_numbers.specs.Zoned.{may_stand, IsGoodAt, is_numeric, is_digit, is_minus, digit_of, minus_letter, last_of, spelled_number, number_in, last_character, zoned_text, Spells, IsFirstBad}
 use Rattle.rpg_decimal.proofs.PlaceLemmas.{place_value_push, place_value-digits, length-digits}
 
 -- ---- each place is good, by places and from left to right

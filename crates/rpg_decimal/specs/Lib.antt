@@ -1,9 +1,3 @@
-pub mod Fraction
 pub mod Laws
-pub mod Move
 pub mod Num
-pub mod Order
-pub mod Place
 pub mod Source
-pub mod Whole
-pub mod Zoned

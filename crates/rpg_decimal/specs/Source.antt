@@ -1,7 +1,7 @@
 -- What is moved, and what it gives.
 use Rattle.std.specs.Prelude.{ℕ, ◌+◌, ◌-◌, ◌≤◌, ℤ, List, length, Option, Some}
-use Rattle.rpg_decimal.specs.Move.{overlay_right, overlay_left, number_moved_right, number_moved_left}
-use Rattle.rpg_decimal.specs.Zoned.{zoned_text, number_in, IsFirstBad}
+use Rattle.rpg_numbers.specs.Move.{overlay_right, overlay_left, number_moved_right, number_moved_left}
+use Rattle.rpg_numbers.specs.Zoned.{zoned_text, number_in, IsFirstBad}
 use Rattle.rpg_decimal.specs.declared.moves.Source.{Source}
 use Rattle.rpg_decimal.specs.declared.moves.Source.TheVariants.{Number, Text}
 

@@ -2,10 +2,10 @@
 //! and which characters may go to a number, are this profile's rules.
 ghost use Rattle.std.specs.Prelude.{◌≡◌, ◌+◌, ◌-◌, ◌<◌, ◌≤◌, ◌^◌, unsigned_abs, length, IfOk, IfErr};
 ghost use Rattle.std.specs.Result.{result_ok};
-ghost use Rattle.rpg_decimal.specs.Move.{overlay_right, overlay_left, number_moved_right, number_moved_left};
-ghost use Rattle.rpg_decimal.specs.Place.{digits, place_value};
-ghost use Rattle.rpg_decimal.specs.Whole.{with_sign_of};
-ghost use Rattle.rpg_decimal.specs.Zoned.{number_in, zoned_text, IsFirstBad};
+ghost use Rattle.rpg_numbers.specs.Move.{overlay_right, overlay_left, number_moved_right, number_moved_left};
+ghost use Rattle.rpg_numbers.specs.Place.{digits, place_value};
+ghost use Rattle.rpg_numbers.specs.Whole.{with_sign_of};
+ghost use Rattle.rpg_numbers.specs.Zoned.{number_in, zoned_text, IsFirstBad};
 ghost use Rattle.rpg_decimal.specs.Source.{text_of, moved_right, moved_left, IsFirstBadRight, IsFirstBadLeft};
 
 use crate::num::Figure;

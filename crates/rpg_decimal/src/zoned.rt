@@ -2,8 +2,8 @@
 //! 0 to 9, `{` and A to I for plus 0 to 9.
 ghost use Rattle.std.specs.Prelude.{◌≡◌, ◌+◌, ◌<◌, ◌≤◌, ◌^◌, unsigned_abs, length, map, IfOk, IfErr, OnOk, EachIndex};
 ghost use Rattle.std.specs.Result.{result_ok};
-ghost use Rattle.rpg_decimal.specs.Place.{digits, place_value};
-ghost use Rattle.rpg_decimal.specs.Zoned.{digit_of, is_minus, may_stand, last_character, number_in, zoned_text, IsGoodAt, Spells, IsFirstBad};
+ghost use Rattle.rpg_numbers.specs.Place.{digits, place_value};
+ghost use Rattle.rpg_numbers.specs.Zoned.{digit_of, is_minus, may_stand, last_character, number_in, zoned_text, IsGoodAt, Spells, IsFirstBad};
 
 use thiserror::Error;
 

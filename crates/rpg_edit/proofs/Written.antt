@@ -1,14 +1,14 @@
 -- Texts written from the last mark to the first.
 use Rattle.std.proofs.Common.{◌-◌, ℤ, unsigned_abs, ◌≡◌, ℕ, suc, ◌+◌, ◌/◌, ◌^◌, ◌≤◌, Bool, List, [], ◌∷◌, ◌++◌, length, take, drop, refl, sym, ap, ◌∙◌, arith, append_assoc, length-append, length-drop, append-nil, add-one, pow-suc, get_or, drop-cons, ◌<◌, replicate}
-use Rattle.rpg_edit.specs.declared.mark.Mark.TheVariants.{Digit}
+use Rattle.rpg_marks.specs.declared.mark.Mark.TheVariants.{Digit}
 use Rattle.std.proofs.Math.Nat.{div-div-eq-div-mul}
 use Rattle.std.proofs.lemmas.List.{take-take, drop_all, take-append-drop, take_all}
 use borrow.Rule.Slice.PartMut.{put_mid, mid_of, post_of}
 use Rattle.std.specs.Int.{is_negative}
 use Rattle.std.proofs.lemmas.List.Sums.{sum_by-append}
-use Rattle.rpg_edit.specs.declared.mark.Mark.{Mark}
+use Rattle.rpg_marks.specs.declared.mark.Mark.{Mark}
 use Rattle.rpg_edit.specs.declared.suppression.Pass.{Pass}
-use Rattle.rpg_edit.specs.Edited.{places, character, characters, text_of}
+use Rattle.rpg_marks.specs.Edited.{places, character, characters, text_of}
 use Rattle.rpg_edit.specs.Written.{characters_before, Writes}
 
 places-append : (xs ys : List Mark) → places (xs ++ ys) ≡ places xs + places ys

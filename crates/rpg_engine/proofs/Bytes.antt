@@ -8,8 +8,8 @@ use Rattle.rpg_cycle.specs.Ends.{End, GoesOn, EndOfJob, Halt, Wrong}
 use Rattle.rpg_cycle.specs.Job.{feed_at, with_feed}
 use Rattle.rpg_cycle.specs.Runs.{last_feed, printed, stored}
 use Rattle.rpg_cycle.specs.Stages.{stage_at}
-use Rattle.rpg_edit.proofs.Papers.{bytes_from-append}
-use Rattle.rpg_edit.specs.Paper.{Placed, Position, bytes_from, end_from, end_of, paper}
+use Rattle.rpg_form.proofs.Papers.{bytes_from-append}
+use Rattle.rpg_form.specs.Paper.{Placed, Position, bytes_from, end_from, end_of, paper}
 use Rattle.rpg_effect.proofs.Putting.{disk-append, end_from-lines}
 use Rattle.rpg_effect.specs.Put.{Bytes, disk_bytes, line_of, with_output}
 use Rattle.rpg_files.specs.Sending.{AppendsFirst, AppendsPrefix}

@@ -4,7 +4,7 @@ use Rattle.rpg_records.specs.Earlier.{Selected, left_by, with_record}
 use Rattle.rpg_cycle.specs.Ends.{End, GoesOn, EndOfJob, Halt, Wrong}
 use Rattle.rpg_cycle.specs.Phases.{Cycle, UnderWay, begun}
 use Rattle.rpg_cycle.specs.Runs.{Course, Runs, ends_or, last_cycle, with_cycle}
-use Rattle.rpg_edit.specs.Paper.{Placed}
+use Rattle.rpg_form.specs.Paper.{Placed}
 use Rattle.rpg_machine.specs.Config.{Config, Output, no_output, with_more}
 use Rattle.rpg_program.specs.Object.{Object}
 use Rattle.rpg_engine.specs.Streaming.{HeadCycle}

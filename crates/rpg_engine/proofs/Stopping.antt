@@ -9,7 +9,7 @@ use Rattle.rpg_cycle.specs.Runs.{Course, IsRun, Runs, last_cycle, printed, store
 use Rattle.rpg_cycle.specs.Stages.{Ended, job_end, stage_at}
 use Rattle.rpg_cycle.specs.Starting.{start_of}
 use Rattle.rpg_cycle.specs.declared.ends.JobEnd.{JobEnd}
-use Rattle.rpg_edit.specs.Paper.{end_of, paper}
+use Rattle.rpg_form.specs.Paper.{end_of, paper}
 use Rattle.rpg_effect.specs.Put.{Bytes, disk_bytes}
 use Rattle.rpg_files.specs.Counting.{device_of, faults_of}
 use Rattle.rpg_files.specs.NextLine.{CanFollow}

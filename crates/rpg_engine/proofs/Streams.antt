@@ -10,7 +10,7 @@ use Rattle.rpg_cycle.specs.Runs.{Course, Runs, last_cycle}
 use Rattle.rpg_cycle.specs.Stages.{Stage, Going, Ended, job_end, stage_at}
 use Rattle.rpg_cycle.specs.declared.ends.JobEnd.{JobEnd}
 use Rattle.rpg_cycle.specs.declared.ends.JobEnd.TheVariants as jobs
-use Rattle.rpg_edit.specs.Paper.{Position, end_from, end_of, paper}
+use Rattle.rpg_form.specs.Paper.{Position, end_from, end_of, paper}
 use Rattle.rpg_effect.proofs.Putting.{end_from-lines}
 use Rattle.rpg_effect.specs.Put.{Bytes, disk_bytes, line_of, with_output}
 use Rattle.rpg_files.specs.Counting.{device_of}

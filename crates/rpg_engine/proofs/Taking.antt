@@ -8,7 +8,7 @@ use Rattle.rpg_cycle.specs.Ends.{End, GoesOn}
 use Rattle.rpg_records.specs.Identifying.{is_good}
 use Rattle.rpg_cycle.specs.Job.{AtWork, Cycles, DoesCycle}
 use Rattle.rpg_cycle.specs.Phases.{Cycle, UnderWay, begun, needs_record}
-use Rattle.rpg_edit.specs.Paper.{Position}
+use Rattle.rpg_form.specs.Paper.{Position}
 use Rattle.rpg_effect.specs.Put.{line_of}
 use Rattle.rpg_files.specs.NextLine.{CanFollow}
 use Rattle.rpg_files.specs.Reading.{Advances, Gives, Input, ReadsNext, answer_of, count_of, input_of, is_record, limit_of, record_of}

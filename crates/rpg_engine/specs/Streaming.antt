@@ -7,7 +7,7 @@ use Rattle.rpg_cycle.specs.Job.{AtWork, DoesCycle}
 use Rattle.rpg_cycle.specs.Phases.{Cycle, UnderWay, begun}
 use Rattle.rpg_cycle.specs.Stages.{Ended, Going, Stage, job_end}
 use Rattle.rpg_cycle.specs.declared.ends.JobEnd.{JobEnd}
-use Rattle.rpg_edit.specs.Paper.{Position}
+use Rattle.rpg_form.specs.Paper.{Position}
 use Rattle.rpg_effect.specs.Put.{Bytes, line_of}
 use Rattle.rpg_files.specs.Reading.{Advances, ReadsNext, answer_of, count_of, input_of, is_record, limit_of}
 use Rattle.rpg_files.specs.Records.{max_records, records}

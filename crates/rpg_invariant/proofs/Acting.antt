@@ -5,8 +5,8 @@ use Rattle.std.specs.Option.{option_map}
 use Rattle.std.specs.Prelude.{All}
 use Rattle.rpg_decimal.proofs.LawLemmas.{left_digits, length-zoned, read_either, right_digits, spells_either}
 use Rattle.rpg_decimal.proofs.WholeLemmas.{fit-below}
-use Rattle.rpg_decimal.specs.Fraction.{Fraction, aligned_number, with_decimals}
-use Rattle.rpg_decimal.specs.Zoned.{number_in, zoned_text}
+use Rattle.rpg_numbers.specs.Fraction.{Fraction, aligned_number, with_decimals}
+use Rattle.rpg_numbers.specs.Zoned.{number_in, zoned_text}
 use Rattle.rpg_effect.specs.Act.{act, assigned, computed, divided, exact, field_of_entry, found_in, found_shown, index_set, kept, looked_up, made_current, made_current_if_any, moved, number_after, number_over, placed, remainder_after, source_text, store, summed, text_over}
 use Rattle.rpg_effect.specs.Effect.{Effect, Leaves}
 use Rattle.rpg_effect.specs.Entries.{entry_of}

@@ -4,7 +4,7 @@ use Rattle.std.proofs.lemmas.Grind.{common_steps}
 use Rattle.std.proofs.lemmas.List.Elements.{All-drop, All-head, All-tail, All-take}
 use Rattle.std.proofs.lemmas.Option.{same_Some}
 use Rattle.std.specs.Prelude.{All, option_map}
-use Rattle.rpg_decimal.specs.Zoned.{number_in}
+use Rattle.rpg_numbers.specs.Zoned.{number_in}
 use Rattle.rpg_effect.specs.Effect.{Leaves, or_halt, unless_wrong}
 use Rattle.rpg_effect.specs.Ends.{Fault}
 use Rattle.rpg_effect.specs.Forms.{form_at, is_plain, is_plain_form, kind_of, length_of, may_write}

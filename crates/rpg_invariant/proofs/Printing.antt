@@ -4,7 +4,7 @@ use Rattle.std.proofs.lemmas.List.{get_or-replicate, length-replicate}
 use Rattle.std.proofs.lemmas.List.Elements.{All-head, All-nil, All-push, All-tail}
 use Rattle.std.specs.Prelude.{All}
 use Rattle.rpg_decimal.proofs.WholeLemmas.{ten_pos}
-use Rattle.rpg_edit.specs.Paper.{Position, spaced, skipped, turns_overflow_on}
+use Rattle.rpg_form.specs.Paper.{Position, spaced, skipped, turns_overflow_on}
 use Rattle.rpg_effect.specs.Effect.{Effect, Leaves, unless_wrong}
 use Rattle.rpg_effect.specs.Ends.{End, Fault, GoesOn, Halt, Wrong}
 use Rattle.rpg_effect.specs.Entries.{position_of}

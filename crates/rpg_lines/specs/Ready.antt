@@ -1,8 +1,8 @@
 -- A memory from which a program's lines may be put out.
 use Rattle.std.specs.Prelude.{◌≡◌, ◌≤◌, All, List}
 use Rattle.std.specs.Ordering.{nat_cmp}
-use Rattle.rpg_edit.specs.Form.{here_of}
-use Rattle.rpg_edit.specs.Paper.{Position}
+use Rattle.rpg_form.specs.Form.{here_of}
+use Rattle.rpg_form.specs.Paper.{Position}
 use Rattle.rpg_effect.specs.World.{Fields}
 use Rattle.rpg_effect.specs.declared.form.FieldForm.{FieldForm}
 use Rattle.rpg_memory.specs.declared.memory.Memory.{Memory}

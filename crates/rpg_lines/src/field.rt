@@ -1,6 +1,6 @@
 //! Fields of lines: how they are edited, their text in the line, PAGE, and blank after.
 ghost use Rattle.std.specs.Prelude.{◌≡◌, ◌≤◌, ◌<◌, ◌^◌, length, unsigned_abs, replicate, true, Some};
-ghost use Rattle.rpg_edit.specs.How.{edited, width_of, IsFit};
+ghost use Rattle.rpg_marks.specs.How.{edited, width_of, IsFit};
 ghost use Rattle.rpg_effect.specs.Editing as edits;
 ghost use Rattle.rpg_effect.specs.Forms as forms;
 ghost use Rattle.rpg_effect.specs.LineFaults as faults;
@@ -14,11 +14,13 @@ ghost use Rattle.rpg_program.specs.Object.{seen};
 
 use crate::reading::word_at;
 use rpg_columns::forms::{form_at, kind_of};
-use rpg_edit::{EditWord, Fill, How, edit_at_end};
+use rpg_edit::edit_at_end;
 use rpg_effect::form::{FieldForm, Kind};
 use rpg_effect::line::{Editing, LineField, Source};
+use rpg_marks::Fill;
 use rpg_program::row::Rows;
 use rpg_store::store::Store;
+use rpg_widths::{EditWord, How};
 
 /// How a number field is edited.
 #[tactic(auto, using(crate::proofs::Fields::fitting))]

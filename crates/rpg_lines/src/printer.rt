@@ -1,6 +1,6 @@
 //! Lines on the printer's form, and records on the disk.
 ghost use Rattle.std.specs.Prelude.{◌≡◌, ◌≤◌, ◌<◌, ◌+◌, ◌++◌, ◌∷◌, [], true, OnOk};
-ghost use Rattle.rpg_edit.specs.Form.{here_of};
+ghost use Rattle.rpg_form.specs.Form.{here_of};
 ghost use Rattle.rpg_effect.specs.Ends.{GoesOn};
 ghost use Rattle.rpg_effect.specs.LineFaults.{is_spacing};
 ghost use Rattle.rpg_effect.specs.Lines as lines;

@@ -9,9 +9,9 @@ use Rattle.std.specs.Ordering.{nat_cmp}
 use Rattle.rpg_decimal.proofs.LawLemmas.{left_digits, length-zoned, read_either, right_digits, size-signed}
 use Rattle.rpg_decimal.proofs.PlaceLemmas.{place_value-below}
 use Rattle.rpg_decimal.proofs.WholeLemmas.{fit-below}
-use Rattle.rpg_decimal.specs.Fraction.{Fraction, aligned_number}
-use Rattle.rpg_decimal.specs.Place.{place_value}
-use Rattle.rpg_decimal.specs.Zoned.{digit_of, is_minus, last_of, number_in, zoned_text}
+use Rattle.rpg_numbers.specs.Fraction.{Fraction, aligned_number}
+use Rattle.rpg_numbers.specs.Place.{place_value}
+use Rattle.rpg_numbers.specs.Zoned.{digit_of, is_minus, last_of, number_in, zoned_text}
 use Rattle.rpg_effect.specs.Act.{act, divided, exact, field_of_entry, found_in, found_shown, index_set, kept, looked_up, made_current, made_current_if_any, moved, number_over, placed, source_text, store, text_over}
 use Rattle.rpg_effect.specs.Effect.{Effect, Leaves, or_halt, unless_wrong}
 use Rattle.rpg_effect.specs.Ends.{Fault}

@@ -3,7 +3,7 @@ use Rattle.std.proofs.Common.{◌≡◌, ℕ, suc, Bool, true, false, cond, eqb,
 use Rattle.std.specs.FinSet as set
 use Rattle.std.specs.Ordering.{nat_cmp}
 use Rattle.std.specs.Prelude.{All}
-use Rattle.rpg_edit.specs.Paper.{Position, skipped, spaced, turns_overflow_on}
+use Rattle.rpg_form.specs.Paper.{Position, skipped, spaced, turns_overflow_on}
 use Rattle.rpg_effect.specs.Effect.{Effect, Leaves, go_on, unless_wrong}
 use Rattle.rpg_effect.specs.Ends.{End, Fault, GoesOn, Halt, Wrong}
 use Rattle.rpg_effect.specs.Entries.{position_of}

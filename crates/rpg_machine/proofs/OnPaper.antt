@@ -3,8 +3,8 @@ use Rattle.std.proofs.Common.{◌≡◌, ℕ, Bool, true, false, cond, Option, N
 use Rattle.std.specs.Option.{option_map}
 use Rattle.std.specs.Ordering.{nat_cmp}
 use Rattle.std.specs.declared.cmp.Ordering.{Ordering}
-use Rattle.rpg_decimal.specs.Zoned.{number_in, zoned_text}
-use Rattle.rpg_edit.specs.Paper.{Position}
+use Rattle.rpg_numbers.specs.Zoned.{number_in, zoned_text}
+use Rattle.rpg_form.specs.Paper.{Position}
 use Rattle.rpg_effect.specs.Act.{act, divided, entry_at, exact, field_of_entry, found_in, found_shown, index_set, looked_up, made_current, made_current_if_any, moved, order_by, placed, position_fault, start_of, text_over}
 use Rattle.rpg_effect.specs.Effect.{Effect, Leaves, or_halt, unless_wrong}
 use Rattle.rpg_effect.specs.Ends.{Fault}

@@ -5,8 +5,8 @@ use Rattle.std.specs.Coded.{Coded, code_by, coded×, coded_ℕ, coded_ℤ, coded
 use Rattle.std.specs.FinMap as map
 use Rattle.std.specs.FinSet as set
 use Rattle.std.specs.Ordering.{nat_cmp}
-use Rattle.rpg_decimal.specs.Fraction.{Fraction}
-use Rattle.rpg_edit.specs.Paper.{Position}
+use Rattle.rpg_numbers.specs.Fraction.{Fraction}
+use Rattle.rpg_form.specs.Paper.{Position}
 use Rattle.rpg_effect.specs.Values.{Value, Number, Text}
 use Rattle.rpg_effect.specs.World.{Fields, World}
 use Rattle.rpg_machine.specs.Config.{Config}

@@ -1,8 +1,8 @@
 -- The world that a memory stands for.
 use Rattle.std.specs.Ordering.{nat_cmp}
-use Rattle.rpg_decimal.specs.Fraction.{Fraction, with_decimals}
+use Rattle.rpg_numbers.specs.Fraction.{Fraction, with_decimals}
 use Rattle.rpg_decimal.specs.declared.num.Rest.{Rest}
-use Rattle.rpg_edit.specs.Form.{here_of}
+use Rattle.rpg_form.specs.Form.{here_of}
 use Rattle.rpg_effect.specs.Put.{Held}
 use Rattle.rpg_effect.specs.World.{World}
 use Rattle.rpg_memory.specs.declared.memory.Memory.{Memory}

@@ -3,8 +3,8 @@ use Rattle.std.proofs.Common.{◌≡◌, ℕ, zero, suc, ◌+◌, ◌*◌, ◌^�
 use Rattle.std.proofs.Math.Nat.{mul-le-mul_right}
 use Rattle.std.proofs.lemmas.Bool.Decides.{nat_tests}
 use Rattle.std.proofs.lemmas.List.{length-map}
-use Rattle.rpg_decimal.specs.Place.{place_value, signed_number}
-use Rattle.rpg_decimal.specs.Zoned.{is_numeric, is_minus, digit_of, last_of, spelled_number, number_in, zoned_text}
+use Rattle.rpg_numbers.specs.Place.{place_value, signed_number}
+use Rattle.rpg_numbers.specs.Zoned.{is_numeric, is_minus, digit_of, last_of, spelled_number, number_in, zoned_text}
 use Rattle.rpg_decimal.proofs.ZonedLemmas.{number_some, numeric-zoned, spelled-zoned}
 use Rattle.rpg_format.proofs.Rules.{chosen}
 

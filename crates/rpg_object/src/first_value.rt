@@ -2,7 +2,7 @@
 
 ghost use Rattle.std.specs.Prelude.{◌≡◌, ◌++◌, ◌≤◌, All, length, map, OnOk};
 ghost use Rattle.std.specs.List.{list_all};
-ghost use Rattle.rpg_decimal.specs.Zoned.{number_in};
+ghost use Rattle.rpg_numbers.specs.Zoned.{number_in};
 ghost use Rattle.rpg_effect.specs.declared.form.Kind.TheVariants as kinds;
 ghost use Rattle.rpg_effect.specs.Values.{held};
 ghost use Rattle.rpg_format.specs.Format.{table};

@@ -2,8 +2,8 @@
 use Rattle.std.proofs.Common.{◌≡◌, ℕ, zero, suc, ℤ, ◌+◌, ◌-◌, ◌/◌, ◌%◌, ◌^◌, ◌<◌, Bool, true, false, cond, eqb, List, [], ◌∷◌, map, length, take, drop, arith, refl, unsigned_abs}
 use Rattle.std.specs.Prelude.{All}
 use Rattle.std.proofs.lemmas.List.Elements.{All-append, All-cons, All-drop, All-map, All-nil, All-take}
-use Rattle.rpg_decimal.specs.Place.{digits}
-use Rattle.rpg_decimal.specs.Zoned.{last_character, minus_letter, zoned_text}
+use Rattle.rpg_numbers.specs.Place.{digits}
+use Rattle.rpg_numbers.specs.Zoned.{last_character, minus_letter, zoned_text}
 use Rattle.rpg_effect.specs.Act.{text_over}
 use Rattle.rpg_effect.specs.declared.operation.Side.{Side}
 use Rattle.rpg_effect.specs.declared.operation.Side.TheVariants.{Right, Left}

@@ -1,7 +1,7 @@
 //! Arithmetic: what a result is, and what becomes of it.
 ghost use Rattle.std.specs.Prelude.{◌≡◌, ◌≢◌, ◌<◌, ◌≤◌, ◌^◌, ℤ, pos, true, false, None, if◌then◌else◌, unsigned_abs, IfSome};
 ghost use Rattle.std.specs.Option.{option_map};
-ghost use Rattle.rpg_decimal.specs.Fraction.{stored_number, with_decimals};
+ghost use Rattle.rpg_numbers.specs.Fraction.{stored_number, with_decimals};
 ghost use Rattle.rpg_decimal.specs.Num.{value_of};
 ghost use Rattle.rpg_effect.specs.Act as acts;
 ghost use Rattle.rpg_effect.specs.Effect.{quiet};

@@ -1,10 +1,10 @@
 -- The letters of edited fields.
 use Rattle.std.proofs.Common.{◌≡◌, ℕ, ◌<◌, ◌^◌, true, false, cond, List, [], ◌∷◌, Option, Some, None, Ok, refl, sym, ap, ◌∙◌, arith, inl, inr, eqb, eqb-true}
 use Rattle.std.specs.Prelude.{find, option_map}
-use Rattle.rpg_edit.specs.Code.{code_of, table_of_codes}
-use Rattle.rpg_edit.specs.declared.code.EditCode.{EditCode}
-use Rattle.rpg_edit.specs.declared.code.EditCode.TheVariants.{Combination, X, Y, Z}
-use Rattle.rpg_edit.specs.declared.code.Ending.TheVariants.{Unsigned, Credit, Minus}
+use Rattle.rpg_marks.specs.Code.{code_of, table_of_codes}
+use Rattle.rpg_marks.specs.declared.code.EditCode.{EditCode}
+use Rattle.rpg_marks.specs.declared.code.EditCode.TheVariants.{Combination, X, Y, Z}
+use Rattle.rpg_marks.specs.declared.code.Ending.TheVariants.{Unsigned, Credit, Minus}
 use Rattle.rpg_effect.specs.declared.line.Editing.{Editing}
 use Rattle.rpg_effect.specs.declared.line.Editing.TheVariants as editings
 use Rattle.rpg_format.proofs.Laws.{IsRule}

@@ -1,8 +1,8 @@
 -- The law of output lines, and what they keep in plain words, and back.
 use Rattle.std.proofs.Common.{◌≡◌, ℕ, ◌<◌, ◌≤◌, ◌^◌, [], ◌∷◌, length, Ok, Err, refl, ap, ◌∙◌, arith, inl, inr, ltb}
 use Rattle.std.proofs.lemmas.Bool.{lt-ltb, ltb-true}
-use Rattle.rpg_edit.specs.declared.code.Fill.{Fill}
-use Rattle.rpg_edit.specs.declared.code.Fill.TheVariants as fills
+use Rattle.rpg_marks.specs.declared.code.Fill.{Fill}
+use Rattle.rpg_marks.specs.declared.code.Fill.TheVariants as fills
 use Rattle.rpg_effect.specs.declared.line.Editing.{Editing}
 use Rattle.rpg_effect.specs.declared.line.Editing.TheVariants as editings
 use Rattle.rpg_effect.specs.declared.line.File.{File}

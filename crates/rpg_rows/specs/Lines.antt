@@ -1,12 +1,12 @@
 -- Output lines.
 use Rattle.std.specs.Prelude.{ℕ, ◌+◌, ◌/◌, ◌%◌, List, [], ◌∷◌, length, Bool, true, false, ◌||◌, ◌==◌, nat_lt, if◌then◌else◌, Option, Some, None, Result, Ok, Err}
-use Rattle.rpg_edit.specs.Code.{code_of}
-use Rattle.rpg_edit.specs.declared.code.EditCode.{EditCode}
-use Rattle.rpg_edit.specs.declared.code.EditCode.TheVariants.{Combination, X, Y, Z}
-use Rattle.rpg_edit.specs.declared.code.Ending.{Ending}
-use Rattle.rpg_edit.specs.declared.code.Ending.TheVariants as endings
-use Rattle.rpg_edit.specs.declared.code.Fill.{Fill}
-use Rattle.rpg_edit.specs.declared.code.Fill.TheVariants as fills
+use Rattle.rpg_marks.specs.Code.{code_of}
+use Rattle.rpg_marks.specs.declared.code.EditCode.{EditCode}
+use Rattle.rpg_marks.specs.declared.code.EditCode.TheVariants.{Combination, X, Y, Z}
+use Rattle.rpg_marks.specs.declared.code.Ending.{Ending}
+use Rattle.rpg_marks.specs.declared.code.Ending.TheVariants as endings
+use Rattle.rpg_marks.specs.declared.code.Fill.{Fill}
+use Rattle.rpg_marks.specs.declared.code.Fill.TheVariants as fills
 use Rattle.rpg_effect.specs.declared.condition.Condition.{Condition}
 use Rattle.rpg_effect.specs.declared.condition.Conditions.{Conditions}
 use Rattle.rpg_effect.specs.declared.line.Editing.{Editing}

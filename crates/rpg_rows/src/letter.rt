@@ -6,10 +6,10 @@ ghost use Rattle.rpg_format.specs.Numbers.{allowed};
 ghost use Rattle.rpg_format.specs.Reading.{Gives};
 ghost use Rattle.rpg_rows.specs.Lines as rows;
 
-use rpg_edit::{EditCode, Ending};
 use rpg_effect::line::Editing;
 use rpg_format::fault::{Code, ReadFault};
 use rpg_format::number::{byte_at, number_at};
+use rpg_marks::{EditCode, Ending};
 
 /// Not edited, an edit code, or `W` for an edit word.
 #[derive(Clone, Copy)]

@@ -12,10 +12,10 @@ use crate::indicator::indicator_number;
 use crate::letter::{editing_of, letter_at, letter_in, letter_number, word_field_at, word_in};
 use crate::operand::{index_number, operand_at};
 use crate::table::Row;
-use rpg_edit::Fill;
 use rpg_effect::line::{LineField, Source};
 use rpg_format::fault::{Code, ReadFault};
 use rpg_format::number::{any_number_at, byte_at, flag_at, flag_number, high, low};
+use rpg_marks::Fill;
 use std::alloc::{AllocError, Global};
 
 fn source_of(n: u8) -> Result<Source, Code>

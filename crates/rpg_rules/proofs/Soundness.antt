@@ -4,7 +4,7 @@ use Rattle.std.specs.Prelude.{get_or, nat_le, ◌==◌}
 use Rattle.std.proofs.lemmas.Bool.{and_from, and_parts, eqb-true, le-leb, lt-ltb, ltb-true, not-false, not-true, or_parts, true≢false}
 use Rattle.std.proofs.lemmas.Option.{slice_get-get_or, slice_get_within}
 use Rattle.std.specs.List.{list_all, list_any}
-use Rattle.rpg_edit.specs.declared.code.Fill.{Fill}
+use Rattle.rpg_marks.specs.declared.code.Fill.{Fill}
 use Rattle.rpg_effect.proofs.Rules.{right_field, right_row}
 use Rattle.rpg_effect.specs.Ends.{Fault, Storage}
 use Rattle.rpg_effect.specs.Forms.{form_at, kind_of, length_of}

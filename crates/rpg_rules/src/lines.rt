@@ -3,7 +3,7 @@
 ghost use Rattle.std.specs.Prelude.{◌≡◌, true, map, Some};
 ghost use Rattle.std.specs.List.{list_all, list_any, position};
 ghost use Rattle.std.specs.Global.{Vec};
-ghost use Rattle.rpg_edit.specs.How.{width_of};
+ghost use Rattle.rpg_marks.specs.How.{width_of};
 ghost use Rattle.rpg_effect.specs.Editing as edits;
 ghost use Rattle.rpg_effect.specs.Forms as forms;
 ghost use Rattle.rpg_effect.specs.LineFaults as faults;
@@ -24,11 +24,12 @@ use rpg_columns::columns::{has_entry, is_one_entry};
 use rpg_columns::forms::{
     decimals_of, form_at, is_index_form, kind_of, length_of, may_write, same_kind,
 };
-use rpg_edit::{EditCode, Fill, How, width};
 use rpg_effect::condition::Condition;
 use rpg_effect::form::{FieldForm, Kind};
 use rpg_effect::line::{Editing, File, LineField, Source, Spacing};
+use rpg_marks::{EditCode, Fill};
 use rpg_program::row::{Line, Rows};
+use rpg_widths::{How, width};
 
 /// The first line that breaks a rule.
 #[tactic(auto, using(crate::proofs::Lists::position_seen), unfolding(crate::specs::Rules::broken))]

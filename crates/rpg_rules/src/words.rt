@@ -8,9 +8,9 @@ ghost use Rattle.rpg_program.specs.Constants as constants;
 ghost use Rattle.rpg_program.specs.Object.{seen};
 
 use rpg_columns::forms::{form_at, is_text_constant};
-use rpg_edit::EditWord;
 use rpg_effect::value::Value;
 use rpg_program::row::Rows;
+use rpg_widths::EditWord;
 
 /// The characters of the first of these values.
 fn first_text(values: &[Value]) -> &[u8]

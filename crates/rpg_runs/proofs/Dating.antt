@@ -4,7 +4,7 @@ use Rattle.std.proofs.lemmas.Option.{same_Some}
 use Rattle.std.specs.List.{list_all}
 use Rattle.rpg_cycle.proofs.Dating.{date_fits}
 use Rattle.rpg_cycle.specs.Starting.{date_in, dated, first_world, start_of}
-use Rattle.rpg_decimal.specs.Zoned.{is_digit, number_in}
+use Rattle.rpg_numbers.specs.Zoned.{is_digit, number_in}
 use Rattle.rpg_effect.specs.Forms.{form_at, is_constant, is_date}
 use Rattle.rpg_effect.specs.Values.{Number}
 use Rattle.rpg_effect.specs.World.{Fields, with_value}

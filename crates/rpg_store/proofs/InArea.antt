@@ -1,7 +1,7 @@
 -- What a store in one area finds and leaves.
 use Rattle.std.proofs.Common.{◌≡◌, ℕ, ℤ, ◌+◌, ◌-◌, ◌≤◌, List, ◌++◌, length, take, drop, slice_range, Some, sym, ap, ◌∙◌, subst, arith, length-take, length-drop}
 use Rattle.std.specs.FinMap as maps
-use Rattle.rpg_decimal.specs.Zoned.{spelled_number, zoned_text, Spells}
+use Rattle.rpg_numbers.specs.Zoned.{spelled_number, zoned_text, Spells}
 use Rattle.rpg_store.specs.Contents.{IsEntry}
 use Rattle.rpg_effect.specs.Values.{Value, Number, Text, characters_of, number_of}
 use Rattle.rpg_effect.specs.declared.form.Kind.{Kind}

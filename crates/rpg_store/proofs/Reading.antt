@@ -4,8 +4,8 @@ use Rattle.std.proofs.lemmas.Bool.{and_parts, leb-true, or_left, or_right}
 use Rattle.std.proofs.lemmas.Bool.Decides.{nat_tests}
 use Rattle.std.proofs.lemmas.List.{get_or-map, length-map}
 use Rattle.std.specs.List.{All}
-use Rattle.rpg_decimal.specs.Place.{digits, place_value}
-use Rattle.rpg_decimal.specs.Zoned.{digit_of, is_digit, is_minus, last_character, last_of, minus_letter, spelled_number}
+use Rattle.rpg_numbers.specs.Place.{digits, place_value}
+use Rattle.rpg_numbers.specs.Zoned.{digit_of, is_digit, is_minus, last_character, last_of, minus_letter, spelled_number}
 use Rattle.rpg_decimal.proofs.PlaceLemmas.{get_or-digits-below, length-digits, place_value_more}
 use Rattle.rpg_decimal.proofs.ZonedLemmas.{digit_stands, is_minus-letter, last_character-pos, last_of_push}
 use Rattle.rpg_store.specs.Written.{IsDigit, IsLastWritten, IsWritten}

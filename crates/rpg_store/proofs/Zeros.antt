@@ -1,7 +1,7 @@
 -- A text of zeros is the one that is written for zero.
 use Rattle.std.proofs.Common.{◌≡◌, ℕ, zero, suc, ◌+◌, ◌-◌, ◌/◌, ◌%◌, ◌^◌, ◌≤◌, pos, [], ◌∷◌, ◌++◌, length, map, take, get_or, refl, sym, ap, ◌∙◌, arith}
-use Rattle.rpg_decimal.specs.Place.{digits, place_value, signed_number}
-use Rattle.rpg_decimal.specs.Zoned.{digit_of, is_minus, spelled_number, zoned_text}
+use Rattle.rpg_numbers.specs.Place.{digits, place_value, signed_number}
+use Rattle.rpg_numbers.specs.Zoned.{digit_of, is_minus, spelled_number, zoned_text}
 use Rattle.rpg_store.specs.Area.{bytes_at, zeros}
 use Rattle.rpg_store.specs.Written.{IsWritten}
 

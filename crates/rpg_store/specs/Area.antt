@@ -1,6 +1,6 @@
 -- An area of bytes that has the entries of all fields in parts of it.
 use Rattle.std.specs.Prelude.{◌≡◌, ◌≢◌, ℕ, zero, suc, ◌+◌, ◌-◌, ◌*◌, ◌≤◌, ◌⊎◌, List, [], ◌∷◌, ◌++◌, take, drop, length, replicate, slice_get, Option, None, Some}
-use Rattle.rpg_decimal.specs.Zoned.{spelled_number}
+use Rattle.rpg_numbers.specs.Zoned.{spelled_number}
 use Rattle.rpg_effect.specs.Values.{Value, Number, Text}
 use Rattle.rpg_effect.specs.declared.form.FieldForm.{FieldForm}
 use Rattle.rpg_effect.specs.declared.form.Kind.{Kind}

@@ -7,7 +7,7 @@ use Rattle.rpg_cards.specs.Files.{output_file}
 use Rattle.rpg_cards.specs.Groups.{Group, groups, output_role}
 use Rattle.rpg_cards.specs.declared.spec_card.SpecCard.{SpecCard}
 use Rattle.rpg_effect.specs.Editing.{width_as}
-use Rattle.rpg_edit.specs.declared.how.How.TheVariants as hows
+use Rattle.rpg_marks.specs.declared.how.How.TheVariants as hows
 use Rattle.rpg_effect.specs.Forms.{form_at, kind_of, length_of}
 use Rattle.rpg_effect.specs.LineFaults.{blanks_writable}
 use Rattle.rpg_effect.specs.declared.condition.Condition.{Condition}

@@ -18,7 +18,7 @@ use Rattle.rpg_effect.specs.declared.line.Editing.TheVariants.{Plain}
 use Rattle.rpg_effect.specs.declared.line.Source.TheVariants.{Value}
 use Rattle.rpg_effect.specs.declared.operation.Index.TheVariants as indexes
 use Rattle.rpg_effect.specs.declared.operation.Shows.{Shows}
-use Rattle.rpg_edit.specs.declared.code.Fill.TheVariants as fills
+use Rattle.rpg_marks.specs.declared.code.Fill.TheVariants as fills
 use Rattle.rpg_program.specs.Object.{LineRow}
 use Rattle.rpg_spec.specs.declared.indicator.Condition as sheet
 use Rattle.rpg_spec.specs.declared.indicator.Three.{Three}

@@ -2,7 +2,7 @@
 
 ghost use Rattle.std.specs.Prelude.{◌≡◌, ◌≤◌, false, All, length, map, IfOk};
 ghost use Rattle.rpg_cards.specs.Groups.{followers, output_role};
-ghost use Rattle.rpg_edit.specs.declared.code.Fill.TheVariants as fills;
+ghost use Rattle.rpg_marks.specs.declared.code.Fill.TheVariants as fills;
 ghost use Rattle.rpg_effect.specs.declared.line.Editing.TheVariants as editings;
 ghost use Rattle.rpg_effect.specs.declared.line.Source.TheVariants as sources;
 ghost use Rattle.rpg_program.specs.Kept.{AreConditions, IsAlternativeRow, IsConditionRow, IsLineFieldRow, IsLineRow, IsOperandRow};
@@ -12,10 +12,10 @@ ghost use Rattle.rpg_translation.specs.Tables as tables;
 use crate::operands::output_operand_of;
 use crate::table::FieldTable;
 use rpg_cards::SpecCard;
-use rpg_edit::Fill;
 use rpg_effect::condition::{Condition, Conditions};
 use rpg_effect::line::{Editing, File, LineField, Source, Spacing, Time};
 use rpg_effect::operation::Operand;
+use rpg_marks::Fill;
 use rpg_program::row::Line;
 use rpg_spec::{OutputField, OutputRecord, Three};
 use std::alloc::{AllocError, Global};

@@ -1,6 +1,6 @@
 use Rattle.std.proofs.Common.{arith, ◌∙◌, to_z-of_z}
 use Rattle.std.proofs.lemmas.List.{append-nil, drop_all}
-use Rattle.rpg_edit.specs.How.{width_of}
+use Rattle.rpg_marks.specs.How.{width_of}
 use Rattle.rpg_calls.proofs.edited.write_text.Goals as goal
 
 -- nothing is left behind the text

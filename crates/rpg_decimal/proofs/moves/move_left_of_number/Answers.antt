@@ -1,8 +1,8 @@
 use Rattle.std.proofs.Common.{rules, unsigned_abs, if◌then◌else◌, ap, sym, ◌∙◌, to_z-of_z, FitsSigned, w64}
 use Rattle.std.specs.Int.{is_negative}
 use Rattle.std.proofs.lemmas.Bool.{lt-ltb}
-use Rattle.rpg_decimal.specs.Move.{overlay_left}
-use Rattle.rpg_decimal.specs.Place.{digits, signed_number}
+use Rattle.rpg_numbers.specs.Move.{overlay_left}
+use Rattle.rpg_numbers.specs.Place.{digits, signed_number}
 use Rattle.rpg_decimal.proofs.WholeLemmas.{back_64}
 use Rattle.rpg_decimal.proofs.MoveLemmas.{sign_is}
 use Rattle.rpg_decimal.proofs.moves.move_left_of_number.Goals as goal

@@ -1,6 +1,6 @@
 use Rattle.std.proofs.Common.{rules, unsigned_abs, ◌∙◌, to_z-of_z, FitsSigned, w64}
-use Rattle.rpg_decimal.specs.Move.{overlay_right}
-use Rattle.rpg_decimal.specs.Place.{digits}
+use Rattle.rpg_numbers.specs.Move.{overlay_right}
+use Rattle.rpg_numbers.specs.Place.{digits}
 use Rattle.rpg_decimal.proofs.WholeLemmas.{back_64}
 use Rattle.rpg_decimal.proofs.MoveLemmas.{sign_is}
 use Rattle.rpg_decimal.proofs.moves.move_right_of_number.Goals as goal

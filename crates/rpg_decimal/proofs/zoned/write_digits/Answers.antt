@@ -1,7 +1,7 @@
 use Rattle.std.proofs.Common.{◌≡◌, ℕ, ◌+◌, ◌-◌, ◌/◌, ◌%◌, ◌^◌, ◌<◌, ◌≤◌, List, length, set, get_or, ap, sym, ◌∙◌, arith, inl, inr, length-set, get_or-set_same, get_or-set_other}
 use Rattle.std.proofs.lemmas.List.{ext_get_or, get_or-map, length-map}
 use Rattle.std.proofs.lemmas.Bool.{cases_eq}
-use Rattle.rpg_decimal.specs.Place.{digits}
+use Rattle.rpg_numbers.specs.Place.{digits}
 use Rattle.rpg_decimal.proofs.PlaceLemmas.{get_or-digits, length-digits, div-ten_more}
 use Rattle.rpg_decimal.proofs.zoned.write_digits.Goals as goal
 

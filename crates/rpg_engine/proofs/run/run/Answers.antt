@@ -2,7 +2,7 @@ use Rattle.std.proofs.Common.{◌≡◌, ◌∙◌, sym, ap, subst, max, arith, 
 use Rattle.std.proofs.lemmas.Result.{err_from_is_err_and}
 use Rattle.rpg_cycle.specs.Job.{AtWork}
 use Rattle.rpg_cycle.specs.Stages.{is_going}
-use Rattle.rpg_edit.specs.Paper.{end_of}
+use Rattle.rpg_form.specs.Paper.{end_of}
 use Rattle.rpg_engine.specs.Streaming.{stage_of}
 use Rattle.rpg_engine.specs.declared.report.Report.{Report}
 use Rattle.rpg_engine.proofs.Stopping.{none_of_run, reading_faults, some_of_run, stopped_reading, stopped_sending, stream_reports}

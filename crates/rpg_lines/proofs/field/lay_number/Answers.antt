@@ -1,5 +1,5 @@
 use Rattle.std.proofs.lemmas.Int.{to_z-of_z}
-use Rattle.rpg_edit.specs.How.{edited, width_of}
+use Rattle.rpg_marks.specs.How.{edited, width_of}
 use Rattle.rpg_lines.proofs.Fields.{laid_at_end}
 use Rattle.rpg_lines.proofs.field.lay_number.Goals as goal
 

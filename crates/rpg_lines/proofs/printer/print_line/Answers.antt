@@ -1,6 +1,6 @@
 use Rattle.std.proofs.Common.{◌++◌, Some, refl, ap, ◌∙◌, nat_cmp}
-use Rattle.rpg_edit.specs.Form.{Standing, here_of, way_of}
-use Rattle.rpg_edit.specs.Paper.{trimmed}
+use Rattle.rpg_form.specs.Form.{Standing, here_of, way_of}
+use Rattle.rpg_form.specs.Paper.{trimmed}
 use Rattle.rpg_effect.proofs.Printing.{form_of, from_line, print_done}
 use Rattle.rpg_effect.specs.World.{World}
 use Rattle.rpg_lines.specs.Outputs.{bytes_of}

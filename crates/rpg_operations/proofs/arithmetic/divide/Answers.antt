@@ -2,7 +2,7 @@ use Rattle.std.proofs.Common.{◌≡◌, ℤ, pos, Bool, false, Option, Some, sy
 use Rattle.std.specs.Int.{w64}
 use Rattle.std.specs.Option.{option_map}
 use Rattle.std.specs.Ordering.{int_eq}
-use Rattle.rpg_decimal.specs.Fraction.{Fraction, over, stored_number}
+use Rattle.rpg_numbers.specs.Fraction.{Fraction, over, stored_number}
 use Rattle.rpg_decimal.specs.Num.{value_of}
 use Rattle.rpg_decimal.specs.declared.num.Target.{Target}
 use Rattle.rpg_effect.specs.Act.{divided, kept}

@@ -2,7 +2,7 @@ use Rattle.std.proofs.Common.{◌≡◌, ℕ, ◌+◌, ◌<◌, List, All, lengt
 use Rattle.std.proofs.lemmas.List.{length-map}
 use Rattle.std.proofs.lemmas.Option.{slice_get-get_or, slice_get-map}
 use Rattle.std.specs.Option.{option_map}
-use Rattle.rpg_edit.specs.Form.{Standing}
+use Rattle.rpg_form.specs.Form.{Standing}
 use Rattle.rpg_effect.specs.Ends.{end_of}
 use Rattle.rpg_effect.specs.Forms.{form_at}
 use Rattle.rpg_effect.specs.Input.{input_fault, record_in}

@@ -1,0 +1,4 @@
+pub mod Code
+pub mod Edited
+pub mod How
+pub mod Word

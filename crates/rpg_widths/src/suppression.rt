@@ -1,0 +1,8 @@
+//! What is suppressed in a number.
+
+/// What stands for leading zeros, and how many of the last digits always show.
+#[derive(Clone, Copy)]
+pub struct Suppression {
+    pub kept: u8,
+    pub fill: u8,
+}
