@@ -1,5 +1,5 @@
 -- What phases take, and that all of them together are within the bound.
-use Rattle.std.proofs.Common.{◌≡◌, ℕ, ◌≤◌, ◌<◌, ◌+◌, ◌-◌, ◌*◌, ◌^◌, suc, Bool, true, false, cond, ◌&&◌, not, leb, List, [], ◌∷◌, length, slice_get, slice_index, Option, None, Some, is_some, refl, ap, ◌∙◌, arith}
+use Rattle.std.proofs.Common.{◌≡◌, ℕ, ◌≤◌, ◌<◌, ◌+◌, ◌-◌, ◌*◌, ◌^◌, suc, Bool, true, false, cond, ◌&&◌, not, leb, List, [], ◌∷◌, length, slice_get, slice_index, Option, None, Some, is_some, refl, ap, ◌∙◌, subst, arith}
 use Rattle.std.proofs.lemmas.Bool.Decides.{nat_tests}
 use Rattle.std.specs.List.{list_all}
 use Rattle.rpg_form.specs.Paper.{Position}
@@ -16,12 +16,14 @@ use Rattle.rpg_records.specs.Identifying.{IsOf, Misplaced, holds, identified, is
 use Rattle.rpg_cycle.specs.Phases.{all_off}
 use Rattle.rpg_cycle.specs.Spending.{Selects, Spends, cycle_weight, first_cost, inputs_weight, reach, record_weight}
 use Rattle.rpg_machine.specs.Config.{Config}
+use Rattle.rpg_machine.specs.Potential.{InBound}
 use Rattle.rpg_machine.specs.Outputs.{FillsFields, PutsOut, inputs_at, inputs_of, output_weight}
 use Rattle.rpg_machine.specs.Running.{Did, Running, refilled}
 use Rattle.rpg_machine.specs.declared.time.OutputTime.{OutputTime}
 use Rattle.rpg_machine.specs.declared.time.OutputTime.TheVariants as spoken
 use Rattle.rpg_program.specs.Object.{Object, lines_of}
 use Rattle.rpg_program.specs.Sections.{first_of}
+use Rattle.rpg_program.specs.declared.section.Section.{Section}
 use Rattle.rpg_program.specs.declared.section.Section.TheVariants as sections
 use Rattle.rpg_verify.specs.Bound.{bound, cost_in, most, once}
 use Rattle.rpg_verify.specs.Bound as bounds
@@ -43,6 +45,13 @@ same_reach p q a b is =
 pub some_before : (last : Option ℕ) → (previous : Option Position) × (last ≡ line_of previous)
 some_before None = (None, refl)
 some_before (Some n) = (Some (record { page = 1; line = n }), refl)
+
+-- a section, which keeps within its bound
+pub section_spends : (p : Object) (s : Section) (a b : Running) → a.program ≡ p → InBound s a b → Spends p (first_cost p s) a b
+section_spends p s a b same low = subst (λ q. Spends q (first_cost q s) a b) same (record { few = in_order a.config.steps (first_cost a.program s) (a.config.allowance * most a.program) (reach a.program b) low })
+  where
+    in_order : (x y z n : ℕ) → n ≤ x + y + z → n ≤ x + z + y
+    in_order x y z n h = omega (arith, h)
 
 -- what the machine puts out, and the fields that it fills
 pub output_spends : (p : Object) (time : OutputTime) (e : effects.End) (a b : Running) → a.program ≡ p → Did (PutsOut a.program time) a e b → Spends p (output_weight p time) a b
