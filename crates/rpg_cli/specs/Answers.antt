@@ -1,9 +1,9 @@
 -- The line and the exit status of each answer.
 use Rattle.std.specs.Prelude.{ℕ, List, ◌++◌, codes, decimal}
-use Rattle.rpg_format.specs.declared.fault.Code.{Code}
-use Rattle.rpg_format.specs.declared.fault.Code.TheVariants.{NoObject, Version, CutShort, LeftOver, NotAllowed, Unused, PastLimit}
-use Rattle.rpg_rules.specs.Rules.{number}
-use Rattle.rpg_compile.specs.Codes.{text as source_code_text}
+use Rattle.rpg_bytes.specs.Code.{Code}
+use Rattle.rpg_bytes.specs.Code.TheVariants.{NoObject, Version, CutShort, LeftOver, NotAllowed, Unused, PastLimit}
+use Rattle.rpg_bytes.specs.Rules.{number}
+use Rattle.rpg_bytes.specs.Codes.{text as source_code_text}
 use Rattle.rpg_cli.specs.declared.answer.Answer.{Answer}
 use Rattle.rpg_cli.specs.declared.answer.Answer.TheVariants as answer
 

@@ -1,5 +1,4 @@
--- What the verifier says of bytes, the answer to each outcome, the lines of answers, and what the program prints.
+-- The answer to each outcome, the lines of answers, and what the program prints.
 pub mod Answers
 pub mod Outcomes
 pub mod Saying
-pub mod Verification

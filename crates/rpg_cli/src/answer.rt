@@ -2,13 +2,10 @@
 
 ghost use Rattle.std.specs.Prelude.{◌≡◌};
 
-use crate::verification::ObjectFault;
 use arrayvec::ArrayVec;
-use rpg_compile::{CompileFault, SourceCode};
-use rpg_cycle::JobEnd;
-use rpg_engine::{Report, RunFault};
-use rpg_object::Code;
-use rpg_verify::Rule;
+use rpg_bytes::{Code, CompileFault, ObjectFault, Rule, SourceCode};
+use rpg_engine::{JobEnd, Report, RunFault};
+use rpg_io::FileFault;
 
 /// How a command ended. Of a job that ended `cycles` is the number of cycles, one that halted among them, `most` the most
 /// steps of one, and `bound` the steps that no cycle of the program can pass.
@@ -137,6 +134,21 @@ impl From<ObjectFault> for Answer {
             ObjectFault::NotAnObject { offset, code } => Answer::NotAnObject { offset, code },
             ObjectFault::Refused { rule, row } => Answer::Refused { rule, row },
             ObjectFault::NoMemory => Answer::NoMemory,
+        }
+    }
+}
+
+impl From<FileFault> for Answer {
+    ghost use Rattle.rpg_cli.specs.Outcomes.{answer_to_file_fault};
+
+    ghost from_gives = { λ fault answer. answer ≡ answer_to_file_fault fault };
+
+    fn from(fault: FileFault) -> Answer {
+        match fault {
+            FileFault::Input => Answer::InputFailed,
+            FileFault::Output => Answer::OutputFailed,
+            FileFault::TooLarge => Answer::FileTooLarge,
+            FileFault::NoMemory => Answer::NoMemory,
         }
     }
 }

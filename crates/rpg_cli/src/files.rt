@@ -1,52 +1,15 @@
 //! The files of a command.
 
 use crate::answer::Answer;
-use crate::translation::compile_to_bytes;
-use crate::verification::{has_disk_file, verify_bytes};
+use rpg_bytes::{compile_to_bytes, has_disk_file, verify_bytes};
 use rpg_engine::{Report, execute};
 use rpg_files::Counted;
+use rpg_io::{file_bytes, flush_device, input_file, new_file, write_bytes};
 use rpg_words::{CompileWords, RunWords, VerifyWords};
 use std::alloc::Global;
-use std::io::{BufWriter, Error, ErrorKind, Read, Write};
+use std::io;
+use std::io::{Read, Write};
 use std::rt::Files;
-use std::{fs, io};
-
-/// The most bytes of a source or object file (this profile).
-const MOST_BYTES: usize = 16_777_216;
-
-fn input_fault(error: Error) -> Answer {
-    match error.kind() {
-        ErrorKind::OutOfMemory => Answer::NoMemory,
-        _ => Answer::InputFailed,
-    }
-}
-
-fn output_fault(error: Error) -> Answer {
-    match error.kind() {
-        ErrorKind::OutOfMemory => Answer::NoMemory,
-        _ => Answer::OutputFailed,
-    }
-}
-
-/// The bytes of a source or object file.
-fn file_bytes<R: Files + AllocGlobal>(rt: &R, path: &str) -> Result<Vec<u8>, Answer> {
-    let file = fs::open(rt, path).map_err(input_fault)?;
-    let mut bytes = Vec::new(rt.alloc());
-    file.take(MOST_BYTES as u64 + 1)
-        .read_to_end(&mut bytes)
-        .map_err(input_fault)?;
-    if bytes.len() > MOST_BYTES {
-        return Err(Answer::FileTooLarge);
-    }
-    Ok(bytes)
-}
-
-/// Makes, or empties, a file of these bytes.
-fn write_bytes<R: Files + AllocGlobal>(rt: &R, path: &str, bytes: &[u8]) -> Result<(), Answer> {
-    let mut file = fs::create(rt, path).map_err(output_fault)?;
-    file.write_all(bytes).map_err(output_fault)?;
-    file.flush().map_err(output_fault)
-}
 
 /// Compiles a source to an object file.
 ///
@@ -57,7 +20,7 @@ pub(crate) fn compile_files<R: Files + AllocGlobal>(
 ) -> Result<(), Answer> {
     let source = file_bytes(rt, words.source)?;
     let object = compile_to_bytes(rt.alloc(), &source, words.allowance)?;
-    write_bytes(rt, words.object, &object)
+    Ok(write_bytes(rt, words.object, &object)?)
 }
 
 /// Verifies an object file: the bound of its program.
@@ -84,12 +47,6 @@ fn disk_path<'a>(
     }
 }
 
-/// A file that is made, or emptied, and is written in large pieces.
-fn new_file<R: Files + AllocGlobal>(rt: &R, path: &str) -> Result<BufWriter<R::File>, Answer> {
-    let file = fs::create(rt, path).map_err(output_fault)?;
-    BufWriter::new(rt.alloc(), file).map_err(output_fault)
-}
-
 /// Runs an object program over an input, and writes out what the writers still hold.
 fn run_over<I: Read + Drop, P: Write + Drop, D: Write + Drop>(
     alloc: Global,
@@ -110,8 +67,8 @@ fn run_over<I: Read + Drop, P: Write + Drop, D: Write + Drop>(
         &mut print,
         &mut disk,
     )?;
-    print.into_device().flush().map_err(output_fault)?;
-    disk.into_device().flush().map_err(output_fault)?;
+    flush_device(print)?;
+    flush_device(disk)?;
     Ok(report)
 }
 
@@ -122,7 +79,7 @@ fn run_object<R: Files + AllocGlobal>(
     object: &[u8],
     disk: Option<&str>,
 ) -> Result<Report, Answer> {
-    let input = fs::open(rt, words.input).map_err(input_fault)?;
+    let input = input_file(rt, words.input)?;
     let print = new_file(rt, words.print)?;
     match disk {
         Some(path) => {

@@ -4,8 +4,8 @@ ghost use Rattle.rpg_cli.specs.Saying.{PrintsALine, Says};
 
 use crate::answer::Answer;
 use crate::files::{compile_files, run_files, verify_file};
-use crate::sending::send_line;
 use crate::text::line;
+use rpg_io::send_line;
 use rpg_words::{Request, request_of};
 use std::io::Write;
 use std::process::ExitCode;

@@ -2,16 +2,14 @@
 
 ghost use Rattle.std.specs.Prelude.{◌≡◌, ◌+◌, ◌≤◌, ◌++◌, length, codes, decimal};
 ghost use Rattle.arrayvec.specs.ArrayVec.{array_vec_len};
-ghost use Rattle.rpg_rules.specs.Rules.{number};
+ghost use Rattle.rpg_bytes.specs.Rules.{number};
 ghost use Rattle.rpg_cli.specs.Answers.{code_text, exit_status, line_text, run_text};
-ghost use Rattle.rpg_compile.specs.Codes.{text as source_code_text};
+ghost use Rattle.rpg_bytes.specs.Codes.{text as source_code_text};
 
 use crate::answer::{Answer, Line};
 use arrayvec::ArrayVec;
 use itoa::Buffer;
-use rpg_compile::SourceCode;
-use rpg_object::Code;
-use rpg_verify::Rule;
+use rpg_bytes::{Code, Rule, SourceCode};
 
 /// A line under construction.
 type Text = ArrayVec<u8, 96>;

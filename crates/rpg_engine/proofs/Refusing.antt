@@ -5,10 +5,11 @@ use Rattle.std.proofs.KnownBytes.{Appends-nil, Consumes-nil}
 use Rattle.rpg_effect.specs.Put.{Bytes}
 use Rattle.rpg_files.specs.Counting.{device_of, faults_of}
 use Rattle.rpg_files.specs.declared.counting.Counted.{Counted}
-use Rattle.rpg_engine.specs.Faults.{FaultsAre}
+use Rattle.rpg_engine.specs.Faults.{Counts, FaultsAre}
 use Rattle.rpg_files.specs.Sending.{AppendsFirst, AppendsPrefix}
 use Rattle.rpg_program.specs.Object.{Object}
 use Rattle.rpg_engine.specs.Inputs.{OfInput}
+use Rattle.rpg_cycle.specs.Starting.{date_in}
 use Rattle.rpg_cycle.specs.Job.{AtWork, Starts, first_fields, started}
 use Rattle.rpg_rules.specs.Accepted.{IsAccepted}
 use Rattle.rpg_engine.specs.Refusing.{IsJobOf, IsObjectFault, IsToldOf, MayRun, Spells, start_fault}
@@ -108,3 +109,31 @@ faults_same {X} {R} result old new old' new' print disk print' disk' remaining s
     (record { reader = faults_of old'; print = faults_of print; disk = faults_of disk }) (record { reader = faults_of x; print = faults_of print'; disk = faults_of disk' })) left
     (subst (λ (x : Counted R). FaultsAre result (remaining (device_of x)) (remaining (device_of new))
     (record { reader = faults_of x; print = faults_of print; disk = faults_of disk }) (record { reader = faults_of new; print = faults_of print'; disk = faults_of disk' })) same holds)
+
+-- ---- what is told where no job began
+
+pub object_told : (e : RunFault) (object date : List ℕ) → IsObjectFault e object → IsToldOf {X = Report} (Err e) object date
+object_told (faults.Object offset code) object date is = is
+object_told (faults.Refused rule row) object date is = is
+object_told faults.Date object date is = absurd is
+object_told faults.Read object date is = absurd is
+object_told (faults.Print sent) object date is = absurd is
+object_told (faults.Disk sent) object date is = absurd is
+object_told faults.NoMemory object date is = tt
+
+pub object_counts : (e : RunFault) (object : List ℕ) (given left : Option (List ℕ)) (counts : Counts) → IsObjectFault e object → FaultsAre {X = Report} (Err e) given left counts counts
+object_counts (faults.Object offset code) object given left counts is = refl
+object_counts (faults.Refused rule row) object given left counts is = refl
+object_counts faults.Date object given left counts is = absurd is
+object_counts faults.Read object given left counts is = absurd is
+object_counts (faults.Print sent) object given left counts is = absurd is
+object_counts (faults.Disk sent) object given left counts is = absurd is
+object_counts faults.NoMemory object given left counts is = refl
+
+pub start_told : (fault : StartFault) (object date : List ℕ) (p : Object) → Spells object p → IsAccepted p → (fault ≡ starting.D1 → date_in date ≡ None) → IsToldOf {X = Report} (Err (start_fault fault)) object date
+start_told starting.D1 object date p spells accepted dated = (p, spells, accepted, dated refl)
+start_told starting.NoMemory object date p spells accepted dated = tt
+
+pub start_counts : (fault : StartFault) (given left : Option (List ℕ)) (counts : Counts) → FaultsAre {X = Report} (Err (start_fault fault)) given left counts counts
+start_counts starting.D1 given left counts = refl
+start_counts starting.NoMemory given left counts = refl

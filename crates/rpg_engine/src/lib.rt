@@ -11,3 +11,6 @@ mod sending;
 pub use engine::execute;
 pub use fault::RunFault;
 pub use report::Report;
+pub use rpg_cycle::{
+    Job, JobEnd, run_records, runs_are_one, runs_are_short, unneeded_records_are_ignored,
+};

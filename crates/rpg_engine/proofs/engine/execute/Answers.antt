@@ -1,8 +1,8 @@
-use Rattle.std.proofs.Common.{◌≡◌, ◌∙◌, ap, sym, rules}
+use Rattle.std.proofs.Common.{◌≡◌, ◌∙◌, Err, ap, refl, sym, rules}
 use Rattle.rpg_files.specs.Counting.{device_of}
 use Rattle.rpg_files.specs.Reading.{source_of}
 use Rattle.std.proofs.lemmas.Result.{err_from_is_err_and}
-use Rattle.rpg_engine.proofs.Refusing.{may_run, no_room, not_started, object_refused, on_err, on_ok, faults_same, parts_same, reports_same, told_of_run}
+use Rattle.rpg_engine.proofs.Refusing.{faults_same, may_run, no_room, not_started, object_counts, object_refused, object_told, on_err, on_ok, parts_same, reports_same, start_counts, start_told, told_of_run}
 use Rattle.rpg_engine.proofs.engine.execute.Goals as goal
 
 pub returns-in_err-verified-clause-early : goal.returns-in_err-verified-clause-early
@@ -41,3 +41,37 @@ pub returns-clause-faults : goal.returns-clause-faults
 returns-clause-faults g c =
     let same : source_of c.run-report.new.records ≡ c.input-1.given.0 = search rules in
     faults_same c.run-report.result _ _ _ _ c.args.print.now c.args.disk.now c.run-report.new.print c.run-report.new.disk g.R.Read.remaining c.new-records.ensures.untouched same c.run-report.ensures.faults
+
+-- what is told where no job began
+pub returns-in_err-verified-clause-refused : goal.returns-in_err-verified-clause-refused
+returns-in_err-verified-clause-refused g c =
+    let e = err_from_is_err_and c.from_residual.result c.from_residual.ensures.1 in
+    rw (e.1, e.2) (object_told _ c.args.object.now c.args.date.now c.in_err-verified.ensures.refused)
+
+pub returns-in_err-verified-clause-faults : goal.returns-in_err-verified-clause-faults
+returns-in_err-verified-clause-faults g c =
+    let e = err_from_is_err_and c.from_residual.result c.from_residual.ensures.1 in
+    rw (e.1, e.2) (object_counts _ c.args.object.now _ _ _ c.in_err-verified.ensures.refused)
+
+pub returns-in_err-job-clause-refused : goal.returns-in_err-job-clause-refused
+returns-in_err-job-clause-refused g c =
+    let e = err_from_is_err_and c.from_residual-in_err-job.result c.from_residual-in_err-job.ensures.1 in
+    rw (e.1, e.2) (start_told _ c.args.object.now c.args.date.now c.in_ok-verified.verified c.in_ok-verified.ensures.spelled c.in_ok-verified.ensures.accepted (λ is. c.in_err-job.ensures.date (ap Err is)))
+
+pub returns-in_err-job-clause-faults : goal.returns-in_err-job-clause-faults
+returns-in_err-job-clause-faults g c =
+    let e = err_from_is_err_and c.from_residual-in_err-job.result c.from_residual-in_err-job.ensures.1 in
+    rw (e.1, e.2) (start_counts _ _ _ _)
+
+pub returns-in_err-room-clause-refused : goal.returns-in_err-room-clause-refused
+returns-in_err-room-clause-refused g c =
+    let e = err_from_is_err_and c.from_residual-in_err-room.result c.from_residual-in_err-room.ensures.1 in
+    rw (e.1, e.2) tt
+
+pub returns-in_err-room-clause-faults : goal.returns-in_err-room-clause-faults
+returns-in_err-room-clause-faults g c =
+    let e = err_from_is_err_and c.from_residual-in_err-room.result c.from_residual-in_err-room.ensures.1 in
+    rw (e.1, e.2) refl
+
+pub returns-clause-untouched : goal.returns-clause-untouched
+returns-clause-untouched g c = λ none. absurd (none (may_run c.args.object.now c.args.date.now c.in_ok-verified.verified c.in_ok-job.job c.in_ok-verified.ensures.spelled c.in_ok-verified.ensures.accepted c.in_ok-job.ensures.start))

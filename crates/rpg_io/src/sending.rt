@@ -49,7 +49,7 @@ fn send<W: Write>(writer: &mut W, bytes: &[u8]) -> Result<(), WriteFault>
 }
 
 /// Writes a line and its line feed, and answers whether all of it went out.
-pub(crate) fn send_line<W: Write>(writer: &mut W, text: &[u8]) -> bool
+pub fn send_line<W: Write>(writer: &mut W, text: &[u8]) -> bool
     ensures { MatchBool result (Appends (W.contents writer.old) (W.contents writer.new) (with_line_feed text.now))
         (AppendsPrefix (W.contents writer.old) (W.contents writer.new) (with_line_feed text.now)) }
 {

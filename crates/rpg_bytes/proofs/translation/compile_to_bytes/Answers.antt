@@ -1,8 +1,8 @@
 use Rattle.std.proofs.Common.{rules, ap, ◌∙◌}
-use Rattle.rpg_cli.proofs.Spelled.{faultless}
+use Rattle.rpg_bytes.proofs.Spelled.{faultless}
 use Rattle.rpg_object.specs.Program.{reading}
 use Rattle.rpg_program.specs.Kept.{IsProgram}
-use Rattle.rpg_cli.proofs.translation.compile_to_bytes.Goals as goal
+use Rattle.rpg_bytes.proofs.translation.compile_to_bytes.Goals as goal
 
 pub returns-clause-ok : goal.returns-clause-ok
 returns-clause-ok c =

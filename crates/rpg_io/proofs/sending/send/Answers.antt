@@ -1,7 +1,7 @@
 use Rattle.std.proofs.Common.{◌≡◌, ◌≤◌, length, drop, arith, length-drop}
 use Rattle.std.proofs.Math.Seq.{take-add}
 use Rattle.std.proofs.KnownBytes.{Appends-trans}
-use Rattle.rpg_cli.proofs.sending.send.Goals as goal
+use Rattle.rpg_io.proofs.sending.send.Goals as goal
 
 pub loop-sent-preserved : goal.loop-sent-preserved
 loop-sent-preserved g c =

@@ -11,8 +11,8 @@ use Rattle.rpg_rules.specs.Rules.{broken, number}
 use Rattle.rpg_verify.specs.Bound as verified
 use Rattle.rpg_verify.specs.declared.verified.VerifyFault.{VerifyFault}
 use Rattle.rpg_verify.specs.declared.verified.VerifyFault.TheVariants as verifying
-use Rattle.rpg_cli.specs.declared.verification.ObjectFault.{ObjectFault}
-use Rattle.rpg_cli.specs.declared.verification.ObjectFault.TheVariants as faults
+use Rattle.rpg_bytes.specs.declared.verification.ObjectFault.{ObjectFault}
+use Rattle.rpg_bytes.specs.declared.verification.ObjectFault.TheVariants as faults
 
 -- these bytes are the object program's
 pub record IsSpelled (p : Object) (bytes : List ℕ) : Type 0 where

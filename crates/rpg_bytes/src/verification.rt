@@ -1,7 +1,7 @@
 //! The bytes of an object program to what the verifier says of it.
 
 ghost use Rattle.std.specs.Prelude.{◌≡◌, nat_lt, IfErr, IfOk};
-ghost use Rattle.rpg_cli.specs.Verification.{HasFault, IsAcceptedWith, IsSpelled};
+ghost use Rattle.rpg_bytes.specs.Verification.{HasFault, IsAcceptedWith, IsSpelled};
 ghost use Rattle.rpg_program.specs.Object.{Object};
 
 use rpg_object::{Code, DecodeFault, decode};
@@ -19,7 +19,7 @@ pub enum ObjectFault {
 }
 
 impl From<DecodeFault> for ObjectFault {
-    ghost use Rattle.rpg_cli.specs.Verification.{undecoded};
+    ghost use Rattle.rpg_bytes.specs.Verification.{undecoded};
 
     ghost from_gives = { λ fault e. e ≡ undecoded fault };
 
@@ -32,7 +32,7 @@ impl From<DecodeFault> for ObjectFault {
 }
 
 impl From<VerifyFault> for ObjectFault {
-    ghost use Rattle.rpg_cli.specs.Verification.{unverified};
+    ghost use Rattle.rpg_bytes.specs.Verification.{unverified};
 
     ghost from_gives = { λ fault e. e ≡ unverified fault };
 
@@ -57,7 +57,7 @@ pub fn verify_bytes(alloc: Global, bytes: &[u8]) -> Result<u64, ObjectFault>
 }
 
 /// Whether the program that the bytes spell writes a disk file.
-pub(crate) fn has_disk_file(alloc: Global, object: &[u8]) -> Result<bool, ObjectFault>
+pub fn has_disk_file(alloc: Global, object: &[u8]) -> Result<bool, ObjectFault>
     ensures told { IfOk result (λ has. (p : Object) × IsSpelled p object.now × (has ≡ nat_lt 0 p.disk_length)) }
     ensures refused { IfErr result (λ fault. HasFault fault object.now) }
 {

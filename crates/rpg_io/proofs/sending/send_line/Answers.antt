@@ -1,5 +1,5 @@
-use Rattle.rpg_cli.proofs.Parts.{part_of_front, front_and_part}
-use Rattle.rpg_cli.proofs.sending.send_line.Goals as goal
+use Rattle.rpg_io.proofs.Parts.{part_of_front, front_and_part}
+use Rattle.rpg_io.proofs.sending.send_line.Goals as goal
 
 pub returns-in_default : goal.returns-in_default
 returns-in_default g c = part_of_front _ _ _ _ _ c.in_default.ensures.err

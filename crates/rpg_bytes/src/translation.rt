@@ -1,7 +1,7 @@
 //! A source to the bytes of its object program.
 
 ghost use Rattle.std.specs.Prelude.{◌≡◌, ◌<◌, None, Ok, IfErr, IfOk};
-ghost use Rattle.rpg_cli.specs.Verification.{IsSpelled};
+ghost use Rattle.rpg_bytes.specs.Verification.{IsSpelled};
 ghost use Rattle.rpg_compile.specs.Compile.{Compiles, IsRefusal};
 ghost use Rattle.rpg_object.specs.Program.{first_fault, reading};
 ghost use Rattle.rpg_program.specs.Object.{Object};

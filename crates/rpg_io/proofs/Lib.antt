@@ -1,0 +1,2 @@
+-- Lemmas on parts of an output.
+pub mod Parts
