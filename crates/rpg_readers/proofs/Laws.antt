@@ -166,10 +166,7 @@ pub IsTable-lower : {X : Type 0} (a b c : ℕ) (f : Columns X) → a ≤ b → I
 IsTable-lower a b c f h p = record { good = p.good; first = p.first; rises = λ card. lower a b (f.bad card) c h (p.rises card) }
 
 -- what a reader of the table answers
-pub good_of : {X : Type 0} {f : Columns X} {low high : ℕ} → IsTable f low high → (card : List ℕ) (r : Result X ColumnFault) → r ≡ f.reading card → OnOk r (f.bad card ≡ [])
-good_of p card (Ok x) e = p.good card x (sym e)
-good_of p card (Err d) e = tt
-
-pub least_of : {X : Type 0} {f : Columns X} {low high : ℕ} → IsTable f low high → (card : List ℕ) (r : Result X ColumnFault) → r ≡ f.reading card → IfErr r (λ fault. IsLeast (f.bad card) fault.column)
-least_of p card (Ok x) e = tt
-least_of {X} {f} {low} {high} p card (Err d) e = least f low high p card d (sym e)
+pub read_by : {X : Type 0} {f : Columns X} {low high : ℕ} → IsTable f low high → (card : List ℕ) (r : Result X ColumnFault) → r ≡ f.reading card
+    → record { value : r ≡ f.reading card; good : OnOk r (f.bad card ≡ []); least : IfErr r (λ fault. IsLeast (f.bad card) fault.column) }
+read_by p card (Ok x) e = record { value = e; good = p.good card x (sym e); least = tt }
+read_by {X} {f} {low} {high} p card (Err d) e = record { value = e; good = tt; least = least f low high p card d (sym e) }

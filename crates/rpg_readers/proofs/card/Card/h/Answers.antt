@@ -1,12 +1,6 @@
-use Rattle.rpg_readers.proofs.Laws.{good_of, least_of}
+use Rattle.rpg_readers.proofs.Laws.{read_by}
 use Rattle.rpg_readers.proofs.CardLaws.{header_law}
 use Rattle.rpg_readers.proofs.card.Card.h.Goals as goal
 
-pub returns-clause-value : goal.returns-clause-value
-returns-clause-value c = c.header.ensures
-
-pub returns-clause-good : goal.returns-clause-good
-returns-clause-good c = good_of header_law c.args.self.now _ c.header.ensures
-
-pub returns-clause-least : goal.returns-clause-least
-returns-clause-least c = least_of header_law c.args.self.now _ c.header.ensures
+pub returns : goal.returns
+returns c = read_by header_law c.args.self.now _ c.header.ensures

@@ -1,12 +1,6 @@
-use Rattle.rpg_readers.proofs.Laws.{good_of, least_of}
+use Rattle.rpg_readers.proofs.Laws.{read_by}
 use Rattle.rpg_readers.proofs.CardLaws.{input_card_law}
 use Rattle.rpg_readers.proofs.card.Card.i.Goals as goal
 
-pub returns-clause-value : goal.returns-clause-value
-returns-clause-value c = c.input_card.ensures
-
-pub returns-clause-good : goal.returns-clause-good
-returns-clause-good c = good_of input_card_law c.args.self.now _ c.input_card.ensures
-
-pub returns-clause-least : goal.returns-clause-least
-returns-clause-least c = least_of input_card_law c.args.self.now _ c.input_card.ensures
+pub returns : goal.returns
+returns c = read_by input_card_law c.args.self.now _ c.input_card.ensures
