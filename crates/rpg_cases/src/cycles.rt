@@ -1,7 +1,7 @@
 //! Jobs cycle by cycle, and past their end.
 
-use crate::outcome::Outputs;
-use crate::runs::{Given, records_of};
+use crate::runs::Given;
+use rpg_case_files::{Outputs, records_of};
 use rpg_cli::Job;
 use rpg_cycle::{CycleEnd, StartFault};
 use rpg_store::Store;

@@ -1,6 +1,6 @@
 //! The ways in which an object program runs: over a reader and writers, and by either store over a list of records.
 
-use crate::outcome::Outputs;
+use rpg_case_files::{Outputs, records_of};
 use rpg_cli::{Answer, Counted, Job, JobEnd, Report, execute, line, run_records};
 use rpg_cycle::{CycleEnd, Run, StartFault};
 use rpg_object::decode;
@@ -57,27 +57,6 @@ pub fn run_streamed(alloc: Global, object: &[u8], given: Given<'_>) -> Streamed 
 pub fn accepted(alloc: Global, object: &[u8]) -> Option<Verified> {
     let program = decode(alloc, object).ok()?;
     verify(alloc, program).ok()
-}
-
-/// The records of an input: its lines, without the carriage return before a line feed.
-pub fn records_of(alloc: Global, input: &[u8]) -> Result<Vec<Vec<u8>>, AllocError> {
-    let mut records = Vec::new(alloc);
-    let mut record = Vec::new(alloc);
-    for byte in input {
-        if *byte == b'\n' {
-            if record.last() == Some(&b'\r') {
-                record.pop();
-            }
-            records.push(record)?;
-            record = Vec::new(alloc);
-        } else {
-            record.push(*byte)?;
-        }
-    }
-    if !record.is_empty() {
-        records.push(record)?;
-    }
-    Ok(records)
 }
 
 /// Runs an object in the two other ways over its input's records: nothing where it is refused.
