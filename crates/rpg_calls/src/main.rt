@@ -17,7 +17,8 @@ use line::Line;
 use rpg_form::Form;
 use rpg_symbols::Symbols;
 use std::alloc::{AllocError, Global};
-use std::{env, fs, io};
+use std::io::{self, Write};
+use std::{env, fs};
 
 /// What the lines of a file speak of, one behind another.
 #[derive(Drop)]
@@ -25,15 +26,6 @@ struct State<'a> {
     form: Form,
     symbols: Symbols,
     card: &'a str,
-}
-
-/// What came of a line.
-#[derive(Clone, Copy)]
-enum Verdict {
-    AsTold,
-    Otherwise,
-    /// The line can't be read.
-    Bad,
 }
 
 impl<'a> State<'a> {
@@ -45,12 +37,12 @@ impl<'a> State<'a> {
         })
     }
 
-    fn is_told(
-        &mut self,
-        alloc: Global,
-        call: &str,
-        line: Line<'a>,
-    ) -> Result<Option<bool>, AllocError> {
+    /// Whether a line tells its call's answer, where it can be read.
+    fn is_told(&mut self, alloc: Global, line: &'a str) -> Result<Option<bool>, AllocError> {
+        let mut line = Line::new(line);
+        let Some(call) = line.word() else {
+            return Ok(None);
+        };
         if call == "say" {
             return errors::is_told(alloc, line);
         }
@@ -68,23 +60,24 @@ impl<'a> State<'a> {
             None => printed::is_told(alloc, &mut self.form, call, line),
         }
     }
+}
 
-    fn judge(&mut self, alloc: Global, line: &'a str) -> Result<Verdict, AllocError> {
-        let mut rest = Line::new(line);
-        let Some(call) = rest.word() else {
-            return Ok(Verdict::Bad);
-        };
-        Ok(match self.is_told(alloc, call, rest)? {
-            Some(true) => Verdict::AsTold,
-            Some(false) => Verdict::Otherwise,
-            None => Verdict::Bad,
-        })
-    }
+/// Appends what is told of a line that isn't as told.
+fn complain(
+    alloc: Global,
+    out: &mut Vec<u8>,
+    place: (&str, u64),
+    word: &str,
+    line: &str,
+) -> Result<(), AllocError> {
+    let (path, number) = place;
+    let words = format!(in alloc; "{path}, line {number}: {word}: {line}\n")?;
+    out.extend_from_slice(words.as_str().as_bytes())
 }
 
 /// Tells of the lines of a file. An empty line and one that begins with `#` say nothing.
-fn tell<R: Print + AllocGlobal>(rt: &R, path: &str, text: &str) -> io::Result<()> {
-    let mut state = State::new(rt.alloc())?;
+fn tell(alloc: Global, out: &mut Vec<u8>, path: &str, text: &str) -> Result<(), AllocError> {
+    let mut state = State::new(alloc)?;
     let mut told = 0u64;
     let mut number = 0u64;
     for line in text.lines() {
@@ -92,20 +85,22 @@ fn tell<R: Print + AllocGlobal>(rt: &R, path: &str, text: &str) -> io::Result<()
         if line.is_empty() || line.starts_with('#') {
             continue;
         }
-        match state.judge(rt.alloc(), line)? {
-            Verdict::AsTold => told = told.saturating_add(1),
-            Verdict::Otherwise => println!(rt; "{path}, line {number}: OTHERWISE: {line}")?,
-            Verdict::Bad => println!(rt; "{path}, line {number}: BAD: {line}")?,
+        match state.is_told(alloc, line)? {
+            Some(true) => told = told.saturating_add(1),
+            Some(false) => complain(alloc, out, (path, number), "OTHERWISE", line)?,
+            None => complain(alloc, out, (path, number), "BAD", line)?,
         }
     }
-    println!(rt; "{path}: {told} as told")
+    let words = format!(in alloc; "{path}: {told} as told\n")?;
+    out.extend_from_slice(words.as_str().as_bytes())
 }
 
 fn main(rt: HostRuntime) -> io::Result<()> {
     let words: Vec<String> = env::args(&rt)?.collect(rt.alloc())?;
+    let mut out = Vec::new(rt.alloc());
     for path in words.iter().skip(1) {
         let text = fs::read_to_string(&rt, path.as_str())?;
-        tell(&rt, path.as_str(), text.as_str())?;
+        tell(rt.alloc(), &mut out, path.as_str(), text.as_str())?;
     }
-    Ok(())
+    io::writer(&rt).write_all(&out)
 }

@@ -117,10 +117,19 @@ fn tells_definitions(symbols: &mut Symbols, mut line: Line<'_>) -> Option<bool> 
     Some(is_defined(symbols, name_of(last), form, Ok(last)))
 }
 
+fn last_digit(number: u16) -> u8 {
+    b'0' + (number % 10) as u8
+}
+
 /// N and the last four digits of a number.
 fn name_of(number: u16) -> Name {
-    let digit = |place: u16| b'0' + (number / place % 10) as u8;
-    Name::new(&[b'N', digit(1000), digit(100), digit(10), digit(1)])
+    Name::new(&[
+        b'N',
+        last_digit(number / 1000),
+        last_digit(number / 100),
+        last_digit(number / 10),
+        last_digit(number),
+    ])
 }
 
 /// `look TOTAL = 3` or `look TOTAL = none`

@@ -49,13 +49,13 @@ impl Number {
 /// The number that a text of digits makes behind the digits of another.
 fn read_digits(before: i64, text: &str) -> Option<i64> {
     let mut value = before;
-    for character in text.bytes() {
+    for character in text.as_bytes() {
         if !character.is_ascii_digit() {
             return None;
         }
         value = value
             .checked_mul(10)?
-            .checked_add(i64::from(character - b'0'))?;
+            .checked_add(i64::from(*character - b'0'))?;
     }
     Some(value)
 }

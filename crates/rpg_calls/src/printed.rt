@@ -104,24 +104,31 @@ fn is_line(alloc: Global, form: &mut Form, text: &[u8], wanted: &[u8]) -> Result
     Ok(out.as_slice() == wanted)
 }
 
+/// What a character stands for behind a backslash.
+fn escaped(character: u8) -> u8 {
+    match character {
+        b'n' => b'\n',
+        b'f' => 0x0C,
+        b'r' => b'\r',
+        b'u' => 0x1F,
+        _ => character,
+    }
+}
+
 /// The bytes of a text: `\n` stands for a line feed, `\f` for a form feed, `\r` for a carriage return, `\u` for the byte below the
 /// blank, and `\` before any other character for that character.
 pub fn unescaped(alloc: Global, text: &str) -> Result<Vec<u8>, AllocError> {
     let mut bytes = Vec::new(alloc);
     let mut is_escaped = false;
-    for byte in text.bytes() {
-        if byte == b'\\' && !is_escaped {
+    for byte in text.as_bytes() {
+        if is_escaped {
+            bytes.push(escaped(*byte))?;
+            is_escaped = false;
+        } else if *byte == b'\\' {
             is_escaped = true;
-            continue;
+        } else {
+            bytes.push(*byte)?;
         }
-        bytes.push(match byte {
-            b'n' if is_escaped => b'\n',
-            b'f' if is_escaped => 0x0C,
-            b'r' if is_escaped => b'\r',
-            b'u' if is_escaped => 0x1F,
-            _ => byte,
-        })?;
-        is_escaped = false;
     }
     Ok(bytes)
 }

@@ -1,9 +1,9 @@
 //! Jobs cycle by cycle, and past their end.
 
-use crate::outcome::Outputs;
-use crate::runs::{Given, records_of};
+use crate::runs::{Given, record_at};
+use rpg_case_files::{Outputs, records_of};
 use rpg_cli::Job;
-use rpg_cycle::{CycleEnd, StartFault};
+use rpg_cycle::{CycleEnd, Output, StartFault};
 use rpg_store::Store;
 use rpg_verify::Verified;
 use std::alloc::{AllocError, Global};
@@ -29,12 +29,42 @@ impl Tale {
         self.outputs.answer.extend_from_slice(words.as_bytes())
     }
 
+    fn say_number(
+        &mut self,
+        alloc: Global,
+        before: &str,
+        number: u64,
+        behind: &str,
+    ) -> Result<(), AllocError> {
+        let words = format!(in alloc; "{before}{number}{behind}")?;
+        self.say(words.as_str())
+    }
+
     /// Tells whether the job needs a record.
     fn tell_need<S: Store + Drop>(&mut self, job: &Job<'_, S>) -> Result<(), AllocError> {
         if job.needs_record() {
             self.say(", wants a record")?;
         }
         Ok(())
+    }
+
+    fn tell_end(&mut self, alloc: Global, end: CycleEnd) -> Result<(), AllocError> {
+        self.say("; ")?;
+        self.say(end_words(end))?;
+        if let CycleEnd::Halt(number) = end {
+            self.say_number(alloc, " ", u64::from(number), "")?;
+        }
+        Ok(())
+    }
+
+    /// Tells how many bytes a cycle prints, and keeps what it puts out.
+    fn take(&mut self, alloc: Global, output: Output) -> Result<(), AllocError> {
+        let printed = output.print.len();
+        if printed > 0 {
+            self.say_number(alloc, ", ", printed as u64, " bytes")?;
+        }
+        self.outputs.print.extend_from_slice(&output.print)?;
+        self.outputs.disk.extend_from_slice(&output.disk)
     }
 
     /// Tells how a cycle ended, how many steps it took unless the job had ended before, and how many bytes it prints.
@@ -44,24 +74,12 @@ impl Tale {
         job: &mut Job<'_, S>,
         end: CycleEnd,
     ) -> Result<(), AllocError> {
-        self.say("; ")?;
-        self.say(end_words(end))?;
-        if let CycleEnd::Halt(number) = end {
-            let words = format!(in alloc; " {number}")?;
-            self.say(words.as_str())?;
-        }
+        self.tell_end(alloc, end)?;
         if !self.is_over {
-            let words = format!(in alloc; ", steps {}", job.steps())?;
-            self.say(words.as_str())?;
+            self.say_number(alloc, ", steps ", job.steps(), "")?;
         }
         self.is_over = !matches!(&end, CycleEnd::GoesOn);
-        let output = job.take_output();
-        if !output.print.is_empty() {
-            let words = format!(in alloc; ", {} bytes", output.print.len())?;
-            self.say(words.as_str())?;
-        }
-        self.outputs.print.extend_from_slice(&output.print)?;
-        self.outputs.disk.extend_from_slice(&output.disk)
+        self.take(alloc, job.take_output())
     }
 }
 
@@ -73,23 +91,35 @@ fn tell_cycles<S: Store + Drop>(
     records: &[Vec<u8>],
 ) -> Result<(), AllocError> {
     let count = records.len();
+    tale.say("starts")?;
+    tale.tell_need(job)?;
     for turn in 0..count.saturating_add(3) {
         let place = if turn == count.saturating_add(1) {
             count.saturating_sub(1)
         } else {
             turn
         };
-        let next = match records.get(place) {
-            None => None,
-            Some(record) => Some(record.as_slice()),
-        };
-        match job.cycle(next) {
+        match job.cycle(record_at(records, place)) {
             Ok(end) => tale.tell_cycle(alloc, job, end)?,
             Err(_) => tale.say("; no memory")?,
         }
         tale.tell_need(job)?;
     }
     Ok(())
+}
+
+fn tell_job(
+    alloc: Global,
+    tale: &mut Tale,
+    program: &Verified,
+    given: Given<'_>,
+) -> Result<(), AllocError> {
+    let records = records_of(alloc, given.input)?;
+    match Job::start(alloc, program, given.date) {
+        Err(StartFault::NoMemory) => tale.say("no memory"),
+        Err(StartFault::D1) => tale.say("bad date"),
+        Ok(mut job) => tell_cycles(alloc, tale, &mut job, &records),
+    }
 }
 
 /// What is told of a job's cycles over the input's records.
@@ -106,14 +136,6 @@ pub fn cycles_of(
         },
         is_over: false,
     };
-    match Job::start(alloc, program, given.date) {
-        Err(StartFault::NoMemory) => tale.say("no memory")?,
-        Err(StartFault::D1) => tale.say("bad date")?,
-        Ok(mut job) => {
-            tale.say("starts")?;
-            tale.tell_need(&job)?;
-            tell_cycles(alloc, &mut tale, &mut job, &records_of(alloc, given.input)?)?;
-        }
-    }
+    tell_job(alloc, &mut tale, program, given)?;
     Ok(tale.outputs)
 }

@@ -1,83 +1,34 @@
 //! Readers and writers that give and take little, interrupt, or fail, and runs over them.
 
-use crate::outcome::Outputs;
 use crate::runs::{Given, line_of};
+use rpg_case_files::{Devices, Outputs};
 use rpg_cli::{Answer, Counted, Report, RunFault, execute};
 use rpg_files::fakes::{FullWriter, Interrupting, ShortReader, ShortWriter};
 use std::alloc::{AllocError, Global};
 use std::io::Write;
 
-/// What the reader and the writers of a run do.
-#[derive(Clone, Copy)]
-pub struct Devices {
-    /// How many bytes they give or take at once, at most.
-    pieces: usize,
-    /// How many bytes are read until the input fails, and how many are written until the print or the disk file fails.
-    input: usize,
-    print: usize,
-    disk: usize,
-    /// How often each read and each write is interrupted.
-    reads: u32,
-    writes: u32,
-    /// Whether the print takes nothing and doesn't fail.
-    is_full: bool,
+fn reader(devices: Devices, left: &[u8]) -> Interrupting<ShortReader<'_>> {
+    Interrupting {
+        device: ShortReader {
+            left,
+            most: devices.pieces,
+            until_fault: devices.input,
+        },
+        times: devices.reads,
+        interrupted: 0,
+    }
 }
 
-impl Devices {
-    /// Devices that do all that they are asked.
-    pub fn new() -> Devices {
-        Devices {
-            pieces: usize::MAX,
-            input: usize::MAX,
-            print: usize::MAX,
-            disk: usize::MAX,
-            reads: 0,
-            writes: 0,
-            is_full: false,
-        }
-    }
-
-    /// Takes what a line says of them, and answers whether it is known.
-    pub fn take(&mut self, said: &str) -> bool {
-        let (word, value) = said.split_once(' ').unwrap_or((said, ""));
-        let number: u32 = value.parse().unwrap_or(0);
-        let count = number as usize;
-        match word {
-            "pieces" => self.pieces = count,
-            "input" => self.input = count,
-            "print" => self.print = count,
-            "disk" => self.disk = count,
-            "reads" => self.reads = number,
-            "writes" => self.writes = number,
-            "full" => self.is_full = true,
-            _ => return false,
-        }
-        true
-    }
-
-    fn reader(self, left: &[u8]) -> Interrupting<ShortReader<'_>> {
-        Interrupting {
-            device: ShortReader {
-                left,
-                most: self.pieces,
-                until_fault: self.input,
-            },
-            times: self.reads,
-            interrupted: 0,
-        }
-    }
-
-    /// A writer that fails once so many bytes were taken.
-    fn writer(self, alloc: Global, until_fault: usize) -> Interrupting<ShortWriter> {
-        Interrupting {
-            device: ShortWriter {
-                written: Vec::new(alloc),
-                most: self.pieces,
-                until_fault,
-            },
-            times: self.writes,
-            interrupted: 0,
-        }
+/// A writer that fails once so many bytes were taken.
+fn writer(alloc: Global, devices: Devices, until_fault: usize) -> Interrupting<ShortWriter> {
+    Interrupting {
+        device: ShortWriter {
+            written: Vec::new(alloc),
+            most: devices.pieces,
+            until_fault,
+        },
+        times: devices.writes,
+        interrupted: 0,
     }
 }
 
@@ -105,9 +56,9 @@ fn run_onto<P: Write + Drop>(
     devices: Devices,
     print: P,
 ) -> Result<(Outputs, P), AllocError> {
-    let mut input = Counted::new(devices.reader(given.input));
+    let mut input = Counted::new(reader(devices, given.input));
     let mut print = Counted::new(print);
-    let mut disk = Counted::new(devices.writer(alloc, devices.disk));
+    let mut disk = Counted::new(writer(alloc, devices, devices.disk));
     let told = execute(alloc, object, given.date, &mut input, &mut print, &mut disk);
     let outputs = Outputs {
         answer: line_told(alloc, told)?,
@@ -128,7 +79,7 @@ pub fn run_over(
         let (outputs, _print) = run_onto(alloc, object, given, devices, FullWriter)?;
         return Ok(outputs);
     }
-    let print = devices.writer(alloc, devices.print);
+    let print = writer(alloc, devices, devices.print);
     let (outputs, print) = run_onto(alloc, object, given, devices, print)?;
     Ok(Outputs {
         print: print.device.written,

@@ -5,26 +5,21 @@
 #![tactic(auto)]
 
 mod answers;
-mod case;
 mod command;
 mod cycles;
 mod damage;
 mod devices;
-mod mark;
-mod outcome;
 mod runs;
 mod session;
-mod spelling;
 mod sweep;
 mod trial;
 
-use case::{Case, Question};
-use outcome::write_report;
+use rpg_case_files::{Case, Question, write_report};
 use session::play;
 use std::alloc::Global;
 use std::io::{self, Write};
 use std::{env, fs};
-use trial::{told_of, wanted_of};
+use trial::told_of;
 
 /// Does what the case asks, and writes the line that tells what came of it.
 fn run_case<W: Write>(
@@ -39,7 +34,7 @@ fn run_case<W: Write>(
         return out.write_all(b": a mark that isn't known\n");
     }
     let told = told_of(alloc, case, question.task)?;
-    let wanted = wanted_of(alloc, case, question.line)?;
+    let wanted = case.wanted(alloc, question.line)?;
     write_report(alloc, out, case.name, &told, &wanted)
 }
 

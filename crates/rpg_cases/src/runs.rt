@@ -1,8 +1,8 @@
 //! The ways in which an object program runs: over a reader and writers, and by either store over a list of records.
 
-use crate::outcome::Outputs;
+use rpg_case_files::{Outputs, records_of};
 use rpg_cli::{Answer, Counted, Job, JobEnd, Report, execute, line, run_records};
-use rpg_cycle::{CycleEnd, Run, StartFault};
+use rpg_cycle::{CycleEnd, Output, StartFault};
 use rpg_object::decode;
 use rpg_store::{ListedStore, Store, first_values_fit};
 use rpg_verify::{Verified, verify};
@@ -59,39 +59,35 @@ pub fn accepted(alloc: Global, object: &[u8]) -> Option<Verified> {
     verify(alloc, program).ok()
 }
 
-/// The records of an input: its lines, without the carriage return before a line feed.
-pub fn records_of(alloc: Global, input: &[u8]) -> Result<Vec<Vec<u8>>, AllocError> {
-    let mut records = Vec::new(alloc);
-    let mut record = Vec::new(alloc);
-    for byte in input {
-        if *byte == b'\n' {
-            if record.last() == Some(&b'\r') {
-                record.pop();
-            }
-            records.push(record)?;
-            record = Vec::new(alloc);
-        } else {
-            record.push(*byte)?;
-        }
+/// The record of a turn, or none behind the last.
+pub fn record_at(records: &[Vec<u8>], turn: usize) -> Option<&[u8]> {
+    match records.get(turn) {
+        None => None,
+        Some(record) => Some(record.as_slice()),
     }
-    if !record.is_empty() {
-        records.push(record)?;
-    }
-    Ok(records)
 }
 
 /// Runs an object in the two other ways over its input's records: nothing where it is refused.
 pub fn run_listed(alloc: Global, object: &[u8], given: Given<'_>) -> Result<Listed, AllocError> {
-    let Some(program) = accepted(alloc, object) else {
-        return Ok(Listed {
+    let records = records_of(alloc, given.input)?;
+    match accepted(alloc, object) {
+        None => Ok(Listed {
             records: None,
             values: None,
-        });
-    };
-    let records = records_of(alloc, given.input)?;
+        }),
+        Some(program) => run_in_both(alloc, &program, given.date, &records),
+    }
+}
+
+fn run_in_both(
+    alloc: Global,
+    program: &Verified,
+    date: &[u8],
+    records: &[Vec<u8>],
+) -> Result<Listed, AllocError> {
     Ok(Listed {
-        records: run_listed_records(alloc, &program, given.date, &records)?,
-        values: run_listed_values(alloc, &program, given.date, &records)?,
+        records: run_listed_records(alloc, program, date, records)?,
+        values: run_listed_values(alloc, program, date, records)?,
     })
 }
 
@@ -103,24 +99,30 @@ fn run_listed_records(
     records: &[Vec<u8>],
 ) -> Result<Option<Outputs>, AllocError> {
     match run_records(alloc, program, date, records) {
-        Ok(run) => Ok(Some(outputs_of(alloc, program, run)?)),
+        Ok(run) => {
+            let report = Report {
+                ending: run.ending,
+                cycles: run.cycles,
+                most: run.most,
+                bound: program.bound(),
+            };
+            outputs_of(alloc, report, run.output)
+        }
         Err(StartFault::D1) => Ok(None),
         Err(StartFault::NoMemory) => Err(AllocError),
     }
 }
 
-fn outputs_of(alloc: Global, program: &Verified, run: Run) -> Result<Outputs, AllocError> {
-    let report = Report {
-        ending: run.ending,
-        cycles: run.cycles,
-        most: run.most,
-        bound: program.bound(),
-    };
-    Ok(Outputs {
+fn outputs_of(
+    alloc: Global,
+    report: Report,
+    output: Output,
+) -> Result<Option<Outputs>, AllocError> {
+    Ok(Some(Outputs {
         answer: line_of(alloc, &Answer::from(report))?,
-        print: run.output.print,
-        disk: run.output.disk,
-    })
+        print: output.print,
+        disk: output.disk,
+    }))
 }
 
 /// Runs a program by the store that keeps each value apart: nothing on a date that is none.
@@ -133,40 +135,42 @@ fn run_listed_values(
     first_values_fit(program.program());
     let store = ListedStore::new(alloc, program.program())?;
     match Job::start_in(alloc, program, date, store) {
-        Ok(job) => run_out(alloc, program, job, records),
+        Ok(mut job) => run_out(alloc, program.bound(), &mut job, records),
         Err(StartFault::D1) => Ok(None),
         Err(StartFault::NoMemory) => Err(AllocError),
+    }
+}
+
+/// How the job ended, or `None` where it goes on.
+fn ending_of(end: CycleEnd) -> Result<Option<JobEnd>, AllocError> {
+    match end {
+        CycleEnd::GoesOn => Ok(None),
+        CycleEnd::EndOfJob => Ok(Some(JobEnd::EndOfJob)),
+        CycleEnd::Halt(number) => Ok(Some(JobEnd::Halt(number))),
+        CycleEnd::Failed => Err(AllocError),
     }
 }
 
 /// Does the cycles of a job up to the one that ends it.
 fn run_out<S: Store + Drop>(
     alloc: Global,
-    program: &Verified,
-    mut job: Job<'_, S>,
+    bound: u64,
+    job: &mut Job<'_, S>,
     records: &[Vec<u8>],
 ) -> Result<Option<Outputs>, AllocError> {
     let mut most = 0;
     for turn in 0..=records.len() {
-        let next = match records.get(turn) {
-            None => None,
-            Some(record) => Some(record.as_slice()),
-        };
-        let end = job.cycle(next)?;
+        let end = job.cycle(record_at(records, turn))?;
         most = job.steps().max(most);
-        let ending = match end {
-            CycleEnd::GoesOn => continue,
-            CycleEnd::EndOfJob => JobEnd::EndOfJob,
-            CycleEnd::Halt(number) => JobEnd::Halt(number),
-            CycleEnd::Failed => return Err(AllocError),
-        };
-        let run = Run {
-            ending,
-            cycles: (turn as u64).saturating_add(1),
-            most,
-            output: job.take_output(),
-        };
-        return Ok(Some(outputs_of(alloc, program, run)?));
+        if let Some(ending) = ending_of(end)? {
+            let report = Report {
+                ending,
+                cycles: (turn as u64).saturating_add(1),
+                most,
+                bound,
+            };
+            return outputs_of(alloc, report, job.take_output());
+        }
     }
     Ok(None)
 }

@@ -1,7 +1,7 @@
 //! A session: commands, and behind a command that begins a file its lines.
 
 use crate::command::obey;
-use crate::spelling::{hex_of, text_of};
+use rpg_case_files::{hex_of, text_of};
 use std::rt::Files;
 use std::{fs, io};
 

@@ -1,51 +1,14 @@
-//! What a case gives when it is compiled and run in memory, and what it wants.
+//! What a case gives when it is compiled and run in memory.
 
-use crate::case::{Case, Change, Kind, Spelling, Task};
 use crate::cycles::cycles_of;
 use crate::damage::damage;
 use crate::devices::run_over;
-use crate::outcome::{Outputs, Told, Wanted};
 use crate::runs::{Given, accepted, line_of, run_listed, run_streamed};
-use crate::spelling::{hex_of, push_hex, text_of};
 use crate::sweep::sweep;
+use rpg_case_files::{Case, Kind, Outputs, Spelling, Task, Told, text_of};
 use rpg_cli::{Answer, compile_to_bytes, verify_bytes};
 use rpg_object::{decode, encode};
 use std::alloc::{AllocError, Global};
-
-/// The cards, with the changed ones in the place of theirs or behind the last.
-fn cards_of<'a>(alloc: Global, case: &Case<'a>) -> Result<Vec<&'a str>, AllocError> {
-    let mut cards = Vec::from_slice(alloc, case.text.as_slice())?;
-    for change in case.changes.iter() {
-        match cards.get_mut(change.at.saturating_sub(1)) {
-            Some(card) => *card = change.line,
-            None => cards.push(change.line)?,
-        }
-    }
-    Ok(cards)
-}
-
-/// Puts the bytes of a change over those that stand there, or behind the last.
-fn put_over(alloc: Global, object: &mut Vec<u8>, change: Change<'_>) -> Result<(), AllocError> {
-    let mut bytes = Vec::new(alloc);
-    push_hex(&mut bytes, change.line)?;
-    let mut at = change.at;
-    for byte in bytes.iter() {
-        match object.get_mut(at) {
-            Some(there) => *there = *byte,
-            None => object.push(*byte)?,
-        }
-        at = at.saturating_add(1);
-    }
-    Ok(())
-}
-
-fn object_of(alloc: Global, case: &Case<'_>) -> Result<Vec<u8>, AllocError> {
-    let mut object = hex_of(alloc, case.text.as_slice())?;
-    for change in case.changes.iter() {
-        put_over(alloc, &mut object, *change)?;
-    }
-    Ok(object)
-}
 
 /// What is told of one run.
 fn told_once(outputs: Outputs, object: Vec<u8>) -> Told {
@@ -151,7 +114,7 @@ fn told_of_bytes(
 }
 
 fn told_of_object(alloc: Global, case: &Case<'_>, task: Task) -> Result<Told, AllocError> {
-    let object = object_of(alloc, case)?;
+    let object = case.object(alloc)?;
     let mut told = told_of_bytes(alloc, case, task, object)?;
     if let Spelling::Again = case.spelling {
         told.object = spelled_again(alloc, &told.object)?;
@@ -160,7 +123,7 @@ fn told_of_object(alloc: Global, case: &Case<'_>, task: Task) -> Result<Told, Al
 }
 
 fn told_of_source(alloc: Global, case: &Case<'_>, task: Task) -> Result<Told, AllocError> {
-    let cards = cards_of(alloc, case)?;
+    let cards = case.cards(alloc)?;
     let source = text_of(alloc, &cards)?;
     match compile_to_bytes(alloc, &source, case.allowance.max(1)) {
         Err(fault) => answered(alloc, Answer::from(fault), Vec::new(alloc)),
@@ -177,24 +140,4 @@ pub fn told_of(alloc: Global, case: &Case<'_>, task: Task) -> Result<Told, Alloc
         Kind::Object => told_of_object(alloc, case, task),
         Kind::Source => told_of_source(alloc, case, task),
     }
-}
-
-fn wanted_object(alloc: Global, case: &Case<'_>) -> Result<Option<Vec<u8>>, AllocError> {
-    match case.spelling {
-        Spelling::Unasked => Ok(None),
-        Spelling::Given => Ok(Some(hex_of(alloc, case.compiled.as_slice())?)),
-        Spelling::Again => Ok(Some(object_of(alloc, case)?)),
-    }
-}
-
-/// What the case wants, with this line.
-pub fn wanted_of(alloc: Global, case: &Case<'_>, answer: &str) -> Result<Wanted, AllocError> {
-    Ok(Wanted {
-        outputs: Outputs {
-            answer: Vec::from_slice(alloc, answer.as_bytes())?,
-            print: text_of(alloc, case.print.as_slice())?,
-            disk: text_of(alloc, case.disk.as_slice())?,
-        },
-        object: wanted_object(alloc, case)?,
-    })
 }

@@ -41,6 +41,35 @@ pub enum Mark<'a> {
     Unknown,
 }
 
+fn mark_with_text<'a>(word: &str, value: &'a str) -> Mark<'a> {
+    match word {
+        "source" => Mark::Source,
+        "object" => Mark::Object,
+        "input" => Mark::Input,
+        "print" => Mark::Print,
+        "disk" => Mark::Disk,
+        "compiled" => Mark::Compiled,
+        "again" => Mark::Again,
+        "date" => Mark::Date(value),
+        "verify" => Mark::Verify(value),
+        "answer" => Mark::Answer(value),
+        "sweep" => Mark::Sweep(value),
+        "cycles" => Mark::Cycles(value),
+        "damage" => Mark::Damage(value),
+        "device" => Mark::Device(value),
+        _ => Mark::Unknown,
+    }
+}
+
+fn mark_with_number<'a>(word: &str, number: usize, value: &'a str) -> Mark<'a> {
+    match word {
+        "card" | "byte" => Mark::Change(number),
+        "times" => Mark::Times(number),
+        "allowance" => Mark::Allowance(number),
+        _ => mark_with_text(word, value),
+    }
+}
+
 /// What the line says, if it is a marking line.
 pub fn mark_of(line: &str) -> Option<Mark<'_>> {
     if let Some(name) = line.strip_prefix("=== ") {
@@ -48,24 +77,8 @@ pub fn mark_of(line: &str) -> Option<Mark<'_>> {
     }
     let said = line.strip_prefix("--- ")?;
     let (word, value) = said.split_once(' ').unwrap_or((said, ""));
-    Some(match (word, value.parse()) {
-        ("source", _) => Mark::Source,
-        ("object", _) => Mark::Object,
-        ("input", _) => Mark::Input,
-        ("print", _) => Mark::Print,
-        ("disk", _) => Mark::Disk,
-        ("compiled", _) => Mark::Compiled,
-        ("again", _) => Mark::Again,
-        ("date", _) => Mark::Date(value),
-        ("verify", _) => Mark::Verify(value),
-        ("answer", _) => Mark::Answer(value),
-        ("sweep", _) => Mark::Sweep(value),
-        ("cycles", _) => Mark::Cycles(value),
-        ("damage", _) => Mark::Damage(value),
-        ("device", _) => Mark::Device(value),
-        ("card" | "byte", Ok(at)) => Mark::Change(at),
-        ("times", Ok(count)) => Mark::Times(count),
-        ("allowance", Ok(number)) => Mark::Allowance(number),
-        _ => Mark::Unknown,
+    Some(match value.parse() {
+        Ok(number) => mark_with_number(word, number, value),
+        Err(_) => mark_with_text(word, value),
     })
 }

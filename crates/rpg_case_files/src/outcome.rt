@@ -2,7 +2,7 @@
 
 ghost use Rattle.std.specs.Prelude.{◌≡◌, ◌↔◌, [], ◌∷◌, ◌++◌, List, ℕ, None, IfOk, IfSome, IsTrue, OnOk};
 ghost use Rattle.std.specs.Io.KnownBytes.{Appends};
-ghost use Rattle.rpg_cases.specs.Outcome.{Agrees, AreSame, Differs, IsOkLine};
+ghost use Rattle.rpg_case_files.specs.Outcome.{Agrees, AreSame, Differs, IsOkLine};
 
 use std::alloc::{AllocError, Global};
 use std::io::{self, Write};

@@ -1,7 +1,10 @@
 //! A case: a source or an object, and what a run of it is given and is to give.
 
+use crate::bytes::put_over;
 use crate::devices::Devices;
 use crate::mark::{Mark, mark_of};
+use crate::outcome::{Outputs, Wanted};
+use crate::spelling::{hex_of, push_hex, text_of};
 use std::alloc::{AllocError, Global};
 
 #[derive(Clone, Copy)]
@@ -48,9 +51,9 @@ enum Part {
 
 /// A line that stands for another card, or for the bytes from `at` on.
 #[derive(Clone, Copy)]
-pub struct Change<'a> {
-    pub at: usize,
-    pub line: &'a str,
+struct Change<'a> {
+    at: usize,
+    line: &'a str,
 }
 
 /// What is asked of an object's bytes.
@@ -68,19 +71,19 @@ pub enum Spelling {
 pub struct Case<'a> {
     pub name: &'a str,
     pub kind: Kind,
-    pub text: Vec<&'a str>,
-    pub changes: Vec<Change<'a>>,
+    text: Vec<&'a str>,
+    changes: Vec<Change<'a>>,
     pub allowance: u16,
     pub date: &'a str,
     /// Whether the case has an input: a source that has none is only compiled.
     pub is_run: bool,
     pub input: Vec<&'a str>,
-    pub print: Vec<&'a str>,
-    pub disk: Vec<&'a str>,
+    print: Vec<&'a str>,
+    disk: Vec<&'a str>,
     /// What the devices of a run do, where it isn't all that they are asked.
     pub devices: Option<Devices>,
     pub spelling: Spelling,
-    pub compiled: Vec<&'a str>,
+    compiled: Vec<&'a str>,
     /// Whether a mark of the case isn't known.
     pub is_bad: bool,
     part: Part,
@@ -217,5 +220,48 @@ impl<'a> Case<'a> {
         let mut devices = self.devices.unwrap_or(Devices::new());
         self.is_bad = self.is_bad || !devices.take(said);
         self.devices = Some(devices);
+    }
+
+    /// The cards, with the changed ones in the place of theirs or behind the last.
+    pub fn cards(&self, alloc: Global) -> Result<Vec<&'a str>, AllocError> {
+        let mut cards = Vec::from_slice(alloc, self.text.as_slice())?;
+        for change in self.changes.iter() {
+            match cards.get_mut(change.at.saturating_sub(1)) {
+                Some(card) => *card = change.line,
+                None => cards.push(change.line)?,
+            }
+        }
+        Ok(cards)
+    }
+
+    /// The bytes of the object, with the changed ones over those that stand there or behind the last.
+    pub fn object(&self, alloc: Global) -> Result<Vec<u8>, AllocError> {
+        let mut object = hex_of(alloc, self.text.as_slice())?;
+        for change in self.changes.iter() {
+            let mut bytes = Vec::new(alloc);
+            push_hex(&mut bytes, change.line)?;
+            put_over(&mut object, change.at, &bytes)?;
+        }
+        Ok(object)
+    }
+
+    fn wanted_object(&self, alloc: Global) -> Result<Option<Vec<u8>>, AllocError> {
+        match self.spelling {
+            Spelling::Unasked => Ok(None),
+            Spelling::Given => Ok(Some(hex_of(alloc, self.compiled.as_slice())?)),
+            Spelling::Again => Ok(Some(self.object(alloc)?)),
+        }
+    }
+
+    /// What the case wants, with this line.
+    pub fn wanted(&self, alloc: Global, answer: &str) -> Result<Wanted, AllocError> {
+        Ok(Wanted {
+            outputs: Outputs {
+                answer: Vec::from_slice(alloc, answer.as_bytes())?,
+                print: text_of(alloc, self.print.as_slice())?,
+                disk: text_of(alloc, self.disk.as_slice())?,
+            },
+            object: self.wanted_object(alloc)?,
+        })
     }
 }

@@ -1,0 +1,50 @@
+//! What the reader and the writers of a run do.
+
+/// What the reader and the writers of a run do, where it isn't all that they are asked.
+#[derive(Clone, Copy)]
+pub struct Devices {
+    /// How many bytes they give or take at once, at most.
+    pub pieces: usize,
+    /// How many bytes are read until the input fails, and how many are written until the print or the disk file fails.
+    pub input: usize,
+    pub print: usize,
+    pub disk: usize,
+    /// How often each read and each write is interrupted.
+    pub reads: u32,
+    pub writes: u32,
+    /// Whether the print takes nothing and doesn't fail.
+    pub is_full: bool,
+}
+
+impl Devices {
+    /// Devices that do all that they are asked.
+    pub(crate) fn new() -> Devices {
+        Devices {
+            pieces: usize::MAX,
+            input: usize::MAX,
+            print: usize::MAX,
+            disk: usize::MAX,
+            reads: 0,
+            writes: 0,
+            is_full: false,
+        }
+    }
+
+    /// Takes what a line says of them, and answers whether it is known.
+    pub(crate) fn take(&mut self, said: &str) -> bool {
+        let (word, value) = said.split_once(' ').unwrap_or((said, ""));
+        let number: u32 = value.parse().unwrap_or(0);
+        let count = number as usize;
+        match word {
+            "pieces" => self.pieces = count,
+            "input" => self.input = count,
+            "print" => self.print = count,
+            "disk" => self.disk = count,
+            "reads" => self.reads = number,
+            "writes" => self.writes = number,
+            "full" => self.is_full = true,
+            _ => return false,
+        }
+        true
+    }
+}
