@@ -98,7 +98,6 @@ fn conditions(card: &Card) -> Result<Three<Option<Condition>>, ColumnFault>
 }
 
 /// Blank, or a text where no field is named.
-#[tactic(auto, unfolding(rpg_spec::specs::Tables::constant, rpg_spec::specs::Values::blank_or))]
 fn constant(card: &Card) -> Option<Option<TextLiteral<24>>>
     ensures { result ≡ tables.constant card.now (cols 45 70 card.now) }
 {
