@@ -1,9 +1,9 @@
 -- The bytes of a run, and the parts of them that were sent.
-use Rattle.std.proofs.Common.{◌≡◌, ℕ, ◌+◌, ◌≤◌, List, [], ◌∷◌, ◌++◌, length, take, Option, Some, None, refl, sym, ap, ◌∙◌, subst, append_assoc, append-nil, arith, length-append}
+use Rattle.std.proofs.Common.{◌≡◌, ℕ, ◌+◌, List, [], ◌∷◌, ◌++◌, length, take, Option, Some, None, refl, sym, ap, ◌∙◌, subst, append_assoc, append-nil, arith, length-append}
 use Rattle.std.proofs.Math.Seq.{take-append-add, take-length}
 use Rattle.std.proofs.lemmas.List.{take-append-le}
 use Rattle.std.specs.Io.KnownBytes.{Appends}
-use Rattle.std.proofs.KnownBytes.{Appends-nil, Appends-trans}
+use Rattle.std.proofs.KnownBytes.{Appends-trans}
 use Rattle.rpg_cycle.specs.Ends.{End, GoesOn, EndOfJob, Halt, Wrong}
 use Rattle.rpg_cycle.specs.Job.{feed_at, with_feed}
 use Rattle.rpg_cycle.specs.Runs.{last_feed, printed, stored}
@@ -12,8 +12,8 @@ use Rattle.rpg_form.proofs.Papers.{bytes_from-append}
 use Rattle.rpg_form.specs.Paper.{Placed, Position, bytes_from, end_from, end_of, paper}
 use Rattle.rpg_effect.proofs.Putting.{disk-append, end_from-lines}
 use Rattle.rpg_effect.specs.Put.{Bytes, disk_bytes, line_of, with_output}
-use Rattle.rpg_files.specs.Sending.{AppendsFirst, AppendsPrefix}
-use Rattle.rpg_machine.specs.Config.{Output, no_output, with_more}
+use Rattle.rpg_files.specs.Sending.{AppendsFirst}
+use Rattle.rpg_machine.specs.Config.{Output, with_more}
 use Rattle.rpg_machine.specs.Running.{feed_behind, no_bytes}
 use Rattle.rpg_engine.proofs.Courses.{GoesOnWith, IsLast, more_none}
 

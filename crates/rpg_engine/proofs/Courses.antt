@@ -1,5 +1,5 @@
 -- Runs under way: what was done so far, and what is left.
-use Rattle.std.proofs.Common.{◌≡◌, ℕ, zero, suc, ◌+◌, max, List, [], ◌∷◌, ◌++◌, length, Option, None, Some, refl, sym, ap, ◌∙◌, subst, append_assoc, append-nil, arith}
+use Rattle.std.proofs.Common.{◌≡◌, ℕ, suc, ◌+◌, max, List, [], ◌∷◌, ◌++◌, length, None, Some, refl, sym, ap, ◌∙◌, subst, append_assoc, append-nil, arith}
 use Rattle.rpg_records.specs.Earlier.{Selected, left_by, with_record}
 use Rattle.rpg_cycle.specs.Ends.{End, GoesOn, EndOfJob, Halt, Wrong}
 use Rattle.rpg_cycle.specs.Phases.{Cycle, UnderWay, begun}
@@ -8,7 +8,7 @@ use Rattle.rpg_form.specs.Paper.{Placed}
 use Rattle.rpg_machine.specs.Config.{Config, Output, no_output, with_more}
 use Rattle.rpg_program.specs.Object.{Object}
 use Rattle.rpg_engine.specs.Streaming.{HeadCycle}
-use Rattle.rpg_engine.proofs.Determined.{AreSame, cycle_sure}
+use Rattle.rpg_engine.proofs.Determined.{cycle_sure}
 use Rattle.rpg_engine.proofs.Passing.{never_on}
 
 -- a course with cycles before it

@@ -1,15 +1,15 @@
 -- Over the same records a program has one run.
-use Rattle.std.proofs.Common.{◌≡◌, ℕ, zero, suc, ◌+◌, Bool, true, false, List, [], ◌∷◌, Option, Some, None, refl, sym, ap, subst, ◌∙◌, arith, inl, inr}
+use Rattle.std.proofs.Common.{◌≡◌, ℕ, zero, suc, ◌+◌, Bool, true, false, List, Option, Some, None, refl, sym, ap, subst, ◌∙◌, arith, inl, inr}
 use Rattle.std.proofs.lemmas.Bool.{cases_Bool}
 use Rattle.std.specs.Ordering.{nat_cmp}
-use Rattle.rpg_records.specs.Earlier.{Left, Selected, left_by}
+use Rattle.rpg_records.specs.Earlier.{Left, Selected}
 use Rattle.rpg_cycle.specs.Ends.{End, GoesOn, EndOfJob, Halt, Wrong, end_of}
-use Rattle.rpg_cycle.specs.Phases.{CycleOn, Done, Phase, UnderWay, by_machine, detail_calculations, detail_lines, does, either, end_where_last, fill_fields, fill_from, from_there, halt_where_asked, has_no_overflow, is_bypassed, overflow_lines, output, passes, section, select_record, set_off, total_time, unless, ◌before◌}
+use Rattle.rpg_cycle.specs.Phases.{CycleOn, Done, Phase, UnderWay, by_machine, detail_calculations, does, either, fill_fields, fill_from, from_there, output, passes, section, unless, ◌before◌}
 use Rattle.rpg_effect.specs.Effect.{Effect}
 use Rattle.rpg_effect.specs.Ends as effects
 use Rattle.rpg_effect.specs.World.{World}
-use Rattle.rpg_machine.specs.Config.{Config, Output, no_output, with_more}
-use Rattle.rpg_machine.specs.Outputs.{ByEffect, FillsFields, PutsOut, inputs_at, output_effect, output_weight}
+use Rattle.rpg_machine.specs.Config.{Config, Output, with_more}
+use Rattle.rpg_machine.specs.Outputs.{ByEffect, FillsFields, PutsOut, output_effect, output_weight}
 use Rattle.rpg_machine.specs.Run.{RunsTo, at_first, is_end, onward, put_before, run}
 use Rattle.rpg_machine.specs.Running.{Act}
 use Rattle.rpg_machine.specs.Step.{Outcome, Next, Stop, step}

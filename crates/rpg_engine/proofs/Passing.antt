@@ -1,11 +1,10 @@
 -- Phases of a cycle that go on, and cycles that don't.
-use Rattle.std.proofs.Common.{◌≡◌, ℕ, Bool, true, false, cond, not, ◌&&◌, ◌||◌, List, Option, None, Some, is_none, refl, sym, ap, ◌∙◌, subst, inl, inr}
-use Rattle.std.proofs.lemmas.Bool.{cases_Bool}
+use Rattle.std.proofs.Common.{◌≡◌, ℕ, Bool, true, false, cond, ◌||◌, List, Option, None, Some, is_none, refl, ap, ◌∙◌}
 use Rattle.rpg_records.specs.Earlier.{Left, Selected}
 use Rattle.rpg_cycle.specs.Ends.{End, GoesOn, EndOfJob, Halt, Wrong}
 use Rattle.rpg_records.specs.Identifying.{is_good}
 use Rattle.rpg_cycle.specs.Indicators.{is_on, last_record, with_all, with_one, level_indicators}
-use Rattle.rpg_cycle.specs.Phases.{CycleOn, Done, Phase, UnderWay, by_machine, compare, detail_calculations, detail_lines, does, done, either, end_where_last, fill_fields, from_there, halt_where_asked, is_bypassed, overflow_lines, output, passes, read_record, section, select_record, set_off, total_time, ◌before◌}
+use Rattle.rpg_cycle.specs.Phases.{CycleOn, Done, Phase, UnderWay, detail_calculations, detail_lines, done, either, end_where_last, fill_fields, from_there, halt_where_asked, is_bypassed, overflow_lines, output, passes, section, select_record, set_off, total_time, ◌before◌}
 use Rattle.rpg_machine.specs.Config.{Config, Output}
 use Rattle.rpg_machine.specs.declared.time.OutputTime.TheVariants as times
 use Rattle.rpg_program.specs.Object.{Object}

@@ -1,12 +1,11 @@
 -- A job that never began.
-use Rattle.std.proofs.Common.{◌≡◌, ℕ, ℤ, true, false, List, [], ◌++◌, Option, Some, None, Result, Ok, Err, IfErr, IfOk, refl, sym, ap, ◌∙◌, subst, arith}
-use Rattle.std.specs.Io.KnownBytes.{Appends}
+use Rattle.std.proofs.Common.{◌≡◌, ℕ, ℤ, false, List, [], Option, None, Result, Ok, Err, IfErr, IfOk, refl, sym, ap, ◌∙◌, subst, arith}
 use Rattle.std.proofs.KnownBytes.{Appends-nil, Consumes-nil}
 use Rattle.rpg_effect.specs.Put.{Bytes}
 use Rattle.rpg_files.specs.Counting.{device_of, faults_of}
 use Rattle.rpg_files.specs.declared.counting.Counted.{Counted}
 use Rattle.rpg_engine.specs.Faults.{Counts, FaultsAre}
-use Rattle.rpg_files.specs.Sending.{AppendsFirst, AppendsPrefix}
+use Rattle.rpg_files.specs.Sending.{AppendsPrefix}
 use Rattle.rpg_program.specs.Object.{Object}
 use Rattle.rpg_engine.specs.Inputs.{OfInput}
 use Rattle.rpg_cycle.specs.Starting.{date_in}

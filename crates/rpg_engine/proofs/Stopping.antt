@@ -1,40 +1,34 @@
 -- A run that is reported, and one that stops early.
-use Rattle.std.proofs.Common.{◌≡◌, ℕ, ℤ, ◌+◌, ◌<◌, ◌≤◌, ◌⊎◌, ◌&&◌, ◌==◌, max, Bool, true, false, List, [], ◌∷◌, ◌++◌, length, Option, Some, None, Result, Ok, Err, refl, sym, ap, ◌∙◌, subst, append_assoc, arith, length-append, inl, inr}
+use Rattle.std.proofs.Common.{◌≡◌, ℕ, ℤ, ◌+◌, ◌<◌, ◌≤◌, ◌&&◌, ◌==◌, max, Bool, true, false, List, [], ◌∷◌, ◌++◌, length, Option, Some, None, Err, refl, sym, ap, ◌∙◌, subst, append_assoc, arith, inl, inr}
 use Rattle.std.proofs.lemmas.Bool.{cases_Bool}
-use Rattle.std.specs.Io.KnownBytes.{Appends, Consumes, IsAtEnd}
-use Rattle.std.proofs.KnownBytes.{Appends-trans, Consumes-nil, Consumes-trans}
+use Rattle.std.specs.Io.KnownBytes.{Appends}
+use Rattle.std.proofs.KnownBytes.{Appends-trans, Consumes-trans}
 use Rattle.rpg_cycle.specs.Ends.{End}
 use Rattle.rpg_cycle.specs.Job.{AtWork, first_fields, started}
-use Rattle.rpg_cycle.specs.Runs.{Course, IsRun, Runs, last_cycle, printed, stored}
-use Rattle.rpg_cycle.specs.Stages.{Ended, job_end, stage_at}
+use Rattle.rpg_cycle.specs.Runs.{Course, Runs, last_cycle, printed, stored}
+use Rattle.rpg_cycle.specs.Stages.{job_end}
 use Rattle.rpg_cycle.specs.Starting.{start_of}
 use Rattle.rpg_cycle.specs.declared.ends.JobEnd.{JobEnd}
 use Rattle.rpg_form.specs.Paper.{end_of, paper}
 use Rattle.rpg_effect.specs.Put.{Bytes, disk_bytes}
 use Rattle.rpg_files.specs.Counting.{device_of, faults_of}
-use Rattle.rpg_files.specs.NextLine.{CanFollow}
-use Rattle.rpg_files.specs.Reading.{Advances, Gives, Input, ReadsNext, buffered_of, count_of, has_ended, input_of, limit_of, record_of, source_of}
-use Rattle.rpg_files.specs.Records.{begins_with_line_feed, max_records, onto_first, records}
+use Rattle.rpg_files.specs.Reading.{Advances, ReadsNext, buffered_of, count_of, has_ended, input_of, source_of}
+use Rattle.rpg_files.specs.Records.{begins_with_line_feed, onto_first, records}
 use Rattle.rpg_files.specs.Sending.{AppendsFirst, AppendsPrefix}
-use Rattle.rpg_files.specs.declared.reader.Next.{Next}
-use Rattle.rpg_files.specs.declared.reader.Next.TheVariants as next
-use Rattle.rpg_files.specs.declared.reader.ReadFault.{ReadFault}
 use Rattle.rpg_files.specs.declared.reader.ReadFault.TheVariants as fault
 use Rattle.rpg_files.specs.declared.reader.RecordReader.{RecordReader}
 use Rattle.rpg_machine.specs.Config.{Config, Output, with_more}
 use Rattle.rpg_machine.specs.Running.{config_on}
-use Rattle.rpg_program.specs.Object.{Object}
 use Rattle.rpg_verify.specs.Bound.{bound}
 use Rattle.rpg_engine.specs.Faults.{Counts, FaultsAre}
 use Rattle.rpg_engine.specs.Inputs.{HasTooMany, OfInput}
 use Rattle.rpg_engine.specs.Reporting.{HasParts, IsRunOver, Reports, SendsParts}
-use Rattle.rpg_engine.specs.Streaming.{IsOfRun, SendsSome, TakesCycle, TakesNext, TakesNone, stage_of}
+use Rattle.rpg_engine.specs.Streaming.{IsOfRun, SendsSome, TakesCycle, TakesNone, stage_of}
 use Rattle.rpg_engine.specs.declared.fault.RunFault.{RunFault}
 use Rattle.rpg_engine.specs.declared.fault.RunFault.TheVariants as faults
-use Rattle.rpg_engine.specs.declared.report.Report.{Report}
-use Rattle.rpg_engine.proofs.Bytes.{BeginsWith, disk_goes_on, front_sent, part_sent, print_ends, printed_begins, printed_so_far, put_by, stored_begins, stored_so_far}
+use Rattle.rpg_engine.proofs.Bytes.{BeginsWith, disk_goes_on, front_sent, part_sent, print_ends, printed_begins, printed_so_far, stored_begins, stored_so_far}
 use Rattle.rpg_engine.proofs.Courses.{GoesOnWith, IsLast, behind, begins_with, ends}
-use Rattle.rpg_engine.proofs.Streams.{Steps, Streams, is_last, output_is, reads_on, steps_are, stream_steps, was_ended}
+use Rattle.rpg_engine.proofs.Streams.{Streams, is_last, output_is, reads_on, steps_are, stream_steps, was_ended}
 use Rattle.rpg_engine.proofs.Taking.{stands_still, told_of}
 
 -- ---- the start

@@ -1,13 +1,12 @@
 -- A run whose input is read, and whose output is sent, a cycle at a time.
-use Rattle.std.proofs.Common.{◌≡◌, ℕ, ◌+◌, ◌<◌, ◌≤◌, max, Bool, true, false, List, [], ◌∷◌, ◌++◌, length, Option, Some, None, Result, Ok, Err, refl, sym, ap, ◌∙◌, subst, append_assoc, append-nil, arith, length-append}
+use Rattle.std.proofs.Common.{◌≡◌, ℕ, ◌+◌, ◌<◌, ◌≤◌, max, Bool, true, false, List, [], ◌++◌, length, Option, None, refl, sym, ap, ◌∙◌, subst, append_assoc, arith, length-append}
 use Rattle.std.specs.Io.KnownBytes.{Appends, Consumes, IsAtEnd}
 use Rattle.std.proofs.KnownBytes.{Appends-nil, Appends-trans, Consumes-nil, Consumes-trans}
 use Rattle.rpg_records.specs.Earlier.{Selected, left_by, with_record}
 use Rattle.rpg_cycle.specs.Ends.{End, GoesOn, EndOfJob, Halt, Wrong}
-use Rattle.rpg_cycle.specs.Job.{AtWork, DoesCycle, feed_at, first_fields, started, taken, with_feed}
+use Rattle.rpg_cycle.specs.Job.{AtWork, DoesCycle, feed_at, taken, with_feed}
 use Rattle.rpg_cycle.specs.Phases.{UnderWay}
-use Rattle.rpg_cycle.specs.Runs.{Course, Runs, last_cycle}
-use Rattle.rpg_cycle.specs.Stages.{Stage, Going, Ended, job_end, stage_at}
+use Rattle.rpg_cycle.specs.Stages.{Going, Ended, job_end, stage_at}
 use Rattle.rpg_cycle.specs.declared.ends.JobEnd.{JobEnd}
 use Rattle.rpg_cycle.specs.declared.ends.JobEnd.TheVariants as jobs
 use Rattle.rpg_form.specs.Paper.{Position, end_from, end_of, paper}
@@ -22,10 +21,9 @@ use Rattle.rpg_machine.specs.Config.{Config, Output, no_output, with_more}
 use Rattle.rpg_machine.specs.Running.{config_on, no_bytes}
 use Rattle.rpg_program.specs.Object.{Object}
 use Rattle.rpg_verify.specs.Bound.{bound}
-use Rattle.rpg_engine.specs.Inputs.{OfInput}
 use Rattle.rpg_engine.specs.Streaming.{HeadCycle, TakesCycle, TakesNext, stage_of}
 use Rattle.rpg_engine.proofs.Bytes.{disk_goes_on, print_goes_on, put_by}
-use Rattle.rpg_engine.proofs.Courses.{GoesOnWith, IsLast, IsUnderWay, behind, begins, begins_with, ends, one_more}
+use Rattle.rpg_engine.proofs.Courses.{IsLast, IsUnderWay, begins, one_more}
 
 -- ---- how a cycle ended, by the stage that it led to
 

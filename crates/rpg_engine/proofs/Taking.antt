@@ -1,27 +1,22 @@
 -- A cycle with what a reader of records found.
-use Rattle.std.proofs.Common.{◌≡◌, ℕ, ◌+◌, ◌<◌, Bool, true, false, List, [], ◌∷◌, ◌++◌, Option, Some, None, Result, Ok, Err, IfOk, OnOk, refl, sym, ap, ◌∙◌, subst}
-use Rattle.std.specs.Io.KnownBytes.{Consumes}
+use Rattle.std.proofs.Common.{◌≡◌, ℕ, false, List, [], ◌∷◌, ◌++◌, Option, Some, None, Result, Ok, Err, IfOk, OnOk, refl, sym, ap, subst}
 use Rattle.std.proofs.KnownBytes.{Consumes-nil}
 use Rattle.std.proofs.lemmas.Bool.{and_right}
 use Rattle.rpg_records.specs.Earlier.{Selected, left_by}
 use Rattle.rpg_cycle.specs.Ends.{End, GoesOn}
 use Rattle.rpg_records.specs.Identifying.{is_good}
-use Rattle.rpg_cycle.specs.Job.{AtWork, Cycles, DoesCycle}
+use Rattle.rpg_cycle.specs.Job.{AtWork, Cycles}
 use Rattle.rpg_cycle.specs.Phases.{Cycle, UnderWay, begun, needs_record}
 use Rattle.rpg_form.specs.Paper.{Position}
-use Rattle.rpg_effect.specs.Put.{line_of}
-use Rattle.rpg_files.specs.NextLine.{CanFollow}
 use Rattle.rpg_files.specs.Reading.{Advances, Gives, Input, ReadsNext, answer_of, count_of, input_of, is_record, limit_of, record_of}
-use Rattle.rpg_files.specs.Records.{max_records, records}
-use Rattle.rpg_files.specs.declared.reader.Next.{Next}
+use Rattle.rpg_files.specs.Records.{records}
 use Rattle.rpg_files.specs.declared.reader.Next.TheVariants as next
-use Rattle.rpg_files.specs.declared.reader.ReadFault.{ReadFault}
 use Rattle.rpg_files.specs.declared.reader.RecordReader.{RecordReader}
-use Rattle.rpg_machine.specs.Config.{Config, Output}
+use Rattle.rpg_machine.specs.Config.{Output}
 use Rattle.rpg_machine.specs.Running.{config_on}
 use Rattle.rpg_program.specs.Kept.{IsProgram}
 use Rattle.rpg_program.specs.Object.{Object}
-use Rattle.rpg_engine.specs.Streaming.{HeadCycle, TakesCycle, TakesNext}
+use Rattle.rpg_engine.specs.Streaming.{HeadCycle, TakesCycle}
 use Rattle.rpg_engine.proofs.Passing.{bad_are_one, bad_stops, never_on}
 use Rattle.rpg_cycle.proofs.Unneeded.{unneeded}
 

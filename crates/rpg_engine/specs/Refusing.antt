@@ -1,5 +1,5 @@
 -- What is refused before anything is read: bytes that are no object program, a program that breaks a rule, a date that is none.
-use Rattle.std.specs.Prelude.{◌≡◌, ℕ, ℤ, List, Option, Some, None, Result, Ok, Err}
+use Rattle.std.specs.Prelude.{◌≡◌, ℕ, ℤ, List, Some, None, Result, Ok, Err}
 use Rattle.rpg_cycle.specs.Starting.{date_in}
 use Rattle.rpg_cycle.specs.declared.ends.StartFault.{StartFault}
 use Rattle.rpg_cycle.specs.declared.ends.StartFault.TheVariants as starting

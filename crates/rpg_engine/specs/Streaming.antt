@@ -1,5 +1,5 @@
 -- What is done with an input a cycle at a time, and what is sent of a cycle's output.
-use Rattle.std.specs.Prelude.{◌≡◌, ℕ, ◌+◌, ◌<◌, ◌⊎◌, Bool, true, List, [], ◌∷◌, Option, None, Some, Result, Ok, Err}
+use Rattle.std.specs.Prelude.{◌≡◌, ℕ, ◌+◌, ◌<◌, ◌⊎◌, true, List, [], ◌∷◌, Option, None, Some, Result, Ok, Err}
 use Rattle.std.specs.Io.KnownBytes.{Appends}
 use Rattle.rpg_records.specs.Earlier.{Selected, left_by}
 use Rattle.rpg_cycle.specs.Ends.{End, GoesOn}
@@ -8,7 +8,7 @@ use Rattle.rpg_cycle.specs.Phases.{Cycle, UnderWay, begun}
 use Rattle.rpg_cycle.specs.Stages.{Ended, Going, Stage, job_end}
 use Rattle.rpg_cycle.specs.declared.ends.JobEnd.{JobEnd}
 use Rattle.rpg_form.specs.Paper.{Position}
-use Rattle.rpg_effect.specs.Put.{Bytes, line_of}
+use Rattle.rpg_effect.specs.Put.{line_of}
 use Rattle.rpg_files.specs.Reading.{Advances, ReadsNext, answer_of, count_of, input_of, is_record, limit_of}
 use Rattle.rpg_files.specs.Records.{max_records, records}
 use Rattle.rpg_files.specs.Sending.{AppendsFirst}

@@ -1,4 +1,4 @@
-use Rattle.std.proofs.Common.{◌≡◌, ◌∙◌, Err, ap, refl, sym, rules}
+use Rattle.std.proofs.Common.{◌≡◌, Err, ap, refl, rules}
 use Rattle.rpg_files.specs.Counting.{device_of}
 use Rattle.rpg_files.specs.Reading.{source_of}
 use Rattle.std.proofs.lemmas.Result.{err_from_is_err_and}
