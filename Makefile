@@ -1,18 +1,9 @@
-# Melguda: an RPG II compiler, an object-program verifier and a machine. The Rattle kit's command `rt` is all it needs.
+# Melguda: an RPG II compiler, an object-program verifier and a machine. The Rattle kit's command `rt` and the Python that it is written in are all it needs.
 
 EXAMPLE := examples/invoices
 RPG2 := crates/rpg2/out/rpg2
 
-# So many libraries are proved side by side, one job each: with more jobs a library takes no less time.
-PROCESSORS := $(shell nproc)
-MAKEFLAGS += -j$(PROCESSORS)
-
-# crates.txt says which crate stands on which.
-CRATES := $(shell sed -n 's/^\([a-z][a-z0-9_]*\)[: ].*/\1/p' crates.txt)
-PROGRAMS := $(patsubst crates/%/src/main.rt,%,$(wildcard crates/*/src/main.rt))
-below = $(filter $(CRATES),$(shell sed -n 's/^$(1)://p' crates.txt))
 sources = $(shell find crates/$(1)/src crates/$(1)/specs crates/$(1)/proofs \( -name '*.rt' -o -name '*.antt' \) 2>/dev/null)
-library = crates/$(1)/out/rlib/stamp
 
 .PHONY: run test bench examples
 
@@ -45,15 +36,15 @@ bench: $(RPG2)
 	bench/compile.sh
 	bench/sales.sh
 
-# A target a library: it is proved once those below it are. Where more are ready than processors, those that crates.txt names first for a
-# crate come first: so the engine stands before what else rpg_cli uses.
-define library_rule
-$(call library,$(1)): $(foreach it,$(call below,$(1)),$(call library,$(it))) $(call sources,$(1))
-	build/library.sh $(1)
-endef
-$(foreach it,$(filter-out $(PROGRAMS),$(CRATES)),$(eval $(call library_rule,$(it))))
+# What rpg2 stands on: proved where it isn't yet, and else left as it is, so that nothing is built anew.
+LIBRARIES := crates/rpg_cli/out/rlib/stamp
 
-# Only what is proved is built: README says how long the first build takes.
-$(RPG2): $(foreach it,$(call below,rpg2),$(call library,$(it))) $(call sources,rpg2)
+$(LIBRARIES): FORCE
+	@build/libraries.py rpg2
+
+FORCE:
+
+# Only what is proved is built: docs/GATE.md says how long the first build takes.
+$(RPG2): $(LIBRARIES) $(call sources,rpg2)
 	cd crates/rpg2 && rt run --jobs 1 -- --help > /dev/null
 	@touch $(RPG2)
