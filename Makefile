@@ -1,9 +1,7 @@
-# Melguda: an RPG II compiler, an object-program verifier and a machine. The Rattle kit's command `rt` and the Python that it is written in are all it needs.
+# Melguda: an RPG II compiler, an object-program verifier and a machine. The Rattle kit's command `rt` is all it needs.
 
 EXAMPLE := examples/invoices
 RPG2 := crates/rpg2/out/rpg2
-
-sources = $(shell find crates/$(1)/src crates/$(1)/specs crates/$(1)/proofs \( -name '*.rt' -o -name '*.antt' \) 2>/dev/null)
 
 .PHONY: run test bench examples
 
@@ -36,15 +34,8 @@ bench: $(RPG2)
 	bench/compile.sh
 	bench/sales.sh
 
-# What rpg2 stands on: proved where it isn't yet, and else left as it is, so that nothing is built anew.
-LIBRARIES := crates/rpg_cli/out/rlib/stamp
-
-$(LIBRARIES): FORCE
-	@build/libraries.py rpg2
+# Only what is proved is built: docs/GATE.md says how long that takes. A program that is newer than all it is made of is left as it is.
+$(RPG2): FORCE
+	@build/rpg2.sh
 
 FORCE:
-
-# Only what is proved is built: docs/GATE.md says how long the first build takes.
-$(RPG2): $(LIBRARIES) $(call sources,rpg2)
-	cd crates/rpg2 && rt run --jobs 1 -- --help > /dev/null
-	@touch $(RPG2)
