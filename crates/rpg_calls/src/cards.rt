@@ -1,7 +1,7 @@
 //! Lines of single cards: which column is bad, and what a literal, a constant or an indicator is.
 
-use crate::line::Line;
 use crate::printed::unescaped;
+use rpg_call_lines::Line;
 use rpg_sheet::{Card, Factor, InputSpec, Literal, NumericLiteral, OutputSpec, cards};
 use rpg_text::has_only_characters;
 use std::alloc::Global;

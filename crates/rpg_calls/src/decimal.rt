@@ -9,8 +9,7 @@ ghost use Rattle.rpg_numbers.specs.Whole as whole;
 ghost use Rattle.rpg_numbers.specs.Zoned.{number_in, zoned_text, IsFirstBad};
 ghost use Rattle.rpg_calls.specs.Operations.{result_of};
 
-use crate::line::Line;
-use crate::number::Number;
+use rpg_call_lines::{Line, Number};
 use rpg_decimal::{
     BadDigit, Num, Scale, Target, ZeroDivisor, add, align, compare, compare_text, div, fit, keep,
     mult, read_zoned, remainder, sub, write_zoned,

@@ -4,7 +4,7 @@ ghost use Rattle.std.specs.Bool.{OnTrue};
 ghost use Rattle.rpg_marks.specs.How.{edited, width_of, IsFit};
 ghost use Rattle.rpg_marks.specs.Word.{IsWordFor};
 
-use crate::line::{Line, Size};
+use rpg_call_lines::{Line, Size};
 use rpg_edit::edit;
 use rpg_marks::{EditCode, Fill};
 use rpg_widths::{EditWord, How, width};

@@ -1,6 +1,6 @@
 //! Lines of what errors say.
 
-use crate::line::Line;
+use rpg_call_lines::Line;
 use rpg_decimal::{BadDigit, ZeroDivisor};
 use rpg_form::NoMemory;
 use rpg_symbols::DefineFault;

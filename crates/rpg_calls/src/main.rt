@@ -7,13 +7,11 @@ mod cards;
 mod decimal;
 mod edited;
 mod errors;
-mod line;
 mod moves;
 mod names;
-mod number;
 mod printed;
 
-use line::Line;
+use rpg_call_lines::Line;
 use rpg_form::Form;
 use rpg_symbols::Symbols;
 use std::alloc::{AllocError, Global};

@@ -6,7 +6,7 @@ ghost use Rattle.rpg_numbers.specs.Move.{overlay_left, overlay_right};
 ghost use Rattle.rpg_decimal.specs.Source.{moved_left, moved_right, text_of, IsFirstBadLeft, IsFirstBadRight};
 
 use crate::decimal::{is_same_number, number_or_bad_digit};
-use crate::line::Line;
+use rpg_call_lines::Line;
 use rpg_decimal::{
     BadDigit, Figure, Source, move_left, move_left_text, move_right, move_right_text,
 };

@@ -3,7 +3,7 @@ ghost use Rattle.std.specs.Prelude.{◌≡◌, ◌⊎◌, ◌-◌, ◌≤◌, So
 ghost use Rattle.std.specs.Bool.{OnTrue};
 ghost use Rattle.rpg_symbols.specs.Fields.{number_of, IsAdded, IsKnown, Refuses};
 
-use crate::line::{Line, Size};
+use rpg_call_lines::{Line, Size};
 use rpg_effect::form::{Class, FieldForm, Kind};
 use rpg_symbols::{DefineFault, Name, Symbols};
 use std::alloc::{AllocError, Global};

@@ -4,7 +4,7 @@ ghost use Rattle.std.specs.Bool.{OnTrue};
 ghost use Rattle.rpg_form.specs.Form.{after_line, after_skip, after_space, here_of, way_of};
 ghost use Rattle.rpg_form.specs.Paper.{trimmed, turns_overflow_on};
 
-use crate::line::Line;
+use rpg_call_lines::Line;
 use rpg_form::Form;
 use std::alloc::{AllocError, Global};
 

@@ -1,20 +1,10 @@
 -- The line and the exit status of each answer.
 use Rattle.std.specs.Prelude.{ℕ, List, ◌++◌, codes, decimal}
-use Rattle.rpg_bytes.specs.Code.{Code}
-use Rattle.rpg_bytes.specs.Code.TheVariants.{NoObject, Version, CutShort, LeftOver, NotAllowed, Unused, PastLimit}
+use Rattle.rpg_bytes.specs.CodeTexts.{code_text}
 use Rattle.rpg_bytes.specs.Rules.{number}
 use Rattle.rpg_bytes.specs.Codes.{text as source_code_text}
 use Rattle.rpg_cli.specs.declared.answer.Answer.{Answer}
 use Rattle.rpg_cli.specs.declared.answer.Answer.TheVariants as answer
-
-abbrev pub code_text : Code → List ℕ
-code_text NoObject = codes "B1"
-code_text Version = codes "B2"
-code_text CutShort = codes "B3"
-code_text LeftOver = codes "B4"
-code_text NotAllowed = codes "B5"
-code_text Unused = codes "B6"
-code_text PastLimit = codes "B7"
 
 -- the number of cycles, the most steps of one, and the steps that none can pass
 abbrev pub run_text : (cycles most bound : ℕ) → List ℕ

@@ -3,8 +3,9 @@
 ghost use Rattle.std.specs.Prelude.{◌≡◌, ◌+◌, ◌≤◌, ◌++◌, length, codes, decimal};
 ghost use Rattle.arrayvec.specs.ArrayVec.{array_vec_len};
 ghost use Rattle.rpg_bytes.specs.Rules.{number};
-ghost use Rattle.rpg_cli.specs.Answers.{code_text, exit_status, line_text, run_text};
+ghost use Rattle.rpg_cli.specs.Answers.{exit_status, line_text, run_text};
 ghost use Rattle.rpg_bytes.specs.Codes.{text as source_code_text};
+ghost use Rattle.rpg_bytes.specs.CodeTexts.{code_text};
 
 use crate::answer::{Answer, Line};
 use arrayvec::ArrayVec;
@@ -66,7 +67,7 @@ fn put_object_fault(text: &mut Text, offset: usize, code: Code)
     ensures { text.new.items ≡ text.old.items ++ codes "refused: " ++ code_text code ++ codes " at " ++ decimal offset }
 {
     put(text, b"refused: ");
-    put(text, code_text(code));
+    put(text, code.text().as_bytes());
     put(text, b" at ");
     put_number(text, offset as u64);
 }
@@ -79,21 +80,6 @@ fn put_broken_rule(text: &mut Text, rule: Rule, row: usize)
     put_number(text, u64::from(rule.number()));
     put(text, b" row ");
     put_number(text, row as u64);
-}
-
-fn code_text(code: Code) -> &'static [u8]
-    ensures value { result.now ≡ code_text code }
-    ensures len { length result.now ≤ 2 }
-{
-    match code {
-        Code::NoObject => b"B1",
-        Code::Version => b"B2",
-        Code::CutShort => b"B3",
-        Code::LeftOver => b"B4",
-        Code::NotAllowed => b"B5",
-        Code::Unused => b"B6",
-        Code::PastLimit => b"B7",
-    }
 }
 
 /// The exit status of an answer.

@@ -1,4 +1,4 @@
 pub mod Format
 pub mod Numbers
 pub mod Reading
-pub mod Codes
+pub mod CodeTexts

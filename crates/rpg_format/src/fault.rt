@@ -1,7 +1,7 @@
 //! What is wrong with bytes that were to spell something.
 
-ghost use Rattle.std.specs.Prelude.{◌≡◌, Some};
-ghost use Rattle.rpg_format.specs.Codes.{code_text};
+ghost use Rattle.std.specs.Prelude.{◌≡◌, ◌≤◌, Some, length};
+ghost use Rattle.rpg_format.specs.CodeTexts.{code_text};
 ghost use Rattle.rpg_format.specs.declared.fault.ReadFault.TheVariants.{NoMemory};
 
 use std::alloc::{AllocError, AllocFailed};
@@ -26,19 +26,29 @@ pub enum Code {
     PastLimit,
 }
 
+impl Code {
+    /// The letter B and the number.
+    pub fn text(self) -> &'static str
+        ensures value { result.now ≡ code_text self }
+        ensures len { length result.now ≤ 2 }
+    {
+        match self {
+            Code::NoObject => "B1",
+            Code::Version => "B2",
+            Code::CutShort => "B3",
+            Code::LeftOver => "B4",
+            Code::NotAllowed => "B5",
+            Code::Unused => "B6",
+            Code::PastLimit => "B7",
+        }
+    }
+}
+
 impl fmt::Display for Code {
     ghost output = { λ c. Some (code_text c) };
 
     fn fmt<W: fmt::Write>(&self, f: &mut fmt::Formatter<W>) -> fmt::Result {
-        match self {
-            Code::NoObject => write!(f, "B1"),
-            Code::Version => write!(f, "B2"),
-            Code::CutShort => write!(f, "B3"),
-            Code::LeftOver => write!(f, "B4"),
-            Code::NotAllowed => write!(f, "B5"),
-            Code::Unused => write!(f, "B6"),
-            Code::PastLimit => write!(f, "B7"),
-        }
+        f.write_str(self.text())
     }
 }
 

@@ -15,7 +15,7 @@ use Rattle.rpg_format.proofs.Rules.{chosen, stands_for, guarded, choice_rule, nu
 use Rattle.rpg_program.specs.Kept.{has_entries, length_limit, AreDecimals, IsDateForm, IsFieldRow, storage_of}
 use Rattle.rpg_object.specs.Fields.{kind_number, kind_of, class_number, classes_of, class_of, shortest, longest, most_decimals, is_decimals, sequences_of, sequence_of, most_entries, entries_within, field, storage_after, fields}
 use Rattle.rpg_object.specs.FirstValues.{HasLength}
-use Rattle.rpg_rows.proofs.Choices.{passed, within, taken, between}
+use Rattle.rpg_instructions.proofs.Choices.{passed, within, taken, between}
 use Rattle.rpg_object.proofs.Tables.{all_from_along, all_head, all_tail}
 
 -- ---- laws of the format

@@ -12,7 +12,7 @@ use Rattle.rpg_object.specs.declared.header.Counts.{Counts}
 use Rattle.rpg_object.specs.declared.header.Header.{Header}
 use Rattle.rpg_object.specs.declared.header.Settings.{Settings}
 use Rattle.rpg_object.specs.Header.{overflow_of, overflow_number, settings, most_instructions, counts, header}
-use Rattle.rpg_rows.proofs.Choices.{within, counted, between, few}
+use Rattle.rpg_instructions.proofs.Choices.{within, counted, between, few}
 
 overflow_rule : IsRule overflow_of overflow_number
 overflow_rule n x e =

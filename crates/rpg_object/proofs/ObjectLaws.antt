@@ -9,10 +9,10 @@ use Rattle.rpg_format.specs.Format.{◌>>=◌, fault_at, pair, times_with}
 use Rattle.rpg_format.proofs.Laws.{IsBytes, IsBytes-rest, IsFormat, further, bind_ok, bind_err, ok_is, pair_law, row_law, table_law}
 use Rattle.rpg_format.proofs.Rules.{chosen}
 use Rattle.rpg_program.specs.Object.{Object}
-use Rattle.rpg_rows.specs.Instructions.{instruction}
+use Rattle.rpg_instructions.specs.Instructions.{instruction}
 use Rattle.rpg_rows.specs.Lines.{line}
 use Rattle.rpg_rows.specs.Types.{record_type}
-use Rattle.rpg_rows.proofs.InstructionLaws.{instruction_law}
+use Rattle.rpg_instructions.proofs.InstructionLaws.{instruction_law}
 use Rattle.rpg_rows.proofs.LineLaws.{line_law}
 use Rattle.rpg_rows.proofs.TypeLaws.{record_type_law}
 use Rattle.rpg_object.specs.declared.header.Counts.{Counts}

@@ -3,17 +3,17 @@ use Rattle.std.proofs.Common.{◌-◌, length, arith}
 use Rattle.rpg_format.specs.Format.{pair, row}
 use Rattle.rpg_program.specs.Kept.{IsInstructionRow, IsLineRow, IsProgram, IsTypeRow}
 use Rattle.rpg_program.specs.Object.{Object}
-use Rattle.rpg_rows.specs.Instructions.{instruction}
+use Rattle.rpg_instructions.specs.Instructions.{instruction}
 use Rattle.rpg_rows.specs.Lines.{line}
 use Rattle.rpg_rows.specs.Types.{record_type}
-use Rattle.rpg_rows.proofs.InstructionKept.{instruction_kept, instruction_from}
+use Rattle.rpg_instructions.proofs.InstructionKept.{instruction_kept, instruction_from}
 use Rattle.rpg_rows.proofs.LineLaws.{line_kept, line_from}
 use Rattle.rpg_rows.proofs.TypeLaws.{type_kept, type_from}
 use Rattle.rpg_object.specs.Program.{body, counts_of, header_of, settings_of, tables}
 use Rattle.rpg_object.proofs.FieldLaws.{fields_kept, storage_kept, fields_from}
 use Rattle.rpg_object.proofs.HeaderLaws.{AreSettings, AreCounts, header_kept, header_from}
 use Rattle.rpg_object.proofs.SubroutineLaws.{subroutines_kept, instructions_within, subroutines_from}
-use Rattle.rpg_rows.proofs.Choices.{all_from_table, table_from_all}
+use Rattle.rpg_instructions.proofs.Choices.{all_from_table, table_from_all}
 use Rattle.rpg_object.proofs.ValueLaws.{values_kept, values_from}
 
 pub program_kept : (p : Object) → body.Holds p → IsProgram p

@@ -2,7 +2,7 @@
 use Rattle.std.proofs.Common.{◌≡◌, ℕ, List, ◌++◌, length, sym, ap, ◌∙◌, append_assoc}
 use Rattle.rpg_format.specs.Format.{pair, row, table}
 use Rattle.rpg_program.specs.Object.{Object}
-use Rattle.rpg_rows.specs.Instructions.{instruction}
+use Rattle.rpg_instructions.specs.Instructions.{instruction}
 use Rattle.rpg_rows.specs.Lines.{line}
 use Rattle.rpg_rows.specs.Types.{record_type}
 use Rattle.rpg_object.specs.Fields.{fields}

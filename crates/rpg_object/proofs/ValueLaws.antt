@@ -22,7 +22,7 @@ use Rattle.rpg_format.proofs.Laws.{IsBytes, Takes, IsFormat, IsBytes-rest, furth
 use Rattle.rpg_format.proofs.Rules.{chosen, stands_for, value_is}
 use Rattle.rpg_program.specs.Kept.{IsCharacter, IsFieldRow, IsValueOf, AreEntriesOf, AreValuesOf}
 use Rattle.rpg_object.specs.FirstValues.{as_written, as_value, is_character, value_in, read_value, value_text, IsWrittenValue, value, entries, next_entries, later_fields, values}
-use Rattle.rpg_rows.proofs.Choices.{all_from_table, table_from_all}
+use Rattle.rpg_instructions.proofs.Choices.{all_from_table, table_from_all}
 use Rattle.rpg_object.proofs.Tables.{all_head, all_tail}
 use Rattle.rpg_object.proofs.ZonedTexts.{number_in-zoned, number_in-below}
 

@@ -9,7 +9,7 @@ use Rattle.rpg_format.specs.declared.fault.Code.TheVariants.{NoObject, CutShort,
 use Rattle.rpg_format.specs.declared.fault.Fault.{Fault}
 use Rattle.rpg_format.specs.Format.{Format, pair, row, table, fault_at, ◌>>=◌}
 use Rattle.rpg_program.specs.Object.{LineRow, Object, SubroutineRow}
-use Rattle.rpg_rows.specs.Instructions.{instruction}
+use Rattle.rpg_instructions.specs.Instructions.{instruction}
 use Rattle.rpg_rows.specs.Lines.{line}
 use Rattle.rpg_rows.specs.Types.{record_type}
 use Rattle.rpg_object.specs.declared.header.Counts.{Counts}

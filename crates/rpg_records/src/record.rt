@@ -33,13 +33,13 @@ fn are_characters(text: &[u8]) -> bool
 
 /// The record, filled with blanks to the length of the program's records, in the place of another. It takes memory only where the
 /// room of that one is less than this length; on an error the record is of no use.
-pub fn fill(record: &mut Vec<u8>, program: &Verified, text: &[u8]) -> Result<(), AllocError>
+pub fn fill(room: &mut Vec<u8>, program: &Verified, text: &[u8]) -> Result<(), AllocError>
     requires { spec.is_good program.now text.now ≡ true }
-    ensures filled { IfOk result (λ _. record.new.items ≡ spec.filled program.now text.now) }
-    ensures whole { IfOk result (λ _. length record.new.items ≡ program.now.record_length) }
+    ensures filled { IfOk result (λ _. room.new.items ≡ spec.filled program.now text.now) }
+    ensures whole { IfOk result (λ _. length room.new.items ≡ program.now.record_length) }
 {
-    record.clear();
-    record.extend_from_slice(text)?;
-    record.resize(record_length(program), b' ')?;
+    room.clear();
+    room.extend_from_slice(text)?;
+    room.resize(record_length(program), b' ')?;
     Ok(())
 }

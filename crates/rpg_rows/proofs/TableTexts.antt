@@ -4,7 +4,7 @@ use Rattle.std.proofs.lemmas.List.{map-id}
 use Rattle.rpg_effect.specs.Input.{TypeRow}
 use Rattle.rpg_format.specs.Format.{byte, keep, pair, row, spelled_along, times_with, two_bytes}
 use Rattle.rpg_program.specs.Object.{LineRow}
-use Rattle.rpg_rows.specs.Indicators.{alternative}
+use Rattle.rpg_instructions.specs.Indicators.{alternative}
 use Rattle.rpg_rows.specs.Lines.{line, line_field, line_head, line_parts, spacing}
 use Rattle.rpg_rows.specs.Types.{control_field, input_field, record_code, record_type, type_head, type_parts}
 

@@ -10,10 +10,10 @@ use Rattle.rpg_format.proofs.Laws.{IsFormat, pair_law, row_law, table_law}
 use Rattle.rpg_format.proofs.Rules.{any_number_law, byte_where_law, count_law, yes_or_no_law}
 use Rattle.rpg_program.specs.Kept.{IsCodeRow, IsControlRow, IsInputRow, IsTypeRow}
 use Rattle.rpg_rows.specs.Types.{TypeParts, control_field, input_field, record_code, record_type, type_parts}
-use Rattle.rpg_rows.proofs.Choices.{all_from_table, between, counted, few, flag_from, table_from_all, within}
-use Rattle.rpg_rows.proofs.IndicatorLaws.{indicator_law, shows_law}
-use Rattle.rpg_rows.proofs.IndicatorsKept.{indicator_from, indicator_kept, shows_from, shows_kept}
-use Rattle.rpg_rows.proofs.ShapeLaws.{unused_byte_law}
+use Rattle.rpg_instructions.proofs.Choices.{all_from_table, between, counted, few, flag_from, table_from_all, within}
+use Rattle.rpg_instructions.proofs.IndicatorLaws.{indicator_law, shows_law}
+use Rattle.rpg_instructions.proofs.IndicatorsKept.{indicator_from, indicator_kept, shows_from, shows_kept}
+use Rattle.rpg_instructions.proofs.ShapeLaws.{unused_byte_law}
 
 record_code_law : IsFormat record_code
 unfolding record_code

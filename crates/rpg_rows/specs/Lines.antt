@@ -27,9 +27,9 @@ use Rattle.rpg_format.specs.Numbers.{any_number, choice, count, number_where, up
 use Rattle.rpg_program.specs.Object.{LineRow}
 use Rattle.rpg_rows.specs.declared.letter.Letter.{Letter}
 use Rattle.rpg_rows.specs.declared.letter.Letter.TheVariants as letters
-use Rattle.rpg_rows.specs.Indicators.{alternative, conditions}
-use Rattle.rpg_rows.specs.Operands.{operand}
-use Rattle.rpg_rows.specs.Shapes.{any_byte, unused_number}
+use Rattle.rpg_instructions.specs.Indicators.{alternative, conditions}
+use Rattle.rpg_instructions.specs.Operands.{operand}
+use Rattle.rpg_instructions.specs.Shapes.{any_byte, unused_number}
 
 -- ---- single numbers
 

@@ -6,8 +6,8 @@ use Rattle.rpg_effect.specs.declared.input.InputField.{InputField}
 use Rattle.rpg_effect.specs.declared.input.RecordCode.{RecordCode}
 use Rattle.rpg_format.specs.Format.{Format, pair, row, table}
 use Rattle.rpg_format.specs.Numbers.{is_between, any_number, byte_where, yes_or_no, count}
-use Rattle.rpg_rows.specs.Indicators.{indicator, indicator_number, shows}
-use Rattle.rpg_rows.specs.Shapes.{unused_byte}
+use Rattle.rpg_instructions.specs.Indicators.{indicator, indicator_number, shows}
+use Rattle.rpg_instructions.specs.Shapes.{unused_byte}
 
 -- position, N, character
 unfoldable pub record_code : Format RecordCode

@@ -2,19 +2,10 @@
 
 ghost use Rattle.std.specs.Prelude.{ℕ};
 ghost use Rattle.rpg_effect.specs.Input.{TypeRow};
-ghost use Rattle.rpg_effect.specs.declared.operation.Instruction.{Instruction};
-ghost use Rattle.rpg_program.specs.Kept.{IsInstructionRow, IsLineRow, IsTypeRow};
+ghost use Rattle.rpg_program.specs.Kept.{IsLineRow, IsTypeRow};
 ghost use Rattle.rpg_program.specs.Object.{LineRow};
-ghost use Rattle.rpg_rows.specs.Instructions.{instruction};
 ghost use Rattle.rpg_rows.specs.Lines.{line};
 ghost use Rattle.rpg_rows.specs.Types.{record_type};
-
-/// What an instruction keeps, in plain words, and back.
-#[tactic(auto, using(crate::proofs::InstructionKept::instruction_kept, crate::proofs::InstructionKept::instruction_from))]
-pub fn instructions_are_plain()
-    ensures plain { (i : Instruction ℕ) → instruction.Holds i → IsInstructionRow i }
-    ensures whole { (i : Instruction ℕ) → IsInstructionRow i → instruction.Holds i }
-{}
 
 /// What a record type keeps, in plain words, and back.
 #[tactic(auto, using(crate::proofs::TypeLaws::type_kept, crate::proofs::TypeLaws::type_from))]

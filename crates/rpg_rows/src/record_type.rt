@@ -12,13 +12,13 @@ ghost use Rattle.rpg_program.specs.Object.{type_row};
 ghost use Rattle.rpg_rows.specs.Types as rows;
 ghost use Rattle.rpg_rows.specs.Types.{control_field, input_field, record_code};
 
-use crate::indicator::{indicator_at, indicator_number, shows_at};
 use crate::table::{Row, put_rows, rows_at};
 use rpg_effect::input::{ControlField, InputField, RecordCode};
 use rpg_format::fault::{Code, ReadFault};
 use rpg_format::number::{
     any_number_at, byte_between_at, count_at, flag_at, flag_number, high, low, only_byte_at,
 };
+use rpg_instructions::indicator::{indicator_at, indicator_number, shows_at};
 use rpg_program::row::RecordType;
 use std::alloc::{AllocError, Global};
 
@@ -151,7 +151,7 @@ impl Row for InputField<u16> {
         input_field_at(bytes)
     }
 
-    #[tactic(auto, unfolding(rpg_format::specs::Format::byte, rpg_format::specs::Format::two_bytes, rpg_format::specs::Format::pair, rpg_format::specs::Format::row, crate::specs::Indicators::shows, crate::specs::Types::input_field))]
+    #[tactic(auto, unfolding(rpg_format::specs::Format::byte, rpg_format::specs::Format::two_bytes, rpg_format::specs::Format::pair, rpg_format::specs::Format::row, rpg_instructions::specs::Indicators::shows, crate::specs::Types::input_field))]
     fn put_row(&self, out: &mut Vec<u8>) -> Result<(), AllocError> {
         let row = [
             high(self.from),

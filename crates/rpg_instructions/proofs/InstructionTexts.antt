@@ -10,12 +10,12 @@ use Rattle.rpg_effect.specs.declared.operation.Shows.{Shows}
 use Rattle.rpg_effect.specs.declared.operation.Side.TheVariants as sides
 use Rattle.rpg_format.specs.Format.{byte, two_bytes, pair, row}
 use Rattle.rpg_program.specs.Kept.{IsIndexRow, IsInstructionRow, IsOptionalRow}
-use Rattle.rpg_rows.specs.declared.operation.Numbers.{Numbers}
-use Rattle.rpg_rows.specs.declared.operation.Operation.{Operation}
-use Rattle.rpg_rows.specs.Indicators.{shows}
-use Rattle.rpg_rows.specs.Instructions.{action_numbers, columns, instruction, numbers, numbers_of, numbers_text, unused_shows}
-use Rattle.rpg_rows.specs.Operands.{operand, operand_or_none, unused_operand}
-use Rattle.rpg_rows.specs.Shapes.{row_where}
+use Rattle.rpg_instructions.specs.declared.operation.Numbers.{Numbers}
+use Rattle.rpg_instructions.specs.declared.operation.Operation.{Operation}
+use Rattle.rpg_instructions.specs.Indicators.{shows}
+use Rattle.rpg_instructions.specs.Instructions.{action_numbers, columns, instruction, numbers, numbers_of, numbers_text, unused_shows}
+use Rattle.rpg_instructions.specs.Operands.{operand, operand_or_none, unused_operand}
+use Rattle.rpg_instructions.specs.Shapes.{row_where}
 
 -- ---- an action by its columns
 

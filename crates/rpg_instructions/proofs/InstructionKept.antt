@@ -11,17 +11,17 @@ use Rattle.rpg_effect.specs.declared.operation.Shows.{Shows}
 use Rattle.rpg_effect.specs.declared.operation.Side.TheVariants as sides
 use Rattle.rpg_format.specs.Format.{byte, pair, row, two_bytes}
 use Rattle.rpg_program.specs.Kept.{AreConditions, AreIndicators, IsAnOperand, IsInstructionRow, IsOperandRow, IsOptionalRow, IsTwoBytes}
-use Rattle.rpg_rows.specs.declared.operation.Columns.{Columns}
-use Rattle.rpg_rows.specs.declared.operation.Numbers.{Numbers}
-use Rattle.rpg_rows.specs.declared.operation.Operation.{Operation}
-use Rattle.rpg_rows.specs.declared.operation.Operation.TheVariants as op
-use Rattle.rpg_rows.specs.Indicators.{indicators_of, negations_of}
-use Rattle.rpg_rows.specs.Instructions.{arithmetic, assignment, bare, branch, call, columns, columns_of, comparison, half_column, indicators_column, instruction, move, negations_column, no_shows, nothing, numbers, operand_column, operation_number, operation_of, remainder, search, setting, target_column, unused_shows}
-use Rattle.rpg_rows.specs.Operands.{no_operand, operand_or_none, unused_operand}
-use Rattle.rpg_rows.specs.Shapes.{row_where}
-use Rattle.rpg_rows.proofs.Choices.{flag_from, some_is}
-use Rattle.rpg_rows.proofs.IndicatorsKept.{are_conditions, indicators_in, negations_hold, shows_from, shows_kept}
-use Rattle.rpg_rows.proofs.OperandLaws.{no_operand_row, operand_from, operand_kept}
+use Rattle.rpg_instructions.specs.declared.operation.Columns.{Columns}
+use Rattle.rpg_instructions.specs.declared.operation.Numbers.{Numbers}
+use Rattle.rpg_instructions.specs.declared.operation.Operation.{Operation}
+use Rattle.rpg_instructions.specs.declared.operation.Operation.TheVariants as op
+use Rattle.rpg_instructions.specs.Indicators.{indicators_of, negations_of}
+use Rattle.rpg_instructions.specs.Instructions.{arithmetic, assignment, bare, branch, call, columns, columns_of, comparison, half_column, indicators_column, instruction, move, negations_column, no_shows, nothing, numbers, operand_column, operation_number, operation_of, remainder, search, setting, target_column, unused_shows}
+use Rattle.rpg_instructions.specs.Operands.{no_operand, operand_or_none, unused_operand}
+use Rattle.rpg_instructions.specs.Shapes.{row_where}
+use Rattle.rpg_instructions.proofs.Choices.{flag_from, some_is}
+use Rattle.rpg_instructions.proofs.IndicatorsKept.{are_conditions, indicators_in, negations_hold, shows_from, shows_kept}
+use Rattle.rpg_instructions.proofs.OperandLaws.{no_operand_row, operand_from, operand_kept}
 
 -- ---- what an operation has
 

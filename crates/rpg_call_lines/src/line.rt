@@ -20,10 +20,12 @@ pub struct Size {
 }
 
 impl<'a> Line<'a> {
+    /// All of a line.
     pub fn new(rest: &'a str) -> Line<'a> {
         Line { rest }
     }
 
+    /// The word that comes next, up to a blank; none at the end of the line.
     pub fn word(&mut self) -> Option<&'a str> {
         let rest = self.rest.trim_start();
         if rest.is_empty() {
@@ -59,6 +61,7 @@ impl<'a> Line<'a> {
         Some(text)
     }
 
+    /// The number that comes next.
     pub fn number(&mut self) -> Option<Number> {
         Number::read(self.word()?)
     }
@@ -107,6 +110,7 @@ impl<'a> Line<'a> {
         self.word()?.parse().ok()
     }
 
+    /// How many decimals a quotient has, at most 18.
     pub fn scale(&mut self) -> Option<Scale> {
         let value = self.count()?;
         if value <= 18 {

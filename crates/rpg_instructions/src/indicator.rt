@@ -3,7 +3,7 @@
 ghost use Rattle.std.specs.Prelude.{◌≡◌};
 ghost use Rattle.rpg_format.specs.Format.{read_byte};
 ghost use Rattle.rpg_format.specs.Reading.{Gives};
-ghost use Rattle.rpg_rows.specs.Indicators.{indicator_number, indicator_of, shows};
+ghost use Rattle.rpg_instructions.specs.Indicators.{indicator_number, indicator_of, shows};
 
 use rpg_effect::operation::Shows;
 use rpg_format::fault::{Code, ReadFault};

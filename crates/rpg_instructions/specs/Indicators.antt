@@ -7,7 +7,7 @@ use Rattle.rpg_format.specs.declared.fault.Code.{Code}
 use Rattle.rpg_format.specs.declared.fault.Code.TheVariants.{NotAllowed}
 use Rattle.rpg_format.specs.Format.{Format, byte, pair, row}
 use Rattle.rpg_format.specs.Numbers.{is_between, byte_where, yes_or_no}
-use Rattle.rpg_rows.specs.Shapes.{counted_rows}
+use Rattle.rpg_instructions.specs.Shapes.{counted_rows}
 
 -- ---- indicators
 

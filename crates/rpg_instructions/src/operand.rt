@@ -4,7 +4,7 @@ ghost use Rattle.std.specs.Prelude.{◌≡◌, ◌<◌, ◌+◌, ◌^◌};
 ghost use Rattle.rpg_format.specs.Format.{read_two};
 ghost use Rattle.rpg_format.specs.Reading.{Gives};
 ghost use Rattle.rpg_program.specs.Kept.{IsIndexRow};
-ghost use Rattle.rpg_rows.specs.Operands as rows;
+ghost use Rattle.rpg_instructions.specs.Operands as rows;
 
 use rpg_effect::operation::{Index, Operand};
 use rpg_format::fault::{Code, ReadFault};

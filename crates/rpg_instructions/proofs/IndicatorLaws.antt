@@ -9,9 +9,9 @@ use Rattle.rpg_format.specs.Format.{byte, pair}
 use Rattle.rpg_format.specs.Numbers.{is_between}
 use Rattle.rpg_format.proofs.Laws.{IsFormat, IsRule, byte_law, pair_law, row_law}
 use Rattle.rpg_format.proofs.Rules.{byte_where_law, chosen, guarded, stands_for, value_is, yes_or_no_law}
-use Rattle.rpg_rows.specs.Indicators.{alternative, are_negations, bit, condition, condition_with, conditions, conditions_of, has_bit, indicator, indicator_in, indicator_number, indicator_of, indicators_of, is_negation, may_negate, negations_of, shows}
-use Rattle.rpg_rows.proofs.Choices.{passed}
-use Rattle.rpg_rows.proofs.ShapeLaws.{counted_law}
+use Rattle.rpg_instructions.specs.Indicators.{alternative, are_negations, bit, condition, condition_with, conditions, conditions_of, has_bit, indicator, indicator_in, indicator_number, indicator_of, indicators_of, is_negation, may_negate, negations_of, shows}
+use Rattle.rpg_instructions.proofs.Choices.{passed}
+use Rattle.rpg_instructions.proofs.ShapeLaws.{counted_law}
 
 indicator_rule : IsRule indicator_of indicator_number
 indicator_rule n x e =

@@ -10,9 +10,9 @@ use Rattle.rpg_format.specs.Format.{byte, pair, row, two_bytes}
 use Rattle.rpg_format.specs.Numbers.{allowed}
 use Rattle.rpg_format.proofs.Rules.{chosen, stands_for}
 use Rattle.rpg_program.specs.Kept.{AreConditions, AreIndicators, IsAlternativeRow, IsConditionRow, IsIndicator}
-use Rattle.rpg_rows.specs.Indicators.{alternative, are_negations, condition, conditions, has_bit, indicator, indicator_in, indicator_of, indicators_of, is_negation, may_negate, negations_of, shows}
-use Rattle.rpg_rows.proofs.Choices.{all_from_table, between, counted, few, flag_from, some_is, table_from_all, taken, within}
-use Rattle.rpg_rows.proofs.IndicatorLaws.{has_bits}
+use Rattle.rpg_instructions.specs.Indicators.{alternative, are_negations, condition, conditions, has_bit, indicator, indicator_in, indicator_of, indicators_of, is_negation, may_negate, negations_of, shows}
+use Rattle.rpg_instructions.proofs.Choices.{all_from_table, between, counted, few, flag_from, some_is, table_from_all, taken, within}
+use Rattle.rpg_instructions.proofs.IndicatorLaws.{has_bits}
 
 -- ---- indicators
 
