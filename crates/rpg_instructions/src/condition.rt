@@ -45,7 +45,7 @@ fn negations_for(shows: Shows, n: u8) -> Result<u8, Code>
 
 /// Reads the N bits of conditions with these indicators.
 #[tactic(auto, unfolding(rpg_format::specs::Format::read_byte))]
-pub fn negations_at(bytes: &[u8], shows: Shows) -> Result<(u8, &[u8]), ReadFault>
+pub(crate) fn negations_at(bytes: &[u8], shows: Shows) -> Result<(u8, &[u8]), ReadFault>
     ensures { Gives (λ x. (x.0, x.1.now)) result (read_byte (allowed (are_negations shows)) bytes.now) }
 {
     byte_at(bytes, |n| negations_for(shows, n))
@@ -84,7 +84,7 @@ fn condition_with(is_negated: bool, indicator: Option<u8>) -> Option<Condition>
 }
 
 /// The conditions with these indicators and N bits.
-pub fn conditions_of(shows: Shows, negations: u8) -> Conditions
+pub(crate) fn conditions_of(shows: Shows, negations: u8) -> Conditions
     ensures { result ≡ conditions_of shows negations }
 {
     Conditions {

@@ -54,7 +54,7 @@ pub fn operand_at(bytes: &[u8]) -> Result<(Operand<u16>, &[u8]), ReadFault>
 
 /// Reads the field and the index of no operand.
 #[tactic(auto, unfolding(rpg_format::specs::Format::two_bytes, rpg_format::specs::Format::pair, rpg_format::specs::Format::row, crate::specs::Operands::unused_operand))]
-pub fn unused_operand_at(bytes: &[u8]) -> Result<((), &[u8]), ReadFault>
+pub(crate) fn unused_operand_at(bytes: &[u8]) -> Result<((), &[u8]), ReadFault>
     ensures { Gives (λ x. (x.0, x.1.now)) result (rows.unused_operand.reading bytes.now) }
 {
     let (_, rest) = only_number_at(bytes, 0, Code::Unused)?;
@@ -63,13 +63,13 @@ pub fn unused_operand_at(bytes: &[u8]) -> Result<((), &[u8]), ReadFault>
 }
 
 /// What stands for no operand.
-pub const NO_OPERAND: Operand<u16> = Operand {
+pub(crate) const NO_OPERAND: Operand<u16> = Operand {
     field: 0,
     index: Index::Blank,
 };
 
 /// The operand, if it is one.
-pub fn optional_of(operand: Operand<u16>) -> Option<Operand<u16>>
+pub(crate) fn optional_of(operand: Operand<u16>) -> Option<Operand<u16>>
     ensures { result ≡ rows.optional_of operand }
 {
     match operand.index {
@@ -78,7 +78,8 @@ pub fn optional_of(operand: Operand<u16>) -> Option<Operand<u16>>
     }
 }
 
-pub fn operand_or_none(operand: Option<Operand<u16>>) -> Operand<u16>
+/// The operand, or what stands for none.
+pub(crate) fn operand_or_none(operand: Option<Operand<u16>>) -> Operand<u16>
     ensures { result ≡ rows.operand_or_none operand }
 {
     match operand {
