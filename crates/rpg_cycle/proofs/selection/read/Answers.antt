@@ -29,7 +29,7 @@ returns-in_err-row-clause-spends g c =
 
 pub returns-clause-goes : goal.returns-clause-goes
 returns-clause-goes g c =
-    let full = c.fill.new.record.items in
+    let full = c.fill.new.room.items in
     let fields = control_fields c.args.program.now c.in_ok-row.row in
     has_taken c.args.program.now (left_of c.args.kept.now) c.args.text.now full c.in_ok-row.row c.args.machine.now c.take_type.new.machine c.compare_levels.new.machine
     (seen_levels c.compare_levels.new.levels) (sym c.is_good.ensures ∙ c.if-not-is_good.false) c.in_ok-fill.ensures.filled
@@ -40,7 +40,7 @@ returns-clause-goes g c =
 
 pub returns-clause-selects : goal.returns-clause-selects
 returns-clause-selects g c =
-    let full = c.fill.new.record.items in
+    let full = c.fill.new.room.items in
     let fields = control_fields c.args.program.now c.in_ok-row.row in
     taken_selects c.args.program.now full c.in_ok-row.row (seen_levels c.deref_mut.result.now) (seen_levels c.compare_levels.new.levels) c.args.machine.now c.take_type.new.machine c.compare_levels.new.machine
     (subst (λ (x : List ℕ). TakesType c.args.program.now x c.args.machine.now c.in_ok-row.row c.take_type.new.machine) c.deref.ensures.value c.in_ok-row.ensures.goes)
