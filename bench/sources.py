@@ -7,7 +7,13 @@ usage: bench/sources.py KIND CARDS > SOURCE
     both        calculations with a pair of new literals and a new result field each; then output fields with new constants
     constants   output fields with a new constant each
     plain       calculations without a literal, all on one result field; then output fields that put it out
-CARDS counts all cards of the source. A program has at most 4,000 fields and constants, 1,000 calculations, and 200 fields a line.
+    labels      a GOTO, then a TAG for each, with a new label each; then output fields
+    groups      calculations of five cards each, of which two are OR cards; then output fields
+    calls       subroutines that each call the next ones; then output fields
+    entries     calculations over an array by an index; then output fields that put its entries out
+    levels      record types of codes, AND cards and control fields of all nine levels; then output fields
+    data        tables with alternating ones, and their cards of data; then output fields
+CARDS counts all cards of the source. A program has at most 4,000 fields and constants, 1,000 calculations, 100 subroutines, and 200 fields a line.
 """
 
 import sys
@@ -46,20 +52,101 @@ def calculation(kind, number):
     return card("C", *values)
 
 
+def labels(cards):
+    """As many labels as there is room for, each with a GOTO, all of these first."""
+    pairs = min(cards, CALCULATIONS) // 2
+    for number in range(pairs):
+        yield card("C", (10, "01"), (28, "GOTO"), (33, name(number)))
+    for number in range(pairs):
+        yield card("C", (18, name(number)), (28, "TAG"))
+
+
+def groups(cards):
+    """Calculations with three alternatives of one, two and two cards."""
+    for number in range(min(cards, CALCULATIONS) // 5):
+        for level, indicator in (("", " 01"), ("OR", " 02"), ("AN", "N03"), ("OR", " 04")):
+            yield card("C", (7, level), (9, indicator))
+        values = [(7, "AN"), (9, " 05"), (18, "COUNT"), (28, "ADD"), (33, "COUNT"), (43, "SUM")]
+        yield card("C", *values, *([(49, "  7"), (52, "0")] if number == 0 else []))
+
+
+def calls(cards):
+    """Subroutines that each call up to eight of the next ones, the first called at detail time."""
+    bodies = min(99, min(cards, CALCULATIONS) // 10)
+    yield card("C", (28, "EXSR"), (33, name(0)))
+    for number in range(bodies):
+        yield card("C", (7, "SR"), (18, name(number)), (28, "BEGSR"))
+        for callee in range(number + 1, min(number + 8, bodies)):
+            yield card("C", (7, "SR"), (28, "EXSR"), (33, name(callee)))
+        yield card("C", (7, "SR"), (28, "ENDSR"))
+
+
+def entries(cards):
+    """Sums of entries of an array, by a literal index and by a field."""
+    for number in range(min(cards, CALCULATIONS)):
+        index = "COUNT" if number % 2 else str(number % 999 + 1)
+        values = [(28, "ADD"), (33, "AR," + index), (43, "SUM")]
+        yield card("C", *values, *([(49, "  7"), (52, "0")] if number == 0 else []))
+
+
+def levels(cards):
+    """Record types of six codes and nine control fields, of one length in all of them."""
+    for number in range(min(190, cards // 11)):
+        codes = [(21 + 7 * i, "%4d CA" % (i + 1)) for i in range(3)]
+        yield card("I", (7, "INPUT"), (15, "AA"), (19, "%02d" % (number % 99 + 1)), *codes)
+        yield card("I", (14, "AND"), *codes)
+        for level in range(1, 10):
+            yield card("I", (44, "%4d" % level), (48, "%4d" % level), (53, "L%d" % level), (59, "L%d" % level))
+
+
+def tables(cards):
+    """E cards, each of a table with an alternating one."""
+    for number in range(min(100, cards // 12)):
+        name_of_table, alternating = "TAB" + name(number)[-3:], "T" + name(number)[-4:]
+        values = [(27, name_of_table), (33, "  8"), (36, "  64"), (40, "  4"), (44, "0"), (45, "A")]
+        yield card("E", *values, (46, alternating), (52, "  6"), (56, "2"))
+
+
+def data(cards):
+    """The data of these tables: eight cards of eight pairs behind each `**` card."""
+    for _ in range(min(100, cards // 12)):
+        yield "**"
+        for line in range(8):
+            yield "".join("%04d%06d" % (8 * line + i, 37 * i) for i in range(8))
+
+
 def output_field(kind, number):
     """An output field: a new constant, or a field by its name."""
     if kind in ("literals", "both", "constants"):
         return card("O", (40, " 120"), (45, "'TEXT %d'" % number))
+    if kind == "entries":
+        return card("O", (32, "AR,%d" % (number % 999 + 1)), (40, " 120"))
+    if kind in ("labels", "calls", "levels", "data"):
+        return card("O", (32, "COUNT"), (40, " 120"))
     return card("O", (32, name(number) if kind == "names" else "SUM"), (40, " 120"))
+
+
+# What stands between the first input fields and the lines.
+WHOLE = {"labels": labels, "groups": groups, "calls": calls, "entries": entries, "levels": levels}
+
+
+def extension(kind, cards):
+    """The E cards of a source."""
+    if kind == "entries":
+        return [card("E", (27, "AR"), (36, " 999"), (40, "  7"), (44, "0"))]
+    return list(tables(cards)) if kind == "data" else []
 
 
 def source(kind, cards):
     """The lines of a source."""
     yield card("F", (7, "INPUT"), (15, "IPE"), (19, "F"), (24, "  80"), (40, "DISK40"))
     yield card("F", (7, "PRINT"), (15, "O"), (19, "F"), (24, " 132"), (40, "PRINTER"))
+    before = extension(kind, cards)
+    yield from before
     yield card("I", (7, "INPUT"), (15, "AA"), (19, "01"))
     yield card("I", (44, "   1"), (48, "   5"), (52, "0"), (53, "COUNT"))
-    left = cards - 4
+    behind = list(data(cards)) if kind == "data" else []
+    left = cards - 4 - len(before) - len(behind)
     if kind == "names":
         fields = (left - left // 2 // FIELDS_OF_A_LINE - left // 2 // FIELDS_OF_A_TYPE) // 2
         for number in range(fields):
@@ -68,7 +155,11 @@ def source(kind, cards):
                 left -= 1
             yield card("I", (44, "   1"), (48, "   5"), (52, "0"), (53, name(number)))
         left -= fields
-    elif kind != "constants":
+    elif kind in WHOLE:
+        lines = list(WHOLE[kind](left))
+        yield from lines
+        left -= len(lines)
+    elif kind not in ("constants", "data"):
         for number in range(min(left, CALCULATIONS)):
             yield calculation(kind, number)
         left -= CALCULATIONS
@@ -80,6 +171,7 @@ def source(kind, cards):
             yield output_field(kind, number)
             number += 1
         left -= fields + 1
+    yield from behind
 
 
 def main():

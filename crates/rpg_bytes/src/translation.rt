@@ -2,11 +2,11 @@
 
 ghost use Rattle.std.specs.Prelude.{◌≡◌, ◌<◌, None, Ok, IfErr, IfOk};
 ghost use Rattle.rpg_bytes.specs.Verification.{IsSpelled};
-ghost use Rattle.rpg_compile.specs.Compile.{Compiles, IsRefusal};
+ghost use Rattle.first_compile.specs.Compile.{Compiles, IsRefusal};
 ghost use Rattle.rpg_object.specs.Program.{first_fault, reading};
 ghost use Rattle.rpg_program.specs.Object.{Object};
 
-use rpg_compile::{CompileFault, compile};
+use first_compile::{CompileFault, compile};
 use rpg_object::encode;
 use rpg_object::laws::a_spelling_is_read_again;
 use std::alloc::Global;

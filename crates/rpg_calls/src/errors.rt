@@ -3,7 +3,7 @@
 use rpg_call_lines::Line;
 use rpg_decimal::{BadDigit, ZeroDivisor};
 use rpg_form::NoMemory;
-use rpg_symbols::DefineFault;
+use rpg_symbols::{DefineFault, LevelFault};
 use rpg_widths::EditFault;
 use std::alloc::{AllocError, Global};
 use std::fmt::Display;
@@ -23,6 +23,7 @@ pub fn is_told(alloc: Global, mut line: Line<'_>) -> Result<Option<bool>, AllocE
         "no_memory" => says(alloc, NoMemory, wanted)?,
         "other" => says(alloc, DefineFault::Other, wanted)?,
         "full" => says(alloc, DefineFault::Full, wanted)?,
+        "cycle_1" => says(alloc, LevelFault::Cycle { call: 1 }, wanted)?,
         _ => return Ok(None),
     }))
 }

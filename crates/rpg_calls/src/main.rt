@@ -7,6 +7,7 @@ mod cards;
 mod decimal;
 mod edited;
 mod errors;
+mod levels;
 mod moves;
 mod names;
 mod printed;
@@ -52,6 +53,7 @@ impl<'a> State<'a> {
             .or(moves::is_told(call, line))
             .or(edited::is_told(call, line))
             .or(names::is_told(&mut self.symbols, call, line))
+            .or(levels::is_told(alloc, call, line))
             .or(cards::is_told(alloc, &mut self.card, call, line));
         match told {
             Some(told) => Ok(Some(told)),

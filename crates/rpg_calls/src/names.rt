@@ -36,17 +36,30 @@ fn read_name(line: &mut Line<'_>) -> Option<Name> {
     }
 }
 
-/// `number 7.2`, `date 6.0` or `text 5`, and `by 20` behind it where there are 20 entries.
+/// `number 7.2`, `date 6.0` or `text 5`; `array` or `table` before it, `by 20` behind it where there are 20 entries, and then `ascending`
+/// where they stand in ascending sequence.
 fn read_form(line: &mut Line<'_>) -> Option<FieldForm> {
+    let class = if line.takes("array") {
+        Class::Array
+    } else if line.takes("table") {
+        Class::Table
+    } else {
+        Class::Plain
+    };
     let form = match line.word()? {
-        "number" => number(Class::Plain, line.size()?),
+        "number" => number(class, line.size()?),
         "date" => number(Class::Date, line.size()?),
-        "text" => text(line.word()?.parse().ok()?),
+        "text" => text(class, line.word()?.parse().ok()?),
         _ => return None,
     };
     if line.takes("by") {
         let entries = line.word()?.parse().ok()?;
-        return Some(FieldForm { entries, ..form });
+        let is_ascending = line.takes("ascending");
+        return Some(FieldForm {
+            entries,
+            is_ascending,
+            ..form
+        });
     }
     Some(form)
 }
@@ -62,10 +75,10 @@ fn number(class: Class, size: Size) -> FieldForm {
     }
 }
 
-fn text(length: u16) -> FieldForm {
+fn text(class: Class, length: u16) -> FieldForm {
     FieldForm {
         kind: Kind::Text,
-        class: Class::Plain,
+        class,
         length,
         decimals: 0,
         is_ascending: false,

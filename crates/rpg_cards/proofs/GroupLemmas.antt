@@ -1,5 +1,6 @@
 -- How groups grow by a card, and to which group a card belongs.
-use Rattle.std.proofs.Common.{◌≡◌, ℕ, ◌+◌, List, [], ◌∷◌, ◌++◌, length, map, Option, None, Some, refl, sym, ap, ◌∙◌, arith, append_assoc, append-nil}
+use Rattle.std.proofs.Common.{◌≡◌, ℕ, ◌+◌, List, [], ◌∷◌, ◌++◌, length, map, take, Option, None, Some, refl, sym, ap, ◌∙◌, arith, append_assoc, append-nil}
+use Rattle.std.proofs.Math.Seq.{take-append_seam}
 use Rattle.std.proofs.lemmas.List.Sums.{fold-append}
 use Rattle.std.specs.List.{last_or}
 use Rattle.std.specs.Option.{option_map, option_or, option_to_list}
@@ -21,6 +22,12 @@ abbrev pub one_if_heading : {H F : Type 0} → Role H F → ℕ
 one_if_heading (Heading h name) = 1
 one_if_heading (Follower f) = 0
 one_if_heading Apart = 0
+
+-- the file of the groups behind a card
+abbrev pub file_with : {H F : Type 0} → Option (List ℕ) → Role H F → Option (List ℕ)
+file_with file (Heading h name) = option_or name file
+file_with file (Follower f) = file
+file_with file Apart = file
 
 module _ {H F : Type 0} (role : Spec → Role H F) where
   -- the groups of cards behind an open group, that one first
@@ -103,6 +110,36 @@ module _ {H F : Type 0} (role : Spec → Role H F) where
 
   pub groups-push : (before : List SpecCard) (c : SpecCard) → length (groups role (before ++ c ∷ [])) ≡ length (groups role before) + one_if_heading (role c.spec)
   groups-push before c = count_from None before c
+
+  -- ---- the groups before a heading are whole
+
+  -- the file of the last group
+  abbrev pub file_behind : Option (List ℕ) → List SpecCard → Option (List ℕ)
+  file_behind file [] = file
+  file_behind file (d ∷ ds) = file_behind (file_with file (role d.spec)) ds
+
+  pub followers-heading : (front : List SpecCard) (c : SpecCard) (after : List SpecCard) (h : H) (name : Option (List ℕ)) → role c.spec ≡ Heading h name → followers role (front ++ c ∷ after) ≡ followers role front
+  followers-heading [] c after h name e = ap (λ (r : Role H F). following r (followers role after)) e
+  followers-heading (d ∷ ds) c after h name e = ap (following (role d.spec)) (followers-heading ds c after h name e)
+
+  pub groups-heading : (file : Option (List ℕ)) (front : List SpecCard) (c : SpecCard) (after : List SpecCard) (h : H) (name : Option (List ℕ)) → role c.spec ≡ Heading h name
+      → groups_from role file (front ++ c ∷ after) ≡ groups_from role file front ++ groups_from role (file_behind file front) (c ∷ after)
+  groups-heading file [] c after h name e = refl
+  groups-heading file (d ∷ ds) c after h name e =
+      ap (λ fs. opening (role d.spec) file fs (λ own. groups_from role own (ds ++ c ∷ after))) (followers-heading ds c after h name e)
+      ∙ by_role (role d.spec) (λ own. groups-heading own ds c after h name e)
+    where
+      by_role : (r : Role H F) → ((own : Option (List ℕ)) → groups_from role own (ds ++ c ∷ after) ≡ groups_from role own ds ++ groups_from role (file_behind own ds) (c ∷ after))
+          → opening r file (followers role ds) (λ own. groups_from role own (ds ++ c ∷ after)) ≡ opening r file (followers role ds) (λ own. groups_from role own ds) ++ groups_from role (file_behind (file_with file r) ds) (c ∷ after)
+      by_role (Heading g n) rest = ap (λ gs. record { heading = g; followers = followers role ds; file = option_or n file } ∷ gs) (rest (option_or n file))
+      by_role (Follower f) rest = rest file
+      by_role Apart rest = rest file
+
+  -- so the groups of the cards before a heading are as many at the front of all groups
+  pub groups-taken : (before : List SpecCard) (c : SpecCard) (after : List SpecCard) (h : H) (name : Option (List ℕ)) → role c.spec ≡ Heading h name
+      → take (length (groups role before)) (groups role (before ++ c ∷ after)) ≡ groups role before
+  groups-taken before c after h name e =
+      ap (take (length (groups role before))) (groups-heading None before c after h name e) ∙ take-append_seam (groups role before) (groups_from role (file_behind None before) (c ∷ after))
 
   -- ---- rows that don't tell the file
 

@@ -13,7 +13,6 @@ use Rattle.rpg_cards.specs.Index.{defined_first, first_at, place_of, placed, IsI
 use Rattle.rpg_cards.specs.Names.{definitions, definitions_on, defined_as, defined_field, first_form, is_new_name, is_of}
 use Rattle.rpg_cards.specs.declared.constants.Constant.{Constant}
 use Rattle.rpg_cards.specs.declared.index.FirstDefinition.{FirstDefinition}
-use Rattle.rpg_cards.specs.declared.names.Defined.{Defined}
 use Rattle.rpg_cards.specs.declared.names.Definition.{Definition}
 use Rattle.rpg_cards.specs.declared.spec_card.SpecCard.{SpecCard}
 use Rattle.rpg_effect.specs.declared.form.FieldForm.{FieldForm}

@@ -1,13 +1,16 @@
 -- What cards define and their constants: of cards put together, and how many there are at most.
-use Rattle.std.proofs.Common.{◌≡◌, ℕ, ◌+◌, ◌*◌, ◌<◌, ◌≤◌, List, [], ◌∷◌, ◌++◌, length, take, get_or, Option, None, Some, refl, sym, ap, ◌∙◌, arith, append_assoc, append-nil, length-append}
+use Rattle.std.proofs.Common.{◌≡◌, ℕ, ◌+◌, ◌*◌, ◌<◌, ◌≤◌, List, [], ◌∷◌, ◌++◌, length, map, take, get_or, Option, None, Some, refl, sym, ap, ◌∙◌, arith, append_assoc, append-nil, length-append}
 use Rattle.std.proofs.lemmas.List.{take_more}
-use Rattle.std.specs.Option.{option_to_list}
-use Rattle.rpg_cards.specs.Constants.{constants_in, constants_on}
-use Rattle.rpg_cards.specs.Names.{definitions, definitions_on}
+use Rattle.std.specs.Option.{option_and_then, option_to_list}
+use Rattle.rpg_cards.specs.Constants.{constants_in, constants_on, factor_constant, text_constant}
+use Rattle.rpg_cards.specs.Names.{definition_by, definition_in, definitions, definitions_on}
 use Rattle.rpg_cards.specs.declared.constants.Constant.{Constant}
 use Rattle.rpg_cards.specs.declared.names.Definition.{Definition}
 use Rattle.rpg_cards.specs.declared.spec_card.SpecCard.{SpecCard}
+use Rattle.rpg_spec.specs.declared.input.InputSpec.TheVariants as input
+use Rattle.rpg_spec.specs.declared.output.OutputSpec.TheVariants as output
 use Rattle.rpg_spec.specs.declared.spec.Spec.{Spec}
+use Rattle.rpg_spec.specs.declared.spec.Spec.TheVariants as spec
 
 pub definitions-append : (cs ds : List SpecCard) → definitions (cs ++ ds) ≡ definitions cs ++ definitions ds
 definitions-append [] ds = refl
@@ -40,18 +43,39 @@ at_most_one : {X : Type 0} (o : Option X) → length (option_to_list o) ≤ 1
 at_most_one None = omega arith
 at_most_one (Some x) = omega arith
 
-at_most_two : {X : Type 0} (o p : Option X) → length (option_to_list o ++ option_to_list p) ≤ 2
-at_most_two o p =
-    let both = length-append (option_to_list o) (option_to_list p) in
-    let first = at_most_one o in
-    let second = at_most_one p in
-    omega arith
+-- an E card's table, and its alternating one
+one_or_two : {X Y : Type 0} (f : X → Y) (x : X) (o : Option X) → length (map f (x ∷ option_to_list o) ++ [] ++ [] ++ []) ≤ 2
+one_or_two f x None = omega arith
+one_or_two f x (Some y) = omega arith
 
 pub few_definitions_on : (s : Spec) → length (definitions_on s) ≤ 2
-few_definitions_on s = at_most_two _ _
+few_definitions_on (spec.Header h) = omega arith
+few_definitions_on (spec.File f) = omega arith
+few_definitions_on (spec.Extension e) = one_or_two (definition_in e) e.table e.alternating
+few_definitions_on (spec.Input (input.Type t)) = omega arith
+few_definitions_on (spec.Input (input.And codes)) = omega arith
+few_definitions_on (spec.Input (input.Field f)) = omega arith
+few_definitions_on (spec.Calculation k) = let one = at_most_one (definition_by k) in omega arith
+few_definitions_on (spec.Output o) = omega arith
+few_definitions_on (spec.Data d) = omega arith
 
 pub few_constants_on : (s : Spec) → length (constants_on s) ≤ 2
-few_constants_on s = at_most_two _ _
+few_constants_on (spec.Header h) = omega arith
+few_constants_on (spec.File f) = omega arith
+few_constants_on (spec.Extension e) = omega arith
+few_constants_on (spec.Input i) = omega arith
+few_constants_on (spec.Calculation k) =
+    let first = option_and_then factor_constant k.factor_1 in
+    let second = option_and_then factor_constant k.factor_2 in
+    let both = length-append (option_to_list first) (option_to_list second) in
+    let one = at_most_one first in
+    let other = at_most_one second in
+    rw append-nil (omega arith)
+few_constants_on (spec.Output (output.Record r)) = omega arith
+few_constants_on (spec.Output (output.And t)) = omega arith
+few_constants_on (spec.Output (output.Or t)) = omega arith
+few_constants_on (spec.Output (output.Field f)) = let one = at_most_one (text_constant f) in omega arith
+few_constants_on (spec.Data d) = omega arith
 
 pub few_definitions : (cards : List SpecCard) → length (definitions cards) ≤ 2 * length cards
 few_definitions [] = omega arith

@@ -1,45 +1,54 @@
--- The files of a source.
-use Rattle.std.specs.Prelude.{ℕ, List, [], ◌∷◌, Bool, true, false, nat_eq, if◌then◌else◌, Option, None, Some}
+-- The files of a source, found by what they serve as or by their names.
+use Rattle.std.specs.Prelude.{ℕ, List, Bool, true, false, not, nat_eq, Option, find}
 use Rattle.std.specs.Cmp.Lexicographic.{pointwise}
+use Rattle.std.specs.List.{filter_map}
 use Rattle.std.specs.Option.{option_and_then}
 use Rattle.rpg_cards.specs.Cards.{file_on}
+use Rattle.rpg_cards.specs.declared.files.FileUse.{FileUse}
+use Rattle.rpg_cards.specs.declared.files.FileUse.TheVariants.{Primary, Printer, Disk}
 use Rattle.rpg_cards.specs.declared.spec_card.SpecCard.{SpecCard}
-use Rattle.rpg_spec.specs.declared.file.Direction.{Direction}
-use Rattle.rpg_spec.specs.declared.file.Direction.TheVariants.{Input, Output}
+use Rattle.rpg_spec.specs.declared.file.Device.{Device}
+use Rattle.rpg_spec.specs.declared.file.Device.TheVariants as device
+use Rattle.rpg_spec.specs.declared.file.FileRole.{FileRole}
+use Rattle.rpg_spec.specs.declared.file.FileRole.TheVariants as role
 use Rattle.rpg_spec.specs.declared.file.FileSpec.{FileSpec}
 
-abbrev pub is_input : Direction → Bool
-is_input Input = true
-is_input Output = false
+-- ---- what a file serves as
 
-abbrev pub is_output : Direction → Bool
-is_output Input = false
-is_output Output = true
+abbrev pub use_by : FileRole → Device → FileUse
+use_by role.Primary d = Primary
+use_by role.Output device.Printer = Printer
+use_by role.Output device.Disk = Disk
 
--- the file where it passes a test, else a later one
-abbrev pub or_later : (FileSpec → Bool) → Option FileSpec → Option FileSpec → Option FileSpec
-or_later test None later = later
-or_later test (Some f) later = if test f then Some f else later
+abbrev pub use_of : FileSpec → FileUse
+use_of f = use_by f.role f.device
 
--- the first file that passes a test
-abbrev pub first_file : (FileSpec → Bool) → List SpecCard → Option FileSpec
-first_file test [] = None
-first_file test (c ∷ cs) = or_later test (file_on c.spec) (first_file test cs)
+abbrev pub same_use : FileUse → FileUse → Bool
+same_use Primary Primary = true
+same_use Printer Printer = true
+same_use Disk Disk = true
+same_use u v = false
 
-abbrev pub has_name : List ℕ → FileSpec → Bool
-has_name name f = pointwise nat_eq name f.name
+abbrev pub is_input : FileUse → Bool
+is_input Primary = true
+is_input Printer = false
+is_input Disk = false
+
+abbrev pub is_output : FileUse → Bool
+is_output u = not (is_input u)
+
+-- ---- the files
+
+abbrev pub files : List SpecCard → List FileSpec
+files cards = filter_map (λ c. file_on c.spec) cards
+
+-- the first file of a use
+abbrev pub file_for : FileUse → List SpecCard → Option FileSpec
+file_for u cards = find (λ f. same_use u (use_of f)) (files cards)
 
 abbrev pub file_named : List ℕ → List SpecCard → Option FileSpec
-file_named name cards = first_file (has_name name) cards
+file_named name cards = find (λ f. pointwise nat_eq name f.name) (files cards)
 
 -- the file with the name, if there is a name
 abbrev pub file_by : Option (List ℕ) → List SpecCard → Option FileSpec
 file_by name cards = option_and_then (λ n. file_named n cards) name
-
--- the file that records are read from
-abbrev pub input_file : List SpecCard → Option FileSpec
-input_file cards = first_file (λ f. is_input f.direction) cards
-
--- the file that lines are put out on
-abbrev pub output_file : List SpecCard → Option FileSpec
-output_file cards = first_file (λ f. is_output f.direction) cards

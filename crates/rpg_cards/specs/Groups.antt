@@ -1,13 +1,18 @@
 -- Groups of cards: a heading with the cards that follow it, up to the next heading of its sheet.
-use Rattle.std.specs.Prelude.{ℕ, List, [], ◌∷◌, ◌++◌, length, Option, None, Some}
+use Rattle.std.specs.Prelude.{ℕ, List, [], ◌∷◌, ◌++◌, length, Option, None, Some, Bool, true, false}
 use Rattle.std.specs.List.{last_or}
 use Rattle.std.specs.Option.{option_and_then, option_map, option_map_or, option_or}
-use Rattle.rpg_cards.specs.Cards.{type_on, input_field_on, calculation_on, line_on, output_field_on}
+use Rattle.rpg_cards.specs.Cards.{input_on, output_on, data_on}
 use Rattle.rpg_cards.specs.declared.spec_card.SpecCard.{SpecCard}
-use Rattle.rpg_spec.specs.declared.calculation.CalculationSpec.{CalculationSpec}
-use Rattle.rpg_spec.specs.declared.input.InputField.{InputField}
+use Rattle.rpg_spec.specs.declared.calculation.ControlLevel.{ControlLevel}
+use Rattle.rpg_spec.specs.declared.calculation.ControlLevel.TheVariants as control
+use Rattle.rpg_spec.specs.declared.data.DataSpec.{DataSpec}
+use Rattle.rpg_spec.specs.declared.data.DataSpec.TheVariants as deck
+use Rattle.rpg_spec.specs.declared.input.InputSpec.{InputSpec}
+use Rattle.rpg_spec.specs.declared.input.InputSpec.TheVariants as input
 use Rattle.rpg_spec.specs.declared.input.RecordType.{RecordType}
-use Rattle.rpg_spec.specs.declared.output.OutputField.{OutputField}
+use Rattle.rpg_spec.specs.declared.output.OutputSpec.{OutputSpec}
+use Rattle.rpg_spec.specs.declared.output.OutputSpec.TheVariants as output
 use Rattle.rpg_spec.specs.declared.output.OutputRecord.{OutputRecord}
 use Rattle.rpg_spec.specs.declared.spec.Spec.{Spec}
 
@@ -83,19 +88,41 @@ with_card o Apart = o
 
 -- ---- the groups of the sheets
 
-abbrev pub role_of : {H F : Type 0} → (H → Option (List ℕ)) → Option H → Option F → Role H F
-role_of file (Some h) f = Heading h (file h)
-role_of file None (Some f) = Follower f
-role_of file None None = Apart
+abbrev pub role_on : {X H F : Type 0} → (X → Role H F) → Option X → Role H F
+role_on role None = Apart
+role_on role (Some x) = role x
 
--- a record type, and its field cards
-abbrev pub input_role : Spec → Role RecordType InputField
-input_role s = role_of (λ t. t.file) (type_on s) (input_field_on s)
+-- a record type, its AND cards and its field cards
+abbrev pub input_card : InputSpec → Role RecordType InputSpec
+input_card (input.Type t) = Heading t t.file
+input_card (input.And codes) = Follower (input.And codes)
+input_card (input.Field f) = Follower (input.Field f)
 
--- a calculation; nothing follows it
-abbrev pub calculation_role : Spec → Role CalculationSpec ⊥
-calculation_role s = role_of (λ k. None) (calculation_on s) None
+abbrev pub input_role : Spec → Role RecordType InputSpec
+input_role s = role_on input_card (input_on s)
 
--- a line, and its field cards
-abbrev pub output_role : Spec → Role OutputRecord OutputField
-output_role s = role_of (λ r. r.file) (line_on s) (output_field_on s)
+-- AN and OR cards go on with the calculation above them
+abbrev pub joins : ControlLevel → Bool
+joins control.Detail = false
+joins (control.Total i) = false
+joins control.Subroutine = false
+joins control.And = true
+joins control.Or = true
+
+-- a line, its AND and OR cards and its field cards
+abbrev pub output_card : OutputSpec → Role OutputRecord OutputSpec
+output_card (output.Record r) = Heading r r.file
+output_card (output.And t) = Follower (output.And t)
+output_card (output.Or t) = Follower (output.Or t)
+output_card (output.Field f) = Follower (output.Field f)
+
+abbrev pub output_role : Spec → Role OutputRecord OutputSpec
+output_role s = role_on output_card (output_on s)
+
+-- a `**` card, and the data behind it
+abbrev pub data_card : DataSpec → Role (Unit {0}) (List ℕ)
+data_card deck.Begin = Heading tt None
+data_card (deck.Card text) = Follower text
+
+abbrev pub data_role : Spec → Role (Unit {0}) (List ℕ)
+data_role s = role_on data_card (data_on s)

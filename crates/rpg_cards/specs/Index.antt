@@ -3,7 +3,7 @@ use Rattle.std.specs.Prelude.{◌≡◌, ℕ, ◌+◌, Bool, List, [], ◌∷◌
 use Rattle.std.specs.Cmp.Lexicographic.{pointwise}
 use Rattle.std.specs.Map.{lookup}
 use Rattle.rpg_cards.specs.Constants.{constants_in, is_same}
-use Rattle.rpg_cards.specs.Files.{first_file}
+use Rattle.rpg_cards.specs.Files.{files}
 use Rattle.rpg_cards.specs.Names.{defined_as, definitions, is_of}
 use Rattle.rpg_cards.specs.declared.constants.Constant.{Constant}
 use Rattle.rpg_cards.specs.declared.index.FirstDefinition.{FirstDefinition}
@@ -11,7 +11,6 @@ use Rattle.rpg_cards.specs.declared.names.Defined.{Defined}
 use Rattle.rpg_cards.specs.declared.names.Defined.TheVariants.{Missing}
 use Rattle.rpg_cards.specs.declared.names.Definition.{Definition}
 use Rattle.rpg_cards.specs.declared.spec_card.SpecCard.{SpecCard}
-use Rattle.rpg_spec.specs.declared.file.FileSpec.{FileSpec}
 
 -- what is made of the first item that passes a test and of its place; the first item of the list stands at place i
 abbrev pub first_at : {X Y : Type 0} → (X → Bool) → (ℕ → X → Y) → ℕ → List X → Option Y
@@ -33,6 +32,5 @@ pub record IsIndex (names : List (List ℕ × FirstDefinition)) (constants : Lis
   pub defined : (name : List ℕ) → lookup (pointwise nat_eq name) names ≡ first_at (is_of name) placed 0 (definitions cards)
   pub standing : (x : Constant) → lookup (is_same x) constants ≡ first_at (is_same x) place_of 0 (constants_in cards)
 
--- the same first file by each test
 abbrev pub HasSameFiles : List SpecCard → List SpecCard → Type 0
-HasSameFiles some cards = (test : FileSpec → Bool) → first_file test some ≡ first_file test cards
+HasSameFiles some cards = files some ≡ files cards

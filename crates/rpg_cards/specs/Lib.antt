@@ -4,6 +4,5 @@ pub mod Constants
 pub mod SameConstants
 pub mod Files
 pub mod Groups
-pub mod Sheets
-pub mod Operations
 pub mod Index
+pub mod Sheets

@@ -1,35 +1,40 @@
 -- The names that cards define, and their forms.
-use Rattle.std.specs.Prelude.{ℕ, ◌+◌, ◌-◌, List, [], ◌∷◌, ◌++◌, map, Bool, false, not, ◌&&◌, ◌||◌, nat_le, nat_eq, if◌then◌else◌, Option, None, Some}
-use Rattle.std.specs.List.{list_any}
+use Rattle.std.specs.Prelude.{ℕ, ◌+◌, ◌-◌, List, [], ◌∷◌, ◌++◌, map, Bool, true, false, not, ◌&&◌, ◌||◌, nat_le, nat_eq, if◌then◌else◌, Option, None, Some, codes, take}
+use Rattle.std.specs.List.{list_any, flat_map}
 use Rattle.std.specs.Option.{option_map, option_and_then, option_to_list}
 use Rattle.std.specs.Cmp.Lexicographic.{pointwise}
 use Rattle.indexmap.specs.IndexSet.{insert_all}
-use Rattle.rpg_cards.specs.Cards.{input_field_on, calculation_on}
+use Rattle.rpg_cards.specs.Cards.{input_field_on, calculation_on, extension_on}
+use Rattle.rpg_symbols.specs.Fields.{given, form_of}
 use Rattle.rpg_cards.specs.declared.names.Defined.{Defined}
 use Rattle.rpg_cards.specs.declared.names.Defined.TheVariants.{Missing, Bad, Good}
 use Rattle.rpg_cards.specs.declared.names.Definition.{Definition}
 use Rattle.rpg_cards.specs.declared.spec_card.SpecCard.{SpecCard}
+use Rattle.rpg_effect.specs.declared.form.Class.{Class}
 use Rattle.rpg_effect.specs.declared.form.Class.TheVariants as class
 use Rattle.rpg_effect.specs.declared.form.FieldForm.{FieldForm}
 use Rattle.rpg_effect.specs.declared.form.Kind.{Kind}
 use Rattle.rpg_effect.specs.declared.form.Kind.TheVariants as kind
 use Rattle.rpg_spec.specs.declared.calculation.CalculationSpec.{CalculationSpec}
+use Rattle.rpg_spec.specs.declared.extension.ExtensionSpec.{ExtensionSpec}
+use Rattle.rpg_spec.specs.declared.extension.TableSpec.{TableSpec}
 use Rattle.rpg_spec.specs.declared.input.InputField.{InputField}
 use Rattle.rpg_spec.specs.declared.spec.Spec.{Spec}
-use Rattle.rpg_symbols.specs.Fields.{given, form_of}
 use Rattle.rpg_text.specs.Texts.{is_between}
 
 -- ---- forms
 
--- a plain field
-abbrev pub plain_form : Kind → ℕ → ℕ → FieldForm
-plain_form k len d = record { kind = k; class = class.Plain; length = len; decimals = d; is_ascending = false; entries = 1 }
+abbrev pub form_with : Class → Bool → ℕ → Kind → ℕ → ℕ → FieldForm
+form_with c ascending n k len d = record { kind = k; class = c; length = len; decimals = d; is_ascending = ascending; entries = n }
 
--- A plain field of that length: a text where the decimals are blank. A text has 1 to 256 characters; a number has 1 to 15 digits,
+-- A field of that length: a text where the decimals are blank. A text has 1 to 256 characters; a number has 1 to 15 digits,
 -- of which at most 9 are decimals.
+abbrev pub sized : (Kind → ℕ → ℕ → FieldForm) → ℕ → Option ℕ → Option FieldForm
+sized made len None = if is_between 1 256 len then Some (made kind.Text len 0) else None
+sized made len (Some decimals) = if is_between 1 15 len && nat_le decimals 9 && nat_le decimals len then Some (made kind.Number len decimals) else None
+
 abbrev pub sized_form : ℕ → Option ℕ → Option FieldForm
-sized_form len None = if is_between 1 256 len then Some (plain_form kind.Text len 0) else None
-sized_form len (Some decimals) = if is_between 1 15 len && nat_le decimals 9 && nat_le decimals len then Some (plain_form kind.Number len decimals) else None
+sized_form len decimals = sized (form_with class.Plain false 1) len decimals
 
 -- ---- definitions
 
@@ -39,18 +44,33 @@ field_form f = if nat_le f.from f.to then sized_form (f.to + 1 - f.from) f.decim
 abbrev pub definition_of : InputField → Definition
 definition_of f = record { name = f.name; form = field_form f }
 
--- a result field is defined where its length is given
-abbrev pub definition_sized : CalculationSpec → ℕ → List ℕ → Definition
-definition_sized c len name = record { name = name; form = sized_form len c.decimals }
-
+-- a result field, or the array of an entry, is defined where the card has a length
 abbrev pub definition_by : CalculationSpec → Option Definition
-definition_by c = option_and_then (λ len. option_map (definition_sized c len) c.result_field) c.length
+definition_by k = option_and_then (λ len. option_map (λ e. record { name = e.name; form = sized_form len k.decimals }) k.result_field) k.length
 
--- what a card defines: an input field, or a result field
+abbrev pub is_table : List ℕ → Bool
+is_table name = pointwise nat_eq (codes "TAB") (take 3 name)
+
+abbrev pub table_class : List ℕ → Class
+table_class name = if is_table name then class.Table else class.Array
+
+abbrev pub table_form : ℕ → TableSpec → Option FieldForm
+table_form entries t = if is_between 1 9999 entries then sized (form_with (table_class t.name) t.ascending entries) t.length t.decimals else None
+
+-- the table of an E card, and its alternating one
+abbrev pub tables_on : ExtensionSpec → List TableSpec
+tables_on e = e.table ∷ option_to_list e.alternating
+
+abbrev pub definition_in : ExtensionSpec → TableSpec → Definition
+definition_in e t = record { name = t.name; form = table_form e.entries t }
+
+-- what a card defines: one or two tables or arrays, an input field, or a result field
 abbrev pub definitions_on : Spec → List Definition
-definitions_on s = option_to_list (option_map definition_of (input_field_on s)) ++ option_to_list (option_and_then definition_by (calculation_on s))
+definitions_on s =
+    flat_map (λ e. map (definition_in e) (tables_on e)) (option_to_list (extension_on s))
+    ++ option_to_list (option_map definition_of (input_field_on s))
+    ++ option_to_list (option_and_then definition_by (calculation_on s))
 
--- what cards define, in their order
 abbrev pub definitions : List SpecCard → List Definition
 definitions [] = []
 definitions (c ∷ cs) = definitions_on c.spec ++ definitions cs
@@ -78,6 +98,17 @@ form_by name ds = unless_given (form_of given name) (first_form name ds)
 
 abbrev pub form_of_name : List ℕ → List SpecCard → Defined
 form_of_name name cards = form_by name (definitions cards)
+
+abbrev pub is_missing : Defined → Bool
+is_missing Missing = true
+is_missing Bad = false
+is_missing (Good form) = false
+
+-- nothing is said of a name without a form
+abbrev pub form_in : Defined → Option FieldForm
+form_in Missing = None
+form_in Bad = None
+form_in (Good form) = Some form
 
 -- ---- names: the given ones, and then each with its first definition
 

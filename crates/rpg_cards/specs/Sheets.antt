@@ -1,42 +1,43 @@
--- What the groups of the cards before a card come to, sheet by sheet.
-use Rattle.std.specs.Option.{option_map, option_map_or}
-use Rattle.std.specs.Prelude.{◌≡◌, ℕ, ◌+◌, ◌≤◌, true, List, length, Option, None, Some, is_some, if◌then◌else◌}
-use Rattle.rpg_cards.specs.Files.{file_by, file_named}
-use Rattle.rpg_cards.specs.Groups.{Apart, Follower, Group, Heading, Role, calculation_role, file_of, group_count, input_role, open_group, output_role}
+-- What the groups of the cards before a card come to: of record types, and of lines.
+use Rattle.std.specs.Option.{option_map}
+use Rattle.std.specs.Prelude.{◌≡◌, ℕ, ◌+◌, ◌≤◌, true, List, length, Option, None, Some, is_some}
+use Rattle.rpg_cards.specs.Files.{file_by, file_named, use_of}
+use Rattle.rpg_cards.specs.Groups.{Apart, Follower, Group, Heading, Role, file_of, group_count, input_role, open_group, output_role}
+use Rattle.rpg_cards.specs.declared.sheets.GroupFile.{GroupFile}
 use Rattle.rpg_cards.specs.declared.sheets.Groups.{Groups}
 use Rattle.rpg_cards.specs.declared.sheets.Sheets.{Sheets}
 use Rattle.rpg_cards.specs.declared.spec_card.SpecCard.{SpecCard}
-use Rattle.rpg_spec.specs.declared.calculation.CalculationSpec.{CalculationSpec}
-use Rattle.rpg_spec.specs.declared.input.InputField.{InputField}
+use Rattle.rpg_spec.specs.declared.file.FileSpec.{FileSpec}
+use Rattle.rpg_spec.specs.declared.input.InputSpec.{InputSpec}
 use Rattle.rpg_spec.specs.declared.input.RecordType.{RecordType}
-use Rattle.rpg_spec.specs.declared.output.OutputField.{OutputField}
 use Rattle.rpg_spec.specs.declared.output.OutputRecord.{OutputRecord}
+use Rattle.rpg_spec.specs.declared.output.OutputSpec.{OutputSpec}
 use Rattle.rpg_spec.specs.declared.spec.Spec.{Spec}
+
+abbrev pub group_file : FileSpec → GroupFile
+group_file f = record { record_length = f.record_length; serves_as = use_of f }
 
 -- what an open group comes to, and that there is one
 pub record IsOpen (H F : Type 0) (cards : List SpecCard) (o : Option (Group H F)) (g : Groups) : Type 0 where
   pub is_open : g.is_open ≡ is_some o
-  pub followers : g.followers ≡ option_map_or (λ x. length x.followers) o 0
-  pub record_length : g.record_length ≡ option_map (λ f. f.record_length) (file_by (file_of o) cards)
+  pub file : g.file ≡ option_map group_file (file_by (file_of o) cards)
 
 pub record HasGroups (H F : Type 0) (role : Spec → Role H F) (cards before : List SpecCard) (g : Groups) : Type 0 where
   pub number : g.number ≡ group_count role before
   pub last : IsOpen H F cards (open_group role before) g
   pub few : g.number ≤ length before
-  pub few_followers : g.followers ≤ length before
 
 pub record AreSheets (cards before : List SpecCard) (s : Sheets) : Type 0 where
-  pub types : HasGroups RecordType InputField input_role cards before s.types
-  pub calculations : HasGroups CalculationSpec ⊥ calculation_role cards before s.calculations
-  pub lines : HasGroups OutputRecord OutputField output_role cards before s.lines
+  pub types : HasGroups RecordType InputSpec input_role cards before s.types
+  pub lines : HasGroups OutputRecord OutputSpec output_role cards before s.lines
 
--- the length of the file with the name, if there is a name
-abbrev pub length_with : List SpecCard → Option (List ℕ) → Option ℕ → Option ℕ
-length_with cards None len = len
-length_with cards (Some name) len = option_map (λ f. f.record_length) (file_named name cards)
+-- the file with the name, or the one before where there is no name
+abbrev pub file_or : List SpecCard → Option (List ℕ) → Option GroupFile → Option GroupFile
+file_or cards None file = file
+file_or cards (Some name) file = option_map group_file (file_named name cards)
 
 -- what a card makes of them
 abbrev pub with_role : {H F : Type 0} → List SpecCard → Role H F → Groups → Groups
-with_role cards (Heading h name) g = record { number = g.number + 1; is_open = true; followers = 0; record_length = length_with cards name g.record_length }
-with_role cards (Follower f) g = record g { followers = if g.is_open then g.followers + 1 else g.followers }
+with_role cards (Heading h name) g = record { number = g.number + 1; is_open = true; file = file_or cards name g.file }
+with_role cards (Follower f) g = g
 with_role cards Apart g = g

@@ -1,18 +1,22 @@
 //! The constants that stand on the cards themselves.
 
-ghost use Rattle.std.specs.Prelude.{◌≡◌, ◌≤◌, length, IsTrue};
+ghost use Rattle.std.specs.Prelude.{◌≡◌, ◌≤◌, ◌++◌, length, IsTrue};
 ghost use Rattle.std.specs.List.{list_all};
+ghost use Rattle.std.specs.Option.{option_and_then, option_to_list};
 ghost use Rattle.rpg_text.specs.Texts.{is_character};
 ghost use Rattle.std.specs.Cmp.{partial_equiv_from_equiv};
 ghost use Rattle.rpg_cards.specs.Constants as constants;
 ghost use Rattle.rpg_cards.specs.SameConstants.{is_same_equiv, hashed, hashed_alike};
 ghost use Rattle.rpg_cards.specs.declared.constants.Constant.TheVariants.{Text};
 
-use crate::names::add;
+use crate::names::one;
 use crate::spec_card::SpecCard;
 use arrayvec::ArrayVec;
 use rpg_effect::form::{Class, FieldForm, Kind};
-use rpg_spec::{Factor, Literal, NumericLiteral, TextLiteral, Word};
+use rpg_spec::{
+    CalculationSpec, Factor, Literal, NumericLiteral, OutputField, OutputSpec, Spec, TextLiteral,
+    Word,
+};
 use std::hash::{Hash, Hasher};
 use std::marker::Model;
 
@@ -64,7 +68,7 @@ pub enum Constant {
 }
 
 impl Constant {
-    /// The constant of an output field.
+    /// The constant or the edit word of an output field.
     pub fn of_text(text: &TextLiteral<24>) -> Self
         ensures { result ≡ Text text.now }
     {
@@ -163,7 +167,7 @@ pub fn factor_constant(factor: &Factor) -> Option<Constant>
     ensures { result ≡ constants.factor_constant factor.now }
 {
     match factor {
-        Factor::Name(_) => None,
+        Factor::Entry(_) => None,
         Factor::Literal(Literal::Number(number)) => Some(Constant::Number(*number)),
         Factor::Literal(Literal::Text(text)) => Some(Constant::Text(ConstantText::new(
             text.as_slice(),
@@ -172,31 +176,40 @@ pub fn factor_constant(factor: &Factor) -> Option<Constant>
 }
 
 impl SpecCard {
-    /// The constants of the card: that of an output field or of factor 1, and that of factor 2.
+    /// The constants of the card: those of factor 1 and factor 2, or the constant or the edit word of an output field.
     pub fn constants(&self) -> ArrayVec<Constant, 2>
         ensures { result.items ≡ constants.constants_on self.now.spec }
     {
-        let mut constants = ArrayVec::new();
-        add(&mut constants, self.first_constant());
-        add(&mut constants, self.second_constant());
-        constants
-    }
-
-    #[tactic(auto, unfolding(crate::specs::Constants::first_constant))]
-    fn first_constant(&self) -> Option<Constant>
-        ensures { result ≡ constants.first_constant self.now.spec }
-    {
-        if let Some(field) = self.output_field() {
-            let text = field.constant.as_ref()?;
-            return Some(Constant::Text(ConstantText::new(text.as_slice())));
+        match &self.spec {
+            Spec::Calculation(calculation) => of_factors(calculation),
+            Spec::Output(OutputSpec::Field(field)) => one(of_field(field)),
+            _ => ArrayVec::new(),
         }
-        factor_constant(self.calculation()?.factor_1.as_ref()?)
     }
+}
 
-    #[tactic(auto, unfolding(crate::specs::Constants::second_constant))]
-    fn second_constant(&self) -> Option<Constant>
-        ensures { result ≡ constants.second_constant self.now.spec }
-    {
-        factor_constant(self.calculation()?.factor_2.as_ref()?)
+fn of_factors(calculation: &CalculationSpec) -> ArrayVec<Constant, 2>
+    ensures { result.items ≡ option_to_list (option_and_then constants.factor_constant calculation.now.factor_1) ++ option_to_list (option_and_then constants.factor_constant calculation.now.factor_2) }
+{
+    let mut constants = one(of_factor(&calculation.factor_1));
+    if let Some(constant) = of_factor(&calculation.factor_2) {
+        constants.push(constant);
     }
+    constants
+}
+
+fn of_factor(factor: &Option<Factor>) -> Option<Constant>
+    ensures { result ≡ option_and_then constants.factor_constant factor.now }
+{
+    factor_constant(factor.as_ref()?)
+}
+
+/// The text beside a code is its fill, and no constant.
+fn of_field(field: &OutputField) -> Option<Constant>
+    ensures { result ≡ constants.text_constant field.now }
+{
+    if field.code.is_some() {
+        return None;
+    }
+    Some(Constant::of_text(field.text.as_ref()?))
 }

@@ -1,44 +1,63 @@
 //! The files of a source.
 
 ghost use Rattle.std.specs.Prelude.{◌≡◌, option_copied};
-ghost use Rattle.std.specs.Option.{option_map};
 ghost use Rattle.rpg_cards.specs.Files as files;
 
 use crate::spec_card::SpecCard;
-use rpg_spec::{Direction, FileSpec, Word};
+use rpg_spec::{Device, FileRole, FileSpec, Word};
+
+/// What a file serves as.
+#[derive(Clone, Copy, PartialEq, Eq)]
+pub enum FileUse {
+    /// The input file.
+    Primary,
+    Printer,
+    Disk,
+}
+
+pub const fn use_of(file: &FileSpec) -> FileUse
+    ensures { result ≡ files.use_of file.now }
+{
+    match (file.role, file.device) {
+        (FileRole::Primary, _) => FileUse::Primary,
+        (FileRole::Output, Device::Printer) => FileUse::Printer,
+        (FileRole::Output, Device::Disk) => FileUse::Disk,
+    }
+}
 
 /// The first F card of that file.
 pub fn file_named<'a>(name: &Word<8>, cards: &'a [SpecCard]) -> Option<&'a FileSpec>
     ensures { option_copied result ≡ files.file_named name.now cards.now }
 {
-    let (card, behind) = cards.split_first()?;
-    match card.file() {
-        Some(file) if *name == file.name => Some(file),
-        Some(_) => file_named(name, behind),
-        None => file_named(name, behind),
+    for card in cards {
+        match card.file() {
+            Some(file) if *name == file.name => return Some(file),
+            _ => {}
+        }
     }
+    None
 }
 
-/// The file that records are read from: the first one.
-pub fn input_file(cards: &[SpecCard]) -> Option<&FileSpec>
-    ensures { option_copied result ≡ files.input_file cards.now }
+/// The first file that serves as that.
+pub fn file_for(file_use: FileUse, cards: &[SpecCard]) -> Option<&FileSpec>
+    ensures { option_copied result ≡ files.file_for file_use cards.now }
 {
-    let (card, behind) = cards.split_first()?;
-    match card.file() {
-        Some(file) if file.direction == Direction::Input => Some(file),
-        Some(_) => input_file(behind),
-        None => input_file(behind),
+    for card in cards {
+        match card.file() {
+            Some(file) if is_same_use(file_use, use_of(file)) => return Some(file),
+            _ => {}
+        }
     }
+    None
 }
 
-/// The file that lines are put out on: the first one.
-pub fn output_file(cards: &[SpecCard]) -> Option<&FileSpec>
-    ensures { option_copied result ≡ files.output_file cards.now }
+const fn is_same_use(a: FileUse, b: FileUse) -> bool
+    ensures { result ≡ files.same_use a b }
 {
-    let (card, behind) = cards.split_first()?;
-    match card.file() {
-        Some(file) if file.direction == Direction::Output => Some(file),
-        Some(_) => output_file(behind),
-        None => output_file(behind),
-    }
+    matches!(
+        (a, b),
+        (FileUse::Primary, FileUse::Primary)
+            | (FileUse::Printer, FileUse::Printer)
+            | (FileUse::Disk, FileUse::Disk)
+    )
 }

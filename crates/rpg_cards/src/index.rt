@@ -15,7 +15,7 @@ ghost use Rattle.rpg_cards.specs.Names.{is_of};
 ghost use Rattle.rpg_cards.specs.declared.constants.Constant.{Constant};
 
 use crate::constants::{Constant, factor_constant};
-use crate::files::{file_named, input_file};
+use crate::files::{FileUse, file_for, file_named};
 use crate::names::{Defined, Definition, given_form};
 use crate::spec_card::SpecCard;
 use arrayvec::ArrayVec;
@@ -27,7 +27,7 @@ use std::alloc::{AllocError, Global};
 use std::hash::Hash;
 use std::marker::Model;
 
-/// The place of a name's first definition among all definitions, and its form: none where its length or its decimals are past their limit.
+/// The place of a name's first definition among all definitions, and its form: none where it is past a limit.
 #[derive(Clone, Copy)]
 pub struct FirstDefinition {
     place: usize,
@@ -138,12 +138,12 @@ impl<'a> IndexedCards<'a> {
         }
     }
 
-    /// The form of what an operation works with: of a name by its first definition.
+    /// The form of what stands in a factor: of a name by its first definition.
     pub fn form_of_factor(&self, factor: &Factor) -> Defined
         ensures { result ≡ constants.form_of_factor factor.now self.now }
     {
         match factor {
-            Factor::Name(name) => self.form_of_name(name),
+            Factor::Entry(entry) => self.form_of_name(&entry.name),
             Factor::Literal(_) => match factor_constant(factor) {
                 None => Defined::Missing,
                 Some(constant) => Defined::Good(constant.form()),
@@ -168,11 +168,11 @@ impl<'a> IndexedCards<'a> {
         file_named(name, self.from_files)
     }
 
-    /// The file that records are read from: the first one.
-    pub fn input_file(&self) -> Option<&'a FileSpec>
-        ensures { option_copied result ≡ files.input_file self.now }
+    /// The first file that serves as that.
+    pub fn file_for(&self, file_use: FileUse) -> Option<&'a FileSpec>
+        ensures { option_copied result ≡ files.file_for file_use self.now }
     {
-        input_file(self.from_files)
+        file_for(file_use, self.from_files)
     }
 }
 

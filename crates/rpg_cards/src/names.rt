@@ -1,19 +1,18 @@
 //! The names that cards define, and their forms.
 
-ghost use Rattle.std.specs.Prelude.{◌≡◌, ◌+◌, ◌<◌, ◌≤◌, ◌++◌, Some, None};
-ghost use Rattle.std.specs.Option.{option_map, option_and_then, option_to_list};
-ghost use Rattle.arrayvec.specs.ArrayVec.{array_vec_len};
-ghost use Rattle.rpg_cards.specs.Cards.{input_field_on, calculation_on};
+ghost use Rattle.std.specs.Prelude.{◌≡◌, ◌≤◌, [], ◌∷◌, map, nat_eq, take, if◌then◌else◌};
+ghost use Rattle.std.specs.Cmp.Lexicographic.{pointwise};
+ghost use Rattle.std.specs.Option.{option_to_list};
 ghost use Rattle.rpg_cards.specs.Names as names;
 ghost use Rattle.rpg_symbols.specs.Fields as fields;
 
 use crate::spec_card::SpecCard;
 use arrayvec::ArrayVec;
 use rpg_effect::form::{Class, FieldForm, Kind};
-use rpg_spec::InputField;
+use rpg_spec::{CalculationSpec, ExtensionSpec, InputField, InputSpec, Spec, TableSpec};
 use rpg_symbols::Name;
 
-/// A name that a card defines, with its form: none where its length or its decimals are past their limit.
+/// A name that a card defines, with its form: none where its length, decimals or entries are past their limit.
 #[derive(Drop)]
 pub struct Definition {
     pub name: Name,
@@ -35,7 +34,7 @@ impl Default for Definition {
 pub enum Defined {
     /// There is no definition.
     Missing,
-    /// Its length or its decimals are past their limit.
+    /// Its length, decimals or entries are past their limit.
     Bad,
     Good(FieldForm),
 }
@@ -44,80 +43,7 @@ pub enum Defined {
 pub fn sized_form(length: u16, decimals: Option<u8>) -> Option<FieldForm>
     ensures { result ≡ names.sized_form length decimals }
 {
-    match decimals {
-        None => {
-            if 1 <= length && length <= 256 {
-                Some(plain(Kind::Text, length, 0))
-            } else {
-                None
-            }
-        }
-        Some(decimals) => {
-            if 1 <= length && length <= 15 && decimals <= 9 && decimals as u16 <= length {
-                Some(plain(Kind::Number, length, decimals))
-            } else {
-                None
-            }
-        }
-    }
-}
-
-const fn plain(kind: Kind, length: u16, decimals: u8) -> FieldForm
-    ensures { result ≡ names.plain_form kind length decimals }
-{
-    FieldForm {
-        kind,
-        class: Class::Plain,
-        length,
-        decimals,
-        is_ascending: false,
-        entries: 1,
-    }
-}
-
-impl SpecCard {
-    /// What the card defines: an input field, or a result field.
-    pub fn definitions(&self) -> ArrayVec<Definition, 2>
-        ensures { result.items ≡ names.definitions_on self.now.spec }
-    {
-        let mut definitions = ArrayVec::new();
-        add(&mut definitions, self.field_definition());
-        add(&mut definitions, self.result_definition());
-        definitions
-    }
-
-    fn field_definition(&self) -> Option<Definition>
-        ensures { result ≡ option_map names.definition_of (input_field_on self.now.spec) }
-    {
-        let field = self.input_field()?;
-        Some(Definition {
-            name: Name::new(field.name.as_slice()),
-            form: field_form(field),
-        })
-    }
-
-    fn result_definition(&self) -> Option<Definition>
-        ensures { result ≡ option_and_then names.definition_by (calculation_on self.now.spec) }
-    {
-        let calculation = self.calculation()?;
-        let length = calculation.length?;
-        let name = calculation.result_field.as_ref()?;
-        Some(Definition {
-            name: Name::new(name.as_slice()),
-            form: sized_form(length, calculation.decimals),
-        })
-    }
-}
-
-/// One more item, if there is one.
-pub(crate) fn add<T: Drop>(items: &mut ArrayVec<T, 2>, item: Option<T>)
-    requires { array_vec_len items.old < 2 }
-    ensures items { items.new.items ≡ items.old.items ++ option_to_list item }
-    ensures few { array_vec_len items.new ≤ array_vec_len items.old + 1 }
-{
-    if let Some(item) = item {
-        items.push(item);
-    }
+    sized(Class::Plain, false, 1, length, decimals)
 }
 
 /// The form of an input field: none where its columns are turned round.
@@ -129,6 +55,126 @@ pub fn field_form(field: &InputField) -> Option<FieldForm>
     } else {
         None
     }
+}
+
+/// Whether a name is that of a table: it begins with TAB.
+pub fn is_table(name: &Name) -> bool
+    ensures { result ≡ names.is_table name.now }
+{
+    name.as_slice().starts_with(b"TAB")
+}
+
+/// The form of an array or a table of so many entries.
+pub fn table_form(entries: u16, table: &TableSpec) -> Option<FieldForm>
+    ensures { result ≡ names.table_form entries table.now }
+{
+    if entries < 1 || entries > 9999 {
+        return None;
+    }
+    let class = if is_table(&table.name) {
+        Class::Table
+    } else {
+        Class::Array
+    };
+    sized(
+        class,
+        table.ascending,
+        entries,
+        table.length,
+        table.decimals,
+    )
+}
+
+fn sized(
+    class: Class,
+    is_ascending: bool,
+    entries: u16,
+    length: u16,
+    decimals: Option<u8>,
+) -> Option<FieldForm>
+    ensures { result ≡ names.sized (names.form_with class is_ascending entries) length decimals }
+{
+    let (kind, decimals) = match decimals {
+        None if 1 <= length && length <= 256 => (Kind::Text, 0),
+        Some(decimals)
+            if 1 <= length && length <= 15 && decimals <= 9 && decimals as u16 <= length => {
+            (Kind::Number, decimals)
+        }
+        _ => return None,
+    };
+    Some(FieldForm {
+        kind,
+        class,
+        length,
+        decimals,
+        is_ascending,
+        entries,
+    })
+}
+
+impl SpecCard {
+    /// What the card defines: the tables or arrays of an E card, an input field, or a result field.
+    pub fn definitions(&self) -> ArrayVec<Definition, 2>
+        ensures { result.items ≡ names.definitions_on self.now.spec }
+    {
+        match &self.spec {
+            Spec::Extension(extension) => of_tables(extension),
+            Spec::Input(InputSpec::Field(field)) => one(Some(of_field(field))),
+            Spec::Calculation(calculation) => one(of_result(calculation)),
+            _ => ArrayVec::new(),
+        }
+    }
+}
+
+fn of_tables(extension: &ExtensionSpec) -> ArrayVec<Definition, 2>
+    ensures { result.items ≡ map (names.definition_in extension.now) (names.tables_on extension.now) }
+{
+    let mut definitions = ArrayVec::new();
+    definitions.push(of_table(extension.entries, &extension.table));
+    if let Some(table) = &extension.alternating {
+        definitions.push(of_table(extension.entries, table));
+    }
+    definitions
+}
+
+fn of_table(entries: u16, table: &TableSpec) -> Definition
+    ensures { result ≡ record { name = table.now.name; form = names.table_form entries table.now } }
+{
+    Definition {
+        name: Name::new(table.name.as_slice()),
+        form: table_form(entries, table),
+    }
+}
+
+fn of_field(field: &InputField) -> Definition
+    ensures { result ≡ names.definition_of field.now }
+{
+    Definition {
+        name: Name::new(field.name.as_slice()),
+        form: field_form(field),
+    }
+}
+
+fn of_result(calculation: &CalculationSpec) -> Option<Definition>
+    ensures { result ≡ names.definition_by calculation.now }
+{
+    let length = calculation.length?;
+    let entry = calculation.result_field.as_ref()?;
+    Some(Definition {
+        name: Name::new(entry.name.as_slice()),
+        form: sized_form(length, calculation.decimals),
+    })
+}
+
+/// A list of that, if there is something.
+pub(crate) fn one<T: Default + Drop>(item: Option<T>) -> ArrayVec<T, 2>
+    ensures { result.items ≡ option_to_list item }
+{
+    let mut items = ArrayVec::new();
+    if let Some(item) = item {
+        items.push(item);
+    }
+    items
 }
 
 /// The form of a name that every program has.

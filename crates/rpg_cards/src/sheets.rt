@@ -1,15 +1,23 @@
 //! What the groups of the cards before a card come to.
 
-ghost use Rattle.std.specs.Prelude.{◌≡◌, ◌+◌, ◌≤◌, [], ◌∷◌, ◌++◌, length, true, List, if◌then◌else◌};
+ghost use Rattle.std.specs.Prelude.{◌≡◌, ◌+◌, ◌≤◌, [], ◌∷◌, ◌++◌, length, true, List};
 ghost use Rattle.std.specs.Option.{option_map};
 ghost use Rattle.rpg_cards.specs.Files as files;
-ghost use Rattle.rpg_cards.specs.Groups.{calculation_role, input_role, output_role};
-ghost use Rattle.rpg_cards.specs.Sheets.{AreSheets, length_with, with_role};
+ghost use Rattle.rpg_cards.specs.Groups.{input_role, output_role};
+ghost use Rattle.rpg_cards.specs.Sheets.{AreSheets, file_or, group_file, with_role};
 ghost use Rattle.rpg_cards.specs.declared.spec_card.SpecCard.{SpecCard};
 
+use crate::files::{FileUse, use_of};
 use crate::index::IndexedCards;
 use crate::spec_card::SpecCard;
-use rpg_spec::Word;
+use rpg_spec::{InputSpec, OutputSpec, Word};
+
+/// What the cards of a group need of its file.
+#[derive(Clone, Copy)]
+pub struct GroupFile {
+    pub record_length: u16,
+    pub serves_as: FileUse,
+}
 
 /// The groups of a sheet.
 #[derive(Clone, Copy)]
@@ -17,25 +25,21 @@ pub struct Groups {
     pub number: u16,
     /// Whether there is one that a further card would follow.
     pub is_open: bool,
-    /// How many follow in the open group.
-    pub followers: u16,
-    /// The length of the open group's file.
-    pub record_length: Option<u16>,
+    /// The open group's file, if an F card describes it.
+    pub file: Option<GroupFile>,
 }
 
-/// Record types, calculations and lines.
+/// Record types and lines.
 #[derive(Clone, Copy)]
 pub struct Sheets {
     pub types: Groups,
-    pub calculations: Groups,
     pub lines: Groups,
 }
 
 const NO_GROUPS: Groups = Groups {
     number: 0,
     is_open: false,
-    followers: 0,
-    record_length: None,
+    file: None,
 };
 
 impl Sheets {
@@ -45,7 +49,6 @@ impl Sheets {
     {
         Sheets {
             types: NO_GROUPS,
-            calculations: NO_GROUPS,
             lines: NO_GROUPS,
         }
     }
@@ -57,90 +60,55 @@ impl Sheets {
         ensures { AreSheets source.now (before.now ++ card.now ∷ []) result }
     {
         Sheets {
-            types: self.types.with_type(source, card),
-            calculations: self.calculations.with_calculation(source, card),
-            lines: self.lines.with_line(source, card),
+            types: self.types.with_input(source, card),
+            lines: self.lines.with_output(source, card),
         }
     }
 }
 
 impl Groups {
-    fn with_type(self, source: &IndexedCards, card: &SpecCard) -> Self
-        requires few { self.number ≤ 2000 }
-        requires few_followers { self.followers ≤ 2000 }
+    fn with_input(self, source: &IndexedCards, card: &SpecCard) -> Self
+        requires { self.number ≤ 2000 }
         ensures { result ≡ with_role source.now (input_role card.now.spec) self }
     {
-        if let Some(record_type) = card.record_type() {
-            return self.opened(source, &record_type.file);
-        }
-        if card.input_field().is_some() {
-            self.followed()
-        } else {
-            self
+        match card.input() {
+            Some(InputSpec::Type(record_type)) => self.opened(source, &record_type.file),
+            _ => self,
         }
     }
 
-    fn with_calculation(self, source: &IndexedCards, card: &SpecCard) -> Self
+    fn with_output(self, source: &IndexedCards, card: &SpecCard) -> Self
         requires { self.number ≤ 2000 }
-        ensures { result ≡ with_role source.now (calculation_role card.now.spec) self }
-    {
-        if card.calculation().is_some() {
-            self.opened(source, &None)
-        } else {
-            self
-        }
-    }
-
-    fn with_line(self, source: &IndexedCards, card: &SpecCard) -> Self
-        requires few { self.number ≤ 2000 }
-        requires few_followers { self.followers ≤ 2000 }
         ensures { result ≡ with_role source.now (output_role card.now.spec) self }
     {
-        if let Some(line) = card.line() {
-            return self.opened(source, &line.file);
-        }
-        if card.output_field().is_some() {
-            self.followed()
-        } else {
-            self
+        match card.output() {
+            Some(OutputSpec::Record(line)) => self.opened(source, &line.file),
+            _ => self,
         }
     }
 
     /// With one more group, and the file that its heading names.
     fn opened(self, source: &IndexedCards, file: &Option<Word<8>>) -> Self
         requires { self.number ≤ 2000 }
-        ensures { result ≡ record { number = self.number + 1; is_open = true; followers = 0; record_length = length_with source.now file.now self.record_length } }
+        ensures { result ≡ record { number = self.number + 1; is_open = true; file = file_or source.now file.now self.file } }
     {
         Groups {
             number: self.number + 1,
             is_open: true,
-            followers: 0,
-            record_length: match file {
-                None => self.record_length,
-                Some(name) => length_of(source, name),
+            file: match file {
+                None => self.file,
+                Some(name) => group_file(source, name),
             },
-        }
-    }
-
-    /// With one more card in the open group.
-    fn followed(self) -> Self
-        requires { self.followers ≤ 2000 }
-        ensures { result ≡ record self { followers = if self.is_open then self.followers + 1 else self.followers } }
-    {
-        if self.is_open {
-            Groups {
-                followers: self.followers + 1,
-                ..self
-            }
-        } else {
-            self
         }
     }
 }
 
-/// The record length of a file.
-fn length_of(source: &IndexedCards, name: &Word<8>) -> Option<u16>
-    ensures { result ≡ option_map (λ f. f.record_length) (files.file_named name.now source.now) }
+fn group_file(source: &IndexedCards, name: &Word<8>) -> Option<GroupFile>
+    ensures { result ≡ option_map group_file (files.file_named name.now source.now) }
 {
-    Some(source.file_named(name)?.record_length)
+    let file = source.file_named(name)?;
+    Some(GroupFile {
+        record_length: file.record_length,
+        serves_as: use_of(file),
+    })
 }

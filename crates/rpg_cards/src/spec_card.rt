@@ -4,8 +4,8 @@ ghost use Rattle.std.specs.Prelude.{◌≡◌, option_copied};
 ghost use Rattle.rpg_cards.specs.Cards as cards_of;
 
 use rpg_spec::{
-    CalculationSpec, FileSpec, InputField, InputSpec, OutputField, OutputRecord, OutputSpec,
-    RecordType, Spec,
+    CalculationSpec, DataSpec, ExtensionSpec, FileSpec, InputField, InputSpec, OutputField,
+    OutputRecord, OutputSpec, RecordType, Spec,
 };
 
 /// A card with its number in the source, counted from 1, and what it stands for.
@@ -20,11 +20,26 @@ impl SpecCard {
         ensures { option_copied result ≡ cards_of.file_on self.now.spec }
     {
         match &self.spec {
-            Spec::Header(_) => None,
             Spec::File(file) => Some(file),
-            Spec::Input(_) => None,
-            Spec::Calculation(_) => None,
-            Spec::Output(_) => None,
+            _ => None,
+        }
+    }
+
+    pub fn extension(&self) -> Option<&ExtensionSpec>
+        ensures { option_copied result ≡ cards_of.extension_on self.now.spec }
+    {
+        match &self.spec {
+            Spec::Extension(extension) => Some(extension),
+            _ => None,
+        }
+    }
+
+    pub fn input(&self) -> Option<&InputSpec>
+        ensures { option_copied result ≡ cards_of.input_on self.now.spec }
+    {
+        match &self.spec {
+            Spec::Input(input) => Some(input),
+            _ => None,
         }
     }
 
@@ -32,12 +47,8 @@ impl SpecCard {
         ensures { option_copied result ≡ cards_of.type_on self.now.spec }
     {
         match &self.spec {
-            Spec::Header(_) => None,
-            Spec::File(_) => None,
             Spec::Input(InputSpec::Type(record_type)) => Some(record_type),
-            Spec::Input(InputSpec::Field(_)) => None,
-            Spec::Calculation(_) => None,
-            Spec::Output(_) => None,
+            _ => None,
         }
     }
 
@@ -45,12 +56,8 @@ impl SpecCard {
         ensures { option_copied result ≡ cards_of.input_field_on self.now.spec }
     {
         match &self.spec {
-            Spec::Header(_) => None,
-            Spec::File(_) => None,
-            Spec::Input(InputSpec::Type(_)) => None,
             Spec::Input(InputSpec::Field(field)) => Some(field),
-            Spec::Calculation(_) => None,
-            Spec::Output(_) => None,
+            _ => None,
         }
     }
 
@@ -58,11 +65,17 @@ impl SpecCard {
         ensures { option_copied result ≡ cards_of.calculation_on self.now.spec }
     {
         match &self.spec {
-            Spec::Header(_) => None,
-            Spec::File(_) => None,
-            Spec::Input(_) => None,
             Spec::Calculation(calculation) => Some(calculation),
-            Spec::Output(_) => None,
+            _ => None,
+        }
+    }
+
+    pub fn output(&self) -> Option<&OutputSpec>
+        ensures { option_copied result ≡ cards_of.output_on self.now.spec }
+    {
+        match &self.spec {
+            Spec::Output(output) => Some(output),
+            _ => None,
         }
     }
 
@@ -70,12 +83,8 @@ impl SpecCard {
         ensures { option_copied result ≡ cards_of.line_on self.now.spec }
     {
         match &self.spec {
-            Spec::Header(_) => None,
-            Spec::File(_) => None,
-            Spec::Input(_) => None,
-            Spec::Calculation(_) => None,
             Spec::Output(OutputSpec::Record(record)) => Some(record),
-            Spec::Output(OutputSpec::Field(_)) => None,
+            _ => None,
         }
     }
 
@@ -83,12 +92,17 @@ impl SpecCard {
         ensures { option_copied result ≡ cards_of.output_field_on self.now.spec }
     {
         match &self.spec {
-            Spec::Header(_) => None,
-            Spec::File(_) => None,
-            Spec::Input(_) => None,
-            Spec::Calculation(_) => None,
-            Spec::Output(OutputSpec::Record(_)) => None,
             Spec::Output(OutputSpec::Field(field)) => Some(field),
+            _ => None,
+        }
+    }
+
+    pub fn data(&self) -> Option<&DataSpec>
+        ensures { option_copied result ≡ cards_of.data_on self.now.spec }
+    {
+        match &self.spec {
+            Spec::Data(data) => Some(data),
+            _ => None,
         }
     }
 }

@@ -1,7 +1,7 @@
 //! The lines and statuses of answers, of which no session gives some.
 
+use first_compile::{FaultCode, SheetCode};
 use rpg_cli::{Answer, CompileFault, SourceCode, line};
-use rpg_compile::{FaultCode, SheetCode};
 use rpg_object::Code;
 use rpg_rules::{PlaceRule, Rule};
 use std::io::{self, Write};

@@ -6,14 +6,14 @@ use Rattle.std.specs.List.{list_all}
 use Rattle.std.specs.Option.{option_map, option_or}
 use Rattle.rpg_cards.specs.Cards.{Numbered}
 use Rattle.rpg_cards.specs.declared.spec_card.SpecCard.{SpecCard}
-use Rattle.rpg_card_rules.specs.declared.code.FaultCode.{FaultCode}
-use Rattle.rpg_card_rules.specs.declared.code.FaultCode.TheVariants.{F1, F7}
+use Rattle.rpg_faults.specs.declared.code.FaultCode.{FaultCode}
+use Rattle.rpg_faults.specs.declared.code.FaultCode.TheVariants.{F1, F7}
 use Rattle.rpg_faults.specs.declared.fault.Fault.{Fault}
-use Rattle.rpg_card_rules.specs.Cards.{Rule}
-use Rattle.rpg_card_rules.specs.Codes.{number}
+use Rattle.rpg_flow.specs.Kept.{Rule}
+use Rattle.rpg_faults.specs.Codes.{number}
 use Rattle.rpg_faults.specs.Faults.{codes, fault_on, fault_from, least_fault, IsBroken, HasFault, NotAfter, IsLeastFault, Faultless}
-use Rattle.rpg_card_rules.specs.Rules.{rule, source_rule}
-use Rattle.rpg_card_rules.specs.Files.{lacks_input}
+use Rattle.rpg_faults.specs.Rules.{rule, source_rule}
+use Rattle.rpg_limits.specs.Files.{lacks_input}
 
 -- ---- the cards that break a rule
 
@@ -45,7 +45,7 @@ IsOneOf k (x ∷ xs) = (k ≡ x) ⊎ IsOneOf k xs
 
 all_codes : (k : FaultCode) → IsOneOf k codes
 all_codes F1 = inl refl
-all_codes _ = search (inl, inr) depth 30
+all_codes _ = search (inl, inr) depth 60
 
 each : (test : FaultCode → Bool) (k : FaultCode) (ks : List FaultCode) → list_all test ks ≡ true → IsOneOf k ks → test k ≡ true
 each test k [] a i = absurd i

@@ -2,13 +2,13 @@
 use Rattle.std.specs.Prelude.{◌≡◌, ℕ, ◌<◌, ◌≤◌, ◌⊎◌, true, List, [], ◌∷◌, ◌++◌, Option, None, Some, find, if◌then◌else◌}
 use Rattle.std.specs.Option.{option_map, option_or}
 use Rattle.rpg_cards.specs.declared.spec_card.SpecCard.{SpecCard}
-use Rattle.rpg_card_rules.specs.declared.code.FaultCode.{FaultCode}
-use Rattle.rpg_card_rules.specs.declared.code.FaultCode.TheVariants.{F1, F2, F3, F4, F6, F7, F8, F9, F12, F15, F16}
+use Rattle.rpg_faults.specs.declared.code.FaultCode.{FaultCode}
+use Rattle.rpg_faults.specs.declared.code.FaultCode.TheVariants.{F1, F2, F3, F4, F5, F6, F7, F8, F9, F10, F11, F12, F13, F14, F15, F16, F17, F18}
 use Rattle.rpg_faults.specs.declared.fault.Fault.{Fault}
-use Rattle.rpg_card_rules.specs.Cards.{Rule}
-use Rattle.rpg_card_rules.specs.Codes.{number}
-use Rattle.rpg_card_rules.specs.Files.{lacks_input}
-use Rattle.rpg_card_rules.specs.Rules.{rule, source_rule}
+use Rattle.rpg_flow.specs.Kept.{Rule}
+use Rattle.rpg_faults.specs.Codes.{number}
+use Rattle.rpg_limits.specs.Files.{lacks_input}
+use Rattle.rpg_faults.specs.Rules.{rule, source_rule}
 
 -- ---- the set: pairs of a card and a code
 
@@ -39,7 +39,7 @@ pub record IsLeastFault (cards : List SpecCard) (f : Fault) : Type 0 where
 
 -- all codes, the least first
 abbrev pub codes : List FaultCode
-codes = F1 ∷ F2 ∷ F3 ∷ F4 ∷ F6 ∷ F7 ∷ F8 ∷ F9 ∷ F12 ∷ F15 ∷ F16 ∷ []
+codes = F1 ∷ F2 ∷ F3 ∷ F4 ∷ F5 ∷ F6 ∷ F7 ∷ F8 ∷ F9 ∷ F10 ∷ F11 ∷ F12 ∷ F13 ∷ F14 ∷ F15 ∷ F16 ∷ F17 ∷ F18 ∷ []
 
 -- ---- how it is found: on the first card that breaks a rule, the least code; before all cards what the source as a whole breaks
 

@@ -1,1 +1,4 @@
+pub mod Codes
+pub mod Rules
 pub mod Faults
+pub mod Seen

@@ -1,6 +1,6 @@
 //! Faults.
 
-use rpg_card_rules::FaultCode;
+use crate::code::FaultCode;
 
 /// A rule that a card breaks. Card 0 is the source as a whole.
 #[derive(Clone, Copy)]

@@ -3,12 +3,17 @@
 ghost use Rattle.std.specs.Prelude.{◌≡◌, [], ◌++◌, ◌∷◌, ◌≤◌, find, length, MatchOption, IfOk};
 ghost use Rattle.rpg_cards.specs.Cards.{Numbered};
 ghost use Rattle.rpg_faults.specs.Faults as faults;
-ghost use Rattle.rpg_card_rules.specs.Rules as rules;
-ghost use Rattle.rpg_card_rules.specs.Seen.{IsSeen};
+ghost use Rattle.rpg_faults.specs.Rules as rules;
+ghost use Rattle.rpg_faults.specs.Seen.{IsSeen};
 
+use crate::breach::breaks;
+use crate::code::FaultCode;
 use crate::fault::Fault;
-use rpg_card_rules::{FaultCode, Seen, breaks, lacks_input};
+use crate::seen::Seen;
 use rpg_cards::{IndexedCards, SpecCard};
+use rpg_flow::Labels;
+use rpg_limits::lacks_input;
+use rpg_places::Places;
 use std::alloc::{AllocError, Global};
 
 /// The least fault by card, then by code, found in one pass over the cards. An error is for want of memory.
@@ -18,11 +23,13 @@ pub fn first_fault(alloc: Global, cards: &[SpecCard]) -> Result<Option<Fault>, A
     ensures { IfOk result (λ found. MatchOption found (faults.Faultless cards.now) (λ fault. faults.IsLeastFault cards.now fault)) }
 {
     let source = IndexedCards::new(alloc, cards)?;
-    Ok(least_fault(&source))
+    let labels = Labels::new(alloc, cards)?;
+    Ok(least_fault(&source, &labels))
 }
 
-fn least_fault(source: &IndexedCards) -> Option<Fault>
-    requires { length source.now ≤ 2000 }
+fn least_fault(source: &IndexedCards, labels: &Labels) -> Option<Fault>
+    requires labels { labels.now ≡ source.now }
+    requires few { length source.now ≤ 2000 }
     ensures { result ≡ faults.least_fault source.now }
 {
     if lacks_input(source) {
@@ -31,18 +38,20 @@ fn least_fault(source: &IndexedCards) -> Option<Fault>
             code: FaultCode::F7,
         });
     }
-    first_on_cards(source)
+    first_on_cards(source, labels)
 }
 
 /// The least code of the first card that breaks a rule.
-fn first_on_cards(source: &IndexedCards) -> Option<Fault>
-    requires { length source.now ≤ 2000 }
+fn first_on_cards(source: &IndexedCards, labels: &Labels) -> Option<Fault>
+    requires labels { labels.now ≡ source.now }
+    requires few { length source.now ≤ 2000 }
     ensures { result ≡ faults.fault_from [] source.now }
 {
-    let mut seen = Seen::nothing(source);
+    let places = Places::nothing(source);
+    let mut seen = Seen::nothing(source, places);
     let mut rest = source.as_slice();
     while let Some((card, after)) = rest.split_first() {
-        if let Some(code) = least_code(&codes(), source, &seen, card, after) {
+        if let Some(code) = least_code(&codes(), source, labels, &seen, card, after) {
             return Some(Fault {
                 card: card.number,
                 code,
@@ -55,7 +64,7 @@ fn first_on_cards(source: &IndexedCards) -> Option<Fault>
 }
 
 /// All codes, the least first.
-fn codes() -> [FaultCode; 11]
+fn codes() -> [FaultCode; 18]
     ensures { result ≡ faults.codes }
 {
     [
@@ -63,13 +72,20 @@ fn codes() -> [FaultCode; 11]
         FaultCode::F2,
         FaultCode::F3,
         FaultCode::F4,
+        FaultCode::F5,
         FaultCode::F6,
         FaultCode::F7,
         FaultCode::F8,
         FaultCode::F9,
+        FaultCode::F10,
+        FaultCode::F11,
         FaultCode::F12,
+        FaultCode::F13,
+        FaultCode::F14,
         FaultCode::F15,
         FaultCode::F16,
+        FaultCode::F17,
+        FaultCode::F18,
     ]
 }
 
@@ -77,16 +93,17 @@ fn codes() -> [FaultCode; 11]
 fn least_code(
     codes: &[FaultCode],
     source: &IndexedCards,
+    labels: &Labels,
     seen: &Seen,
     card: &SpecCard,
     after: &[SpecCard],
 ) -> Option<FaultCode>
-    requires split { source.now ≡ seen.now.before.now ++ card.now ∷ after.now }
-    requires seen { IsSeen source.now seen.now }
+    requires labels { labels.now ≡ source.now }
+    requires seen { IsSeen source.now (card.now ∷ after.now) seen.now }
     ensures { result ≡ find (λ code. rules.rule code seen.now.before.now card.now after.now) codes.now }
 {
     for code in codes {
-        if breaks(*code, source, seen, card, after) {
+        if breaks(*code, source, labels, seen, card, after) {
             return Some(*code);
         }
     }

@@ -1,9 +1,12 @@
-//! The least fault of a source without sheet faults.
+//! The least fault of a source.
 #![tactic(auto)]
 
+mod breach;
+mod code;
 mod fault;
 mod least;
+mod seen;
 
+pub use code::FaultCode;
 pub use fault::Fault;
 pub use least::first_fault;
-pub use rpg_card_rules::FaultCode;

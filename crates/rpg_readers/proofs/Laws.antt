@@ -41,12 +41,12 @@ pub at_law : {X : Type 0} {low a b : ℕ} (rule : List ℕ → List ℕ → Opti
 unfolding at_with
 at_law {X} {low} {a} {b} rule h l = record { good = λ card. good (rule card (cols a b card)); first = λ card. first (rule card (cols a b card)); rises = λ card. rises (rule card (cols a b card)) }
   where
-    good : (r : Option X) (x : X) → ok_or r (fault_at a) ≡ Ok x → bad_if_none a r ≡ []
+    good : (r : Option X) (x : X) → ok_or r (fault_at a b) ≡ Ok x → bad_if_none a r ≡ []
     good None x e = absurd cc
     good (Some y) x e = refl
 
-    first : (r : Option X) (d : ColumnFault) → ok_or r (fault_at a) ≡ Err d → StartsWith (bad_if_none a r) d.column
-    first None d e = let k : fault_at a ≡ d = cc in ([], ap (λ (f : ColumnFault). f.column ∷ []) k)
+    first : (r : Option X) (d : ColumnFault) → ok_or r (fault_at a b) ≡ Err d → StartsWith (bad_if_none a r) d.column
+    first None d e = let k : fault_at a b ≡ d = cc in ([], ap (λ (f : ColumnFault). f.column ∷ []) k)
     first (Some y) d e = absurd cc
 
     rises : (r : Option X) → Rises low (bad_if_none a r) (b + 1)
@@ -89,7 +89,7 @@ blank_law {low} {a} {b} h one l = record { good = λ card x. good (cols a b card
     good text x (inl m) e = let lt = m.0 in let k : position is_filled text ≡ Some (prefix_len (λ c. not (is_filled c)) text) = grind (arith, common_steps) in absurd (let e' = rw k at e in cc)
 
     first : (text : List ℕ) (d : ColumnFault) → First a text (prefix_len (λ c. not (is_filled c)) text) → fault_if_some a (position is_filled text) ≡ Err d → StartsWith (filled_from a text) d.column
-    first text d (inl m) e = let lt = m.0 in let k : position is_filled text ≡ Some (prefix_len (λ c. not (is_filled c)) text) = grind (arith, common_steps) in let e' = rw k at e in let j : fault_at (a + prefix_len (λ c. not (is_filled c)) text) ≡ d = cc in (m.1.0, m.1.1 ∙ ap (λ (f : ColumnFault). f.column ∷ m.1.0) j)
+    first text d (inl m) e = let lt = m.0 in let k : position is_filled text ≡ Some (prefix_len (λ c. not (is_filled c)) text) = grind (arith, common_steps) in let e' = rw k at e in let j : fault_at (a + prefix_len (λ c. not (is_filled c)) text) (a + prefix_len (λ c. not (is_filled c)) text) ≡ d = cc in (m.1.0, m.1.1 ∙ ap (λ (f : ColumnFault). f.column ∷ m.1.0) j)
     first text d (inr m) e = let le = m.0 in let k : position is_filled text ≡ None = grind (arith, common_steps) in absurd (let e' = rw k at e in cc)
 
 pub also_law : {X Y : Type 0} {f : Columns (X → Y)} {g : Columns X} {a b c : ℕ} → IsTable f a b → IsTable g b c → IsTable (also f g) a c

@@ -5,24 +5,26 @@ ghost use Rattle.rpg_spec.specs.Columns.{IsLeast};
 ghost use Rattle.rpg_spec.specs.Tables as tables;
 
 use crate::card::Card;
-use crate::columns::at;
-use rpg_spec::{CalculationSpec, ColumnFault, Indicator, Three};
+use crate::columns::{at, conditions, indicators};
+use rpg_spec::{CalculationSpec, ColumnFault};
 
 #[tactic(auto, unfolding(rpg_spec::specs::Tables::calculation_card, rpg_spec::specs::Columns::values, rpg_spec::specs::Columns::at_with, rpg_spec::specs::Columns::also, rpg_spec::specs::Columns::past, rpg_spec::specs::Columns::blank))]
 pub(crate) fn calculation_card(card: &Card) -> Result<CalculationSpec, ColumnFault>
     ensures { result ≡ tables.calculation_card.reading card.now }
 {
-    card.unused(7, 8)?;
-    no_conditions(card)?;
+    let control_level = at(7, 8, rpg_values::control_level(card.columns(7, 8)))?;
+    let conditions = conditions(card, 9)?;
     let factor_1 = card.optional_factor(18, 27)?;
     let operation = card.optional_operation(28, 32)?;
     let factor_2 = card.optional_factor(33, 42)?;
-    let result_field = card.optional_name(43, 48)?;
+    let result_field = card.optional_entry(43, 48)?;
     let length = card.optional_number(49, 51)?;
     let decimals = card.optional_digit(52, 52)?;
-    let half_adjust = at(53, rpg_values::marked(b"H", card.columns(53, 53)))?;
-    let resulting_indicators = resulting_indicators(card)?;
+    let half_adjust = at(53, 53, rpg_values::marked(b"H", card.columns(53, 53)))?;
+    let resulting_indicators = indicators(card, 54)?;
     Ok(CalculationSpec {
+        control_level,
+        conditions,
         factor_1,
         operation,
         factor_2,
@@ -43,28 +45,4 @@ impl Card {
     {
         calculation_card(self)
     }
-}
-
-#[tactic(auto, unfolding(rpg_spec::specs::Tables::no_conditions, rpg_spec::specs::Columns::values, rpg_spec::specs::Columns::at_with, rpg_spec::specs::Columns::past))]
-fn no_conditions(card: &Card) -> Result<(), ColumnFault>
-    ensures { result ≡ tables.no_conditions.reading card.now }
-{
-    card.unused(9, 11)?;
-    card.unused(12, 14)?;
-    card.unused(15, 17)?;
-    Ok(())
-}
-
-#[tactic(auto, unfolding(rpg_spec::specs::Tables::resulting_indicators, rpg_spec::specs::Columns::values, rpg_spec::specs::Columns::at_with, rpg_spec::specs::Columns::also))]
-fn resulting_indicators(card: &Card) -> Result<Three<Option<Indicator>>, ColumnFault>
-    ensures { result ≡ tables.resulting_indicators.reading card.now }
-{
-    let first = card.optional_indicator(54, 55)?;
-    let second = card.optional_indicator(56, 57)?;
-    let third = card.optional_indicator(58, 59)?;
-    Ok(Three {
-        first,
-        second,
-        third,
-    })
 }

@@ -73,9 +73,13 @@ impl Card {
     {
         match first_filled(self.columns(first, last)) {
             None => Ok(()),
-            Some(i) => Err(ColumnFault {
-                column: first + i as u8,
-            }),
+            Some(i) => {
+                let column = first + i as u8;
+                Err(ColumnFault {
+                    column,
+                    last: column,
+                })
+            }
         }
     }
 }

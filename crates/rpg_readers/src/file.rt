@@ -6,40 +6,54 @@ ghost use Rattle.rpg_spec.specs.Tables as tables;
 
 use crate::card::Card;
 use crate::columns::at;
-use rpg_spec::{ColumnFault, FileSpec};
+use rpg_spec::{ColumnFault, FileRole, FileSpec, Within};
 
 #[tactic(auto, unfolding(rpg_spec::specs::Tables::file, rpg_spec::specs::Columns::values, rpg_spec::specs::Columns::at_with, rpg_spec::specs::Columns::also, rpg_spec::specs::Columns::past, rpg_spec::specs::Columns::blank))]
 pub(crate) fn file(card: &Card) -> Result<FileSpec, ColumnFault>
     ensures { result ≡ tables.file.reading card.now }
 {
     let name = card.name(7, 14)?;
-    let direction = at(15, rpg_values::direction(card.columns(15, 15)))?;
-    at(16, designation(card))?;
-    let ends_job = at(17, rpg_values::marked(b"E", card.columns(17, 17)))?;
-    let ascending = at(18, rpg_values::marked(b"A", card.columns(18, 18)))?;
-    at(19, rpg_values::only(b"F", card.columns(19, 19)))?;
+    at(15, 15, rpg_values::direction(card.columns(15, 15)))?;
+    let role = at(16, 16, role(card))?;
+    let ends_job = at(17, 17, rpg_values::marked(b"E", card.columns(17, 17)))?;
+    let ascending = at(18, 18, rpg_values::marked(b"A", card.columns(18, 18)))?;
+    at(19, 19, rpg_values::only(b"F", card.columns(19, 19)))?;
     let record_length = card.number(24, 27)?;
-    file_unread(card)?;
+    let overflow = file_overflow(card)?;
     let device = rpg_values::device(card.columns(40, 46));
     card.blank(47, 74)?;
     Ok(FileSpec {
         name,
-        direction,
+        role,
         ends_job,
         ascending,
         record_length,
+        overflow,
         device,
     })
 }
 
-#[tactic(auto, unfolding(rpg_spec::specs::Tables::file_unread, rpg_spec::specs::Columns::values, rpg_spec::specs::Columns::at_with, rpg_spec::specs::Columns::past, rpg_spec::specs::Columns::blank))]
-fn file_unread(card: &Card) -> Result<(), ColumnFault>
-    ensures { result ≡ tables.file_unread.reading card.now }
+#[tactic(auto, unfolding(rpg_spec::specs::Tables::file_overflow, rpg_spec::specs::Columns::values, rpg_spec::specs::Columns::at_with, rpg_spec::specs::Columns::also, rpg_spec::specs::Columns::past, rpg_spec::specs::Columns::blank))]
+fn file_overflow(card: &Card) -> Result<Option<Within<112, 119>>, ColumnFault>
+    ensures { result ≡ tables.file_overflow.reading card.now }
 {
     card.blank(28, 32)?;
-    card.unused(33, 34)?;
+    let overflow = overflow(card)?;
     card.blank(35, 39)?;
-    Ok(())
+    Ok(overflow)
+}
+
+/// With O the indicator of a full page.
+#[tactic(auto, unfolding(rpg_spec::specs::Tables::overflow, rpg_spec::specs::Columns::values, rpg_spec::specs::Columns::at_with, rpg_spec::specs::Columns::also, rpg_spec::specs::Columns::past, rpg_spec::specs::Columns::blank, rpg_spec::specs::Columns::where_card))]
+fn overflow(card: &Card) -> Result<Option<Within<112, 119>>, ColumnFault>
+    ensures { result ≡ tables.overflow.reading card.now }
+{
+    if card.columns(15, 15) == b"O".as_slice() {
+        Ok(card.optional_indicator_within(33, 34)?)
+    } else {
+        card.unused(33, 34)?;
+        Ok(None)
+    }
 }
 
 impl Card {
@@ -54,13 +68,19 @@ impl Card {
 }
 
 /// P with I, blank with O.
-#[tactic(auto, unfolding(rpg_spec::specs::Tables::designation))]
-fn designation(card: &Card) -> Option<()>
-    ensures { result ≡ tables.designation card.now (cols 16 16 card.now) }
+#[tactic(auto, unfolding(rpg_spec::specs::Tables::role))]
+fn role(card: &Card) -> Option<FileRole>
+    ensures { result ≡ tables.role card.now (cols 16 16 card.now) }
 {
     if card.columns(15, 15) == b"I".as_slice() {
-        rpg_values::only(b"P", card.columns(16, 16))
+        if card.columns(16, 16) == b"P".as_slice() {
+            Some(FileRole::Primary)
+        } else {
+            None
+        }
+    } else if card.columns(16, 16) == b" ".as_slice() {
+        Some(FileRole::Output)
     } else {
-        rpg_values::only(b" ", card.columns(16, 16))
+        None
     }
 }

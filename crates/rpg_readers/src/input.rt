@@ -5,18 +5,18 @@ ghost use Rattle.rpg_spec.specs.Columns.{IsLeast};
 ghost use Rattle.rpg_spec.specs.Tables as tables;
 
 use crate::card::Card;
-use crate::columns::at;
-use rpg_spec::{ColumnFault, InputField, InputSpec, RecordType};
+use crate::columns::{at, indicators};
+use rpg_spec::{ColumnFault, InputField, InputSpec, RecordCode, RecordType, Three};
 use rpg_text::is_blank;
 
 #[tactic(auto, unfolding(rpg_spec::specs::Tables::input_card, rpg_spec::specs::Columns::values, rpg_spec::specs::Columns::also, rpg_spec::specs::Columns::where_card))]
 pub(crate) fn input_card(card: &Card) -> Result<InputSpec, ColumnFault>
     ensures { result ≡ tables.input_card.reading card.now }
 {
-    if is_field_card(card) {
-        Ok(InputSpec::Field(field_card(card)?))
+    if is_and_card(card) {
+        Ok(InputSpec::And(type_and_card(card)?))
     } else {
-        Ok(InputSpec::Type(type_card(card)?))
+        type_or_field_card(card)
     }
 }
 
@@ -31,6 +31,24 @@ impl Card {
     }
 }
 
+#[tactic(auto, unfolding(rpg_spec::specs::Tables::type_or_field_card, rpg_spec::specs::Columns::values, rpg_spec::specs::Columns::also, rpg_spec::specs::Columns::where_card))]
+fn type_or_field_card(card: &Card) -> Result<InputSpec, ColumnFault>
+    ensures { result ≡ tables.type_or_field_card.reading card.now }
+{
+    if is_field_card(card) {
+        Ok(InputSpec::Field(field_card(card)?))
+    } else {
+        Ok(InputSpec::Type(type_card(card)?))
+    }
+}
+
+/// AND in 14-16, and nothing before it.
+pub(crate) fn is_and_card(card: &Card) -> bool
+    ensures { result ≡ tables.is_and_card card.now }
+{
+    is_blank(card.columns(7, 13)) && card.columns(14, 16) == b"AND".as_slice()
+}
+
 pub(crate) fn is_field_card(card: &Card) -> bool
     ensures { result ≡ tables.is_field_card card.now }
 {
@@ -42,15 +60,55 @@ fn type_card(card: &Card) -> Result<RecordType, ColumnFault>
     ensures { result ≡ tables.type_card.reading card.now }
 {
     let file = card.optional_name(7, 14)?;
-    let sequence = at(15, rpg_values::letters(card.columns(15, 16)))?;
+    let sequence = at(15, 16, rpg_values::letters(card.columns(15, 16)))?;
     card.blank(17, 18)?;
     let indicator = card.optional_indicator(19, 20)?;
-    no_identification(card)?;
+    let codes = record_codes(card)?;
     card.blank(42, 74)?;
     Ok(RecordType {
         file,
         sequence,
         indicator,
+        codes,
+    })
+}
+
+#[tactic(auto, unfolding(rpg_spec::specs::Tables::type_and_card, rpg_spec::specs::Columns::values, rpg_spec::specs::Columns::at_with, rpg_spec::specs::Columns::also, rpg_spec::specs::Columns::past, rpg_spec::specs::Columns::blank))]
+fn type_and_card(card: &Card) -> Result<Three<Option<RecordCode>>, ColumnFault>
+    ensures { result ≡ tables.type_and_card.reading card.now }
+{
+    card.blank(17, 20)?;
+    let codes = further_codes(card)?;
+    card.blank(42, 74)?;
+    Ok(codes)
+}
+
+/// At least one code.
+#[tactic(auto, unfolding(rpg_spec::specs::Tables::further_codes, rpg_spec::specs::Columns::values, rpg_spec::specs::Columns::at_with, rpg_spec::specs::Columns::also, rpg_spec::specs::Columns::past, rpg_spec::specs::Columns::blank, rpg_spec::specs::Columns::where_card))]
+fn further_codes(card: &Card) -> Result<Three<Option<RecordCode>>, ColumnFault>
+    ensures { result ≡ tables.further_codes.reading card.now }
+{
+    if is_blank(card.columns(21, 41)) {
+        Err(ColumnFault {
+            column: 21,
+            last: 41,
+        })
+    } else {
+        record_codes(card)
+    }
+}
+
+#[tactic(auto, unfolding(rpg_spec::specs::Tables::record_codes, rpg_spec::specs::Columns::values, rpg_spec::specs::Columns::at_with, rpg_spec::specs::Columns::also, rpg_spec::specs::Columns::past, rpg_spec::specs::Columns::blank))]
+fn record_codes(card: &Card) -> Result<Three<Option<RecordCode>>, ColumnFault>
+    ensures { result ≡ tables.record_codes.reading card.now }
+{
+    let first = card.optional_record_code(21, 27)?;
+    let second = card.optional_record_code(28, 34)?;
+    let third = card.optional_record_code(35, 41)?;
+    Ok(Three {
+        first,
+        second,
+        third,
     })
 }
 
@@ -63,34 +121,17 @@ fn field_card(card: &Card) -> Result<InputField, ColumnFault>
     let to = card.number(48, 51)?;
     let decimals = card.optional_digit(52, 52)?;
     let name = card.name(53, 58)?;
-    field_unread(card)?;
+    let level = card.optional_level(59, 60)?;
+    card.unused(61, 62)?;
+    card.blank(63, 64)?;
+    let indicators = indicators(card, 65)?;
+    card.blank(71, 74)?;
     Ok(InputField {
         from,
         to,
         decimals,
         name,
+        level,
+        indicators,
     })
-}
-
-#[tactic(auto, unfolding(rpg_spec::specs::Tables::no_identification, rpg_spec::specs::Columns::values, rpg_spec::specs::Columns::at_with, rpg_spec::specs::Columns::past))]
-fn no_identification(card: &Card) -> Result<(), ColumnFault>
-    ensures { result ≡ tables.no_identification.reading card.now }
-{
-    card.unused(21, 27)?;
-    card.unused(28, 34)?;
-    card.unused(35, 41)?;
-    Ok(())
-}
-
-#[tactic(auto, unfolding(rpg_spec::specs::Tables::field_unread, rpg_spec::specs::Columns::values, rpg_spec::specs::Columns::at_with, rpg_spec::specs::Columns::past, rpg_spec::specs::Columns::blank))]
-fn field_unread(card: &Card) -> Result<(), ColumnFault>
-    ensures { result ≡ tables.field_unread.reading card.now }
-{
-    card.unused(59, 60)?;
-    card.blank(61, 64)?;
-    card.unused(65, 66)?;
-    card.unused(67, 68)?;
-    card.unused(69, 70)?;
-    card.blank(71, 74)?;
-    Ok(())
 }

@@ -1,23 +1,23 @@
 //! The output sheet (O).
 
 ghost use Rattle.std.specs.Prelude.{◌≡◌, [], OnOk, IfErr};
-ghost use Rattle.rpg_spec.specs.Columns.{IsLeast, cols};
+ghost use Rattle.rpg_spec.specs.Columns.{IsLeast};
 ghost use Rattle.rpg_spec.specs.Tables as tables;
 
 use crate::card::Card;
-use crate::columns::at;
-use crate::input::is_field_card;
-use rpg_spec::{ColumnFault, Condition, OutputField, OutputRecord, OutputSpec, TextLiteral, Three};
+use crate::columns::{at, conditions};
+use crate::input::{is_and_card, is_field_card};
+use rpg_spec::{ColumnFault, Condition, Movement, OutputField, OutputRecord, OutputSpec, Three};
 use rpg_text::is_blank;
 
 #[tactic(auto, unfolding(rpg_spec::specs::Tables::output_card, rpg_spec::specs::Columns::values, rpg_spec::specs::Columns::also, rpg_spec::specs::Columns::where_card))]
 pub(crate) fn output_card(card: &Card) -> Result<OutputSpec, ColumnFault>
     ensures { result ≡ tables.output_card.reading card.now }
 {
-    if is_field_card(card) {
-        Ok(OutputSpec::Field(output_field_card(card)?))
+    if is_and_card(card) {
+        Ok(OutputSpec::And(line_conditions(card)?))
     } else {
-        Ok(OutputSpec::Record(record_card(card)?))
+        line_or_card(card)
     }
 }
 
@@ -32,22 +32,79 @@ impl Card {
     }
 }
 
+/// OR in 14-15, and nothing before it.
+fn is_or_card(card: &Card) -> bool
+    ensures { result ≡ tables.is_or_card card.now }
+{
+    is_blank(card.columns(7, 13)) && card.columns(14, 15) == b"OR".as_slice()
+}
+
+#[tactic(auto, unfolding(rpg_spec::specs::Tables::line_or_card, rpg_spec::specs::Columns::values, rpg_spec::specs::Columns::at_with, rpg_spec::specs::Columns::also, rpg_spec::specs::Columns::past, rpg_spec::specs::Columns::blank, rpg_spec::specs::Columns::where_card))]
+fn line_or_card(card: &Card) -> Result<OutputSpec, ColumnFault>
+    ensures { result ≡ tables.line_or_card.reading card.now }
+{
+    if is_or_card(card) {
+        card.blank(16, 16)?;
+        Ok(OutputSpec::Or(line_conditions(card)?))
+    } else {
+        line_or_field_card(card)
+    }
+}
+
+#[tactic(auto, unfolding(rpg_spec::specs::Tables::line_or_field_card, rpg_spec::specs::Columns::values, rpg_spec::specs::Columns::also, rpg_spec::specs::Columns::where_card))]
+fn line_or_field_card(card: &Card) -> Result<OutputSpec, ColumnFault>
+    ensures { result ≡ tables.line_or_field_card.reading card.now }
+{
+    if is_field_card(card) {
+        Ok(OutputSpec::Field(output_field_card(card)?))
+    } else {
+        Ok(OutputSpec::Record(record_card(card)?))
+    }
+}
+
 #[tactic(auto, unfolding(rpg_spec::specs::Tables::record_card, rpg_spec::specs::Columns::values, rpg_spec::specs::Columns::at_with, rpg_spec::specs::Columns::also, rpg_spec::specs::Columns::past, rpg_spec::specs::Columns::blank))]
 fn record_card(card: &Card) -> Result<OutputRecord, ColumnFault>
     ensures { result ≡ tables.record_card.reading card.now }
 {
     let file = card.optional_name(7, 14)?;
-    let time = at(15, rpg_values::line_time(card.columns(15, 15)))?;
+    let time = at(15, 15, rpg_values::line_time(card.columns(15, 15)))?;
     card.blank(16, 16)?;
-    let space_after = form_movement(card)?;
-    let conditions = conditions(card)?;
+    let movement = movement(card)?;
+    let conditions = conditions(card, 23)?;
     card.blank(32, 70)?;
     Ok(OutputRecord {
         file,
         time,
-        space_after,
+        movement,
         conditions,
     })
+}
+
+#[tactic(auto, unfolding(rpg_spec::specs::Tables::movement, rpg_spec::specs::Columns::values, rpg_spec::specs::Columns::at_with, rpg_spec::specs::Columns::also, rpg_spec::specs::Columns::past, rpg_spec::specs::Columns::blank))]
+fn movement(card: &Card) -> Result<Movement, ColumnFault>
+    ensures { result ≡ tables.movement.reading card.now }
+{
+    let space_before = card.optional_space(17, 17)?;
+    let space_after = card.optional_space(18, 18)?;
+    let skip_before = card.optional_skip(19, 20)?;
+    let skip_after = card.optional_skip(21, 22)?;
+    Ok(Movement {
+        space_before,
+        space_after,
+        skip_before,
+        skip_after,
+    })
+}
+
+/// Further conditions of a line.
+#[tactic(auto, unfolding(rpg_spec::specs::Tables::line_conditions, rpg_spec::specs::Columns::values, rpg_spec::specs::Columns::at_with, rpg_spec::specs::Columns::also, rpg_spec::specs::Columns::past, rpg_spec::specs::Columns::blank))]
+fn line_conditions(card: &Card) -> Result<Three<Option<Condition>>, ColumnFault>
+    ensures { result ≡ tables.line_conditions.reading card.now }
+{
+    card.blank(17, 22)?;
+    let conditions = conditions(card, 23)?;
+    card.blank(32, 70)?;
+    Ok(conditions)
 }
 
 #[tactic(auto, unfolding(rpg_spec::specs::Tables::output_field_card, rpg_spec::specs::Columns::values, rpg_spec::specs::Columns::at_with, rpg_spec::specs::Columns::also, rpg_spec::specs::Columns::past, rpg_spec::specs::Columns::blank))]
@@ -55,56 +112,19 @@ fn output_field_card(card: &Card) -> Result<OutputField, ColumnFault>
     ensures { result ≡ tables.output_field_card.reading card.now }
 {
     card.blank(17, 22)?;
-    let conditions = conditions(card)?;
-    let name = card.optional_output_name(32, 37)?;
-    card.unused(38, 38)?;
-    card.unused(39, 39)?;
+    let conditions = conditions(card, 23)?;
+    let operand = card.optional_entry(32, 37)?;
+    let code = card.optional_edit_code(38, 38)?;
+    let blank_after = at(39, 39, rpg_values::marked(b"B", card.columns(39, 39)))?;
     let end = card.number(40, 43)?;
     card.blank(44, 44)?;
-    let constant = at(45, constant(card))?;
+    let text = card.optional_text(45, 70)?;
     Ok(OutputField {
         conditions,
-        name,
+        operand,
+        code,
+        blank_after,
         end,
-        constant,
+        text,
     })
-}
-
-/// How the form moves: the space after the line.
-#[tactic(auto, unfolding(rpg_spec::specs::Tables::form_movement, rpg_spec::specs::Columns::values, rpg_spec::specs::Columns::at_with, rpg_spec::specs::Columns::also, rpg_spec::specs::Columns::past))]
-fn form_movement(card: &Card) -> Result<Option<u8>, ColumnFault>
-    ensures { result ≡ tables.form_movement.reading card.now }
-{
-    card.unused(17, 17)?;
-    let space_after = card.optional_space(18, 18)?;
-    card.unused(19, 20)?;
-    card.unused(21, 22)?;
-    Ok(space_after)
-}
-
-/// The conditions in columns 23 to 31.
-#[tactic(auto, unfolding(rpg_spec::specs::Tables::conditions, rpg_spec::specs::Columns::values, rpg_spec::specs::Columns::at_with, rpg_spec::specs::Columns::also))]
-fn conditions(card: &Card) -> Result<Three<Option<Condition>>, ColumnFault>
-    ensures { result ≡ (tables.conditions 23 25 26 28 29 31).reading card.now }
-{
-    let first = card.optional_condition(23, 25)?;
-    let second = card.optional_condition(26, 28)?;
-    let third = card.optional_condition(29, 31)?;
-    Ok(Three {
-        first,
-        second,
-        third,
-    })
-}
-
-/// Blank, or a text where no field is named.
-fn constant(card: &Card) -> Option<Option<TextLiteral<24>>>
-    ensures { result ≡ tables.constant card.now (cols 45 70 card.now) }
-{
-    let text = card.columns(45, 70);
-    if is_blank(card.columns(32, 37)) {
-        rpg_values::blank_or(text, rpg_values::quoted(text))
-    } else {
-        rpg_values::blank_or(text, None)
-    }
 }

@@ -1,5 +1,5 @@
 -- What is kept of the lines before says what is wrong with the next.
-use Rattle.std.proofs.Common.{◌≡◌, ℕ, ◌+◌, ◌<◌, Bool, true, false, List, [], ◌∷◌, ◌++◌, length, Option, Some, None, refl, sym, ◌∙◌, arith, length-append}
+use Rattle.std.proofs.Common.{◌≡◌, ℕ, ◌+◌, ◌<◌, Bool, true, false, List, [], ◌∷◌, ◌++◌, length, Option, Some, None, refl, sym, ap, ◌∙◌, arith, length-append, map}
 use Rattle.std.specs.Prelude.{if◌then◌else◌, ◌||◌, ◌&&◌, not, nat_lt, nat_le, is_none}
 use Rattle.std.specs.List.{list_any, list_all}
 use Rattle.std.specs.Option.{option_map_or, option_or}
@@ -11,9 +11,10 @@ use Rattle.rpg_sheet.specs.declared.sheet.SheetCode.{SheetCode}
 use Rattle.rpg_sheet.specs.declared.sheet.SheetCode.TheVariants.{S1, S2, S3, S4, S5, S6}
 use Rattle.rpg_sheet.specs.declared.sheet.SheetFault.TheVariants.{At}
 use Rattle.rpg_text.specs.Texts.{is_character}
-use Rattle.rpg_spec.specs.Cards.{card_of, ends_source, is_sheet, form_type, place_of}
+use Rattle.rpg_spec.specs.Cards.{card_of, begins_data, ends_source, is_sheet, form_type, place_of}
+use Rattle.rpg_spec.specs.Specs.{spec_of, specs_from}
 use Rattle.rpg_readers.specs.Readable.{has_bad_column}
-use Rattle.rpg_sheet.specs.Sheet.{comes_after, code_of, column_of, fault_behind, source}
+use Rattle.rpg_sheet.specs.Sheet.{comes_after, is_data_behind, code_of, columns_of, fault_behind, source}
 use Rattle.rpg_sheet.specs.Seen.{IsSeen, form_code, sheet_code, code_seen}
 
 -- which of six tests is the first that passes
@@ -47,18 +48,19 @@ same_form_code : (earlier : List (List ℕ)) (latest : ℕ) (card : List ℕ) (f
 same_form_code earlier latest card None h = refl
 same_form_code earlier latest card (Some g) h = rw (h (place_of g)) refl
 
-pub code_is_seen : (earlier : List (List ℕ)) (count latest : ℕ) (line : List ℕ) → IsSeen earlier count latest → code_seen count latest line ≡ code_of earlier line
-code_is_seen earlier count latest line seen =
-    rw (seen.count_is, same_form_code earlier latest (card_of line) (form_type (card_of line)) seen.latest_is)
-    (by_cases (nat_lt 80 (length line)) (not (list_all is_character line)) (is_sheet (card_of line)) (nat_le 2000 (length earlier))
+pub code_is_seen : (earlier : List (List ℕ)) (count latest : ℕ) (behind : Bool) (line : List ℕ) → IsSeen earlier count latest behind → code_seen count latest behind line ≡ code_of earlier line
+code_is_seen earlier count latest behind line seen =
+    rw (seen.count_is, seen.behind_is, same_form_code earlier latest (card_of line) (form_type (card_of line)) seen.latest_is)
+    (by_cases (nat_lt 80 (length line)) (not (list_all is_character line)) (is_sheet (is_data_behind earlier) (card_of line)) (nat_le 2000 (length earlier))
     (form_type (card_of line)) (λ f. list_any (λ e. comes_after (place_of f) (card_of e)) earlier) (λ f. has_bad_column f (card_of line)))
 
-pub seen-push : (earlier : List (List ℕ)) (count latest latest' : ℕ) (line : List ℕ) → IsSeen earlier count latest
+pub seen-push : (earlier : List (List ℕ)) (count latest latest' : ℕ) (behind : Bool) (line : List ℕ) → IsSeen earlier count latest behind
     → ((n : ℕ) → nat_lt n latest' ≡ (nat_lt n latest || comes_after n (card_of line)))
-    → IsSeen (earlier ++ line ∷ []) (count + 1) latest'
-seen-push earlier count latest latest' line seen step = record {
+    → IsSeen (earlier ++ line ∷ []) (count + 1) latest' (behind || begins_data (card_of line))
+seen-push earlier count latest latest' behind line seen step = record {
   count_is = let c = seen.count_is in omega (arith, length-append earlier (line ∷ []));
   latest_is = λ n. rw (list_any-append, seen.latest_is n, step n) (or_false (nat_lt n latest) (comes_after n (card_of line)));
+  behind_is = rw (list_any-append, sym seen.behind_is) (sym (or_false behind (begins_data (card_of line))));
 }
   where
     or_false : (a b : Bool) → (a || (b || false)) ≡ (a || b)
@@ -66,14 +68,14 @@ seen-push earlier count latest latest' line seen step = record {
     or_false false true = refl
     or_false false false = refl
 
-pub seen_none : IsSeen [] 0 0
-seen_none = record { count_is = refl; latest_is = λ n. none n }
+pub seen_none : IsSeen [] 0 0 false
+seen_none = record { count_is = refl; latest_is = λ n. none n; behind_is = refl }
   where
     none : (n : ℕ) → false ≡ nat_lt n 0
     none n = grind (arith, common_steps)
 
-pub few_seen : (count latest : ℕ) (line : List ℕ) → code_seen count latest line ≡ None → count < 2000
-few_seen count latest line h = by (nat_lt 80 (length line)) (not (list_all is_character line)) (sheet_code latest (card_of line)) h
+pub few_seen : (count latest : ℕ) (behind : Bool) (line : List ℕ) → code_seen count latest behind line ≡ None → count < 2000
+few_seen count latest behind line h = by (nat_lt 80 (length line)) (not (list_all is_character line)) (sheet_code latest behind (card_of line)) h
   where
     by : (a b : Bool) (x : Option SheetCode) → (if a then Some S1 else if b then Some S2 else option_or x (if nat_le 2000 count then Some S6 else None)) ≡ None → count < 2000
     by true b x e = absurd cc
@@ -97,14 +99,30 @@ source_begins text line behind cut = by (ends_source (card_of line)) refl
     by false e = (source behind, source_goes_on text line behind cut e)
 
 -- a line without a fault
-pub fault_behind-good : (earlier more : List (List ℕ)) (count latest : ℕ) (line : List ℕ) → IsSeen earlier count latest → code_seen count latest line ≡ None
+pub fault_behind-good : (earlier more : List (List ℕ)) (count latest : ℕ) (behind : Bool) (line : List ℕ) → IsSeen earlier count latest behind → code_seen count latest behind line ≡ None
     → fault_behind earlier (line ∷ more) ≡ fault_behind (earlier ++ line ∷ []) more
-fault_behind-good earlier more count latest line seen good = rw (sym (code_is_seen earlier count latest line seen) ∙ good) refl
+fault_behind-good earlier more count latest behind line seen good = rw (sym (code_is_seen earlier count latest behind line seen) ∙ good) refl
 
 -- a line with one
-pub fault_behind-bad : (earlier : List (List ℕ)) (text behind : List ℕ) (count latest : ℕ) (line : List ℕ) (code : SheetCode) → lines text ≡ line ∷ lines behind
-    → IsSeen earlier count latest → code_seen count latest line ≡ Some code
-    → fault_behind earlier (source text) ≡ Some (At (count + 1) code (column_of (card_of line) code))
-fault_behind-bad earlier text behind count latest line code cut seen bad =
-    let first = source_begins text line behind cut in
-    rw (first.1, sym (code_is_seen earlier count latest line seen) ∙ bad, seen.count_is) refl
+pub fault_behind-bad : (earlier : List (List ℕ)) (text rest : List ℕ) (count latest : ℕ) (behind : Bool) (line : List ℕ) (code : SheetCode) → lines text ≡ line ∷ lines rest
+    → IsSeen earlier count latest behind → code_seen count latest behind line ≡ Some code
+    → fault_behind earlier (source text) ≡ Some (At (count + 1) code (columns_of behind (card_of line) code))
+fault_behind-bad earlier text rest count latest behind line code cut seen bad =
+    let first = source_begins text line rest cut in
+    rw (first.1, sym (code_is_seen earlier count latest behind line seen) ∙ bad, seen.count_is, seen.behind_is) refl
+
+-- ---- what a line more stands for
+
+pub specs-push : (before : Bool) (earlier : List (List ℕ)) (line : List ℕ)
+    → specs_from before (map card_of (earlier ++ line ∷ [])) ≡ specs_from before (map card_of earlier) ++ spec_of (before || is_data_behind earlier) (card_of line) ∷ []
+specs-push before [] line = rw (no_more before) refl
+  where
+    no_more : (b : Bool) → (b || false) ≡ b
+    no_more true = refl
+    no_more false = refl
+specs-push before (e ∷ es) line =
+    ap (λ more. spec_of before (card_of e) ∷ more) (specs-push (before || begins_data (card_of e)) es line ∙ ap (λ b. specs_from (before || begins_data (card_of e)) (map card_of es) ++ spec_of b (card_of line) ∷ []) (again before (begins_data (card_of e)) (is_data_behind es)))
+  where
+    again : (a b c : Bool) → ((a || b) || c) ≡ (a || (b || c))
+    again true b c = refl
+    again false b c = refl

@@ -6,9 +6,11 @@ mod source;
 
 pub use rpg_readers::Card;
 pub use rpg_spec::{
-    CalculationSpec, ColumnFault, Condition, Device, Direction, Factor, FileSpec, FormType,
-    HeaderSpec, Indicator, InputField, InputSpec, LineTime, Literal, NumericLiteral, Operation,
-    OutputField, OutputRecord, OutputSpec, RecordType, Spec, TextLiteral, Three, Word,
+    CalculationSpec, ColumnFault, Condition, ControlLevel, DataCard, DataSpec, Device, EditCode,
+    Entry, EntryIndex, ExtensionSpec, Factor, FileRole, FileSpec, FormType, HeaderSpec, Indicator,
+    InputField, InputSpec, LineTime, Literal, Movement, NumericLiteral, Operation, OutputField,
+    OutputRecord, OutputSpec, RecordCode, RecordType, Spec, TableSpec, TextLiteral, Three, Within,
+    Word,
 };
 pub use sheet::{Cards, SheetCode, SheetFault};
 pub use source::cards;

@@ -2,17 +2,17 @@
 
 ghost use Rattle.std.specs.Prelude.{◌≡◌, ◌≤◌, length, None, Some, vec_len, IfOk, IfErr};
 ghost use Rattle.rpg_spec.specs.Cards as cards;
-ghost use Rattle.rpg_spec.specs.Specs.{spec_of};
+ghost use Rattle.rpg_spec.specs.Specs.{data_of, spec_of};
 ghost use Rattle.rpg_sheet.specs.Codes as codes;
 ghost use Rattle.rpg_sheet.specs.Seen.{sheet_code};
-ghost use Rattle.rpg_sheet.specs.Sheet.{column_of};
+ghost use Rattle.rpg_sheet.specs.Sheet.{columns_of};
 ghost use Rattle.rpg_sheet.specs.declared.sheet.SheetCode.TheVariants.{S5};
 ghost use Rattle.rpg_sheet.specs.declared.sheet.SheetFault.TheVariants.{NoMemory};
 
 use arrayvec::ArrayString;
 use itoa::Buffer;
 use rpg_readers::Card;
-use rpg_spec::{ColumnFault, FormType, Spec};
+use rpg_spec::{ColumnFault, DataCard, DataSpec, FormType, Spec};
 use std::alloc::AllocFailed;
 use std::fmt;
 use std::marker::Model;
@@ -26,6 +26,7 @@ pub(crate) fn place(sheet: FormType) -> u8
     match sheet {
         FormType::Header => 0,
         FormType::File => 1,
+        FormType::Extension => 2,
         FormType::Input => 3,
         FormType::Calculation => 4,
         FormType::Output => 5,
@@ -76,28 +77,31 @@ impl fmt::Display for SheetCode {
     }
 }
 
-/// What is wrong with a card, and with S5 in which column.
+/// What is wrong with a card, and with S5 in which columns.
 #[derive(Clone, Copy)]
 pub(crate) struct CardFault {
     pub code: SheetCode,
-    pub column: Option<u8>,
+    pub columns: Option<ColumnFault>,
 }
 
 impl From<SheetCode> for CardFault {
-    ghost from_gives = { λ code fault. (fault.code ≡ code) × (fault.column ≡ None) };
+    ghost from_gives = { λ code fault. (fault.code ≡ code) × (fault.columns ≡ None) };
 
     fn from(code: SheetCode) -> Self {
-        CardFault { code, column: None }
+        CardFault {
+            code,
+            columns: None,
+        }
     }
 }
 
 impl From<ColumnFault> for CardFault {
-    ghost from_gives = { λ bad fault. (fault.code ≡ S5) × (fault.column ≡ Some bad.column) };
+    ghost from_gives = { λ bad fault. (fault.code ≡ S5) × (fault.columns ≡ Some bad) };
 
     fn from(bad: ColumnFault) -> Self {
         CardFault {
             code: SheetCode::S5,
-            column: Some(bad.column),
+            columns: Some(bad),
         }
     }
 }
@@ -105,12 +109,12 @@ impl From<ColumnFault> for CardFault {
 /// Why a source has no cards.
 #[derive(Clone, Copy, Debug, PartialEq, Eq, Error)]
 pub enum SheetFault {
-    /// Cards are numbered from 1. The column is the first one of the least bad value, with S5 alone.
+    /// Cards are numbered from 1. The columns are those of the least bad value, with S5 alone.
     #[error("card {card}: {code}")]
     At {
         card: u16,
         code: SheetCode,
-        column: Option<u8>,
+        columns: Option<ColumnFault>,
     },
     #[error("no memory")]
     NoMemory,
@@ -157,13 +161,13 @@ impl Cards {
     }
 }
 
-/// What a card stands for behind a sheet at place `latest`, or what is wrong with its form type and its columns.
-pub(crate) fn read(card: &Card, latest: u8) -> Result<Option<Spec>, CardFault>
-    ensures ok { IfOk result (λ spec. (spec ≡ spec_of card.now) × (sheet_code latest card.now ≡ None)) }
-    ensures err { IfErr result (λ fault. (sheet_code latest card.now ≡ Some fault.code) × (fault.column ≡ column_of card.now fault.code)) }
+/// What a card stands for behind a sheet at place `latest`, or what is wrong with its form type and its columns. `behind` says whether data has begun.
+pub(crate) fn read(card: &Card, latest: u8, behind: bool) -> Result<Option<Spec>, CardFault>
+    ensures ok { IfOk result (λ spec. (spec ≡ spec_of behind card.now) × (sheet_code latest behind card.now ≡ None)) }
+    ensures err { IfErr result (λ fault. (sheet_code latest behind card.now ≡ Some fault.code) × (fault.columns ≡ columns_of behind card.now fault.code)) }
 {
-    if !card.is_sheet() {
-        return Ok(None);
+    if !card.is_sheet(behind) {
+        return Ok(data(card, behind).map(Spec::Data));
     }
     let Some(sheet) = card.form_type() else {
         return Err(SheetCode::S3.into());
@@ -172,4 +176,19 @@ pub(crate) fn read(card: &Card, latest: u8) -> Result<Option<Spec>, CardFault>
         return Err(SheetCode::S4.into());
     }
     Ok(Some(card.read(sheet)?))
+}
+
+/// What a card that is on no sheet stands for.
+fn data(card: &Card, behind: bool) -> Option<DataSpec>
+    ensures { result ≡ data_of behind card.now }
+{
+    if card.ends_source() {
+        None
+    } else if card.begins_data() {
+        Some(DataSpec::Begin)
+    } else if behind {
+        Some(DataSpec::Card(DataCard::new(card.as_slice())))
+    } else {
+        None
+    }
 }

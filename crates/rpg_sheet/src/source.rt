@@ -4,7 +4,7 @@ ghost use Rattle.std.specs.Prelude.{◌≡◌, ℕ, ◌<◌, ◌||◌, None, Som
 ghost use Rattle.rpg_sheet.specs.Seen as seen;
 ghost use Rattle.rpg_sheet.specs.Sheet as sheets;
 ghost use Rattle.rpg_spec.specs.Cards.{card_of};
-ghost use Rattle.rpg_spec.specs.Specs.{spec_of};
+ghost use Rattle.rpg_spec.specs.Specs.{spec_of, specs_of};
 
 use crate::sheet::{CardFault, Cards, SheetCode, SheetFault, place, read};
 use rpg_readers::Card;
@@ -21,43 +21,50 @@ const CARDS: usize = 2000;
 /// What the cards of a source stand for, or the first card that has a fault, with its least code. Behind the card `/*` nothing is read.
 /// `NoMemory` is answered where a growth was refused, in place of any fault behind it.
 pub fn cards(alloc: Global, text: &[u8]) -> Result<Cards, SheetFault>
-    ensures cards { IfOk result (λ cards. cards ≡ map spec_of (map card_of (sheets.source text.now))) }
+    ensures cards { IfOk result (λ cards. cards ≡ specs_of (map card_of (sheets.source text.now))) }
     ensures faultless { OnOk result (sheets.first_fault (sheets.source text.now) ≡ None) }
     ensures fault { IfErr result (λ fault. sheets.IsRefusal fault text.now) }
 {
     let mut specs = Vec::new(alloc);
     let mut rest = text;
     let mut latest = 0;
+    let mut behind = false;
     while !rest.is_empty() {
-        let (line, behind) = first_line(rest);
+        let (line, more) = first_line(rest);
         let count = specs.len();
-        let (card, spec) = match checked(count, latest, line) {
+        let (card, spec) = match checked(count, latest, behind, line) {
             Ok(read) => read,
-            Err(CardFault { code, column }) => {
+            Err(CardFault { code, columns }) => {
                 return Err(SheetFault::At {
                     card: count as u16 + 1,
                     code,
-                    column,
+                    columns,
                 });
             }
         };
         latest = latest_after(latest, &card);
+        behind = behind | card.begins_data();
         specs.push(spec)?;
         if card.ends_source() {
             return Ok(Cards::new(specs));
         }
-        rest = behind;
+        rest = more;
     }
     Ok(Cards::new(specs))
 }
 
 /// The card of a line that comes behind `count` others and what it stands for, or what is wrong with it.
-fn checked(count: usize, latest: u8, line: &[u8]) -> Result<(Card, Option<Spec>), CardFault>
+fn checked(
+    count: usize,
+    latest: u8,
+    behind: bool,
+    line: &[u8],
+) -> Result<(Card, Option<Spec>), CardFault>
     ensures card { IfOk result (λ read. read.0 ≡ card_of line.now) }
-    ensures spec { IfOk result (λ read. read.1 ≡ spec_of (card_of line.now)) }
-    ensures good { OnOk result (seen.code_seen count latest line.now ≡ None) }
-    ensures code { IfErr result (λ fault. seen.code_seen count latest line.now ≡ Some fault.code) }
-    ensures column { IfErr result (λ fault. fault.column ≡ sheets.column_of (card_of line.now) fault.code) }
+    ensures spec { IfOk result (λ read. read.1 ≡ spec_of behind (card_of line.now)) }
+    ensures good { OnOk result (seen.code_seen count latest behind line.now ≡ None) }
+    ensures code { IfErr result (λ fault. seen.code_seen count latest behind line.now ≡ Some fault.code) }
+    ensures columns { IfErr result (λ fault. fault.columns ≡ sheets.columns_of behind (card_of line.now) fault.code) }
 {
     if line.len() > COLUMNS {
         return Err(SheetCode::S1.into());
@@ -66,7 +73,7 @@ fn checked(count: usize, latest: u8, line: &[u8]) -> Result<(Card, Option<Spec>)
         return Err(SheetCode::S2.into());
     }
     let card = Card::new(line);
-    let spec = read(&card, latest)?;
+    let spec = read(&card, latest, behind)?;
     if count >= CARDS {
         return Err(SheetCode::S6.into());
     }
@@ -77,7 +84,7 @@ fn checked(count: usize, latest: u8, line: &[u8]) -> Result<(Card, Option<Spec>)
 fn latest_after(latest: u8, card: &Card) -> u8
     ensures { (n : ℕ) → nat_lt n result ≡ (nat_lt n latest || sheets.comes_after n card.now) }
 {
-    match card.sheet() {
+    match card.sheet(false) {
         Some(sheet) => latest.max(place(sheet)),
         None => latest,
     }

@@ -7,8 +7,9 @@ use Rattle.rpg_spec.specs.declared.column.ColumnFault.{ColumnFault}
 abbrev pub cols : ℕ → ℕ → List ℕ → List ℕ
 cols a b card = slice_range card (a - 1) b
 
-abbrev pub fault_at : ℕ → ColumnFault
-fault_at a = record { column = a }
+-- a bad value in the columns from a to b
+abbrev pub fault_at : ℕ → ℕ → ColumnFault
+fault_at a b = record { column = a; last = b }
 
 -- k is among the columns, and none of them is less
 pub record IsLeast (ks : List ℕ) (k : ℕ) : Type 0 where
@@ -34,7 +35,7 @@ bad_if_none a (Some x) = []
 -- Columns a to b, where a rule takes their text to what it stands for. The rule may look at the whole card too.
 unfoldable pub at_with : {X : Type 0} → ℕ → ℕ → (List ℕ → List ℕ → Option X) → Columns X
 at_with a b rule = record {
-  reading = λ card. ok_or (rule card (cols a b card)) (fault_at a);
+  reading = λ card. ok_or (rule card (cols a b card)) (fault_at a b);
   bad = λ card. bad_if_none a (rule card (cols a b card));
 }
 
@@ -51,7 +52,7 @@ filled_from a (c ∷ cs) = if is_filled c then a ∷ filled_from (a + 1) cs else
 
 abbrev pub fault_if_some : ℕ → Option ℕ → Result (Unit {0}) ColumnFault
 fault_if_some a None = Ok tt
-fault_if_some a (Some i) = Err (fault_at (a + i))
+fault_if_some a (Some i) = Err (fault_at (a + i) (a + i))
 
 unfoldable pub blank : ℕ → ℕ → Columns (Unit {0})
 blank a b = record {

@@ -1,28 +1,34 @@
 //! The file description sheet (F).
 
+use crate::within::Within;
 use crate::word::Word;
 
-/// Whether a file is read or written.
+/// What a file is to the job.
 #[derive(Clone, Copy, PartialEq, Eq)]
-pub enum Direction {
-    Input,
+pub enum FileRole {
+    /// Records are read from it.
+    Primary,
+    /// Lines are put out on it.
     Output,
 }
 
+/// What a file stands on. All devices but the printer are one.
 #[derive(Clone, Copy, PartialEq, Eq)]
 pub enum Device {
     Printer,
-    Other,
+    Disk,
 }
 
 /// An F card.
 #[derive(Drop)]
 pub struct FileSpec {
     pub name: Word<8>,
-    pub direction: Direction,
+    pub role: FileRole,
     /// E: the job ends once the file is at its end.
     pub ends_job: bool,
     pub ascending: bool,
     pub record_length: u16,
+    /// The indicator of a full page, OA to OG (112 to 118) or OV (119).
+    pub overflow: Option<Within<112, 119>>,
     pub device: Device,
 }

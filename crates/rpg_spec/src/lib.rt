@@ -3,6 +3,9 @@
 
 mod calculation;
 mod column;
+mod data;
+mod entry;
+mod extension;
 mod file;
 mod form_type;
 mod header;
@@ -11,16 +14,22 @@ mod input;
 mod literal;
 mod output;
 mod spec;
+mod within;
 mod word;
 
-pub use calculation::{CalculationSpec, Operation};
+pub use calculation::{CalculationSpec, ControlLevel, Operation};
 pub use column::ColumnFault;
-pub use file::{Device, Direction, FileSpec};
+pub use data::{DataCard, DataSpec};
+pub use entry::{Entry, EntryIndex};
+pub use extension::{ExtensionSpec, TableSpec};
+pub use file::{Device, FileRole, FileSpec};
 pub use form_type::FormType;
 pub use header::HeaderSpec;
 pub use indicator::{Condition, Indicator, Three};
-pub use input::{InputField, InputSpec, RecordType};
+pub use input::{InputField, InputSpec, RecordCode, RecordType};
 pub use literal::{Factor, Literal, NumericLiteral, TextLiteral};
-pub use output::{LineTime, OutputField, OutputRecord, OutputSpec};
+pub use output::{LineTime, Movement, OutputField, OutputRecord, OutputSpec};
+pub use rpg_marks::EditCode;
 pub use spec::Spec;
+pub use within::Within;
 pub use word::Word;

@@ -1,176 +1,235 @@
--- The instructions of faultless cards break no rule.
-use Rattle.std.proofs.Common.{◌≡◌, ℕ, true, false, List, Option, None, Some, refl, subst}
-use Rattle.std.proofs.lemmas.Bool.{or_parts}
-use Rattle.std.specs.Option.{option_or}
-use Rattle.std.specs.Prelude.{is_none}
+-- The instructions of a source without a fault break none of the rules on operands, results, indicators and tables.
+use Rattle.std.proofs.Common.{◌≡◌, ℕ, ◌≤◌, Bool, true, false, cond, ◌||◌, List, [], ◌∷◌, ◌++◌, Option, None, Some, refl, sym, ap, ◌∙◌, subst}
+use Rattle.std.proofs.lemmas.Bool.{or_left, or_parts, or_right}
+use Rattle.std.proofs.lemmas.List.Folds.{list_any-append}
+use Rattle.std.specs.List.{list_any}
+use Rattle.std.specs.Option.{ForSome, option_and_then, option_map_or, option_to_list}
+use Rattle.rpg_calculations.specs.Calculations.{Group, alone, calculations, card_ending, goes_on, group_with, last_card, open_group}
+use Rattle.rpg_calculations.specs.Deeds.{Calculation, deed_of}
+use Rattle.rpg_calculations.specs.Keys.{Fixed, Key, Named}
+use Rattle.rpg_calculations.specs.Plain.{Each}
+use Rattle.rpg_calculations.specs.Sections.{is_detail, is_subroutine, is_total, of_control}
+use Rattle.rpg_cards.proofs.InsertLemmas.{among}
+use Rattle.rpg_cards.proofs.ItemLemmas.{constants_in-append}
+use Rattle.rpg_cards.specs.Cards.{calculation_on, output_field_on}
+use Rattle.rpg_cards.specs.Constants.{constant_form, constant_of, constants_in, constants_on, factor_constant, is_same, text_constant}
+use Rattle.rpg_cards.specs.Names.{form_in, form_of_name}
+use Rattle.rpg_cards.specs.SameConstants.{is_same_equiv}
+use Rattle.rpg_cards.specs.declared.constants.Constant.{Constant}
 use Rattle.rpg_cards.specs.declared.spec_card.SpecCard.{SpecCard}
-use Rattle.rpg_effect.specs.Forms.{may_write}
-use Rattle.rpg_effect.specs.declared.operation.Instruction.{Instruction}
-use Rattle.rpg_effect.specs.declared.operation.Action.TheVariants.{Move}
-use Rattle.rpg_effect.specs.declared.operation.Instruction.TheVariants.{Act}
-use Rattle.rpg_effect.specs.declared.operation.Operator.TheVariants as operator
-use Rattle.rpg_effect.specs.declared.operation.Side.{Side}
-use Rattle.rpg_effect.specs.declared.operation.Side.TheVariants.{Right, Left}
-use Rattle.rpg_card_rules.specs.Columns.{any_of, bad_operation}
-use Rattle.rpg_faults.specs.Faults.{Faultless}
-use Rattle.rpg_card_rules.specs.Indicators.{bad_in_result}
-use Rattle.rpg_card_rules.specs.Names.{is_undefined, name_in, operation_lacks_name}
-use Rattle.rpg_card_rules.specs.Operands.{differ, has_text, is_never_written, wrong_in_operation}
-use Rattle.rpg_program.specs.Kept.{AreIndicators, IsInstructionRow}
-use Rattle.rpg_program.specs.Object.{Object}
-use Rattle.rpg_program.specs.declared.section.Section.TheVariants.{Detail}
-use Rattle.rpg_rules.specs.Indicators.{are_settable, has_shows}
-use Rattle.rpg_rules.specs.PlaceRules.{place_breaks}
+use Rattle.rpg_code.proofs.Each.{each_append}
+use Rattle.rpg_code.specs.Levels.{level_of}
+use Rattle.rpg_effect.specs.Forms.{has_field}
+use Rattle.rpg_effect.specs.declared.form.FieldForm.{FieldForm}
+use Rattle.rpg_flow.proofs.Facts.{ending, last_with}
+use Rattle.rpg_flow.proofs.Joined.{each_body, each_control, each_split}
+use Rattle.rpg_flow.proofs.Walk.{Walk, each_calculation}
+use Rattle.rpg_flow.specs.Columns as flow
+use Rattle.rpg_flow.specs.Columns.{bad_by_end, bad_calculation, bad_last}
+use Rattle.rpg_flow.specs.Kept.{IsKept}
+use Rattle.rpg_limits.specs.Indicators.{bad_indicator, bad_on, bad_on_calculation}
+use Rattle.rpg_operands.specs.Columns as operands
+use Rattle.rpg_operands.specs.Columns.{bad_search}
+use Rattle.rpg_operands.specs.Indexes.{bad_index, bad_index_of}
+use Rattle.rpg_operands.specs.Kinds.{wrong_in_calculation, wrong_operand}
+use Rattle.rpg_operands.specs.Names.{is_undefined, lacks_name, names_nothing}
+use Rattle.rpg_operands.specs.Operands.{Operand, listed, no_operands, operands_ending, operands_of, output_operand_on}
+use Rattle.rpg_rules.proofs.Kept.{NoneTrue}
+use Rattle.rpg_rules.specs.Rules.{broken}
 use Rattle.rpg_rules.specs.declared.rule.PlaceRule.{PlaceRule}
+use Rattle.rpg_rules.specs.declared.rule.Rule.TheVariants as rules
 use Rattle.rpg_spec.specs.declared.calculation.CalculationSpec.{CalculationSpec}
-use Rattle.rpg_spec.specs.declared.calculation.Operation.{Operation}
-use Rattle.rpg_spec.specs.declared.calculation.Operation.TheVariants as op
-use Rattle.rpg_spec.specs.declared.indicator.Three.{Three}
-use Rattle.rpg_translation.specs.Code.{factor_of, first_or_result, instruction_of, result_of, shows_of}
-use Rattle.rpg_translation.specs.Fields.{Table, table_of}
-use Rattle.rpg_translation.specs.Program.{program_of}
-use Rattle.rpg_translation.proofs.Marks.{settable_shows}
-use Rattle.rpg_translation.proofs.Operands.{HasLiteral, Holds, IsNumber, at, factor_holds, first_number, kinds_alike, may_be_written, number_from, of_factor, of_result, result_holds}
-use Rattle.rpg_translation.proofs.Rows.{assign_right, compare_right, compute_right, divide_right, move_right, remainder_right}
+use Rattle.rpg_spec.specs.declared.literal.Factor.{Factor}
+use Rattle.rpg_spec.specs.declared.literal.Factor.TheVariants as factor
+use Rattle.rpg_spec.specs.declared.spec.Spec.{Spec}
+use Rattle.rpg_spec.specs.declared.spec.Spec.TheVariants as spec
+use Rattle.rpg_translation.proofs.Conditions.{MayAsk, all_settable, group_tested, level_within, may_be_asked}
+use Rattle.rpg_translation.proofs.Entries as entries
+use Rattle.rpg_translation.proofs.Instructions as instructions
+use Rattle.rpg_translation.proofs.Instructions.{IsOfColumns, IsRightCalculation}
+use Rattle.rpg_translation.proofs.Numbers.{numbers_rename}
+use Rattle.rpg_translation.proofs.Operations.{IsCardFit, card_right}
+use Rattle.rpg_translation.proofs.RightRows.{IsRightDeed}
+use Rattle.rpg_translation.specs.Program.{numbers, program_of, sections}
+use Rattle.rpg_translation.specs.Ranges.{AreCards, IsCalculation, IsCard, IsControl, IsInRange}
+use Rattle.rpg_translation.specs.Table.{key_form, table_of}
 
-some_shows : (t : Three (Option ℕ)) → is_none (any_of t) ≡ false → has_shows (shows_of t) ≡ true
-some_shows t some = of_three t.first t.second t.third some
-  where
-    of_three : (a b c : Option ℕ) → is_none (option_or a (option_or b c)) ≡ false → has_shows (record { plus = a; minus = b; zero = c }) ≡ true
-    of_three (Some n) b c e = refl
-    of_three None (Some n) c e = refl
-    of_three None None (Some n) e = refl
-    of_three None None None e = cc
+-- ---- what stands on a calculation card
 
-module _ (cards : List SpecCard) (none : Faultless cards) (allowance : ℕ) where
-  abbrev table : Table
-  table = table_of cards
+ranges_on : (s : Spec) (k : CalculationSpec) → calculation_on s ≡ Some k → IsInRange s → IsCalculation k
+ranges_on (spec.Header h) k is range = cc
+ranges_on (spec.File f) k is range = cc
+ranges_on (spec.Extension e) k is range = cc
+ranges_on (spec.Input i) k is range = cc
+ranges_on (spec.Calculation j) k is range = let same : j ≡ k = cc in subst IsCalculation same range
+ranges_on (spec.Output o) k is range = cc
+ranges_on (spec.Data d) k is range = cc
 
-  abbrev program : Object
-  program = program_of cards allowance
+indicators_on : (cards : List SpecCard) (s : Spec) (k : CalculationSpec) → calculation_on s ≡ Some k → bad_on cards s ≡ false → bad_on_calculation cards k ≡ false
+indicators_on cards (spec.Header h) k is right = cc
+indicators_on cards (spec.File f) k is right = cc
+indicators_on cards (spec.Extension e) k is right = cc
+indicators_on cards (spec.Input i) k is right = cc
+indicators_on cards (spec.Calculation j) k is right = let same : j ≡ k = cc in subst (λ x. bad_on_calculation cards x ≡ false) same right
+indicators_on cards (spec.Output o) k is right = cc
+indicators_on cards (spec.Data d) k is right = cc
 
-  -- what the rules on cards say of a calculation
-  pub record IsGood (k : CalculationSpec) (o : Operation) : Type 0 where
-    pub filled : bad_operation k (Some o) ≡ false
-    pub named : operation_lacks_name cards k o ≡ false
-    pub right : wrong_in_operation cards k o ≡ false
-    pub marks : bad_in_result k.resulting_indicators ≡ false
-    pub first_literal : HasLiteral cards none k.factor_1
-    pub second_literal : HasLiteral cards none k.factor_2
+each_at : {X : Type 0} (P : X → Type 0) (before : List X) (x : X) (after : List X) → Each P (before ++ x ∷ after) → P x
+each_at P [] x after h = h.0
+each_at P (y ∷ ys) x after h = each_at P ys x after h.1
 
-  abbrev pub IsRight : Instruction ℕ → Type 0
-  IsRight i = IsInstructionRow i → (r : PlaceRule) → place_breaks r (program_of cards allowance) Detail i ≡ false
+none_in_front : {X : Type 0} (test : X → Bool) (xs ys : List X) → list_any test (xs ++ ys) ≡ false → list_any test xs ≡ false
+none_in_front test xs ys e = (or_parts _ _ (sym (list_any-append test xs ys) ∙ e)).0
 
-  -- ---- numbers
+-- ---- the constants of cards have forms
 
-  result_is : (k : CalculationSpec) → is_none k.result_field ≡ false → is_undefined cards k.result_field ≡ false →
-      Holds (at cards none) (result_of table k) (of_result cards none k.result_field)
-  result_is k some defined = result_holds cards none k.result_field some defined
+stands_in : (x : Constant) (o : Option Constant) → o ≡ Some x → list_any (is_same x) (option_to_list o) ≡ true
+stands_in x o e = ap (λ (p : Option Constant). list_any (is_same x) (option_to_list p)) e ∙ ap (λ b. b || false) ((is_same_equiv).refl x)
 
-  result_number : (k : CalculationSpec) → is_none k.result_field ≡ false → is_undefined cards k.result_field ≡ false →
-      has_text (of_result cards none k.result_field) ≡ false → IsNumber (at cards none) (result_of table k)
-  result_number k some defined kind = number_from (at cards none) (result_of table k) (of_result cards none k.result_field) (result_is k some defined) kind
+in_front : (x : Constant) (xs ys : List Constant) → list_any (is_same x) xs ≡ true → list_any (is_same x) (xs ++ ys) ≡ true
+in_front x xs ys e = list_any-append (is_same x) xs ys ∙ or_left _ _ e
 
-  result_written : (k : CalculationSpec) → is_none k.result_field ≡ false → is_undefined cards k.result_field ≡ false →
-      is_never_written (of_result cards none k.result_field) ≡ false → may_write (at cards none (result_of table k).field) ≡ true
-  result_written k some defined free = may_be_written (at cards none) (result_of table k) (of_result cards none k.result_field) (result_is k some defined) free
+behind : (x : Constant) (xs ys : List Constant) → list_any (is_same x) ys ≡ true → list_any (is_same x) (xs ++ ys) ≡ true
+behind x xs ys e = list_any-append (is_same x) xs ys ∙ or_right (list_any (is_same x) xs) _ e
 
-  second_is : (k : CalculationSpec) → is_none k.factor_2 ≡ false → is_undefined cards (name_in k.factor_2) ≡ false → HasLiteral cards none k.factor_2 →
-      Holds (at cards none) (factor_of table k.factor_2) (of_factor cards none k.factor_2)
-  second_is k some defined has = factor_holds cards none k.factor_2 some defined has
+pub constant_there : (cards before : List SpecCard) (c : SpecCard) (after : List SpecCard) (x : Constant) → cards ≡ before ++ c ∷ after → list_any (is_same x) (constants_on c.spec) ≡ true
+    → key_form (table_of cards) (Fixed x) ≡ Some (constant_form x)
+constant_there cards before c after x split e =
+    let here : list_any (is_same x) (constants_in cards) ≡ true =
+    ap (λ cs. list_any (is_same x) (constants_in cs)) split ∙ ap (list_any (is_same x)) (constants_in-append before (c ∷ after))
+    ∙ behind x (constants_in before) (constants_in (c ∷ after)) (in_front x (constants_on c.spec) (constants_in after) e) in
+    ap (λ b. cond b (Some (constant_form x)) None) (among is_same is_same_equiv x [] (constants_in cards) ∙ here)
 
-  second_number : (k : CalculationSpec) → is_none k.factor_2 ≡ false → is_undefined cards (name_in k.factor_2) ≡ false → HasLiteral cards none k.factor_2 →
-      has_text (of_factor cards none k.factor_2) ≡ false → IsNumber (at cards none) (factor_of table k.factor_2)
-  second_number k some defined has kind = number_from (at cards none) (factor_of table k.factor_2) (of_factor cards none k.factor_2) (second_is k some defined has) kind
+module _ (cards : List SpecCard) (allowance : ℕ) where
+  -- what a source keeps whose calculations have no fault
+  pub record AreFit : Type 0 where
+    pub in_range : AreCards cards
+    pub named : (name : List ℕ) → key_form (table_of cards) (Named name) ≡ form_in (form_of_name name cards)
+    pub good : (name : List ℕ) → is_undefined cards name ≡ false → has_field (form_in (form_of_name name cards)) ≡ true
+    pub names : IsKept (λ before c after. lacks_name cards c after) cards
+    pub kinds : IsKept (λ before c after. wrong_operand cards c after) cards
+    pub indexes : IsKept (λ before c after. bad_index cards c after) cards
+    pub indicators : IsKept (λ before c after. bad_indicator cards c) cards
+    pub columns : IsKept flow.bad_columns cards
+    pub sequence : IsKept (λ before c after. operands.bad_columns cards c after) cards
 
-  -- the operands of ADD, SUB, MULT and DIV
-  record AreThree (k : CalculationSpec) : Type 0 where
-    first : IsNumber (at cards none) (first_or_result table k.factor_1 k.result_field)
-    second : IsNumber (at cards none) (factor_of table k.factor_2)
-    result : IsNumber (at cards none) (result_of table k)
-    written : may_write (at cards none (result_of table k).field) ≡ true
+  module _ (h : AreFit) where
+    abbrev forms : Key → Option FieldForm
+    forms = key_form (table_of cards)
 
-  three : (k : CalculationSpec) → bad_operation k (Some op.Add) ≡ false → operation_lacks_name cards k op.Add ≡ false → wrong_in_operation cards k op.Add ≡ false →
-      HasLiteral cards none k.factor_1 → HasLiteral cards none k.factor_2 → AreThree k
-  three k is_filled is_named is_right one two =
-      let filled = or_parts _ _ (or_parts _ _ is_filled).0 in
-      let named = or_parts _ _ is_named in
-      let factors = or_parts _ _ named.0 in
-      let right = or_parts _ _ is_right in
-      let kinds = or_parts _ _ right.0 in
-      let both = or_parts _ _ kinds.0 in
-      let result = result_number k filled.1 named.1 kinds.1 in
-      record {
-        first = first_number cards none k.factor_1 k.result_field factors.0 one both.0 result;
-        second = second_number k filled.0 factors.1 two both.1;
-        result = result;
-        written = result_written k filled.1 named.1 right.1;
-      }
+    abbrev HasForm : Factor → Type 0
+    HasForm x = entries.HasForm cards forms h.named h.good x
 
-  -- the operands of Z-ADD and Z-SUB
-  record AreTwo (k : CalculationSpec) : Type 0 where
-    second : IsNumber (at cards none) (factor_of table k.factor_2)
-    result : IsNumber (at cards none) (result_of table k)
-    written : may_write (at cards none (result_of table k).field) ≡ true
+    -- ---- a card
 
-  two : (k : CalculationSpec) → bad_operation k (Some op.ZeroAdd) ≡ false → operation_lacks_name cards k op.ZeroAdd ≡ false →
-      wrong_in_operation cards k op.ZeroAdd ≡ false → HasLiteral cards none k.factor_2 → AreTwo k
-  two k is_filled is_named is_right has =
-      let filled = or_parts _ _ (or_parts _ _ is_filled).0 in
-      let filled_before = or_parts _ _ filled.0 in
-      let named = or_parts _ _ is_named in
-      let right = or_parts _ _ is_right in
-      let kinds = or_parts _ _ right.0 in
-      record {
-        second = second_number k filled_before.1 named.0 has kinds.0;
-        result = result_number k filled.1 named.1 kinds.1;
-        written = result_written k filled.1 named.1 right.1;
-      }
+    module _ (before : List SpecCard) (c : SpecCard) (after : List SpecCard) (k : CalculationSpec) (split : cards ≡ before ++ c ∷ after) (is : calculation_on c.spec ≡ Some k) where
+      range : IsCalculation k
+      range = ranges_on c.spec k is (each_at IsCard before c after (subst AreCards split h.in_range))
 
-  -- ---- operations
+      indicators_right : bad_on_calculation cards k ≡ false
+      indicators_right = indicators_on cards c.spec k is (h.indicators before c after split)
 
-  marked : (k : CalculationSpec) (o : Operation) → IsGood k o → AreIndicators (shows_of k.resulting_indicators) → are_settable (shows_of k.resulting_indicators) ≡ true
-  marked k o h row = settable_shows k.resulting_indicators h.marks row
+      asked : MayAsk k
+      asked = may_be_asked cards k (or_parts _ _ indicators_right).0 range.conditions
 
-  moved : (k : CalculationSpec) → bad_operation k (Some op.Move) ≡ false → operation_lacks_name cards k op.Move ≡ false →
-      wrong_in_operation cards k op.Move ≡ false → HasLiteral cards none k.factor_2 → (side : Side)
-      → (r : PlaceRule) → place_breaks r program Detail (Act (Move side (factor_of table k.factor_2) (result_of table k))) ≡ false
-  unfolding program_of
-  moved k is_filled is_named is_right has side =
-      let filled = or_parts _ _ (or_parts _ _ is_filled).0 in
-      let filled_before = or_parts _ _ filled.0 in
-      let named = or_parts _ _ is_named in
-      let b = second_is k filled_before.1 named.0 has in
-      let r = result_is k filled.1 named.1 in
-      move_right program Detail side (factor_of table k.factor_2) (result_of table k) b.2.there r.2.there (result_written k filled.1 named.1 is_right)
+      -- the constant of a factor has its form
+      has_form : (x : Factor) → ((l : Constant) → factor_constant x ≡ Some l → list_any (is_same l) (constants_on c.spec) ≡ true) → HasForm x
+      has_form (factor.Entry e) stands = tt
+      has_form (factor.Literal l) stands = constant_there cards before c after (constant_of l) split (stands (constant_of l) refl)
 
-  pub instruction_right : (k : CalculationSpec) (o : Operation) → IsGood k o → IsRight (instruction_of table k o)
-  unfolding program_of
-  instruction_right k op.Add h row = let t = three k h.filled h.named h.right h.first_literal h.second_literal in
-      compute_right program Detail operator.Add k.half_adjust (first_or_result table k.factor_1 k.result_field) (factor_of table k.factor_2) (result_of table k) (shows_of k.resulting_indicators) t.first t.second t.result t.written (marked k op.Add h row.3)
-  instruction_right k op.Subtract h row = let t = three k h.filled h.named h.right h.first_literal h.second_literal in
-      compute_right program Detail operator.Subtract k.half_adjust (first_or_result table k.factor_1 k.result_field) (factor_of table k.factor_2) (result_of table k) (shows_of k.resulting_indicators) t.first t.second t.result t.written (marked k op.Subtract h row.3)
-  instruction_right k op.Multiply h row = let t = three k h.filled h.named h.right h.first_literal h.second_literal in
-      compute_right program Detail operator.Multiply k.half_adjust (first_or_result table k.factor_1 k.result_field) (factor_of table k.factor_2) (result_of table k) (shows_of k.resulting_indicators) t.first t.second t.result t.written (marked k op.Multiply h row.3)
-  instruction_right k op.Divide h row = let t = three k h.filled h.named h.right h.first_literal h.second_literal in
-      divide_right program Detail k.half_adjust (first_or_result table k.factor_1 k.result_field) (factor_of table k.factor_2) (result_of table k) (shows_of k.resulting_indicators) t.first t.second t.result t.written (marked k op.Divide h row.3)
-  instruction_right k op.MoveRemainder h row =
-      let filled = or_parts _ _ (or_parts _ _ h.filled).0 in
-      let right = or_parts _ _ h.right in
-      remainder_right program Detail (result_of table k) (shows_of k.resulting_indicators) (result_number k filled.1 h.named right.0) (result_written k filled.1 h.named right.1) (marked k op.MoveRemainder h row.1)
-  instruction_right k op.ZeroAdd h row = let t = two k h.filled h.named h.right h.second_literal in
-      assign_right program Detail false k.half_adjust (factor_of table k.factor_2) (result_of table k) (shows_of k.resulting_indicators) t.second t.result t.written (marked k op.ZeroAdd h row.2)
-  instruction_right k op.ZeroSubtract h row = let t = two k h.filled h.named h.right h.second_literal in
-      assign_right program Detail true k.half_adjust (factor_of table k.factor_2) (result_of table k) (shows_of k.resulting_indicators) t.second t.result t.written (marked k op.ZeroSubtract h row.2)
-  instruction_right k op.Compare h row =
-      let some = or_parts _ _ h.filled in
-      let filled = or_parts _ _ some.0 in
-      let factors = or_parts _ _ filled.0 in
-      let named = or_parts _ _ (or_parts _ _ h.named).0 in
-      let a = factor_holds cards none k.factor_1 factors.0 named.0 h.first_literal in
-      let b = second_is k factors.1 named.1 h.second_literal in
-      let differs : differ (of_factor cards none k.factor_1) (of_factor cards none k.factor_2) ≡ false = (or_parts _ _ h.right).0 in
-      let same = kinds_alike (at cards none) (factor_of table k.factor_1) (factor_of table k.factor_2) a.0 b.0 a.2 b.2 (subst (λ o. differ (Some a.0) o ≡ false) b.1 (subst (λ o. differ o (of_factor cards none k.factor_2) ≡ false) a.1 differs)) in
-      compare_right program Detail (factor_of table k.factor_1) (factor_of table k.factor_2) (shows_of k.resulting_indicators) a.2.there b.2.there same (marked k op.Compare h row.2) (some_shows k.resulting_indicators some.1)
-  instruction_right k op.Move h row = moved k h.filled h.named h.right h.second_literal Right
-  instruction_right k op.MoveLeft h row = moved k h.filled h.named h.right h.second_literal Left
+      firsts : List Constant
+      firsts = option_to_list (option_and_then (λ (k : CalculationSpec). option_and_then factor_constant k.factor_1) (calculation_on c.spec))
+
+      seconds : List Constant
+      seconds = option_to_list (option_and_then (λ (k : CalculationSpec). option_and_then factor_constant k.factor_2) (calculation_on c.spec))
+
+      texts : List Constant
+      texts = option_to_list (option_and_then text_constant (output_field_on c.spec))
+
+      first_literal : ForSome k.factor_1 HasForm
+      unfolding firsts seconds texts
+      first_literal x e = has_form x (λ l constant.
+          in_front l (firsts ++ seconds) texts (in_front l firsts seconds
+          (stands_in l _ (ap (option_and_then (λ (k : CalculationSpec). option_and_then factor_constant k.factor_1)) is ∙ ap (option_and_then factor_constant) e ∙ constant))))
+
+      second_literal : ForSome k.factor_2 HasForm
+      unfolding firsts seconds texts
+      second_literal x e = has_form x (λ l constant.
+          in_front l (firsts ++ seconds) texts (behind l firsts seconds
+          (stands_in l _ (ap (option_and_then (λ (k : CalculationSpec). option_and_then factor_constant k.factor_2)) is ∙ ap (option_and_then factor_constant) e ∙ constant))))
+
+      module _ (ends : goes_on after ≡ false) where
+        ending_is : card_ending c after ≡ Some k
+        ending_is = ap (λ b. cond b None (calculation_on c.spec)) ends ∙ is
+
+        filled : bad_last k ≡ false
+        filled =
+            let all : bad_calculation (open_group before) k after ≡ false = subst (λ (o : Option CalculationSpec). option_map_or (λ k. bad_calculation (open_group before) k after) o false ≡ false) is (h.columns before c after split) in
+            subst (λ b. bad_by_end b k ≡ false) ends (or_parts _ _ (or_parts _ _ all).1).1
+
+        -- of the operands of the card none passes the test
+        none_of_operands : (test : Operand → Bool) → list_any test (listed (operands_ending c after) ++ option_to_list (output_operand_on c)) ≡ false → list_any test (listed (operands_of k)) ≡ false
+        none_of_operands test e =
+            subst (λ (o : Option CalculationSpec). list_any test (listed (option_map_or operands_of o no_operands)) ≡ false) ending_is
+            (none_in_front test (listed (operands_ending c after)) (option_to_list (output_operand_on c)) e)
+
+        card_fit : IsCardFit cards forms h.named h.good k
+        card_fit = record {
+          filled = filled;
+          defined = none_of_operands (names_nothing cards) (h.names before c after split);
+          kinds = subst (λ (o : Option CalculationSpec). option_map_or (wrong_in_calculation cards) o false ≡ false) ending_is (or_parts _ _ (h.kinds before c after split)).0;
+          indexed = none_of_operands (bad_index_of cards) (h.indexes before c after split);
+          sequence = subst (λ (o : Option CalculationSpec). option_map_or (bad_search cards) o false ≡ false) ending_is (or_parts _ _ (h.sequence before c after split)).0;
+          literal_1 = first_literal;
+          literal_2 = second_literal;
+          settable = all_settable k.resulting_indicators (or_parts _ _ indicators_right).1 range.indicators;
+        }
+
+    -- ---- calculations
+
+    record IsOpen (before : List (Calculation Key)) (g full : Group) : Type 0 where
+      first : MayAsk g.first
+      followers : Each MayAsk g.followers
+      control : IsControl g.first.control_level
+
+    begun : (before : List SpecCard) (c : SpecCard) (after : List SpecCard) (k : CalculationSpec) (front : List (Calculation Key)) (full : Group) → cards ≡ before ++ c ∷ after → calculation_on c.spec ≡ Some k
+        → IsOpen front (alone k) full
+    begun before c after k front full split is = record { first = asked before c after k split is; followers = tt; control = (range before c after k split is).control }
+
+    abbrev IsRight : List (Calculation Key) → Calculation Key → List (Calculation Key) → Type 0
+    IsRight front g rest = IsRightCalculation forms g
+
+    walk_of : Walk cards IsOpen IsRight
+    walk_of = record {
+      first = λ before c after k split is joins. begun before c after k _ _ split is;
+      stray = λ before c after k split is joins none. begun before c after k _ _ split is;
+      more = λ before c after k g split is joins open_is q. record {
+        first = q.first;
+        followers = each_append MayAsk g.followers (k ∷ []) q.followers (asked before c after k split is, tt);
+        control = q.control;
+      };
+      last = λ before c after g split ends_here q.
+          let e = ending before c after g ends_here in
+          let is_last : last_card g ≡ e.card = sym (ap last_card e.group) ∙ last_with (open_group before) e.card in
+          record {
+            tested = group_tested g.first g.followers q.first q.followers;
+            level = level_within g.first.control_level q.control;
+            deed = subst (λ k. IsRightDeed forms (deed_of k)) (sym is_last) (card_right cards forms h.named h.good e.card (card_fit before c after e.card split e.is e.ends));
+          };
+    }
+
+    all_right : Each (IsRightCalculation forms) (calculations cards)
+    all_right = each_split (IsRightCalculation forms) (λ front g gs right. right) [] (calculations cards) (each_calculation cards IsOpen IsRight walk_of)
+
+    -- ---- the program
+
+    pub columns_kept : (r : PlaceRule) → IsOfColumns r → NoneTrue (broken (program_of cards allowance) (rules.Place r))
+    unfolding broken program_of
+    columns_kept r of =
+        instructions.places_kept (program_of cards allowance) forms (numbers cards) (numbers_rename (table_of cards)) (level_of (sections cards).subroutines) (sections cards)
+        (record { detail = refl; total = refl; subroutines = refl })
+        (record {
+          detail = each_control (IsRightCalculation forms) is_detail (calculations cards) all_right;
+          total = each_control (IsRightCalculation forms) is_total (calculations cards) all_right;
+          subroutines = each_body (IsRightCalculation forms) (of_control is_subroutine (calculations cards)) (each_control (IsRightCalculation forms) is_subroutine (calculations cards) all_right);
+        }) r of

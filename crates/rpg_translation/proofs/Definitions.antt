@@ -1,113 +1,114 @@
--- The definitions of a faultless source are those of plain fields.
-use Rattle.std.proofs.Common.{◌≡◌, ℕ, ◌+◌, ◌-◌, ◌≤◌, Bool, true, false, cond, List, [], ◌∷◌, ◌++◌, Option, None, Some, refl, sym, ap, ◌∙◌, subst}
-use Rattle.std.proofs.lemmas.Bool.{ltb-false, le-leb, or_parts}
+-- Each definition of a source without a fault has a form.
+use Rattle.std.proofs.Common.{◌≡◌, ℕ, ◌+◌, ◌-◌, Bool, true, false, not, cond, ◌||◌, List, [], ◌∷◌, ◌++◌, map, Option, None, Some, refl, sym, ap, ◌∙◌, subst}
+use Rattle.std.proofs.lemmas.Bool.{le-leb, ltb-false}
+use Rattle.std.specs.List.{flat_map, list_any}
 use Rattle.std.specs.Option.{option_and_then, option_map, option_map_or, option_to_list}
-use Rattle.std.specs.Prelude.{◌&&◌, nat_le, is_none}
-use Rattle.rpg_cards.specs.Cards.{calculation_on, input_field_on}
-use Rattle.rpg_cards.specs.Files.{file_by}
-use Rattle.rpg_cards.specs.Groups.{input_role, open_file}
-use Rattle.rpg_cards.specs.Names.{definition_by, field_form, form_of_name, plain_form, sized_form, definition_of, definition_sized, definitions, definitions_on, defined_as, first_form}
-use Rattle.rpg_cards.specs.declared.names.Defined.TheVariants.{Good}
+use Rattle.std.specs.Prelude.{◌&&◌, is_none, nat_le, nat_lt}
+use Rattle.rpg_translation.proofs.Lists.{Seen, each_card, on_card, or_first, or_second}
+use Rattle.rpg_calculations.specs.Plain.{Each}
+use Rattle.rpg_cards.specs.Cards.{calculation_on, extension_on, input_field_on}
+use Rattle.rpg_cards.specs.Names.{definition_by, definition_in, definition_of, definitions, definitions_on, field_form, form_with, sized, sized_form, table_class, table_form, tables_on}
+use Rattle.rpg_cards.specs.declared.names.Definition.{Definition}
 use Rattle.rpg_cards.specs.declared.spec_card.SpecCard.{SpecCard}
-use Rattle.rpg_effect.specs.Forms.{is_array, is_plain}
+use Rattle.rpg_code.proofs.Each.{each_append}
+use Rattle.rpg_effect.specs.declared.form.Class.TheVariants as class
 use Rattle.rpg_effect.specs.declared.form.FieldForm.{FieldForm}
+use Rattle.rpg_effect.specs.declared.form.Kind.{Kind}
 use Rattle.rpg_effect.specs.declared.form.Kind.TheVariants as kind
-use Rattle.rpg_faults.specs.Faults.{Faultless}
-use Rattle.rpg_card_rules.specs.Names.{bad_size_of_field, bad_size_of_result}
-use Rattle.rpg_card_rules.specs.Places.{outside_record}
+use Rattle.rpg_limits.specs.Limits.{bad_entries_of}
+use Rattle.rpg_limits.specs.Names.{bad_size, bad_size_by, bad_size_of_field, bad_size_of_result, bad_size_of_table, bad_size_of_tables}
 use Rattle.rpg_spec.specs.declared.calculation.CalculationSpec.{CalculationSpec}
-use Rattle.rpg_spec.specs.declared.file.FileSpec.{FileSpec}
+use Rattle.rpg_spec.specs.declared.entry.Entry.{Entry}
+use Rattle.rpg_spec.specs.declared.extension.ExtensionSpec.{ExtensionSpec}
+use Rattle.rpg_spec.specs.declared.extension.TableSpec.{TableSpec}
 use Rattle.rpg_spec.specs.declared.input.InputField.{InputField}
 use Rattle.rpg_text.specs.Texts.{is_between}
-use Rattle.rpg_translation.proofs.Broken.{defines_alike, good_size, well_placed}
-use Rattle.rpg_translation.proofs.Each.{Each, Seen, each_append, each_card}
-use Rattle.rpg_translation.proofs.Forms.{defined_here, itself}
-use Rattle.rpg_translation.proofs.Names.{AreDefined, IsDefinition, IsForm}
 
--- a plain field of that length
-pub record IsPlainOf (len : ℕ) (form : FieldForm) : Type 0 where
-  pub plain : is_plain form.class ≡ true
-  pub no_array : is_array form.class ≡ false
-  pub long : form.length ≡ len
+abbrev pub IsForm : Option FieldForm → Type 0
+IsForm None = ⊥
+IsForm (Some form) = Unit {0}
 
-abbrev pub HasPlain : ℕ → Option FieldForm → Type 0
-HasPlain len o = (form : FieldForm) × (o ≡ Some form) × IsPlainOf len form
+abbrev pub HasForm : Definition → Type 0
+HasForm d = IsForm d.form
 
-text_plain : (b : Bool) (len : ℕ) → is_none (cond b (Some (plain_form kind.Text len 0)) None) ≡ false → HasPlain len (cond b (Some (plain_form kind.Text len 0)) None)
-text_plain true len e = (plain_form kind.Text len 0, refl, record { plain = refl; no_array = refl; long = refl })
-text_plain false len e = cc
+abbrev pub AreDefined : List SpecCard → Type 0
+AreDefined cards = Each HasForm (definitions cards)
 
-number_plain : (b : Bool) (len decimals : ℕ) → is_none (cond b (Some (plain_form kind.Number len decimals)) None) ≡ false →
-    HasPlain len (cond b (Some (plain_form kind.Number len decimals)) None)
-number_plain true len decimals e = (plain_form kind.Number len decimals, refl, record { plain = refl; no_array = refl; long = refl })
-number_plain false len decimals e = cc
+-- what has a size as a field has one in any class
+sized_there : (made : Kind → ℕ → ℕ → FieldForm) (len : ℕ) (decimals : Option ℕ) → is_none (sized_form len decimals) ≡ false → IsForm (sized made len decimals)
+sized_there made len None e = by (is_between 1 256 len) e
+  where
+    by : (b : Bool) → is_none (cond b (Some (form_with class.Plain false 1 kind.Text len 0)) None) ≡ false → IsForm (cond b (Some (made kind.Text len 0)) None)
+    by true e = tt
+    by false e = cc
+sized_there made len (Some decimals) e = by (is_between 1 15 len && nat_le decimals 9 && nat_le decimals len) e
+  where
+    by : (b : Bool) → is_none (cond b (Some (form_with class.Plain false 1 kind.Number len decimals)) None) ≡ false → IsForm (cond b (Some (made kind.Number len decimals)) None)
+    by true e = tt
+    by false e = cc
 
-sized_plain : (len : ℕ) (decimals : Option ℕ) → is_none (sized_form len decimals) ≡ false → HasPlain len (sized_form len decimals)
-sized_plain len None e = text_plain (is_between 1 256 len) len e
-sized_plain len (Some decimals) e = number_plain (is_between 1 15 len && nat_le decimals 9 && nat_le decimals len) len decimals e
+when : (b : Bool) (o : Option FieldForm) → b ≡ true → IsForm o → IsForm (cond b o None)
+when true o e h = h
+when false o e h = cc
 
-no_array_in : (len : ℕ) (o : Option FieldForm) → HasPlain len o → IsForm o
-no_array_in len o h = subst IsForm (sym h.1) (h.2.no_array)
+not_false : (b : Bool) → not b ≡ false → b ≡ true
+not_false true e = refl
+not_false false e = cc
 
--- ---- input fields
+tables_there : (e : ExtensionSpec) (ts : List TableSpec) → bad_entries_of e ≡ false → list_any bad_size_of_table ts ≡ false → Each HasForm (map (definition_in e) ts)
+tables_there e [] few size = tt
+tables_there e (t ∷ ts) few size = (
+  when (is_between 1 9999 e.entries) _ (not_false _ few) (sized_there (form_with (table_class t.name) t.ascending e.entries) t.length t.decimals (or_first (bad_size_of_table t) _ size)),
+  tables_there e ts few (or_second (bad_size_of_table t) _ size),
+)
 
--- the columns of a field, up to the end of its file's records
-pub ordered : (file : Option FileSpec) (f : InputField) → outside_record file f ≡ false → f.from ≤ f.to
-ordered file f good = ltb-false f.to f.from (or_parts _ _ (or_parts _ _ good).0).1
+extension_there : (o : Option ExtensionSpec) → option_map_or bad_entries_of o false ≡ false → option_map_or bad_size_of_tables o false ≡ false
+    → Each HasForm (flat_map (λ e. map (definition_in e) (tables_on e)) (option_to_list o))
+extension_there None few size = tt
+extension_there (Some e) few size = each_append HasForm (map (definition_in e) (tables_on e)) [] (tables_there e (tables_on e) few size) tt
 
-field_if : (b : Bool) (f : InputField) → b ≡ true → (b && is_none (cond b (sized_form (f.to + 1 - f.from) f.decimals) None)) ≡ false →
-    HasPlain (f.to + 1 - f.from) (cond b (sized_form (f.to + 1 - f.from) f.decimals) None)
-field_if true f e good = sized_plain (f.to + 1 - f.from) f.decimals good
-field_if false f e good = cc
+-- columns that aren't turned around
+abbrev pub is_turned : InputField → Bool
+is_turned f = nat_lt f.to f.from
 
-pub field_plain : (file : Option FileSpec) (f : InputField) → outside_record file f ≡ false → bad_size_of_field f ≡ false → HasPlain (f.to + 1 - f.from) (field_form f)
-field_plain file f inside good = field_if (nat_le f.from f.to) f (le-leb f.from f.to (ordered file f inside)) good
+field_there : (o : Option InputField) → option_map_or bad_size_of_field o false ≡ false → option_map_or is_turned o false ≡ false → Each HasForm (option_to_list (option_map definition_of o))
+field_there None size straight = tt
+field_there (Some f) size straight =
+    let order : nat_le f.from f.to ≡ true = le-leb f.from f.to (ltb-false f.to f.from straight) in
+    (when (nat_le f.from f.to) _ order (sized_there (form_with class.Plain false 1) (f.to + 1 - f.from) f.decimals (by (nat_le f.from f.to) order size)), tt)
+  where
+    by : (b : Bool) → b ≡ true → (b && is_none (cond b (sized_form (f.to + 1 - f.from) f.decimals) None)) ≡ false → is_none (sized_form (f.to + 1 - f.from) f.decimals) ≡ false
+    by true e h = h
+    by false e h = cc
 
--- ---- result fields
+result_there : (o : Option CalculationSpec) → option_map_or bad_size_of_result o false ≡ false → Each HasForm (option_to_list (option_and_then definition_by o))
+result_there None size = tt
+result_there (Some k) size = by k.length k.result_field size
+  where
+    by : (n : Option ℕ) (r : Option Entry) → bad_size_by n k.decimals ≡ false → Each HasForm (option_to_list (option_and_then (λ len. option_map (λ (e : Entry). record { name = e.name; form = sized_form len k.decimals }) r) n))
+    by None r size = tt
+    by (Some len) None size = tt
+    by (Some len) (Some e) size = (sized_there (form_with class.Plain false 1) len k.decimals size, tt)
 
-result_defined : (k : CalculationSpec) (len : Option ℕ) (name : Option (List ℕ)) → bad_size_of_result len k.decimals ≡ false →
-    Each IsDefinition (option_to_list (option_and_then (λ n. option_map (definition_sized k n) name) len))
-result_defined k None name good = tt
-result_defined k (Some len) None good = tt
-result_defined k (Some len) (Some name) good = (no_array_in len (sized_form len k.decimals) (sized_plain len k.decimals good), tt)
-
--- ---- all cards
-
-field_defined : (file : Option FileSpec) (o : Option InputField) → option_map_or bad_size_of_field o false ≡ false → option_map_or (outside_record file) o false ≡ false →
-    Each IsDefinition (option_to_list (option_map definition_of o))
-field_defined file None size inside = tt
-field_defined file (Some f) size inside = (no_array_in (f.to + 1 - f.from) (field_form f) (field_plain file f inside size), tt)
-
-calculation_defined : (o : Option CalculationSpec) → option_map_or (λ k. bad_size_of_result k.length k.decimals) o false ≡ false →
-    Each IsDefinition (option_to_list (option_and_then definition_by o))
-calculation_defined None size = tt
-calculation_defined (Some k) size = result_defined k k.length k.result_field size
-
-each_on_cards : (cards : List SpecCard) → Each (λ (c : SpecCard). Each IsDefinition (definitions_on c.spec)) cards → AreDefined cards
+each_on_cards : (cards : List SpecCard) → Each (λ (c : SpecCard). Each HasForm (definitions_on c.spec)) cards → AreDefined cards
 each_on_cards [] h = tt
-each_on_cards (c ∷ cs) h = each_append IsDefinition (definitions_on c.spec) (definitions cs) h.0 (each_on_cards cs h.1)
+each_on_cards (c ∷ cs) h = each_append HasForm (definitions_on c.spec) (definitions cs) h.0 (each_on_cards cs h.1)
 
--- the first definition on a card with an input field is that field's
-pub first_defined : (f : InputField) (o : Option InputField) (p : Option CalculationSpec) → o ≡ Some f →
-    first_form f.name (option_to_list (option_map definition_of o) ++ option_to_list (option_and_then definition_by p)) ≡ defined_as (field_form f)
-first_defined f o p is =
-    ap (λ (x : Option InputField). first_form f.name (option_to_list (option_map definition_of x) ++ option_to_list (option_and_then definition_by p))) is
-    ∙ itself f.name (field_form f) (first_form f.name (option_to_list (option_and_then definition_by p)))
-
-module _ (cards : List SpecCard) (none : Faultless cards) where
-  -- an input field is inside the records of its file
-  pub inside_file : Seen cards (λ before c after. option_map_or (outside_record (file_by (open_file input_role before) cards)) (input_field_on c.spec) false ≡ false)
-  inside_file before c after split =
-      subst (λ (all : List SpecCard). option_map_or (outside_record (file_by (open_file input_role before) all)) (input_field_on c.spec) false ≡ false) (sym split)
-      (or_parts _ _ (well_placed cards none before c after split)).0
+module _ (cards : List SpecCard)
+    (sizes : Seen cards (λ before c after. bad_size c ≡ false))
+    (entries : Seen cards (λ before c after. option_map_or bad_entries_of (extension_on c.spec) false ≡ false))
+    (straight : Seen cards (λ before c after. option_map_or is_turned (input_field_on c.spec) false ≡ false)) where
+  on_one : Seen cards (λ before c after. Each HasForm (definitions_on c.spec))
+  on_one before c after split =
+      let size = sizes before c after split in
+      let parts = or_first (option_map_or bad_size_of_tables (extension_on c.spec) false || option_map_or bad_size_of_field (input_field_on c.spec) false) (option_map_or bad_size_of_result (calculation_on c.spec) false) size in
+      let tables = flat_map (λ e. map (definition_in e) (tables_on e)) (option_to_list (extension_on c.spec)) in
+      let fields = option_to_list (option_map definition_of (input_field_on c.spec)) in
+      each_append HasForm (tables ++ fields) (option_to_list (option_and_then definition_by (calculation_on c.spec)))
+      (each_append HasForm tables fields
+      (extension_there (extension_on c.spec) (entries before c after split) (or_first (option_map_or bad_size_of_tables (extension_on c.spec) false) (option_map_or bad_size_of_field (input_field_on c.spec) false) parts))
+      (field_there (input_field_on c.spec) (or_second (option_map_or bad_size_of_tables (extension_on c.spec) false) (option_map_or bad_size_of_field (input_field_on c.spec) false) parts) (straight before c after split)))
+      (result_there (calculation_on c.spec) (or_second (option_map_or bad_size_of_tables (extension_on c.spec) false || option_map_or bad_size_of_field (input_field_on c.spec) false) (option_map_or bad_size_of_result (calculation_on c.spec) false) size))
 
   pub all_defined : AreDefined cards
-  all_defined = each_on_cards cards (each_card cards (λ c. Each IsDefinition (definitions_on c.spec)) (λ before c after split.
-      let size = or_parts _ _ (good_size cards none before c after split) in
-      each_append IsDefinition (option_to_list (option_map definition_of (input_field_on c.spec))) (option_to_list (option_and_then definition_by (calculation_on c.spec)))
-      (field_defined (file_by (open_file input_role before) cards) (input_field_on c.spec) size.0 (inside_file before c after split)) (calculation_defined (calculation_on c.spec) size.1)))
-
-  -- a card's first definition of a name has the form of the name
-  pub has_form : (before : List SpecCard) (c : SpecCard) (after : List SpecCard) (name : List ℕ) (form : FieldForm) → cards ≡ before ++ c ∷ after →
-      first_form name (definitions_on c.spec) ≡ Good form → form_of_name name cards ≡ Good form
-  has_form before c after name form split is = defined_here cards before c after name form split all_defined is (defines_alike cards none before c after split)
+  all_defined = each_on_cards cards (each_card cards (λ c. Each HasForm (definitions_on c.spec)) on_one)

@@ -1,38 +1,30 @@
--- The number of a name leads to the form of its first definition.
-use Rattle.std.proofs.Common.{◌≡◌, ℕ, zero, suc, ◌+◌, ◌<◌, Bool, true, false, not, cond, List, [], ◌∷◌, ◌++◌, length, slice_get, Option, None, Some, refl, ap, ◌∙◌, arith}
+-- The form of a name's key is that of the name's first definition, and a constant of a card has its own.
+use Rattle.std.proofs.Common.{◌≡◌, ℕ, Bool, true, false, not, cond, ◌||◌, List, [], ◌∷◌, ◌++◌, fold, Option, None, Some, refl, sym, ap, ◌∙◌, subst}
 use Rattle.std.proofs.lemmas.Cmp.{nat_list_eq_equiv}
-use Rattle.std.proofs.lemmas.Bool.{lt-ltb}
 use Rattle.std.specs.Cmp.Lexicographic.{pointwise}
-use Rattle.std.specs.List.{position_or_len}
-use Rattle.std.specs.Map.{lookup, keys_of}
-use Rattle.std.specs.Option.{option_or, option_map}
-use Rattle.std.specs.Prelude.{is_some, position, unwrap_or, nat_eq, nat_lt}
+use Rattle.std.specs.List.{list_any}
+use Rattle.std.specs.Map.{lookup}
+use Rattle.std.specs.Option.{option_or, option_to_list}
+use Rattle.std.specs.Prelude.{is_some, nat_eq}
+use Rattle.rpg_translation.proofs.Definitions.{AreDefined, HasForm, IsForm}
+use Rattle.rpg_calculations.specs.Keys.{Fixed, Named}
+use Rattle.rpg_calculations.specs.Plain.{Each}
 use Rattle.rpg_cards.proofs.IndexLemmas.{known_stays, lookup_push, option_or_assoc}
-use Rattle.rpg_cards.specs.Names.{definitions, defined_as, first_form, form_of_name, unless_given}
+use Rattle.rpg_cards.proofs.InsertLemmas.{among}
+use Rattle.rpg_cards.proofs.ItemLemmas.{constants_in-append}
+use Rattle.rpg_cards.specs.Constants.{constant_form, constants_in, constants_on, is_same}
+use Rattle.rpg_cards.specs.Names.{defined_as, definitions, first_form, form_in, form_of_name, is_missing, unless_given}
+use Rattle.rpg_cards.specs.SameConstants.{is_same_equiv}
+use Rattle.rpg_cards.specs.declared.constants.Constant.{Constant}
 use Rattle.rpg_cards.specs.declared.names.Defined.{Defined}
-use Rattle.rpg_cards.specs.declared.names.Defined.TheVariants.{Good}
+use Rattle.rpg_cards.specs.declared.names.Defined.TheVariants.{Bad, Good, Missing}
 use Rattle.rpg_cards.specs.declared.names.Definition.{Definition}
 use Rattle.rpg_cards.specs.declared.spec_card.SpecCard.{SpecCard}
-use Rattle.rpg_effect.specs.Forms.{form_at, is_array}
 use Rattle.rpg_effect.specs.declared.form.FieldForm.{FieldForm}
-use Rattle.rpg_card_rules.specs.Operands.{form_in}
-use Rattle.rpg_symbols.specs.Fields.{Fields, given, form_of}
-use Rattle.rpg_translation.specs.Fields.{Table, table_of, all_forms, fields_of, forms, number_in, with_definitions, with_form, with_name}
-use Rattle.rpg_translation.proofs.Each.{Each}
+use Rattle.rpg_symbols.specs.Fields.{Fields, form_of, given}
+use Rattle.rpg_translation.specs.Table.{fields_of, key_form, table_of, with_definitions, with_form, with_name}
 
--- ---- definitions with a form, of no array
-
-abbrev pub IsForm : Option FieldForm → Type 0
-IsForm None = ⊥
-IsForm (Some form) = is_array form.class ≡ false
-
-abbrev pub IsDefinition : Definition → Type 0
-IsDefinition d = IsForm d.form
-
-abbrev pub AreDefined : List SpecCard → Type 0
-AreDefined cards = Each IsDefinition (definitions cards)
-
--- ---- the names that cards add
+-- ---- names
 
 with_name-form : (fields : Fields) (name q : List ℕ) (form : FieldForm) →
     form_of (with_name fields name form) q ≡ option_or (form_of fields q) (cond (pointwise nat_eq q name) (Some form) None)
@@ -60,7 +52,7 @@ one_definition fields q name (Some form) ds good rest =
     rest (with_name fields name form) ∙ ap (λ o. option_or o (form_in later)) (with_name-form fields name q form) ∙ option_or_assoc (form_of fields q) _ (form_in later)
     ∙ ap (option_or (form_of fields q)) (first_form-in name q form later)
 
-with_definitions-form : (fields : Fields) (ds : List Definition) (q : List ℕ) → Each IsDefinition ds →
+with_definitions-form : (fields : Fields) (ds : List Definition) (q : List ℕ) → Each HasForm ds →
     form_of (with_definitions fields ds) q ≡ option_or (form_of fields q) (form_in (first_form q ds))
 with_definitions-form fields [] q good = or_none (form_of fields q)
   where
@@ -73,49 +65,79 @@ given_or : (o : Option FieldForm) (d : Defined) → option_or o (form_in d) ≡ 
 given_or None d = refl
 given_or (Some form) d = refl
 
--- a name has the form of its first definition
-pub fields_of-form : (cards : List SpecCard) (name : List ℕ) → AreDefined cards → form_of (fields_of cards) name ≡ form_in (form_of_name name cards)
-fields_of-form cards name good = with_definitions-form given (definitions cards) name good ∙ given_or (form_of given name) (first_form name (definitions cards))
+-- no definition is bad, so a name that isn't missing has a form
+abbrev IsGood : Defined → Type 0
+IsGood Missing = Unit {0}
+IsGood Bad = ⊥
+IsGood (Good form) = Unit {0}
 
--- ---- the place of a name
-
--- the first place that passes
-abbrev pub HasPlace : {X : Type 0} → (X → Bool) → List X → ℕ → Type 0
-HasPlace test xs i = (position_or_len test xs ≡ i) × (i < length xs)
-
-pub place_position : {X : Type 0} (test : X → Bool) (xs : List X) (i : ℕ) → HasPlace test xs i → position test xs ≡ Some i
-place_position test xs i h = ap (λ k. cond (nat_lt k (length xs)) (Some k) None) h.0 ∙ ap (λ b. cond b (Some i) None) (lt-ltb i (length xs) h.1)
-
-place_of : (test : List ℕ → Bool) (fields : Fields) (form : FieldForm) → lookup test fields ≡ Some form →
-    (i : ℕ) × HasPlace test (keys_of fields) i × (slice_get (forms fields) i ≡ Some form)
-place_of test [] form e = cc
-place_of test (f ∷ fs) form e = by_test (test f.0) refl e (λ h. place_of test fs form h)
+good_in : (name : List ℕ) (ds : List Definition) → Each HasForm ds → IsGood (first_form name ds)
+good_in name [] good = tt
+good_in name (d ∷ ds) good = by _ d.form good.0 (good_in name ds good.1)
   where
-    by_test : (b : Bool) → test f.0 ≡ b → cond b (Some f.1) (lookup test fs) ≡ Some form →
-        (lookup test fs ≡ Some form → (i : ℕ) × HasPlace test (keys_of fs) i × (slice_get (forms fs) i ≡ Some form))
-        → (i : ℕ) × HasPlace test (f.0 ∷ keys_of fs) i × (slice_get (f.1 ∷ forms fs) i ≡ Some form)
-    by_test true is h later = (0, (ap (λ b. cond (not b) (1 + position_or_len test (keys_of fs)) 0) is, omega arith), h)
-    by_test false is h later =
-        let r = later h in
-        let at = r.1.0 in
-        let within = r.1.1 in
-        (suc r.0, (ap (λ b. cond (not b) (1 + position_or_len test (keys_of fs)) 0) is ∙ omega arith, omega arith), r.2)
+    by : (b : Bool) (o : Option FieldForm) → IsForm o → IsGood (first_form name ds) → IsGood (cond b (defined_as o) (first_form name ds))
+    by b None h rest = absurd h
+    by true (Some form) h rest = tt
+    by false (Some form) h rest = rest
 
-slice_get-append : {X : Type 0} (xs ys : List X) (i : ℕ) (x : X) → slice_get xs i ≡ Some x → slice_get (xs ++ ys) i ≡ Some x
-slice_get-append [] ys i x e = cc
-slice_get-append (y ∷ xs) ys zero x e = e
-slice_get-append (y ∷ xs) ys (suc i) x e = slice_get-append xs ys i x e
+unless_good : (o : Option FieldForm) (d : Defined) → IsGood d → IsGood (unless_given o d)
+unless_good None d h = h
+unless_good (Some form) d h = tt
 
-pub form_at-next : (fields : List FieldForm) (i : ℕ) → form_at fields (i + 1) ≡ slice_get fields i
-form_at-next fields i = let e : i + 1 ≡ suc i = omega arith in ap (form_at fields) e
+there : (d : Defined) → IsGood d → is_missing d ≡ false → (form : FieldForm) × (d ≡ Good form)
+there Missing good e = absurd cc
+there Bad good e = absurd good
+there (Good form) good e = (form, refl)
 
--- its number leads to its form
-number_leads : (t : Table) (name : List ℕ) (form : FieldForm) → form_of t.names name ≡ Some form → form_at (all_forms t) (number_in t.names name) ≡ Some form
-number_leads t name form e =
-    let found = place_of (pointwise nat_eq name) t.names form e in
-    let number : number_in t.names name ≡ found.0 + 1 = ap (λ o. unwrap_or (option_map (λ i. i + 1) o) 0) (place_position (pointwise nat_eq name) (keys_of t.names) found.0 found.1) in
-    ap (form_at (all_forms t)) number ∙ form_at-next (all_forms t) found.0 ∙ slice_get-append (forms t.names) _ found.0 form found.2
+module _ (cards : List SpecCard) (defined : AreDefined cards) where
+  pub name_form : (name : List ℕ) → key_form (table_of cards) (Named name) ≡ form_in (form_of_name name cards)
+  name_form name = with_definitions-form given (definitions cards) name defined ∙ given_or (form_of given name) (first_form name (definitions cards))
 
-pub name_leads : (cards : List SpecCard) (name : List ℕ) (form : FieldForm) → AreDefined cards → form_of_name name cards ≡ Good form →
-    form_at (all_forms (table_of cards)) (number_in (fields_of cards) name) ≡ Some form
-name_leads cards name form good e = number_leads (table_of cards) name form (fields_of-form cards name good ∙ ap form_in e)
+  pub name_there : (name : List ℕ) → is_missing (form_of_name name cards) ≡ false → (form : FieldForm) × (form_of_name name cards ≡ Good form)
+  name_there name e = there (form_of_name name cards) (unless_good (form_of given name) (first_form name (definitions cards)) (good_in name (definitions cards) defined)) e
+
+-- ---- constants
+
+or_left : (a b : Bool) → a ≡ true → (a || b) ≡ true
+or_left true b e = refl
+or_left false b e = cc
+
+or_right : (a b : Bool) → b ≡ true → (a || b) ≡ true
+or_right true b e = refl
+or_right false b e = e
+
+any_append : {X : Type 0} (test : X → Bool) (xs ys : List X) → list_any test (xs ++ ys) ≡ (list_any test xs || list_any test ys)
+any_append test [] ys = refl
+any_append test (x ∷ xs) ys = ap (λ b. test x || b) (any_append test xs ys) ∙ by (test x)
+  where
+    by : (b : Bool) → (b || (list_any test xs || list_any test ys)) ≡ ((b || list_any test xs) || list_any test ys)
+    by true = refl
+    by false = refl
+
+stands_here : (x : Constant) (before : List SpecCard) (c : SpecCard) (after : List SpecCard) → list_any (is_same x) (constants_on c.spec) ≡ true → list_any (is_same x) (constants_in (before ++ c ∷ after)) ≡ true
+stands_here x before c after e =
+    ap (list_any (is_same x)) (constants_in-append before (c ∷ after)) ∙ any_append (is_same x) (constants_in before) (constants_in (c ∷ after))
+    ∙ or_right (list_any (is_same x) (constants_in before)) _ (any_append (is_same x) (constants_on c.spec) (constants_in after) ∙ or_left (list_any (is_same x) (constants_on c.spec)) _ e)
+
+pub constant_there : (cards before : List SpecCard) (c : SpecCard) (after : List SpecCard) (x : Constant) → cards ≡ before ++ c ∷ after → list_any (is_same x) (constants_on c.spec) ≡ true → key_form (table_of cards) (Fixed x) ≡ Some (constant_form x)
+constant_there cards before c after x split e =
+    ap (λ b. cond b (Some (constant_form x)) None)
+    (among is_same is_same_equiv x [] (constants_in cards) ∙ ap (λ cs. list_any (is_same x) (constants_in cs)) split ∙ stands_here x before c after e)
+
+-- the constants of a card: of factor 1, of factor 2, of an output field
+stands_itself : (x : Constant) (o : Option Constant) → o ≡ Some x → list_any (is_same x) (option_to_list o) ≡ true
+stands_itself x o e = ap (λ (p : Option Constant). list_any (is_same x) (option_to_list p)) e ∙ ap (λ b. b || false) ((is_same_equiv).refl x)
+
+pub stands_first : (x : Constant) (o p q : Option Constant) → o ≡ Some x → list_any (is_same x) (option_to_list o ++ option_to_list p ++ option_to_list q) ≡ true
+stands_first x o p q e =
+    any_append (is_same x) (option_to_list o ++ option_to_list p) (option_to_list q)
+    ∙ or_left (list_any (is_same x) (option_to_list o ++ option_to_list p)) _ (any_append (is_same x) (option_to_list o) (option_to_list p) ∙ or_left (list_any (is_same x) (option_to_list o)) _ (stands_itself x o e))
+
+pub stands_second : (x : Constant) (o p q : Option Constant) → p ≡ Some x → list_any (is_same x) (option_to_list o ++ option_to_list p ++ option_to_list q) ≡ true
+stands_second x o p q e =
+    any_append (is_same x) (option_to_list o ++ option_to_list p) (option_to_list q)
+    ∙ or_left (list_any (is_same x) (option_to_list o ++ option_to_list p)) _ (any_append (is_same x) (option_to_list o) (option_to_list p) ∙ or_right (list_any (is_same x) (option_to_list o)) _ (stands_itself x p e))
+
+pub stands_third : (x : Constant) (o p q : Option Constant) → q ≡ Some x → list_any (is_same x) (option_to_list o ++ option_to_list p ++ option_to_list q) ≡ true
+stands_third x o p q e =
+    any_append (is_same x) (option_to_list o ++ option_to_list p) (option_to_list q) ∙ or_right (list_any (is_same x) (option_to_list o ++ option_to_list p)) _ (stands_itself x q e)

@@ -1,142 +1,342 @@
--- The record types of faultless cards break no rule.
-use Rattle.std.proofs.Common.{◌≡◌, ℕ, ◌+◌, ◌-◌, true, false, List, ◌∷◌, ◌++◌, map, Option, Some, refl, sym, ap, ◌∙◌, subst, arith}
-use Rattle.std.proofs.lemmas.Bool.{and_from, eq-eqb, eqb-false, le-leb, ltb-false, not_from_true, or_parts}
-use Rattle.std.specs.Option.{option_map_or}
-use Rattle.std.specs.Prelude.{◌==◌, is_some, nat_le}
-use Rattle.rpg_cards.specs.Cards.{calculation_on, input_field_on, type_on}
-use Rattle.rpg_cards.specs.Files.{file_by, input_file}
-use Rattle.rpg_cards.specs.Groups.{Group, groups, input_role, open_file, open_group}
-use Rattle.rpg_cards.specs.Names.{field_form, definitions_on, defined_as, first_form}
-use Rattle.rpg_cards.specs.declared.names.Defined.TheVariants.{Good}
+-- No record type of the program of a source without a fault breaks a rule.
+use Rattle.std.proofs.Common.{◌≡◌, ℕ, zero, suc, ◌+◌, ◌-◌, ◌≤◌, Bool, true, false, not, cond, ◌||◌, ◌&&◌, List, [], ◌∷◌, ◌++◌, map, filter, Option, None, Some, refl, sym, ap, ◌∙◌, subst, arith, append_assoc}
+use Rattle.std.proofs.lemmas.Bool.{and_from, eq-eqb, eqb-false, eqb-true, le-leb, ltb-false, not_from_true}
+use Rattle.std.proofs.lemmas.List.Sums.{sum_by-cons}
+use Rattle.std.proofs.lemmas.Option.{same_Some}
+use Rattle.std.specs.List.{cons_option, filter_map, flat_map, list_any}
+use Rattle.std.specs.Option.{ForSome, option_map, option_map_or, option_or}
+use Rattle.std.specs.Prelude.{nat_le, nat_lt, sum_by, ◌==◌}
+use Rattle.rpg_calculations.specs.Deeds.{shows_of}
+use Rattle.rpg_calculations.specs.Keys.{Key, Named}
+use Rattle.rpg_calculations.specs.Plain.{Each}
+use Rattle.rpg_cards.proofs.GroupLemmas.{file_behind, open_group-push}
+use Rattle.rpg_cards.specs.Cards.{field_in, input_on}
+use Rattle.rpg_cards.specs.Files.{file_by, file_for, is_input, use_of}
+use Rattle.rpg_cards.specs.Groups.{Apart, Follower, Group, Heading, Role, followers, groups, input_role, open_file, open_group, with_card}
+use Rattle.rpg_cards.specs.declared.files.FileUse.{FileUse}
+use Rattle.rpg_cards.specs.declared.files.FileUse.TheVariants.{Disk, Primary, Printer}
 use Rattle.rpg_cards.specs.declared.spec_card.SpecCard.{SpecCard}
+use Rattle.rpg_code.proofs.Each.{each_append, each_map, each_passes, each_row, none_broken}
 use Rattle.rpg_effect.specs.Forms.{form_at, kind_of}
 use Rattle.rpg_effect.specs.Input.{TypeRow, fits_columns, fits_shows}
-use Rattle.rpg_effect.specs.declared.form.FieldForm.{FieldForm}
-use Rattle.rpg_effect.specs.declared.form.Kind.{Kind}
-use Rattle.rpg_effect.specs.declared.form.Kind.TheVariants as kinds
+use Rattle.rpg_effect.specs.declared.input.ControlField.{ControlField}
 use Rattle.rpg_effect.specs.declared.input.InputField as row
-use Rattle.rpg_faults.specs.Faults.{Faultless}
-use Rattle.rpg_card_rules.specs.Indicators.{bad_on_card, bad_on_type}
-use Rattle.rpg_card_rules.specs.Names.{bad_size_of_field}
-use Rattle.rpg_card_rules.specs.Places.{outside_record}
-use Rattle.rpg_program.specs.Kept.{IsTypeRow}
+use Rattle.rpg_effect.specs.declared.input.RecordCode as row_code
+use Rattle.rpg_effect.specs.declared.form.FieldForm.{FieldForm}
+use Rattle.rpg_limits.specs.Indicators.{any_of, bad_on_field, cannot_be_set}
+use Rattle.rpg_places.specs.Places.{columns_of, differ, first_length, has_other_lengths, is_at_level, is_past, joined, joins_badly, level_fields, level_length, levels, open_specs, outside_on_input, outside_record, own_file, passes_length}
 use Rattle.rpg_program.specs.Object.{Object}
-use Rattle.rpg_rules.specs.TypeRules.{is_input_in, is_input_shown, type_breaks}
+use Rattle.rpg_renaming.specs.Naming.{renamed_input, renamed_type}
+use Rattle.rpg_rules.proofs.Kept.{NoneTrue}
+use Rattle.rpg_rules.specs.Rules.{broken}
+use Rattle.rpg_rules.specs.TypeRules.{is_code_in, is_control_in, is_input_in, is_input_shown, is_measured, measure, type_breaks}
+use Rattle.rpg_rules.specs.TypeRules as rule
+use Rattle.rpg_rules.specs.declared.rule.Rule.TheVariants as verifier
 use Rattle.rpg_rules.specs.declared.rule.TypeRule.{TypeRule}
 use Rattle.rpg_rules.specs.declared.rule.TypeRule.TheVariants.{V3, V4, V5, V6, V7}
 use Rattle.rpg_spec.specs.declared.file.FileSpec.{FileSpec}
 use Rattle.rpg_spec.specs.declared.input.InputField.{InputField}
+use Rattle.rpg_spec.specs.declared.input.InputSpec.{InputSpec}
 use Rattle.rpg_spec.specs.declared.input.InputSpec.TheVariants as input
 use Rattle.rpg_spec.specs.declared.input.RecordType.{RecordType}
-use Rattle.rpg_spec.specs.declared.spec.Spec.{Spec}
 use Rattle.rpg_spec.specs.declared.spec.Spec.TheVariants as spec
-use Rattle.rpg_translation.specs.Fields.{all_forms, fields_of, number_in, table_of}
-use Rattle.rpg_translation.specs.Program.{length_of, program_of}
-use Rattle.rpg_translation.specs.Tables.{input_of, no_shows, type_of, types_of}
-use Rattle.rpg_translation.proofs.Broken.{good_indicator, good_size, has_heading}
-use Rattle.rpg_translation.proofs.Definitions.{IsPlainOf, HasPlain, all_defined, field_plain, has_form, inside_file, first_defined}
-use Rattle.rpg_translation.proofs.Each.{AtRole, Each, InGroup, Seen, at_role, each_both, each_card, each_group, each_map, each_passes, each_row}
-use Rattle.rpg_translation.proofs.Marks.{marks_type}
-use Rattle.rpg_translation.proofs.Names.{name_leads}
-use Rattle.rpg_translation.proofs.OnlyFiles.{BelongsTo, input_before, some_open}
+use Rattle.rpg_translation.proofs.InputTypes.{InFile, IsFieldGood, IsInputGood, IsTypeGood, codes_in, each_type, follower_on, form_of_field, heading_on, marks_type, outside_kept, settable, shown_so}
+use Rattle.rpg_translation.proofs.Joined as levelled
+use Rattle.rpg_translation.proofs.Joined.{HasColumns, Joined, all_nine, each_level, first_joined, first_same, measured, same_sum}
+use Rattle.rpg_translation.proofs.Lists.{Seen, each_card, front_keeps, or_first, or_second}
+use Rattle.rpg_translation.proofs.Numbers.{forms_same, standing}
+use Rattle.rpg_translation.proofs.OpenGroups.{HasGood, InGroup, IsAmong, each_among, each_good, each_open}
+use Rattle.rpg_translation.specs.Data.{kind_by}
+use Rattle.rpg_translation.specs.Lines.{length_of}
+use Rattle.rpg_translation.specs.Program.{numbers, program_of, types_of}
+use Rattle.rpg_translation.specs.Ranges.{AreCards}
+use Rattle.rpg_translation.specs.Rules.{KeepsRules}
+use Rattle.rpg_translation.specs.Table.{forms, key_form, table_of}
+use Rattle.rpg_translation.specs.Types.{codes_of, control_field, fields_in, further_codes, input_of, level_of, type_of}
 
--- ---- columns of the record
+-- ---- columns
 
-fits : (g : FileSpec) (f : InputField) (n : ℕ) (form : FieldForm) → outside_record (Some g) f ≡ false → IsPlainOf (f.to + 1 - f.from) form →
-    fits_columns g.record_length (record { from = f.from; to = f.to; field = n; shows = no_shows }) (Some form) ≡ true
-fits g f n form inside plain =
-    let a = or_parts _ _ inside in
-    let b = or_parts _ _ a.0 in
-    let c = or_parts _ _ b.0 in
-    let positive = eqb-false f.from 0 c.0 in
-    let first : nat_le 1 f.from ≡ true = le-leb 1 f.from (omega arith) in
-    let order : nat_le f.from f.to ≡ true = le-leb f.from f.to (ltb-false f.to f.from b.1) in
-    let last : nat_le f.to g.record_length ≡ true = le-leb f.to g.record_length (ltb-false g.record_length f.to a.1) in
-    let long : (f.to + 1 - f.from == form.length) ≡ true = eq-eqb (f.to + 1 - f.from) form.length (sym plain.long) in
-    and_from _ _ (and_from _ _ first (and_from _ _ order last)) (and_from _ _ plain.plain long)
+in_columns : (file : Option FileSpec) (f : InputField) → outside_record file f ≡ false → HasColumns f
+in_columns file f e =
+    let some = eqb-false f.from 0 (or_first (f.from == 0) _ e) in
+    let rest = or_second (f.to == 0) _ (or_second (f.from == 0) _ e) in
+    record { first = omega (arith, some); order = ltb-false f.to f.from (or_first (nat_lt f.to f.from) (is_past file f.to) rest) }
 
-shown_none : (k : Kind) → fits_shows k no_shows ≡ true
-shown_none kinds.Number = refl
-shown_none kinds.Text = refl
+inside : (file : Option FileSpec) (g : FileSpec) (f : InputField) → file ≡ Some g → outside_record file f ≡ false → f.to ≤ g.record_length
+inside file g f is e =
+    let rest = or_second (nat_lt f.to f.from) (is_past file f.to) (or_second (f.to == 0) _ (or_second (f.from == 0) _ e)) in
+    ltb-false g.record_length f.to (sym (ap (λ o. is_past o f.to) is) ∙ rest)
 
-module _ (cards : List SpecCard) (none : Faultless cards) where
-  -- the columns of an input field are there, and as many as its field is long
-  abbrev pub IsInputFit : InputField → Type 0
-  IsInputFit f = fits_columns (length_of (input_file cards)) (input_of (table_of cards) f) (form_at (all_forms (table_of cards)) (number_in (fields_of cards) f.name)) ≡ true
+-- ---- from the cards of a group to its fields
 
-  type_before : Seen cards (λ before c after. is_some (input_field_on c.spec) ≡ true → is_some (open_group input_role before) ≡ true)
-  type_before before c after split is = some_open (is_some (input_field_on c.spec)) (open_group input_role before) is (or_parts _ _ (has_heading cards none before c after split)).0
+each_field : (P : InputSpec → Type 0) (Q : InputField → Type 0) → ((f : InputField) → P (input.Field f) → Q f) → (is : List InputSpec) → Each P is → Each Q (fields_in is)
+each_field P Q f [] h = tt
+each_field P Q f (input.Type t ∷ is) h = each_field P Q f is h.1
+each_field P Q f (input.And cs ∷ is) h = each_field P Q f is h.1
+each_field P Q f (input.Field x ∷ is) h = (f x h.0, each_field P Q f is h.1)
 
-  input_fits : (before : List SpecCard) (c : SpecCard) (after : List SpecCard) (f : InputField) → cards ≡ before ++ c ∷ after → input_field_on c.spec ≡ Some f →
-      IsInputFit f
-  input_fits before c after f split is =
-      let file : BelongsTo cards (open_file input_role before) (input_file cards) = input_before cards none before (c ∷ after) split (type_before before c after split (ap is_some is)) in
-      let inside : outside_record (file_by (open_file input_role before) cards) f ≡ false =
-      subst (λ (o : Option InputField). option_map_or (outside_record (file_by (open_file input_role before) cards)) o false ≡ false) is (inside_file cards none before c after split) in
-      let size : bad_size_of_field f ≡ false = subst (λ (o : Option InputField). option_map_or bad_size_of_field o false ≡ false) is (or_parts _ _ (good_size cards none before c after split)).0 in
-      let plain : HasPlain (f.to + 1 - f.from) (field_form f) = field_plain (file_by (open_file input_role before) cards) f inside size in
-      let defines : first_form f.name (definitions_on c.spec) ≡ Good plain.0 = first_defined f (input_field_on c.spec) (calculation_on c.spec) is ∙ ap defined_as plain.1 in
-      let leads = name_leads cards f.name plain.0 (all_defined cards none) (has_form cards none before c after f.name plain.0 split defines) in
-      let inside_it : outside_record (Some file.0) f ≡ false = subst (λ (o : Option FileSpec). outside_record o f ≡ false) file.1 inside in
-      let fit = fits file.0 f (number_in (fields_of cards) f.name) plain.0 inside_it plain.2 in
-      subst (λ (o : Option FieldForm). fits_columns (length_of (input_file cards)) (input_of (table_of cards) f) o ≡ true) (sym leads)
-      (subst (λ (o : Option FileSpec). fits_columns (length_of o) (input_of (table_of cards) f) (Some plain.0) ≡ true) (sym file.2) fit)
+each_code : (P : InputSpec → Type 0) (Q : row_code.RecordCode → Type 0) → ((i : InputSpec) → P i → Each Q (further_codes i)) → (is : List InputSpec) → Each P is → Each Q (flat_map further_codes is)
+each_code P Q f [] h = tt
+each_code P Q f (i ∷ is) h = each_append Q (further_codes i) (flat_map further_codes is) (f i h.0) (each_code P Q f is h.1)
 
-  -- ---- what each card gives to a type
+each_level_field : (P : InputField → Type 0) (Q : ControlField → Type 0) → ((f : InputField) (l : ℕ) → P f → Q (control_field f l)) → (fs : List InputField) → Each P fs → Each Q (filter_map level_of fs)
+each_level_field P Q f [] h = tt
+each_level_field P Q f (x ∷ fs) h = by x.level (each_level_field P Q f fs h.1)
+  where
+    by : (o : Option ℕ) → Each Q (filter_map level_of fs) → Each Q (cons_option (option_map (control_field x) o) (filter_map level_of fs))
+    by None r = r
+    by (Some l) r = (f x l h.0, r)
 
-  abbrev IsTypeGood : RecordType → Type 0
-  IsTypeGood t = bad_on_type t.indicator ≡ false
+module _ (cards : List SpecCard) (rules : KeepsRules cards) (ranges : AreCards cards) where
+  good_columns : (name : Option (List ℕ)) (i : InputSpec) (f : InputField) → i ≡ input.Field f → IsInputGood cards rules ranges name i → HasColumns f
+  good_columns name i f is h = in_columns (file_by name cards) f (subst (IsInputGood cards rules ranges name) is h).outside
 
-  type_marks : (s : Spec) (t : RecordType) → bad_on_card s ≡ false → type_on s ≡ Some t → bad_on_type t.indicator ≡ false
-  type_marks (spec.Header h) t good is = cc
-  type_marks (spec.File f) t good is = cc
-  type_marks (spec.Input (input.Type u)) t good is = let same : u ≡ t = cc in subst (λ (x : RecordType). bad_on_type x.indicator ≡ false) same good
-  type_marks (spec.Input (input.Field f)) t good is = cc
-  type_marks (spec.Calculation k) t good is = cc
-  type_marks (spec.Output o) t good is = cc
+  -- ---- a type's columns are good, and its joined lengths at most 256
 
-  type_groups : Each (InGroup IsTypeGood IsInputFit) (groups input_role cards)
-  type_groups = each_group IsTypeGood IsInputFit input_role cards (each_card cards (λ c. AtRole IsTypeGood IsInputFit (input_role c.spec)) (λ before c after split.
-      at_role IsTypeGood IsInputFit (λ t. t.file) (type_on c.spec) (input_field_on c.spec)
-      (λ t is. type_marks c.spec t (good_indicator cards none before c after split) is) (λ f is. input_fits before c after f split is)))
+  has_columns : (g : Group RecordType InputSpec) → InFile cards rules ranges g → levelled.InGroup g
+  has_columns g h = each_field (IsInputGood cards rules ranges g.file) HasColumns (λ f x. in_columns (file_by g.file cards) f x.outside) g.followers h.1.1
+
+  abbrev FewJoined : Group RecordType InputSpec → Type 0
+  FewJoined g = (level : ℕ) → Joined level g ≤ 256
+
+  one_joined : (level : ℕ) (is : List InputSpec) (f : InputField) → joined level (is ++ input.Field f ∷ []) ≡ joined level is + cond (is_at_level level f) (columns_of f) 0
+  one_joined level [] f = by (is_at_level level f)
+    where
+      by : (b : Bool) → sum_by columns_of (cond b (f ∷ []) []) ≡ sum_by columns_of [] + cond b (columns_of f) 0
+      by true = sum_by-cons columns_of f [] ∙ omega arith
+      by false = omega arith
+  one_joined level (input.Type t ∷ is) f = one_joined level is f
+  one_joined level (input.And cs ∷ is) f = one_joined level is f
+  one_joined level (input.Field x ∷ is) f = by (is_at_level level x) (one_joined level is f)
+    where
+      by : (b : Bool) → joined level (is ++ input.Field f ∷ []) ≡ joined level is + cond (is_at_level level f) (columns_of f) 0
+          → sum_by columns_of (cond b (x ∷ level_fields level (is ++ input.Field f ∷ [])) (level_fields level (is ++ input.Field f ∷ []))) ≡ sum_by columns_of (cond b (x ∷ level_fields level is) (level_fields level is)) + cond (is_at_level level f) (columns_of f) 0
+      by true r = let a = sum_by-cons columns_of x (level_fields level (is ++ input.Field f ∷ [])) in let b = sum_by-cons columns_of x (level_fields level is) in omega arith
+      by false r = r
+
+  no_joined : (level : ℕ) (is : List InputSpec) (i : InputSpec) → ((f : InputField) → i ≡ input.Field f → ⊥) → joined level (is ++ i ∷ []) ≡ joined level is
+  no_joined level [] (input.Type t) other = refl
+  no_joined level [] (input.And cs) other = refl
+  no_joined level [] (input.Field f) other = absurd (other f refl)
+  no_joined level (input.Type t ∷ is) i other = no_joined level is i other
+  no_joined level (input.And cs ∷ is) i other = no_joined level is i other
+  no_joined level (input.Field x ∷ is) i other = by (is_at_level level x) (no_joined level is i other)
+    where
+      by : (b : Bool) → joined level (is ++ i ∷ []) ≡ joined level is → sum_by columns_of (cond b (x ∷ level_fields level (is ++ i ∷ [])) (level_fields level (is ++ i ∷ []))) ≡ sum_by columns_of (cond b (x ∷ level_fields level is) (level_fields level is))
+      by true r = sum_by-cons columns_of x (level_fields level (is ++ i ∷ [])) ∙ ap (λ n. columns_of x + n) r ∙ sym (sum_by-cons columns_of x (level_fields level is))
+      by false r = r
+
+  -- one more field of the open type
+  stays_few : (f : InputField) (is : List InputSpec) (o : Option ℕ) → f.level ≡ o → ((level : ℕ) → joined level is ≤ 256) → option_map_or (λ level. nat_le (joined level is) 256 && nat_lt 256 (joined level is + columns_of f)) o false ≡ false
+      → (level : ℕ) → joined level is + cond (option_map_or (λ l. l == level) o false) (columns_of f) 0 ≤ 256
+  stays_few f is None e few passes level = let h = few level in omega arith
+  stays_few f is (Some l) e few passes level = by (l == level) refl
+    where
+      second : (b : Bool) → b ≡ true → (b && nat_lt 256 (joined l is + columns_of f)) ≡ false → joined l is + columns_of f ≤ 256
+      second true t h = ltb-false 256 (joined l is + columns_of f) h
+      second false t h = cc
+
+      by : (b : Bool) → (l == level) ≡ b → joined level is + cond b (columns_of f) 0 ≤ 256
+      by true t = subst (λ n. joined n is + columns_of f ≤ 256) (eqb-true l level t) (second (nat_le (joined l is) 256) (le-leb (joined l is) 256 (few l)) passes)
+      by false t = let h = few level in omega arith
+
+  IfOpen : Option (Group RecordType InputSpec) → Type 0
+  IfOpen o = (g : Group RecordType InputSpec) → o ≡ Some g → FewJoined g
+
+  passes_not : (before : List SpecCard) (c : SpecCard) (after : List SpecCard) (f : InputField) → cards ≡ before ++ c ∷ after → c.spec ≡ spec.Input (input.Field f) → passes_length before f ≡ false
+  passes_not before c after f split is = or_second (outside_on_input (file_by (open_file input_role before) cards) (input.Field f)) (passes_length before f) (outside_kept cards rules ranges before c after (input.Field f) split is)
+
+  with_one : (before : List SpecCard) (c : SpecCard) (after : List SpecCard) → cards ≡ before ++ c ∷ after → (r : Role RecordType InputSpec) → input_role c.spec ≡ r → (o : Option (Group RecordType InputSpec)) → open_group input_role before ≡ o
+      → IfOpen o → IfOpen (with_card o r)
+  unfolding IfOpen
+  with_one before c after split (Heading t name) role o e few g is = λ level. subst (λ (x : Group RecordType InputSpec). Joined level x ≤ 256) (same_Some _ g is) (omega arith)
+  with_one before c after split Apart role o e few g is = few g is
+  with_one before c after split (Follower i) role None e few g is = absurd cc
+  with_one before c after split (Follower i) role (Some x) e few g is = λ level. subst (λ (y : Group RecordType InputSpec). Joined level y ≤ 256) (same_Some _ g is) (by i role level)
+    where
+      specs : open_specs before ≡ x.followers
+      specs = ap (λ o. option_map_or (λ (y : Group RecordType InputSpec). y.followers) o []) e
+
+      by : (i : InputSpec) → input_role c.spec ≡ Follower i → (level : ℕ) → joined level (x.followers ++ i ∷ []) ≤ 256
+      by (input.Type t) role level = subst (λ n. n ≤ 256) (sym (no_joined level x.followers (input.Type t) (λ f same. cc))) (few x refl level)
+      by (input.And cs) role level = subst (λ n. n ≤ 256) (sym (no_joined level x.followers (input.And cs) (λ f same. cc))) (few x refl level)
+      by (input.Field f) role level =
+          let passes = passes_not before c after f split (follower_on c.spec (input.Field f) role) in
+          subst (λ n. n ≤ 256) (sym (one_joined level x.followers f))
+          (stays_few f x.followers f.level refl (few x refl) (sym (ap (λ is. option_map_or (λ level. nat_le (joined level is) 256 && nat_lt 256 (joined level is + columns_of f)) f.level false) specs) ∙ passes) level)
+
+  few_open : (before after : List SpecCard) → cards ≡ before ++ after → IfOpen (open_group input_role before)
+  unfolding IfOpen
+  few_open before after split =
+      front_keeps cards (λ cs. IfOpen (open_group input_role cs))
+      (λ b c a s h. subst IfOpen (sym (open_group-push input_role b c)) (with_one b c a s (input_role c.spec) refl (open_group input_role b) refl h))
+      (λ g e. absurd cc) before after split
+
+  each_few : Each FewJoined (groups input_role cards)
+  unfolding IfOpen
+  each_few = each_open input_role cards FewJoined (λ before after split g e. few_open before after split g e)
+
+  -- ---- a type among the others
+
+  abbrev GoodField : InputSpec → Type 0
+  GoodField i = (f : InputField) → i ≡ input.Field f → HasColumns f
+
+  abbrev GoodCard : SpecCard → Type 0
+  GoodCard c = HasGood input_role GoodField c
+
+  all_cards : Each GoodCard cards
+  all_cards = each_card cards GoodCard (λ before c after split i role f same.
+      in_columns (file_by (open_file input_role before) cards) f (or_first (outside_record (file_by (open_file input_role before) cards) f) _
+      (outside_kept cards rules ranges before c after (input.Field f) split (follower_on c.spec i role ∙ ap spec.Input same))))
+
+  each_first : {X : Type 0} (P : X → Type 0) (xs ys : List X) → Each P (xs ++ ys) → Each P xs
+  each_first P [] ys h = tt
+  each_first P (x ∷ xs) ys h = (h.0, each_first P xs ys h.1)
+
+  front_good : (before after : List SpecCard) → cards ≡ before ++ after → Each levelled.InGroup (groups input_role before)
+  front_good before after split =
+      each_map (InGroup input_role GoodField) levelled.InGroup (groups input_role before) (λ g h. each_field GoodField HasColumns (λ f x. x f refl) g.followers h)
+      (each_good input_role GoodField before (each_first GoodCard before after (subst (Each GoodCard) split all_cards)))
+
+  abbrev Alike : List (Group RecordType InputSpec) → Group RecordType InputSpec → ℕ → Type 0
+  Alike front g level = differ (first_length level front) (level_length level g.followers) ≡ false
+
+  abbrev IsAlike : List (Group RecordType InputSpec) → Group RecordType InputSpec → Type 0
+  IsAlike front g = Each levelled.InGroup front × Each (Alike front g) levels
+
+  each_alike : Each (IsAmong input_role cards IsAlike) (groups input_role cards)
+  each_alike = each_among input_role cards IsAlike (λ before c after t name split role.
+      let card = heading_on c.spec t name role in (
+        front_good before (c ∷ after) split,
+        each_level (λ level. differ (first_length level (groups input_role before)) (level_length level (followers input_role after)))
+            (or_second (outside_on_input (file_by (own_file before (input.Type t)) cards) (input.Type t)) (has_other_lengths before after) (outside_kept cards rules ranges before c after (input.Type t) split card.on)),
+      ))
+
+  each_of_lists : {X : Type 0} (P Q R : X → Type 0) (xs : List X) → ((x : X) → P x → Q x → R x) → Each P xs → Each Q xs → Each R xs
+  each_of_lists P Q R [] f h g = tt
+  each_of_lists P Q R (x ∷ xs) f h g = (f x h.0 g.0, each_of_lists P Q R xs f h.1 g.1)
+
+  -- all that is known of a type
+  record IsKnown (g : Group RecordType InputSpec) : Type 0 where
+    filed : InFile cards rules ranges g
+    few : FewJoined g
+    alike : IsAmong input_role cards IsAlike g
+
+  record AreBoth (g : Group RecordType InputSpec) : Type 0 where
+    few : FewJoined g
+    alike : IsAmong input_role cards IsAlike g
+
+  each_known : Each IsKnown (groups input_role cards)
+  each_known =
+      each_of_lists (InFile cards rules ranges) AreBoth IsKnown (groups input_role cards) (λ g a b. record { filed = a; few = b.few; alike = b.alike }) (each_type cards rules ranges)
+      (each_of_lists FewJoined (IsAmong input_role cards IsAlike) AreBoth (groups input_role cards) (λ g a b. record { few = a; alike = b }) each_few each_alike)
 
   -- ---- the rules
 
   module _ (allowance : ℕ) where
-    program : Object
-    program = program_of cards allowance
+    abbrev p : Object
+    p = program_of cards allowance
 
-    abbrev IsInputRight : row.InputField ℕ → Type 0
-    IsInputRight f = (is_input_in program f ≡ true) × (is_input_shown program f ≡ true)
+    abbrev row_type : Group RecordType InputSpec → TypeRow ℕ
+    row_type g = renamed_type (numbers cards) (type_of g)
 
-    input_right : (f : InputField) → IsInputFit f → IsInputRight (input_of (table_of cards) f)
-    unfolding program program_of
-    input_right f fit = (fit, shown_none (kind_of (form_at (all_forms (table_of cards)) (number_in (fields_of cards) f.name))))
-
-    -- a type whose cards are good
-    type_right : (g : Group RecordType InputField) → InGroup IsTypeGood IsInputFit g → IsTypeRow (type_of (table_of cards) g) → (r : TypeRule) → type_breaks r program (type_of (table_of cards) g) ≡ false
-    unfolding type_breaks
-    type_right g good kept r = by_rule r
+    primary : (f : FileSpec) → is_input (use_of f) ≡ true → use_of f ≡ Primary
+    primary f e = by (use_of f) e
       where
-        inputs : List (row.InputField ℕ)
-        inputs = map (input_of (table_of cards)) g.followers
+        by : (u : FileUse) → is_input u ≡ true → u ≡ Primary
+        by Primary e = refl
+        by Printer e = cc
+        by Disk e = cc
 
-        right : Each IsInputRight inputs
-        right = each_row IsInputFit IsInputRight (input_of (table_of cards)) g.followers input_right good.1
+    -- its file is the one that records are read from
+    record_is : (g : Group RecordType InputSpec) (h : InFile cards rules ranges g) → h.0.0.record_length ≡ p.record_length
+    unfolding program_of
+    record_is g h = sym (ap length_of (subst (λ u. file_for u cards ≡ Some h.0.0) (primary h.0.0 h.0.2) h.0.3.only))
 
-        by_rule : (r : TypeRule) → type_breaks r program (type_of (table_of cards) g) ≡ false
-        by_rule V3 = refl
-        by_rule V4 = not_from_true _ (marks_type g.heading.indicator good.0 kept.indicator)
-        by_rule V5 = refl
-        by_rule V6 = not_from_true _ (each_passes (is_input_in program) inputs (each_map IsInputRight (λ f. is_input_in program f ≡ true) inputs (λ f h. h.0) right))
-        by_rule V7 = not_from_true _ (each_passes (is_input_shown program) inputs (each_map IsInputRight (λ f. is_input_shown program f ≡ true) inputs (λ f h. h.1) right))
+    types_are : p.types ≡ map (renamed_type (numbers cards)) (map type_of (groups input_role cards))
+    unfolding program_of
+    types_are = refl
 
-    abbrev IsTypeRight : TypeRow ℕ → Type 0
-    IsTypeRight t = IsTypeRow t → (r : TypeRule) → type_breaks r program t ≡ false
+    form_is : (f : InputField) (form : FieldForm) → key_form (table_of cards) (Named f.name) ≡ Some form → form_at p.fields (numbers cards (Named f.name)) ≡ Some form
+    unfolding program_of
+    form_is f form known = forms_same (table_of cards) (Named f.name) (standing (table_of cards) (Named f.name)) ∙ known
 
-    pub types_pass : Each IsTypeRow (types_of (table_of cards) cards) → (r : TypeRule) →
-        Each (λ t. type_breaks r (program_of cards allowance) t ≡ false) (types_of (table_of cards) cards)
-    unfolding program
-    types_pass rows r =
-        each_both IsTypeRight IsTypeRow (λ t. type_breaks r (program_of cards allowance) t ≡ false) (types_of (table_of cards) cards) (λ t right row. right row r)
-        (each_row (InGroup IsTypeGood IsInputFit) IsTypeRight (type_of (table_of cards)) (groups input_role cards) type_right type_groups) rows
+    module _ (g : Group RecordType InputSpec) (h : IsKnown g) where
+      file_is : file_by g.file cards ≡ Some h.filed.0.0
+      file_is = h.filed.0.1
+
+      -- V3
+      codes_right : Each (λ c. is_code_in p.record_length c ≡ true) (row_type g).codes
+      codes_right =
+          each_append (λ c. is_code_in p.record_length c ≡ true) (codes_of g.heading.codes) (flat_map further_codes g.followers)
+          (codes_in p.record_length (file_by g.file cards) h.filed.0.0 file_is (record_is g h.filed) g.heading.codes h.filed.1.0.codes)
+          (each_code (IsInputGood cards rules ranges g.file) (λ c. is_code_in p.record_length c ≡ true) more g.followers h.filed.1.1)
+        where
+          more : (i : InputSpec) → IsInputGood cards rules ranges g.file i → Each (λ c. is_code_in p.record_length c ≡ true) (further_codes i)
+          more (input.Type t) x = tt
+          more (input.And cs) x = codes_in p.record_length (file_by g.file cards) h.filed.0.0 file_is (record_is g h.filed) cs x.codes
+          more (input.Field f) x = tt
+
+      fields_good : Each (IsFieldGood cards rules ranges g.file) (fields_in g.followers)
+      fields_good = each_field (IsInputGood cards rules ranges g.file) (IsFieldGood cards rules ranges g.file) (λ f x. x) g.followers h.filed.1.1
+
+      within : (f : InputField) → IsFieldGood cards rules ranges g.file f → f.to ≤ p.record_length
+      within f x = subst (λ n. f.to ≤ n) (record_is g h.filed) (inside (file_by g.file cards) h.filed.0.0 f file_is x.outside)
+
+      -- V5
+      control_right : (f : InputField) (l : ℕ) → IsFieldGood cards rules ranges g.file f → is_control_in p.record_length (control_field f l) ≡ true
+      control_right f l x =
+          let c = in_columns (file_by g.file cards) f x.outside in
+          and_from _ _ (le-leb 1 f.from c.first) (and_from _ _ (le-leb f.from f.to c.order) (le-leb f.to p.record_length (within f x)))
+
+      level_right : (level : ℕ) → Alike h.alike.front g level → is_measured (measure level p.types) (rule.joined level (row_type g).levels) ≡ true
+      level_right level same =
+          let good = has_columns g h.filed in
+          let whole = each_map (InFile cards rules ranges) levelled.InGroup (groups input_role cards) has_columns (each_type cards rules ranges) in
+          ap (λ ts. is_measured (measure level ts) (rule.joined level (row_type g).levels)) types_are
+          ∙ (λ i. is_measured (first_same (numbers cards) level (groups input_role cards) whole i) (same_sum level (fields_in g.followers) good i))
+          ∙ ap (λ gs. is_measured (first_joined level gs) (Joined level g)) h.alike.split
+          ∙ measured level h.alike.front g h.alike.behind h.alike.holds.0 good (h.few level) same
+
+      levels_right : rule.all_measured 1 (rule.measures p.types) (row_type g).levels ≡ true
+      levels_right = all_nine p.types (row_type g).levels (each_map (Alike h.alike.front g) (λ level. is_measured (measure level p.types) (rule.joined level (row_type g).levels) ≡ true) levels level_right h.alike.holds.1)
+
+      -- V6
+      input_right : (f : InputField) → IsFieldGood cards rules ranges g.file f → is_input_in p (renamed_input (numbers cards) (input_of f)) ≡ true
+      input_right f x =
+          let c = in_columns (file_by g.file cards) f x.outside in
+          let form = form_of_field f x.form x.is in
+          ap (fits_columns p.record_length (renamed_input (numbers cards) (input_of f))) (form_is f x.form x.known)
+          ∙ and_from _ _ (and_from _ _ (le-leb 1 f.from c.first) (and_from _ _ (le-leb f.from f.to c.order) (le-leb f.to p.record_length (within f x))))
+          (and_from _ _ form.plain (eq-eqb (f.to + 1 - f.from) x.form.length (sym form.long)))
+
+      -- V7
+      shown_right : (f : InputField) → IsFieldGood cards rules ranges g.file f → is_input_shown p (renamed_input (numbers cards) (input_of f)) ≡ true
+      shown_right f x =
+          let form = form_of_field f x.form x.is in
+          and_from _ _ (settable f.indicators (or_first (any_of cannot_be_set f.indicators) _ x.shown) x.range.indicators)
+          (ap (λ o. fits_shows (kind_of o) (shows_of f.indicators)) (form_is f x.form x.known) ∙ ap (λ k. fits_shows k (shows_of f.indicators)) form.kind ∙ shown_so f.decimals f.indicators (or_second (any_of cannot_be_set f.indicators) _ x.shown))
+
+      inputs_each : (P : row.InputField ℕ → Type 0) → ((f : InputField) → IsFieldGood cards rules ranges g.file f → P (renamed_input (numbers cards) (input_of f))) → Each P (row_type g).inputs
+      inputs_each P f =
+          each_row (λ (x : row.InputField Key). P (renamed_input (numbers cards) x)) P (renamed_input (numbers cards)) (map input_of (fields_in g.followers)) (λ x y. y)
+          (each_row (IsFieldGood cards rules ranges g.file) (λ (x : row.InputField Key). P (renamed_input (numbers cards) x)) input_of (fields_in g.followers) f fields_good)
+
+      type_right : (r : TypeRule) → type_breaks r p (row_type g) ≡ false
+      unfolding type_breaks
+      type_right V3 = not_from_true _ (each_passes (is_code_in p.record_length) (row_type g).codes codes_right)
+      type_right V4 = not_from_true _ (marks_type g.heading.indicator h.filed.1.0.indicator h.filed.1.0.range.indicator)
+      type_right V5 =
+          not_from_true _ (and_from _ _ (each_passes (is_control_in p.record_length) (row_type g).levels
+          (each_level_field (IsFieldGood cards rules ranges g.file) (λ c. is_control_in p.record_length c ≡ true) control_right (fields_in g.followers) fields_good)) levels_right)
+      type_right V6 = not_from_true _ (each_passes (is_input_in p) (row_type g).inputs (inputs_each (λ f. is_input_in p f ≡ true) input_right))
+      type_right V7 = not_from_true _ (each_passes (is_input_shown p) (row_type g).inputs (inputs_each (λ f. is_input_shown p f ≡ true) shown_right))
+
+    rows_right : (r : TypeRule) (gs : List (Group RecordType InputSpec)) → Each IsKnown gs → Each (λ t. type_breaks r p t ≡ false) (map (renamed_type (numbers cards)) (map type_of gs))
+    rows_right r [] h = tt
+    rows_right r (g ∷ gs) h = (type_right g h.0 r, rows_right r gs h.1)
+
+    -- V3 to V7
+    pub types_kept : (r : TypeRule) → NoneTrue (broken (program_of cards allowance) (verifier.Type r))
+    unfolding broken
+    types_kept r = subst (λ ts. NoneTrue (map (type_breaks r p) ts)) (sym types_are) (none_broken (type_breaks r p) (map (renamed_type (numbers cards)) (map type_of (groups input_role cards))) (rows_right r (groups input_role cards) each_known))

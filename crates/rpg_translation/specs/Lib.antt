@@ -1,4 +1,7 @@
-pub mod Fields
-pub mod Tables
-pub mod Code
+pub mod Table
+pub mod Data
+pub mod Types
+pub mod Lines
 pub mod Program
+pub mod Ranges
+pub mod Rules

@@ -1,51 +1,55 @@
--- The program that the cards of a source stand for.
-use Rattle.std.specs.Prelude.{ℕ, ◌+◌, ◌≤◌, List, [], length, sum_by, Option, None, All}
-use Rattle.std.specs.Option.{option_map_or}
-use Rattle.rpg_cards.specs.Constants.{constants, constant_form}
-use Rattle.rpg_cards.specs.Files.{input_file, output_file}
-use Rattle.rpg_cards.specs.declared.constants.Constant.{Constant}
+-- The program that the cards of a source stand for: what they say by names, at the numbers of the names.
+use Rattle.std.specs.Prelude.{ℕ, List, map}
+use Rattle.std.specs.Option.{option_and_then}
+use Rattle.rpg_calculations.specs.Calculations.{calculations}
+use Rattle.rpg_calculations.specs.Keys.{Key}
+use Rattle.rpg_calculations.specs.Sections.{Sections, sections_of}
+use Rattle.rpg_cards.specs.Files.{file_for}
+use Rattle.rpg_cards.specs.declared.files.FileUse.TheVariants as uses
 use Rattle.rpg_cards.specs.declared.spec_card.SpecCard.{SpecCard}
-use Rattle.rpg_translation.specs.Code.{code_of}
-use Rattle.rpg_translation.specs.Fields.{fields_of, table_of, all_forms, all_values}
-use Rattle.rpg_translation.specs.Tables.{types_of, lines_of}
+use Rattle.rpg_code.specs.Levels.{level_of}
+use Rattle.rpg_code.specs.Whole.{detail_code, subroutine_rows, total_code}
 use Rattle.rpg_effect.specs.Input.{TypeRow}
-use Rattle.rpg_program.specs.Object.{Object, LineRow}
-use Rattle.rpg_spec.specs.declared.file.FileSpec.{FileSpec}
-use Rattle.rpg_symbols.specs.Fields.{storage, size_of}
+use Rattle.rpg_effect.specs.Lines.{Line}
+use Rattle.rpg_program.specs.Object.{LineRow, Object}
+use Rattle.rpg_renaming.specs.Naming.{renamed_line, renamed_type}
+use Rattle.rpg_translation.specs.Data.{values_of}
+use Rattle.rpg_translation.specs.Lines.{length_of, lines_on}
+use Rattle.rpg_translation.specs.Table.{forms, key_number, table_of}
+use Rattle.rpg_translation.specs.Types.{types_on}
 
--- the record length of a file, 0 where there is none
-abbrev pub length_of : Option FileSpec → ℕ
-length_of file = option_map_or (λ f. f.record_length) file 0
+-- the number of each key
+abbrev pub numbers : List SpecCard → Key → ℕ
+numbers cards = key_number (table_of cards)
+
+abbrev pub types_of : List SpecCard → List (TypeRow ℕ)
+types_of cards = map (renamed_type (numbers cards)) (types_on cards)
+
+-- a line's row doesn't tell its length: the file has it
+abbrev pub row_of : Line ℕ → LineRow
+row_of l = record { file = l.file; time = l.time; spacing = l.spacing; alternatives = l.alternatives; fields = l.fields }
+
+abbrev pub numbered_line : List SpecCard → Line Key → LineRow
+numbered_line cards l = row_of (renamed_line (numbers cards) l)
+
+abbrev pub lines_of : List SpecCard → List LineRow
+lines_of cards = map (numbered_line cards) (lines_on cards)
+
+abbrev pub sections : List SpecCard → Sections Key
+sections cards = sections_of (calculations cards)
 
 unfoldable pub program_of : List SpecCard → ℕ → Object
-program_of cards allowance =
-    let table = table_of cards in
-    record {
-      allowance = allowance;
-      record_length = length_of (input_file cards);
-      printer_length = length_of (output_file cards);
-      disk_length = 0;
-      overflow = None;
-      fields = all_forms table;
-      values = all_values table;
-      types = types_of table cards;
-      lines = lines_of table cards;
-      detail = code_of table cards;
-      total = [];
-      subroutines = [];
-    }
-
-abbrev pub constant_size : Constant → ℕ
-constant_size c = size_of (constant_form c)
-
--- the limits of a program that the cards can pass
-pub record KeepsLimits (cards : List SpecCard) : Type 0 where
-  pub shortest_record : 1 ≤ length_of (input_file cards)
-  pub longest_record : length_of (input_file cards) ≤ 9999
-  pub widest_line : length_of (output_file cards) ≤ 132
-  pub fields : length (fields_of cards) + length (constants cards) ≤ 4000
-  pub storage : storage (fields_of cards) + sum_by constant_size (constants cards) ≤ 65535
-  pub types : length (types_of (table_of cards) cards) ≤ 200
-  pub inputs : All (λ (t : TypeRow ℕ). length t.inputs ≤ 500) (types_of (table_of cards) cards)
-  pub lines : length (lines_of (table_of cards) cards) ≤ 1000
-  pub line_fields : All (λ (l : LineRow). length l.fields ≤ 200) (lines_of (table_of cards) cards)
+program_of cards allowance = record {
+  allowance = allowance;
+  record_length = length_of (file_for uses.Primary cards);
+  printer_length = length_of (file_for uses.Printer cards);
+  disk_length = length_of (file_for uses.Disk cards);
+  overflow = option_and_then (λ f. f.overflow) (file_for uses.Printer cards);
+  fields = forms (table_of cards);
+  values = values_of cards;
+  types = types_of cards;
+  lines = lines_of cards;
+  detail = detail_code (numbers cards) (sections cards);
+  total = total_code (numbers cards) (sections cards);
+  subroutines = subroutine_rows (numbers cards) (level_of (sections cards).subroutines) (sections cards);
+}

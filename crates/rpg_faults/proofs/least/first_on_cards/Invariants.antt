@@ -1,12 +1,11 @@
-use Rattle.std.proofs.Common.{◌≡◌, ◌++◌, [], length}
+use Rattle.std.proofs.Common.{◌≡◌, [], length}
 use Rattle.rpg_faults.specs.Faults.{fault_from}
-use Rattle.rpg_card_rules.specs.Seen.{IsSeen}
+use Rattle.rpg_faults.specs.Seen.{IsSeen}
 use Rattle.rpg_faults.proofs.least.first_on_cards.Given as goal
 
 abbrev pub invariant-loop-card : goal.invariant-loop-card
 invariant-loop-card l = record {
-  split : l.source ≡ l.seen.before.now ++ l.rest;
-  seen : IsSeen l.source l.seen;
+  seen : IsSeen l.source l.rest l.seen;
   so_far : fault_from l.seen.before.now l.rest ≡ fault_from [] l.source;
 }
 

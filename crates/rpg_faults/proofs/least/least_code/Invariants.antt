@@ -1,6 +1,6 @@
 use Rattle.std.proofs.Common.{◌≡◌, drop}
 use Rattle.std.specs.List.{find}
-use Rattle.rpg_card_rules.specs.Rules.{rule}
+use Rattle.rpg_faults.specs.Rules.{rule}
 use Rattle.rpg_faults.proofs.least.least_code.Given as goal
 
 abbrev pub invariant-loop-code : goal.invariant-loop-code

@@ -1,5 +1,5 @@
-use Rattle.rpg_translation.proofs.Accepting.{accepted}
+use Rattle.rpg_translation.proofs.Accepted.{accepted}
 use Rattle.rpg_translation.proofs.laws.programs_are_accepted.Goals as goal
 
 pub returns : goal.returns
-returns c = λ cards allowance none kept. accepted cards allowance none kept
+returns c = accepted

@@ -1,4 +1,4 @@
-use Rattle.std.proofs.Common.{None, sym, ap, ◌∙◌}
+use Rattle.std.proofs.Common.{sym, ap, ◌∙◌}
 use Rattle.rpg_cards.proofs.IndexLemmas.{first_form_first}
 use Rattle.rpg_cards.specs.Index.{defined_first}
 use Rattle.rpg_cards.specs.Names.{definitions, first_form, unless_given}

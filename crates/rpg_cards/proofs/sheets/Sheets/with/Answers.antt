@@ -1,5 +1,5 @@
 use Rattle.std.proofs.Common.{◌++◌, ◌∷◌, [], sym, subst}
-use Rattle.rpg_cards.specs.Groups.{calculation_role, input_role, output_role}
+use Rattle.rpg_cards.specs.Groups.{input_role, output_role}
 use Rattle.rpg_cards.proofs.SheetLemmas.{groups_with}
 use Rattle.rpg_cards.specs.Sheets.{HasGroups}
 use Rattle.rpg_cards.proofs.sheets.Sheets.with.Goals as goal
@@ -11,7 +11,6 @@ returns c =
     let card = c.args.card.now in
     let was = c.requires.sheets in
     record {
-      types = subst (λ g. HasGroups _ _ input_role cards (before ++ card ∷ []) g) (sym c.with_type.ensures) (groups_with cards input_role before card _ was.types);
-      calculations = subst (λ g. HasGroups _ _ calculation_role cards (before ++ card ∷ []) g) (sym c.with_calculation.ensures) (groups_with cards calculation_role before card _ was.calculations);
-      lines = subst (λ g. HasGroups _ _ output_role cards (before ++ card ∷ []) g) (sym c.with_line.ensures) (groups_with cards output_role before card _ was.lines);
+      types = subst (λ g. HasGroups _ _ input_role cards (before ++ card ∷ []) g) (sym c.with_input.ensures) (groups_with cards input_role before card _ was.types);
+      lines = subst (λ g. HasGroups _ _ output_role cards (before ++ card ∷ []) g) (sym c.with_output.ensures) (groups_with cards output_role before card _ was.lines);
     }

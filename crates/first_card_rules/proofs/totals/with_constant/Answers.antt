@@ -1,0 +1,13 @@
+use Rattle.std.proofs.Common.{[], arith, ◌∙◌, ap}
+use Rattle.first_cards.specs.Constants.{is_same}
+use Rattle.first_cards.specs.SameConstants.{is_same_equiv}
+use Rattle.first_cards.specs.declared.constants.Constant.{Constant}
+use Rattle.first_card_rules.proofs.TotalLemmas.{one_more}
+use Rattle.first_card_rules.specs.Limits.{bytes_of}
+use Rattle.first_symbols.specs.Fields.{size_of}
+use Rattle.first_card_rules.proofs.totals.with_constant.Goals as goal
+
+pub returns : goal.returns
+returns c =
+    one_more Constant is_same is_same_equiv bytes_of [] _ c.args.constants _ c.args.constant.now c.size.result c.is_new_constant-is_new.result c.requires.few c.requires.seen
+    c.is_new_constant-is_new.ensures (c.size.ensures ∙ ap size_of c.form.ensures) (omega (arith, c.size.type_inv)) c.with.ensures.items c.with.ensures.number c.with.ensures.bytes

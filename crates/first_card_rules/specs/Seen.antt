@@ -1,0 +1,50 @@
+-- What the cards before a card come to.
+use Rattle.std.specs.Prelude.{◌≡◌, ℕ, ◌+◌, ◌*◌, ◌≤◌, Bool, List, [], ◌∷◌, ◌++◌, length, sum_by, take}
+use Rattle.indexmap.specs.IndexSet.{insert_all}
+use Rattle.first_cards.specs.Constants.{constants_in, is_same}
+use Rattle.first_cards.specs.Names.{definitions, given_names, same_name}
+use Rattle.first_cards.specs.Sheets.{AreSheets}
+use Rattle.first_cards.specs.declared.constants.Constant.{Constant}
+use Rattle.first_cards.specs.declared.names.Definition.{Definition}
+use Rattle.first_cards.specs.declared.spec_card.SpecCard.{SpecCard}
+use Rattle.first_card_rules.specs.Limits.{bytes_of, definition_bytes}
+use Rattle.first_card_rules.specs.Rounding.{follows_division}
+use Rattle.first_card_rules.specs.declared.seen.Seen.{Seen}
+use Rattle.first_card_rules.specs.declared.totals.Totals.{Totals}
+
+-- ---- names and constants
+
+-- a list begins with these
+abbrev pub BeginsWith : {X : Type 0} → List X → List X → Type 0
+BeginsWith {X} xs front = (back : List X) × (xs ≡ front ++ back)
+
+-- how many items there are, how many of them are not among the known ones nor like an earlier one, and the bytes of these with those of the known
+pub record HasTotals (X : Type 0) (same : X → X → Bool) (size : X → ℕ) (known items : List X) (t : Totals) : Type 0 where
+  pub count : t.items ≡ length items
+  pub number : t.number ≡ length (insert_all same known items)
+  pub storage : t.bytes ≡ sum_by size (insert_all same known items)
+  pub few_items : t.items ≤ 4000
+  pub few : t.number ≤ 2 + t.items
+  pub few_bytes : t.bytes ≤ 10 + 4294967295 * t.items
+
+abbrev pub HasNames : List Definition → Totals → Type 0
+HasNames items t = HasTotals Definition same_name definition_bytes given_names items t
+
+abbrev pub HasConstants : List Constant → Totals → Type 0
+HasConstants items t = HasTotals Constant is_same bytes_of [] items t
+
+-- a card stands behind these, whose items have been seen
+abbrev pub SeenBefore : {X : Type 0} → (List X → Totals → Type 0) → (List SpecCard → List X) → List SpecCard → SpecCard → Totals → List SpecCard → Type 0
+SeenBefore Has items cards c t before = BeginsWith cards (before ++ c ∷ []) × Has (items before) t
+
+-- ---- what is known of the cards before a card
+
+pub record IsSeen (cards : List SpecCard) (s : Seen) : Type 0 where
+  pub front : s.before.now ≡ take (length s.before.now) cards
+  pub few : length s.before.now ≤ 2000
+  pub few_cards : length cards ≤ 2000
+  pub sheets : AreSheets cards s.before.now s.sheets
+  pub remainder : s.leaves_remainder ≡ follows_division s.before.now
+  pub names : HasNames (definitions s.before.now) s.names
+  pub constants : HasConstants (constants_in s.before.now) s.constants
+  pub all_names : HasNames (definitions cards) s.all_names

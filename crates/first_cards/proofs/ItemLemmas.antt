@@ -1,0 +1,70 @@
+-- What cards define and their constants: of cards put together, and how many there are at most.
+use Rattle.std.proofs.Common.{◌≡◌, ℕ, ◌+◌, ◌*◌, ◌<◌, ◌≤◌, List, [], ◌∷◌, ◌++◌, length, take, get_or, Option, None, Some, refl, sym, ap, ◌∙◌, arith, append_assoc, append-nil, length-append}
+use Rattle.std.proofs.lemmas.List.{take_more}
+use Rattle.std.specs.Option.{option_to_list}
+use Rattle.first_cards.specs.Constants.{constants_in, constants_on}
+use Rattle.first_cards.specs.Names.{definitions, definitions_on}
+use Rattle.first_cards.specs.declared.constants.Constant.{Constant}
+use Rattle.first_cards.specs.declared.names.Definition.{Definition}
+use Rattle.first_cards.specs.declared.spec_card.SpecCard.{SpecCard}
+use Rattle.first_spec.specs.declared.spec.Spec.{Spec}
+
+pub definitions-append : (cs ds : List SpecCard) → definitions (cs ++ ds) ≡ definitions cs ++ definitions ds
+definitions-append [] ds = refl
+definitions-append (c ∷ cs) ds = ap (λ (l : List Definition). definitions_on c.spec ++ l) (definitions-append cs ds) ∙ sym (append_assoc (definitions_on c.spec) (definitions cs) (definitions ds))
+
+pub constants_in-append : (cs ds : List SpecCard) → constants_in (cs ++ ds) ≡ constants_in cs ++ constants_in ds
+constants_in-append [] ds = refl
+constants_in-append (c ∷ cs) ds = ap (λ (l : List Constant). constants_on c.spec ++ l) (constants_in-append cs ds) ∙ sym (append_assoc (constants_on c.spec) (constants_in cs) (constants_in ds))
+
+-- ---- one more card
+
+take_one : (cards : List SpecCard) (i : ℕ) (c : SpecCard) → i < length cards → c ≡ get_or cards i c → take (i + 1) cards ≡ take i cards ++ c ∷ []
+take_one cards i c lt is = rw (take_more cards i c lt, ← is) refl
+
+pub definitions-push : (before : List SpecCard) (c : SpecCard) → definitions (before ++ c ∷ []) ≡ definitions before ++ definitions_on c.spec
+definitions-push before c = definitions-append before (c ∷ []) ∙ ap (λ (l : List Definition). definitions before ++ l) (append-nil (definitions_on c.spec))
+
+pub constants_in-push : (before : List SpecCard) (c : SpecCard) → constants_in (before ++ c ∷ []) ≡ constants_in before ++ constants_on c.spec
+constants_in-push before c = constants_in-append before (c ∷ []) ∙ ap (λ (l : List Constant). constants_in before ++ l) (append-nil (constants_on c.spec))
+
+pub definitions-take : (cards : List SpecCard) (i : ℕ) (c : SpecCard) → i < length cards → c ≡ get_or cards i c → definitions (take (i + 1) cards) ≡ definitions (take i cards) ++ definitions_on c.spec
+definitions-take cards i c lt is = ap definitions (take_one cards i c lt is) ∙ definitions-push (take i cards) c
+
+pub constants_in-take : (cards : List SpecCard) (i : ℕ) (c : SpecCard) → i < length cards → c ≡ get_or cards i c → constants_in (take (i + 1) cards) ≡ constants_in (take i cards) ++ constants_on c.spec
+constants_in-take cards i c lt is = ap constants_in (take_one cards i c lt is) ∙ constants_in-push (take i cards) c
+
+-- ---- a card has two of each at most
+
+at_most_one : {X : Type 0} (o : Option X) → length (option_to_list o) ≤ 1
+at_most_one None = omega arith
+at_most_one (Some x) = omega arith
+
+at_most_two : {X : Type 0} (o p : Option X) → length (option_to_list o ++ option_to_list p) ≤ 2
+at_most_two o p =
+    let both = length-append (option_to_list o) (option_to_list p) in
+    let first = at_most_one o in
+    let second = at_most_one p in
+    omega arith
+
+pub few_definitions_on : (s : Spec) → length (definitions_on s) ≤ 2
+few_definitions_on s = at_most_two _ _
+
+pub few_constants_on : (s : Spec) → length (constants_on s) ≤ 2
+few_constants_on s = at_most_two _ _
+
+pub few_definitions : (cards : List SpecCard) → length (definitions cards) ≤ 2 * length cards
+few_definitions [] = omega arith
+few_definitions (c ∷ cs) =
+    let here = few_definitions_on c.spec in
+    let rest = few_definitions cs in
+    let both = length-append (definitions_on c.spec) (definitions cs) in
+    omega arith
+
+pub few_constants : (cards : List SpecCard) → length (constants_in cards) ≤ 2 * length cards
+few_constants [] = omega arith
+few_constants (c ∷ cs) =
+    let here = few_constants_on c.spec in
+    let rest = few_constants cs in
+    let both = length-append (constants_on c.spec) (constants_in cs) in
+    omega arith

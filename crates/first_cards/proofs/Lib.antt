@@ -1,0 +1,5 @@
+pub mod InsertLemmas
+pub mod ItemLemmas
+pub mod IndexLemmas
+pub mod GroupLemmas
+pub mod SheetLemmas

@@ -1,0 +1,14 @@
+use Rattle.std.proofs.Common.{◌≡◌, ◌+◌, ◌++◌, length}
+use Rattle.std.specs.Map.{lookup}
+use Rattle.std.specs.Option.{option_or}
+use Rattle.first_cards.specs.Constants.{is_same}
+use Rattle.first_cards.specs.Index.{first_at, place_of}
+use Rattle.first_cards.specs.declared.constants.Constant.{Constant}
+use Rattle.first_cards.proofs.index.note_constants.Given as goal
+
+abbrev pub invariant-loop-constant : goal.invariant-loop-constant
+invariant-loop-constant l = record {
+  items : l.yielded ++ l.constant-iterator ≡ l.initial.constant-iterator;
+  place : l.place ≡ l.start + length l.yielded;
+  noted : (x : Constant) → lookup (is_same x) l.constants.entries ≡ option_or (lookup (is_same x) l.initial.constants.entries) (first_at (is_same x) place_of l.start l.yielded);
+}

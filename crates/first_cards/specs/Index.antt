@@ -1,0 +1,38 @@
+-- Where each name and each constant stands first.
+use Rattle.std.specs.Prelude.{◌≡◌, ℕ, ◌+◌, Bool, List, [], ◌∷◌, nat_eq, if◌then◌else◌, Option, None, Some}
+use Rattle.std.specs.Cmp.Lexicographic.{pointwise}
+use Rattle.std.specs.Map.{lookup}
+use Rattle.first_cards.specs.Constants.{constants_in, is_same}
+use Rattle.first_cards.specs.Files.{first_file}
+use Rattle.first_cards.specs.Names.{defined_as, definitions, is_of}
+use Rattle.first_cards.specs.declared.constants.Constant.{Constant}
+use Rattle.first_cards.specs.declared.index.FirstDefinition.{FirstDefinition}
+use Rattle.first_cards.specs.declared.names.Defined.{Defined}
+use Rattle.first_cards.specs.declared.names.Defined.TheVariants.{Missing}
+use Rattle.first_cards.specs.declared.names.Definition.{Definition}
+use Rattle.first_cards.specs.declared.spec_card.SpecCard.{SpecCard}
+use Rattle.first_spec.specs.declared.file.FileSpec.{FileSpec}
+
+-- what is made of the first item that passes a test and of its place; the first item of the list stands at place i
+abbrev pub first_at : {X Y : Type 0} → (X → Bool) → (ℕ → X → Y) → ℕ → List X → Option Y
+first_at test made i [] = None
+first_at test made i (x ∷ xs) = if test x then Some (made i x) else first_at test made (i + 1) xs
+
+abbrev pub placed : ℕ → Definition → FirstDefinition
+placed i d = record { place = i; form = d.form }
+
+abbrev pub place_of : ℕ → Constant → ℕ
+place_of i x = i
+
+abbrev pub defined_first : Option FirstDefinition → Defined
+defined_first None = Missing
+defined_first (Some d) = defined_as d.form
+
+-- each name with its first definition, and each constant with its first place
+pub record IsIndex (names : List (List ℕ × FirstDefinition)) (constants : List (Constant × ℕ)) (cards : List SpecCard) : Type 0 where
+  pub defined : (name : List ℕ) → lookup (pointwise nat_eq name) names ≡ first_at (is_of name) placed 0 (definitions cards)
+  pub standing : (x : Constant) → lookup (is_same x) constants ≡ first_at (is_same x) place_of 0 (constants_in cards)
+
+-- the same first file by each test
+abbrev pub HasSameFiles : List SpecCard → List SpecCard → Type 0
+HasSameFiles some cards = (test : FileSpec → Bool) → first_file test some ≡ first_file test cards

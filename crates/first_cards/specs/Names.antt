@@ -1,0 +1,98 @@
+-- The names that cards define, and their forms.
+use Rattle.std.specs.Prelude.{ℕ, ◌+◌, ◌-◌, List, [], ◌∷◌, ◌++◌, map, Bool, false, not, ◌&&◌, ◌||◌, nat_le, nat_eq, if◌then◌else◌, Option, None, Some}
+use Rattle.std.specs.List.{list_any}
+use Rattle.std.specs.Option.{option_map, option_and_then, option_to_list}
+use Rattle.std.specs.Cmp.Lexicographic.{pointwise}
+use Rattle.indexmap.specs.IndexSet.{insert_all}
+use Rattle.first_cards.specs.Cards.{input_field_on, calculation_on}
+use Rattle.first_cards.specs.declared.names.Defined.{Defined}
+use Rattle.first_cards.specs.declared.names.Defined.TheVariants.{Missing, Bad, Good}
+use Rattle.first_cards.specs.declared.names.Definition.{Definition}
+use Rattle.first_cards.specs.declared.spec_card.SpecCard.{SpecCard}
+use Rattle.rpg_effect.specs.declared.form.Class.TheVariants as class
+use Rattle.rpg_effect.specs.declared.form.FieldForm.{FieldForm}
+use Rattle.rpg_effect.specs.declared.form.Kind.{Kind}
+use Rattle.rpg_effect.specs.declared.form.Kind.TheVariants as kind
+use Rattle.first_spec.specs.declared.calculation.CalculationSpec.{CalculationSpec}
+use Rattle.first_spec.specs.declared.input.InputField.{InputField}
+use Rattle.first_spec.specs.declared.spec.Spec.{Spec}
+use Rattle.first_symbols.specs.Fields.{given, form_of}
+use Rattle.rpg_text.specs.Texts.{is_between}
+
+-- ---- forms
+
+-- a plain field
+abbrev pub plain_form : Kind → ℕ → ℕ → FieldForm
+plain_form k len d = record { kind = k; class = class.Plain; length = len; decimals = d; is_ascending = false; entries = 1 }
+
+-- A plain field of that length: a text where the decimals are blank. A text has 1 to 256 characters; a number has 1 to 15 digits,
+-- of which at most 9 are decimals.
+abbrev pub sized_form : ℕ → Option ℕ → Option FieldForm
+sized_form len None = if is_between 1 256 len then Some (plain_form kind.Text len 0) else None
+sized_form len (Some decimals) = if is_between 1 15 len && nat_le decimals 9 && nat_le decimals len then Some (plain_form kind.Number len decimals) else None
+
+-- ---- definitions
+
+abbrev pub field_form : InputField → Option FieldForm
+field_form f = if nat_le f.from f.to then sized_form (f.to + 1 - f.from) f.decimals else None
+
+abbrev pub definition_of : InputField → Definition
+definition_of f = record { name = f.name; form = field_form f }
+
+-- a result field is defined where its length is given
+abbrev pub definition_sized : CalculationSpec → ℕ → List ℕ → Definition
+definition_sized c len name = record { name = name; form = sized_form len c.decimals }
+
+abbrev pub definition_by : CalculationSpec → Option Definition
+definition_by c = option_and_then (λ len. option_map (definition_sized c len) c.result_field) c.length
+
+-- what a card defines: an input field, or a result field
+abbrev pub definitions_on : Spec → List Definition
+definitions_on s = option_to_list (option_map definition_of (input_field_on s)) ++ option_to_list (option_and_then definition_by (calculation_on s))
+
+-- what cards define, in their order
+abbrev pub definitions : List SpecCard → List Definition
+definitions [] = []
+definitions (c ∷ cs) = definitions_on c.spec ++ definitions cs
+
+-- ---- the form of a name is that of its first definition
+
+abbrev pub defined_as : Option FieldForm → Defined
+defined_as None = Bad
+defined_as (Some form) = Good form
+
+abbrev pub is_of : List ℕ → Definition → Bool
+is_of name d = pointwise nat_eq name d.name
+
+abbrev pub first_form : List ℕ → List Definition → Defined
+first_form name [] = Missing
+first_form name (d ∷ ds) = if is_of name d then defined_as d.form else first_form name ds
+
+abbrev pub unless_given : Option FieldForm → Defined → Defined
+unless_given (Some form) d = Good form
+unless_given None d = d
+
+-- the date and the page number come before all definitions
+abbrev pub form_by : List ℕ → List Definition → Defined
+form_by name ds = unless_given (form_of given name) (first_form name ds)
+
+abbrev pub form_of_name : List ℕ → List SpecCard → Defined
+form_of_name name cards = form_by name (definitions cards)
+
+-- ---- names: the given ones, and then each with its first definition
+
+abbrev pub defined_field : List ℕ × FieldForm → Definition
+defined_field f = record { name = f.0; form = Some f.1 }
+
+abbrev pub given_names : List Definition
+given_names = map defined_field given
+
+abbrev pub same_name : Definition → Definition → Bool
+same_name d = is_of d.name
+
+abbrev pub names : List SpecCard → List Definition
+names cards = insert_all same_name given_names (definitions cards)
+
+-- neither given nor among these definitions
+abbrev pub is_new_name : List ℕ → List Definition → Bool
+is_new_name name ds = not (list_any (is_of name) given_names || list_any (is_of name) ds)

@@ -1,0 +1,202 @@
+//! The constants that stand on the cards themselves.
+
+ghost use Rattle.std.specs.Prelude.{◌≡◌, ◌≤◌, length, IsTrue};
+ghost use Rattle.std.specs.List.{list_all};
+ghost use Rattle.rpg_text.specs.Texts.{is_character};
+ghost use Rattle.std.specs.Cmp.{partial_equiv_from_equiv};
+ghost use Rattle.first_cards.specs.Constants as constants;
+ghost use Rattle.first_cards.specs.SameConstants.{is_same_equiv, hashed, hashed_alike};
+ghost use Rattle.first_cards.specs.declared.constants.Constant.TheVariants.{Text};
+
+use crate::names::add;
+use crate::spec_card::SpecCard;
+use arrayvec::ArrayVec;
+use first_spec::{Factor, Literal, NumericLiteral, TextLiteral, Word};
+use rpg_effect::form::{Class, FieldForm, Kind};
+use std::hash::{Hash, Hasher};
+use std::marker::Model;
+
+/// A text of 1 to 24 characters.
+#[derive(Drop)]
+pub struct ConstantText {
+    characters: Word<24>,
+}
+
+impl Model for ConstantText {
+    ghost use Rattle.std.specs.Prelude.{ℕ, List, length, ◌≤◌, IsTrue};
+    ghost use Rattle.std.specs.List.{list_all};
+    ghost use Rattle.rpg_text.specs.Texts.{is_character};
+
+    ghost Value = { List ℕ };
+
+    ghost view = { λ t. t.characters };
+
+    ghost invariant = { λ t. (1 ≤ length t.characters) × (length t.characters ≤ 24) × IsTrue (list_all is_character t.characters) };
+}
+
+impl ConstantText {
+    fn new(text: &[u8]) -> Self
+        requires least { 1 ≤ length text.now }
+        requires most { length text.now ≤ 24 }
+        requires characters { IsTrue (list_all is_character text.now) }
+        ensures { result ≡ text.now }
+    {
+        ConstantText {
+            characters: Word::new(text),
+        }
+    }
+
+    pub fn as_slice(&self) -> &[u8]
+        ensures value { result.now ≡ self.now }
+        ensures least { 1 ≤ length result.now }
+        ensures most { length result.now ≤ 24 }
+        ensures characters { IsTrue (list_all is_character result.now) }
+    {
+        self.characters.as_slice()
+    }
+}
+
+/// A number or a text that a card has in place of a name.
+#[derive(Drop)]
+pub enum Constant {
+    Number(NumericLiteral),
+    Text(ConstantText),
+}
+
+impl Constant {
+    /// The constant of an output field.
+    pub fn of_text(text: &TextLiteral<24>) -> Self
+        ensures { result ≡ Text text.now }
+    {
+        Constant::Text(ConstantText::new(text.as_slice()))
+    }
+
+    #[tactic(auto, unfolding(crate::specs::Constants::constant_form))]
+    pub fn form(&self) -> FieldForm
+        ensures { result ≡ constants.constant_form self.now }
+    {
+        match self {
+            Constant::Number(number) => FieldForm {
+                kind: Kind::Number,
+                class: Class::Constant,
+                length: number.length() as u16,
+                decimals: number.decimals(),
+                is_ascending: false,
+                entries: 1,
+            },
+            Constant::Text(text) => FieldForm {
+                kind: Kind::Text,
+                class: Class::Constant,
+                length: text.as_slice().len() as u16,
+                decimals: 0,
+                is_ascending: false,
+                entries: 1,
+            },
+        }
+    }
+
+    /// What a constant keeps of its digits or characters. It does nothing: its contract is the law.
+    pub fn keeps_limits(&self)
+        ensures { constants.IsConstant self.now }
+    {
+        match self {
+            Constant::Number(number) => {
+                number.value();
+                number.length();
+                number.decimals();
+            }
+            Constant::Text(text) => {
+                text.as_slice();
+            }
+        }
+    }
+}
+
+/// What lies in an unused place of a list.
+impl Default for Constant {
+    fn default() -> Self {
+        Constant::Number(NumericLiteral::new(0, 1, 0))
+    }
+}
+
+/// Equal where one field can stand for both: their kind, length, decimals and value are the same.
+impl PartialEq for Constant {
+    ghost eq = { constants.is_same };
+
+    ghost laws = { partial_equiv_from_equiv is_same_equiv };
+
+    fn eq(&self, other: &Self) -> bool {
+        match (self, other) {
+            (Constant::Number(a), Constant::Number(b)) => {
+                a.value() == b.value() && a.length() == b.length() && a.decimals() == b.decimals()
+            }
+            (Constant::Number(_), Constant::Text(_)) => false,
+            (Constant::Text(_), Constant::Number(_)) => false,
+            (Constant::Text(a), Constant::Text(b)) => a.as_slice() == b.as_slice(),
+        }
+    }
+}
+
+impl Eq for Constant {
+    ghost laws = { is_same_equiv };
+}
+
+impl Hash for Constant {
+    ghost hash_input = { hashed };
+
+    ghost respects_eq = { hashed_alike };
+
+    fn hash<H: Hasher>(&self, state: &mut H) {
+        match self {
+            Constant::Number(number) => {
+                number.value().hash(state);
+                number.length().hash(state);
+                number.decimals().hash(state);
+            }
+            Constant::Text(text) => text.as_slice().hash(state),
+        }
+    }
+}
+
+/// The constant in place of a name, where it is one.
+pub fn factor_constant(factor: &Factor) -> Option<Constant>
+    ensures { result ≡ constants.factor_constant factor.now }
+{
+    match factor {
+        Factor::Name(_) => None,
+        Factor::Literal(Literal::Number(number)) => Some(Constant::Number(*number)),
+        Factor::Literal(Literal::Text(text)) => Some(Constant::Text(ConstantText::new(
+            text.as_slice(),
+        ))),
+    }
+}
+
+impl SpecCard {
+    /// The constants of the card: that of an output field or of factor 1, and that of factor 2.
+    pub fn constants(&self) -> ArrayVec<Constant, 2>
+        ensures { result.items ≡ constants.constants_on self.now.spec }
+    {
+        let mut constants = ArrayVec::new();
+        add(&mut constants, self.first_constant());
+        add(&mut constants, self.second_constant());
+        constants
+    }
+
+    #[tactic(auto, unfolding(crate::specs::Constants::first_constant))]
+    fn first_constant(&self) -> Option<Constant>
+        ensures { result ≡ constants.first_constant self.now.spec }
+    {
+        if let Some(field) = self.output_field() {
+            let text = field.constant.as_ref()?;
+            return Some(Constant::Text(ConstantText::new(text.as_slice())));
+        }
+        factor_constant(self.calculation()?.factor_1.as_ref()?)
+    }
+
+    #[tactic(auto, unfolding(crate::specs::Constants::second_constant))]
+    fn second_constant(&self) -> Option<Constant>
+        ensures { result ≡ constants.second_constant self.now.spec }
+    {
+        factor_constant(self.calculation()?.factor_2.as_ref()?)
+    }
+}

@@ -1,0 +1,263 @@
+//! The cards of a source, with the first place of each name and of each constant.
+
+ghost use Rattle.std.specs.Prelude.{◌≡◌, ℕ, ◌+◌, ◌<◌, ◌^◌, List, take, not, Some, None, nat_eq, if◌then◌else◌, option_copied, IfOk, OnOk};
+ghost use Rattle.std.specs.Cmp.Lexicographic.{pointwise};
+ghost use Rattle.std.specs.List.{list_any};
+ghost use Rattle.std.specs.Map.{lookup};
+ghost use Rattle.std.specs.Option.{option_or};
+ghost use Rattle.arrayvec.specs.ArrayVec.{array_vec_len};
+ghost use Rattle.first_cards.specs.Constants as constants;
+ghost use Rattle.first_cards.specs.Constants.{is_same};
+ghost use Rattle.first_cards.specs.Files as files;
+ghost use Rattle.first_cards.specs.Index.{defined_first, first_at, place_of, placed, HasSameFiles};
+ghost use Rattle.first_cards.specs.Names as names;
+ghost use Rattle.first_cards.specs.Names.{is_of};
+ghost use Rattle.first_cards.specs.declared.constants.Constant.{Constant};
+
+use crate::constants::{Constant, factor_constant};
+use crate::files::{file_named, input_file};
+use crate::names::{Defined, Definition, given_form};
+use crate::spec_card::SpecCard;
+use arrayvec::ArrayVec;
+use first_spec::{Factor, FileSpec, Word};
+use first_symbols::Name;
+use indexmap::IndexMap;
+use rpg_effect::form::FieldForm;
+use std::alloc::{AllocError, Global};
+use std::hash::Hash;
+use std::marker::Model;
+
+/// The place of a name's first definition among all definitions, and its form: none where its length or its decimals are past their limit.
+#[derive(Clone, Copy)]
+pub struct FirstDefinition {
+    place: usize,
+    form: Option<FieldForm>,
+}
+
+/// No memory has room for more.
+const MOST_CARDS: usize = usize::MAX / 2;
+
+/// The cards of a source, in which a name or a constant is found at once.
+#[derive(Drop)]
+pub struct IndexedCards<'a> {
+    cards: &'a [SpecCard],
+    names: IndexMap<Name, FirstDefinition>,
+    constants: IndexMap<Constant, usize>,
+    /// Those from the first F card on.
+    from_files: &'a [SpecCard],
+}
+
+impl<'a> Model for IndexedCards<'a> {
+    ghost use Rattle.std.specs.Prelude.{List};
+    ghost use Rattle.first_cards.specs.declared.spec_card.SpecCard.{SpecCard};
+
+    ghost Value = { List SpecCard };
+
+    ghost use Rattle.first_cards.specs.Index.{IsIndex, HasSameFiles};
+
+    ghost view = { λ i. i.cards.now };
+
+    ghost invariant = { λ i. IsIndex i.names.entries i.constants.entries i.cards.now × HasSameFiles i.from_files.now i.cards.now };
+}
+
+impl<'a> IndexedCards<'a> {
+    pub fn new(alloc: Global, cards: &'a [SpecCard]) -> Result<Self, AllocError>
+        ensures { IfOk result (λ indexed. indexed ≡ cards.now) }
+    {
+        if cards.len() > MOST_CARDS {
+            return Err(AllocError);
+        }
+        let mut names = IndexMap::new(alloc);
+        let mut constants = IndexMap::new(alloc);
+        let mut name_place = 0;
+        let mut constant_place = 0;
+        for card in cards {
+            name_place = note_names(&mut names, name_place, card.definitions())?;
+            constant_place = note_constants(&mut constants, constant_place, card.constants())?;
+        }
+        Ok(IndexedCards {
+            cards,
+            names,
+            constants,
+            from_files: from_first_file(cards),
+        })
+    }
+
+    pub fn as_slice(&self) -> &'a [SpecCard]
+        ensures { result.now ≡ self.now }
+    {
+        self.cards
+    }
+
+    /// The form of a name, by its first definition; UDATE and PAGE are defined before all cards.
+    pub fn form_of_name(&self, name: &Name) -> Defined
+        ensures { result ≡ names.form_of_name name.now self.now }
+    {
+        match given_form(name) {
+            Some(form) => Defined::Good(form),
+            None => defined_first(self.first_definition(name)),
+        }
+    }
+
+    /// The form of a name, by the definitions at the front, so many of them.
+    pub fn form_before(&self, name: &Name, place: usize) -> Defined
+        ensures { result ≡ names.form_by name.now (take place (names.definitions self.now)) }
+    {
+        match given_form(name) {
+            Some(form) => Defined::Good(form),
+            None => defined_first(self.first_before(name, place)),
+        }
+    }
+
+    /// Whether a name is neither given nor among so many definitions at the front.
+    pub fn is_new_name(&self, place: usize, name: &Name) -> bool
+        ensures { result ≡ names.is_new_name name.now (take place (names.definitions self.now)) }
+    {
+        given_form(name).is_none() && self.first_before(name, place).is_none()
+    }
+
+    fn first_definition(&self, name: &Name) -> Option<FirstDefinition>
+        ensures { result ≡ first_at (is_of name.now) placed 0 (names.definitions self.now) }
+    {
+        self.names.get(name).copied()
+    }
+
+    /// The first definition of a name, if it is among so many at the front.
+    fn first_before(&self, name: &Name, place: usize) -> Option<FirstDefinition>
+        ensures { result ≡ first_at (is_of name.now) placed 0 (take place (names.definitions self.now)) }
+    {
+        match self.names.get(name) {
+            None => None,
+            Some(first) => {
+                if first.place < place {
+                    Some(*first)
+                } else {
+                    None
+                }
+            }
+        }
+    }
+
+    /// The form of what an operation works with: of a name by its first definition.
+    pub fn form_of_factor(&self, factor: &Factor) -> Defined
+        ensures { result ≡ constants.form_of_factor factor.now self.now }
+    {
+        match factor {
+            Factor::Name(name) => self.form_of_name(name),
+            Factor::Literal(_) => match factor_constant(factor) {
+                None => Defined::Missing,
+                Some(constant) => Defined::Good(constant.form()),
+            },
+        }
+    }
+
+    /// Whether a constant isn't among so many at the front.
+    pub fn is_new_constant(&self, place: usize, constant: &Constant) -> bool
+        ensures { result ≡ not (list_any (is_same constant.now) (take place (constants.constants_in self.now))) }
+    {
+        match self.constants.get(constant) {
+            None => true,
+            Some(first) => *first >= place,
+        }
+    }
+
+    /// The first F card of that file.
+    pub fn file_named(&self, name: &Word<8>) -> Option<&'a FileSpec>
+        ensures { option_copied result ≡ files.file_named name.now self.now }
+    {
+        file_named(name, self.from_files)
+    }
+
+    /// The file that records are read from: the first one.
+    pub fn input_file(&self) -> Option<&'a FileSpec>
+        ensures { option_copied result ≡ files.input_file self.now }
+    {
+        input_file(self.from_files)
+    }
+}
+
+/// These cards without those before the first F card.
+fn from_first_file(cards: &[SpecCard]) -> &[SpecCard]
+    ensures { HasSameFiles result.now cards.now }
+{
+    let mut rest = cards;
+    while let Some((card, behind)) = rest.split_first() {
+        if card.file().is_some() {
+            return rest;
+        }
+        rest = behind;
+    }
+    rest
+}
+
+fn defined_first(first: Option<FirstDefinition>) -> Defined
+    ensures { result ≡ defined_first first }
+{
+    match first {
+        None => Defined::Missing,
+        Some(
+            FirstDefinition {
+                place: _,
+                form: None,
+            },
+        ) => Defined::Bad,
+        Some(
+            FirstDefinition {
+                place: _,
+                form: Some(form),
+            },
+        ) => Defined::Good(form),
+    }
+}
+
+/// Notes definitions, whose places are counted on from this one, where their names have none before. Answers the place behind them.
+fn note_names(
+    names: &mut IndexMap<Name, FirstDefinition>,
+    start: usize,
+    definitions: ArrayVec<Definition, 2>,
+) -> Result<usize, AllocError>
+    requires { start + array_vec_len definitions < 2 ^ 64 }
+    ensures place { IfOk result (λ place. place ≡ start + array_vec_len definitions) }
+    ensures noted { OnOk result ((name : List ℕ) → lookup (pointwise nat_eq name) names.new.entries ≡ option_or (lookup (pointwise nat_eq name) names.old.entries) (first_at (is_of name) placed start definitions.items)) }
+{
+    let mut place = start;
+    for definition in definitions {
+        let Definition { name, form } = definition;
+        note(names, name, FirstDefinition { place, form })?;
+        place += 1;
+    }
+    Ok(place)
+}
+
+/// Notes constants, whose places are counted on from this one, where they have none before. Answers the place behind them.
+fn note_constants(
+    constants: &mut IndexMap<Constant, usize>,
+    start: usize,
+    items: ArrayVec<Constant, 2>,
+) -> Result<usize, AllocError>
+    requires { start + array_vec_len items < 2 ^ 64 }
+    ensures place { IfOk result (λ place. place ≡ start + array_vec_len items) }
+    ensures noted { OnOk result ((x : Constant) → lookup (is_same x) constants.new.entries ≡ option_or (lookup (is_same x) constants.old.entries) (first_at (is_same x) place_of start items.items)) }
+{
+    let mut place = start;
+    for constant in items {
+        note(constants, constant, place)?;
+        place += 1;
+    }
+    Ok(place)
+}
+
+/// Puts a value at a key that has none.
+fn note<K: Eq + Hash + Drop, V: Drop>(
+    map: &mut IndexMap<K, V>,
+    key: K,
+    value: V,
+) -> Result<(), AllocError>
+    ensures { OnOk result ((q : K) → lookup (K.eq q) map.new.entries ≡ option_or (lookup (K.eq q) map.old.entries) (if K.eq q key then Some value else None)) }
+{
+    if map.contains_key(&key) {
+        return Ok(());
+    }
+    map.insert(key, value)?;
+    Ok(())
+}

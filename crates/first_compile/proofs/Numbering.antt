@@ -1,0 +1,26 @@
+-- The numbers of cards go up, there are no more of them than cards, and they don't ask how the cards are spelled.
+use Rattle.std.proofs.Common.{◌≡◌, ℕ, ◌+◌, ◌≤◌, List, [], ◌∷◌, length, map, Option, None, Some, refl, ap, arith}
+use Rattle.first_cards.specs.declared.spec_card.SpecCard.{SpecCard}
+use Rattle.first_cards.specs.Cards.{with_spec, numbered_from, Numbered}
+use Rattle.first_compile.specs.Cards.{numbered}
+use Rattle.first_spec.specs.Specs.{spec_of}
+use Rattle.first_spec.specs.declared.spec.Spec.{Spec}
+
+-- a lower bound may be lowered
+lower : (low more : ℕ) (cs : List SpecCard) → Numbered more cs → low ≤ more → Numbered low cs
+lower low more [] h under = tt
+lower low more (c ∷ cs) h under = (let k = h.0 in omega arith, h.1)
+
+pub numbers_go_up : (n : ℕ) (cs : List (Option Spec)) → Numbered n (numbered n cs)
+numbers_go_up n [] = tt
+numbers_go_up n (None ∷ cs) = lower n (n + 1) (numbered (n + 1) cs) (numbers_go_up (n + 1) cs) (omega arith)
+numbers_go_up n (Some s ∷ cs) = (omega arith, numbers_go_up (n + 1) cs)
+
+pub no_more_than_cards : (n : ℕ) (cs : List (Option Spec)) → length (numbered n cs) ≤ length cs
+no_more_than_cards n [] = omega arith
+no_more_than_cards n (None ∷ cs) = omega (arith, no_more_than_cards (n + 1) cs)
+no_more_than_cards n (Some s ∷ cs) = omega (arith, no_more_than_cards (n + 1) cs)
+
+pub numbered_by_spec : (n : ℕ) (cs : List (List ℕ)) → numbered n (map spec_of cs) ≡ numbered_from n cs
+numbered_by_spec n [] = refl
+numbered_by_spec n (c ∷ cs) = ap (with_spec n (spec_of c)) (numbered_by_spec (n + 1) cs)

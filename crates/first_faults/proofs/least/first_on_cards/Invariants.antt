@@ -1,0 +1,14 @@
+use Rattle.std.proofs.Common.{◌≡◌, ◌++◌, [], length}
+use Rattle.first_faults.specs.Faults.{fault_from}
+use Rattle.first_card_rules.specs.Seen.{IsSeen}
+use Rattle.first_faults.proofs.least.first_on_cards.Given as goal
+
+abbrev pub invariant-loop-card : goal.invariant-loop-card
+invariant-loop-card l = record {
+  split : l.source ≡ l.seen.before.now ++ l.rest;
+  seen : IsSeen l.source l.seen;
+  so_far : fault_from l.seen.before.now l.rest ≡ fault_from [] l.source;
+}
+
+abbrev pub decreases-loop-card : goal.decreases-loop-card
+decreases-loop-card l = length l.rest

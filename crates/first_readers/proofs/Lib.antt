@@ -1,0 +1,3 @@
+mod CardLaws
+mod Laws
+mod Padding

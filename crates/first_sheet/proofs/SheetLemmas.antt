@@ -1,0 +1,110 @@
+-- What is kept of the lines before says what is wrong with the next.
+use Rattle.std.proofs.Common.{◌≡◌, ℕ, ◌+◌, ◌<◌, Bool, true, false, List, [], ◌∷◌, ◌++◌, length, Option, Some, None, refl, sym, ◌∙◌, arith, length-append}
+use Rattle.std.specs.Prelude.{if◌then◌else◌, ◌||◌, ◌&&◌, not, nat_lt, nat_le, is_none}
+use Rattle.std.specs.List.{list_any, list_all}
+use Rattle.std.specs.Option.{option_map_or, option_or}
+use Rattle.std.specs.Str.Lines.{lines}
+use Rattle.std.proofs.lemmas.List.Folds.{list_any-append}
+use Rattle.std.proofs.lemmas.Grind.{common_steps}
+use Rattle.first_spec.specs.declared.form_type.FormType.{FormType}
+use Rattle.first_sheet.specs.declared.sheet.SheetCode.{SheetCode}
+use Rattle.first_sheet.specs.declared.sheet.SheetCode.TheVariants.{S1, S2, S3, S4, S5, S6}
+use Rattle.first_sheet.specs.declared.sheet.SheetFault.TheVariants.{At}
+use Rattle.rpg_text.specs.Texts.{is_character}
+use Rattle.first_spec.specs.Cards.{card_of, ends_source, is_sheet, form_type, place_of}
+use Rattle.first_readers.specs.Readable.{has_bad_column}
+use Rattle.first_sheet.specs.Sheet.{comes_after, code_of, column_of, fault_behind, source}
+use Rattle.first_sheet.specs.Seen.{IsSeen, form_code, sheet_code, code_seen}
+
+-- which of six tests is the first that passes
+abbrev first_code : Bool → Bool → Bool → Bool → Bool → Bool → Option SheetCode
+first_code a b c d e f = if a then Some S1 else if b then Some S2 else if c then Some S3 else if d then Some S4 else if e then Some S5 else if f then Some S6 else None
+
+abbrev judged : (FormType → Bool) → (FormType → Bool) → Option FormType → Option SheetCode
+judged late wrong None = Some S3
+judged late wrong (Some g) = if late g then Some S4 else if wrong g then Some S5 else None
+
+abbrev on_sheet : Bool → Option FormType → Option FormType
+on_sheet sheet f = if sheet then f else None
+
+-- the same, where S3 to S5 are tested on cards of a sheet alone
+by_cases : (long bad sheet many : Bool) (f : Option FormType) (late wrong : FormType → Bool)
+    → (if long then Some S1 else if bad then Some S2 else option_or (if sheet then judged late wrong f else None) (if many then Some S6 else None))
+    ≡ first_code long bad (sheet && is_none f) (option_map_or late (on_sheet sheet f) false) (option_map_or wrong (on_sheet sheet f) false) many
+by_cases true bad sheet many f late wrong = refl
+by_cases false true sheet many f late wrong = refl
+by_cases false false false many f late wrong = refl
+by_cases false false true many None late wrong = refl
+by_cases false false true many (Some g) late wrong = two (late g) (wrong g)
+  where
+    two : (l w : Bool) → option_or (if l then Some S4 else if w then Some S5 else None) (if many then Some S6 else None) ≡ first_code false false false l w many
+    two true w = refl
+    two false true = refl
+    two false false = refl
+
+same_form_code : (earlier : List (List ℕ)) (latest : ℕ) (card : List ℕ) (f : Option FormType) → ((n : ℕ) → list_any (λ e. comes_after n (card_of e)) earlier ≡ nat_lt n latest)
+    → form_code latest card f ≡ judged (λ g. list_any (λ e. comes_after (place_of g) (card_of e)) earlier) (λ g. has_bad_column g card) f
+same_form_code earlier latest card None h = refl
+same_form_code earlier latest card (Some g) h = rw (h (place_of g)) refl
+
+pub code_is_seen : (earlier : List (List ℕ)) (count latest : ℕ) (line : List ℕ) → IsSeen earlier count latest → code_seen count latest line ≡ code_of earlier line
+code_is_seen earlier count latest line seen =
+    rw (seen.count_is, same_form_code earlier latest (card_of line) (form_type (card_of line)) seen.latest_is)
+    (by_cases (nat_lt 80 (length line)) (not (list_all is_character line)) (is_sheet (card_of line)) (nat_le 2000 (length earlier))
+    (form_type (card_of line)) (λ f. list_any (λ e. comes_after (place_of f) (card_of e)) earlier) (λ f. has_bad_column f (card_of line)))
+
+pub seen-push : (earlier : List (List ℕ)) (count latest latest' : ℕ) (line : List ℕ) → IsSeen earlier count latest
+    → ((n : ℕ) → nat_lt n latest' ≡ (nat_lt n latest || comes_after n (card_of line)))
+    → IsSeen (earlier ++ line ∷ []) (count + 1) latest'
+seen-push earlier count latest latest' line seen step = record {
+  count_is = let c = seen.count_is in omega (arith, length-append earlier (line ∷ []));
+  latest_is = λ n. rw (list_any-append, seen.latest_is n, step n) (or_false (nat_lt n latest) (comes_after n (card_of line)));
+}
+  where
+    or_false : (a b : Bool) → (a || (b || false)) ≡ (a || b)
+    or_false true b = refl
+    or_false false true = refl
+    or_false false false = refl
+
+pub seen_none : IsSeen [] 0 0
+seen_none = record { count_is = refl; latest_is = λ n. none n }
+  where
+    none : (n : ℕ) → false ≡ nat_lt n 0
+    none n = grind (arith, common_steps)
+
+pub few_seen : (count latest : ℕ) (line : List ℕ) → code_seen count latest line ≡ None → count < 2000
+few_seen count latest line h = by (nat_lt 80 (length line)) (not (list_all is_character line)) (sheet_code latest (card_of line)) h
+  where
+    by : (a b : Bool) (x : Option SheetCode) → (if a then Some S1 else if b then Some S2 else option_or x (if nat_le 2000 count then Some S6 else None)) ≡ None → count < 2000
+    by true b x e = absurd cc
+    by false true x e = absurd cc
+    by false false (Some c) e = absurd cc
+    by false false None e = grind (arith, common_steps)
+
+-- ---- a line more
+
+pub source_ends : (text line behind : List ℕ) → lines text ≡ line ∷ lines behind → ends_source (card_of line) ≡ true → source text ≡ line ∷ []
+source_ends text line behind cut e = rw cut (rw e refl)
+
+pub source_goes_on : (text line behind : List ℕ) → lines text ≡ line ∷ lines behind → ends_source (card_of line) ≡ false → source text ≡ line ∷ source behind
+source_goes_on text line behind cut e = rw cut (rw e refl)
+
+source_begins : (text line behind : List ℕ) → lines text ≡ line ∷ lines behind → (more : List (List ℕ)) × (source text ≡ line ∷ more)
+source_begins text line behind cut = by (ends_source (card_of line)) refl
+  where
+    by : (b : Bool) → ends_source (card_of line) ≡ b → (more : List (List ℕ)) × (source text ≡ line ∷ more)
+    by true e = ([], source_ends text line behind cut e)
+    by false e = (source behind, source_goes_on text line behind cut e)
+
+-- a line without a fault
+pub fault_behind-good : (earlier more : List (List ℕ)) (count latest : ℕ) (line : List ℕ) → IsSeen earlier count latest → code_seen count latest line ≡ None
+    → fault_behind earlier (line ∷ more) ≡ fault_behind (earlier ++ line ∷ []) more
+fault_behind-good earlier more count latest line seen good = rw (sym (code_is_seen earlier count latest line seen) ∙ good) refl
+
+-- a line with one
+pub fault_behind-bad : (earlier : List (List ℕ)) (text behind : List ℕ) (count latest : ℕ) (line : List ℕ) (code : SheetCode) → lines text ≡ line ∷ lines behind
+    → IsSeen earlier count latest → code_seen count latest line ≡ Some code
+    → fault_behind earlier (source text) ≡ Some (At (count + 1) code (column_of (card_of line) code))
+fault_behind-bad earlier text behind count latest line code cut seen bad =
+    let first = source_begins text line behind cut in
+    rw (first.1, sym (code_is_seen earlier count latest line seen) ∙ bad, seen.count_is) refl

@@ -1,0 +1,64 @@
+-- The lines of a source that are cards, and what is wrong with them.
+use Rattle.std.specs.Prelude.{◌≡◌, ℕ, ◌+◌, List, [], ◌∷◌, ◌++◌, length, Bool, false, Option, None, Some, option_and_then, if◌then◌else◌, ◌&&◌, not, nat_le, nat_lt, find}
+use Rattle.std.specs.List.{list_all, list_any}
+use Rattle.std.specs.Option.{is_none, option_map, option_map_or, option_or}
+use Rattle.std.specs.Str.Lines.{lines}
+use Rattle.first_sheet.specs.declared.sheet.SheetCode.{SheetCode}
+use Rattle.first_sheet.specs.declared.sheet.SheetCode.TheVariants.{S1, S2, S3, S4, S5, S6}
+use Rattle.first_sheet.specs.declared.sheet.SheetFault.{SheetFault}
+use Rattle.first_sheet.specs.declared.sheet.SheetFault.TheVariants.{At, NoMemory}
+use Rattle.first_spec.specs.Cards.{card_of, ends_source, is_sheet, form_type, sheet_of, place_of}
+use Rattle.first_readers.specs.Readable.{has_bad_column, bad_column}
+use Rattle.rpg_text.specs.Texts.{is_character}
+
+-- the items up to the first that passes, and this one
+abbrev pub through : {X : Type 0} → (X → Bool) → List X → List X
+through test [] = []
+through test (x ∷ xs) = if test x then x ∷ [] else x ∷ through test xs
+
+-- the lines that are read: nothing behind the card that ends the source
+abbrev pub source : List ℕ → List (List ℕ)
+source text = through (λ line. ends_source (card_of line)) (lines text)
+
+-- ---- what is wrong with a line that comes behind others
+
+-- the card is on a sheet that comes behind the one at place n
+abbrev pub comes_after : ℕ → List ℕ → Bool
+comes_after n card = option_map_or (λ f. nat_lt n (place_of f)) (sheet_of card) false
+
+abbrev pub has : List (List ℕ) → List ℕ → SheetCode → Bool
+has earlier line S1 = nat_lt 80 (length line)
+has earlier line S2 = not (list_all is_character line)
+has earlier line S3 = is_sheet (card_of line) && is_none (form_type (card_of line))
+has earlier line S4 = option_map_or (λ f. list_any (λ e. comes_after (place_of f) (card_of e)) earlier) (sheet_of (card_of line)) false
+has earlier line S5 = option_map_or (λ f. has_bad_column f (card_of line)) (sheet_of (card_of line)) false
+has earlier line S6 = nat_le 2000 (length earlier)
+
+-- the least code of a line
+abbrev pub code_of : List (List ℕ) → List ℕ → Option SheetCode
+code_of earlier line = find (has earlier line) (S1 ∷ S2 ∷ S3 ∷ S4 ∷ S5 ∷ S6 ∷ [])
+
+-- with S5 the first column of a card's least bad value
+abbrev pub column_of : List ℕ → SheetCode → Option ℕ
+column_of card S1 = None
+column_of card S2 = None
+column_of card S3 = None
+column_of card S4 = None
+column_of card S5 = option_and_then (λ f. bad_column f card) (sheet_of card)
+column_of card S6 = None
+
+abbrev pub fault_under : List (List ℕ) → List ℕ → SheetCode → SheetFault
+fault_under earlier line code = At (length earlier + 1) code (column_of (card_of line) code)
+
+-- the first line with a fault, of lines that come behind others
+abbrev pub fault_behind : List (List ℕ) → List (List ℕ) → Option SheetFault
+fault_behind earlier [] = None
+fault_behind earlier (line ∷ more) = option_or (option_map (fault_under earlier line) (code_of earlier line)) (fault_behind (earlier ++ line ∷ []) more)
+
+abbrev pub first_fault : List (List ℕ) → Option SheetFault
+first_fault all = fault_behind [] all
+
+-- what a refusal says of a source: nothing where memory was wanted
+abbrev pub IsRefusal : SheetFault → List ℕ → Type 0
+IsRefusal NoMemory text = Unit {0}
+IsRefusal (At card code column) text = first_fault (source text) ≡ Some (At card code column)

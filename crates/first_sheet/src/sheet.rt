@@ -1,0 +1,175 @@
+//! The sheets of a source, and what can be wrong with its cards.
+
+ghost use Rattle.std.specs.Prelude.{◌≡◌, ◌≤◌, length, None, Some, vec_len, IfOk, IfErr};
+ghost use Rattle.first_spec.specs.Cards as cards;
+ghost use Rattle.first_spec.specs.Specs.{spec_of};
+ghost use Rattle.first_sheet.specs.Codes as codes;
+ghost use Rattle.first_sheet.specs.Seen.{sheet_code};
+ghost use Rattle.first_sheet.specs.Sheet.{column_of};
+ghost use Rattle.first_sheet.specs.declared.sheet.SheetCode.TheVariants.{S5};
+ghost use Rattle.first_sheet.specs.declared.sheet.SheetFault.TheVariants.{NoMemory};
+
+use arrayvec::ArrayString;
+use first_readers::Card;
+use first_spec::{ColumnFault, FormType, Spec};
+use itoa::Buffer;
+use std::alloc::AllocFailed;
+use std::fmt;
+use std::marker::Model;
+use thiserror::Error;
+
+/// A sheet's place among the sheets of a source.
+pub(crate) fn place(sheet: FormType) -> u8
+    ensures value { result ≡ cards.place_of sheet }
+    ensures few { result ≤ 5 }
+{
+    match sheet {
+        FormType::Header => 0,
+        FormType::File => 1,
+        FormType::Input => 3,
+        FormType::Calculation => 4,
+        FormType::Output => 5,
+    }
+}
+
+/// What is wrong with a card.
+#[derive(Clone, Copy, Debug, PartialEq, Eq)]
+pub enum SheetCode {
+    /// The card has more than 80 characters.
+    S1 = 1,
+    /// It has a byte that is no character.
+    S2 = 2,
+    /// Its form type is unknown.
+    S3 = 3,
+    /// Its form type is earlier than one before.
+    S4 = 4,
+    /// Some columns have a bad value.
+    S5 = 5,
+    /// It is card 2,001.
+    S6 = 6,
+}
+
+impl SheetCode {
+    pub fn number(self) -> u8
+        ensures { result ≡ codes.number self }
+    {
+        self as u8
+    }
+
+    /// The letter S and the number.
+    pub fn text(self) -> ArrayString<4>
+        ensures value { result.bytes ≡ codes.text self }
+        ensures len { length result.bytes ≤ 4 }
+    {
+        let mut text = ArrayString::new();
+        text.push_str("S");
+        text.push_str(Buffer::new().format(self.number()));
+        text
+    }
+}
+
+impl fmt::Display for SheetCode {
+    ghost output = { λ code. Some (codes.text code) };
+
+    fn fmt<W: fmt::Write>(&self, f: &mut fmt::Formatter<W>) -> fmt::Result {
+        f.write_str(self.text().as_str())
+    }
+}
+
+/// What is wrong with a card, and with S5 in which column.
+#[derive(Clone, Copy)]
+pub(crate) struct CardFault {
+    pub code: SheetCode,
+    pub column: Option<u8>,
+}
+
+impl From<SheetCode> for CardFault {
+    ghost from_gives = { λ code fault. (fault.code ≡ code) × (fault.column ≡ None) };
+
+    fn from(code: SheetCode) -> Self {
+        CardFault { code, column: None }
+    }
+}
+
+impl From<ColumnFault> for CardFault {
+    ghost from_gives = { λ bad fault. (fault.code ≡ S5) × (fault.column ≡ Some bad.column) };
+
+    fn from(bad: ColumnFault) -> Self {
+        CardFault {
+            code: SheetCode::S5,
+            column: Some(bad.column),
+        }
+    }
+}
+
+/// Why a source has no cards.
+#[derive(Clone, Copy, Debug, PartialEq, Eq, Error)]
+pub enum SheetFault {
+    /// Cards are numbered from 1. The column is the first one of the least bad value, with S5 alone.
+    #[error("card {card}: {code}")]
+    At {
+        card: u16,
+        code: SheetCode,
+        column: Option<u8>,
+    },
+    #[error("no memory")]
+    NoMemory,
+}
+
+impl<T: Drop> From<AllocFailed<T>> for SheetFault {
+    ghost from_gives = { λ _ fault. fault ≡ NoMemory };
+
+    fn from(_: AllocFailed<T>) -> Self {
+        SheetFault::NoMemory
+    }
+}
+
+/// What the cards of a source without faults stand for: card n at place n - 1. A skipped card and the one that ends the source stand for nothing.
+#[derive(Drop)]
+pub struct Cards {
+    specs: Vec<Option<Spec>>,
+}
+
+impl Model for Cards {
+    ghost use Rattle.std.specs.Prelude.{List, Option, vec_len, ◌≤◌};
+    ghost use Rattle.first_spec.specs.declared.spec.Spec.{Spec};
+
+    ghost Value = { List (Option Spec) };
+
+    ghost view = { λ c. c.specs.items };
+
+    ghost invariant = { λ c. vec_len c.specs ≤ 2000 };
+}
+
+impl Cards {
+    pub(crate) fn new(specs: Vec<Option<Spec>>) -> Self
+        requires { vec_len specs ≤ 2000 }
+        ensures { result ≡ specs.items }
+    {
+        Cards { specs }
+    }
+
+    pub fn into_vec(self) -> Vec<Option<Spec>>
+        ensures value { result.items ≡ self }
+        ensures few { vec_len result ≤ 2000 }
+    {
+        self.specs
+    }
+}
+
+/// What a card stands for behind a sheet at place `latest`, or what is wrong with its form type and its columns.
+pub(crate) fn read(card: &Card, latest: u8) -> Result<Option<Spec>, CardFault>
+    ensures ok { IfOk result (λ spec. (spec ≡ spec_of card.now) × (sheet_code latest card.now ≡ None)) }
+    ensures err { IfErr result (λ fault. (sheet_code latest card.now ≡ Some fault.code) × (fault.column ≡ column_of card.now fault.code)) }
+{
+    if !card.is_sheet() {
+        return Ok(None);
+    }
+    let Some(sheet) = card.form_type() else {
+        return Err(SheetCode::S3.into());
+    };
+    if place(sheet) < latest {
+        return Err(SheetCode::S4.into());
+    }
+    Ok(Some(card.read(sheet)?))
+}

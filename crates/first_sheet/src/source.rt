@@ -1,0 +1,84 @@
+//! From the bytes of a source to what its cards stand for.
+
+ghost use Rattle.std.specs.Prelude.{◌≡◌, ℕ, ◌<◌, ◌||◌, None, Some, map, nat_lt, OnOk, IfOk, IfErr};
+ghost use Rattle.first_sheet.specs.Seen as seen;
+ghost use Rattle.first_sheet.specs.Sheet as sheets;
+ghost use Rattle.first_spec.specs.Cards.{card_of};
+ghost use Rattle.first_spec.specs.Specs.{spec_of};
+
+use crate::sheet::{CardFault, Cards, SheetCode, SheetFault, place, read};
+use first_readers::Card;
+use first_spec::Spec;
+use rpg_text::{first_line, has_only_characters};
+use std::alloc::Global;
+
+/// How many columns a card has.
+const COLUMNS: usize = 80;
+
+/// How many cards a source has at most.
+const CARDS: usize = 2000;
+
+/// What the cards of a source stand for, or the first card that has a fault, with its least code. Behind the card `/*` nothing is read.
+/// `NoMemory` is answered where a growth was refused, in place of any fault behind it.
+pub fn cards(alloc: Global, text: &[u8]) -> Result<Cards, SheetFault>
+    ensures cards { IfOk result (λ cards. cards ≡ map spec_of (map card_of (sheets.source text.now))) }
+    ensures faultless { OnOk result (sheets.first_fault (sheets.source text.now) ≡ None) }
+    ensures fault { IfErr result (λ fault. sheets.IsRefusal fault text.now) }
+{
+    let mut specs = Vec::new(alloc);
+    let mut rest = text;
+    let mut latest = 0;
+    while !rest.is_empty() {
+        let (line, behind) = first_line(rest);
+        let count = specs.len();
+        let (card, spec) = match checked(count, latest, line) {
+            Ok(read) => read,
+            Err(CardFault { code, column }) => {
+                return Err(SheetFault::At {
+                    card: count as u16 + 1,
+                    code,
+                    column,
+                });
+            }
+        };
+        latest = latest_after(latest, &card);
+        specs.push(spec)?;
+        if card.ends_source() {
+            return Ok(Cards::new(specs));
+        }
+        rest = behind;
+    }
+    Ok(Cards::new(specs))
+}
+
+/// The card of a line that comes behind `count` others and what it stands for, or what is wrong with it.
+fn checked(count: usize, latest: u8, line: &[u8]) -> Result<(Card, Option<Spec>), CardFault>
+    ensures card { IfOk result (λ read. read.0 ≡ card_of line.now) }
+    ensures spec { IfOk result (λ read. read.1 ≡ spec_of (card_of line.now)) }
+    ensures good { OnOk result (seen.code_seen count latest line.now ≡ None) }
+    ensures code { IfErr result (λ fault. seen.code_seen count latest line.now ≡ Some fault.code) }
+    ensures column { IfErr result (λ fault. fault.column ≡ sheets.column_of (card_of line.now) fault.code) }
+{
+    if line.len() > COLUMNS {
+        return Err(SheetCode::S1.into());
+    }
+    if !has_only_characters(line) {
+        return Err(SheetCode::S2.into());
+    }
+    let card = Card::new(line);
+    let spec = read(&card, latest)?;
+    if count >= CARDS {
+        return Err(SheetCode::S6.into());
+    }
+    Ok((card, spec))
+}
+
+/// The place of the latest sheet, once this card is read too.
+fn latest_after(latest: u8, card: &Card) -> u8
+    ensures { (n : ℕ) → nat_lt n result ≡ (nat_lt n latest || sheets.comes_after n card.now) }
+{
+    match card.sheet() {
+        Some(sheet) => latest.max(place(sheet)),
+        None => latest,
+    }
+}

@@ -1,0 +1,5 @@
+//! The header sheet (H).
+
+/// An H card.
+#[derive(Clone, Copy)]
+pub struct HeaderSpec;

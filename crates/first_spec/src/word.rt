@@ -1,0 +1,77 @@
+//! Short texts.
+
+ghost use Rattle.std.specs.Prelude.{◌≡◌, ◌≤◌, ◌<◌, [], ◌∷◌, ◌++◌, length, nat_eq};
+ghost use Rattle.std.proofs.Common.{rules};
+ghost use Rattle.std.specs.Cmp.{partial_equiv_from_equiv};
+ghost use Rattle.std.specs.Cmp.Lexicographic.{pointwise, nat_list_eq_equiv};
+ghost use Rattle.std.specs.Cmp.Rules.{hashing};
+ghost use Rattle.std.specs.Hash as fed;
+
+use arrayvec::ArrayVec;
+use std::hash::{Hash, Hasher};
+use std::marker::Model;
+
+/// A text of at most `N` characters, as a name.
+#[derive(Drop)]
+pub struct Word<const N: usize> {
+    characters: ArrayVec<u8, N>,
+}
+
+impl<const N: usize> Model for Word<N> {
+    ghost use Rattle.std.specs.Prelude.{ℕ, List};
+
+    ghost Value = { List ℕ };
+
+    ghost view = { λ w. w.characters.items };
+}
+
+impl<const N: usize> Word<N> {
+    pub fn new(text: &[u8]) -> Self
+        requires { length text.now ≤ N }
+        ensures { result ≡ text.now }
+    {
+        let mut characters = ArrayVec::new();
+        for c in text {
+            characters.push(*c);
+        }
+        Word { characters }
+    }
+
+    pub fn push(&mut self, character: u8)
+        requires { length self.old < N }
+        ensures { self.new ≡ self.old ++ character ∷ [] }
+    {
+        self.characters.push(character);
+    }
+
+    pub fn as_slice(&self) -> &[u8]
+        ensures value { result.now ≡ self.now }
+        ensures fits { length result.now ≤ N }
+    {
+        self.characters.as_slice()
+    }
+}
+
+impl<const N: usize> PartialEq for Word<N> {
+    ghost eq = { pointwise nat_eq };
+
+    ghost laws = { partial_equiv_from_equiv nat_list_eq_equiv };
+
+    fn eq(&self, other: &Self) -> bool {
+        self.as_slice() == other.as_slice()
+    }
+}
+
+impl<const N: usize> Eq for Word<N> {
+    ghost laws = { nat_list_eq_equiv };
+}
+
+impl<const N: usize> Hash for Word<N> {
+    ghost hash_input = { fed.slice fed.u8 };
+
+    ghost respects_eq = { Prim.search (hashing, rules) };
+
+    fn hash<H: Hasher>(&self, state: &mut H) {
+        self.as_slice().hash(state);
+    }
+}

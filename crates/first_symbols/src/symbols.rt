@@ -1,0 +1,161 @@
+//! Names with their numbers and forms.
+
+ghost use Rattle.std.specs.Prelude.{◌≡◌, ◌≢◌, ◌-◌, ◌≤◌, ◌⊎◌, None, Some, length, slice_get, option_map, IfOk, IfErr, OnErr};
+ghost use Rattle.std.specs.Bool.{OnTrue, OnFalse};
+ghost use Rattle.first_symbols.specs.Fields.{form_of, given, number_form, number_of, same_form, size_of, IsKnown, IsAdded, Refuses};
+ghost use Rattle.first_symbols.specs.declared.symbols.DefineFault.TheVariants.{NoMemory};
+
+use first_spec::Word;
+use indexmap::IndexMap;
+use rpg_effect::form::{Class, FieldForm, Kind};
+use std::alloc::{AllocFailed, Global};
+use std::marker::Model;
+use thiserror::Error;
+
+/// A name of a field, an array or a table.
+pub type Name = Word<6>;
+
+/// How many fields a program has at most.
+const FIELDS: usize = 4000;
+
+/// How many bytes they take at most.
+const STORAGE: u64 = 65535;
+
+/// Why a name isn't defined.
+#[derive(Clone, Copy, Debug, PartialEq, Eq, Error)]
+pub enum DefineFault {
+    #[error("defined before in another form")]
+    Other,
+    #[error("too many fields, or too much storage")]
+    Full,
+    #[error("no memory")]
+    NoMemory,
+}
+
+impl<T: Drop> From<AllocFailed<T>> for DefineFault {
+    ghost from_gives = { λ _ fault. fault ≡ NoMemory };
+
+    fn from(_: AllocFailed<T>) -> Self {
+        DefineFault::NoMemory
+    }
+}
+
+/// Names in the order of their first definitions. A name's number is its place, counted from 1.
+#[derive(Drop)]
+pub struct Symbols {
+    fields: IndexMap<Name, FieldForm>,
+    bytes: u32,
+}
+
+impl Model for Symbols {
+    ghost use Rattle.std.specs.Prelude.{◌≡◌, ◌≤◌, length};
+    ghost use Rattle.first_symbols.specs.Fields.{Fields, storage};
+
+    ghost Value = { Fields };
+
+    ghost view = { λ s. s.fields.entries };
+
+    ghost invariant = { λ s. (s.bytes ≡ storage s.fields.entries) × (s.bytes ≤ 65535) × (length s.fields.entries ≤ 4000) };
+}
+
+impl Symbols {
+    /// The fields that every program has: UDATE, the job's date, and PAGE, the page number.
+    pub fn new(alloc: Global) -> Result<Self, DefineFault>
+        ensures given { IfOk result (λ symbols. symbols ≡ given) }
+        ensures fault { IfErr result (λ fault. fault ≡ NoMemory) }
+    {
+        let mut fields = IndexMap::new(alloc);
+        fields.insert(Word::new(b"UDATE"), number(Class::Date, 6))?;
+        fields.insert(Word::new(b"PAGE"), number(Class::Plain, 4))?;
+        Ok(Symbols { fields, bytes: 10 })
+    }
+
+    /// The number of a name.
+    pub fn look(&self, name: &Name) -> Option<u16>
+        ensures { result ≡ number_of self.now name.now }
+    {
+        match self.fields.get_index_of(name) {
+            Some(place) => Some(place as u16 + 1),
+            None => None,
+        }
+    }
+
+    /// The form of the name with this number.
+    pub fn form(&self, number: u16) -> FieldForm
+        requires first { 1 ≤ number }
+        requires last { number ≤ length self.now }
+        ensures { option_map (λ f. f.1) (slice_get self.now (number - 1)) ≡ Some result }
+    {
+        match self.fields.get_index(number as usize - 1) {
+            Some((_, form)) => *form,
+            None => unreachable!(),
+        }
+    }
+
+    /// Defines a name, or finds it defined so before. After a fault nothing has changed.
+    pub fn define(&mut self, name: Name, form: FieldForm) -> Result<u16, DefineFault>
+        ensures ok { IfOk result (λ n. IsKnown self.old name form self.new n ⊎ IsAdded self.old name form self.new n) }
+        ensures err { IfErr result (λ fault. Refuses fault self.old name form) }
+        ensures unchanged { OnErr result (self.new ≡ self.old) }
+    {
+        let Some((place, _, known)) = self.fields.get_full(&name) else {
+            return self.add(name, form);
+        };
+        if is_same_form(known, &form) {
+            Ok(place as u16 + 1)
+        } else {
+            Err(DefineFault::Other)
+        }
+    }
+
+    /// Defines a name for the first time. After a fault nothing has changed.
+    fn add(&mut self, name: Name, form: FieldForm) -> Result<u16, DefineFault>
+        requires { form_of self.old name ≡ None }
+        ensures ok { IfOk result (λ n. IsAdded self.old name form self.new n) }
+        ensures err { IfErr result (λ fault. Refuses fault self.old name form) }
+        ensures unchanged { OnErr result (self.new ≡ self.old) }
+    {
+        let size = size(&form);
+        if self.fields.len() >= FIELDS || self.bytes as u64 + size as u64 > STORAGE {
+            return Err(DefineFault::Full);
+        }
+        self.fields.insert(name, form)?;
+        self.bytes += size;
+        Ok(self.fields.len() as u16)
+    }
+}
+
+/// The bytes that a field of this form takes.
+fn size(form: &FieldForm) -> u32
+    ensures { result ≡ size_of form.now }
+{
+    form.length as u32 * form.entries as u32
+}
+
+/// A number of these digits, without decimals.
+const fn number(class: Class, length: u16) -> FieldForm
+    ensures { result ≡ number_form class length }
+{
+    FieldForm {
+        kind: Kind::Number,
+        class,
+        length,
+        decimals: 0,
+        is_ascending: false,
+        entries: 1,
+    }
+}
+
+/// Whether two forms agree in every part.
+pub fn is_same_form(a: &FieldForm, b: &FieldForm) -> bool
+    ensures value { result ≡ same_form a.now b.now }
+    ensures same { OnTrue result (a.now ≡ b.now) }
+    ensures differs { OnFalse result (a.now ≢ b.now) }
+{
+    a.kind == b.kind
+        && a.class == b.class
+        && a.length == b.length
+        && a.decimals == b.decimals
+        && a.is_ascending == b.is_ascending
+        && a.entries == b.entries
+}

@@ -1,0 +1,3 @@
+pub mod Characters
+mod Digits
+mod LiteralLemmas

@@ -1,0 +1,76 @@
+//! Names and letters.
+
+ghost use Rattle.std.specs.Prelude.{◌≡◌, ◌≤◌, length};
+ghost use Rattle.std.specs.List.{list_all};
+ghost use Rattle.first_spec.specs.Values as values;
+
+use first_spec::Word;
+use rpg_text::trimmed;
+
+fn is_letter(c: u8) -> bool
+    ensures { result ≡ values.is_letter c }
+{
+    c.is_ascii_uppercase() || c == b'$' || c == b'#' || c == b'@'
+}
+
+fn is_name_character(c: u8) -> bool
+    ensures { result ≡ values.is_name_character c }
+{
+    is_letter(c) || c.is_ascii_digit()
+}
+
+fn has_only_name_characters(text: &[u8]) -> bool
+    ensures { result ≡ list_all values.is_name_character text.now }
+{
+    text.iter().all(|c| is_name_character(*c))
+}
+
+fn is_name(most: usize, text: &[u8]) -> bool
+    ensures { result ≡ values.is_name most text.now }
+{
+    match text.split_first() {
+        None => false,
+        Some((first, rest)) => is_letter(*first)
+            && has_only_name_characters(rest)
+            && rest.len() < most,
+    }
+}
+
+/// A name of at most `N` characters, from the first column on.
+#[tactic(auto, unfolding(first_spec::specs::Values::name))]
+pub fn name<const N: usize>(text: &[u8]) -> Option<Word<N>>
+    ensures { result ≡ values.name N text.now }
+{
+    let name = trimmed(text);
+    if is_name(N, name) {
+        Some(Word::new(name))
+    } else {
+        None
+    }
+}
+
+/// Such a name, but not this one.
+#[tactic(auto, unfolding(first_spec::specs::Values::name_but))]
+pub fn name_but<const N: usize>(other: &[u8], text: &[u8]) -> Option<Word<N>>
+    ensures { result ≡ values.name_but other.now N text.now }
+{
+    let name = name(text)?;
+    if name.as_slice() == other {
+        None
+    } else {
+        Some(name)
+    }
+}
+
+/// Letters in both columns.
+#[tactic(auto, unfolding(first_spec::specs::Values::letters))]
+pub fn letters(text: &[u8]) -> Option<Word<2>>
+    requires { length text.now ≤ 2 }
+    ensures { result ≡ values.letters text.now }
+{
+    if text.iter().all(|c| c.is_ascii_uppercase()) {
+        Some(Word::new(text))
+    } else {
+        None
+    }
+}

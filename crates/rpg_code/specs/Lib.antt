@@ -1,0 +1,4 @@
+pub mod Code
+pub mod Levels
+pub mod Sound
+pub mod Whole

@@ -1,0 +1,10 @@
+pub mod Alternatives
+pub mod Groups
+pub mod Walk
+pub mod Sections
+pub mod Noted
+pub mod Steps
+pub mod Levels
+pub mod Called
+pub mod Written
+pub mod Sizes

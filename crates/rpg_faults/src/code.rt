@@ -1,0 +1,116 @@
+//! The codes of what a card breaks.
+
+ghost use Rattle.std.specs.Prelude.{◌≡◌, ◌≤◌, length, Some};
+ghost use Rattle.rpg_faults.specs.Codes as codes;
+
+use arrayvec::ArrayString;
+use itoa::Buffer;
+use std::fmt;
+
+/// A rule that a card breaks. Of two codes the one with the lower number is the lesser.
+#[derive(Clone, Copy, Debug, PartialEq, Eq)]
+pub enum FaultCode {
+    /// A name isn't defined.
+    F1 = 1,
+    /// A name is defined again in another form.
+    F2 = 2,
+    /// A length or decimals are past their limit, or decimals have no length.
+    F3 = 3,
+    /// An operand is of the wrong kind, a result can't be written, or LOKUP's result has too few entries.
+    F4 = 4,
+    /// An index is missing, not allowed, out of range, or no plain whole number that is long enough.
+    F5 = 5,
+    /// A limit is passed.
+    F6 = 6,
+    /// A file is unknown, given twice, of the wrong use or length, or there is no input file.
+    F7 = 7,
+    /// An indicator isn't allowed.
+    F8 = 8,
+    /// A column is missing or isn't allowed.
+    F9 = 9,
+    /// A label or a subroutine is missing.
+    F10 = 10,
+    /// A label's or a subroutine's name is given twice, or is a field's too.
+    F11 = 11,
+    /// Sections are out of order, BEGSR and ENDSR aren't paired, or a card needs one before it.
+    F12 = 12,
+    /// GOTO leads to another section.
+    F13 = 13,
+    /// A subroutine calls itself, maybe through others.
+    F14 = 14,
+    /// H isn't allowed, or MVR doesn't stand behind a division without H.
+    F15 = 15,
+    /// A column is outside the record or the line, a field is wider than its end, or control fields don't agree.
+    F16 = 16,
+    /// An edit code or an edit word doesn't fit.
+    F17 = 17,
+    /// A table's data are missing, too few, too many, bad or out of sequence.
+    F18 = 18,
+}
+
+impl FaultCode {
+    pub fn number(self) -> u8
+        ensures { result ≡ codes.number self }
+    {
+        self as u8
+    }
+
+    /// The letter F and the number.
+    pub fn text(self) -> ArrayString<4>
+        ensures value { result.bytes ≡ codes.text self }
+        ensures len { length result.bytes ≤ 4 }
+    {
+        let mut text = ArrayString::new();
+        text.push_str("F");
+        text.push_str(Buffer::new().format(self.number()));
+        text
+    }
+
+    /// The rule that is broken, as a person reads it.
+    pub const fn sentence(self) -> &'static str {
+        match self {
+            FaultCode::F1 => "a name is used that no card defines",
+            FaultCode::F2 => "a name is defined again in another form",
+            FaultCode::F3 => {
+                "a length or decimals are past their limit, or decimals have no length"
+            }
+            FaultCode::F4 => {
+                "an operand is of the wrong kind, a result can't be written, or LOKUP's result has too few entries"
+            }
+            FaultCode::F5 => {
+                "an index is missing, not allowed, out of range, or no plain whole number that is long enough"
+            }
+            FaultCode::F6 => "a limit is passed",
+            FaultCode::F7 => {
+                "a file is unknown, given twice, of the wrong use or length, or there is no input file"
+            }
+            FaultCode::F8 => "an indicator isn't allowed",
+            FaultCode::F9 => "a column is missing or isn't allowed",
+            FaultCode::F10 => "a label or a subroutine is missing",
+            FaultCode::F11 => {
+                "a label's or a subroutine's name is given twice, or is a field's too"
+            }
+            FaultCode::F12 => {
+                "sections are out of order, BEGSR and ENDSR aren't paired, or a card needs one before it"
+            }
+            FaultCode::F13 => "GOTO leads to another section",
+            FaultCode::F14 => "a subroutine calls itself, maybe through others",
+            FaultCode::F15 => "H isn't allowed, or MVR doesn't stand behind a division without H",
+            FaultCode::F16 => {
+                "a column is outside the record or the line, a field is wider than its end, or control fields don't agree"
+            }
+            FaultCode::F17 => "an edit code or an edit word doesn't fit",
+            FaultCode::F18 => {
+                "a table's data are missing, too few, too many, bad or out of sequence"
+            }
+        }
+    }
+}
+
+impl fmt::Display for FaultCode {
+    ghost output = { λ code. Some (codes.text code) };
+
+    fn fmt<W: fmt::Write>(&self, f: &mut fmt::Formatter<W>) -> fmt::Result {
+        f.write_str(self.text().as_str())
+    }
+}

@@ -1,0 +1,66 @@
+//! What the cards before a card come to.
+
+ghost use Rattle.std.specs.Prelude.{◌≡◌, [], ◌∷◌, ◌++◌, ◌≤◌, length};
+ghost use Rattle.rpg_faults.specs.Seen.{IsSeen};
+ghost use Rattle.rpg_places.specs.State.{IsPlaces};
+
+use rpg_cards::{IndexedCards, Sheets, SpecCard};
+use rpg_flow::Flow;
+use rpg_limits::Limits;
+use rpg_places::Places;
+
+/// The cards before a card, with what they come to.
+#[derive(Clone, Copy)]
+pub(crate) struct Seen<'a> {
+    pub before: &'a [SpecCard],
+    pub sheets: Sheets,
+    pub limits: Limits,
+    pub flow: Flow,
+    pub places: Places<'a>,
+}
+
+impl<'a> Seen<'a> {
+    /// Before the first card.
+    pub fn nothing(source: &IndexedCards<'a>, places: Places<'a>) -> Self
+        requires places { IsPlaces source.now [] places }
+        requires few { length source.now ≤ 2000 }
+        ensures before { result.before.now ≡ [] }
+        ensures seen { IsSeen source.now source.now result }
+    {
+        Seen {
+            before: &source.as_slice()[..0],
+            sheets: Sheets::none(),
+            limits: Limits::nothing(source),
+            flow: Flow::nothing(),
+            places,
+        }
+    }
+
+    /// Before the next card.
+    pub fn behind(&self, source: &IndexedCards<'a>, card: &SpecCard, after: &[SpecCard]) -> Self
+        requires { IsSeen source.now (card.now ∷ after.now) self.now }
+        ensures before { result.before.now ≡ self.now.before.now ++ card.now ∷ [] }
+        ensures seen { IsSeen source.now after.now result }
+    {
+        Seen {
+            before: with_card(source, self.before, card, after),
+            sheets: self.sheets.with(source, self.before, card),
+            limits: self.limits.with(source, self.before, card, after),
+            flow: self.flow.with(self.before, card, after),
+            places: self.places.with(source, self.before, card, after),
+        }
+    }
+}
+
+/// The cards before the next card.
+fn with_card<'a>(
+    source: &IndexedCards<'a>,
+    before: &[SpecCard],
+    card: &SpecCard,
+    after: &[SpecCard],
+) -> &'a [SpecCard]
+    requires { source.now ≡ before.now ++ card.now ∷ after.now }
+    ensures { result.now ≡ before.now ++ card.now ∷ [] }
+{
+    &source.as_slice()[..before.len() + 1]
+}

@@ -1,0 +1,9 @@
+use Rattle.std.proofs.Common.{◌≡◌, drop}
+use Rattle.rpg_translation.specs.Table.{name_forms, with_definitions}
+use Rattle.rpg_fields.proofs.names.NameTable.define_all.Given as goal
+
+abbrev pub invariant-loop-definition : goal.invariant-loop-definition
+invariant-loop-definition l = record {
+  so_far : with_definitions l.self.symbols (drop l.definition-index l.definitions) ≡ with_definitions l.initial.self.symbols l.definitions;
+  same : l.self.forms.items ≡ name_forms l.self.symbols;
+}

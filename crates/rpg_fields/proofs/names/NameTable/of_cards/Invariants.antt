@@ -1,0 +1,10 @@
+use Rattle.std.proofs.Common.{◌≡◌, drop}
+use Rattle.rpg_cards.specs.Names.{definitions}
+use Rattle.rpg_translation.specs.Table.{fields_of, name_forms, with_definitions}
+use Rattle.rpg_fields.proofs.names.NameTable.of_cards.Given as goal
+
+abbrev pub invariant-loop-card : goal.invariant-loop-card
+invariant-loop-card l = record {
+  so_far : with_definitions l.table.symbols (definitions (drop l.card-index l.cards)) ≡ fields_of l.cards;
+  same : l.table.forms.items ≡ name_forms l.table.symbols;
+}

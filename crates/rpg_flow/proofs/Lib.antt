@@ -1,0 +1,14 @@
+pub mod Walk
+pub mod Facts
+pub mod Paired
+pub mod Placed
+pub mod Goals
+pub mod Reaching
+pub mod Joined
+pub mod Counted
+pub mod Carried
+pub mod Ordered
+pub mod Bits
+pub mod Found
+pub mod Listed
+pub mod Twice

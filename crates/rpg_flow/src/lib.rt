@@ -1,0 +1,22 @@
+//! Where control goes.
+#![tactic(auto)]
+
+mod columns;
+mod cycles;
+mod flow;
+mod groups;
+mod labels;
+mod laws;
+mod names;
+mod order;
+mod rounding;
+mod targets;
+
+pub use columns::bad_columns;
+pub use flow::Flow;
+pub use labels::Labels;
+pub use laws::faultless_sections_are_plain;
+pub use names::names_twice;
+pub use order::breaks_order;
+pub use rounding::bad_rounding;
+pub use targets::{calls_itself, goes_apart, goes_nowhere};

@@ -1,0 +1,43 @@
+-- The job that a source and an allowance say, and what it is that a program does it.
+use Rattle.std.specs.Prelude.{◌≡◌, ℕ, ℤ, List}
+use Rattle.rpg_calculations.specs.Keys.{key_cmp}
+use Rattle.rpg_cards.specs.Files.{file_for}
+use Rattle.rpg_cards.specs.declared.files.FileUse.TheVariants as uses
+use Rattle.rpg_cards.specs.declared.spec_card.SpecCard.{SpecCard}
+use Rattle.rpg_cycle.specs.Job.{first_fields}
+use Rattle.rpg_cycle.specs.Runs as machine
+use Rattle.rpg_effect.specs.Put.{Bytes}
+use Rattle.rpg_effect.specs.World.{World}
+use Rattle.rpg_jobs.specs.Job.{Job}
+use Rattle.rpg_jobs.specs.Runs.{Course, IsRun}
+use Rattle.rpg_jobs.specs.Start.{IsStart}
+use Rattle.rpg_meaning.specs.Sources.{source_of}
+use Rattle.rpg_translation.specs.Lines.{length_of}
+use Rattle.rpg_translation.specs.Program.{program_of}
+use Rattle.rpg_translation.specs.Types.{types_on}
+
+abbrev pub job_of : List SpecCard → ℕ → Job
+job_of cards allowance = record {
+  source = source_of cards;
+  types = types_on cards;
+  record_length = length_of (file_for uses.Primary cards);
+  allowance = allowance;
+}
+
+-- the run of the program is the run of the cards: one end, as many cycles, and the same bytes
+pub record IsMeant (cards : List SpecCard) (allowance : ℕ) (w : World key_cmp) (records : List (List ℕ)) (course : machine.Course) (bytes : Bytes) : Type 0 where
+  pub meant : Course
+  pub run : IsRun (job_of cards allowance) w records meant bytes
+  pub ending : course.ending ≡ meant.ending
+  pub cycles : course.cycles ≡ meant.cycles
+
+-- each run of the program over records on a date is the run of the cards from what they start with
+abbrev pub RunsAreMeant : List SpecCard → ℕ → ℤ → Type 0
+RunsAreMeant cards allowance date =
+    (w : World key_cmp) → IsStart cards date w
+    → (records : List (List ℕ)) (course : machine.Course) (bytes : Bytes) → machine.IsRun (program_of cards allowance) date (first_fields (program_of cards allowance)) records course bytes
+    → IsMeant cards allowance w records course bytes
+
+-- a job has one run
+abbrev pub RunsAreOne : Type 0
+RunsAreOne = (job : Job) (w : World key_cmp) (records : List (List ℕ)) (k l : Course) (a b : Bytes) → IsRun job w records k a → IsRun job w records l b → (k ≡ l) × (a ≡ b)

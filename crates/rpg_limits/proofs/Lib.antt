@@ -1,0 +1,3 @@
+pub mod CalculationLemmas
+pub mod NameLemmas
+pub mod TotalLemmas

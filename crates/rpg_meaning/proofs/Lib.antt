@@ -1,0 +1,14 @@
+pub mod Accepted
+pub mod Leads
+pub mod Named
+pub mod Placed
+pub mod Parts
+pub mod Follows
+pub mod Sections
+pub mod Ending
+pub mod Meant
+pub mod Runs
+pub mod Filled
+pub mod Sources
+pub mod Keys
+pub mod NextCard

@@ -1,0 +1,13 @@
+-- The sizes that forms of names have.
+use Rattle.std.specs.Prelude.{ℕ, ◌≤◌}
+use Rattle.rpg_effect.specs.declared.form.FieldForm.{FieldForm}
+use Rattle.rpg_effect.specs.declared.form.Kind.{Kind}
+use Rattle.rpg_effect.specs.declared.form.Kind.TheVariants as kind
+
+-- 1 to 15 digits, the decimals among them, or 1 to 256 characters
+abbrev pub HasSize : Kind → ℕ → ℕ → Type 0
+HasSize kind.Number len decimals = (1 ≤ len) × (len ≤ 15) × (decimals ≤ len)
+HasSize kind.Text len decimals = (1 ≤ len) × (len ≤ 256)
+
+abbrev pub IsSized : FieldForm → Type 0
+IsSized form = HasSize form.kind form.length form.decimals

@@ -1,0 +1,16 @@
+//! What stands on cards in place of fields: whether it is defined, of the right kind and well indexed, and how it is edited.
+#![tactic(auto)]
+
+mod columns;
+mod editing;
+mod forms;
+mod indexes;
+mod kinds;
+mod names;
+mod operands;
+
+pub use columns::bad_columns;
+pub use editing::{bad_editing, width};
+pub use indexes::bad_index;
+pub use kinds::wrong_operand;
+pub use names::lacks_name;

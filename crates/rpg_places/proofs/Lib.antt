@@ -1,0 +1,4 @@
+pub mod DeckLemmas
+pub mod EntryLemmas
+pub mod LevelLemmas
+pub mod TypeLemmas

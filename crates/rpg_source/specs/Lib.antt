@@ -1,0 +1,3 @@
+pub mod Cards
+pub mod Codes
+pub mod Source
