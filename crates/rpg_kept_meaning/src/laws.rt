@@ -1,0 +1,15 @@
+//! Laws of what is compiled. The functions do nothing: each is called for its contract alone.
+ghost use Rattle.rpg_kept_meaning.specs.Compiled.{Compiles};
+ghost use Rattle.rpg_kept_meaning.specs.Meant.{DoesAsMeant};
+ghost use Rattle.rpg_source.specs.Source.{cards_in};
+
+use rpg_program::Program;
+
+/// A compiled program does what the cards of its text mean.
+#[tactic(auto, using(crate::proofs::Meant::does_as_meant))]
+pub fn compiled_programs_do_as_meant(text: &[u8], allowance: u16, program: &Program)
+    requires { Compiles text.now allowance program.now }
+    ensures { DoesAsMeant (cards_in text.now) allowance program.now }
+{
+    let _rows = program.rows();
+}
