@@ -4,14 +4,18 @@
 #![tactic(auto)]
 
 mod calculations;
+mod chance;
+mod compared;
 mod control;
 mod definitions;
 mod job;
 mod lines;
 mod operations;
+mod sources;
 mod state;
 mod values;
 
+use compared::compare_all;
 use job::{evaluate, outputs_of};
 use rpg_case_files::{Case, Outputs, Question, Told, records_of, text_of, write_report};
 use rpg_source::faultless_cards;
@@ -73,9 +77,13 @@ fn run_all<W: Write>(alloc: Global, out: &mut W, text: &str) -> io::Result<()> {
 fn main(rt: HostRuntime) -> io::Result<()> {
     let words: Vec<String> = env::args(&rt)?.collect(rt.alloc())?;
     let mut out = io::writer(&rt);
-    for path in words.iter().skip(1) {
-        let text = fs::read_to_string(&rt, path.as_str())?;
-        run_all(rt.alloc(), &mut out, text.as_str())?;
+    for word in words.iter().skip(1) {
+        if let Ok(count) = word.as_str().parse() {
+            compare_all(rt.alloc(), &mut out, count)?;
+        } else {
+            let text = fs::read_to_string(&rt, word.as_str())?;
+            run_all(rt.alloc(), &mut out, text.as_str())?;
+        }
     }
     Ok(())
 }

@@ -1,0 +1,39 @@
+//! Numbers that look like chance, the same in each run.
+
+/// A row of numbers from a seed (xorshift, 64 bits).
+#[derive(Clone, Copy)]
+pub struct Chance {
+    state: u64,
+}
+
+impl Chance {
+    pub fn new(seed: u64) -> Chance {
+        Chance {
+            state: seed.wrapping_mul(0x9E37_79B9_7F4A_7C15) | 1,
+        }
+    }
+
+    /// A number below a limit; 0 where that is 0.
+    pub fn below(&mut self, limit: u64) -> u64 {
+        let mut x = self.state;
+        x ^= x << 13;
+        x ^= x >> 7;
+        x ^= x << 17;
+        self.state = x;
+        (x >> 11).checked_rem(limit).unwrap_or(0)
+    }
+
+    /// Whether so many of a hundred come.
+    pub fn comes(&mut self, of_hundred: u64) -> bool {
+        self.below(100) < of_hundred
+    }
+
+    /// One of the words.
+    pub fn word(&mut self, words: &'static [&'static str]) -> &'static str {
+        let place = self.below(words.len() as u64);
+        match usize::try_from(place) {
+            Ok(place) => words.get(place).copied().unwrap_or(""),
+            Err(_) => "",
+        }
+    }
+}

@@ -1,0 +1,112 @@
+//! Sources made by chance: what their cards mean, beside what their compiled programs print.
+
+use crate::job::{Course, Ending, evaluate};
+use crate::sources::{Made, made_by};
+use crate::values::Stop;
+use rpg_case_files::records_of;
+use rpg_compile::compile;
+use rpg_cycle::{JobEnd, Run, run_records};
+use rpg_source::{SourceFault, faultless_cards};
+use rpg_verify::{Verified, verify};
+use std::alloc::{AllocError, Global};
+use std::io::{self, Write};
+
+/// What came of a source.
+#[derive(Clone, Copy)]
+enum Comparison {
+    /// The program of the source does as its cards mean.
+    Same(JobEnd),
+    Refused(SourceFault),
+    /// The program of the source is refused.
+    Unverified,
+    Different,
+}
+
+const ALLOWANCE: u16 = 9;
+
+/// The program of a source, once it is verified.
+fn compiled(alloc: Global, source: &[u8]) -> Option<Verified> {
+    let program = compile(alloc, source, ALLOWANCE).ok()?;
+    verify(alloc, program).ok()
+}
+
+/// Whether a run is that of the cards.
+fn is_same(course: &Course, run: &Run) -> bool {
+    let is_same_end = match (course.ending, run.ending) {
+        (Ending::EndOfJob, JobEnd::EndOfJob) => true,
+        (Ending::Stopped(Stop::Halt(one)), JobEnd::Halt(other)) => one == other,
+        _ => false,
+    };
+    is_same_end
+        && course.cycles as u64 == run.cycles
+        && course.print.as_slice() == run.output.print.as_slice()
+}
+
+fn compare(alloc: Global, made: &Made) -> Result<Comparison, AllocError> {
+    let records = records_of(alloc, &made.input)?;
+    let cards = match faultless_cards(alloc, &made.source) {
+        Ok(cards) => cards,
+        Err(fault) => return Ok(Comparison::Refused(fault)),
+    };
+    let Some(program) = compiled(alloc, &made.source) else {
+        return Ok(Comparison::Unverified);
+    };
+    let course = evaluate(alloc, &cards, ALLOWANCE, &records);
+    let run = run_records(alloc, &program, b"010576", &records);
+    Ok(match (course, run) {
+        (Ok(course), Ok(run)) if is_same(&course, &run) => Comparison::Same(run.ending),
+        _ => Comparison::Different,
+    })
+}
+
+/// Writes a source that is refused, or whose program doesn't do as its cards mean.
+fn write_source<W: Write>(out: &mut W, words: &[u8], made: &Made) -> io::Result<()> {
+    out.write_all(words)?;
+    out.write_all(b"\n")?;
+    out.write_all(&made.source)?;
+    out.write_all(b"--- input\n")?;
+    out.write_all(&made.input)
+}
+
+/// How many jobs came to their end, and how many to each halt.
+#[derive(Clone, Copy)]
+struct Counts {
+    ends: u64,
+    halts: [u64; 8],
+}
+
+impl Counts {
+    fn count(&mut self, ending: JobEnd) {
+        match ending {
+            JobEnd::EndOfJob => self.ends = self.ends.saturating_add(1),
+            JobEnd::Halt(number) => {
+                if let Some(halts) = self.halts.get_mut(usize::from(number)) {
+                    *halts = halts.saturating_add(1);
+                }
+            }
+        }
+    }
+}
+
+/// Compares so many sources, and writes those that differ and a line that tells how many are the same.
+pub fn compare_all<W: Write>(alloc: Global, out: &mut W, count: u64) -> io::Result<()> {
+    let mut counts = Counts {
+        ends: 0,
+        halts: [0; 8],
+    };
+    for seed in 0..count {
+        let made = made_by(alloc, seed)?;
+        match compare(alloc, &made)? {
+            Comparison::Same(ending) => counts.count(ending),
+            Comparison::Refused(fault) => {
+                writeln!(out, "{fault}")?;
+                write_source(out, b"REFUSED", &made)?;
+            }
+            Comparison::Unverified => write_source(out, b"NOT VERIFIED", &made)?,
+            Comparison::Different => write_source(out, b"DIFFERENT", &made)?,
+        }
+    }
+    let ends = counts.ends;
+    let [_, halt_1, halt_2, _, halt_4, halt_5, halt_6, _] = counts.halts;
+    writeln!(out, "sources made by chance: {ends} end of job, {halt_1} halt 1, {halt_2} halt 2, {halt_4} halt 4, {halt_5} halt 5, {halt_6} halt 6")
+}
