@@ -32,6 +32,11 @@ const TEXTS: &[&str] = &["T", "T1", "T2", "TABB", "'AB'", "'Z9 K'", "'12'"];
 const TEXT_RESULTS: &[&str] = &["T1", "T2", "T"];
 const SPELLED: &[&str] = &["'7'", "'04'", "'12J'", "'5 2'", "'1K'", "'12'"];
 
+/// Factor 2 and the result field of a search, and what it asks for.
+const NUMBER_PLACES: &[&str] = &["TABA      TABB", "TABA", "AR", "AR,2", "AR,X"];
+const TEXT_PLACES: &[&str] = &["TABB", "TABB      TABA"];
+const SEARCHES: &[&str] = &["21  22", "  2322", "24    ", "  25  ", "    26"];
+
 /// A source's cards before the calculations: files, an array, two tables, and a record type with fields.
 const HEAD: &[&str] = &[
     "     FINPUT   IPE F      80            READ40",
@@ -234,20 +239,14 @@ impl Made {
         self.calculation(place.level, columns.as_str())
     }
 
-    /// LOKUP in the tables, or in the array.
+    /// LOKUP of a number or a text, in the tables or in the array.
     fn search(&mut self, place: Place) -> Result<(), AllocError> {
-        let (first, second, result) = match self.chance.below(4) {
-            0 => (self.number(), "TABA", "TABB"),
-            1 => (self.number(), "TABA", ""),
-            2 => (self.number(), self.chance.word(&["AR", "AR,2", "AR,X"]), ""),
-            _ => (self.chance.word(TEXTS), "TABB", self.chance.word(&["", "TABA"])),
-        };
-        let shown = if second == "TABB" {
-            "    21"
-        } else {
-            self.chance.word(&["21  22", "  2322", "24    ", "  25  ", "    26"])
-        };
-        let columns = format!(in self.alloc; "{first:<10}LOKUP{second:<10}{result:<6}     {shown}")?;
+        let is_number = self.chance.comes(75);
+        let first = if is_number { self.number() } else { self.chance.word(TEXTS) };
+        let places = if is_number { NUMBER_PLACES } else { TEXT_PLACES };
+        let columns = self.chance.word(places);
+        let shown = self.chance.word(if is_number { SEARCHES } else { &["    21", "    26"] });
+        let columns = format!(in self.alloc; "{first:<10}LOKUP{columns:<16}     {shown}")?;
         self.calculation(place.level, columns.as_str())
     }
 

@@ -1,6 +1,7 @@
 //! What calculations, lines and records read and change.
 
 use crate::values::{Field, Held, Spot, Stop, Value, held_number};
+use rpg_calculations::shows_of;
 use rpg_decimal::Rest;
 use rpg_spec::{Condition, Entry, EntryIndex, Factor, Indicator, Literal, Three};
 use std::alloc::Global;
@@ -32,26 +33,30 @@ impl<'a> State<'a> {
         }
     }
 
-    fn turn_if_any(&mut self, indicator: Option<Indicator>, is_on: bool) {
-        if let Some(indicator) = indicator {
-            self.turn(indicator.number(), is_on);
+    fn turn_if_any(&mut self, number: Option<u8>, is_on: bool) {
+        if let Some(number) = number {
+            self.turn(number, is_on);
         }
     }
 
     /// Turns all of them on or off.
     pub fn turn_all(&mut self, indicators: Indicators, is_on: bool) {
-        self.turn_if_any(indicators.first, is_on);
-        self.turn_if_any(indicators.second, is_on);
-        self.turn_if_any(indicators.third, is_on);
+        let shows = shows_of(indicators);
+        self.turn_if_any(shows.plus, is_on);
+        self.turn_if_any(shows.minus, is_on);
+        self.turn_if_any(shows.zero, is_on);
     }
 
     /// Turns all of them off, and then the one of what came out on.
     pub fn show(&mut self, indicators: Indicators, order: Option<Ordering>) {
-        self.turn_all(indicators, false);
+        let shows = shows_of(indicators);
+        self.turn_if_any(shows.plus, false);
+        self.turn_if_any(shows.minus, false);
+        self.turn_if_any(shows.zero, false);
         match order {
-            Some(Ordering::Greater) => self.turn_if_any(indicators.first, true),
-            Some(Ordering::Less) => self.turn_if_any(indicators.second, true),
-            Some(Ordering::Equal) => self.turn_if_any(indicators.third, true),
+            Some(Ordering::Greater) => self.turn_if_any(shows.plus, true),
+            Some(Ordering::Less) => self.turn_if_any(shows.minus, true),
+            Some(Ordering::Equal) => self.turn_if_any(shows.zero, true),
             None => {}
         }
     }
