@@ -1,8 +1,8 @@
 //! Calculations as their cards stand, by parts.
 
+use rpg_calculations::{joins, plain_name};
 use rpg_cards::SpecCard;
 use rpg_spec::{CalculationSpec, ControlLevel, Operation};
-use rpg_calculations::{joins, plain_name};
 use std::alloc::{AllocError, Global};
 
 /// A calculation: a card with the AN and OR cards right behind it, the last of which has the operation.
@@ -19,6 +19,7 @@ pub struct Part<'a> {
 }
 
 pub const DETAIL: usize = 0;
+
 pub const TOTAL: usize = 1;
 
 /// The name in factor 1.

@@ -22,18 +22,4 @@ impl Chance {
         self.state = x;
         (x >> 11).checked_rem(limit).unwrap_or(0)
     }
-
-    /// Whether so many of a hundred come.
-    pub fn comes(&mut self, of_hundred: u64) -> bool {
-        self.below(100) < of_hundred
-    }
-
-    /// One of the words.
-    pub fn word(&mut self, words: &'static [&'static str]) -> &'static str {
-        let place = self.below(words.len() as u64);
-        match usize::try_from(place) {
-            Ok(place) => words.get(place).copied().unwrap_or(""),
-            Err(_) => "",
-        }
-    }
 }

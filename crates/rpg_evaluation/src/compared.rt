@@ -1,7 +1,8 @@
 //! Sources made by chance: what their cards mean, beside what their compiled programs print.
 
+use crate::chance::Chance;
 use crate::job::{Course, Ending, evaluate};
-use crate::sources::{Made, made_by};
+use crate::sources::{Rules, made_by};
 use crate::values::Stop;
 use rpg_case_files::records_of;
 use rpg_compile::compile;
@@ -10,6 +11,13 @@ use rpg_source::{SourceFault, faultless_cards};
 use rpg_verify::{Verified, verify};
 use std::alloc::{AllocError, Global};
 use std::io::{self, Write};
+
+/// A source, and its records.
+#[derive(Drop)]
+struct Made {
+    source: Vec<u8>,
+    input: Vec<u8>,
+}
 
 /// What came of a source.
 #[derive(Clone, Copy)]
@@ -89,13 +97,23 @@ impl Counts {
 }
 
 /// Compares so many sources, and writes those that differ and a line that tells how many are the same.
-pub fn compare_all<W: Write>(alloc: Global, out: &mut W, count: u64) -> io::Result<()> {
+pub fn compare_all<W: Write>(
+    alloc: Global,
+    out: &mut W,
+    rules: &str,
+    count: u64,
+) -> io::Result<()> {
+    let rules = Rules::new(alloc, rules)?;
     let mut counts = Counts {
         ends: 0,
         halts: [0; 8],
     };
     for seed in 0..count {
-        let made = made_by(alloc, seed)?;
+        let mut chance = Chance::new(seed);
+        let made = Made {
+            source: made_by(alloc, &rules, "source", &mut chance)?,
+            input: made_by(alloc, &rules, "input", &mut chance)?,
+        };
         match compare(alloc, &made)? {
             Comparison::Same(ending) => counts.count(ending),
             Comparison::Refused(fault) => {
@@ -108,5 +126,8 @@ pub fn compare_all<W: Write>(alloc: Global, out: &mut W, count: u64) -> io::Resu
     }
     let ends = counts.ends;
     let [_, halt_1, halt_2, _, halt_4, halt_5, halt_6, _] = counts.halts;
-    writeln!(out, "sources made by chance: {ends} end of job, {halt_1} halt 1, {halt_2} halt 2, {halt_4} halt 4, {halt_5} halt 5, {halt_6} halt 6")
+    writeln!(
+        out,
+        "sources made by chance: {ends} end of job, {halt_1} halt 1, {halt_2} halt 2, {halt_4} halt 4, {halt_5} halt 5, {halt_6} halt 6"
+    )
 }

@@ -14,7 +14,9 @@ use std::alloc::{AllocError, Global};
 use std::cmp::Ordering;
 
 const LEVEL_ZERO: u8 = 100;
+
 const LAST_RECORD: u8 = 110;
+
 const FIRST_PAGE: u8 = 111;
 
 /// What the cards of a source say.

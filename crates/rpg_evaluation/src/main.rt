@@ -74,14 +74,17 @@ fn run_all<W: Write>(alloc: Global, out: &mut W, text: &str) -> io::Result<()> {
     Ok(())
 }
 
+/// How many sources are made by chance.
+const SOURCES: u64 = 300;
+
 fn main(rt: HostRuntime) -> io::Result<()> {
     let words: Vec<String> = env::args(&rt)?.collect(rt.alloc())?;
     let mut out = io::writer(&rt);
-    for word in words.iter().skip(1) {
-        if let Ok(count) = word.as_str().parse() {
-            compare_all(rt.alloc(), &mut out, count)?;
+    for path in words.iter().skip(1) {
+        let text = fs::read_to_string(&rt, path.as_str())?;
+        if path.as_str().ends_with(".rules") {
+            compare_all(rt.alloc(), &mut out, text.as_str(), SOURCES)?;
         } else {
-            let text = fs::read_to_string(&rt, word.as_str())?;
             run_all(rt.alloc(), &mut out, text.as_str())?;
         }
     }

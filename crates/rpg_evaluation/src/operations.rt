@@ -151,12 +151,7 @@ impl<'a> State<'a> {
     }
 
     /// The first or the last entry, from one on, that stands so to what is sought.
-    fn nearest(
-        &self,
-        sought: &Held,
-        from: Spot,
-        wanted: Ordering,
-    ) -> Result<Option<Spot>, Stop> {
+    fn nearest(&self, sought: &Held, from: Spot, wanted: Ordering) -> Result<Option<Spot>, Stop> {
         let field = self.field(from.field)?;
         let mut found = None;
         for entry in from.entry..field.values.len() {
@@ -224,10 +219,7 @@ impl<'a> State<'a> {
                 });
             }
         }
-        self.show(
-            card.resulting_indicators,
-            found.map(|(order, _)| order),
-        );
+        self.show(card.resulting_indicators, found.map(|(order, _)| order));
         Ok(())
     }
 

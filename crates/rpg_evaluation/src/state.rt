@@ -123,7 +123,11 @@ impl<'a> State<'a> {
         match factor {
             Factor::Entry(entry) => self.held_at(self.spot(entry)?),
             Factor::Literal(Literal::Number(number)) => {
-                held_number(number.value(), u16::from(number.length()), number.decimals())
+                held_number(
+                    number.value(),
+                    u16::from(number.length()),
+                    number.decimals(),
+                )
             }
             Factor::Literal(Literal::Text(text)) => {
                 Ok(Held::Text(Vec::from_slice(self.alloc, text.as_slice())?))

@@ -61,7 +61,6 @@ pub struct Spot {
     pub entry: usize,
 }
 
-
 fn figure(value: i64, length: u16) -> Result<Figure, Stop> {
     match u8::try_from(length) {
         Ok(len) if 1 <= len && len <= 15 => Ok(Figure {
