@@ -30,7 +30,7 @@ enum Comparison {
     Different,
 }
 
-const ALLOWANCE: u16 = 9;
+const ALLOWANCE: u16 = 20;
 
 /// The program of a source, once it is verified.
 fn compiled(alloc: Global, source: &[u8]) -> Option<Verified> {
@@ -76,26 +76,6 @@ fn write_source<W: Write>(out: &mut W, words: &[u8], made: &Made) -> io::Result<
     out.write_all(&made.input)
 }
 
-/// How many jobs came to their end, and how many to each halt.
-#[derive(Clone, Copy)]
-struct Counts {
-    ends: u64,
-    halts: [u64; 8],
-}
-
-impl Counts {
-    fn count(&mut self, ending: JobEnd) {
-        match ending {
-            JobEnd::EndOfJob => self.ends = self.ends.saturating_add(1),
-            JobEnd::Halt(number) => {
-                if let Some(halts) = self.halts.get_mut(usize::from(number)) {
-                    *halts = halts.saturating_add(1);
-                }
-            }
-        }
-    }
-}
-
 /// Compares so many sources, and writes those that differ and a line that tells how many are the same.
 pub fn compare_all<W: Write>(
     alloc: Global,
@@ -104,10 +84,8 @@ pub fn compare_all<W: Write>(
     count: u64,
 ) -> io::Result<()> {
     let rules = Rules::new(alloc, rules)?;
-    let mut counts = Counts {
-        ends: 0,
-        halts: [0; 8],
-    };
+    let mut same = 0u64;
+    let mut ended = 0u64;
     for seed in 0..count {
         let mut chance = Chance::new(seed);
         let made = Made {
@@ -115,7 +93,12 @@ pub fn compare_all<W: Write>(
             input: made_by(alloc, &rules, "input", &mut chance)?,
         };
         match compare(alloc, &made)? {
-            Comparison::Same(ending) => counts.count(ending),
+            Comparison::Same(ending) => {
+                same = same.saturating_add(1);
+                if matches!(&ending, JobEnd::EndOfJob) {
+                    ended = ended.saturating_add(1);
+                }
+            }
             Comparison::Refused(fault) => {
                 writeln!(out, "{fault}")?;
                 write_source(out, b"REFUSED", &made)?;
@@ -124,10 +107,11 @@ pub fn compare_all<W: Write>(
             Comparison::Different => write_source(out, b"DIFFERENT", &made)?,
         }
     }
-    let ends = counts.ends;
-    let [_, halt_1, halt_2, _, halt_4, halt_5, halt_6, _] = counts.halts;
+    if ended < count / 2 {
+        out.write_all(b"too few come to their end\n")?;
+    }
     writeln!(
         out,
-        "sources made by chance: {ends} end of job, {halt_1} halt 1, {halt_2} halt 2, {halt_4} halt 4, {halt_5} halt 5, {halt_6} halt 6"
+        "sources made by chance: {same} of {count} as their cards mean"
     )
 }
