@@ -1,0 +1,6 @@
+//! Limits of programs.
+#![tactic(auto)]
+
+mod laws;
+
+pub use laws::faultless_sources_keep_limits;
