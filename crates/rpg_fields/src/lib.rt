@@ -1,8 +1,13 @@
-//! The fields of a program, from cards: numbers and forms of names and constants.
+//! The fields of a program, from cards: numbers and forms of names and constants, and what they hold before the first cycle.
 #![tactic(auto)]
 
 mod constants;
+mod fields;
+mod loaded;
 mod names;
 mod table;
+mod tables;
+mod values;
 
+pub use fields::{Fields, fields_of};
 pub use table::FieldTable;
