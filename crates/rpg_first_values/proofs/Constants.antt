@@ -1,5 +1,5 @@
 -- Constants of cards: each is a number or a text that a card may have, and fits a field of its own form.
-use Rattle.std.proofs.Common.{◌≡◌, Bool, true, false, cond, List, [], ◌∷◌, ◌++◌, map, All, Option, None, Some, refl, arith}
+use Rattle.std.proofs.Common.{◌≡◌, Bool, true, false, cond, List, [], ◌∷◌, ◌++◌, map, All, Option, None, Some, refl}
 use Rattle.std.proofs.lemmas.Bool.{and_parts, leb-true}
 use Rattle.std.proofs.lemmas.List.Elements.{All-cons, All-nil}
 use Rattle.std.proofs.lemmas.List.Sums.{AllPass-from_list_all}
@@ -8,7 +8,7 @@ use Rattle.std.specs.Option.{ForSome, option_and_then, option_map, option_to_lis
 use Rattle.std.specs.Prelude.{IsTrue, ℕ, is_none}
 use Rattle.indexmap.specs.IndexSet.{insert_all, insert_key}
 use Rattle.rpg_calculations.specs.Plain.{Each}
-use Rattle.rpg_cards.specs.Constants.{IsConstant, constant_form, constants, constants_in, constants_on, factor_constant, is_same, text_constant}
+use Rattle.rpg_cards.specs.Constants.{IsConstant, constant_form, constants, constants_in, constants_on, factor_constant, is_same}
 use Rattle.rpg_cards.specs.declared.constants.Constant.{Constant}
 use Rattle.rpg_cards.specs.declared.constants.Constant.TheVariants as constant
 use Rattle.rpg_cards.specs.declared.spec_card.SpecCard.{SpecCard}
@@ -16,7 +16,6 @@ use Rattle.rpg_code.proofs.Each.{each_append, each_map}
 use Rattle.rpg_program.specs.Kept.{AreEntriesOf, AreValuesOf, IsCharacter, IsValueOf}
 use Rattle.rpg_spec.specs.declared.literal.Factor.{Factor}
 use Rattle.rpg_spec.specs.declared.literal.Factor.TheVariants as factor
-use Rattle.rpg_spec.specs.declared.output.OutputField.{OutputField}
 use Rattle.rpg_spec.specs.declared.output.OutputSpec.{OutputSpec}
 use Rattle.rpg_spec.specs.declared.output.OutputSpec.TheVariants as output
 use Rattle.rpg_spec.specs.declared.spec.Spec.{Spec}

@@ -1,5 +1,5 @@
 -- The entries of a table on the cards of its deck: as many as it has, each a value of its kind and length.
-use Rattle.std.proofs.Common.{◌≡◌, ℕ, zero, suc, ◌+◌, ◌-◌, ◌*◌, ◌^◌, ◌<◌, ◌≤◌, ℤ, unsigned_abs, Bool, true, false, cond, List, [], ◌∷◌, ◌++◌, map, length, take, drop, slice_range, All, Option, None, Some, refl, sym, ap, ◌∙◌, subst, subst₂, arith, length-append, length-drop, length-take, get_or, mul-le-mul_right}
+use Rattle.std.proofs.Common.{◌≡◌, ℕ, ◌+◌, ◌-◌, ◌*◌, ◌^◌, ◌<◌, ◌≤◌, ℤ, unsigned_abs, Bool, true, false, cond, List, [], ◌∷◌, map, length, drop, slice_range, All, Option, None, Some, refl, sym, ◌∙◌, subst, subst₂, arith, length-append, length-drop, length-take, mul-le-mul_right}
 use Rattle.std.proofs.lemmas.List.{length-map}
 use Rattle.std.proofs.lemmas.List.Elements.{All-append, All-drop, All-map, All-nil, All-take, All-weaker}
 use Rattle.std.proofs.lemmas.List.FromFn.{get_or-range_with_len, length-map-range_with_len, length-range_with_len}
@@ -120,8 +120,8 @@ table_fits spelled n per_card width from t form deck is room inside enough texts
     let says = form_says n t form is in
     let found = entries n per_card width from t.length deck in
     let fit : All (IsValueOf (kind_by t.decimals) t.length) (map (entry_value t) found) =
-    All-map (IsValueOf (kind_by t.decimals) t.length) (entry_value t) found
-    (All-weaker (IsText t.length) (λ text. IsValueOf (kind_by t.decimals) t.length (entry_value t text)) (value_fits spelled t) found (entries_fit per_card width from t.length room inside n deck texts)) in
+        All-map (IsValueOf (kind_by t.decimals) t.length) (entry_value t) found
+        (All-weaker (IsText t.length) (λ text. IsValueOf (kind_by t.decimals) t.length (entry_value t text)) (value_fits spelled t) found (entries_fit per_card width from t.length room inside n deck texts)) in
     record {
       number = length-map found (entry_value t) ∙ entries_there per_card width from t.length room inside n deck enough ∙ sym says.many;
       each = subst₂ (λ k len. All (IsValueOf k len) (map (entry_value t) found)) (sym says.alike) (sym says.long) fit;

@@ -1,11 +1,11 @@
 -- Tables with data: what is loaded fits the form of its name.
-use Rattle.std.proofs.Common.{◌≡◌, ℕ, zero, suc, ◌+◌, ◌*◌, ◌<◌, ◌≤◌, Bool, true, false, not, cond, ◌&&◌, ◌||◌, List, [], ◌∷◌, ◌++◌, map, length, drop, slice_get, sum_by, Option, None, Some, refl, sym, ap, ◌∙◌, subst, arith, append_assoc, add-one}
+use Rattle.std.proofs.Common.{◌≡◌, ℕ, zero, suc, ◌+◌, ◌*◌, ◌<◌, ◌≤◌, Bool, true, false, not, ◌&&◌, ◌||◌, List, [], ◌∷◌, ◌++◌, map, length, drop, slice_get, sum_by, Option, None, Some, refl, sym, ap, ◌∙◌, subst, arith, append_assoc, add-one}
 use Rattle.std.proofs.lemmas.Bool.{and_from, eqb-false, eqb-true, ltb-false, not-false, or_parts}
 use Rattle.std.proofs.lemmas.Grind.{div_ceil_times}
 use Rattle.std.proofs.lemmas.List.Sums.{sum_by-cons}
 use Rattle.std.proofs.lemmas.Option.{slice_get-map}
 use Rattle.std.specs.List.{cons_option, list_all}
-use Rattle.std.specs.Option.{ForSome, option_map, option_map_or, option_to_list}
+use Rattle.std.specs.Option.{ForSome, option_map_or}
 use Rattle.std.specs.Prelude.{is_some, ◌==◌, nat_lt}
 use Rattle.rpg_calculations.specs.Plain.{Each}
 use Rattle.rpg_cards.specs.Cards.{data_on, extension_on}
@@ -112,6 +112,7 @@ table_loaded cards spelled e per_card texts from t good of_name inside = by (tab
       named = of_name.name form is;
       fits = table_fits spelled e.entries per_card (columns_of e) from t form texts is good.room inside good.enough good.fit;
     }
+
 
 tables_fit : (cards : List SpecCard) → FitsText → (e : ExtensionSpec) (per_card : ℕ) (texts : List (List ℕ)) (from : ℕ) (ts : List TableSpec) → IsDeck e per_card texts → Each (IsOfName cards e) ts
     → from + sum_by (λ (t : TableSpec). t.length) ts ≤ columns_of e → Each (IsLoaded cards) (tables_loaded e per_card texts from ts)

@@ -18,7 +18,7 @@ use Rattle.rpg_program.specs.Kept.{AreEntriesOf, AreValuesOf}
 use Rattle.rpg_symbols.specs.Fields.{Fields, form_of, given}
 use Rattle.rpg_translation.proofs.Known.{name_known}
 use Rattle.rpg_translation.proofs.Redefined.{card_defines, card_has_forms}
-use Rattle.rpg_translation.specs.Data.{Loaded, constant_values, field_values, first_of_kind, loaded, values_of}
+use Rattle.rpg_translation.specs.Data.{constant_values, field_values, first_of_kind, loaded, values_of}
 use Rattle.rpg_translation.specs.Ranges.{AreCards}
 use Rattle.rpg_translation.specs.Rules.{KeepsRules}
 use Rattle.rpg_translation.specs.Table.{fields_of, forms, name_forms, table_of, with_definition, with_definitions, with_form, with_name}

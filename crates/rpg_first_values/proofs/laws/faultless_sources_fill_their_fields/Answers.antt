@@ -1,6 +1,4 @@
-use Rattle.std.proofs.Common.{◌≡◌, ℕ, List, length, unsigned_abs, Some}
 use Rattle.rpg_acceptance.proofs.Kept.{keeps_rules}
-use Rattle.rpg_first_values.proofs.Entries.{FitsText}
 use Rattle.rpg_first_values.proofs.Names.{fields_filled}
 use Rattle.rpg_first_values.proofs.laws.faultless_sources_fill_their_fields.Goals as goal
 
