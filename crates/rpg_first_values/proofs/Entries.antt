@@ -120,8 +120,8 @@ table_fits spelled n per_card width from t form deck is room inside enough texts
     let says = form_says n t form is in
     let found = entries n per_card width from t.length deck in
     let fit : All (IsValueOf (kind_by t.decimals) t.length) (map (entry_value t) found) =
-        All-map (IsValueOf (kind_by t.decimals) t.length) (entry_value t) found
-        (All-weaker (IsText t.length) (λ text. IsValueOf (kind_by t.decimals) t.length (entry_value t text)) (value_fits spelled t) found (entries_fit per_card width from t.length room inside n deck texts)) in
+    All-map (IsValueOf (kind_by t.decimals) t.length) (entry_value t) found
+    (All-weaker (IsText t.length) (λ text. IsValueOf (kind_by t.decimals) t.length (entry_value t text)) (value_fits spelled t) found (entries_fit per_card width from t.length room inside n deck texts)) in
     record {
       number = length-map found (entry_value t) ∙ entries_there per_card width from t.length room inside n deck enough ∙ sym says.many;
       each = subst₂ (λ k len. All (IsValueOf k len) (map (entry_value t) found)) (sym says.alike) (sym says.long) fit;

@@ -113,7 +113,6 @@ table_loaded cards spelled e per_card texts from t good of_name inside = by (tab
       fits = table_fits spelled e.entries per_card (columns_of e) from t form texts is good.room inside good.enough good.fit;
     }
 
-
 tables_fit : (cards : List SpecCard) → FitsText → (e : ExtensionSpec) (per_card : ℕ) (texts : List (List ℕ)) (from : ℕ) (ts : List TableSpec) → IsDeck e per_card texts → Each (IsOfName cards e) ts
     → from + sum_by (λ (t : TableSpec). t.length) ts ≤ columns_of e → Each (IsLoaded cards) (tables_loaded e per_card texts from ts)
 tables_fit cards spelled e per_card texts from [] good named inside = tt
