@@ -26,6 +26,6 @@ loop-card-preserved c = elim c.match-data.branch [
       let on : data_on c.card-item.result.spec ≡ Some (deck.Card text) = cc in
       ap (λ (v : Vec Value Global). map held v.items ++ values_in table c.match-data.left later) w.values-is
       ∙ at_card table c.loop-card.left w.min-number.result c.match-data.left text later _ (map held c.loop-card.values.items) (map held w.add_entries.new.values.items) _
-          w.min-number.ensures w.left-is (texts-card table.deck.now c.loop-card.card-index c.card-item.result text c.loop-card-test.true c.card-item.is on)
-          w.in_ok-add_entries-in-Some-Card.ensures c.loop-card.invariant
+      w.min-number.ensures w.left-is (texts-card table.deck.now c.loop-card.card-index c.card-item.result text c.loop-card-test.true c.card-item.is on)
+      w.in_ok-add_entries-in-Some-Card.ensures c.loop-card.invariant
 ]
