@@ -1,15 +1,13 @@
 -- What a table takes from a card, and from the cards behind it.
-use Rattle.std.proofs.Common.{◌≡◌, ℕ, suc, ◌+◌, ◌-◌, ◌<◌, ◌≤◌, Bool, true, false, cond, List, [], ◌∷◌, ◌++◌, map, length, take, drop, min, get_or, Option, None, Some, refl, sym, ap, ◌∙◌, arith, drop-cons, add-one}
+use Rattle.std.proofs.Common.{◌≡◌, ℕ, suc, ◌+◌, ◌-◌, ◌<◌, List, [], ◌∷◌, ◌++◌, map, length, drop, min, get_or, Option, Some, refl, sym, ap, ◌∙◌, arith, drop-cons, add-one}
 use Rattle.std.proofs.lemmas.List.{append_assoc, append-nil, map-append}
 use Rattle.std.proofs.lemmas.List.FromFn.{map-range_with_len_more}
-use Rattle.std.proofs.lemmas.Bool.{leb-true}
 use Rattle.std.specs.List.{range_with_len}
-use Rattle.std.specs.Prelude.{◌&&◌, is_none, nat_le}
 use Rattle.rpg_cards.specs.Cards.{data_on}
 use Rattle.rpg_cards.specs.Groups.{data_card, data_role, followers, following, role_on}
 use Rattle.rpg_cards.specs.declared.spec_card.SpecCard.{SpecCard}
 use Rattle.rpg_effect.specs.Values.{Value}
-use Rattle.rpg_fields.specs.Tables.{values_on, values_on_card}
+use Rattle.rpg_fields.specs.Tables.{values_on_card}
 use Rattle.rpg_fields.specs.declared.tables.TableData.{TableData}
 use Rattle.rpg_places.proofs.EntryLemmas.{entries-card, entries-none}
 use Rattle.rpg_places.specs.Data.{entries, entry_on}

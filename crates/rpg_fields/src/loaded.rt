@@ -69,7 +69,7 @@ impl<'a> Loaded<'a> {
             return Ok(decks);
         };
         let Some(deck) = behind_next(decks) else {
-            return Ok(decks);
+            return Ok(&[]);
         };
         self.add_tables(extension, per_card, deck)?;
         Ok(deck)

@@ -1,5 +1,4 @@
-use Rattle.std.proofs.Common.{◌≡◌, ◌∙◌, Some, sym}
-use Rattle.rpg_cards.specs.Cards.{extension_on}
+use Rattle.std.proofs.Common.{sym}
 use Rattle.rpg_fields.proofs.LoadedLemmas.{sizes_at}
 use Rattle.rpg_fields.proofs.loaded.Loaded.of_cards.Goals as goal
 
