@@ -1,5 +1,5 @@
 -- The sections of a source without a fault, and how many instructions they become.
-use Rattle.std.proofs.Common.{◌≡◌, ℕ, suc, ◌+◌, ◌≤◌, List, [], ◌∷◌, length, Option, refl, arith}
+use Rattle.std.proofs.Common.{◌≡◌, ℕ, suc, ◌+◌, ◌*◌, ◌≤◌, List, [], ◌∷◌, length, Option, refl, arith}
 use Rattle.rpg_calculations.specs.Calculations.{calculations}
 use Rattle.rpg_calculations.specs.Deeds.{Calculation}
 use Rattle.rpg_calculations.specs.Keys.{Key, Name}
