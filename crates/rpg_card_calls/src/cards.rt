@@ -1,7 +1,6 @@
 //! Lines of single cards: which columns are bad, and what the values of others are.
 
-use crate::printed::unescaped;
-use rpg_call_lines::Line;
+use rpg_call_lines::{Line, unescaped};
 use rpg_sheet::{
     CalculationSpec, Card, ColumnFault, Condition, ControlLevel, Entry, EntryIndex, Factor,
     InputSpec, Literal, NumericLiteral, OutputSpec, RecordCode, SheetCode, SheetFault, cards,
