@@ -1,22 +1,24 @@
 # Melguda: an RPG II compiler, an object-program verifier and a machine. The Rattle kit's command `rt` is all it needs.
 
-EXAMPLE := examples/invoices
+EXAMPLE := sales
 RPG2 := crates/rpg2/out/rpg2
 
 .PHONY: run test bench examples
 
-# Builds rpg2, shows the example report's source, compiles it and runs it: what rpg2 says of each, and the printed form between.
+# Builds rpg2, shows the example report's source, compiles, verifies and runs it: what rpg2 says of each, and the printed form.
 run: $(RPG2)
 	@mkdir -p out
-	@cat $(EXAMPLE)/invoices.rpg
+	@cat examples/$(EXAMPLE)/$(EXAMPLE).rpg
 	@echo
-	@echo '$$ rpg2 compile invoices.rpg invoices.obj'
-	@$(RPG2) compile $(EXAMPLE)/invoices.rpg out/invoices.obj
+	@echo '$$ rpg2 compile $(EXAMPLE).rpg $(EXAMPLE).obj'
+	@$(RPG2) compile examples/$(EXAMPLE)/$(EXAMPLE).rpg out/$(EXAMPLE).obj
+	@echo '$$ rpg2 verify $(EXAMPLE).obj'
+	@$(RPG2) verify out/$(EXAMPLE).obj
+	@echo '$$ rpg2 run $(EXAMPLE).obj $(EXAMPLE).txt $(EXAMPLE).print --date 010576'
+	@$(RPG2) run out/$(EXAMPLE).obj examples/$(EXAMPLE)/$(EXAMPLE).txt out/$(EXAMPLE).print --date 010576
 	@echo
-	@echo '$$ rpg2 run invoices.obj invoices.txt invoices.print --date 010576'
-	@$(RPG2) run out/invoices.obj $(EXAMPLE)/invoices.txt out/invoices.print --date 010576 > out/invoices.line; \
-	status=$$?; cat out/invoices.print out/invoices.line; exit $$status
-	@cmp out/invoices.print $(EXAMPLE)/invoices.expected
+	@cat out/$(EXAMPLE).print
+	@cmp out/$(EXAMPLE).print examples/$(EXAMPLE)/$(EXAMPLE).expected
 
 # The gate: every proof from nothing, every must-fail edit, every test, every program as two compilers build it.
 test: examples

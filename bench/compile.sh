@@ -7,7 +7,7 @@ set -euo pipefail
 top=$(cd "$(dirname "$0")/.." && pwd)
 rpg2=${RPG2:-$top/crates/rpg2/out/rpg2}
 rounds=${ROUNDS:-5}
-kinds=${KINDS:-names literals both constants plain}
+kinds=${KINDS:-names literals both constants plain labels groups calls entries levels data}
 
 work=$(mktemp -d)
 trap 'rm -rf "$work"' EXIT

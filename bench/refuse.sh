@@ -1,5 +1,5 @@
 #!/usr/bin/env bash
-# Compiles, verifies and runs examples with each of its allocations refused in turn: the answer must be `no memory`, status 1. Nothing is
+# Compiles, verifies and runs sources with each of its allocations refused in turn: the answer must be `no memory`, status 1. Nothing is
 # written by a compilation, and of a run's print a first part.
 set -euo pipefail
 
@@ -88,27 +88,104 @@ refuse() {
     echo "$command: $refused allocations refused in turn, no memory, status 1, nothing or a first part written"
 }
 
-lister=$top/examples/lister
+stock=$top/examples/stock
 total=$top/examples/total
-"$rpg2" compile "$lister/lister.rpg" "$work/lister.obj" > "$work/line"
-refuse compile "compiled" "$work/refused.obj" "$work/lister.obj" compile "$lister/lister.rpg" "$work/refused.obj"
-refuse verify "accepted, bound 5" "$work/unwritten" "" verify "$total/total.obj"
+
+# A search in alternating tables with data on a card.
+cat > "$work/search.rpg" <<'SOURCE'
+     FINPUT   IPE F      80            READ40
+     FPRINT   O   F     120            PRINTER
+     E                    TABA    3   3  2 0ATABB    1
+     IINPUT   AA  01
+     I                                        1   20X
+     C           X         LOKUPTABA      TABB       21  22
+     OPRINT   D        01
+     O                         TABB       1
+     O                 21                 3 'H'
+     O                 22                 3 'E'
+**
+10A20B30C
+SOURCE
+printf '20\n15\n35\n05\n' > "$work/search.txt"
+printf 'B E\nB H\nB\nA H\n' > "$work/search.expected"
+
+# Subroutines that call one another.
+cat > "$work/calls.rpg" <<'SOURCE'
+     FINPUT   IPE F      80            READ40
+     FPRINT   O   F     120            PRINTER
+     IINPUT   AA  01
+     C                     EXSR SA
+     CSR         SA        BEGSR
+     CSR                   EXSR SB
+     CSR                   ENDSR
+     CSR         SB        BEGSR
+     CSR                   EXSR SC
+     CSR                   ENDSR
+     CSR         SC        BEGSR
+     CSR         K         ADD  1         K       10
+     CSR                   GOTO OUT
+     CSR         K         ADD  5         K
+     CSR         OUT       ENDSR
+     OPRINT   D        01
+     O                         K          1
+SOURCE
+
+# Two control levels.
+cat > "$work/levels.rpg" <<'SOURCE'
+     FINPUT   IPE F      80            READ40
+     FPRINT   O   F     120            PRINTER
+     IINPUT   AA  01
+     I                                        1   1 G2    L2
+     I                                        2   2 G1    L1
+     I                                        1   3 REC
+     OPRINT   D        01
+     O                         REC        3
+     O        T        L1
+     O                                    2 'T1'
+     O        T        L2
+     O                                    2 'T2'
+SOURCE
+printf 'AX1\nBX2\n' > "$work/levels.txt"
+printf 'AX1\nT1\nT2\nBX2\nT1\nT2\n' > "$work/levels.expected"
+
+# A loop of four rounds.
+cat > "$work/loop.rpg" <<'SOURCE'
+     FINPUT   IPE F      80            READ40
+     FPRINT   O   F     120            PRINTER
+     IINPUT   AA  01
+     C           AGAIN     TAG
+     C           N         ADD  1         N       10
+     C           N         COMP 4                      20
+     C   20                GOTO AGAIN
+     OPRINT   D        01
+     O                         N          1
+SOURCE
+printf 'X\n' > "$work/loop.txt"
+printf '4\n' > "$work/loop.expected"
+
+for name in search calls levels loop; do
+    "$rpg2" compile "$work/$name.rpg" "$work/$name.obj" --allowance 3 > "$work/line"
+done
+"$rpg2" compile "$stock/stock.rpg" "$work/stock.obj" --allowance 20 > "$work/line"
+
+for name in search calls; do
+    refuse compile "compiled" "$work/refused.obj" "$work/$name.obj" compile "$work/$name.rpg" "$work/refused.obj" --allowance 3
+done
+refuse compile "compiled" "$work/refused.obj" "$work/stock.obj" compile "$stock/stock.rpg" "$work/refused.obj" --allowance 20
+refuse verify "accepted, bound 12" "$work/unwritten" "" verify "$work/calls.obj"
 refuse run "end of job, cycles 3, steps 5 of 5" "$work/print" "$total/total.expected" \
     run "$total/total.obj" "$total/amounts.txt" "$work/print" --date 010576
+refuse run "end of job, cycles 3, steps 11 of 11" "$work/print" "$work/levels.expected" \
+    run "$work/levels.obj" "$work/levels.txt" "$work/print" --date 010576
+refuse run "end of job, cycles 2, steps 17 of 18" "$work/print" "$work/loop.expected" \
+    run "$work/loop.obj" "$work/loop.txt" "$work/print" --date 010576
+refuse run "end of job, cycles 5, steps 9 of 9" "$work/print" "$work/search.expected" \
+    run "$work/search.obj" "$work/search.txt" "$work/print" --date 010576
 
 # An object program that writes a disk file and prints behind it.
-hex=$(tr -d '\n' << 'OBJECT'
-5250474f424a000103e80050007800060000000500010002000300000000000001040006000000010100000400000001010000020000000101000003
-000000010103000100000001303030303030303030303030303030310100000000000001000100020003000000000102000100000001000100000001
-000101330000000400000000000300000000020400000000000100010000000100010100000100040000000000060000000001000004000000030000
-0004000000000000000011000000000000000000000000000000000000000100000400000005000000040000000000000000
-OBJECT
-)
-printf "$(sed 's/../\\x&/g' <<< "$hex")" > "$work/disk.obj"
-printf '05\n12\n' > "$work/numbers.txt"
-printf '  1\n  1\n' > "$work/print.expected"
-printf '   005\n   013\n' > "$work/disk.expected"
+expected=$stock/stock.expected
 for written in print disk; do
-    refuse run "end of job, cycles 3, steps 8 of 8" "$work/$written" "$work/$written.expected" \
-        run "$work/disk.obj" "$work/numbers.txt" "$work/print" --date 010576 --disk "$work/disk"
+    refuse run "end of job, cycles 28, steps 98 of 190" "$work/$written" "$expected" \
+        run "$work/stock.obj" "$stock/moves.txt" "$work/print" --date 010576 --disk "$work/disk"
+    expected=$stock/balance.expected
 done

@@ -1,5 +1,5 @@
 #!/usr/bin/env bash
-# A sales report with two control levels and edited totals, by rpg2 and by GnuCOBOL on the same records in one run: the best time of ROUNDS
+# A sales report with two control levels and edited totals, compiled of its cards, by rpg2 and by GnuCOBOL on the same records in one run: the best time of ROUNDS
 # runs, and, where valgrind is there, the instructions a record. The two prints are compared without headings, blanks and the way of the form,
 # which the COBOL program makes otherwise. Where there is no cobc the bench says so and goes on.
 set -euo pipefail
@@ -17,8 +17,10 @@ for n in 2000 4000; do
     head -n "$n" "$work/sales.txt" > "$work/sales-$n.txt"
 done
 
+"$rpg2" compile "$top/bench/sales/sales.rpg" "$work/sales.obj" > "$work/line"
+
 by_rpg2() {
-    "$rpg2" run "$top/bench/sales/sales.obj" "$1" "$work/rpg2.print" --date 010576
+    "$rpg2" run "$work/sales.obj" "$1" "$work/rpg2.print" --date 010576
 }
 
 by_cobol() {
@@ -59,7 +61,7 @@ tell() {
 }
 
 by_rpg2 "$work/sales.txt"
-tell rpg2 "$(best by_rpg2)" "$rpg2" run "$top/bench/sales/sales.obj" INPUT "$work/some.print" --date 010576
+tell rpg2 "$(best by_rpg2)" "$rpg2" run "$work/sales.obj" INPUT "$work/some.print" --date 010576
 if ! command -v cobc > /dev/null; then
     echo "no cobc: the report isn't compared with COBOL's"
     exit 0

@@ -4,7 +4,7 @@
 mod translation;
 mod verification;
 
-pub use first_compile::{CompileFault, SourceCode};
+pub use rpg_compile::{SourceCode, SourceFault};
 pub use rpg_object::Code;
 pub use rpg_verify::Rule;
 pub use translation::compile_to_bytes;

@@ -2,17 +2,18 @@
 
 ghost use Rattle.std.specs.Prelude.{◌≡◌, ◌<◌, None, Ok, IfErr, IfOk};
 ghost use Rattle.rpg_bytes.specs.Verification.{IsSpelled};
-ghost use Rattle.first_compile.specs.Compile.{Compiles, IsRefusal};
+ghost use Rattle.rpg_compile.specs.Compile.{Compiles};
 ghost use Rattle.rpg_object.specs.Program.{first_fault, reading};
 ghost use Rattle.rpg_program.specs.Object.{Object};
+ghost use Rattle.rpg_source.specs.Source.{IsRefusal};
 
-use first_compile::{CompileFault, compile};
+use rpg_compile::{SourceFault, compile};
 use rpg_object::encode;
 use rpg_object::laws::a_spelling_is_read_again;
 use std::alloc::Global;
 
 /// The bytes of the object program that the source is compiled to.
-pub fn compile_to_bytes(alloc: Global, text: &[u8], allowance: u16) -> Result<Vec<u8>, CompileFault>
+pub fn compile_to_bytes(alloc: Global, text: &[u8], allowance: u16) -> Result<Vec<u8>, SourceFault>
     requires { 0 < allowance }
     // The program keeps all rules, and what is read in the bytes is that very program.
     ensures ok { IfOk result (λ bytes. (p : Object) × Compiles text.now allowance p × IsSpelled p bytes.items × (reading bytes.items ≡ Ok p)) }

@@ -3,7 +3,6 @@
 use rpg_call_lines::Line;
 use rpg_decimal::{BadDigit, ZeroDivisor};
 use rpg_form::NoMemory;
-use rpg_symbols::{DefineFault, LevelFault};
 use rpg_widths::EditFault;
 use std::alloc::{AllocError, Global};
 use std::fmt::Display;
@@ -21,9 +20,6 @@ pub fn is_told(alloc: Global, mut line: Line<'_>) -> Result<Option<bool>, AllocE
         "bad_digit_at_1" => says(alloc, BadDigit { spot: 1 }, wanted)?,
         "edit_fault" => says(alloc, EditFault, wanted)?,
         "no_memory" => says(alloc, NoMemory, wanted)?,
-        "other" => says(alloc, DefineFault::Other, wanted)?,
-        "full" => says(alloc, DefineFault::Full, wanted)?,
-        "cycle_1" => says(alloc, LevelFault::Cycle { call: 1 }, wanted)?,
         _ => return Ok(None),
     }))
 }

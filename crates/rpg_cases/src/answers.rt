@@ -1,9 +1,10 @@
 //! The lines and statuses of answers, of which no session gives some.
 
-use first_compile::{FaultCode, SheetCode};
-use rpg_cli::{Answer, CompileFault, SourceCode, line};
+use rpg_cli::{Answer, SourceCode, SourceFault, line};
+use rpg_faults::FaultCode;
 use rpg_object::Code;
 use rpg_rules::{PlaceRule, Rule};
+use rpg_sheet::SheetCode;
 use std::io::{self, Write};
 
 const F16: SourceCode = SourceCode::Fault(FaultCode::F16);
@@ -69,18 +70,18 @@ const OF_FILES: [Answer; 6] = [
 ];
 
 /// Refusals, as an error prints them.
-const REFUSALS: [CompileFault; 3] = [
-    CompileFault::At {
+const REFUSALS: [SourceFault; 3] = [
+    SourceFault::At {
         card: 5,
         code: S1,
-        column: None,
+        columns: None,
     },
-    CompileFault::At {
+    SourceFault::At {
         card: 5,
         code: F16,
-        column: None,
+        columns: None,
     },
-    CompileFault::NoMemory,
+    SourceFault::NoMemory,
 ];
 
 fn say_each<R: Print + AllocGlobal>(rt: &R, answers: &[Answer]) -> io::Result<()> {

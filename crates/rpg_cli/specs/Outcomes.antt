@@ -1,7 +1,7 @@
 -- The answer to each report and fault of a run, and to each fault of a source, of an object program and of a file.
 use Rattle.std.specs.Prelude.{ℕ}
-use Rattle.rpg_bytes.specs.CompileFault.{CompileFault}
-use Rattle.rpg_bytes.specs.CompileFault.TheVariants as source
+use Rattle.rpg_bytes.specs.SourceFault.{SourceFault}
+use Rattle.rpg_bytes.specs.SourceFault.TheVariants as source
 use Rattle.rpg_engine.specs.JobEnd.{JobEnd}
 use Rattle.rpg_engine.specs.JobEnd.TheVariants as ending
 use Rattle.rpg_cli.specs.declared.answer.Answer.{Answer}
@@ -30,8 +30,8 @@ answer_to_fault (faults.Print sent) = answer.OutputFailed
 answer_to_fault (faults.Disk sent) = answer.OutputFailed
 answer_to_fault faults.NoMemory = answer.NoMemory
 
-abbrev pub answer_to_source_fault : CompileFault → Answer
-answer_to_source_fault (source.At card code column) = answer.Source card code
+abbrev pub answer_to_source_fault : SourceFault → Answer
+answer_to_source_fault (source.At card code columns) = answer.Source card code
 answer_to_source_fault source.NoMemory = answer.NoMemory
 
 abbrev pub answer_to_object_fault : ObjectFault → Answer

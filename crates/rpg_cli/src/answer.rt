@@ -3,7 +3,7 @@
 ghost use Rattle.std.specs.Prelude.{◌≡◌};
 
 use arrayvec::ArrayVec;
-use rpg_bytes::{Code, CompileFault, ObjectFault, Rule, SourceCode};
+use rpg_bytes::{Code, ObjectFault, Rule, SourceCode, SourceFault};
 use rpg_engine::{JobEnd, Report, RunFault};
 use rpg_io::FileFault;
 
@@ -111,15 +111,15 @@ impl From<RunFault> for Answer {
     }
 }
 
-impl From<CompileFault> for Answer {
+impl From<SourceFault> for Answer {
     ghost use Rattle.rpg_cli.specs.Outcomes.{answer_to_source_fault};
 
     ghost from_gives = { λ fault answer. answer ≡ answer_to_source_fault fault };
 
-    fn from(fault: CompileFault) -> Answer {
+    fn from(fault: SourceFault) -> Answer {
         match fault {
-            CompileFault::At { card, code, .. } => Answer::Source { card, code },
-            CompileFault::NoMemory => Answer::NoMemory,
+            SourceFault::At { card, code, .. } => Answer::Source { card, code },
+            SourceFault::NoMemory => Answer::NoMemory,
         }
     }
 }

@@ -8,7 +8,7 @@ mod text;
 
 pub use answer::{Answer, Line};
 pub use program::{main_with, run};
-pub use rpg_bytes::{CompileFault, ObjectFault, SourceCode, compile_to_bytes, verify_bytes};
+pub use rpg_bytes::{ObjectFault, SourceCode, SourceFault, compile_to_bytes, verify_bytes};
 pub use rpg_engine::{
     Job, JobEnd, Report, RunFault, execute, run_records, runs_are_one, runs_are_short,
     unneeded_records_are_ignored,

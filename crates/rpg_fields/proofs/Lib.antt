@@ -1,3 +1,5 @@
 pub mod RowLemmas
 pub mod FieldLemmas
 pub mod ConstantLemmas
+pub mod TableLemmas
+pub mod LoadedLemmas

@@ -1,18 +1,14 @@
 //! The data of arrays and tables, by their names.
 
-ghost use Rattle.std.specs.Prelude.{◌≡◌, ℕ, [], ◌∷◌, List, map, length, false, Some, None, nat_eq, if◌then◌else◌, IfOk, OnOk, MatchOption};
-ghost use Rattle.std.specs.Cmp.Lexicographic.{pointwise};
-ghost use Rattle.std.specs.Map.{lookup};
-ghost use Rattle.std.specs.Option.{option_or};
-ghost use Rattle.rpg_cards.specs.Groups.{data_role, followers, groups};
-ghost use Rattle.rpg_cards.specs.Names.{tables_on};
+ghost use Rattle.std.specs.Prelude.{◌≡◌, [], ◌∷◌, ◌++◌, map, false, IfOk, OnOk, MatchOption};
+ghost use Rattle.rpg_cards.specs.Groups.{data_role, followers};
 ghost use Rattle.rpg_effect.specs.Values.{held};
+ghost use Rattle.rpg_fields.specs.Loaded.{HasSameData, TakesDeck, tables_behind};
 ghost use Rattle.rpg_fields.specs.Tables.{values_on};
 ghost use Rattle.rpg_flow.specs.Kept.{IsKept};
 ghost use Rattle.rpg_limits.specs.Names.{bad_size, bad_size_of_tables};
 ghost use Rattle.rpg_places.specs.Data as rules;
-ghost use Rattle.rpg_places.specs.Decks.{BeginsDeck, deck};
-ghost use Rattle.rpg_spec.specs.declared.extension.ExtensionSpec.{ExtensionSpec};
+ghost use Rattle.rpg_places.specs.Decks.{BeginsDeck};
 ghost use Rattle.rpg_translation.specs.Data as loads;
 
 use crate::tables::TableData;
@@ -46,7 +42,7 @@ impl<'a> Loaded<'a> {
     /// The data of all cards: the E cards with entries per card take the decks in their order.
     pub(crate) fn of_cards(alloc: Global, cards: &'a [SpecCard]) -> Result<Self, AllocError>
         requires sizes { IsKept (λ before c after. bad_size c) cards.now }
-        ensures { IfOk result (λ l. (name : List ℕ) → lookup (pointwise nat_eq name) l ≡ lookup (pointwise nat_eq name) (loads.loaded cards.now)) }
+        ensures { IfOk result (λ l. HasSameData l (loads.loaded cards.now)) }
     {
         let mut loaded = Loaded {
             tables: IndexMap::new(alloc),
@@ -67,13 +63,13 @@ impl<'a> Loaded<'a> {
         decks: &'a [SpecCard],
     ) -> Result<&'a [SpecCard], AllocError>
         requires { bad_size_of_tables extension.now ≡ false }
-        ensures { IfOk result (λ rest. (es : List ExtensionSpec) (name : List ℕ) → option_or (lookup (pointwise nat_eq name) self.old) (lookup (pointwise nat_eq name) (loads.all_loaded (extension.now ∷ es) (loads.decks decks.now))) ≡ option_or (lookup (pointwise nat_eq name) self.new) (lookup (pointwise nat_eq name) (loads.all_loaded es (loads.decks rest.now)))) }
+        ensures { IfOk result (λ rest. TakesDeck extension.now self.old decks.now self.new rest.now) }
     {
         let Some(per_card) = extension.entries_per_card else {
             return Ok(decks);
         };
         let Some(deck) = behind_next(decks) else {
-            return Ok(decks);
+            return Ok(&[]);
         };
         self.add_tables(extension, per_card, deck)?;
         Ok(deck)
@@ -86,7 +82,7 @@ impl<'a> Loaded<'a> {
         deck: &'a [SpecCard],
     ) -> Result<(), AllocError>
         requires { bad_size_of_tables extension.now ≡ false }
-        ensures { OnOk result ((name : List ℕ) → lookup (pointwise nat_eq name) self.new ≡ option_or (lookup (pointwise nat_eq name) self.old) (lookup (pointwise nat_eq name) (loads.tables_loaded extension.now per_card (followers data_role deck.now) 0 (tables_on extension.now)))) }
+        ensures { OnOk result (HasSameData self.new (self.old ++ tables_behind extension.now per_card deck.now)) }
     {
         let width = columns_of(extension);
         let first = TableData {
@@ -113,7 +109,7 @@ impl<'a> Loaded<'a> {
 
     /// With one more table, unless its name has data.
     fn add(&mut self, table: TableData<'a>) -> Result<(), AllocError>
-        ensures { OnOk result ((name : List ℕ) → lookup (pointwise nat_eq name) self.new ≡ option_or (lookup (pointwise nat_eq name) self.old) (if pointwise nat_eq name table.table.now.name then Some (values_on table) else None)) }
+        ensures { OnOk result (HasSameData self.new (self.old ++ (table.entry.table.now.name, values_on table.entry) ∷ [])) }
     {
         let name = Name::new(table.table.name.as_slice());
         if !self.tables.contains_key(&name) {
@@ -151,7 +147,7 @@ fn columns_of(extension: &ExtensionSpec) -> u32
 
 /// The cards behind the next `**` card.
 fn behind_next(cards: &[SpecCard]) -> Option<&[SpecCard]>
-    ensures { MatchOption result (groups data_role cards.now ≡ []) (λ behind. groups data_role cards.now ≡ deck behind.now ∷ groups data_role behind.now) }
+    ensures { MatchOption result (loads.decks cards.now ≡ []) (λ behind. loads.decks cards.now ≡ followers data_role behind.now ∷ loads.decks behind.now) }
 {
     let mut rest = cards;
     while let Some((card, behind)) = rest.split_first() {

@@ -1,9 +1,7 @@
 //! The values of a table, from the cards of its deck.
 
 ghost use Rattle.std.specs.Prelude.{◌≡◌, ◌++◌, ◌+◌, ◌≤◌, ◌<◌, ◌^◌, false, pos, length, map, unwrap_or, slice_range, IfOk, OnOk};
-ghost use Rattle.std.specs.List.{range_with_len};
 ghost use Rattle.rpg_effect.specs.Values.{held};
-ghost use Rattle.rpg_fields.specs.Tables.{values_on};
 ghost use Rattle.rpg_limits.specs.Names.{bad_size_of_table};
 ghost use Rattle.rpg_numbers.specs.Zoned.{number_in};
 ghost use Rattle.rpg_places.specs.Data.{entry_on};
@@ -33,8 +31,10 @@ pub(crate) struct TableData<'a> {
 }
 
 impl TableData<'_> {
+    ghost use Rattle.rpg_fields.specs.Tables.{values_on, values_on_card};
+
     pub(crate) fn values(self, alloc: Global) -> Result<Vec<Value>, AllocError>
-        ensures { IfOk result (λ v. map held v.items ≡ values_on self) }
+        ensures { IfOk result (λ v. map held v.items ≡ values_on self.entry) }
     {
         let mut values = Vec::new(alloc);
         let mut left = self.entries;
@@ -60,7 +60,7 @@ impl TableData<'_> {
         number: u16,
         values: &mut Vec<Value>,
     ) -> Result<(), AllocError>
-        ensures { OnOk result (map held values.new.items ≡ map held values.old.items ++ map (entry_value self.table.now) (map (entry_on self.width self.from self.table.now.length card.now) (range_with_len 0 number))) }
+        ensures { OnOk result (map held values.new.items ≡ map held values.old.items ++ values_on_card self.entry card.now number) }
     {
         for i in 0..number {
             values.push(value_of(alloc, self.table, self.entry(card, i))?)?;
@@ -70,8 +70,8 @@ impl TableData<'_> {
 
     /// The entry with this number on a card, from 0.
     fn entry(self, card: &[u8], number: u16) -> &[u8]
-        ensures value { result.now ≡ entry_on self.width self.from self.table.now.length card.now number }
-        ensures length { length result.now ≤ self.table.now.length }
+        ensures value { result.now ≡ entry_on self.entry.width self.entry.from self.entry.table.now.length card.now number }
+        ensures length { length result.now ≤ self.entry.table.now.length }
     {
         let start = number as usize * self.width as usize + self.from as usize;
         part(card, start, self.table.length as usize)
@@ -79,13 +79,13 @@ impl TableData<'_> {
 }
 
 /// So many characters from a place on; of those behind the end none.
-fn part(text: &[u8], start: usize, length: usize) -> &[u8]
-    requires { start + length < 2 ^ 64 }
-    ensures value { result.now ≡ slice_range text.now start (start + length) }
-    ensures length { length result.now ≤ length }
+fn part(text: &[u8], start: usize, count: usize) -> &[u8]
+    requires { start + count < 2 ^ 64 }
+    ensures value { result.now ≡ slice_range text.now start (start + count) }
+    ensures length { length result.now ≤ count }
 {
     let behind = &text[start.min(text.len())..];
-    &behind[..length.min(behind.len())]
+    &behind[..count.min(behind.len())]
 }
 
 /// What an entry of a table holds: zero where it should be a number, and is none.

@@ -6,7 +6,14 @@ ghost use Rattle.rpg_translation.specs.Data.{values_of};
 ghost use Rattle.rpg_translation.specs.Table.{forms, table_of};
 
 use rpg_cards::SpecCard;
+use rpg_decimal::texts_spell_by_places;
+use rpg_translation::ranges::cards_are_in_range;
 
+/// What the fields of a source without a fault hold before the first cycle fits them: each has as many values as entries,
+/// and each value has the kind and the length of its field. Arrays and tables with data hold what stands on their cards.
 pub fn faultless_sources_fill_their_fields(cards: &[SpecCard])
     ensures { Faultless cards.now → AreValuesOf (forms (table_of cards.now)) (values_of cards.now) }
-{}
+{
+    cards_are_in_range(cards);
+    texts_spell_by_places();
+}

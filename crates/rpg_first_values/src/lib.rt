@@ -1,4 +1,4 @@
-//! What fields hold before the first cycle fits them.
+//! What the fields of whole sources hold before the first cycle: the values of a source without a fault fit its fields.
 #![tactic(auto)]
 
 mod laws;

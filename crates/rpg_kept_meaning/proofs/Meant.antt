@@ -4,7 +4,7 @@ use Rattle.rpg_acceptance.proofs.Kept.{keeps_rules}
 use Rattle.rpg_cards.specs.declared.spec_card.SpecCard.{SpecCard}
 use Rattle.rpg_faults.specs.Faults.{Faultless}
 use Rattle.rpg_jobs.proofs.Meant.{has_start, runs_are_meant}
-use Rattle.rpg_kept_meaning.specs.Compiled.{Compiles}
+use Rattle.rpg_compile.specs.Compile.{Compiles}
 use Rattle.rpg_kept_meaning.specs.Meant.{DoesAsMeant}
 use Rattle.rpg_meaning.proofs.Accepted.{orderly_of}
 use Rattle.rpg_meaning.proofs.Keys.{named_world}

@@ -1,5 +1,5 @@
 //! Laws of what is compiled. The functions do nothing: each is called for its contract alone.
-ghost use Rattle.rpg_kept_meaning.specs.Compiled.{Compiles};
+ghost use Rattle.rpg_compile.specs.Compile.{Compiles};
 ghost use Rattle.rpg_kept_meaning.specs.Meant.{DoesAsMeant};
 ghost use Rattle.rpg_source.specs.Source.{cards_in};
 

@@ -3,6 +3,8 @@
 ghost use Rattle.std.specs.Prelude.{◌≡◌, ◌<◌, ◌≤◌, length, option_copied, IfOk};
 ghost use Rattle.std.specs.Option.{option_and_then};
 ghost use Rattle.rpg_faults.specs.Faults.{Faultless};
+ghost use Rattle.rpg_flow.specs.Kept.{IsKept};
+ghost use Rattle.rpg_limits.specs.Names.{bad_size};
 ghost use Rattle.rpg_program.specs.Kept.{AreValuesOf};
 ghost use Rattle.rpg_program_limits.specs.Limits.{KeepsLimits};
 ghost use Rattle.rpg_rules.specs.Accepted.{IsAccepted};
@@ -43,6 +45,7 @@ fn program_of(alloc: Global, cards: &[SpecCard], allowance: u16) -> Result<Progr
     requires allowed { 0 < allowance }
     requires few { length cards.now ≤ 2000 }
     requires limits { KeepsLimits cards.now }
+    requires sizes { IsKept (λ before c after. bad_size c) cards.now }
     requires values { AreValuesOf (forms (table_of cards.now)) (values_of cards.now) }
     requires accepted { IsAccepted (programs.program_of cards.now allowance) }
     ensures { IfOk result (λ p. p ≡ programs.program_of cards.now allowance) }

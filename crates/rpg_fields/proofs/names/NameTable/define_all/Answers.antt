@@ -24,4 +24,5 @@ loop-definition-preserved c =
     record {
       so_far = ap (λ s. with_definitions s (drop (c.loop-definition.definition-index + 1) c.args.definitions.now)) c.in_ok-define.ensures.symbols ∙ sym next ∙ c.loop-definition.invariant.so_far;
       same = c.in_ok-define.ensures.forms;
+      values = c.in_ok-define.ensures.values;
     }

@@ -26,4 +26,5 @@ loop-card-preserved c =
     record {
       so_far = ap (λ s. with_definitions s (definitions (drop (c.loop-card.card-index + 1) c.args.cards.now))) defined ∙ sym next ∙ c.loop-card.invariant.so_far;
       same = c.in_ok-define_on.ensures.forms;
+      values = c.in_ok-define_on.ensures.values;
     }

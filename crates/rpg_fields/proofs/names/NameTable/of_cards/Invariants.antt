@@ -1,4 +1,6 @@
-use Rattle.std.proofs.Common.{◌≡◌, drop}
+use Rattle.std.proofs.Common.{◌≡◌, drop, map}
+use Rattle.rpg_effect.specs.Values.{held}
+use Rattle.rpg_translation.specs.Data.{field_values}
 use Rattle.rpg_cards.specs.Names.{definitions}
 use Rattle.rpg_translation.specs.Table.{fields_of, name_forms, with_definitions}
 use Rattle.rpg_fields.proofs.names.NameTable.of_cards.Given as goal
@@ -7,4 +9,5 @@ abbrev pub invariant-loop-card : goal.invariant-loop-card
 invariant-loop-card l = record {
   so_far : with_definitions l.table.symbols (definitions (drop l.card-index l.cards)) ≡ fields_of l.cards;
   same : l.table.forms.items ≡ name_forms l.table.symbols;
+  values : map (λ vs. map held vs.items) l.table.values.items ≡ map (field_values l.loaded) l.table.symbols;
 }

@@ -1,9 +1,0 @@
-pub mod Cards
-pub mod Names
-pub mod Constants
-pub mod SameConstants
-pub mod Files
-pub mod Groups
-pub mod Sheets
-pub mod Operations
-pub mod Index

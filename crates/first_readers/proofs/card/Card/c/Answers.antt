@@ -1,6 +1,0 @@
-use Rattle.first_readers.proofs.Laws.{read_by}
-use Rattle.first_readers.proofs.CardLaws.{calculation_card_law}
-use Rattle.first_readers.proofs.card.Card.c.Goals as goal
-
-pub returns : goal.returns
-returns c = read_by calculation_card_law c.args.self.now _ c.calculation_card.ensures

@@ -1,5 +1,0 @@
-//! The header sheet (H).
-
-/// An H card.
-#[derive(Clone, Copy)]
-pub struct HeaderSpec;

@@ -1,4 +1,0 @@
-pub mod Fields
-pub mod Tables
-pub mod Code
-pub mod Program

@@ -1,9 +1,0 @@
-pub mod FieldLemmas
-pub mod RowLemmas
-pub mod Programs
-pub mod Walks
-pub mod Unpassed
-pub mod Counts
-pub mod Totals
-pub mod Limits
-pub mod ConstantLemmas

@@ -1,3 +1,0 @@
-pub mod Characters
-mod Digits
-mod LiteralLemmas
