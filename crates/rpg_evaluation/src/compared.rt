@@ -61,10 +61,14 @@ fn compare(alloc: Global, made: &Made) -> Result<Comparison, AllocError> {
     };
     let course = evaluate(alloc, &cards, ALLOWANCE, &records);
     let run = run_records(alloc, &program, b"010576", &records);
-    Ok(match (course, run) {
-        (Ok(course), Ok(run)) if is_same(&course, &run) => Comparison::Same(run.ending),
-        _ => Comparison::Different,
-    })
+    let (Ok(course), Ok(run)) = (course, run) else {
+        return Ok(Comparison::Different);
+    };
+    if is_same(&course, &run) {
+        Ok(Comparison::Same(run.ending))
+    } else {
+        Ok(Comparison::Different)
+    }
 }
 
 /// Writes a source that is refused, or whose program doesn't do as its cards mean.
