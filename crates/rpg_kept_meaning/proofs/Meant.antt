@@ -32,4 +32,4 @@ cards_do cards allowance faultless program accepted =
 pub does_as_meant : (text : List ℕ) (allowance : ℕ) (p : Object) → IsProgram p → Compiles text allowance p → DoesAsMeant (cards_in text) allowance p
 does_as_meant text allowance p program compiled =
     subst (λ q. IsProgram q → IsAccepted q → DoesAsMeant (cards_in text) allowance q) (sym compiled.program)
-      (cards_do (cards_in text) allowance compiled.faultless) program compiled.accepted
+    (cards_do (cards_in text) allowance compiled.faultless) program compiled.accepted
