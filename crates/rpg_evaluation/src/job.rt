@@ -7,10 +7,9 @@ use crate::lines::{Line, lines_of, printed};
 use crate::state::State;
 use crate::values::{Spot, Stop, Value};
 use rpg_cards::{FileUse, SpecCard, file_for};
-use rpg_case_files::Outputs;
 use rpg_decimal::{Rest, Scale};
 use rpg_spec::{InputField, LineTime, RecordType};
-use std::alloc::{AllocError, Global};
+use std::alloc::Global;
 use std::cmp::Ordering;
 
 const LEVEL_ZERO: u8 = 100;
@@ -277,7 +276,8 @@ fn cycles(
     (Ending::Stopped(Stop::Unmeant), 0)
 }
 
-/// What the cards of a source mean over records.
+/// What the cards of a source mean over records, with the allowance of each cycle. It is an `Err` where no cycle can begin: by cards that
+/// aren't evaluated here, or by a record longer than its file has them.
 pub fn evaluate(
     alloc: Global,
     cards: &[SpecCard],
@@ -295,28 +295,5 @@ pub fn evaluate(
         ending,
         cycles: count,
         print: printed(alloc, state.lines.as_slice())?,
-    })
-}
-
-/// The line of `rpg2 run` for a course, as far as cards say it: they know no steps.
-pub fn line_of(alloc: Global, course: &Course) -> Result<Vec<u8>, AllocError> {
-    let cycles = course.cycles;
-    let line = match course.ending {
-        Ending::EndOfJob => format!(in alloc; "end of job, cycles {cycles}")?,
-        Ending::Stopped(Stop::Halt(number)) => {
-            format!(in alloc; "halt {number}, cycles {cycles}")?
-        }
-        Ending::Stopped(Stop::Unmeant) => format!(in alloc; "not evaluated")?,
-        Ending::Stopped(Stop::NoMemory) => format!(in alloc; "no memory")?,
-    };
-    Vec::from_slice(alloc, line.as_bytes())
-}
-
-/// What is told of a course.
-pub fn outputs_of(alloc: Global, course: Course) -> Result<Outputs, AllocError> {
-    Ok(Outputs {
-        answer: line_of(alloc, &course)?,
-        print: course.print,
-        disk: Vec::new(alloc),
     })
 }

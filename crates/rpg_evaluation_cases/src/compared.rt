@@ -1,12 +1,11 @@
 //! Sources made by chance: what their cards mean, beside what their compiled programs print.
 
 use crate::chance::Chance;
-use crate::job::{Course, Ending, evaluate};
 use crate::sources::{Rules, made_by};
-use crate::values::Stop;
 use rpg_case_files::records_of;
 use rpg_compile::compile;
 use rpg_cycle::{JobEnd, Run, run_records};
+use rpg_evaluation::{Course, Ending, Stop, evaluate};
 use rpg_source::{SourceFault, faultless_cards};
 use rpg_verify::{Verified, verify};
 use std::alloc::{AllocError, Global};

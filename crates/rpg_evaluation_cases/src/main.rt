@@ -1,27 +1,21 @@
-//! A plain evaluator of calculations by their cards, beside worked values and beside the machine.
+//! The plain evaluator of cards, beside worked values and beside the machine.
 //!
-//! README.md says what is evaluated.
+//! README.md says how the files of data are written.
 #![tactic(auto)]
 
-mod calculations;
 mod chance;
 mod compared;
-mod control;
-mod definitions;
-mod job;
-mod lines;
-mod operations;
 mod sources;
-mod state;
-mod values;
+mod told;
 
 use compared::compare_all;
-use job::{evaluate, outputs_of};
 use rpg_case_files::{Case, Outputs, Question, Told, records_of, text_of, write_report};
+use rpg_evaluation::evaluate;
 use rpg_source::faultless_cards;
 use std::alloc::{AllocError, Global};
 use std::io::{self, Write};
 use std::{env, fs};
+use told::outputs_of;
 
 /// What the cards of a case mean.
 fn outputs_of_case(alloc: Global, case: &Case<'_>) -> Result<Outputs, AllocError> {
