@@ -24,9 +24,9 @@ run: $(RPG2)
 test: examples
 	rt ci
 
-# The gate runs the examples as rpg_cases has them: these are the files that a person finds in examples/.
+# The gate runs the examples as rpg_show_cases has them: these are the files that a person finds in examples/.
 examples:
-	@for file in $(filter-out %.cases %.session,$(wildcard crates/rpg_cases/data/*)); do cmp examples/*/$$(basename $$file) $$file || exit 1; done
+	@for file in $(filter-out %.cases %.objects %.session,$(wildcard crates/rpg_show_cases/data/*)); do cmp examples/*/$$(basename $$file) $$file || exit 1; done
 
 # The example's total over 1,000,000 records, beside the same total made by awk; what decoding and verifying the largest programs takes;
 # what compiling costs; and a sales report beside the same in COBOL.

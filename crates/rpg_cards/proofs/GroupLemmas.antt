@@ -5,9 +5,9 @@ use Rattle.std.proofs.lemmas.List.Sums.{fold-append}
 use Rattle.std.specs.List.{last_or}
 use Rattle.std.specs.Option.{option_map, option_or, option_to_list}
 use Rattle.std.specs.Prelude.{fold}
-use Rattle.rpg_cards.specs.Groups.{Role, Heading, Follower, Apart, Group, following, opening, followers, groups_from, groups, open_group, file_of, with_followers, with_card}
+use Rattle.rpg_cards.specs.Groups.{Role, Heading, Follower, Apart, Group, following, opening, followers, groups_from, groups, open_group, file_of_group, with_followers, with_card}
 use Rattle.rpg_cards.specs.declared.spec_card.SpecCard.{SpecCard}
-use Rattle.rpg_spec.specs.declared.spec.Spec.{Spec}
+use Rattle.rpg_sheet_specs.specs.declared.spec.Spec.{Spec}
 
 no_more_followers : {H F : Type 0} (g : Group H F) → with_followers [] g ≡ g
 no_more_followers g = ap (λ fs. record { heading = g.heading; followers = fs; file = g.file }) (append-nil g.followers)
@@ -32,7 +32,7 @@ file_with file Apart = file
 module _ {H F : Type 0} (role : Spec → Role H F) where
   -- the groups of cards behind an open group, that one first
   abbrev pub groups_on : Option (Group H F) → List SpecCard → List (Group H F)
-  groups_on o cards = option_to_list (option_map (with_followers (followers role cards)) o) ++ groups_from role (file_of o) cards
+  groups_on o cards = option_to_list (option_map (with_followers (followers role cards)) o) ++ groups_from role (file_of_group o) cards
 
   abbrev pub one_more : Option (Group H F) → SpecCard → Option (Group H F)
   one_more o c = with_card o (role c.spec)
@@ -40,7 +40,7 @@ module _ {H F : Type 0} (role : Spec → Role H F) where
   pub groups_on-card : (o : Option (Group H F)) (c : SpecCard) (cs : List SpecCard) → groups_on o (c ∷ cs) ≡ closing (role c.spec) o ++ groups_on (one_more o c) cs
   groups_on-card o c cs = by_role (role c.spec) o
     where
-      by_role : (r : Role H F) (o : Option (Group H F)) → option_to_list (option_map (with_followers (following r (followers role cs))) o) ++ opening r (file_of o) (followers role cs) (λ own. groups_from role own cs)
+      by_role : (r : Role H F) (o : Option (Group H F)) → option_to_list (option_map (with_followers (following r (followers role cs))) o) ++ opening r (file_of_group o) (followers role cs) (λ own. groups_from role own cs)
           ≡ closing r o ++ groups_on (with_card o r) cs
       by_role (Heading h name) None = refl
       by_role (Heading h name) (Some g) = ap (λ x. x ∷ groups_on (with_card (Some g) (Heading h name)) cs) (no_more_followers g)

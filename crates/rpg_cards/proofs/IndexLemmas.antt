@@ -9,14 +9,14 @@ use Rattle.std.specs.Option.{option_or, is_some}
 use Rattle.std.specs.Prelude.{nat_eq, nat_le, nat_lt, ◌||◌}
 use Rattle.rpg_cards.proofs.ItemLemmas.{definitions-take, constants_in-take}
 use Rattle.rpg_cards.specs.Constants.{constants_in, constants_on, is_same}
-use Rattle.rpg_cards.specs.Index.{defined_first, first_at, place_of, placed, IsIndex}
+use Rattle.rpg_cards.specs.Index.{defined_first, first_at, place_of_constant, placed_definition, IsIndex}
 use Rattle.rpg_cards.specs.Names.{definitions, definitions_on, defined_as, defined_field, first_form, is_new_name, is_of}
 use Rattle.rpg_cards.specs.declared.constants.Constant.{Constant}
 use Rattle.rpg_cards.specs.declared.index.FirstDefinition.{FirstDefinition}
 use Rattle.rpg_cards.specs.declared.names.Definition.{Definition}
 use Rattle.rpg_cards.specs.declared.spec_card.SpecCard.{SpecCard}
 use Rattle.rpg_effect.specs.declared.form.FieldForm.{FieldForm}
-use Rattle.rpg_symbols.specs.Fields.{Fields, form_of, given}
+use Rattle.rpg_symbols.specs.Fields.{NamedForms, defined_form, given}
 
 -- ---- entries
 
@@ -133,29 +133,29 @@ module _ {X Y : Type 0} (test : X → Bool) (made : ℕ → X → Y) where
 
 -- ---- names
 
-pub first_form_first : (name : List ℕ) (i : ℕ) (ds : List Definition) → first_form name ds ≡ defined_first (first_at (is_of name) placed i ds)
+pub first_form_first : (name : List ℕ) (i : ℕ) (ds : List Definition) → first_form name ds ≡ defined_first (first_at (is_of name) placed_definition i ds)
 first_form_first name i [] = refl
 first_form_first name i (d ∷ ds) = by_test (is_of name d) (first_form_first name (i + 1) ds)
   where
-    by_test : (b : Bool) → first_form name ds ≡ defined_first (first_at (is_of name) placed (i + 1) ds)
-        → cond b (defined_as d.form) (first_form name ds) ≡ defined_first (cond b (Some (placed i d)) (first_at (is_of name) placed (i + 1) ds))
+    by_test : (b : Bool) → first_form name ds ≡ defined_first (first_at (is_of name) placed_definition (i + 1) ds)
+        → cond b (defined_as d.form) (first_form name ds) ≡ defined_first (cond b (Some (placed_definition i d)) (first_at (is_of name) placed_definition (i + 1) ds))
     by_test true rest = refl
     by_test false rest = rest
 
 -- a field is known by its name
-pub known_fields : (fields : Fields) (name : List ℕ) → list_any (is_of name) (map defined_field fields) ≡ is_some (form_of fields name)
+pub known_fields : (fields : NamedForms) (name : List ℕ) → list_any (is_of name) (map defined_field fields) ≡ is_some (defined_form fields name)
 known_fields [] name = refl
 known_fields (f ∷ fs) name = by_test (pointwise nat_eq name f.0) (known_fields fs name)
   where
-    by_test : (b : Bool) → list_any (is_of name) (map defined_field fs) ≡ is_some (form_of fs name) → (b || list_any (is_of name) (map defined_field fs)) ≡ is_some (cond b (Some f.1) (form_of fs name))
+    by_test : (b : Bool) → list_any (is_of name) (map defined_field fs) ≡ is_some (defined_form fs name) → (b || list_any (is_of name) (map defined_field fs)) ≡ is_some (cond b (Some f.1) (defined_form fs name))
     by_test true rest = refl
     by_test false rest = rest
 
 -- an answer that a name is new, where it isn't given
-pub new_name : (name : List ℕ) (o : Option FieldForm) (p : Option FirstDefinition) (ds : List Definition) (new : Bool) → o ≡ form_of given name → is_some o ≡ false
-    → p ≡ first_at (is_of name) placed 0 ds → is_some p ≡ not new → new ≡ is_new_name name ds
+pub new_name : (name : List ℕ) (o : Option FieldForm) (p : Option FirstDefinition) (ds : List Definition) (new : Bool) → o ≡ defined_form given name → is_some o ≡ false
+    → p ≡ first_at (is_of name) placed_definition 0 ds → is_some p ≡ not new → new ≡ is_new_name name ds
 new_name name o p ds new known none found answer =
-    turned new (is_some p) answer ∙ ap (λ (q : Option FirstDefinition). not (is_some q)) found ∙ ap not (sym (any_first (is_of name) placed 0 ds))
+    turned new (is_some p) answer ∙ ap (λ (q : Option FirstDefinition). not (is_some q)) found ∙ ap not (sym (any_first (is_of name) placed_definition 0 ds))
     ∙ ap (λ b. not (b || list_any (is_of name) ds)) (sym none ∙ ap (λ (q : Option FieldForm). is_some q) known ∙ sym (known_fields given name))
   where
     turned : (a b : Bool) → b ≡ not a → a ≡ not b
@@ -180,17 +180,17 @@ not_below p n = no_less p n ∙ by_cases (nat_lt p n)
 
 module _ (names : List (List ℕ × FirstDefinition)) (constants : List (Constant × ℕ)) (cards : List SpecCard) (index : IsIndex names constants cards) where
   pub found_before : (name : List ℕ) (n : ℕ) (all : List SpecCard) (o : Option FirstDefinition) → cards ≡ all → o ≡ lookup (pointwise nat_eq name) names
-      → only_before (λ (d : FirstDefinition). d.place) n o ≡ first_at (is_of name) placed 0 (take n (definitions all))
+      → only_before (λ (d : FirstDefinition). d.place) n o ≡ first_at (is_of name) placed_definition 0 (take n (definitions all))
   found_before name n all o same found =
-      ap (only_before (λ (d : FirstDefinition). d.place) n) (found ∙ index.defined name) ∙ sym (first_before (is_of name) placed (λ (d : FirstDefinition). d.place) (λ i d. refl) n (definitions cards))
-      ∙ ap (λ cs. first_at (is_of name) placed 0 (take n (definitions cs))) same
+      ap (only_before (λ (d : FirstDefinition). d.place) n) (found ∙ index.defined name) ∙ sym (first_before (is_of name) placed_definition (λ (d : FirstDefinition). d.place) (λ i d. refl) n (definitions cards))
+      ∙ ap (λ cs. first_at (is_of name) placed_definition 0 (take n (definitions cs))) same
 
   pub stands_before : (x : Constant) (n : ℕ) (all : List SpecCard) (o : Option ℕ) → cards ≡ all → o ≡ lookup (is_same x) constants
       → is_some (only_before (λ (p : ℕ). p) n o) ≡ list_any (is_same x) (take n (constants_in all))
   stands_before x n all o same found =
       ap (λ (p : Option ℕ). is_some (only_before (λ (q : ℕ). q) n p)) (found ∙ index.standing x)
-      ∙ ap (λ (p : Option ℕ). is_some p) (sym (first_before (is_same x) place_of (λ (p : ℕ). p) (λ i x. refl) n (constants_in cards)))
-      ∙ sym (any_first (is_same x) place_of 0 (take n (constants_in cards)))
+      ∙ ap (λ (p : Option ℕ). is_some p) (sym (first_before (is_same x) place_of_constant (λ (p : ℕ). p) (λ i x. refl) n (constants_in cards)))
+      ∙ sym (any_first (is_same x) place_of_constant 0 (take n (constants_in cards)))
       ∙ ap (λ cs. list_any (is_same x) (take n (constants_in cs))) same
 
 -- ---- one more card
@@ -198,16 +198,16 @@ module _ (names : List (List ℕ × FirstDefinition)) (constants : List (Constan
 pub index_more : (names names_more : List (List ℕ × FirstDefinition)) (constants constants_more : List (Constant × ℕ)) (cards : List SpecCard) (i : ℕ) (c : SpecCard)
     (n m : ℕ) (ds : List Definition) (xs : List Constant) → i < length cards → c ≡ get_or cards i c → IsIndex names constants (take i cards)
     → n ≡ length (definitions (take i cards)) → m ≡ length (constants_in (take i cards)) → ds ≡ definitions_on c.spec → xs ≡ constants_on c.spec
-    → ((name : List ℕ) → lookup (pointwise nat_eq name) names_more ≡ option_or (lookup (pointwise nat_eq name) names) (first_at (is_of name) placed n ds))
-    → ((x : Constant) → lookup (is_same x) constants_more ≡ option_or (lookup (is_same x) constants) (first_at (is_same x) place_of m xs))
+    → ((name : List ℕ) → lookup (pointwise nat_eq name) names_more ≡ option_or (lookup (pointwise nat_eq name) names) (first_at (is_of name) placed_definition n ds))
+    → ((x : Constant) → lookup (is_same x) constants_more ≡ option_or (lookup (is_same x) constants) (first_at (is_same x) place_of_constant m xs))
     → IsIndex names_more constants_more (take (i + 1) cards)
 index_more names names_more constants constants_more cards i c n m ds xs lt is index at_name at_constant defines has noted_names noted_constants = record {
   defined = λ name.
-      noted_more (is_of name) placed (pointwise nat_eq name) names names_more (definitions (take i cards)) ds (index.defined name)
-      (noted_names name ∙ ap (λ k. option_or (lookup (pointwise nat_eq name) names) (first_at (is_of name) placed k ds)) at_name)
-      ∙ ap (first_at (is_of name) placed 0) (ap (λ l. definitions (take i cards) ++ l) defines ∙ sym (definitions-take cards i c lt is));
+      noted_more (is_of name) placed_definition (pointwise nat_eq name) names names_more (definitions (take i cards)) ds (index.defined name)
+      (noted_names name ∙ ap (λ k. option_or (lookup (pointwise nat_eq name) names) (first_at (is_of name) placed_definition k ds)) at_name)
+      ∙ ap (first_at (is_of name) placed_definition 0) (ap (λ l. definitions (take i cards) ++ l) defines ∙ sym (definitions-take cards i c lt is));
   standing = λ x.
-      noted_more (is_same x) place_of (is_same x) constants constants_more (constants_in (take i cards)) xs (index.standing x)
-      (noted_constants x ∙ ap (λ k. option_or (lookup (is_same x) constants) (first_at (is_same x) place_of k xs)) at_constant)
-      ∙ ap (first_at (is_same x) place_of 0) (ap (λ l. constants_in (take i cards) ++ l) has ∙ sym (constants_in-take cards i c lt is));
+      noted_more (is_same x) place_of_constant (is_same x) constants constants_more (constants_in (take i cards)) xs (index.standing x)
+      (noted_constants x ∙ ap (λ k. option_or (lookup (is_same x) constants) (first_at (is_same x) place_of_constant k xs)) at_constant)
+      ∙ ap (first_at (is_same x) place_of_constant 0) (ap (λ l. constants_in (take i cards) ++ l) has ∙ sym (constants_in-take cards i c lt is));
 }

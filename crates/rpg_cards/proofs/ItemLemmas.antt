@@ -7,10 +7,10 @@ use Rattle.rpg_cards.specs.Names.{definition_by, definition_in, definitions, def
 use Rattle.rpg_cards.specs.declared.constants.Constant.{Constant}
 use Rattle.rpg_cards.specs.declared.names.Definition.{Definition}
 use Rattle.rpg_cards.specs.declared.spec_card.SpecCard.{SpecCard}
-use Rattle.rpg_spec.specs.declared.input.InputSpec.TheVariants as input
-use Rattle.rpg_spec.specs.declared.output.OutputSpec.TheVariants as output
-use Rattle.rpg_spec.specs.declared.spec.Spec.{Spec}
-use Rattle.rpg_spec.specs.declared.spec.Spec.TheVariants as spec
+use Rattle.rpg_sheet_specs.specs.declared.input.InputSpec.TheVariants as input
+use Rattle.rpg_sheet_specs.specs.declared.output.OutputSpec.TheVariants as output
+use Rattle.rpg_sheet_specs.specs.declared.spec.Spec.{Spec}
+use Rattle.rpg_sheet_specs.specs.declared.spec.Spec.TheVariants as spec
 
 pub definitions-append : (cs ds : List SpecCard) → definitions (cs ++ ds) ≡ definitions cs ++ definitions ds
 definitions-append [] ds = refl

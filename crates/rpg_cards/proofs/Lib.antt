@@ -1,5 +1,6 @@
+pub mod GroupEnds
+pub mod GroupLemmas
+pub mod IndexLemmas
 pub mod InsertLemmas
 pub mod ItemLemmas
-pub mod IndexLemmas
-pub mod GroupLemmas
 pub mod SheetLemmas

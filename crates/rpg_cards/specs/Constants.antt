@@ -15,12 +15,12 @@ use Rattle.rpg_cards.specs.declared.spec_card.SpecCard.{SpecCard}
 use Rattle.rpg_effect.specs.declared.form.Class.TheVariants as class
 use Rattle.rpg_effect.specs.declared.form.FieldForm.{FieldForm}
 use Rattle.rpg_effect.specs.declared.form.Kind.TheVariants as kind
-use Rattle.rpg_spec.specs.declared.literal.Factor.{Factor}
-use Rattle.rpg_spec.specs.declared.literal.Factor.TheVariants as factor
-use Rattle.rpg_spec.specs.declared.literal.Literal.{Literal}
-use Rattle.rpg_spec.specs.declared.literal.Literal.TheVariants as literal
-use Rattle.rpg_spec.specs.declared.output.OutputField.{OutputField}
-use Rattle.rpg_spec.specs.declared.spec.Spec.{Spec}
+use Rattle.rpg_sheet_specs.specs.declared.literal.Factor.{Factor}
+use Rattle.rpg_sheet_specs.specs.declared.literal.Factor.TheVariants as factor
+use Rattle.rpg_sheet_specs.specs.declared.literal.Literal.{Literal}
+use Rattle.rpg_sheet_specs.specs.declared.literal.Literal.TheVariants as literal
+use Rattle.rpg_sheet_specs.specs.declared.output.OutputField.{OutputField}
+use Rattle.rpg_sheet_specs.specs.declared.spec.Spec.{Spec}
 use Rattle.rpg_text.specs.Texts.{is_character}
 
 abbrev pub constant_of : Literal → Constant

@@ -7,11 +7,11 @@ use Rattle.rpg_cards.specs.Cards.{file_on}
 use Rattle.rpg_cards.specs.declared.files.FileUse.{FileUse}
 use Rattle.rpg_cards.specs.declared.files.FileUse.TheVariants.{Primary, Printer, Disk}
 use Rattle.rpg_cards.specs.declared.spec_card.SpecCard.{SpecCard}
-use Rattle.rpg_spec.specs.declared.file.Device.{Device}
-use Rattle.rpg_spec.specs.declared.file.Device.TheVariants as device
-use Rattle.rpg_spec.specs.declared.file.FileRole.{FileRole}
-use Rattle.rpg_spec.specs.declared.file.FileRole.TheVariants as role
-use Rattle.rpg_spec.specs.declared.file.FileSpec.{FileSpec}
+use Rattle.rpg_sheet_specs.specs.declared.file.Device.{Device}
+use Rattle.rpg_sheet_specs.specs.declared.file.Device.TheVariants as device
+use Rattle.rpg_sheet_specs.specs.declared.file.FileRole.{FileRole}
+use Rattle.rpg_sheet_specs.specs.declared.file.FileRole.TheVariants as role
+use Rattle.rpg_sheet_specs.specs.declared.file.FileSpec.{FileSpec}
 
 -- ---- what a file serves as
 
@@ -20,8 +20,8 @@ use_by role.Primary d = Primary
 use_by role.Output device.Printer = Printer
 use_by role.Output device.Disk = Disk
 
-abbrev pub use_of : FileSpec → FileUse
-use_of f = use_by f.role f.device
+abbrev pub file_use : FileSpec → FileUse
+file_use f = use_by f.role f.device
 
 abbrev pub same_use : FileUse → FileUse → Bool
 same_use Primary Primary = true
@@ -44,7 +44,7 @@ files cards = filter_map (λ c. file_on c.spec) cards
 
 -- the first file of a use
 abbrev pub file_for : FileUse → List SpecCard → Option FileSpec
-file_for u cards = find (λ f. same_use u (use_of f)) (files cards)
+file_for u cards = find (λ f. same_use u (file_use f)) (files cards)
 
 abbrev pub file_named : List ℕ → List SpecCard → Option FileSpec
 file_named name cards = find (λ f. pointwise nat_eq name f.name) (files cards)

@@ -4,17 +4,17 @@ use Rattle.std.specs.List.{last_or}
 use Rattle.std.specs.Option.{option_and_then, option_map, option_map_or, option_or}
 use Rattle.rpg_cards.specs.Cards.{input_on, output_on, data_on}
 use Rattle.rpg_cards.specs.declared.spec_card.SpecCard.{SpecCard}
-use Rattle.rpg_spec.specs.declared.calculation.ControlLevel.{ControlLevel}
-use Rattle.rpg_spec.specs.declared.calculation.ControlLevel.TheVariants as control
-use Rattle.rpg_spec.specs.declared.data.DataSpec.{DataSpec}
-use Rattle.rpg_spec.specs.declared.data.DataSpec.TheVariants as deck
-use Rattle.rpg_spec.specs.declared.input.InputSpec.{InputSpec}
-use Rattle.rpg_spec.specs.declared.input.InputSpec.TheVariants as input
-use Rattle.rpg_spec.specs.declared.input.RecordType.{RecordType}
-use Rattle.rpg_spec.specs.declared.output.OutputSpec.{OutputSpec}
-use Rattle.rpg_spec.specs.declared.output.OutputSpec.TheVariants as output
-use Rattle.rpg_spec.specs.declared.output.OutputRecord.{OutputRecord}
-use Rattle.rpg_spec.specs.declared.spec.Spec.{Spec}
+use Rattle.rpg_sheet_specs.specs.declared.calculation.ControlLevel.{ControlLevel}
+use Rattle.rpg_sheet_specs.specs.declared.calculation.ControlLevel.TheVariants as control
+use Rattle.rpg_sheet_specs.specs.declared.data.DataSpec.{DataSpec}
+use Rattle.rpg_sheet_specs.specs.declared.data.DataSpec.TheVariants as deck
+use Rattle.rpg_sheet_specs.specs.declared.input.InputSpec.{InputSpec}
+use Rattle.rpg_sheet_specs.specs.declared.input.InputSpec.TheVariants as input
+use Rattle.rpg_sheet_specs.specs.declared.input.RecordType.{RecordType}
+use Rattle.rpg_sheet_specs.specs.declared.output.OutputSpec.{OutputSpec}
+use Rattle.rpg_sheet_specs.specs.declared.output.OutputSpec.TheVariants as output
+use Rattle.rpg_sheet_specs.specs.declared.output.OutputRecord.{OutputRecord}
+use Rattle.rpg_sheet_specs.specs.declared.spec.Spec.{Spec}
 
 -- what a card is to the groups of a sheet: a heading with the file that it names, a follower, or apart from them
 pub data Role (H F : Type 0) : Type 0 where
@@ -41,8 +41,8 @@ opening (Heading h name) file fs behind = record { heading = h; followers = fs; 
 opening (Follower f) file fs behind = behind file
 opening Apart file fs behind = behind file
 
-abbrev pub file_of : {H F : Type 0} → Option (Group H F) → Option (List ℕ)
-file_of o = option_and_then (λ g. g.file) o
+abbrev pub file_of_group : {H F : Type 0} → Option (Group H F) → Option (List ℕ)
+file_of_group o = option_and_then (λ g. g.file) o
 
 module _ {H F : Type 0} (role : Spec → Role H F) where
   -- those at the front, up to the next heading; cards apart are passed over
@@ -70,7 +70,7 @@ module _ {H F : Type 0} (role : Spec → Role H F) where
   open_heading before = option_map (λ g. g.heading) (open_group before)
 
   abbrev pub open_file : List SpecCard → Option (List ℕ)
-  open_file before = file_of (open_group before)
+  open_file before = file_of_group (open_group before)
 
   -- how many follow its heading
   abbrev pub open_followers : List SpecCard → ℕ
@@ -82,7 +82,7 @@ abbrev pub with_followers : {H F : Type 0} → List F → Group H F → Group H 
 with_followers fs g = record { heading = g.heading; followers = g.followers ++ fs; file = g.file }
 
 abbrev pub with_card : {H F : Type 0} → Option (Group H F) → Role H F → Option (Group H F)
-with_card o (Heading h name) = Some (record { heading = h; followers = []; file = option_or name (file_of o) })
+with_card o (Heading h name) = Some (record { heading = h; followers = []; file = option_or name (file_of_group o) })
 with_card o (Follower f) = option_map (with_followers (f ∷ [])) o
 with_card o Apart = o
 
@@ -93,13 +93,13 @@ role_on role None = Apart
 role_on role (Some x) = role x
 
 -- a record type, its AND cards and its field cards
-abbrev pub input_card : InputSpec → Role RecordType InputSpec
-input_card (input.Type t) = Heading t t.file
-input_card (input.And codes) = Follower (input.And codes)
-input_card (input.Field f) = Follower (input.Field f)
+abbrev pub input_card_role : InputSpec → Role RecordType InputSpec
+input_card_role (input.Type t) = Heading t t.file
+input_card_role (input.And codes) = Follower (input.And codes)
+input_card_role (input.Field f) = Follower (input.Field f)
 
 abbrev pub input_role : Spec → Role RecordType InputSpec
-input_role s = role_on input_card (input_on s)
+input_role s = role_on input_card_role (input_on s)
 
 -- AN and OR cards go on with the calculation above them
 abbrev pub joins : ControlLevel → Bool
@@ -110,14 +110,14 @@ joins control.And = true
 joins control.Or = true
 
 -- a line, its AND and OR cards and its field cards
-abbrev pub output_card : OutputSpec → Role OutputRecord OutputSpec
-output_card (output.Record r) = Heading r r.file
-output_card (output.And t) = Follower (output.And t)
-output_card (output.Or t) = Follower (output.Or t)
-output_card (output.Field f) = Follower (output.Field f)
+abbrev pub output_card_role : OutputSpec → Role OutputRecord OutputSpec
+output_card_role (output.Record r) = Heading r r.file
+output_card_role (output.And t) = Follower (output.And t)
+output_card_role (output.Or t) = Follower (output.Or t)
+output_card_role (output.Field f) = Follower (output.Field f)
 
 abbrev pub output_role : Spec → Role OutputRecord OutputSpec
-output_role s = role_on output_card (output_on s)
+output_role s = role_on output_card_role (output_on s)
 
 -- a `**` card, and the data behind it
 abbrev pub data_card : DataSpec → Role (Unit {0}) (List ℕ)

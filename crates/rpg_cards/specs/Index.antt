@@ -17,11 +17,11 @@ abbrev pub first_at : {X Y : Type 0} → (X → Bool) → (ℕ → X → Y) → 
 first_at test made i [] = None
 first_at test made i (x ∷ xs) = if test x then Some (made i x) else first_at test made (i + 1) xs
 
-abbrev pub placed : ℕ → Definition → FirstDefinition
-placed i d = record { place = i; form = d.form }
+abbrev pub placed_definition : ℕ → Definition → FirstDefinition
+placed_definition i d = record { place = i; form = d.form }
 
-abbrev pub place_of : ℕ → Constant → ℕ
-place_of i x = i
+abbrev pub place_of_constant : ℕ → Constant → ℕ
+place_of_constant i x = i
 
 abbrev pub defined_first : Option FirstDefinition → Defined
 defined_first None = Missing
@@ -29,8 +29,8 @@ defined_first (Some d) = defined_as d.form
 
 -- each name with its first definition, and each constant with its first place
 pub record IsIndex (names : List (List ℕ × FirstDefinition)) (constants : List (Constant × ℕ)) (cards : List SpecCard) : Type 0 where
-  pub defined : (name : List ℕ) → lookup (pointwise nat_eq name) names ≡ first_at (is_of name) placed 0 (definitions cards)
-  pub standing : (x : Constant) → lookup (is_same x) constants ≡ first_at (is_same x) place_of 0 (constants_in cards)
+  pub defined : (name : List ℕ) → lookup (pointwise nat_eq name) names ≡ first_at (is_of name) placed_definition 0 (definitions cards)
+  pub standing : (x : Constant) → lookup (is_same x) constants ≡ first_at (is_same x) place_of_constant 0 (constants_in cards)
 
 abbrev pub HasSameFiles : List SpecCard → List SpecCard → Type 0
 HasSameFiles some cards = files some ≡ files cards

@@ -5,7 +5,7 @@ use Rattle.std.specs.Option.{option_map, option_and_then, option_to_list}
 use Rattle.std.specs.Cmp.Lexicographic.{pointwise}
 use Rattle.indexmap.specs.IndexSet.{insert_all}
 use Rattle.rpg_cards.specs.Cards.{input_field_on, calculation_on, extension_on}
-use Rattle.rpg_symbols.specs.Fields.{given, form_of}
+use Rattle.rpg_symbols.specs.Fields.{given, defined_form}
 use Rattle.rpg_cards.specs.declared.names.Defined.{Defined}
 use Rattle.rpg_cards.specs.declared.names.Defined.TheVariants.{Missing, Bad, Good}
 use Rattle.rpg_cards.specs.declared.names.Definition.{Definition}
@@ -15,11 +15,11 @@ use Rattle.rpg_effect.specs.declared.form.Class.TheVariants as class
 use Rattle.rpg_effect.specs.declared.form.FieldForm.{FieldForm}
 use Rattle.rpg_effect.specs.declared.form.Kind.{Kind}
 use Rattle.rpg_effect.specs.declared.form.Kind.TheVariants as kind
-use Rattle.rpg_spec.specs.declared.calculation.CalculationSpec.{CalculationSpec}
-use Rattle.rpg_spec.specs.declared.extension.ExtensionSpec.{ExtensionSpec}
-use Rattle.rpg_spec.specs.declared.extension.TableSpec.{TableSpec}
-use Rattle.rpg_spec.specs.declared.input.InputField.{InputField}
-use Rattle.rpg_spec.specs.declared.spec.Spec.{Spec}
+use Rattle.rpg_sheet_specs.specs.declared.calculation.CalculationSpec.{CalculationSpec}
+use Rattle.rpg_sheet_specs.specs.declared.extension.ExtensionSpec.{ExtensionSpec}
+use Rattle.rpg_sheet_specs.specs.declared.extension.TableSpec.{TableSpec}
+use Rattle.rpg_sheet_specs.specs.declared.input.InputField.{InputField}
+use Rattle.rpg_sheet_specs.specs.declared.spec.Spec.{Spec}
 use Rattle.rpg_text.specs.Texts.{is_between}
 
 -- ---- forms
@@ -48,11 +48,11 @@ definition_of f = record { name = f.name; form = field_form f }
 abbrev pub definition_by : CalculationSpec → Option Definition
 definition_by k = option_and_then (λ len. option_map (λ e. record { name = e.name; form = sized_form len k.decimals }) k.result_field) k.length
 
-abbrev pub is_table : List ℕ → Bool
-is_table name = pointwise nat_eq (codes "TAB") (take 3 name)
+abbrev pub is_table_name : List ℕ → Bool
+is_table_name name = pointwise nat_eq (codes "TAB") (take 3 name)
 
 abbrev pub table_class : List ℕ → Class
-table_class name = if is_table name then class.Table else class.Array
+table_class name = if is_table_name name then class.Table else class.Array
 
 abbrev pub table_form : ℕ → TableSpec → Option FieldForm
 table_form entries t = if is_between 1 9999 entries then sized (form_with (table_class t.name) t.ascending entries) t.length t.decimals else None
@@ -94,7 +94,7 @@ unless_given None d = d
 
 -- the date and the page number come before all definitions
 abbrev pub form_by : List ℕ → List Definition → Defined
-form_by name ds = unless_given (form_of given name) (first_form name ds)
+form_by name ds = unless_given (defined_form given name) (first_form name ds)
 
 abbrev pub form_of_name : List ℕ → List SpecCard → Defined
 form_of_name name cards = form_by name (definitions cards)

@@ -10,7 +10,7 @@ use Rattle.std.specs.Hash as fed
 use Rattle.rpg_cards.specs.Constants.{is_same}
 use Rattle.rpg_cards.specs.declared.constants.Constant.{Constant}
 use Rattle.rpg_cards.specs.declared.constants.Constant.TheVariants.{Number, Text}
-use Rattle.rpg_spec.specs.Numeral.{Numeral}
+use Rattle.rpg_sheet_specs.specs.Numeral.{Numeral}
 
 texts_equal : (s t : List ℕ) → pointwise nat_eq s t ≡ true → s ≡ t
 texts_equal s t e = (bytes_decides s t).0 e

@@ -1,26 +1,26 @@
 -- What the groups of the cards before a card come to: of record types, and of lines.
 use Rattle.std.specs.Option.{option_map}
 use Rattle.std.specs.Prelude.{◌≡◌, ℕ, ◌+◌, ◌≤◌, true, List, length, Option, None, Some, is_some}
-use Rattle.rpg_cards.specs.Files.{file_by, file_named, use_of}
-use Rattle.rpg_cards.specs.Groups.{Apart, Follower, Group, Heading, Role, file_of, group_count, input_role, open_group, output_role}
+use Rattle.rpg_cards.specs.Files.{file_by, file_named, file_use}
+use Rattle.rpg_cards.specs.Groups.{Apart, Follower, Group, Heading, Role, file_of_group, group_count, input_role, open_group, output_role}
 use Rattle.rpg_cards.specs.declared.sheets.GroupFile.{GroupFile}
 use Rattle.rpg_cards.specs.declared.sheets.Groups.{Groups}
 use Rattle.rpg_cards.specs.declared.sheets.Sheets.{Sheets}
 use Rattle.rpg_cards.specs.declared.spec_card.SpecCard.{SpecCard}
-use Rattle.rpg_spec.specs.declared.file.FileSpec.{FileSpec}
-use Rattle.rpg_spec.specs.declared.input.InputSpec.{InputSpec}
-use Rattle.rpg_spec.specs.declared.input.RecordType.{RecordType}
-use Rattle.rpg_spec.specs.declared.output.OutputRecord.{OutputRecord}
-use Rattle.rpg_spec.specs.declared.output.OutputSpec.{OutputSpec}
-use Rattle.rpg_spec.specs.declared.spec.Spec.{Spec}
+use Rattle.rpg_sheet_specs.specs.declared.file.FileSpec.{FileSpec}
+use Rattle.rpg_sheet_specs.specs.declared.input.InputSpec.{InputSpec}
+use Rattle.rpg_sheet_specs.specs.declared.input.RecordType.{RecordType}
+use Rattle.rpg_sheet_specs.specs.declared.output.OutputRecord.{OutputRecord}
+use Rattle.rpg_sheet_specs.specs.declared.output.OutputSpec.{OutputSpec}
+use Rattle.rpg_sheet_specs.specs.declared.spec.Spec.{Spec}
 
 abbrev pub group_file : FileSpec → GroupFile
-group_file f = record { record_length = f.record_length; serves_as = use_of f }
+group_file f = record { record_length = f.record_length; serves_as = file_use f }
 
 -- what an open group comes to, and that there is one
 pub record IsOpen (H F : Type 0) (cards : List SpecCard) (o : Option (Group H F)) (g : Groups) : Type 0 where
   pub is_open : g.is_open ≡ is_some o
-  pub file : g.file ≡ option_map group_file (file_by (file_of o) cards)
+  pub file : g.file ≡ option_map group_file (file_by (file_of_group o) cards)
 
 pub record HasGroups (H F : Type 0) (role : Spec → Role H F) (cards before : List SpecCard) (g : Groups) : Type 0 where
   pub number : g.number ≡ group_count role before

@@ -4,7 +4,7 @@ ghost use Rattle.std.specs.Prelude.{◌≡◌, option_copied};
 ghost use Rattle.rpg_cards.specs.Files as files;
 
 use crate::spec_card::SpecCard;
-use rpg_spec::{Device, FileRole, FileSpec, Word};
+use rpg_sheet_specs::{Device, FileRole, FileSpec, Word};
 
 /// What a file serves as.
 #[derive(Clone, Copy, PartialEq, Eq)]
@@ -16,7 +16,7 @@ pub enum FileUse {
 }
 
 pub const fn use_of(file: &FileSpec) -> FileUse
-    ensures { result ≡ files.use_of file.now }
+    ensures { result ≡ files.file_use file.now }
 {
     match (file.role, file.device) {
         (FileRole::Primary, _) => FileUse::Primary,

@@ -9,7 +9,7 @@ ghost use Rattle.arrayvec.specs.ArrayVec.{array_vec_len};
 ghost use Rattle.rpg_cards.specs.Constants as constants;
 ghost use Rattle.rpg_cards.specs.Constants.{is_same};
 ghost use Rattle.rpg_cards.specs.Files as files;
-ghost use Rattle.rpg_cards.specs.Index.{defined_first, first_at, place_of, placed, HasSameFiles};
+ghost use Rattle.rpg_cards.specs.Index.{defined_first, first_at, place_of_constant, placed_definition, HasSameFiles};
 ghost use Rattle.rpg_cards.specs.Names as names;
 ghost use Rattle.rpg_cards.specs.Names.{is_of};
 ghost use Rattle.rpg_cards.specs.declared.constants.Constant.{Constant};
@@ -21,7 +21,7 @@ use crate::spec_card::SpecCard;
 use arrayvec::ArrayVec;
 use indexmap::IndexMap;
 use rpg_effect::form::FieldForm;
-use rpg_spec::{Factor, FileSpec, Word};
+use rpg_sheet_specs::{Factor, FileSpec, Word};
 use rpg_symbols::Name;
 use std::alloc::{AllocError, Global};
 use std::hash::Hash;
@@ -117,14 +117,14 @@ impl<'a> IndexedCards<'a> {
     }
 
     fn first_definition(&self, name: &Name) -> Option<FirstDefinition>
-        ensures { result ≡ first_at (is_of name.now) placed 0 (names.definitions self.now) }
+        ensures { result ≡ first_at (is_of name.now) placed_definition 0 (names.definitions self.now) }
     {
         self.names.get(name).copied()
     }
 
     /// The first definition of a name, if it is among so many at the front.
     fn first_before(&self, name: &Name, place: usize) -> Option<FirstDefinition>
-        ensures { result ≡ first_at (is_of name.now) placed 0 (take place (names.definitions self.now)) }
+        ensures { result ≡ first_at (is_of name.now) placed_definition 0 (take place (names.definitions self.now)) }
     {
         match self.names.get(name) {
             None => None,
@@ -218,7 +218,7 @@ fn note_names(
 ) -> Result<usize, AllocError>
     requires { start + array_vec_len definitions < 2 ^ 64 }
     ensures place { IfOk result (λ place. place ≡ start + array_vec_len definitions) }
-    ensures noted { OnOk result ((name : List ℕ) → lookup (pointwise nat_eq name) names.new.entries ≡ option_or (lookup (pointwise nat_eq name) names.old.entries) (first_at (is_of name) placed start definitions.items)) }
+    ensures noted { OnOk result ((name : List ℕ) → lookup (pointwise nat_eq name) names.new.entries ≡ option_or (lookup (pointwise nat_eq name) names.old.entries) (first_at (is_of name) placed_definition start definitions.items)) }
 {
     let mut place = start;
     for definition in definitions {
@@ -237,7 +237,7 @@ fn note_constants(
 ) -> Result<usize, AllocError>
     requires { start + array_vec_len items < 2 ^ 64 }
     ensures place { IfOk result (λ place. place ≡ start + array_vec_len items) }
-    ensures noted { OnOk result ((x : Constant) → lookup (is_same x) constants.new.entries ≡ option_or (lookup (is_same x) constants.old.entries) (first_at (is_same x) place_of start items.items)) }
+    ensures noted { OnOk result ((x : Constant) → lookup (is_same x) constants.new.entries ≡ option_or (lookup (is_same x) constants.old.entries) (first_at (is_same x) place_of_constant start items.items)) }
 {
     let mut place = start;
     for constant in items {

@@ -1,16 +1,30 @@
 //! What the cards of a source stand for together: names, constants, files, groups.
+//! What calculation cards say, by names.
 #![tactic(auto)]
 
+mod alternatives;
 mod constants;
 mod files;
+mod groups;
 mod index;
+mod indicators;
+mod labels;
 mod names;
+mod operations;
 mod sheets;
 mod spec_card;
 
+pub use alternatives::{condition_of, conditions, depends, in_places, is_or, level, test};
 pub use constants::{Constant, ConstantText, factor_constant};
 pub use files::{FileUse, file_for, file_named, use_of};
+pub use groups::{goes_on, group_end, joins, last_card};
 pub use index::IndexedCards;
+pub use indicators::{number_of, shows_of};
+pub use labels::{
+    Label, Named, Section, begins_subroutine, ends_subroutine, gives, is_subroutine, plain_name,
+    wants,
+};
 pub use names::{Defined, Definition, field_form, is_table, sized_form, table_form};
+pub use operations::{Column, Content, Kinds, OperationColumns, Shown, columns};
 pub use sheets::{GroupFile, Groups, Sheets};
 pub use spec_card::SpecCard;

@@ -1,7 +1,6 @@
 //! The names that cards define, and their forms.
 
-ghost use Rattle.std.specs.Prelude.{◌≡◌, ◌≤◌, [], ◌∷◌, map, nat_eq, take, if◌then◌else◌};
-ghost use Rattle.std.specs.Cmp.Lexicographic.{pointwise};
+ghost use Rattle.std.specs.Prelude.{◌≡◌, ◌≤◌, [], ◌∷◌, map, if◌then◌else◌};
 ghost use Rattle.std.specs.Option.{option_to_list};
 ghost use Rattle.rpg_cards.specs.Names as names;
 ghost use Rattle.rpg_symbols.specs.Fields as fields;
@@ -9,7 +8,7 @@ ghost use Rattle.rpg_symbols.specs.Fields as fields;
 use crate::spec_card::SpecCard;
 use arrayvec::ArrayVec;
 use rpg_effect::form::{Class, FieldForm, Kind};
-use rpg_spec::{CalculationSpec, ExtensionSpec, InputField, InputSpec, Spec, TableSpec};
+use rpg_sheet_specs::{CalculationSpec, ExtensionSpec, InputField, InputSpec, Spec, TableSpec};
 use rpg_symbols::Name;
 
 /// A name that a card defines, with its form: none where its length, decimals or entries are past their limit.
@@ -59,7 +58,7 @@ pub fn field_form(field: &InputField) -> Option<FieldForm>
 
 /// Whether a name is that of a table: it begins with TAB.
 pub fn is_table(name: &Name) -> bool
-    ensures { result ≡ names.is_table name.now }
+    ensures { result ≡ names.is_table_name name.now }
 {
     name.as_slice().starts_with(b"TAB")
 }
@@ -179,7 +178,7 @@ pub(crate) fn one<T: Default + Drop>(item: Option<T>) -> ArrayVec<T, 2>
 
 /// The form of a name that every program has.
 pub(crate) fn given_form(name: &Name) -> Option<FieldForm>
-    ensures { result ≡ fields.form_of fields.given name.now }
+    ensures { result ≡ fields.defined_form fields.given name.now }
 {
     if name.as_slice() == b"UDATE".as_slice() {
         Some(given(Class::Date, 6))

@@ -10,7 +10,7 @@ ghost use Rattle.rpg_cards.specs.declared.spec_card.SpecCard.{SpecCard};
 use crate::files::{FileUse, use_of};
 use crate::index::IndexedCards;
 use crate::spec_card::SpecCard;
-use rpg_spec::{InputSpec, OutputSpec, Word};
+use rpg_sheet_specs::{InputSpec, OutputSpec, Word};
 
 /// What the cards of a group need of its file.
 #[derive(Clone, Copy)]

@@ -3,7 +3,7 @@
 ghost use Rattle.std.specs.Prelude.{◌≡◌, option_copied};
 ghost use Rattle.rpg_cards.specs.Cards as cards_of;
 
-use rpg_spec::{
+use rpg_sheet_specs::{
     CalculationSpec, DataSpec, ExtensionSpec, FileSpec, InputField, InputSpec, OutputField,
     OutputRecord, OutputSpec, RecordType, Spec,
 };
@@ -80,7 +80,7 @@ impl SpecCard {
     }
 
     pub fn line(&self) -> Option<&OutputRecord>
-        ensures { option_copied result ≡ cards_of.line_on self.now.spec }
+        ensures { option_copied result ≡ cards_of.output_record_on self.now.spec }
     {
         match &self.spec {
             Spec::Output(OutputSpec::Record(record)) => Some(record),

@@ -1,41 +1,101 @@
 -- The line and the exit status of each answer.
 use Rattle.std.specs.Prelude.{ℕ, List, ◌++◌, codes, decimal}
-use Rattle.rpg_bytes.specs.CodeTexts.{code_text}
-use Rattle.rpg_bytes.specs.Rules.{number}
-use Rattle.rpg_bytes.specs.Codes.{text as source_code_text}
+use Rattle.rpg_cli_files.specs.SourceCodes.{source_code_text}
+use Rattle.rpg_cli_files.specs.SourceFault.{SourceFault}
+use Rattle.rpg_cli_files.specs.SourceFault.TheVariants as sources
+use Rattle.rpg_cli_files.specs.declared.files.FileFault.{FileFault}
+use Rattle.rpg_cli_files.specs.declared.files.FileFault.TheVariants as files
+use Rattle.rpg_engine.specs.CodeTexts.{code_text}
+use Rattle.rpg_engine.specs.Halts.{halt_number}
+use Rattle.rpg_engine.specs.JobEnd.{JobEnd}
+use Rattle.rpg_engine.specs.JobEnd.TheVariants as endings
+use Rattle.rpg_engine.specs.Rules.{rule_number}
+use Rattle.rpg_engine.specs.declared.fault.RunFault.{RunFault}
+use Rattle.rpg_engine.specs.declared.fault.RunFault.TheVariants as runs
+use Rattle.rpg_engine.specs.declared.object.ObjectFault.{ObjectFault}
+use Rattle.rpg_engine.specs.declared.object.ObjectFault.TheVariants as objects
+use Rattle.rpg_engine.specs.declared.report.Report.{Report}
 use Rattle.rpg_cli.specs.declared.answer.Answer.{Answer}
 use Rattle.rpg_cli.specs.declared.answer.Answer.TheVariants as answer
 
--- the number of cycles, the most steps of one, and the steps that none can pass
-abbrev pub run_text : (cycles most bound : ℕ) → List ℕ
-run_text cycles most bound = codes ", cycles " ++ decimal cycles ++ codes ", steps " ++ decimal most ++ codes " of " ++ decimal bound
+-- ---- lines
+
+abbrev pub ending_text : JobEnd → List ℕ
+ending_text endings.EndOfJob = codes "end of job"
+ending_text (endings.Halt halt) = codes "halt " ++ decimal (halt_number halt)
+
+-- how the job ended, the number of cycles, the most steps of one, and the steps that none can pass
+abbrev pub report_text : Report → List ℕ
+report_text report = ending_text report.ending ++ codes ", cycles " ++ decimal report.cycles ++ codes ", steps " ++ decimal report.most ++ codes " of " ++ decimal report.bound
+
+abbrev pub source_fault_text : SourceFault → List ℕ
+source_fault_text (sources.At card code columns) = codes "card " ++ decimal card ++ codes ": " ++ source_code_text code
+source_fault_text sources.NoMemory = codes "no memory"
+
+abbrev pub object_text : ObjectFault → List ℕ
+object_text (objects.NotAnObject offset code) = codes "refused: " ++ code_text code ++ codes " at " ++ decimal offset
+object_text (objects.Refused broken) = codes "refused: V" ++ decimal (rule_number broken.rule) ++ codes " row " ++ decimal broken.row
+object_text objects.NoMemory = codes "no memory"
+
+abbrev pub run_text : RunFault → List ℕ
+run_text (runs.Object fault) = object_text fault
+run_text runs.BadDate = codes "bad date"
+run_text runs.Read = codes "input failed"
+run_text (runs.Print sent) = codes "output failed"
+run_text (runs.Disk sent) = codes "output failed"
+run_text runs.NoMemory = codes "no memory"
+
+abbrev pub file_text : FileFault → List ℕ
+file_text files.Input = codes "input failed"
+file_text files.Output = codes "output failed"
+file_text files.TooLarge = codes "file too large"
+file_text files.NoMemory = codes "no memory"
 
 abbrev pub line_text : Answer → List ℕ
 line_text answer.Compiled = codes "compiled"
-line_text (answer.Source card code) = codes "card " ++ decimal card ++ codes ": " ++ source_code_text code
+line_text answer.Faultless = codes "no fault"
 line_text (answer.Accepted bound) = codes "accepted, bound " ++ decimal bound
-line_text (answer.EndOfJob cycles most bound) = codes "end of job" ++ run_text cycles most bound
-line_text (answer.Halt number cycles most bound) = codes "halt " ++ decimal number ++ run_text cycles most bound
-line_text (answer.NotAnObject offset code) = codes "refused: " ++ code_text code ++ codes " at " ++ decimal offset
-line_text (answer.Refused rule row) = codes "refused: V" ++ decimal (number rule) ++ codes " row " ++ decimal row
-line_text answer.BadDate = codes "bad date"
+line_text (answer.Ended report) = report_text report
+line_text (answer.Source fault) = source_fault_text fault
+line_text (answer.Object fault) = object_text fault
 line_text answer.DiskFileWanted = codes "disk file wanted"
-line_text answer.InputFailed = codes "input failed"
-line_text answer.OutputFailed = codes "output failed"
-line_text answer.FileTooLarge = codes "file too large"
+line_text (answer.OverLimit bound) = codes "refused: bound " ++ decimal bound
+line_text (answer.Run fault) = run_text fault
+line_text (answer.File fault) = file_text fault
 line_text answer.NoMemory = codes "no memory"
+
+-- ---- statuses
+
+abbrev pub ending_status : JobEnd → ℕ
+ending_status endings.EndOfJob = 0
+ending_status (endings.Halt halt) = 5
+
+abbrev pub source_status : SourceFault → ℕ
+source_status (sources.At card code columns) = 3
+source_status sources.NoMemory = 1
+
+abbrev pub object_status : ObjectFault → ℕ
+object_status (objects.NotAnObject offset code) = 4
+object_status (objects.Refused broken) = 4
+object_status objects.NoMemory = 1
+
+abbrev pub run_status : RunFault → ℕ
+run_status (runs.Object fault) = object_status fault
+run_status runs.BadDate = 2
+run_status runs.Read = 1
+run_status (runs.Print sent) = 1
+run_status (runs.Disk sent) = 1
+run_status runs.NoMemory = 1
 
 abbrev pub exit_status : Answer → ℕ
 exit_status answer.Compiled = 0
-exit_status (answer.Source card code) = 3
+exit_status answer.Faultless = 0
 exit_status (answer.Accepted bound) = 0
-exit_status (answer.EndOfJob cycles most bound) = 0
-exit_status (answer.Halt number cycles most bound) = 5
-exit_status (answer.NotAnObject offset code) = 4
-exit_status (answer.Refused rule row) = 4
-exit_status answer.BadDate = 2
+exit_status (answer.Ended report) = ending_status report.ending
+exit_status (answer.Source fault) = source_status fault
+exit_status (answer.Object fault) = object_status fault
 exit_status answer.DiskFileWanted = 2
-exit_status answer.InputFailed = 1
-exit_status answer.OutputFailed = 1
-exit_status answer.FileTooLarge = 1
+exit_status (answer.OverLimit bound) = 4
+exit_status (answer.Run fault) = run_status fault
+exit_status (answer.File fault) = 1
 exit_status answer.NoMemory = 1

@@ -1,4 +1,3 @@
--- The answer to each outcome, the lines of answers, and what the program prints.
+-- The lines and statuses of answers, and what the program prints.
 pub mod Answers
-pub mod Outcomes
 pub mod Saying

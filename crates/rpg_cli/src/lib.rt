@@ -5,13 +5,15 @@ mod answer;
 mod files;
 mod program;
 mod text;
+mod told;
 
 pub use answer::{Answer, Line};
 pub use program::{main_with, run};
-pub use rpg_bytes::{ObjectFault, SourceCode, SourceFault, compile_to_bytes, verify_bytes};
+pub use rpg_cli_files::{FileFault, SourceCode, SourceFault, compile_to_bytes};
 pub use rpg_engine::{
-    Job, JobEnd, Report, RunFault, execute, run_records, runs_are_one, runs_are_short,
-    unneeded_records_are_ignored,
+    BrokenRule, Code, Halt, Job, JobEnd, ObjectFault, Report, RunFault, execute, run_records,
+    runs_are_one, runs_are_short, unneeded_records_are_ignored, verify_bytes,
 };
 pub use rpg_files::{Counted, records_are_lines};
 pub use text::line;
+pub use told::Listener;

@@ -1,16 +1,14 @@
 //! The line and the exit status of an answer.
 
-ghost use Rattle.std.specs.Prelude.{◌≡◌, ◌+◌, ◌≤◌, ◌++◌, length, codes, decimal};
+ghost use Rattle.std.specs.Prelude.{◌≡◌, ◌+◌, ◌≤◌, ◌++◌, length, decimal};
 ghost use Rattle.arrayvec.specs.ArrayVec.{array_vec_len};
-ghost use Rattle.rpg_bytes.specs.Rules.{number};
-ghost use Rattle.rpg_cli.specs.Answers.{exit_status, line_text, run_text};
-ghost use Rattle.rpg_bytes.specs.Codes.{text as source_code_text};
-ghost use Rattle.rpg_bytes.specs.CodeTexts.{code_text};
+ghost use Rattle.rpg_cli.specs.Answers as answers;
 
 use crate::answer::{Answer, Line};
 use arrayvec::ArrayVec;
 use itoa::Buffer;
-use rpg_bytes::{Code, Rule, SourceCode};
+use rpg_cli_files::{FileFault, SourceFault};
+use rpg_engine::{JobEnd, ObjectFault, Report, RunFault};
 
 /// A line under construction.
 type Text = ArrayVec<u8, 96>;
@@ -40,100 +38,156 @@ fn put_short_number(text: &mut Text, number: u8)
     put(text, Buffer::new().format(number).as_bytes());
 }
 
-fn put_run(text: &mut Text, cycles: u64, most: u64, bound: u64)
-    requires { array_vec_len text.old ≤ 15 }
-    ensures { text.new.items ≡ text.old.items ++ run_text cycles most bound }
+fn put_ending(text: &mut Text, ending: JobEnd)
+    requires { array_vec_len text.old ≤ 4 }
+    ensures items { text.new.items ≡ text.old.items ++ answers.ending_text ending }
+    ensures len { array_vec_len text.new ≤ array_vec_len text.old + 10 }
 {
+    match ending {
+        JobEnd::EndOfJob => put(text, b"end of job"),
+        JobEnd::Halt(halt) => {
+            put(text, b"halt ");
+            put_short_number(text, halt.number());
+        }
+    }
+}
+
+fn put_report(text: &mut Text, report: Report)
+    requires { array_vec_len text.old ≤ 4 }
+    ensures { text.new.items ≡ text.old.items ++ answers.report_text report }
+{
+    put_ending(text, report.ending);
     put(text, b", cycles ");
-    put_number(text, cycles);
+    put_number(text, report.cycles);
     put(text, b", steps ");
-    put_number(text, most);
+    put_number(text, report.most);
     put(text, b" of ");
-    put_number(text, bound);
+    put_number(text, report.bound);
 }
 
-fn put_source_fault(text: &mut Text, card: u16, code: SourceCode)
+fn put_source_fault(text: &mut Text, fault: SourceFault)
     requires { array_vec_len text.old ≤ 60 }
-    ensures { text.new.items ≡ text.old.items ++ codes "card " ++ decimal card ++ codes ": " ++ source_code_text code }
+    ensures { text.new.items ≡ text.old.items ++ answers.source_fault_text fault }
 {
-    put(text, b"card ");
-    put_number(text, u64::from(card));
-    put(text, b": ");
-    put(text, code.text().as_str().as_bytes());
+    match fault {
+        SourceFault::At { card, code, .. } => {
+            put(text, b"card ");
+            put_number(text, u64::from(card));
+            put(text, b": ");
+            put(text, code.text().as_str().as_bytes());
+        }
+        SourceFault::NoMemory => put(text, b"no memory"),
+    }
 }
 
-fn put_object_fault(text: &mut Text, offset: usize, code: Code)
-    requires { array_vec_len text.old ≤ 50 }
-    ensures { text.new.items ≡ text.old.items ++ codes "refused: " ++ code_text code ++ codes " at " ++ decimal offset }
-{
-    put(text, b"refused: ");
-    put(text, code.text().as_bytes());
-    put(text, b" at ");
-    put_number(text, offset as u64);
-}
-
-fn put_broken_rule(text: &mut Text, rule: Rule, row: usize)
+fn put_object_fault(text: &mut Text, fault: ObjectFault)
     requires { array_vec_len text.old ≤ 40 }
-    ensures { text.new.items ≡ text.old.items ++ codes "refused: V" ++ decimal (number rule) ++ codes " row " ++ decimal row }
+    ensures { text.new.items ≡ text.old.items ++ answers.object_text fault }
 {
-    put(text, b"refused: V");
-    put_number(text, u64::from(rule.number()));
-    put(text, b" row ");
-    put_number(text, row as u64);
+    match fault {
+        ObjectFault::NotAnObject { offset, code } => {
+            put(text, b"refused: ");
+            put(text, code.text().as_bytes());
+            put(text, b" at ");
+            put_number(text, offset as u64);
+        }
+        ObjectFault::Refused(broken) => {
+            put(text, b"refused: V");
+            put_number(text, u64::from(broken.rule.number()));
+            put(text, b" row ");
+            put_number(text, broken.row as u64);
+        }
+        ObjectFault::NoMemory => put(text, b"no memory"),
+    }
+}
+
+fn put_run_fault(text: &mut Text, fault: RunFault)
+    requires { array_vec_len text.old ≤ 40 }
+    ensures { text.new.items ≡ text.old.items ++ answers.run_text fault }
+{
+    match fault {
+        RunFault::Object(fault) => put_object_fault(text, fault),
+        RunFault::BadDate => put(text, b"bad date"),
+        RunFault::Read => put(text, b"input failed"),
+        RunFault::Print { .. } | RunFault::Disk { .. } => put(text, b"output failed"),
+        RunFault::NoMemory => put(text, b"no memory"),
+    }
+}
+
+fn put_file_fault(text: &mut Text, fault: FileFault)
+    requires { array_vec_len text.old ≤ 40 }
+    ensures { text.new.items ≡ text.old.items ++ answers.file_text fault }
+{
+    match fault {
+        FileFault::Input => put(text, b"input failed"),
+        FileFault::Output => put(text, b"output failed"),
+        FileFault::TooLarge => put(text, b"file too large"),
+        FileFault::NoMemory => put(text, b"no memory"),
+    }
+}
+
+fn object_status(fault: ObjectFault) -> u8
+    ensures { result ≡ answers.object_status fault }
+{
+    match fault {
+        ObjectFault::NotAnObject { .. } | ObjectFault::Refused(_) => 4,
+        ObjectFault::NoMemory => 1,
+    }
+}
+
+fn run_status(fault: RunFault) -> u8
+    ensures { result ≡ answers.run_status fault }
+{
+    match fault {
+        RunFault::Object(fault) => object_status(fault),
+        RunFault::BadDate => 2,
+        RunFault::Read | RunFault::Print { .. } | RunFault::Disk { .. } | RunFault::NoMemory => 1,
+    }
 }
 
 /// The exit status of an answer.
 fn exit_status(answer: &Answer) -> u8
-    ensures { result ≡ exit_status answer.now }
+    ensures { result ≡ answers.exit_status answer.now }
 {
-    match answer {
-        Answer::Compiled | Answer::Accepted { .. } | Answer::EndOfJob { .. } => 0,
-        Answer::InputFailed | Answer::OutputFailed | Answer::FileTooLarge | Answer::NoMemory => 1,
-        Answer::BadDate | Answer::DiskFileWanted => 2,
-        Answer::Source { .. } => 3,
-        Answer::NotAnObject { .. } | Answer::Refused { .. } => 4,
-        Answer::Halt { .. } => 5,
+    match *answer {
+        Answer::Compiled | Answer::Faultless | Answer::Accepted { .. } => 0,
+        Answer::Ended(report) => match report.ending {
+            JobEnd::EndOfJob => 0,
+            JobEnd::Halt(_) => 5,
+        },
+        Answer::Source(SourceFault::At { .. }) => 3,
+        Answer::Source(SourceFault::NoMemory) => 1,
+        Answer::Object(fault) => object_status(fault),
+        Answer::DiskFileWanted => 2,
+        Answer::OverLimit { .. } => 4,
+        Answer::Run(fault) => run_status(fault),
+        Answer::File(_) | Answer::NoMemory => 1,
     }
 }
 
 /// The line that is printed for an answer, and the exit status.
 pub fn line(answer: &Answer) -> Line
-    ensures text { result.text.items ≡ line_text answer.now }
-    ensures status { result.status ≡ exit_status answer.now }
+    ensures text { result.text.items ≡ answers.line_text answer.now }
+    ensures status { result.status ≡ answers.exit_status answer.now }
 {
     let mut text = ArrayVec::new();
     match *answer {
         Answer::Compiled => put(&mut text, b"compiled"),
-        Answer::Source { card, code } => put_source_fault(&mut text, card, code),
+        Answer::Faultless => put(&mut text, b"no fault"),
         Answer::Accepted { bound } => {
             put(&mut text, b"accepted, bound ");
             put_number(&mut text, bound);
         }
-        Answer::EndOfJob {
-            cycles,
-            most,
-            bound,
-        } => {
-            put(&mut text, b"end of job");
-            put_run(&mut text, cycles, most, bound);
-        }
-        Answer::Halt {
-            number,
-            cycles,
-            most,
-            bound,
-        } => {
-            put(&mut text, b"halt ");
-            put_short_number(&mut text, number);
-            put_run(&mut text, cycles, most, bound);
-        }
-        Answer::NotAnObject { offset, code } => put_object_fault(&mut text, offset, code),
-        Answer::Refused { rule, row } => put_broken_rule(&mut text, rule, row),
-        Answer::BadDate => put(&mut text, b"bad date"),
+        Answer::Ended(report) => put_report(&mut text, report),
+        Answer::Source(fault) => put_source_fault(&mut text, fault),
+        Answer::Object(fault) => put_object_fault(&mut text, fault),
         Answer::DiskFileWanted => put(&mut text, b"disk file wanted"),
-        Answer::InputFailed => put(&mut text, b"input failed"),
-        Answer::OutputFailed => put(&mut text, b"output failed"),
-        Answer::FileTooLarge => put(&mut text, b"file too large"),
+        Answer::OverLimit { bound } => {
+            put(&mut text, b"refused: bound ");
+            put_number(&mut text, bound);
+        }
+        Answer::Run(fault) => put_run_fault(&mut text, fault),
+        Answer::File(fault) => put_file_fault(&mut text, fault),
         Answer::NoMemory => put(&mut text, b"no memory"),
     }
     Line {

@@ -3,5 +3,5 @@
 
 mod source;
 
-pub use rpg_source::{SourceCode, SourceFault};
+pub use rpg_faults::{SourceCode, SourceFault};
 pub use source::compile;

@@ -1,13 +1,14 @@
 -- Phases done one after another.
 use Rattle.std.proofs.Common.{Result, Ok, Err, IfOk, ◌≡◌, ℕ, Bool, true, false, [], ◌++◌, List, Option, refl, sym, ap, ◌∙◌, subst, append_assoc, append-nil}
 use Rattle.std.specs.Result.{IsErrAnd}
-use Rattle.rpg_form.proofs.Papers.{bytes_from-append}
-use Rattle.rpg_form.specs.Paper.{Placed, Position, bytes_from, end_from}
+use Rattle.rpg_paper.proofs.Papers.{bytes_from-append}
+use Rattle.rpg_paper.specs.Paper.{Placed, Position, bytes_from, last_position_from}
 use Rattle.rpg_effect.proofs.Putting.{disk-append, end_from-lines}
 use Rattle.rpg_effect.specs.Put.{Bytes, disk_bytes, line_of, with_output}
 use Rattle.rpg_cycle.specs.Doing.{Does, DoesBehind, Passes, under_way}
-use Rattle.rpg_records.specs.Earlier.{Selected}
-use Rattle.rpg_cycle.specs.Ends.{End, GoesOn, EndOfJob, Halt}
+use Rattle.rpg_cycle_records.specs.Earlier.{Selected}
+use Rattle.rpg_cycle.specs.Ends.{PhaseEnd, GoesOn, EndOfJob, Halt}
+use Rattle.rpg_effect.specs.Halts.{halt_number}
 use Rattle.rpg_cycle.specs.Phases.{Done, Phase, UnderWay, does, done, either, passes, unless, ◌before◌}
 use Rattle.rpg_cycle.specs.Stages.{IfStops, UnlessNoMemory, job_end}
 use Rattle.rpg_cycle.specs.declared.ends.JobEnd.{JobEnd}
@@ -24,9 +25,9 @@ bytes_are p q h g = ap (λ x. record { print = x; disk = p.disk }) h ∙ ap (λ 
 
 -- two outputs add up
 pub output_both : (previous : Option Position) (xs ys : List Placed) (rs ss : List (List ℕ)) (p : Bytes) →
-    with_output (end_from previous xs) ys ss (with_output previous xs rs p) ≡ with_output previous (xs ++ ys) (rs ++ ss) p
+    with_output (last_position_from previous xs) ys ss (with_output previous xs rs p) ≡ with_output previous (xs ++ ys) (rs ++ ss) p
 output_both previous xs ys rs ss p = bytes_are _ _
-    (append_assoc p.print (bytes_from previous xs) (bytes_from (end_from previous xs) ys) ∙ ap (λ z. p.print ++ z) (sym (bytes_from-append previous xs ys)))
+    (append_assoc p.print (bytes_from previous xs) (bytes_from (last_position_from previous xs) ys) ∙ ap (λ z. p.print ++ z) (sym (bytes_from-append previous xs ys)))
     (append_assoc p.disk (disk_bytes rs) (disk_bytes ss) ∙ ap (λ z. p.disk ++ z) (sym (disk-append rs ss)))
 
 -- nothing is put out
@@ -35,44 +36,44 @@ output_none previous p = bytes_are _ _ (sym (append-nil p.print)) (sym (append-n
 
 -- ---- two phases
 
-both_behind : (P Q : Phase) (previous : Option Position) (a b c : Running) (s t u : Option Selected) (e : End) (x : DoesBehind P previous a s GoesOn b t) →
-    DoesBehind Q (end_from previous x.out.lines) b t e c u → DoesBehind (P before Q) previous a s e c u
+both_behind : (P Q : Phase) (previous : Option Position) (a b c : Running) (s t u : Option Selected) (e : PhaseEnd) (x : DoesBehind P previous a s GoesOn b t) →
+    DoesBehind Q (last_position_from previous x.out.lines) b t e c u → DoesBehind (P before Q) previous a s e c u
 both_behind P Q previous a b c s t u e x y =
     let ends = end_from-lines previous x.out.lines y.out.lines in
     record {
       out = with_more x.out y.out;
       phase = (
         GoesOn,
-        under_way (config_on (end_from previous x.out.lines) b.config) t,
+        under_way (config_on (last_position_from previous x.out.lines) b.config) t,
         x.out,
         x.phase,
-        (y.out, subst (λ (q : Option Position). Q (under_way (config_on (end_from previous x.out.lines) b.config) t) e (under_way (config_on q c.config) u) y.out) (sym ends) y.phase, refl),
+        (y.out, subst (λ (q : Option Position). Q (under_way (config_on (last_position_from previous x.out.lines) b.config) t) e (under_way (config_on q c.config) u) y.out) (sym ends) y.phase, refl),
       );
       last = y.last ∙ ap line_of (sym ends);
-      bytes = y.bytes ∙ ap (with_output (end_from previous x.out.lines) y.out.lines y.out.records) x.bytes
+      bytes = y.bytes ∙ ap (with_output (last_position_from previous x.out.lines) y.out.lines y.out.records) x.bytes
           ∙ output_both previous x.out.lines y.out.lines x.out.records y.out.records a.output;
     }
 
 -- the one phase went on, and then the other was done
-pub goes : {P Q : Phase} {a b c : Running} {s t u : Option Selected} {e : End} → Does P a s GoesOn b t → Does Q b t e c u → Does (P before Q) a s e c u
+pub goes : {P Q : Phase} {a b c : Running} {s t u : Option Selected} {e : PhaseEnd} → Does P a s GoesOn b t → Does Q b t e c u → Does (P before Q) a s e c u
 goes {P} {Q} {a} {b} {c} {s} {t} {u} {e} h g = record {
   program = g.program ∙ h.program;
   behind = λ previous l.
       let x = h.behind previous l in
-      both_behind P Q previous a b c s t u e x (g.behind (end_from previous x.out.lines) x.last);
+      both_behind P Q previous a b c s t u e x (g.behind (last_position_from previous x.out.lines) x.last);
 }
 
 -- the one phase ended the job
 ends_behind : (P Q : Phase) (previous : Option Position) (a b : Running) (s t : Option Selected) (e : JobEnd) → DoesBehind P previous a s (job_end e) b t → DoesBehind (P before Q) previous a s (job_end e) b t
 ends_behind P Q previous a b s t jobs.EndOfJob x = record {
   out = x.out;
-  phase = (EndOfJob, under_way (config_on (end_from previous x.out.lines) b.config) t, x.out, x.phase, (refl, refl, refl));
+  phase = (EndOfJob, under_way (config_on (last_position_from previous x.out.lines) b.config) t, x.out, x.phase, (refl, refl, refl));
   last = x.last;
   bytes = x.bytes;
 }
 ends_behind P Q previous a b s t (jobs.Halt k) x = record {
   out = x.out;
-  phase = (Halt k, under_way (config_on (end_from previous x.out.lines) b.config) t, x.out, x.phase, (refl, refl, refl));
+  phase = (Halt (halt_number k), under_way (config_on (last_position_from previous x.out.lines) b.config) t, x.out, x.phase, (refl, refl, refl));
   last = x.last;
   bytes = x.bytes;
 }
@@ -81,7 +82,7 @@ pub ends : {P Q : Phase} {a b : Running} {s t : Option Selected} (e : JobEnd) �
 ends {P} {Q} {a} {b} {s} {t} e h = record { program = h.program; behind = λ previous l. ends_behind P Q previous a b s t e (h.behind previous l) }
 
 -- a phase that puts nothing out and leaves the form where it is
-pub quietly : (f : UnderWay → Done) (a b : Running) (s t : Option Selected) (e : End) (d : Config) →
+pub quietly : (f : UnderWay → Done) (a b : Running) (s t : Option Selected) (e : PhaseEnd) (d : Config) →
     ((previous : Option Position) → f (under_way (config_on previous a.config) s) ≡ done e (under_way (config_on previous d) t)) → b ≡ record a { config = d } → Does (does f) a s e b t
 quietly f a b s t e d h is = subst (λ (r : Running). Does (does f) a s e r t) (sym is) (record {
   program = refl;
@@ -95,7 +96,7 @@ quietly f a b s t e d h is = subst (λ (r : Running). Does (does f) a s e r t) (
 
 -- ---- phases that select nothing
 
-pub passes_goes : {P Q : Phase} {a b c : Running} {e : End} → Passes P a GoesOn b → Passes Q b e c → Passes (P before Q) a e c
+pub passes_goes : {P Q : Phase} {a b c : Running} {e : PhaseEnd} → Passes P a GoesOn b → Passes Q b e c → Passes (P before Q) a e c
 passes_goes h g = record { each = λ s. goes (h.each s) (g.each s) }
 
 pub passes_ends : {P Q : Phase} {a b : Running} (e : JobEnd) → Passes P a (job_end e) b → Passes (P before Q) a (job_end e) b
@@ -116,14 +117,14 @@ left_out test P a h = record {
 }
 
 -- a phase that isn't
-pub not_left_out : (test : Config → Bool) (P : Phase) (a b : Running) (e : End) → ((previous : Option Position) → test (config_on previous a.config) ≡ false) → Passes P a e b → Passes (unless test P) a e b
+pub not_left_out : (test : Config → Bool) (P : Phase) (a b : Running) (e : PhaseEnd) → ((previous : Option Position) → test (config_on previous a.config) ≡ false) → Passes P a e b → Passes (unless test P) a e b
 not_left_out test P a b e h d = record {
   each = λ s. record {
     program = (d.each s).program;
     behind = λ previous l.
         let x = (d.each s).behind previous l in record {
           out = x.out;
-          phase = subst (λ (t : Bool). either t passes P (under_way (config_on previous a.config) s) e (under_way (config_on (end_from previous x.out.lines) b.config) s) x.out) (sym (h previous)) x.phase;
+          phase = subst (λ (t : Bool). either t passes P (under_way (config_on previous a.config) s) e (under_way (config_on (last_position_from previous x.out.lines) b.config) s) x.out) (sym (h previous)) x.phase;
           last = x.last;
           bytes = x.bytes;
         };

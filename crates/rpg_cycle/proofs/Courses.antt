@@ -2,16 +2,16 @@
 use Rattle.std.proofs.Common.{◌≡◌, ℕ, ◌+◌, max, ◌<◌, ◌≤◌, List, [], ◌∷◌, ◌++◌, Option, None, Some, length, get_or, drop, refl, sym, ap, ◌∙◌, subst, append_assoc, append-nil, arith}
 use Rattle.std.proofs.lemmas.List.{drop_more}
 use Rattle.std.specs.Global.{Vec}
-use Rattle.rpg_form.specs.Paper.{Placed, Position, end_from, paper}
+use Rattle.rpg_paper.specs.Paper.{Placed, Position, last_position_from, paper}
 use Rattle.rpg_effect.proofs.Putting.{end_from-lines}
 use Rattle.rpg_effect.specs.Put.{Bytes, line_of, with_output}
 use Rattle.rpg_cycle.proofs.Composing.{output_both, output_none}
 use Rattle.rpg_cycle.proofs.Ending.{never_on}
-use Rattle.rpg_records.specs.Earlier.{Selected, left_by, with_record}
-use Rattle.rpg_cycle.specs.Ends.{End, GoesOn, EndOfJob, Halt, Wrong}
+use Rattle.rpg_cycle_records.specs.Earlier.{Selected, left_by, with_record}
+use Rattle.rpg_cycle.specs.Ends.{PhaseEnd, GoesOn, EndOfJob, Halt, Wrong}
 use Rattle.rpg_cycle.specs.Job.{AtWork, Cycles, DoesCycle, feed_at, with_feed}
 use Rattle.rpg_cycle.specs.Phases.{UnderWay}
-use Rattle.rpg_cycle.specs.Running.{RunsOn, texts}
+use Rattle.rpg_cycle.specs.Running.{RunsRecords, texts}
 use Rattle.rpg_cycle.specs.Runs.{Course, Runs, ends_or, last_cycle, last_feed, with_cycle}
 use Rattle.rpg_cycle.specs.Stages.{Ended, Going, job_end, stage_at}
 use Rattle.rpg_cycle.specs.declared.ends.JobEnd.{JobEnd}
@@ -19,18 +19,18 @@ use Rattle.rpg_cycle.specs.declared.ends.JobEnd.TheVariants as jobs
 use Rattle.rpg_cycle.specs.declared.runs.Summary.{Summary}
 use Rattle.rpg_machine.specs.Config.{Config, Output, no_output, with_more}
 use Rattle.rpg_machine.specs.Running.{config_on, feed_behind}
-use Rattle.rpg_program.specs.Object.{Object}
+use Rattle.rpg_object_program.specs.Object.{Object}
 use Rattle.rpg_verify.specs.Bound.{bound}
 
 -- ---- how a cycle ended, by the stage that it led to
 
-went : (e : End) → stage_at e ≡ Going → e ≡ GoesOn
+went : (e : PhaseEnd) → stage_at e ≡ Going → e ≡ GoesOn
 went GoesOn h = refl
 went EndOfJob h = cc
 went (Halt k) h = cc
 went (Wrong f) h = cc
 
-was_ended : (e : End) (x : End) → stage_at e ≡ Ended x → e ≡ x
+was_ended : (e : PhaseEnd) (x : PhaseEnd) → stage_at e ≡ Ended x → e ≡ x
 was_ended GoesOn x h = cc
 was_ended EndOfJob x h = cc
 was_ended (Halt k) x h = cc
@@ -48,11 +48,11 @@ pub record IsUnderWay (old : AtWork) (records : List (List ℕ)) (new : AtWork) 
   pub earlier : List Selected
   pub left : new.left ≡ left_by new.program earlier
   pub out : Output
-  pub last : new.last ≡ line_of (end_from None out.lines)
+  pub last : new.last ≡ line_of (last_position_from None out.lines)
   pub bytes : new.output ≡ with_output None out.lines out.records old.output
-  pub runs : (course : Course) → Runs new.program earlier rest (config_on (end_from None out.lines) new.config) course → Runs old.program [] records (config_on None old.config) (behind cycles most out course)
+  pub runs : (course : Course) → Runs new.program earlier rest (config_on (last_position_from None out.lines) new.config) course → Runs old.program [] records (config_on None old.config) (behind cycles most out course)
 
-same_course : (e : End) (a b c d : ℕ) (x y : Output) → a ≡ b → c ≡ d → x ≡ y →
+same_course : (e : PhaseEnd) (a b c d : ℕ) (x y : Output) → a ≡ b → c ≡ d → x ≡ y →
     (let u : Course = record { ending = e; cycles = a; most = c; output = x } in u) ≡ (let v : Course = record { ending = e; cycles = b; most = d; output = y } in v)
 same_course e a b c d x y h g k =
     ap (λ n. let u : Course = record { ending = e; cycles = n; most = c; output = x } in u) h
@@ -81,12 +81,12 @@ begins old records h top = record {
 feed_gone : (feed : List ℕ) (b : Bytes) → feed ≡ [] → with_feed feed b ≡ b
 feed_gone feed b h = ap (λ f. with_feed f b) h ∙ ap (λ x. let c : Bytes = record { print = x; disk = b.disk } in c) (append-nil b.print)
 
-more_bytes : (old mid new : AtWork) (a b : Output) → mid.output ≡ with_output None a.lines a.records old.output → new.output ≡ with_output (end_from None a.lines) b.lines b.records mid.output →
+more_bytes : (old mid new : AtWork) (a b : Output) → mid.output ≡ with_output None a.lines a.records old.output → new.output ≡ with_output (last_position_from None a.lines) b.lines b.records mid.output →
     new.output ≡ with_output None (a.lines ++ b.lines) (a.records ++ b.records) old.output
-more_bytes old mid new a b h g = g ∙ ap (with_output (end_from None a.lines) b.lines b.records) h ∙ output_both None a.lines b.lines a.records b.records old.output
+more_bytes old mid new a b h g = g ∙ ap (with_output (last_position_from None a.lines) b.lines b.records) h ∙ output_both None a.lines b.lines a.records b.records old.output
 
 more_done : (old mid new : AtWork) (records rest : List (List ℕ)) (text : List ℕ) (cycles most greater : ℕ) (u : IsUnderWay old records mid (text ∷ rest) cycles most) →
-    DoesCycle mid u.earlier (end_from None u.out.lines) (Some text) GoesOn new → greater ≡ max most new.config.steps → IsUnderWay old records new rest (cycles + 1) greater
+    DoesCycle mid u.earlier (last_position_from None u.out.lines) (Some text) GoesOn new → greater ≡ max most new.config.steps → IsUnderWay old records new rest (cycles + 1) greater
 more_done old mid new records rest text cycles most greater u d g =
     let ends = end_from-lines None u.out.lines d.out.lines in
     let next = with_record d.there.selected u.earlier in
@@ -100,7 +100,7 @@ more_done old mid new records rest text cycles most greater u d g =
       runs = λ course h.
           let left : Runs mid.program next rest d.there.config course =
           subst (λ (c : Config). Runs mid.program next rest c course) (ap (λ (q : Option Position). config_on q new.config) ends ∙ sym d.config)
-          (subst (λ (p : Object). Runs p next rest (config_on (end_from None (u.out.lines ++ d.out.lines)) new.config) course) d.program h) in
+          (subst (λ (p : Object). Runs p next rest (config_on (last_position_from None (u.out.lines ++ d.out.lines)) new.config) course) d.program h) in
           subst (λ c. Runs old.program [] records (config_on None old.config) c)
           (same_course course.ending (cycles + (1 + course.cycles)) (cycles + 1 + course.cycles) (max most (max d.there.config.steps course.most)) (max greater course.most)
           (with_more u.out (with_more d.out course.output)) (with_more (with_more u.out d.out) course.output) (omega arith) (omega (arith, g, ap (λ (c : Config). c.steps) d.config)) (with_more_assoc u.out d.out course.output))
@@ -111,9 +111,9 @@ more_done old mid new records rest text cycles most greater u d g =
 pub one_more : (old mid new : AtWork) (records rest : List (List ℕ)) (text : List ℕ) (cycles most greater : ℕ) → IsUnderWay old records mid (text ∷ rest) cycles most →
     Cycles mid (Some text) new → Going ≡ new.stage → greater ≡ max most new.config.steps → IsUnderWay old records new rest (cycles + 1) greater
 one_more old mid new records rest text cycles most greater u h s g =
-    let d = h u.earlier u.left (end_from None u.out.lines) u.last in
+    let d = h u.earlier u.left (last_position_from None u.out.lines) u.last in
     more_done old mid new records rest text cycles most greater u
-    (subst (λ (e : End). DoesCycle mid u.earlier (end_from None u.out.lines) (Some text) e new) (went d.0 (sym d.1.stage ∙ sym s)) d.1) g
+    (subst (λ (e : PhaseEnd). DoesCycle mid u.earlier (last_position_from None u.out.lines) (Some text) e new) (went d.0 (sym d.1.stage ∙ sym s)) d.1) g
 
 -- ---- the end of a course
 
@@ -121,11 +121,11 @@ ends_here : (e : JobEnd) (d : UnderWay) (out : Output) (Rest : UnderWay → Cour
 ends_here jobs.EndOfJob d out Rest = refl
 ends_here (jobs.Halt k) d out Rest = refl
 
-feed_some : (q : Position) (xs : List Placed) → feed_behind (line_of (end_from (Some q) xs)) ≡ 10 ∷ []
+feed_some : (q : Position) (xs : List Placed) → feed_behind (line_of (last_position_from (Some q) xs)) ≡ 10 ∷ []
 feed_some q [] = refl
 feed_some q (x ∷ xs) = feed_some x.at xs
 
-feed_last : (xs : List Placed) → feed_behind (line_of (end_from None xs)) ≡ last_feed xs
+feed_last : (xs : List Placed) → feed_behind (line_of (last_position_from None xs)) ≡ last_feed xs
 feed_last [] = refl
 feed_last (x ∷ xs) = feed_some x.at xs
 
@@ -135,16 +135,16 @@ feed_ended (jobs.Halt k) last = refl
 
 -- the job's last cycle
 ends_by : (old mid new : AtWork) (records rest : List (List ℕ)) (now : Option (List ℕ)) (cycles most : ℕ) (e : JobEnd) (s : Summary) → (u : IsUnderWay old records mid rest cycles most) →
-    (d : DoesCycle mid u.earlier (end_from None u.out.lines) now (job_end e) new) →
-    Runs mid.program u.earlier rest (config_on (end_from None u.out.lines) mid.config) (last_cycle (job_end e) d.there.config d.out) →
-    s ≡ record { ending = e; cycles = cycles + 1; most = max most new.config.steps } → RunsOn old records s new
+    (d : DoesCycle mid u.earlier (last_position_from None u.out.lines) now (job_end e) new) →
+    Runs mid.program u.earlier rest (config_on (last_position_from None u.out.lines) mid.config) (last_cycle (job_end e) d.there.config d.out) →
+    s ≡ record { ending = e; cycles = cycles + 1; most = max most new.config.steps } → RunsRecords old records s new
 ends_by old mid new records rest now cycles most e s u d last is =
     let all = with_more u.out d.out in
     let ends = end_from-lines None u.out.lines d.out.lines in
-    let bytes = ap (with_output (end_from None u.out.lines) d.out.lines d.out.records) u.bytes ∙ output_both None u.out.lines d.out.lines u.out.records d.out.records old.output in
+    let bytes = ap (with_output (last_position_from None u.out.lines) d.out.lines d.out.records) u.bytes ∙ output_both None u.out.lines d.out.lines u.out.records d.out.records old.output in
     let feed : feed_at (stage_at (job_end e)) new.last ≡ last_feed all.lines =
     feed_ended e new.last ∙ ap feed_behind (d.last ∙ ap line_of (sym ends)) ∙ feed_last all.lines in
-    subst (λ (x : Summary). RunsOn old records x new) (sym is) (record {
+    subst (λ (x : Summary). RunsRecords old records x new) (sym is) (record {
       out = all;
       runs = subst (λ c. Runs old.program [] records (config_on None old.config) c)
           (same_course (job_end e) (cycles + 1) (cycles + 1) (max most d.there.config.steps) (max most new.config.steps) all all refl (ap (λ (c : Config). max most c.steps) d.config) refl)
@@ -156,35 +156,35 @@ ends_by old mid new records rest now cycles most e s u d last is =
 
 -- it ends at a record
 pub ends_at_record : (old mid new : AtWork) (records rest : List (List ℕ)) (text : List ℕ) (cycles most : ℕ) (e : JobEnd) (s : Summary) → IsUnderWay old records mid (text ∷ rest) cycles most →
-    Cycles mid (Some text) new → Ended (job_end e) ≡ new.stage → s ≡ record { ending = e; cycles = cycles + 1; most = max most new.config.steps } → RunsOn old records s new
+    Cycles mid (Some text) new → Ended (job_end e) ≡ new.stage → s ≡ record { ending = e; cycles = cycles + 1; most = max most new.config.steps } → RunsRecords old records s new
 ends_at_record old mid new records rest text cycles most e s u h g is =
-    let q = end_from None u.out.lines in
+    let q = last_position_from None u.out.lines in
     let x = h u.earlier u.left q u.last in
-    let d : DoesCycle mid u.earlier q (Some text) (job_end e) new = subst (λ (y : End). DoesCycle mid u.earlier q (Some text) y new) (was_ended x.0 (job_end e) (sym x.1.stage ∙ sym g)) x.1 in
+    let d : DoesCycle mid u.earlier q (Some text) (job_end e) new = subst (λ (y : PhaseEnd). DoesCycle mid u.earlier q (Some text) y new) (was_ended x.0 (job_end e) (sym x.1.stage ∙ sym g)) x.1 in
     ends_by old mid new records (text ∷ rest) (Some text) cycles most e s u d (job_end e, d.there, d.out, d.cycle, ends_here e d.there d.out _) is
 
 -- it ends at the end of the file
 pub ends_at_file : (old mid new : AtWork) (records : List (List ℕ)) (cycles most : ℕ) (e : JobEnd) (s : Summary) → IsUnderWay old records mid [] cycles most →
-    Cycles mid None new → Ended (job_end e) ≡ new.stage → s ≡ record { ending = e; cycles = cycles + 1; most = max most new.config.steps } → RunsOn old records s new
+    Cycles mid None new → Ended (job_end e) ≡ new.stage → s ≡ record { ending = e; cycles = cycles + 1; most = max most new.config.steps } → RunsRecords old records s new
 ends_at_file old mid new records cycles most e s u h g is =
-    let q = end_from None u.out.lines in
+    let q = last_position_from None u.out.lines in
     let x = h u.earlier u.left q u.last in
-    let d : DoesCycle mid u.earlier q None (job_end e) new = subst (λ (y : End). DoesCycle mid u.earlier q None y new) (was_ended x.0 (job_end e) (sym x.1.stage ∙ sym g)) x.1 in
+    let d : DoesCycle mid u.earlier q None (job_end e) new = subst (λ (y : PhaseEnd). DoesCycle mid u.earlier q None y new) (was_ended x.0 (job_end e) (sym x.1.stage ∙ sym g)) x.1 in
     ends_by old mid new records [] None cycles most e s u d (job_end e, d.there, d.out, d.cycle, ends_here e d.there d.out _) is
 
 -- at the end of the file the job doesn't go on
 pub never_going : (old mid new : AtWork) (records : List (List ℕ)) (cycles most : ℕ) → IsUnderWay old records mid [] cycles most → Cycles mid None new → Going ≡ new.stage → ⊥
 never_going old mid new records cycles most u h s =
-    let q = end_from None u.out.lines in
+    let q = last_position_from None u.out.lines in
     let x = h u.earlier u.left q u.last in
-    let d : DoesCycle mid u.earlier q None GoesOn new = subst (λ (y : End). DoesCycle mid u.earlier q None y new) (went x.0 (sym x.1.stage ∙ sym s)) x.1 in
+    let d : DoesCycle mid u.earlier q None GoesOn new = subst (λ (y : PhaseEnd). DoesCycle mid u.earlier q None y new) (went x.0 (sym x.1.stage ∙ sym s)) x.1 in
     never_on mid.program (left_by mid.program u.earlier) (config_on q mid.config) d.there d.out d.cycle
 
 -- the steps stay in the bound of the program
 pub still_low : (old mid new : AtWork) (records rest : List (List ℕ)) (now : Option (List ℕ)) (cycles most : ℕ) → IsUnderWay old records mid rest cycles most → Cycles mid now new → new.config.steps ≤ bound new.program →
     new.config.steps ≤ bound old.program
 still_low old mid new records rest now cycles most u h few =
-    subst (λ (p : Object). new.config.steps ≤ bound p) ((h u.earlier u.left (end_from None u.out.lines) u.last).1.program ∙ u.program) few
+    subst (λ (p : Object). new.config.steps ≤ bound p) ((h u.earlier u.left (last_position_from None u.out.lines) u.last).1.program ∙ u.program) few
 
 -- ---- the records that are left
 

@@ -3,7 +3,7 @@ use Rattle.std.proofs.Common.{◌≡◌, ℕ, ◌<◌, ◌+◌, ◌^◌, ℤ, su
 use Rattle.std.proofs.lemmas.List.{drop_more}
 use Rattle.std.proofs.lemmas.Option.{same_Some, slice_get-get_or}
 use Rattle.std.specs.FinMap as map
-use Rattle.rpg_cycle.specs.Dating.{fields_in, with_date}
+use Rattle.rpg_cycle.specs.Dating.{fields_with, with_date}
 use Rattle.rpg_cycle.specs.Starting.{dated}
 use Rattle.rpg_effect.specs.Forms.{form_at, is_date, length_of}
 use Rattle.rpg_effect.specs.Values.{Number, Text, Value}
@@ -12,7 +12,7 @@ use Rattle.rpg_effect.specs.declared.form.Class.TheVariants as classes
 use Rattle.rpg_effect.specs.declared.form.FieldForm.{FieldForm}
 use Rattle.rpg_effect.specs.declared.form.Kind.{Kind}
 use Rattle.rpg_effect.specs.declared.form.Kind.TheVariants as kinds
-use Rattle.rpg_program.specs.Kept.{IsDateForm, IsFieldRow}
+use Rattle.rpg_object_program.specs.Kept.{IsDateForm, IsFieldRow}
 use Rattle.rpg_store.proofs.Fitting.{fits-insert}
 use Rattle.rpg_store.specs.Fits.{Fits, HasForm}
 use Rattle.rpg_store.specs.Store.{Currents, IsNumber, Values}
@@ -69,14 +69,3 @@ form_there forms i field d h is = subst (λ n. form_at forms n ≡ Some (get_or 
   where
     suc-is : (n : ℕ) → n + 1 ≡ suc n
     suc-is n = omega arith
-
-pub dated_more : (date : ℤ) (forms : List FieldForm) (i field : ℕ) (d : FieldForm) (values now : Values) (current currents : Currents) → i < length forms →
-    now ≡ with_date date field (get_or forms i d) values → currents ≡ current →
-    dated date field (drop i forms) (fields_in values current) ≡ dated date (field + 1) (drop (i + 1) forms) (fields_in now currents)
-dated_more date forms i field d values now current currents h is same =
-    ap (λ (fs : List FieldForm). dated date field fs (fields_in values current)) (drop_more forms i d h)
-    ∙ ap (dated date (field + 1) (drop (i + 1) forms)) (one (is_date (get_or forms i d).class) ∙ sym (ap (λ v. fields_in v currents) is ∙ ap (fields_in (with_date date field (get_or forms i d) values)) same))
-  where
-    one : (b : Bool) → cond b (fields_in (map.insert values (field, 1) (Number date)) current) (fields_in values current) ≡ fields_in (cond b (map.insert values (field, 1) (Number date)) values) current
-    one true = refl
-    one false = refl

@@ -1,14 +1,14 @@
 -- Where cycles and runs end.
 use Rattle.std.proofs.Common.{◌≡◌, ℕ, ◌≤◌, ◌+◌, Bool, true, false, cond, ◌||◌, List, [], ◌∷◌, length, Option, None, is_none, refl, ap, ◌∙◌, arith}
-use Rattle.rpg_records.specs.Earlier.{Left, Selected, with_record}
-use Rattle.rpg_cycle.specs.Ends.{End, GoesOn, EndOfJob, Halt, Wrong}
+use Rattle.rpg_cycle_records.specs.Earlier.{Left, Selected, with_record}
+use Rattle.rpg_cycle.specs.Ends.{PhaseEnd, GoesOn, EndOfJob, Halt, Wrong}
 use Rattle.rpg_cycle.specs.Indicators.{is_on, last_record, level_indicators, with_all, with_one}
 use Rattle.rpg_cycle.specs.Phases.{CycleOn, Done, Phase, UnderWay, begun, detail_calculations, detail_lines, done, either, end_where_last, fill_fields, halt_where_asked, is_bypassed, output, overflow_lines, passes, section, select_record, set_off, total_time, ◌before◌}
 use Rattle.rpg_cycle.specs.Runs.{Course, Runs, ends_or}
 use Rattle.rpg_machine.specs.Config.{Config, Output}
 use Rattle.rpg_machine.specs.declared.time.OutputTime.TheVariants as times
-use Rattle.rpg_program.specs.Object.{Object}
-use Rattle.rpg_program.specs.declared.section.Section.TheVariants as sections
+use Rattle.rpg_object_program.specs.Object.{Object}
+use Rattle.rpg_object_program.specs.declared.section.Section.TheVariants as sections
 
 -- ---- at the end of the file a job doesn't go on
 
@@ -55,7 +55,7 @@ never_on p left c d out h =
 
 -- ---- a run ends within one cycle more than there are records
 
-one : (e : End) (d : UnderWay) (out : Output) (Rest : UnderWay → Course → Type 0) (course : Course) (n : ℕ) →
+one : (e : PhaseEnd) (d : UnderWay) (out : Output) (Rest : UnderWay → Course → Type 0) (course : Course) (n : ℕ) →
     ((rest : Course) → Rest d rest → rest.cycles ≤ n) → ends_or e d out Rest course → course.cycles ≤ n + 1
 one GoesOn d out Rest course n f (rest, h, is) = let m = f rest h in omega (arith, m, ap (λ (x : Course). x.cycles) is)
 one EndOfJob d out Rest course n f is = omega (arith, ap (λ (x : Course). x.cycles) is)

@@ -1,19 +1,19 @@
 -- What a machine's cycle means for the job.
 use Rattle.std.proofs.Common.{◌≡◌, ℕ, List, [], Option, None, Some, refl, sym, ap, ◌∙◌, subst, append-nil}
-use Rattle.rpg_form.specs.Paper.{Position, end_from}
+use Rattle.rpg_paper.specs.Paper.{Position, last_position_from}
 use Rattle.rpg_effect.specs.Put.{Bytes, line_of, with_output}
 use Rattle.rpg_cycle.specs.Doing.{Does, under_way}
-use Rattle.rpg_records.specs.Earlier.{Left, Selected, left_by, with_record}
-use Rattle.rpg_cycle.specs.Ends.{End, GoesOn}
+use Rattle.rpg_cycle_records.specs.Earlier.{Left, Selected, left_by, with_record}
+use Rattle.rpg_cycle.specs.Ends.{GoesOn, PhaseEnd}
 use Rattle.rpg_cycle.specs.Job.{AtWork, DoesCycle, feed_at, with_feed}
-use Rattle.rpg_records.specs.Keeping.{kept_levels, noted, selected_as}
+use Rattle.rpg_cycle_records.specs.Keeping.{kept_levels, noted, selected_as}
 use Rattle.rpg_cycle.specs.Phases.{Cycle, CycleOn, UnderWay, begun}
 use Rattle.rpg_cycle.specs.Stages.{Ended, Going, Stage, job_end, stage_at}
 use Rattle.rpg_cycle.specs.declared.ends.JobEnd.{JobEnd}
 use Rattle.rpg_cycle.specs.declared.ends.JobEnd.TheVariants as jobs
 use Rattle.rpg_machine.specs.Config.{Output}
 use Rattle.rpg_machine.specs.Running.{Running, config_on, feed_behind, finished, refilled}
-use Rattle.rpg_program.specs.Object.{Object}
+use Rattle.rpg_object_program.specs.Object.{Object}
 
 -- a job with that machine
 abbrev pub job : Object → Running → Left → Stage → AtWork
@@ -25,7 +25,7 @@ leaves p earlier None text = refl
 leaves p earlier (Some t) text = refl
 
 -- the cycle that a machine did, behind the records that left this
-cycle_of : (p : Object) (earlier : List Selected) (previous : Option Position) (next : Option (List ℕ)) (m b : Running) (left : Left) (e : End) (s : Option Selected) (out : Output) (d : UnderWay) →
+cycle_of : (p : Object) (earlier : List Selected) (previous : Option Position) (next : Option (List ℕ)) (m b : Running) (left : Left) (e : PhaseEnd) (s : Option Selected) (out : Output) (d : UnderWay) →
     m.program ≡ p → left ≡ left_by p earlier → CycleOn p left next (under_way (config_on previous (refilled m).config) None) e d out → Cycle p earlier next (begun p (config_on previous m.config)) e d out
 cycle_of p earlier previous next m b left e s out d same is c =
     subst (λ (l : Left). CycleOn p l next (begun p (config_on previous m.config)) e d out) is
@@ -43,7 +43,7 @@ goes_on p earlier previous next m b left now stage t text same is placed kept d 
     record {
       stage = refl;
       program = refl;
-      there = under_way (config_on (end_from previous x.out.lines) b.config) (selected_as t text);
+      there = under_way (config_on (last_position_from previous x.out.lines) b.config) (selected_as t text);
       out = x.out;
       cycle = cycle_of p earlier previous next m b left GoesOn (selected_as t text) x.out _ same is x.phase;
       config = refl;
@@ -69,7 +69,7 @@ ends p earlier previous next m b c left now stage s e same is placed d done =
     subst (λ (r : Running). DoesCycle (job p m left stage) earlier previous next (job_end e) (job p r now (Ended (job_end e)))) (sym done) (record {
       stage = sym (ended e);
       program = refl;
-      there = under_way (config_on (end_from previous x.out.lines) b.config) s;
+      there = under_way (config_on (last_position_from previous x.out.lines) b.config) s;
       out = x.out;
       cycle = cycle_of p earlier previous next m b left (job_end e) s x.out _ same is x.phase;
       config = refl;

@@ -2,19 +2,19 @@
 use Rattle.std.proofs.Common.{◌≡◌, ℕ, List, Option, None, Some, refl, sym, subst}
 use Rattle.rpg_effect.specs.Ends as effects
 use Rattle.rpg_cycle.specs.Doing.{Does, Passes}
-use Rattle.rpg_records.specs.Earlier.{Selected}
-use Rattle.rpg_cycle.specs.Ends.{End, GoesOn, end_of}
-use Rattle.rpg_records.specs.Keeping.{selected_as}
+use Rattle.rpg_cycle_records.specs.Earlier.{Selected}
+use Rattle.rpg_cycle.specs.Ends.{GoesOn, PhaseEnd, phase_end}
+use Rattle.rpg_cycle_records.specs.Keeping.{selected_as}
 use Rattle.rpg_cycle.specs.Phases.{by_machine, fill_fields, output, section}
 use Rattle.rpg_machine.specs.Outputs.{FillsFields, PutsOut}
 use Rattle.rpg_machine.specs.Run.{RunsTo}
-use Rattle.rpg_machine.specs.Running.{Act, Did, Running}
+use Rattle.rpg_machine.specs.Running.{Behaviour, Did, Running}
 use Rattle.rpg_machine.specs.declared.time.OutputTime.{OutputTime}
-use Rattle.rpg_program.specs.Object.{Object}
-use Rattle.rpg_program.specs.declared.section.Section.{Section}
+use Rattle.rpg_object_program.specs.Object.{Object}
+use Rattle.rpg_object_program.specs.declared.section.Section.{Section}
 
 -- what the machine did is a phase
-machine_does : (P : Act) (a b : Running) (last : effects.End) (s : Option Selected) → Did P a last b → Does (by_machine P) a s (end_of last) b s
+machine_does : (P : Behaviour) (a b : Running) (last : effects.End) (s : Option Selected) → Did P a last b → Does (by_machine P) a s (phase_end last) b s
 machine_does P a b last s d = record {
   program = d.program;
   behind = λ previous l.
@@ -22,30 +22,30 @@ machine_does P a b last s d = record {
       record { out = x.out; phase = (last, x.act, refl, refl); last = x.last; bytes = x.bytes };
 }
 
-ended_so : (P : Act) (a b : Running) (last : effects.End) (e : End) (s : Option Selected) → end_of last ≡ e → Did P a last b → Does (by_machine P) a s e b s
-ended_so P a b last e s is d = subst (λ (x : End). Does (by_machine P) a s x b s) is (machine_does P a b last s d)
+ended_so : (P : Behaviour) (a b : Running) (last : effects.End) (e : PhaseEnd) (s : Option Selected) → phase_end last ≡ e → Did P a last b → Does (by_machine P) a s e b s
+ended_so P a b last e s is d = subst (λ (x : PhaseEnd). Does (by_machine P) a s x b s) is (machine_does P a b last s d)
 
-pub put_out : (p : Object) (time : OutputTime) (a b : Running) (last : effects.End) (e : End) → a.program ≡ p → end_of last ≡ e → Did (PutsOut a.program time) a last b → Passes (output p time) a e b
+pub put_out : (p : Object) (time : OutputTime) (a b : Running) (last : effects.End) (e : PhaseEnd) → a.program ≡ p → phase_end last ≡ e → Did (PutsOut a.program time) a last b → Passes (output p time) a e b
 put_out p time a b last e same is d = record {
   each = λ s.
       subst (λ (q : Object). Does (output q time) a s e b s) same (ended_so (PutsOut a.program time) a b last e s is d);
 }
 
-pub calculated : (p : Object) (s : Section) (a b : Running) (last : effects.End) (e : End) → a.program ≡ p → end_of last ≡ e → Did (RunsTo a.program s) a last b → Passes (section p s) a e b
+pub calculated : (p : Object) (s : Section) (a b : Running) (last : effects.End) (e : PhaseEnd) → a.program ≡ p → phase_end last ≡ e → Did (RunsTo a.program s) a last b → Passes (section p s) a e b
 calculated p s a b last e same is d = record {
   each = λ x.
       subst (λ (q : Object). Does (section q s) a x e b x) same (ended_so (RunsTo a.program s) a b last e x is d);
 }
 
 -- fields were filled from a record
-filled_fields : (p : Object) (t : ℕ) (text : List ℕ) (a b : Running) (e : End) → (let s : Option Selected = Some (record { type = t; text = text }) in
+filled_fields : (p : Object) (t : ℕ) (text : List ℕ) (a b : Running) (e : PhaseEnd) → (let s : Option Selected = Some (record { type = t; text = text }) in
     Does (by_machine (FillsFields p t text)) a s e b s → Does (fill_fields p) a s e b s)
 filled_fields p t text a b e h = record {
   program = h.program;
   behind = λ previous l. let x = h.behind previous l in record { out = x.out; phase = x.phase; last = x.last; bytes = x.bytes };
 }
 
-pub filled : (p : Object) (o : Option ℕ) (t : ℕ) (text : List ℕ) (a b : Running) (last : effects.End) (e : End) → o ≡ Some t → a.program ≡ p → end_of last ≡ e → Did (FillsFields a.program t text) a last b →
+pub filled : (p : Object) (o : Option ℕ) (t : ℕ) (text : List ℕ) (a b : Running) (last : effects.End) (e : PhaseEnd) → o ≡ Some t → a.program ≡ p → phase_end last ≡ e → Did (FillsFields a.program t text) a last b →
     Does (fill_fields p) a (selected_as o text) e b (selected_as o text)
 filled p o t text a b last e there same is d =
     let s : Option Selected = Some (record { type = t; text = text }) in

@@ -2,18 +2,18 @@
 use Rattle.std.proofs.Common.{◌≡◌, ℕ, Bool, List, Option, None, Some, refl, ap, ◌∙◌, subst}
 use Rattle.rpg_cycle.proofs.Composing.{goes, ends}
 use Rattle.rpg_cycle.specs.Doing.{Does}
-use Rattle.rpg_records.specs.Earlier.{Left, Selected}
-use Rattle.rpg_cycle.specs.Ends.{End, GoesOn}
-use Rattle.rpg_records.specs.Keeping.{kept_levels}
+use Rattle.rpg_cycle_records.specs.Earlier.{Left, Selected}
+use Rattle.rpg_cycle.specs.Ends.{GoesOn, PhaseEnd}
+use Rattle.rpg_cycle_records.specs.Keeping.{kept_levels}
 use Rattle.rpg_cycle.specs.Phases.{Phase, ◌before◌}
 use Rattle.rpg_cycle.specs.Stages.{job_end}
 use Rattle.rpg_cycle.specs.declared.ends.JobEnd.{JobEnd}
 use Rattle.rpg_machine.specs.Running.{Running, refilled}
-use Rattle.rpg_program.specs.Object.{Object}
+use Rattle.rpg_object_program.specs.Object.{Object}
 
 -- whatever the phases that are left lead to from there, the whole leads to from where it began
 pub record Leads (C : Phase) (old : Running) (s : Option Selected) (Q : Phase) (mid : Running) (t : Option Selected) : Type 0 where
-  pub rest : (e : End) (new : Running) (u : Option Selected) → Does Q mid t e new u → Does C old s e new u
+  pub rest : (e : PhaseEnd) (new : Running) (u : Option Selected) → Does Q mid t e new u → Does C old s e new u
 
 pub begins : (C : Phase) (a b : Running) → b ≡ refilled a → Leads C (refilled a) None C b None
 begins C a b is = record { rest = λ e new u d. subst (λ (r : Running). Does C r None e new u) is d }
@@ -30,7 +30,7 @@ pub stop : {C P Q : Phase} {old mid new : Running} {s t u : Option Selected} (e 
 stop {new} {u} e l d = l.rest (job_end e) new u (ends e d)
 
 -- the last phase was done
-pub last : {C P : Phase} {old mid new : Running} {s t u : Option Selected} {e : End} → Leads C old s P mid t → Does P mid t e new u → Does C old s e new u
+pub last : {C P : Phase} {old mid new : Running} {s t u : Option Selected} {e : PhaseEnd} → Leads C old s P mid t → Does P mid t e new u → Does C old s e new u
 last {new} {u} {e} l d = l.rest e new u d
 
 -- what is kept beside the levels
@@ -43,7 +43,7 @@ kept_control p None text l = refl
 kept_control p (Some t) text l = refl
 
 -- total time with what was kept before the record
-pub by_left : (F : Bool → Bool → Phase) (p : Object) (t : Option ℕ) (text : List ℕ) (now old : Left) (a b : Running) (s : Option Selected) (e : End) → now ≡ kept_levels p t text old →
+pub by_left : (F : Bool → Bool → Phase) (p : Object) (t : Option ℕ) (text : List ℕ) (now old : Left) (a b : Running) (s : Option Selected) (e : PhaseEnd) → now ≡ kept_levels p t text old →
     Does (F now.any now.control) a s e b s → Does (F old.any old.control) a s e b s
 by_left F p t text now old a b s e h d =
     subst (λ (x : Bool). Does (F x old.control) a s e b s) (ap (λ (l : Left). l.any) h ∙ kept_any p t text old)

@@ -5,21 +5,21 @@ use Rattle.rpg_effect.specs.Effect.{Effect}
 use Rattle.rpg_effect.specs.Ends as effects
 use Rattle.rpg_effect.specs.Put.{Bytes}
 use Rattle.rpg_effect.specs.World.{Fields, World}
-use Rattle.rpg_records.specs.Earlier.{Left, Selected, left_by, with_record}
-use Rattle.rpg_cycle.specs.Ends.{End, GoesOn, EndOfJob, Halt, Wrong, end_of}
+use Rattle.rpg_cycle_records.specs.Earlier.{Left, Selected, left_by, with_record}
+use Rattle.rpg_cycle.specs.Ends.{PhaseEnd, GoesOn, EndOfJob, Halt, Wrong, phase_end}
 use Rattle.rpg_cycle.specs.Phases.{CycleOn, Done, Phase, UnderWay, begun, by_machine, does, either, fill_from, from_there, output, passes, section, unless, ◌before◌}
 use Rattle.rpg_cycle.specs.Runs.{Course, IsRun, Runs, ends_or, printed, stored, with_cycle}
-use Rattle.rpg_cycle.specs.Starting.{start_of}
+use Rattle.rpg_cycle.specs.Starting.{job_start}
 use Rattle.rpg_machine.specs.Config.{Config, Output, no_output, with_more}
 use Rattle.rpg_machine.specs.Outputs.{ByEffect}
 use Rattle.rpg_machine.specs.Run.{RunsTo, at_first, is_end, onward, put_before, run}
-use Rattle.rpg_machine.specs.Running.{Act}
+use Rattle.rpg_machine.specs.Running.{Behaviour}
 use Rattle.rpg_machine.specs.Step.{Outcome, Next, Stop, step}
 use Rattle.rpg_machine.specs.declared.time.OutputTime.{OutputTime}
 use Rattle.rpg_machine.specs.declared.time.OutputTime.TheVariants as times
-use Rattle.rpg_program.specs.Object.{Object}
-use Rattle.rpg_program.specs.declared.section.Section.{Section}
-use Rattle.rpg_program.specs.declared.section.Section.TheVariants as sections
+use Rattle.rpg_object_program.specs.Object.{Object}
+use Rattle.rpg_object_program.specs.declared.section.Section.{Section}
+use Rattle.rpg_object_program.specs.declared.section.Section.TheVariants as sections
 
 -- ---- sections
 
@@ -45,17 +45,17 @@ run_same p (suc n) (suc m) c h g = step_same (is_end p c) (step p c) c (run p n)
 
 -- ---- what one outcome is
 
-pub record IsSame (e f : End) (c d : UnderWay) (x y : Output) : Type 0 where
+pub record IsSame (e f : PhaseEnd) (c d : UnderWay) (x y : Output) : Type 0 where
   pub end : e ≡ f
   pub there : c ≡ d
   pub out : x ≡ y
 
 -- a phase that leads to one place alone
 pub record IsFixed (P : Phase) : Type 0 where
-  pub same : (c : UnderWay) (e f : End) (x y : UnderWay) (a b : Output) → P c e x a → P c f y b → IsSame e f x y a b
+  pub same : (c : UnderWay) (e f : PhaseEnd) (x y : UnderWay) (a b : Output) → P c e x a → P c f y b → IsSame e f x y a b
 
 -- the same of what the machine does
-pub record IsFixedAct (P : Act) : Type 0 where
+pub record IsFixedAct (P : Behaviour) : Type 0 where
   pub ends : (c : Config) (e f : effects.End) (x y : Config) (a b : Output) → P c e x a → P c f y b → e ≡ f
   pub leads : (c : Config) (e f : effects.End) (x y : Config) (a b : Output) → P c e x a → P c f y b → x ≡ y
   pub puts : (c : Config) (e f : effects.End) (x y : Config) (a b : Output) → P c e x a → P c f y b → a ≡ b
@@ -81,10 +81,10 @@ run_fixed p s = record {
 under_way_same : (x y : UnderWay) → x.config ≡ y.config → x.selected ≡ y.selected → x ≡ y
 under_way_same x y h g = ap (λ c. let u : UnderWay = record { config = c; selected = x.selected } in u) h ∙ ap (λ s. let u : UnderWay = record { config = y.config; selected = s } in u) g
 
-machine_fixed : (P : Act) → IsFixedAct P → IsFixed (by_machine P)
+machine_fixed : (P : Behaviour) → IsFixedAct P → IsFixed (by_machine P)
 machine_fixed P p = record {
   same = λ c e f x y a b h g. record {
-    end = h.2 ∙ ap end_of (p.ends c.config h.0 g.0 x.config y.config a b h.1 g.1) ∙ sym g.2;
+    end = h.2 ∙ ap phase_end (p.ends c.config h.0 g.0 x.config y.config a b h.1 g.1) ∙ sym g.2;
     there = under_way_same x y (p.leads c.config h.0 g.0 x.config y.config a b h.1 g.1) (h.3 ∙ sym g.3);
     out = p.puts c.config h.0 g.0 x.config y.config a b h.1 g.1;
   };
@@ -93,16 +93,16 @@ machine_fixed P p = record {
 does_fixed : (f : UnderWay → Done) → IsFixed (does f)
 does_fixed f = record { same = λ c e k x y a b h g. record { end = h.0 ∙ sym g.0; there = h.1 ∙ sym g.1; out = h.2 ∙ sym g.2 } }
 
-from_there_fixed : (Q : Phase) → IsFixed Q → (f : End) (m : UnderWay) (put : Output) (e k : End) (x y : UnderWay) (a b : Output) → from_there Q f m put e x a → from_there Q f m put k y b → IsSame e k x y a b
+from_there_fixed : (Q : Phase) → IsFixed Q → (f : PhaseEnd) (m : UnderWay) (put : Output) (e k : PhaseEnd) (x y : UnderWay) (a b : Output) → from_there Q f m put e x a → from_there Q f m put k y b → IsSame e k x y a b
 from_there_fixed Q q GoesOn m put e k x y a b h g =
     let s = q.same m e k x y h.0 g.0 h.1 g.1 in record { end = s.end; there = s.there; out = h.2 ∙ ap (with_more put) s.out ∙ sym g.2 }
 from_there_fixed Q q EndOfJob m put e k x y a b h g = record { end = h.0 ∙ sym g.0; there = h.1 ∙ sym g.1; out = h.2 ∙ sym g.2 }
 from_there_fixed Q q (Halt n) m put e k x y a b h g = record { end = h.0 ∙ sym g.0; there = h.1 ∙ sym g.1; out = h.2 ∙ sym g.2 }
 from_there_fixed Q q (Wrong n) m put e k x y a b h g = record { end = h.0 ∙ sym g.0; there = h.1 ∙ sym g.1; out = h.2 ∙ sym g.2 }
 
-from_same : (Q : Phase) (f k : End) (m n : UnderWay) (u v : Output) (e : End) (x : UnderWay) (a : Output) → IsSame f k m n u v → from_there Q k n v e x a → from_there Q f m u e x a
+from_same : (Q : Phase) (f k : PhaseEnd) (m n : UnderWay) (u v : Output) (e : PhaseEnd) (x : UnderWay) (a : Output) → IsSame f k m n u v → from_there Q k n v e x a → from_there Q f m u e x a
 from_same Q f k m n u v e x a s h =
-    subst (λ (z : End). from_there Q z m u e x a) (sym s.end) (subst (λ (z : UnderWay). from_there Q k z u e x a) (sym s.there) (subst (λ (z : Output). from_there Q k n z e x a) (sym s.out) h))
+    subst (λ (z : PhaseEnd). from_there Q z m u e x a) (sym s.end) (subst (λ (z : UnderWay). from_there Q k z u e x a) (sym s.there) (subst (λ (z : Output). from_there Q k n z e x a) (sym s.out) h))
 
 before_fixed : (P Q : Phase) → IsFixed P → IsFixed Q → IsFixed (P before Q)
 before_fixed P Q p q = record {
@@ -143,11 +143,11 @@ cycle_fixed p left next =
 
 -- ---- a run
 
-ends_same : (e f : End) (x y : UnderWay) (a b : Output) (R : UnderWay → Course → Type 0) (u v : Course) → IsSame e f x y a b → ((r s : Course) → R x r → R x s → r ≡ s) → ends_or e x a R u → ends_or f y b R v → u ≡ v
+ends_same : (e f : PhaseEnd) (x y : UnderWay) (a b : Output) (R : UnderWay → Course → Type 0) (u v : Course) → IsSame e f x y a b → ((r s : Course) → R x r → R x s → r ≡ s) → ends_or e x a R u → ends_or f y b R v → u ≡ v
 ends_same e f x y a b R u v s one h g =
-    cases e h (subst (λ (z : End). ends_or z x a R v) (sym s.end) (subst (λ (z : UnderWay). ends_or f z a R v) (sym s.there) (subst (λ (z : Output). ends_or f y z R v) (sym s.out) g)))
+    cases e h (subst (λ (z : PhaseEnd). ends_or z x a R v) (sym s.end) (subst (λ (z : UnderWay). ends_or f z a R v) (sym s.there) (subst (λ (z : Output). ends_or f y z R v) (sym s.out) g)))
   where
-    cases : (k : End) → ends_or k x a R u → ends_or k x a R v → u ≡ v
+    cases : (k : PhaseEnd) → ends_or k x a R u → ends_or k x a R v → u ≡ v
     cases GoesOn l m = l.2 ∙ ap (with_cycle x.config a) (one l.0 m.0 l.1 m.1) ∙ sym m.2
     cases EndOfJob l m = l ∙ sym m
     cases (Halt n) l m = l ∙ sym m
@@ -161,7 +161,7 @@ runs_same p earlier (t ∷ ts) c u v (e, x, a, h, r) (f, y, b, g, s) =
     (λ k l m n. runs_same p (with_record x.selected earlier) ts x.config k l m n) r s
 
 pub course_one : (p : Object) (date : ℤ) (fields : Fields nat_cmp) (records : List (List ℕ)) (u v : Course) (a b : Bytes) → IsRun p date fields records u a → IsRun p date fields records v b → u ≡ v
-course_one p date fields records u v a b h g = runs_same p [] records (start_of p date fields) u v h.runs g.runs
+course_one p date fields records u v a b h g = runs_same p [] records (job_start p date fields) u v h.runs g.runs
 
 bytes_are : (x y : Bytes) → x.print ≡ y.print → x.disk ≡ y.disk → x ≡ y
 bytes_are x y h g = ap (λ z. let o : Bytes = record { print = z; disk = x.disk } in o) h ∙ ap (λ z. let o : Bytes = record { print = y.print; disk = z } in o) g

@@ -3,7 +3,7 @@ use Rattle.std.proofs.Common.{◌≡◌, ℕ, Bool, true, false, cond, eqb, not,
 use Rattle.std.specs.Cmp.{nat_cmp_total, unsigned_tied}
 use Rattle.std.specs.FinSet as set
 use Rattle.std.specs.Ordering.{nat_cmp}
-use Rattle.rpg_form.specs.Paper.{Position, skipped, spaced, turns_overflow_on}
+use Rattle.rpg_paper.specs.Paper.{Position, skipped, spaced, turns_overflow_on}
 use Rattle.rpg_effect.specs.Effect.{Effect, Leaves, go_on, then_go, unless_wrong}
 use Rattle.rpg_effect.specs.Ends.{End, Fault, GoesOn, Halt, Wrong}
 use Rattle.rpg_effect.specs.LineFaults.{line_fault}

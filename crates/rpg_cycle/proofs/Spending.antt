@@ -2,7 +2,7 @@
 use Rattle.std.proofs.Common.{◌≡◌, ℕ, ◌≤◌, ◌<◌, ◌+◌, ◌-◌, ◌*◌, ◌^◌, suc, Bool, true, false, cond, ◌&&◌, not, leb, List, [], ◌∷◌, length, slice_get, slice_index, Option, None, Some, is_some, refl, ap, ◌∙◌, subst, arith}
 use Rattle.std.proofs.lemmas.Bool.Decides.{nat_tests}
 use Rattle.std.specs.List.{list_all}
-use Rattle.rpg_form.specs.Paper.{Position}
+use Rattle.rpg_paper.specs.Paper.{Position}
 use Rattle.rpg_effect.specs.Ends as effects
 use Rattle.rpg_effect.specs.Input.{TypeRow}
 use Rattle.rpg_effect.specs.Lines as lines
@@ -11,20 +11,20 @@ use Rattle.rpg_effect.specs.Weights.{is_at_detail, is_at_total, is_in_cycle, lin
 use Rattle.rpg_effect.specs.declared.line.Time.{Time}
 use Rattle.rpg_effect.specs.declared.line.Time.TheVariants as times
 use Rattle.rpg_cycle.proofs.Turning.{off_keeps}
-use Rattle.rpg_records.specs.Earlier.{levels_of}
-use Rattle.rpg_records.specs.Identifying.{IsOf, Misplaced, holds, identified, is_there, trial_weight}
+use Rattle.rpg_cycle_records.specs.Earlier.{levels_of}
+use Rattle.rpg_cycle_records.specs.Identifying.{IsOf, Misplaced, code_holds, has_position, identified, trial_weight}
 use Rattle.rpg_cycle.specs.Phases.{all_off}
-use Rattle.rpg_cycle.specs.Spending.{Selects, Spends, cycle_weight, first_cost, inputs_weight, reach, record_weight}
+use Rattle.rpg_cycle.specs.Spending.{Selects, Spends, cycle_weight, inputs_weight, reach, record_weight, section_cost}
 use Rattle.rpg_machine.specs.Config.{Config}
-use Rattle.rpg_machine.specs.Potential.{InBound}
+use Rattle.rpg_machine.specs.Potential.{PaysForSection}
 use Rattle.rpg_machine.specs.Outputs.{FillsFields, PutsOut, inputs_at, inputs_of, output_weight}
 use Rattle.rpg_machine.specs.Running.{Did, Running, refilled}
 use Rattle.rpg_machine.specs.declared.time.OutputTime.{OutputTime}
 use Rattle.rpg_machine.specs.declared.time.OutputTime.TheVariants as spoken
-use Rattle.rpg_program.specs.Object.{Object, lines_of}
-use Rattle.rpg_program.specs.Sections.{first_of}
-use Rattle.rpg_program.specs.declared.section.Section.{Section}
-use Rattle.rpg_program.specs.declared.section.Section.TheVariants as sections
+use Rattle.rpg_object_program.specs.Object.{Object, lines_of}
+use Rattle.rpg_object_program.specs.Sections.{first_place}
+use Rattle.rpg_object_program.specs.declared.section.Section.{Section}
+use Rattle.rpg_object_program.specs.declared.section.Section.TheVariants as sections
 use Rattle.rpg_verify.specs.Bound.{bound, cost_in, most, once}
 use Rattle.rpg_verify.specs.Bound as bounds
 
@@ -47,8 +47,8 @@ some_before None = (None, refl)
 some_before (Some n) = (Some (record { page = 1; line = n }), refl)
 
 -- a section, which keeps within its bound
-pub section_spends : (p : Object) (s : Section) (a b : Running) → a.program ≡ p → InBound s a b → Spends p (first_cost p s) a b
-section_spends p s a b same low = subst (λ q. Spends q (first_cost q s) a b) same (record { few = in_order a.config.steps (first_cost a.program s) (a.config.allowance * most a.program) (reach a.program b) low })
+pub section_spends : (p : Object) (s : Section) (a b : Running) → a.program ≡ p → PaysForSection s a b → Spends p (section_cost p s) a b
+section_spends p s a b same low = subst (λ q. Spends q (section_cost q s) a b) same (record { few = in_order a.config.steps (section_cost a.program s) (a.config.allowance * most a.program) (reach a.program b) low })
   where
     in_order : (x y z n : ℕ) → n ≤ x + y + z → n ≤ x + z + y
     in_order x y z n h = omega (arith, h)
@@ -110,10 +110,10 @@ few_steps p t a b low light small h =
 -- ---- the trying of types
 
 abbrev codes_there : List ℕ → TypeRow ℕ → Bool
-codes_there text t = list_all (is_there text) t.codes
+codes_there text t = list_all (has_position text) t.codes
 
 abbrev codes_hold : List ℕ → TypeRow ℕ → Bool
-codes_hold text t = list_all (holds text) t.codes
+codes_hold text t = list_all (code_holds text) t.codes
 
 at_most : (b : Bool) (codes rest weight others : ℕ) → codes ≤ weight → rest ≤ others → cond b (codes + rest) codes ≤ weight + others
 at_most true codes rest weight others h g = omega arith
@@ -168,12 +168,12 @@ minus-same n = omega arith
 cost_at : (first : ℕ) (costs : List ℕ) → cost_in first costs first ≡ slice_index costs 0
 cost_at first costs = rw (leb-same first) (rw (minus-same first) refl)
 
-detail_cost : (p : Object) → first_cost p sections.Detail ≡ bounds.first_cost p 0 p.detail
-unfolding first_of
+detail_cost : (p : Object) → section_cost p sections.Detail ≡ bounds.first_cost p 0 p.detail
+unfolding first_place
 detail_cost p = cost_at 0 (bounds.costs_at p 0 p.detail)
 
-total_cost : (p : Object) → first_cost p sections.Total ≡ bounds.first_cost p (length p.detail) p.total
-unfolding first_of
+total_cost : (p : Object) → section_cost p sections.Total ≡ bounds.first_cost p (length p.detail) p.total
+unfolding first_place
 total_cost p = cost_at (length p.detail) (bounds.costs_at p (length p.detail) p.total)
 
 output_twice : (b : Bool) (w : ℕ) → cond b (w + w) w ≡ w + cond b w 0

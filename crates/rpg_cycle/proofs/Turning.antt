@@ -2,19 +2,19 @@
 use Rattle.std.proofs.Common.{◌≡◌, ℕ, ◌<◌, Bool, true, false, cond, eqb, List, [], ◌∷◌, All, map, Option, None, Some, refl, sym, ap, ◌∙◌, subst}
 use Rattle.std.proofs.lemmas.List.{get_or-map, length-map}
 use Rattle.std.specs.Option.{ForSome}
-use Rattle.rpg_form.specs.Paper.{Position}
+use Rattle.rpg_paper.specs.Paper.{Position}
 use Rattle.rpg_effect.specs.Input.{TypeRow}
 use Rattle.rpg_cycle.proofs.Composing.{quietly}
 use Rattle.rpg_cycle.specs.Doing.{Passes}
 use Rattle.rpg_cycle.specs.Ends.{GoesOn}
-use Rattle.rpg_records.specs.Fitting.{IsTypeIn}
+use Rattle.rpg_cycle_records.specs.Fitting.{IsTypeIn}
 use Rattle.rpg_cycle.specs.Indicators.{first_page, last_record, level_indicators, with_all, with_one, with_type, without_type, without_types}
 use Rattle.rpg_cycle.specs.Phases.{all_off, done, has_no_overflow, set_off, with_config}
 use Rattle.rpg_machine.specs.Config.{Config}
 use Rattle.rpg_machine.specs.Running.{Running, config_on}
-use Rattle.rpg_program.specs.Kept.{IsIndicator}
-use Rattle.rpg_program.specs.Object.{Object, type_row}
-use Rattle.rpg_program.specs.declared.row.RecordType.{RecordType}
+use Rattle.rpg_object_program.specs.Kept.{IsIndicator}
+use Rattle.rpg_object_program.specs.Object.{Object, type_row}
+use Rattle.rpg_object_program.specs.declared.row.RecordType.{RecordType}
 
 -- ---- on the paper
 

@@ -5,14 +5,14 @@ use Rattle.std.specs.Option.{ForSome}
 use Rattle.rpg_effect.specs.Forms.{form_at}
 use Rattle.rpg_effect.specs.Input.{TypeRow}
 use Rattle.rpg_cycle.proofs.Others.{IsOther, details_keep, insert_other, remove_other}
-use Rattle.rpg_records.specs.Earlier.{Left, Selected, left_by}
-use Rattle.rpg_cycle.specs.Ends.{End, GoesOn, EndOfJob, Halt, Wrong}
+use Rattle.rpg_cycle_records.specs.Earlier.{Left, Selected, left_by}
+use Rattle.rpg_cycle.specs.Ends.{PhaseEnd, GoesOn, EndOfJob, Halt, Wrong}
 use Rattle.rpg_cycle.specs.Indicators.{any_on, first_page, halt_indicators, is_on, last_record, level_indicators, with_all, with_one, without_type, without_types}
 use Rattle.rpg_cycle.specs.Phases.{Cycle, CycleOn, Done, Phase, UnderWay, all_off, begun, detail_calculations, detail_lines, done, end_where_last, fill_fields, halt_where_asked, needs_record, overflow_lines, read_record, select_record, set_off, total_time, ◌before◌}
 use Rattle.rpg_machine.specs.Config.{Config, Output}
-use Rattle.rpg_program.specs.Constants.{word_at}
-use Rattle.rpg_program.specs.Kept.{IsOverflowIndicator, IsProgram}
-use Rattle.rpg_program.specs.Object.{Object, lines_of}
+use Rattle.rpg_object_program.specs.Constants.{word_at}
+use Rattle.rpg_object_program.specs.Kept.{IsOverflowIndicator, IsProgram}
+use Rattle.rpg_object_program.specs.Object.{Object, lines_of}
 
 -- ---- indicators that stay
 
@@ -65,7 +65,7 @@ last_stays p c =
 
 -- what the one leads to, the other does
 pub record Agrees (P Q : Phase) (c : UnderWay) : Type 0 where
-  pub each : (e : End) (d : UnderWay) (out : Output) → P c e d out → Q c e d out
+  pub each : (e : PhaseEnd) (d : UnderWay) (out : Output) → P c e d out → Q c e d out
 
 first_agrees : (P Q R : Phase) (c : UnderWay) → Agrees P Q c → Agrees (P before R) (Q before R) c
 first_agrees P Q R c h = record { each = λ e d out g. (g.0, g.1, g.2, h.each g.0 g.1 g.2 g.3, g.4) }
@@ -73,7 +73,7 @@ first_agrees P Q R c h = record { each = λ e d out g. (g.0, g.1, g.2, h.each g.
 rest_agrees : (P Q R : Phase) (c : UnderWay) → ((m : UnderWay) (put : Output) → P c GoesOn m put → Agrees Q R m) → Agrees (P before Q) (P before R) c
 rest_agrees P Q R c h = record { each = cases }
   where
-    cases : (e : End) (d : UnderWay) (out : Output) → (P before Q) c e d out → (P before R) c e d out
+    cases : (e : PhaseEnd) (d : UnderWay) (out : Output) → (P before Q) c e d out → (P before R) c e d out
     cases e d out (GoesOn, m, put, first, rest) = (GoesOn, m, put, first, (rest.0, (h m put first).each e d rest.0 rest.1, rest.2))
     cases e d out (EndOfJob, m, put, first, rest) = (EndOfJob, m, put, first, rest)
     cases e d out (Halt k, m, put, first, rest) = (Halt k, m, put, first, rest)
@@ -153,6 +153,6 @@ behind_lines p left now next c kept needless =
     (set_off p before select_record p left next before total_time p left before end_where_last before overflow_lines p before fill_fields p before detail_calculations p) m
     (λ u more k. behind_halt p left now next c m u put more kept needless g k))
 
-pub unneeded : (p : Object) (earlier : List Selected) (c : Config) (now next : Option (List ℕ)) (e : End) (d : UnderWay) (out : Output) → IsProgram p → needs_record c ≡ false →
+pub unneeded : (p : Object) (earlier : List Selected) (c : Config) (now next : Option (List ℕ)) (e : PhaseEnd) (d : UnderWay) (out : Output) → IsProgram p → needs_record c ≡ false →
     Cycle p earlier now (begun p c) e d out → Cycle p earlier next (begun p c) e d out
 unneeded p earlier c now next e d out kept needless h = (behind_lines p (left_by p earlier) now next c kept needless).each e d out h

@@ -4,8 +4,8 @@ use Rattle.std.proofs.Common.{inl, inr}
 use Rattle.std.specs.Coded.{Coded, code_by, coded×, coded⊎, coded_ℕ, coded_bool, coded_list, coded_option}
 use base.Stored.{coded_unit}
 use Rattle.rpg_effect.specs.Ends.{Fault, Jump, Storage, Kind, Return}
-use Rattle.rpg_records.specs.Earlier.{Left}
-use Rattle.rpg_cycle.specs.Ends.{End, GoesOn, EndOfJob, Halt, Wrong}
+use Rattle.rpg_cycle_records.specs.Earlier.{Left}
+use Rattle.rpg_cycle.specs.Ends.{PhaseEnd, GoesOn, EndOfJob, Halt, Wrong}
 use Rattle.rpg_cycle.specs.Stages.{Stage, Going, Ended, Failed}
 
 abbrev fault_to : Fault → Unit {0} ⊎ (Unit {0} ⊎ (Unit {0} ⊎ Unit {0}))
@@ -29,33 +29,33 @@ fault_law Return = refl
 abbrev pub fault_code : Coded Fault
 fault_code = code_by (Unit {0} ⊎ (Unit {0} ⊎ (Unit {0} ⊎ Unit {0}))) (coded⊎ coded_unit (coded⊎ coded_unit (coded⊎ coded_unit coded_unit))) fault_to fault_from fault_law
 
-abbrev end_to : End → Unit {0} ⊎ (Unit {0} ⊎ (ℕ ⊎ Fault))
+abbrev end_to : PhaseEnd → Unit {0} ⊎ (Unit {0} ⊎ (ℕ ⊎ Fault))
 end_to GoesOn = inl tt
 end_to EndOfJob = inr (inl tt)
 end_to (Halt k) = inr (inr (inl k))
 end_to (Wrong f) = inr (inr (inr f))
 
-abbrev end_from : Unit {0} ⊎ (Unit {0} ⊎ (ℕ ⊎ Fault)) → End
+abbrev end_from : Unit {0} ⊎ (Unit {0} ⊎ (ℕ ⊎ Fault)) → PhaseEnd
 end_from (inl u) = GoesOn
 end_from (inr (inl u)) = EndOfJob
 end_from (inr (inr (inl k))) = Halt k
 end_from (inr (inr (inr f))) = Wrong f
 
-pub end_law : (e : End) → end_from (end_to e) ≡ e
+pub end_law : (e : PhaseEnd) → end_from (end_to e) ≡ e
 end_law GoesOn = refl
 end_law EndOfJob = refl
 end_law (Halt k) = refl
 end_law (Wrong f) = refl
 
-abbrev pub end_code : Coded End
+abbrev pub end_code : Coded PhaseEnd
 end_code = code_by (Unit {0} ⊎ (Unit {0} ⊎ (ℕ ⊎ Fault))) (coded⊎ coded_unit (coded⊎ coded_unit (coded⊎ coded_ℕ fault_code))) end_to end_from end_law
 
-abbrev stage_to : Stage → Unit {0} ⊎ (Unit {0} ⊎ End)
+abbrev stage_to : Stage → Unit {0} ⊎ (Unit {0} ⊎ PhaseEnd)
 stage_to Going = inl tt
 stage_to Failed = inr (inl tt)
 stage_to (Ended e) = inr (inr e)
 
-abbrev stage_from : Unit {0} ⊎ (Unit {0} ⊎ End) → Stage
+abbrev stage_from : Unit {0} ⊎ (Unit {0} ⊎ PhaseEnd) → Stage
 stage_from (inl u) = Going
 stage_from (inr (inl u)) = Failed
 stage_from (inr (inr e)) = Ended e
@@ -66,7 +66,7 @@ stage_law Failed = refl
 stage_law (Ended e) = refl
 
 abbrev pub stage_code : Coded Stage
-stage_code = code_by (Unit {0} ⊎ (Unit {0} ⊎ End)) (coded⊎ coded_unit (coded⊎ coded_unit end_code)) stage_to stage_from stage_law
+stage_code = code_by (Unit {0} ⊎ (Unit {0} ⊎ PhaseEnd)) (coded⊎ coded_unit (coded⊎ coded_unit end_code)) stage_to stage_from stage_law
 
 abbrev left_to : Left → Bool × (Bool × List (Option (List ℕ)))
 left_to l = (l.any, (l.control, l.bytes))

@@ -8,8 +8,8 @@ use Rattle.rpg_effect.specs.World.{Fields}
 use Rattle.rpg_effect.specs.declared.form.FieldForm.{FieldForm}
 use Rattle.rpg_store.specs.Store.{Currents, Values}
 
-abbrev pub fields_in : Values → Currents → Fields nat_cmp
-fields_in values current = record { values = values; current = current }
+abbrev pub fields_with : Values → Currents → Fields nat_cmp
+fields_with values current = record { values = values; current = current }
 
 -- a field of that form takes the date, if it is a date field
 abbrev pub with_date : ℤ → ℕ → FieldForm → Values → Values

@@ -33,11 +33,11 @@ any_on c [] = false
 any_on c (n ∷ ns) = is_on c n || any_on c ns
 
 -- an indicator is set
-abbrev pub turned : ℕ → Bool → set.FinSet nat_cmp → set.FinSet nat_cmp
-turned n on indicators = if on then set.insert indicators n else set.remove indicators n
+abbrev pub indicators_turned : ℕ → Bool → set.FinSet nat_cmp → set.FinSet nat_cmp
+indicators_turned n on indicators = if on then set.insert indicators n else set.remove indicators n
 
 abbrev pub with_one : ℕ → Bool → Config → Config
-with_one n on c = record c { world = record c.world { on = turned n on c.world.on } }
+with_one n on c = record c { world = record c.world { on = indicators_turned n on c.world.on } }
 
 abbrev pub with_all : List ℕ → Bool → Config → Config
 with_all [] on c = c

@@ -1,11 +1,11 @@
 -- What a job is to its callers. Of the lines before it remembers only which was placed last, as the machine does.
 use Rattle.std.specs.Prelude.{◌≡◌, ℕ, ℤ, ◌++◌, ◌≤◌, Bool, true, false, ◌&&◌, List, [], Option, None, Some, length}
 use Rattle.std.specs.Ordering.{nat_cmp}
-use Rattle.rpg_form.specs.Paper.{Position, end_from}
+use Rattle.rpg_paper.specs.Paper.{Position, last_position_from}
 use Rattle.rpg_effect.specs.Put.{Bytes, line_of, with_output}
 use Rattle.rpg_effect.specs.World.{Fields}
-use Rattle.rpg_records.specs.Earlier.{Left, Selected, left_by, with_record}
-use Rattle.rpg_cycle.specs.Ends.{End, GoesOn}
+use Rattle.rpg_cycle_records.specs.Earlier.{Left, Selected, left_by, with_record}
+use Rattle.rpg_cycle.specs.Ends.{GoesOn, PhaseEnd}
 use Rattle.rpg_machine.specs.Running as machines
 use Rattle.rpg_machine.specs.Ready.{IsReady}
 use Rattle.rpg_cycle.specs.Phases as cycles
@@ -14,7 +14,7 @@ use Rattle.rpg_cycle.specs.Stages.{Stage, Going, Ended, Failed, has_failed, is_g
 use Rattle.rpg_cycle.specs.Starting.{date_in, dated}
 use Rattle.rpg_machine.specs.Config.{Config, Output}
 use Rattle.rpg_machine.specs.Running.{Running, config_on, feed_behind, no_bytes}
-use Rattle.rpg_program.specs.Object.{Object}
+use Rattle.rpg_object_program.specs.Object.{Object}
 use Rattle.rpg_store.specs.First.{first_contents, first_currents}
 use Rattle.rpg_verify.specs.Bound.{bound}
 
@@ -31,8 +31,8 @@ pub record AtWork : Type 0 where
 -- ---- the start
 
 -- a job before its first cycle, on a date, over what its fields hold at first
-abbrev pub started : Object → ℤ → Fields nat_cmp → AtWork
-started p date fields = record {
+abbrev pub job_started : Object → ℤ → Fields nat_cmp → AtWork
+job_started p date fields = record {
   program = p;
   config = (machines.started p (dated date 1 p.fields fields)).config;
   last = None;
@@ -45,7 +45,7 @@ started p date fields = record {
 pub record Starts (p : Object) (date : List ℕ) (fields : Fields nat_cmp) (j : AtWork) : Type 0 where
   pub number : ℤ
   pub spelled : date_in date ≡ Some number
-  pub job : j ≡ started p number fields
+  pub job : j ≡ job_started p number fields
 
 -- what a program's fields hold at first
 abbrev pub first_fields : Object → Fields nat_cmp
@@ -64,34 +64,34 @@ with_feed feed bytes = record bytes { print = bytes.print ++ feed }
 
 -- Behind these earlier records and a line placed before, a job did a cycle with the record that was next, or with none at the end of the
 -- file. Its bytes were appended.
-pub record DoesCycle (old : AtWork) (earlier : List Selected) (previous : Option Position) (next : Option (List ℕ)) (e : End) (new : AtWork) : Type 0 where
+pub record DoesCycle (old : AtWork) (earlier : List Selected) (previous : Option Position) (next : Option (List ℕ)) (e : PhaseEnd) (new : AtWork) : Type 0 where
   pub stage : new.stage ≡ stage_at e
   pub program : new.program ≡ old.program
   pub there : UnderWay
   pub out : Output
   pub cycle : Cycle old.program earlier next (begun old.program (config_on previous old.config)) e there out
-  pub config : there.config ≡ config_on (end_from previous out.lines) new.config
+  pub config : there.config ≡ config_on (last_position_from previous out.lines) new.config
   pub left : e ≡ GoesOn → new.left ≡ left_by old.program (with_record there.selected earlier)
-  pub last : new.last ≡ line_of (end_from previous out.lines)
+  pub last : new.last ≡ line_of (last_position_from previous out.lines)
   pub bytes : new.output ≡ with_feed (feed_at (stage_at e) new.last) (with_output previous out.lines out.records old.output)
 
 -- what a cycle did, whatever the earlier records were that left what the job keeps, and whatever was placed before
 abbrev pub Cycles : AtWork → Option (List ℕ) → AtWork → Type 0
 Cycles old next new =
     (earlier : List Selected) → old.left ≡ left_by old.program earlier → (previous : Option Position) → old.last ≡ line_of previous
-    → (e : End) × DoesCycle old earlier previous next e new
+    → (e : PhaseEnd) × DoesCycle old earlier previous next e new
 
 -- the next cycle takes a record: the job goes on, and neither LR nor one of H1 to H9 is on
-abbrev pub needs_record : AtWork → Bool
-needs_record j = is_going j.stage && cycles.needs_record j.config
+abbrev pub job_needs_record : AtWork → Bool
+job_needs_record j = is_going j.stage && cycles.needs_record j.config
 
 -- its last cycle took no more steps than the program's bound
-abbrev pub InBound : AtWork → Type 0
-InBound j = has_failed j.stage ≡ false → j.config.steps ≤ bound j.program
+abbrev pub KeepsBound : AtWork → Type 0
+KeepsBound j = has_failed j.stage ≡ false → j.config.steps ≤ bound j.program
 
 -- what was put out has been taken
-abbrev pub taken : AtWork → AtWork
-taken j = record j { output = no_bytes }
+abbrev pub job_taken : AtWork → AtWork
+job_taken j = record j { output = no_bytes }
 
 -- ---- what a job keeps
 

@@ -1,22 +1,22 @@
 -- One cycle of a job: its nine phases, one after another.
 use Rattle.std.specs.Prelude.{◌≡◌, ℕ, Bool, true, false, not, ◌&&◌, ◌||◌, List, [], ◌∷◌, length, slice_get, Option, None, Some, is_none, if◌then◌else◌}
 use Rattle.std.specs.List.{list_all}
-use Rattle.rpg_records.specs.Earlier.{Left, Selected, control_fields, is_any, last_of_level, left_by}
-use Rattle.rpg_cycle.specs.Ends.{End, GoesOn, EndOfJob, Halt, Wrong, end_of}
-use Rattle.rpg_records.specs.Identifying.{Trial, IsOf, IsOfNone, Misplaced, filled, identified, is_good, trial_weight}
+use Rattle.rpg_cycle_records.specs.Earlier.{Left, Selected, control_fields, is_any, last_of_level, left_by}
+use Rattle.rpg_cycle.specs.Ends.{PhaseEnd, GoesOn, EndOfJob, Halt, Wrong, phase_end}
+use Rattle.rpg_cycle_records.specs.Identifying.{Trial, IsOf, IsOfNone, Misplaced, padded, identified, is_good_record, trial_weight}
 use Rattle.rpg_cycle.specs.Indicators.{any_on, first_page, halt_indicators, is_on, last_record, level_indicators, with_all, with_levels, with_one, with_type, without_types}
-use Rattle.rpg_records.specs.Levels.{bytes_of, differs, highest_broken, is_inside}
+use Rattle.rpg_cycle_records.specs.Levels.{differs, highest_broken, is_in_record, level_bytes}
 use Rattle.rpg_effect.specs.Ends as effects
 use Rattle.rpg_effect.specs.Input.{TypeRow}
 use Rattle.rpg_machine.specs.Config.{Config, Output, charged, no_output, with_more}
 use Rattle.rpg_machine.specs.Outputs.{FillsFields, PutsOut}
 use Rattle.rpg_machine.specs.Run.{RunsTo}
-use Rattle.rpg_machine.specs.Running.{Act}
+use Rattle.rpg_machine.specs.Running.{Behaviour}
 use Rattle.rpg_machine.specs.declared.time.OutputTime.{OutputTime}
 use Rattle.rpg_machine.specs.declared.time.OutputTime.TheVariants as times
-use Rattle.rpg_program.specs.Object.{Object}
-use Rattle.rpg_program.specs.declared.section.Section.{Section}
-use Rattle.rpg_program.specs.declared.section.Section.TheVariants as sections
+use Rattle.rpg_object_program.specs.Object.{Object}
+use Rattle.rpg_object_program.specs.declared.section.Section.{Section}
+use Rattle.rpg_object_program.specs.declared.section.Section.TheVariants as sections
 
 -- A cycle under way: the configuration, and the record that phase 4 selected, if it has selected one.
 pub record UnderWay : Type 0 where
@@ -25,10 +25,10 @@ pub record UnderWay : Type 0 where
 
 -- A phase leads from one to another; it goes on or ends the job, and it puts something out.
 abbrev pub Phase : Type 1
-Phase = UnderWay → End → UnderWay → Output → Type 0
+Phase = UnderWay → PhaseEnd → UnderWay → Output → Type 0
 
 -- a phase from where the one before has led, unless that ended the job
-abbrev pub from_there : Phase → End → UnderWay → Output → End → UnderWay → Output → Type 0
+abbrev pub from_there : Phase → PhaseEnd → UnderWay → Output → PhaseEnd → UnderWay → Output → Type 0
 from_there Q GoesOn m put e d out = (more : Output) × Q m e d more × (out ≡ with_more put more)
 from_there Q EndOfJob m put e d out = (e ≡ EndOfJob) × (d ≡ m) × (out ≡ put)
 from_there Q (Halt k) m put e d out = (e ≡ Halt k) × (d ≡ m) × (out ≡ put)
@@ -37,7 +37,7 @@ from_there Q (Wrong f) m put e d out = (e ≡ Wrong f) × (d ≡ m) × (out ≡ 
 -- the one phase and then the other
 infixr 5 ◌before◌
 abbrev pub ◌before◌ : Phase → Phase → Phase
-(P before Q) c e d out = (f : End) × (m : UnderWay) × (put : Output) × P c f m put × from_there Q f m put e d out
+(P before Q) c e d out = (f : PhaseEnd) × (m : UnderWay) × (put : Output) × P c f m put × from_there Q f m put e d out
 
 -- ---- kinds of phases
 
@@ -46,8 +46,8 @@ abbrev pub with_config : (Config → Config) → UnderWay → UnderWay
 with_config f c = record c { config = f c.config }
 
 -- what the machine does, without selecting a record
-abbrev pub by_machine : Act → Phase
-by_machine P c e d out = (last : effects.End) × P c.config last d.config out × (e ≡ end_of last) × (d.selected ≡ c.selected)
+abbrev pub by_machine : Behaviour → Phase
+by_machine P c e d out = (last : effects.End) × P c.config last d.config out × (e ≡ phase_end last) × (d.selected ≡ c.selected)
 
 -- the lines of a time
 abbrev pub output : Object → OutputTime → Phase
@@ -59,10 +59,10 @@ section p s = by_machine (RunsTo p s)
 
 -- how a phase without output ends, and where it leads
 pub record Done : Type 0 where
-  pub end : End
+  pub end : PhaseEnd
   pub leads : UnderWay
 
-abbrev pub done : End → UnderWay → Done
+abbrev pub done : PhaseEnd → UnderWay → Done
 done e c = record { end = e; leads = c }
 
 abbrev pub does : (UnderWay → Done) → Phase
@@ -102,23 +102,23 @@ set_off p = does (λ c. done GoesOn (with_config (all_off p) c))
 
 -- the highest level that this record breaks, 0 where it breaks none
 abbrev pub broken_level : Object → Left → Selected → ℕ
-broken_level p left s = highest_broken (λ level. differs (last_of_level left level) (bytes_of (control_fields p s.type) s.text level)) 9
+broken_level p left s = highest_broken (λ level. differs (last_of_level left level) (level_bytes (control_fields p s.type) s.text level)) 9
 
 -- the control fields are compared; the highest level that is broken goes on with all below it
-abbrev pub compare : Object → Left → Selected → Config → Done
-compare p left s c =
-    if list_all (is_inside (length s.text)) (control_fields p s.type)
+abbrev pub compare_levels : Object → Left → Selected → Config → Done
+compare_levels p left s c =
+    if list_all (is_in_record (length s.text)) (control_fields p s.type)
     then done GoesOn (record { config = with_levels (broken_level p left s) (charged (length (control_fields p s.type)) c); selected = Some s })
     else done (Wrong effects.Storage) (record { config = charged (length (control_fields p s.type)) c; selected = None })
 
 -- the indicator of a type
-abbrev pub indicator_of : Option (TypeRow ℕ) → Option ℕ
-indicator_of None = None
-indicator_of (Some t) = t.indicator
+abbrev pub type_indicator : Option (TypeRow ℕ) → Option ℕ
+type_indicator None = None
+type_indicator (Some t) = t.indicator
 
 -- an identified record's indicator goes on; a record of no type is halt 3
 abbrev pub take_type : Object → Left → List ℕ → Trial → Config → Done
-take_type p left text (IsOf t) c = compare p left (record { type = t; text = text }) (with_type (indicator_of (slice_get p.types t)) c)
+take_type p left text (IsOf t) c = compare_levels p left (record { type = t; text = text }) (with_type (type_indicator (slice_get p.types t)) c)
 take_type p left text IsOfNone c = done (Halt 3) (record { config = c; selected = None })
 take_type p left text Misplaced c = done (Wrong effects.Storage) (record { config = c; selected = None })
 
@@ -129,7 +129,7 @@ identify p left text c = take_type p left text (identified 0 p.types text) (char
 -- a good record is identified, a bad one is halt 7; where there is none LR and all levels go on
 abbrev pub read_record : Object → Left → Option (List ℕ) → Config → Done
 read_record p left None c = done GoesOn (record { config = with_all level_indicators true (with_one last_record true c); selected = None })
-read_record p left (Some text) c = if is_good p text then identify p left (filled p text) c else done (Halt 7) (record { config = c; selected = None })
+read_record p left (Some text) c = if is_good_record p text then identify p left (padded p text) c else done (Halt 7) (record { config = c; selected = None })
 
 -- where LR is on no record is read, and L1 to L9 go on
 abbrev pub select_record : Object → Left → Option (List ℕ) → Phase

@@ -10,7 +10,7 @@ use Rattle.rpg_cycle.specs.declared.runs.Summary.{Summary}
 use Rattle.rpg_effect.specs.Put.{Bytes}
 use Rattle.rpg_machine.specs.Config.{Output}
 use Rattle.rpg_machine.specs.Running.{config_on}
-use Rattle.rpg_program.specs.Object.{Object}
+use Rattle.rpg_object_program.specs.Object.{Object}
 
 -- the bytes of records
 abbrev pub texts : List (Vec ℕ) → List (List ℕ)
@@ -21,7 +21,7 @@ abbrev pub course_of : Summary → Output → Course
 course_of s out = record { ending = job_end s.ending; cycles = s.cycles; most = s.most; output = out }
 
 -- a job before its first cycle ran over records to its end
-pub record RunsOn (old : AtWork) (records : List (List ℕ)) (s : Summary) (new : AtWork) : Type 0 where
+pub record RunsRecords (old : AtWork) (records : List (List ℕ)) (s : Summary) (new : AtWork) : Type 0 where
   pub out : Output
   pub runs : Runs old.program [] records (config_on None old.config) (course_of s out)
   pub print : new.output.print ≡ old.output.print ++ printed out
@@ -31,12 +31,12 @@ pub record RunsOn (old : AtWork) (records : List (List ℕ)) (s : Summary) (new 
 abbrev pub summary_of : Run → Summary
 summary_of r = record { ending = r.ending; cycles = r.cycles; most = r.most }
 
-abbrev pub bytes_of : Run → Bytes
-bytes_of r = record { print = r.output.print.items; disk = r.output.disk.items }
+abbrev pub run_output : Run → Bytes
+run_output r = record { print = r.output.print.items; disk = r.output.disk.items }
 
 -- the whole run of a program over records, on the date that a text spells and over the first values of its fields
 pub record RunsWhole (p : Object) (date : List ℕ) (records : List (List ℕ)) (r : Run) : Type 0 where
   pub number : ℤ
   pub spelled : date_in date ≡ Some number
   pub out : Output
-  pub run : IsRun p number (first_fields p) records (course_of (summary_of r) out) (bytes_of r)
+  pub run : IsRun p number (first_fields p) records (course_of (summary_of r) out) (run_output r)

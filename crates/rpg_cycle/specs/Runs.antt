@@ -1,25 +1,25 @@
 -- Whole runs: a cycle for each record, and one for the end of the file, until one ends the job.
 use Rattle.std.specs.Prelude.{◌≡◌, ℕ, ◌+◌, ◌++◌, ℤ, List, [], ◌∷◌, max, None, Some}
 use Rattle.std.specs.Ordering.{nat_cmp}
-use Rattle.rpg_records.specs.Earlier.{Selected, with_record}
-use Rattle.rpg_cycle.specs.Ends.{End, GoesOn, EndOfJob, Halt, Wrong}
+use Rattle.rpg_cycle_records.specs.Earlier.{Selected, with_record}
+use Rattle.rpg_cycle.specs.Ends.{PhaseEnd, GoesOn, EndOfJob, Halt, Wrong}
 use Rattle.rpg_cycle.specs.Phases.{Cycle, UnderWay, begun}
-use Rattle.rpg_cycle.specs.Starting.{start_of}
-use Rattle.rpg_form.specs.Paper.{Placed, paper}
+use Rattle.rpg_cycle.specs.Starting.{job_start}
+use Rattle.rpg_paper.specs.Paper.{Placed, paper}
 use Rattle.rpg_effect.specs.Put.{Bytes, disk_bytes}
 use Rattle.rpg_effect.specs.World.{Fields}
 use Rattle.rpg_machine.specs.Config.{Config, Output, with_more}
-use Rattle.rpg_program.specs.Object.{Object}
+use Rattle.rpg_object_program.specs.Object.{Object}
 
 -- how a run ended, in how many cycles, the most steps that one of them took, and what was put out
 pub record Course : Type 0 where
-  pub ending : End
+  pub ending : PhaseEnd
   pub cycles : ℕ
   pub most : ℕ
   pub output : Output
 
 -- the course of a run whose last cycle this is
-abbrev pub last_cycle : End → Config → Output → Course
+abbrev pub last_cycle : PhaseEnd → Config → Output → Course
 last_cycle e c out = record { ending = e; cycles = 1; most = c.steps; output = out }
 
 -- the course of the rest with this cycle before it
@@ -27,7 +27,7 @@ abbrev pub with_cycle : Config → Output → Course → Course
 with_cycle c out rest = record { ending = rest.ending; cycles = 1 + rest.cycles; most = max c.steps rest.most; output = with_more out rest.output }
 
 -- a cycle ended the job, or the rest follows
-abbrev pub ends_or : End → UnderWay → Output → (UnderWay → Course → Type 0) → Course → Type 0
+abbrev pub ends_or : PhaseEnd → UnderWay → Output → (UnderWay → Course → Type 0) → Course → Type 0
 ends_or GoesOn d out Rest course = (rest : Course) × Rest d rest × (course ≡ with_cycle d.config out rest)
 ends_or EndOfJob d out Rest course = course ≡ last_cycle EndOfJob d.config out
 ends_or (Halt k) d out Rest course = course ≡ last_cycle (Halt k) d.config out
@@ -36,9 +36,9 @@ ends_or (Wrong f) d out Rest course = course ≡ last_cycle (Wrong f) d.config o
 -- a run from a configuration, behind earlier records (the last first), over the records that are left
 abbrev pub Runs : Object → List Selected → List (List ℕ) → Config → Course → Type 0
 Runs p earlier [] c course =
-    (e : End) × (d : UnderWay) × (out : Output) × Cycle p earlier None (begun p c) e d out × ends_or e d out (λ d rest. ⊥) course
+    (e : PhaseEnd) × (d : UnderWay) × (out : Output) × Cycle p earlier None (begun p c) e d out × ends_or e d out (λ d rest. ⊥) course
 Runs p earlier (r ∷ rs) c course =
-    (e : End) × (d : UnderWay) × (out : Output) × Cycle p earlier (Some r) (begun p c) e d out
+    (e : PhaseEnd) × (d : UnderWay) × (out : Output) × Cycle p earlier (Some r) (begun p c) e d out
     × ends_or e d out (λ d rest. Runs p (with_record d.selected earlier) rs d.config rest) course
 
 -- a line feed behind the last line, where one was placed
@@ -56,6 +56,6 @@ stored out = disk_bytes out.records
 
 -- the whole run of a program over records, with a date and with what its fields hold at first
 pub record IsRun (p : Object) (date : ℤ) (fields : Fields nat_cmp) (records : List (List ℕ)) (course : Course) (bytes : Bytes) : Type 0 where
-  pub runs : Runs p [] records (start_of p date fields) course
+  pub runs : Runs p [] records (job_start p date fields) course
   pub print : bytes.print ≡ printed course.output
   pub disk : bytes.disk ≡ stored course.output

@@ -4,10 +4,10 @@ use Rattle.rpg_effect.specs.Weights.{types_weight}
 use Rattle.rpg_machine.specs.Outputs.{inputs_at, output_weight}
 use Rattle.rpg_machine.specs.Running.{Running}
 use Rattle.rpg_machine.specs.declared.time.OutputTime.TheVariants as times
-use Rattle.rpg_program.specs.Object.{Object}
-use Rattle.rpg_program.specs.Sections.{first_of}
-use Rattle.rpg_program.specs.declared.section.Section.{Section}
-use Rattle.rpg_program.specs.declared.section.Section.TheVariants as sections
+use Rattle.rpg_object_program.specs.Object.{Object}
+use Rattle.rpg_object_program.specs.Sections.{first_place}
+use Rattle.rpg_object_program.specs.declared.section.Section.{Section}
+use Rattle.rpg_object_program.specs.declared.section.Section.TheVariants as sections
 use Rattle.rpg_verify.specs.Bound.{cost, most}
 
 -- the steps used, and those that what is left of the allowance can still lead to
@@ -19,8 +19,8 @@ pub record Spends (p : Object) (n : ℕ) (old new : Running) : Type 0 where
   pub few : reach p new ≤ reach p old + n
 
 -- the cost of a section's first place
-abbrev pub first_cost : Object → Section → ℕ
-first_cost p s = cost p (record { section = s; number = first_of p s })
+abbrev pub section_cost : Object → Section → ℕ
+section_cost p s = cost p (record { section = s; number = first_place p s })
 
 -- the fields that a selected record fills
 abbrev pub inputs_weight : Object → Option ℕ → ℕ
@@ -32,19 +32,19 @@ pub record Selects (p : Object) (t : Option ℕ) (old new : Running) : Type 0 wh
   pub few : reach p new + inputs_weight p t ≤ reach p old + types_weight p.types
 
 -- the lines of a full page
-abbrev pub overflow_weight : Object → ℕ
-overflow_weight p = if is_some p.overflow then output_weight p times.Overflow else 0
+abbrev pub full_page_weight : Object → ℕ
+full_page_weight p = if is_some p.overflow then output_weight p times.Overflow else 0
 
 -- total calculations and total lines
 abbrev pub totals_weight : Object → ℕ
-totals_weight p = first_cost p sections.Total + output_weight p times.Total
+totals_weight p = section_cost p sections.Total + output_weight p times.Total
 
 -- the phases behind the selection of a record, or of none
 abbrev pub record_weight : Object → Option ℕ → ℕ
-record_weight p t = totals_weight p + (overflow_weight p + (inputs_weight p t + first_cost p sections.Detail))
+record_weight p t = totals_weight p + (full_page_weight p + (inputs_weight p t + section_cost p sections.Detail))
 
 -- all phases of a cycle, and what the allowance can lead to
 abbrev pub cycle_weight : Object → ℕ
 cycle_weight p =
-    p.allowance * most p + output_weight p times.Detail + types_weight p.types + totals_weight p + overflow_weight p
-    + first_cost p sections.Detail
+    p.allowance * most p + output_weight p times.Detail + types_weight p.types + totals_weight p + full_page_weight p
+    + section_cost p sections.Detail

@@ -1,6 +1,7 @@
 -- How far a job is: the words, and what the code's answers stand for.
 use Rattle.std.specs.Prelude.{Bool, true, false, Result, Ok, Err}
-use Rattle.rpg_cycle.specs.Ends.{End, GoesOn, EndOfJob, Halt, Wrong}
+use Rattle.rpg_effect.specs.Halts.{halt_number}
+use Rattle.rpg_cycle.specs.Ends.{PhaseEnd, GoesOn, EndOfJob, Halt, Wrong}
 use Rattle.rpg_cycle.specs.declared.ends.CycleEnd.{CycleEnd}
 use Rattle.rpg_cycle.specs.declared.ends.CycleEnd.TheVariants as answers
 use Rattle.rpg_cycle.specs.declared.ends.JobEnd.{JobEnd}
@@ -13,7 +14,7 @@ use Rattle.rpg_cycle.specs.declared.ends.Progress.TheVariants as progresses
 -- under way, at its end, or without the memory that a cycle wanted
 pub data Stage : Type 0 where
   Going : Stage
-  Ended : End → Stage
+  Ended : PhaseEnd → Stage
   Failed : Stage
 
 -- a cycle follows
@@ -28,22 +29,22 @@ has_failed (Ended e) = false
 has_failed Failed = true
 
 -- the stage that a cycle with this end leads to
-abbrev pub stage_at : End → Stage
+abbrev pub stage_at : PhaseEnd → Stage
 stage_at GoesOn = Going
 stage_at EndOfJob = Ended EndOfJob
 stage_at (Halt k) = Ended (Halt k)
 stage_at (Wrong f) = Ended (Wrong f)
 
 -- the end of a job
-abbrev pub job_end : JobEnd → End
+abbrev pub job_end : JobEnd → PhaseEnd
 job_end jobs.EndOfJob = EndOfJob
-job_end (jobs.Halt k) = Halt k
+job_end (jobs.Halt h) = Halt (halt_number h)
 
 -- the stage that an answer tells
 abbrev pub told : CycleEnd → Stage
 told answers.GoesOn = Going
 told answers.EndOfJob = Ended EndOfJob
-told (answers.Halt k) = Ended (Halt k)
+told (answers.Halt h) = Ended (Halt (halt_number h))
 told answers.Failed = Failed
 
 -- the stage that a job keeps

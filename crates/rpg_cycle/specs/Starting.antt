@@ -5,15 +5,15 @@ use Rattle.std.specs.FinMap as map
 use Rattle.std.specs.FinSet as set
 use Rattle.std.specs.Ordering.{nat_cmp}
 use Rattle.rpg_cycle.specs.Indicators.{first_page, level_zero}
-use Rattle.rpg_numbers.specs.Fraction.{with_decimals}
-use Rattle.rpg_numbers.specs.Zoned.{is_digit, number_in}
+use Rattle.rpg_decimal_words.specs.Fraction.{with_decimals}
+use Rattle.rpg_decimal_words.specs.Zoned.{is_digit, number_in}
 use Rattle.rpg_effect.specs.Forms.{is_date}
 use Rattle.rpg_effect.specs.Values.{Number}
 use Rattle.rpg_effect.specs.World.{Fields, World, with_value}
 use Rattle.rpg_effect.specs.declared.form.FieldForm.{FieldForm}
 use Rattle.rpg_machine.specs.Config.{Config}
-use Rattle.rpg_program.specs.Object.{Object}
-use Rattle.rpg_program.specs.declared.section.Section.TheVariants.{Detail}
+use Rattle.rpg_object_program.specs.Object.{Object}
+use Rattle.rpg_object_program.specs.declared.section.Section.TheVariants.{Detail}
 
 -- the number that a text of just six digits spells
 abbrev pub date_in : List ℕ → Option ℤ
@@ -25,8 +25,8 @@ dated date field [] fields = fields
 dated date field (f ∷ fs) fields = dated date (field + 1) fs (if is_date f.class then with_value (field, 1) (Number date) fields else fields)
 
 -- L0 and 1P are on, no division has left anything, and the form is at line 1 of page 1
-abbrev pub first_world : Fields nat_cmp → World nat_cmp
-first_world fields = record {
+abbrev pub job_first_world : Fields nat_cmp → World nat_cmp
+job_first_world fields = record {
   fields = fields;
   on = set.from_list (level_zero ∷ first_page ∷ []);
   remainder = with_decimals (pos 0) 0;
@@ -36,9 +36,9 @@ first_world fields = record {
 }
 
 -- a job's configuration before its first cycle, over these values and current entries
-abbrev pub start_of : Object → ℤ → Fields nat_cmp → Config
-start_of p date fields = record {
-  world = first_world (dated date 1 p.fields fields);
+abbrev pub job_start : Object → ℤ → Fields nat_cmp → Config
+job_start p date fields = record {
+  world = job_first_world (dated date 1 p.fields fields);
   section = Detail;
   place = 0;
   cells = map.empty;

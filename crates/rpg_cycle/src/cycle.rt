@@ -2,15 +2,15 @@
 ghost use Rattle.std.specs.Prelude.{◌≡◌, ◌^◌, ◌≤◌, ◌<◌, All, IfOk, None, Option, length};
 ghost use Rattle.std.specs.Option.{ForSome, option_map};
 ghost use Rattle.rpg_cycle.specs.Doing.{Does};
-ghost use Rattle.rpg_records.specs.Earlier.{Selected};
+ghost use Rattle.rpg_cycle_records.specs.Earlier.{Selected};
 ghost use Rattle.rpg_cycle.specs.Ends.{GoesOn};
-ghost use Rattle.rpg_records.specs.Keeping.{kept_levels, left_of, selected_as};
+ghost use Rattle.rpg_cycle_records.specs.Keeping.{kept_levels, left_of, selected_as};
 ghost use Rattle.rpg_machine.specs.Ready.{IsReady};
 ghost use Rattle.rpg_cycle.specs.Phases as spec;
 ghost use Rattle.rpg_cycle.specs.Spending.{Spends, cycle_weight, inputs_weight, reach, record_weight};
 ghost use Rattle.rpg_cycle.specs.Stages.{IfStops, UnlessNoMemory, job_end};
 ghost use Rattle.rpg_machine.specs.Running.{refilled};
-ghost use Rattle.rpg_program.specs.Kept.{IsCharacter};
+ghost use Rattle.rpg_object_program.specs.Kept.{IsCharacter};
 ghost use Rattle.rpg_verify.specs.Bound.{bound};
 
 use crate::ends::Stop;
@@ -20,8 +20,8 @@ use crate::phases::{
 };
 use crate::program::is_bounded;
 use crate::selection::select_record;
+use rpg_cycle_records::Kept;
 use rpg_machine::Machine;
-use rpg_records::Kept;
 use rpg_store::Store;
 use rpg_verify::Verified;
 

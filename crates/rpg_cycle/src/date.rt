@@ -1,11 +1,11 @@
 //! The date of a job.
-ghost use Rattle.std.specs.Prelude.{◌≡◌, ◌<◌, ◌^◌, Some, length, option_map, unsigned_abs};
+ghost use Rattle.std.specs.Prelude.{◌≡◌, ◌<◌, ◌^◌, Some, option_map, unsigned_abs};
 ghost use Rattle.std.specs.List.{list_all};
 ghost use Rattle.rpg_cycle.specs.Starting.{date_in, dated};
-ghost use Rattle.rpg_cycle.specs.Dating.{fields_in, with_date};
-ghost use Rattle.rpg_numbers.specs.Zoned.{is_digit};
+ghost use Rattle.rpg_cycle.specs.Dating.{fields_with, with_date};
+ghost use Rattle.rpg_decimal_words.specs.Zoned.{is_digit};
 ghost use Rattle.rpg_effect.specs.Forms.{form_at, is_date};
-ghost use Rattle.rpg_program.specs.Kept.{IsFieldRow};
+ghost use Rattle.rpg_object_program.specs.Kept.{IsFieldRow};
 ghost use Rattle.rpg_store.specs.Fits.{Fits};
 
 use crate::program::forms_of;
@@ -73,7 +73,7 @@ pub(crate) fn put_date<S: Store>(store: &mut S, program: &Verified, date: i64)
     requires date { unsigned_abs date < 10 ^ 6 }
     requires own { S.forms store.old ≡ program.now.fields }
     requires fits { Fits program.now.fields (S.contents store.old) (S.currents store.old) }
-    ensures fields { fields_in (S.contents store.new) (S.currents store.new) ≡ dated date 1 program.now.fields (fields_in (S.contents store.old) (S.currents store.old)) }
+    ensures fields { fields_with (S.contents store.new) (S.currents store.new) ≡ dated date 1 program.now.fields (fields_with (S.contents store.old) (S.currents store.old)) }
     ensures own { S.forms store.new ≡ program.now.fields }
     ensures fits { Fits program.now.fields (S.contents store.new) (S.currents store.new) }
 {

@@ -1,5 +1,6 @@
 //! How a cycle and a job end.
 
+use rpg_effect::halt::Halt;
 use std::alloc::AllocError;
 use thiserror::Error;
 
@@ -7,8 +8,7 @@ use thiserror::Error;
 #[derive(Clone, Copy)]
 pub enum JobEnd {
     EndOfJob,
-    /// 2 a bad index, 3 a record of no type, 4 a bad digit, 5 a spent allowance, 6 a halt indicator, 7 a bad record.
-    Halt(u8),
+    Halt(Halt),
 }
 
 /// What a cycle led to.
@@ -16,7 +16,7 @@ pub enum JobEnd {
 pub enum CycleEnd {
     GoesOn,
     EndOfJob,
-    Halt(u8),
+    Halt(Halt),
     /// Memory ran out in an earlier cycle.
     Failed,
 }
@@ -51,7 +51,7 @@ impl From<AllocError> for Stop {
 #[derive(Clone, Copy, Debug, Error)]
 pub enum StartFault {
     #[error("the date is not six digits")]
-    D1,
+    BadDate,
     #[error("no memory")]
     NoMemory,
 }

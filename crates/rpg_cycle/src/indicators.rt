@@ -1,10 +1,9 @@
 //! Indicators that the cycle itself reads and sets.
-ghost use Rattle.std.specs.Prelude.{◌≡◌, ◌≤◌, All, take};
+ghost use Rattle.std.specs.Prelude.{◌≡◌, ◌≤◌, All};
 ghost use Rattle.std.specs.Option.{ForSome};
 ghost use Rattle.rpg_cycle.specs.Indicators as spec;
 ghost use Rattle.rpg_machine.specs.Ready.{IsReady};
-ghost use Rattle.rpg_machine.specs.Running.{Running};
-ghost use Rattle.rpg_program.specs.Kept.{IsIndicator};
+ghost use Rattle.rpg_object_program.specs.Kept.{IsIndicator};
 
 use rpg_machine::Machine;
 use rpg_store::Store;

@@ -6,8 +6,8 @@ use crate::cycle::run_cycle;
 use crate::date::{Date, put_date};
 use crate::ends::{CycleEnd, JobEnd, Progress, StartFault, Stop};
 use crate::indicators::{LAST_RECORD, is_halt_asked};
+use rpg_cycle_records::Kept;
 use rpg_machine::{Machine, Output};
-use rpg_records::Kept;
 use rpg_store::{FlatStore, Store, first_values_fit};
 use rpg_verify::Verified;
 use std::alloc::{AllocError, Global};
@@ -26,7 +26,7 @@ impl<'a, S: Store + Drop> Model for Job<'a, S> {
     ghost use Rattle.std.specs.Coded.{codes};
     ghost use Rattle.rpg_cycle.specs.Codes.{left_code, stage_code};
     ghost use Rattle.rpg_cycle.specs.Job.{AtWork, IsAtWork};
-    ghost use Rattle.rpg_records.specs.Keeping.{left_of};
+    ghost use Rattle.rpg_cycle_records.specs.Keeping.{left_of};
     ghost use Rattle.rpg_machine.specs.Codes.{config_code};
     ghost use Rattle.rpg_cycle.specs.Stages.{stage_of};
 
@@ -53,7 +53,7 @@ fn answer_from(progress: Progress) -> CycleEnd
     match progress {
         Progress::Going => CycleEnd::GoesOn,
         Progress::Ended(JobEnd::EndOfJob) => CycleEnd::EndOfJob,
-        Progress::Ended(JobEnd::Halt(number)) => CycleEnd::Halt(number),
+        Progress::Ended(JobEnd::Halt(halt)) => CycleEnd::Halt(halt),
         Progress::Failed => CycleEnd::Failed,
     }
 }
@@ -70,10 +70,10 @@ impl<'a> Job<'a, FlatStore> {
         date: &[u8],
     ) -> Result<Job<'a, FlatStore>, StartFault>
         ensures start { IfOk result (λ j. Starts program.now date.now (first_fields program.now) j) }
-        ensures date { IsErrOf result StartFault.D1 ↔ (date_in date.now ≡ None) }
+        ensures date { IsErrOf result StartFault.BadDate ↔ (date_in date.now ≡ None) }
     {
         let Some(date) = Date::read(date) else {
-            return Err(StartFault::D1);
+            return Err(StartFault::BadDate);
         };
         first_values_fit(program.program());
         let store = FlatStore::new(alloc, program.program())?;
@@ -100,10 +100,10 @@ impl<'a, S: Store + Drop> Job<'a, S> {
         requires own { S.forms store ≡ program.now.fields }
         requires fits { Fits program.now.fields (S.contents store) (S.currents store) }
         ensures start { IfOk result (λ j. of.Starts program.now date.now (record { values = S.contents store; current = S.currents store }) j) }
-        ensures date { IsErrOf result StartFault.D1 ↔ (date_in date.now ≡ None) }
+        ensures date { IsErrOf result StartFault.BadDate ↔ (date_in date.now ≡ None) }
     {
         let Some(date) = Date::read(date) else {
-            return Err(StartFault::D1);
+            return Err(StartFault::BadDate);
         };
         Ok(Job::start_on(alloc, program, date, store)?)
     }
@@ -117,7 +117,7 @@ impl<'a, S: Store + Drop> Job<'a, S> {
     ) -> Result<Job<'a, S>, AllocError>
         requires own { S.forms store ≡ program.now.fields }
         requires fits { Fits program.now.fields (S.contents store) (S.currents store) }
-        ensures { IfOk result (λ j. j ≡ of.started program.now date.value (record { values = S.contents store; current = S.currents store })) }
+        ensures { IfOk result (λ j. j ≡ of.job_started program.now date.value (record { values = S.contents store; current = S.currents store })) }
     {
         put_date(&mut store, program, date.value);
         let machine = Machine::new(alloc, program, store)?;
@@ -132,7 +132,7 @@ impl<'a, S: Store + Drop> Job<'a, S> {
 
     /// Whether the next cycle takes a record.
     pub fn needs_record(&self) -> bool
-        ensures { result ≡ of.needs_record self.now }
+        ensures { result ≡ of.job_needs_record self.now }
     {
         match self.progress {
             Progress::Going => {
@@ -149,7 +149,7 @@ impl<'a, S: Store + Drop> Job<'a, S> {
         ensures told { IfOk result (λ e. told e ≡ self.new.stage) }
         ensures over { is_going self.old.stage ≡ false → IsOk result × (self.new ≡ self.old) }
         ensures failed { OnErr result (self.new.stage ≡ Failed) }
-        ensures bound { of.InBound self.new }
+        ensures bound { of.KeepsBound self.new }
     {
         match self.progress {
             Progress::Going => {
@@ -197,7 +197,7 @@ impl<'a, S: Store + Drop> Job<'a, S> {
     pub fn take_output(&mut self) -> Output
         ensures print { result.print.items ≡ self.old.output.print }
         ensures disk { result.disk.items ≡ self.old.output.disk }
-        ensures rest { self.new ≡ of.taken self.old }
+        ensures rest { self.new ≡ of.job_taken self.old }
     {
         self.machine.take_output()
     }
@@ -211,7 +211,7 @@ impl<'a, S: Store + Drop> Job<'a, S> {
 
     /// Drops what was put out, and keeps its room, so that the next cycle allocates nothing for it.
     pub fn clear_output(&mut self)
-        ensures { self.new ≡ of.taken self.old }
+        ensures { self.new ≡ of.job_taken self.old }
     {
         self.machine.clear_output();
     }

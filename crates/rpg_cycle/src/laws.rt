@@ -2,13 +2,13 @@
 ghost use Rattle.std.specs.Prelude.{◌≡◌, ℕ, ℤ, ◌+◌, ◌≤◌, List, Option, false, length};
 ghost use Rattle.std.specs.Ordering.{nat_cmp};
 ghost use Rattle.rpg_cycle.specs.Runs.{Course, IsRun, Runs};
-ghost use Rattle.rpg_cycle.specs.Ends.{End};
+ghost use Rattle.rpg_cycle.specs.Ends.{PhaseEnd};
 ghost use Rattle.rpg_cycle.specs.Phases.{Cycle, UnderWay, begun, needs_record};
-ghost use Rattle.rpg_records.specs.Earlier.{Selected};
+ghost use Rattle.rpg_cycle_records.specs.Earlier.{Selected};
 ghost use Rattle.rpg_effect.specs.Put.{Bytes};
 ghost use Rattle.rpg_effect.specs.World.{Fields};
 ghost use Rattle.rpg_machine.specs.Config.{Config, Output};
-ghost use Rattle.rpg_program.specs.Object.{Object};
+ghost use Rattle.rpg_object_program.specs.Object.{Object};
 
 use rpg_verify::Verified;
 
@@ -26,7 +26,7 @@ pub fn runs_are_short()
 
 /// Where no record is needed, since LR or one of H1 to H9 is on, a cycle is the same whatever record is next, or none.
 pub fn unneeded_records_are_ignored(program: &Verified)
-    ensures { (earlier : List Selected) (c : Config) (now next : Option (List ℕ)) (e : End) (d : UnderWay) (out : Output) → needs_record c ≡ false → Cycle program.now earlier now (begun program.now c) e d out → Cycle program.now earlier next (begun program.now c) e d out }
+    ensures { (earlier : List Selected) (c : Config) (now next : Option (List ℕ)) (e : PhaseEnd) (d : UnderWay) (out : Output) → needs_record c ≡ false → Cycle program.now earlier now (begun program.now c) e d out → Cycle program.now earlier next (begun program.now c) e d out }
 {
     let _program = program.program();
 }

@@ -4,43 +4,43 @@ ghost use Rattle.std.specs.Option.{ForSome};
 ghost use Rattle.rpg_cycle.specs.Doing.{Does, Passes};
 ghost use Rattle.rpg_cycle.specs.Ends as ends;
 ghost use Rattle.rpg_cycle.specs.Ends.{GoesOn};
-ghost use Rattle.rpg_records.specs.Fitting.{IsTypeIn};
 ghost use Rattle.rpg_cycle.specs.Indicators as lights;
-ghost use Rattle.rpg_records.specs.Keeping.{selected_as};
+ghost use Rattle.rpg_cycle_records.specs.Keeping.{selected_as};
 ghost use Rattle.rpg_machine.specs.Ready.{IsReady};
 ghost use Rattle.rpg_cycle.specs.Phases as spec;
 ghost use Rattle.rpg_cycle.specs.Phases.{◌before◌};
-ghost use Rattle.rpg_cycle.specs.Spending.{Spends, first_cost, inputs_weight, reach, overflow_weight, totals_weight};
+ghost use Rattle.rpg_cycle.specs.Spending.{Spends, section_cost, inputs_weight, reach, full_page_weight, totals_weight};
 ghost use Rattle.rpg_cycle.specs.Stages.{IfStops, UnlessNoMemory, job_end};
 ghost use Rattle.rpg_effect.specs.Ends as effects;
 ghost use Rattle.rpg_machine.specs.Outputs.{output_weight};
 ghost use Rattle.rpg_machine.specs.declared.time.OutputTime.TheVariants as times;
-ghost use Rattle.rpg_program.specs.Kept.{IsCharacter, IsIndicator};
-ghost use Rattle.rpg_program.specs.Object.{type_row};
-ghost use Rattle.rpg_program.specs.Sections.{has_end};
-ghost use Rattle.rpg_program.specs.declared.section.Section.TheVariants as sections;
+ghost use Rattle.rpg_object_program.specs.Kept.{IsCharacter, IsIndicator};
+ghost use Rattle.rpg_object_program.specs.Object.{type_row};
+ghost use Rattle.rpg_object_program.specs.Sections.{has_end};
+ghost use Rattle.rpg_object_program.specs.declared.section.Section.TheVariants as sections;
 
 use crate::ends::{JobEnd, Stop};
 use crate::indicators::{FIRST_PAGE, LAST_RECORD, LEVELS, is_halt_asked, turn_all, turn_type_off};
 use crate::program::{is_bounded, overflow_of};
+use rpg_cycle_records::types_of;
+use rpg_effect::halt::Halt;
 use rpg_effect::outcome::End;
 use rpg_machine::Machine;
 use rpg_machine::time::OutputTime;
-use rpg_program::row::RecordType;
-use rpg_program::section::Section;
-use rpg_records::types_of;
+use rpg_object_program::row::RecordType;
+use rpg_object_program::section::Section;
 use rpg_store::Store;
 use rpg_verify::Verified;
 
 /// What the machine's answer means for the cycle.
 fn go_on(end: End) -> Result<(), Stop>
     ensures goes { IfOk result (λ _. end ≡ End.GoesOn) }
-    ensures stops { IfStops result (λ e. ends.end_of (effects.end_of end) ≡ job_end e) }
+    ensures stops { IfStops result (λ e. ends.phase_end (effects.end_of end) ≡ job_end e) }
     ensures memory { UnlessNoMemory result (Unit {0}) }
 {
     match end {
         End::GoesOn => Ok(()),
-        End::Halt(number) => Err(Stop::Ends(JobEnd::Halt(number))),
+        End::Halt(halt) => Err(Stop::Ends(JobEnd::Halt(halt))),
     }
 }
 
@@ -77,7 +77,7 @@ fn calculate<S: Store + Drop>(
     ensures stops { IfStops result (λ e. Passes (spec.section program.now section) machine.old (job_end e) machine.new) }
     ensures program { IfOk result (λ _. machine.new.program ≡ program.now) }
     ensures ready { IfOk result (λ _. IsReady machine.new) }
-    ensures spends { UnlessNoMemory result (Spends program.now (first_cost program.now section) machine.old machine.new) }
+    ensures spends { UnlessNoMemory result (Spends program.now (section_cost program.now section) machine.old machine.new) }
 {
     let end = machine.section(section)?;
     go_on(end)
@@ -106,7 +106,7 @@ pub(crate) fn halt_where_asked<S: Store + Drop>(machine: &Machine<S>) -> Result<
     ensures stops { IfStops result (λ e. Passes spec.halt_where_asked machine.now (job_end e) machine.now) }
 {
     if is_halt_asked(machine) {
-        return Err(Stop::Ends(JobEnd::Halt(6)));
+        return Err(Stop::Ends(JobEnd::Halt(Halt::IndicatorOn)));
     }
     Ok(())
 }
@@ -244,7 +244,7 @@ pub(crate) fn put_out_overflow<S: Store + Drop>(
     ensures stops { IfStops result (λ e. Passes (spec.overflow_lines program.now) machine.old (job_end e) machine.new) }
     ensures program { IfOk result (λ _. machine.new.program ≡ program.now) }
     ensures ready { IfOk result (λ _. IsReady machine.new) }
-    ensures spends { UnlessNoMemory result (Spends program.now (overflow_weight program.now) machine.old machine.new) }
+    ensures spends { UnlessNoMemory result (Spends program.now (full_page_weight program.now) machine.old machine.new) }
 {
     if has_no_overflow(machine, overflow_of(program)) {
         return Ok(());
@@ -292,7 +292,7 @@ pub(crate) fn calculate_details<S: Store + Drop>(
     ensures stops { IfStops result (λ e. Passes (spec.detail_calculations program.now) machine.old (job_end e) machine.new) }
     ensures program { IfOk result (λ _. machine.new.program ≡ program.now) }
     ensures ready { IfOk result (λ _. IsReady machine.new) }
-    ensures spends { UnlessNoMemory result (Spends program.now (first_cost program.now sections.Detail) machine.old machine.new) }
+    ensures spends { UnlessNoMemory result (Spends program.now (section_cost program.now sections.Detail) machine.old machine.new) }
 {
     calculate(program, machine, Section::Detail)
 }

@@ -3,17 +3,17 @@ ghost use Rattle.std.specs.Prelude.{◌≡◌, ◌≤◌, ◌<◌, ◌^◌, All,
 ghost use Rattle.std.specs.Option.{ForSome};
 ghost use Rattle.rpg_cycle.specs.Phases as phases;
 ghost use Rattle.rpg_cycle.specs.Spending.{cycle_weight};
-ghost use Rattle.rpg_program.specs.Kept.{IsFieldRow, IsIndicator};
+ghost use Rattle.rpg_object_program.specs.Kept.{IsFieldRow, IsIndicator};
 ghost use Rattle.rpg_verify.specs.Bound as words;
 
+use rpg_cycle_records::{rows_of, type_at};
 use rpg_effect::form::FieldForm;
-use rpg_records::{rows_of, type_at};
 use rpg_verify::Verified;
 
 /// The indicator of a type.
 pub(crate) fn indicator_of(program: &Verified, row: usize) -> Option<u8>
     requires { row < length program.now.types }
-    ensures value { result ≡ phases.indicator_of (slice_get program.now.types row) }
+    ensures value { result ≡ phases.type_indicator (slice_get program.now.types row) }
     ensures right { ForSome result IsIndicator }
 {
     type_at(program, row).indicator

@@ -1,7 +1,7 @@
 //! Whole runs of a program over records.
 ghost use Rattle.std.specs.Prelude.{◌≡◌, ◌↔◌, ◌≤◌, ◌+◌, None, IfOk, IsErrOf, [], length, true};
-ghost use Rattle.rpg_records.specs.Earlier.{left_by};
-ghost use Rattle.rpg_cycle.specs.Running.{RunsOn, RunsWhole, texts};
+ghost use Rattle.rpg_cycle_records.specs.Earlier.{left_by};
+ghost use Rattle.rpg_cycle.specs.Running.{RunsRecords, RunsWhole, texts};
 ghost use Rattle.rpg_cycle.specs.Stages.{is_going};
 ghost use Rattle.rpg_cycle.specs.Starting.{date_in};
 ghost use Rattle.rpg_verify.specs.Bound.{bound};
@@ -40,7 +40,7 @@ pub fn run_records(
     records: &[Vec<u8>],
 ) -> Result<Run, StartFault>
     ensures run { IfOk result (λ r. RunsWhole program.now date.now (texts records.now) r) }
-    ensures date { IsErrOf result StartFault.D1 ↔ (date_in date.now ≡ None) }
+    ensures date { IsErrOf result StartFault.BadDate ↔ (date_in date.now ≡ None) }
     ensures cycles { IfOk result (λ r. r.cycles ≤ length records.now + 1) }
     ensures bound { IfOk result (λ r. r.most ≤ bound program.now) }
 {
@@ -59,7 +59,7 @@ fn run_on<S: Store + Drop>(job: &mut Job<S>, records: &[Vec<u8>]) -> Result<Summ
     requires going { is_going job.old.stage ≡ true }
     requires first { job.old.left ≡ left_by job.old.program [] }
     requires top { job.old.last ≡ None }
-    ensures runs { IfOk result (λ s. RunsOn job.old (texts records.now) s job.new) }
+    ensures runs { IfOk result (λ s. RunsRecords job.old (texts records.now) s job.new) }
     ensures cycles { IfOk result (λ s. s.cycles ≤ length records.now + 1) }
     ensures bound { IfOk result (λ s. s.most ≤ bound job.old.program) }
 {

@@ -2,24 +2,27 @@
 ghost use Rattle.std.specs.Prelude.{◌≡◌, ◌^◌, ◌<◌, ◌≤◌, All, IfOk, OnOk, Some, None, length, true};
 ghost use Rattle.std.specs.Option.{ForSome, option_map};
 ghost use Rattle.rpg_cycle.specs.Doing.{Does};
-ghost use Rattle.rpg_records.specs.Earlier as earlier;
+ghost use Rattle.rpg_cycle_records.specs.Earlier as earlier;
 ghost use Rattle.rpg_cycle.specs.Ends.{GoesOn};
-ghost use Rattle.rpg_records.specs.Identifying.{is_good};
+ghost use Rattle.rpg_cycle_records.specs.Identifying.{is_good_record};
 ghost use Rattle.rpg_cycle.specs.Indicators as lights;
-ghost use Rattle.rpg_records.specs.Keeping.{kept_levels, left_of, renewed, seen_levels, selected_as};
+ghost use Rattle.rpg_cycle_records.specs.Keeping.{kept_levels, left_of, renewed, seen_levels, selected_as};
 ghost use Rattle.rpg_machine.specs.Ready.{IsReady};
 ghost use Rattle.rpg_cycle.specs.Phases as spec;
 ghost use Rattle.rpg_cycle.specs.Selecting.{HasRead, IsCompared, IsUntaken, TakesType};
 ghost use Rattle.rpg_cycle.specs.Spending.{Selects, Spends};
 ghost use Rattle.rpg_cycle.specs.Stages.{IfStops, job_end};
 ghost use Rattle.rpg_effect.specs.Weights.{types_weight};
-ghost use Rattle.rpg_program.specs.Kept.{IsCharacter};
+ghost use Rattle.rpg_object_program.specs.Kept.{IsCharacter};
 
 use crate::ends::{JobEnd, Stop};
 use crate::indicators::{LAST_RECORD, LEVELS, turn_all, turn_type_on};
 use crate::program::indicator_of;
+use rpg_cycle_records::{
+    Kept, LastBytes, compare, control_fields, fill, identify, is_good, types_of,
+};
+use rpg_effect::halt::Halt;
 use rpg_machine::Machine;
-use rpg_records::{Kept, LastBytes, compare, control_fields, fill, identify, is_good, types_of};
 use rpg_store::Store;
 use rpg_verify::Verified;
 use std::alloc::AllocError;
@@ -48,7 +51,7 @@ fn take_type<S: Store + Drop>(
     let found = identify(types_of(program), text);
     machine.charge(found.codes);
     match found.row {
-        None => Err(Stop::Ends(JobEnd::Halt(3))),
+        None => Err(Stop::Ends(JobEnd::Halt(Halt::NoRecordType))),
         Some(row) => {
             turn_type_on(machine, indicator_of(program, row));
             Ok(row)
@@ -98,7 +101,7 @@ fn read<S: Store + Drop>(
     ensures kept { IfOk result (λ t. left_of kept.new ≡ record (left_of kept.old) { bytes = renewed (earlier.control_fields program.now t) kept.new.record.items 9 (left_of kept.old).bytes }) }
 {
     if !is_good(program, text) {
-        return Err(Stop::Ends(JobEnd::Halt(7)));
+        return Err(Stop::Ends(JobEnd::Halt(Halt::BadRecord)));
     }
     fill(&mut kept.record, program, text)?;
     let row = take_type(program, machine, &kept.record)?;

@@ -7,12 +7,12 @@ use Rattle.rpg_decimal.proofs.MoveLemmas.{length-overlay_right, front-overlay_ri
 use Rattle.std.proofs.lemmas.Bool.{cases_lt, le-ltb, lt-ltb, cases_Bool}
 use Rattle.std.specs.Int.{is_negative}
 use Rattle.rpg_decimal.specs.Laws.{from_right, digit_at, MovesFromRight, MovesFromLeft, MovesDigitsFromRight, MovesDigitsFromLeft, SpellsByPlaces, SpellsPlainly}
-use Rattle.rpg_numbers.specs.Zoned.{digit_of, is_digit, is_minus, last_of, Spells, zoned_text, last_character, minus_letter, number_in, is_numeric, spelled_number}
+use Rattle.rpg_decimal_words.specs.Zoned.{digit_of, is_digit, is_minus, last_of, Spells, zoned_text, last_character, minus_letter, number_in, is_numeric, spelled_number}
 use Rattle.rpg_decimal.specs.Source.{moved_right, moved_left}
 use Rattle.rpg_decimal.specs.declared.moves.Source.{Source}
 use Rattle.rpg_decimal.specs.declared.moves.Source.TheVariants.{Number, Text}
-use Rattle.rpg_numbers.specs.Move.{overlay_right, overlay_left, number_moved_right, number_moved_left}
-use Rattle.rpg_numbers.specs.Place.{place_value, digits, signed_number}
+use Rattle.rpg_decimal_words.specs.Move.{overlay_right, overlay_left, number_moved_right, number_moved_left}
+use Rattle.rpg_decimal_words.specs.Place.{place_value, lowest_digits, signed_number}
 use Rattle.rpg_decimal.proofs.PlaceLemmas.{place_value-below, place_digit, length-digits, get_or-digits, get_or-digits-below, digits-from_right, place_value-digits}
 use Rattle.rpg_decimal.proofs.ZonedLemmas.{good_from_numeric, numeric_from_good, Spells-zoned, digit_stands, is_minus-letter, last_of_push, last_character-pos, number_some}
 use Rattle.rpg_decimal.proofs.WholeLemmas.{unsigned_abs-neg}
@@ -102,8 +102,8 @@ negative-choice false x y = refl
 
 pub right_digits : (k : ℕ) (n : ℤ) (len : ℕ) (old : ℤ) → MovesDigitsFromRight k n len old (number_moved_right k n len old)
 right_digits k n len old =
-    let s = digits k (unsigned_abs n) in
-    let o = digits len (unsigned_abs old) in
+    let s = lowest_digits k (unsigned_abs n) in
+    let o = lowest_digits len (unsigned_abs old) in
     let ds = overlay_right s o in
     let long_s = length-digits k (unsigned_abs n) in
     let long_o = length-digits len (unsigned_abs old) in
@@ -122,8 +122,8 @@ right_digits k n len old =
 
 pub left_digits : (k : ℕ) (n : ℤ) (len : ℕ) (old : ℤ) → MovesDigitsFromLeft k n len old (number_moved_left k n len old)
 left_digits k n len old =
-    let s = digits k (unsigned_abs n) in
-    let o = digits len (unsigned_abs old) in
+    let s = lowest_digits k (unsigned_abs n) in
+    let o = lowest_digits len (unsigned_abs old) in
     let ds = overlay_left s o in
     let b = is_negative (if nat_lt k len then old else n) in
     let long_s = length-digits k (unsigned_abs n) in
@@ -178,8 +178,8 @@ by_places_spelled text n h =
     let b = is_minus (last_of text) in
     let k = length text in
     let long = length-map text digit_of in
-    let same : ds ≡ digits k (unsigned_abs n) =
-    ext_get_or 0 ds (digits k (unsigned_abs n)) (long ∙ sym (length-digits k (unsigned_abs n)))
+    let same : ds ≡ lowest_digits k (unsigned_abs n) =
+    ext_get_or 0 ds (lowest_digits k (unsigned_abs n)) (long ∙ sym (length-digits k (unsigned_abs n)))
     (λ i l.
     let inside : i < k = omega arith in
     let at : k - 1 - (k - 1 - i) ≡ i = omega arith in
@@ -195,22 +195,22 @@ spells_either text n = (spelled_by_places text n, by_places_spelled text n)
 
 -- ---- the plain text
 
-front_characters : (k m c i : ℕ) → i + 1 < length (map (λ d. 48 + d) (digits k m) ++ c ∷ []) → get_or (map (λ d. 48 + d) (digits k m) ++ c ∷ []) i 0 ≡ 48 + m / 10 ^ (k - 1 - i) % 10
+front_characters : (k m c i : ℕ) → i + 1 < length (map (λ d. 48 + d) (lowest_digits k m) ++ c ∷ []) → get_or (map (λ d. 48 + d) (lowest_digits k m) ++ c ∷ []) i 0 ≡ 48 + m / 10 ^ (k - 1 - i) % 10
 front_characters k m c i h =
-    let front = map (λ d. 48 + d) (digits k m) in
-    let long : length front ≡ k = length-map (digits k m) (λ d. 48 + d) ∙ length-digits k m in
+    let front = map (λ d. 48 + d) (lowest_digits k m) in
+    let long : length front ≡ k = length-map (lowest_digits k m) (λ d. 48 + d) ∙ length-digits k m in
     let whole = length-append front (c ∷ []) in
     get_or_append_left front (c ∷ []) 0 i (omega arith)
-    ∙ get_or-map (λ d. 48 + d) (digits k m) i 0 0 (omega (arith, length-digits k m))
+    ∙ get_or-map (λ d. 48 + d) (lowest_digits k m) i 0 0 (omega (arith, length-digits k m))
     ∙ ap (λ d. 48 + d) (get_or-digits k m i (omega arith))
 
 last_plain : (k : ℕ) (n : ℤ) → (if is_negative n then is_minus (last_of (zoned_text k n)) else is_digit (last_of (zoned_text k n))) ≡ true
 last_plain k (pos a) =
     ap (λ b. cond b (is_minus (last_of (zoned_text k (pos a)))) (is_digit (last_of (zoned_text k (pos a))))) (le-ltb a 0 (omega arith))
-    ∙ ap is_digit (last_of_push (map (λ d. 48 + d) (digits (k - 1) (a / 10))) (last_character (pos a)) ∙ last_character-pos a)
+    ∙ ap is_digit (last_of_push (map (λ d. 48 + d) (lowest_digits (k - 1) (a / 10))) (last_character (pos a)) ∙ last_character-pos a)
     ∙ digit_stands (a % 10) (omega arith)
 last_plain k (negsuc a) =
-    ap is_minus (last_of_push (map (λ d. 48 + d) (digits (k - 1) (suc a / 10))) (minus_letter (suc a % 10))) ∙ is_minus-letter (suc a % 10) (omega arith)
+    ap is_minus (last_of_push (map (λ d. 48 + d) (lowest_digits (k - 1) (suc a / 10))) (minus_letter (suc a % 10))) ∙ is_minus-letter (suc a % 10) (omega arith)
 
 pub plain_zoned : (k : ℕ) (n : ℤ) → 1 ≤ k → unsigned_abs n < 10 ^ k → SpellsPlainly (zoned_text k n) n
 plain_zoned k n low h = record {
@@ -227,7 +227,7 @@ letter_is c h = grind (arith, nat_tests)
 
 pub length-zoned : (k : ℕ) (n : ℤ) → 1 ≤ k → length (zoned_text k n) ≡ k
 length-zoned k n h =
-    let ds = digits (k - 1) (unsigned_abs n / 10) in
+    let ds = lowest_digits (k - 1) (unsigned_abs n / 10) in
     length-append (map (λ d. 48 + d) ds) (last_character n ∷ [])
     ∙ ap (λ m. m + 1) (length-map ds (λ d. 48 + d) ∙ length-digits (k - 1) (unsigned_abs n / 10)) ∙ omega arith
 
@@ -258,7 +258,7 @@ plain_alone text n some p =
           let zero_behind : k - 1 - (k - 1) ≡ 0 = omega arith in
           ap (λ j. get_or text j 0) here
           ∙ last_is (get_or text (k - 1) 0) n (digit (k - 1) (omega arith) ∙ ap (λ j. m / 10 ^ j % 10) zero_behind ∙ ap (λ x. x % 10) (div-one m)) p.last
-          ∙ sym (last_of_push (map (λ d. 48 + d) (digits (k - 1) (m / 10))) (last_character n))
+          ∙ sym (last_of_push (map (λ d. 48 + d) (lowest_digits (k - 1) (m / 10))) (last_character n))
           ∙ ap (λ j. get_or (zoned_text k n) (j - 1) 0) long
           ∙ sym (ap (λ j. get_or (zoned_text k n) j 0) here)
     ])

@@ -5,7 +5,7 @@ use Rattle.std.specs.Cmp.Lexicographic.{slice_cmp}
 use Rattle.std.proofs.lemmas.Bool.{cases_lt}
 use Rattle.std.proofs.lemmas.Bool.Decides.{nat_tests}
 use Rattle.std.proofs.lemmas.List.{drop_more, drop_all, length-replicate, get_or_append_left, get_or-append_right, get_or-replicate, get_or_past, get_or_default}
-use Rattle.rpg_numbers.specs.Order.{padded_text, character_cmp, rank}
+use Rattle.rpg_decimal_words.specs.Order.{padded_text, character_cmp, rank}
 
 length-padded : (n : ℕ) (text : List ℕ) → length (padded_text n text) ≡ max (length text) n
 length-padded n text = length-append text (replicate (n - length text) 32) ∙ ap (λ k. length text + k) (length-replicate (n - length text) 32) ∙ omega arith
@@ -38,14 +38,6 @@ compared_more a b i h =
     let long_q = length-padded (length a) b in
     ap₂ (slice_cmp character_cmp) (drop_more p i 0 (omega arith)) (drop_more q i 0 (omega arith))
     ∙ ap₂ (λ x y. ordering_then (character_cmp x y) (compared_from a b (i + 1))) (padded_character (length b) a i h) (padded_character (length a) b i (omega arith))
-
-pub compared_all : (a b : List ℕ) (i : ℕ) → max (length a) (length b) ≤ i → compared_from a b i ≡ Equal
-compared_all a b i h =
-    let p = padded_text (length b) a in
-    let q = padded_text (length a) b in
-    let long_p = length-padded (length b) a in
-    let long_q = length-padded (length a) b in
-    ap₂ (slice_cmp character_cmp) (drop_all i p (omega arith)) (drop_all i q (omega arith))
 
 pub then-other : (o rest : Ordering) → o ≢ Equal → ordering_then o rest ≡ o
 then-other Less rest h = refl

@@ -4,7 +4,7 @@ use Rattle.std.proofs.Math.Nat.{div-div-eq-div-mul, add-mul-div_right}
 use Rattle.std.proofs.lemmas.Nat.{pow-add, mod-mul-add, mul-add-lt, div-mul-add}
 use Rattle.std.proofs.lemmas.Bool.{cases_lt}
 use Rattle.std.proofs.lemmas.List.{map_more, ext_get_or}
-use Rattle.rpg_numbers.specs.Place.{place_value, digits}
+use Rattle.rpg_decimal_words.specs.Place.{place_value, lowest_digits}
 use Rattle.rpg_decimal.proofs.WholeLemmas.{ten_pos}
 
 -- ---- the numbers of digits
@@ -25,7 +25,7 @@ place_value_more f xs i h = ap place_value (map_more f xs i 0 h) ∙ place_value
 
 -- ---- the digits of a number
 
-pub length-digits : (k n : ℕ) → length (digits k n) ≡ k
+pub length-digits : (k n : ℕ) → length (lowest_digits k n) ≡ k
 length-digits zero n = refl
 length-digits (suc k) n = ap suc (length-digits k n)
 
@@ -40,14 +40,14 @@ mod-one_more n p h =
     let split : n ≡ (n / p / 10) * (p * 10) + ((n / p % 10) * p + n % p) = omega arith in
     ap (λ m. m % (p * 10)) split ∙ mod-mul-add (n / p / 10) (p * 10) ((n / p % 10) * p + n % p) (mul-add-lt (n / p % 10) p (n % p) 10 digit low)
 
-pub place_value-digits : (k n : ℕ) → place_value (digits k n) ≡ n % 10 ^ k
+pub place_value-digits : (k n : ℕ) → place_value (lowest_digits k n) ≡ n % 10 ^ k
 place_value-digits zero n = omega arith
 place_value-digits (suc k) n =
     ap₂ (λ j v. n / 10 ^ k % 10 * 10 ^ j + v) (length-digits k n) (place_value-digits k n)
     ∙ sym (mod-one_more n (10 ^ k) (ten_pos k)) ∙ ap (λ p. n % p) (sym (pow-suc 10 k))
 
 -- the digit at a place
-pub get_or-digits : (k n i : ℕ) → i < k → get_or (digits k n) i 0 ≡ n / 10 ^ (k - 1 - i) % 10
+pub get_or-digits : (k n i : ℕ) → i < k → get_or (lowest_digits k n) i 0 ≡ n / 10 ^ (k - 1 - i) % 10
 get_or-digits zero n i h = absurd (omega arith)
 get_or-digits (suc k) n zero h = let e : suc k - 1 - 0 ≡ k = omega arith in ap (λ j. n / 10 ^ j % 10) (sym e)
 get_or-digits (suc k) n (suc i) h = let e : suc k - 1 - suc i ≡ k - 1 - i = omega arith in get_or-digits k n i (omega arith) ∙ ap (λ j. n / 10 ^ j % 10) (sym e)
@@ -97,24 +97,24 @@ place_digit (d ∷ ds) h i l =
     ]
 
 -- the digits of that number are these
-pub digits-place_value : (ds : List ℕ) → ((i : ℕ) → get_or ds i 0 < 10) → digits (length ds) (place_value ds) ≡ ds
+pub digits-place_value : (ds : List ℕ) → ((i : ℕ) → get_or ds i 0 < 10) → lowest_digits (length ds) (place_value ds) ≡ ds
 digits-place_value ds h =
     let n = length ds in
     let v = place_value ds in
-    ext_get_or 0 (digits n v) ds (length-digits n v)
+    ext_get_or 0 (lowest_digits n v) ds (length-digits n v)
     (λ i l.
     let low : i < n = rw (length-digits n v) at l in
     let e : n - 1 - (n - 1 - i) ≡ i = omega arith in
     get_or-digits n v i low ∙ place_digit ds h (n - 1 - i) (omega arith) ∙ ap (λ k. get_or ds k 0) e)
 
 -- each digit of a number is below ten
-pub get_or-digits-below : (k n i : ℕ) → get_or (digits k n) i 0 < 10
+pub get_or-digits-below : (k n i : ℕ) → get_or (lowest_digits k n) i 0 < 10
 get_or-digits-below zero n i = omega arith
 get_or-digits-below (suc k) n zero = omega arith
 get_or-digits-below (suc k) n (suc i) = get_or-digits-below k n i
 
 -- the digits of a number, from the right
-pub digits-from_right : (k n i : ℕ) → i < k → get_or (digits k n) (length (digits k n) - 1 - i) 0 ≡ n / 10 ^ i % 10
+pub digits-from_right : (k n i : ℕ) → i < k → get_or (lowest_digits k n) (length (lowest_digits k n) - 1 - i) 0 ≡ n / 10 ^ i % 10
 digits-from_right k n i h =
     let e : k - 1 - (k - 1 - i) ≡ i = omega arith in
-    ap (λ m. get_or (digits k n) (m - 1 - i) 0) (length-digits k n) ∙ get_or-digits k n (k - 1 - i) (omega arith) ∙ ap (λ j. n / 10 ^ j % 10) e
+    ap (λ m. get_or (lowest_digits k n) (m - 1 - i) 0) (length-digits k n) ∙ get_or-digits k n (k - 1 - i) (omega arith) ∙ ap (λ j. n / 10 ^ j % 10) e

@@ -8,8 +8,8 @@ use Rattle.std.proofs.lemmas.Nat.{pow-add, mod-mul-add}
 use Rattle.std.proofs.lemmas.Int.{ints, unsigned_abs-mul}
 use Rattle.std.specs.Int.{w64, w128, int_signum}
 use lib.Signed.{mag}
-use Rattle.rpg_numbers.specs.Whole.{with_sign_of, cut_quotient}
-use Rattle.rpg_numbers.specs.Fraction.{with_decimals, aligned_number, rest_of, IsSameValue}
+use Rattle.rpg_decimal_words.specs.Whole.{with_sign_of, cut_quotient}
+use Rattle.rpg_decimal_words.specs.Fraction.{with_decimals, aligned_number, rest_of, IsSameValue}
 use Rattle.rpg_decimal.proofs.WholeLemmas.{back, mag_below, times_is, rounded-times, ten_pos, ten-split}
 
 -- ---- products

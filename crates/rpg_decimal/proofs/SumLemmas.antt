@@ -7,8 +7,8 @@ use Rattle.std.proofs.lemmas.Int.{ints}
 use Rattle.std.proofs.lemmas.Cmp.{int_ranked}
 use Rattle.std.specs.Ordering.{int_cmp, MatchOrdering}
 use Rattle.std.specs.Cmp.{int_cmp_is}
-use Rattle.rpg_numbers.specs.Whole.{rounded_quotient, fit, with_sign_of}
-use Rattle.rpg_numbers.specs.Fraction.{with_decimals, plus, minus, stored_number}
+use Rattle.rpg_decimal_words.specs.Whole.{rounded_quotient, fit, with_sign_of}
+use Rattle.rpg_decimal_words.specs.Fraction.{with_decimals, plus, minus, stored_number}
 use Rattle.rpg_decimal.proofs.WholeLemmas.{ten_pos, rounded_size, rounded_size-scaled, rounded-times}
 use Rattle.rpg_decimal.proofs.QuotientLemmas.{times-times}
 

@@ -7,8 +7,8 @@ use Rattle.std.proofs.lemmas.Int.{ints}
 use Rattle.std.specs.Int.{w64, w128, ◌∣◌}
 use native.Mathlib.Nat.{zero-mod}
 use lib.Signed.{mag}
-use Rattle.rpg_numbers.specs.Whole.{with_sign_of, rounded_quotient, fit}
-use Rattle.rpg_numbers.specs.Fraction.{with_decimals, aligned_number, stored_number}
+use Rattle.rpg_decimal_words.specs.Whole.{with_sign_of, rounded_quotient, fit}
+use Rattle.rpg_decimal_words.specs.Fraction.{with_decimals, aligned_number, stored_number}
 
 -- ---- powers of ten
 
@@ -62,13 +62,6 @@ unsigned_abs-times n c = ap unsigned_abs (times_is n c) ∙ unsigned_abs-with_si
 pub sign_and_size : (n : ℤ) → with_sign_of n (unsigned_abs n) ≡ n
 sign_and_size (pos a) = refl
 sign_and_size (negsuc a) = refl
-
--- the sign of zero does not matter
-pub sign_zero : (n m : ℤ) → with_sign_of n 0 ≡ with_sign_of m 0
-sign_zero (pos a) (pos b) = refl
-sign_zero (pos a) (negsuc b) = refl
-sign_zero (negsuc a) (pos b) = refl
-sign_zero (negsuc a) (negsuc b) = refl
 
 -- ---- quotients by sign and size
 

@@ -5,8 +5,8 @@ use Rattle.std.proofs.lemmas.Bool.Decides.{nat_tests}
 use Rattle.std.proofs.lemmas.Int.{ints}
 use Rattle.std.proofs.lemmas.List.{get_or_push, length_push, length-take-le, length-map, drop_more, drop_all, set_at}
 use Rattle.std.specs.Result.{result_ok}
-use Rattle.rpg_numbers.specs.Place.{place_value, digits, signed_number}
-use Rattle.rpg_numbers.specs.Zoned.{may_stand, IsGoodAt, is_numeric, is_digit, is_minus, digit_of, minus_letter, last_of, spelled_number, number_in, last_character, zoned_text, Spells, IsFirstBad}
+use Rattle.rpg_decimal_words.specs.Place.{place_value, lowest_digits, signed_number}
+use Rattle.rpg_decimal_words.specs.Zoned.{may_stand, IsGoodAt, is_numeric, is_digit, is_minus, digit_of, minus_letter, last_of, spelled_number, number_in, last_character, zoned_text, Spells, IsFirstBad}
 use Rattle.rpg_decimal.proofs.PlaceLemmas.{place_value_push, place_value-digits, length-digits}
 
 -- ---- each place is good, by places and from left to right
@@ -85,12 +85,12 @@ plain_stands last d h = or_left _ _ (or_right (48 + d == 32) _ (digit_stands d h
 -- ---- the text that is written
 
 -- digits, and a last character that may stand there
-numeric-digits : (k m c : ℕ) → may_stand true c ≡ true → is_numeric (map (λ d. 48 + d) (digits k m) ++ c ∷ []) ≡ true
+numeric-digits : (k m c : ℕ) → may_stand true c ≡ true → is_numeric (map (λ d. 48 + d) (lowest_digits k m) ++ c ∷ []) ≡ true
 numeric-digits zero m c h = and_from (may_stand true c) true h refl
 numeric-digits (suc k) m c h =
     and_from _ _ (plain_stands _ (m / 10 ^ k % 10) (omega arith)) (numeric-digits k m c h)
 
-digits-characters : (k m c : ℕ) → map digit_of (map (λ d. 48 + d) (digits k m) ++ c ∷ []) ≡ digits k m ++ digit_of c ∷ []
+digits-characters : (k m c : ℕ) → map digit_of (map (λ d. 48 + d) (lowest_digits k m) ++ c ∷ []) ≡ lowest_digits k m ++ digit_of c ∷ []
 digits-characters zero m c = refl
 digits-characters (suc k) m c = ap₂ (◌∷◌) (digit_of-plain (m / 10 ^ k % 10) (omega arith)) (digits-characters k m c)
 
@@ -98,31 +98,31 @@ pub last_of_push : (xs : List ℕ) (c : ℕ) → last_of (xs ++ c ∷ []) ≡ c
 last_of_push xs c = get_or_push xs c 0 (length (xs ++ c ∷ []) - 1) (let e = length_push xs c in omega arith)
 
 -- the digits of a size, its last one apart
-size_whole : (k size : ℕ) → 1 ≤ k → size < 10 ^ k → place_value (digits (k - 1) (size / 10) ++ size % 10 ∷ []) ≡ size
+size_whole : (k size : ℕ) → 1 ≤ k → size < 10 ^ k → place_value (lowest_digits (k - 1) (size / 10) ++ size % 10 ∷ []) ≡ size
 size_whole k size low h =
     let e : k ≡ suc (k - 1) = omega arith in
     let power : 10 ^ k ≡ 10 ^ (k - 1) * 10 = ap (λ j. 10 ^ j) e ∙ pow-suc 10 (k - 1) in
     let below : size / 10 < 10 ^ (k - 1) = omega arith in
-    place_value_push (digits (k - 1) (size / 10)) (size % 10)
+    place_value_push (lowest_digits (k - 1) (size / 10)) (size % 10)
     ∙ ap (λ v. v * 10 + size % 10) (place_value-digits (k - 1) (size / 10) ∙ mod-eq_of_lt below)
     ∙ div-add-mod' size 10
 
 pub last_character-pos : (a : ℕ) → last_character (pos a) ≡ 48 + a % 10
 last_character-pos a = ap (λ b. cond b (minus_letter (a % 10)) (48 + a % 10)) (le-ltb a 0 (omega arith))
 
-spelled-digits : (k m c : ℕ) (b : Bool) → is_minus c ≡ b → spelled_number (map (λ d. 48 + d) (digits k m) ++ c ∷ []) ≡ signed_number b (digits k m ++ digit_of c ∷ [])
-spelled-digits k m c b h = ap₂ signed_number (ap is_minus (last_of_push (map (λ d. 48 + d) (digits k m)) c) ∙ h) (digits-characters k m c)
+spelled-digits : (k m c : ℕ) (b : Bool) → is_minus c ≡ b → spelled_number (map (λ d. 48 + d) (lowest_digits k m) ++ c ∷ []) ≡ signed_number b (lowest_digits k m ++ digit_of c ∷ [])
+spelled-digits k m c b h = ap₂ signed_number (ap is_minus (last_of_push (map (λ d. 48 + d) (lowest_digits k m)) c) ∙ h) (digits-characters k m c)
 
 pub spelled-zoned : (k : ℕ) (n : ℤ) → 1 ≤ k → unsigned_abs n < 10 ^ k → spelled_number (zoned_text k n) ≡ n
 spelled-zoned k (pos a) low h =
     let d = a % 10 in
-    ap (λ c. spelled_number (map (λ d. 48 + d) (digits (k - 1) (a / 10)) ++ c ∷ [])) (last_character-pos a)
+    ap (λ c. spelled_number (map (λ d. 48 + d) (lowest_digits (k - 1) (a / 10)) ++ c ∷ [])) (last_character-pos a)
     ∙ spelled-digits (k - 1) (a / 10) (48 + d) false (is_minus-plain d (omega arith))
-    ∙ ap pos (ap (λ x. place_value (digits (k - 1) (a / 10) ++ x ∷ [])) (digit_of-plain d (omega arith)) ∙ size_whole k a low h)
+    ∙ ap pos (ap (λ x. place_value (lowest_digits (k - 1) (a / 10) ++ x ∷ [])) (digit_of-plain d (omega arith)) ∙ size_whole k a low h)
 spelled-zoned k (negsuc a) low h =
     let d = suc a % 10 in
     spelled-digits (k - 1) (suc a / 10) (minus_letter d) true (is_minus-letter d (omega arith))
-    ∙ ap (λ m. neg_ℤ (pos m)) (ap (λ x. place_value (digits (k - 1) (suc a / 10) ++ x ∷ [])) (digit_of-letter d (omega arith)) ∙ size_whole k (suc a) low h)
+    ∙ ap (λ m. neg_ℤ (pos m)) (ap (λ x. place_value (lowest_digits (k - 1) (suc a / 10) ++ x ∷ [])) (digit_of-letter d (omega arith)) ∙ size_whole k (suc a) low h)
 
 pub numeric-zoned : (k : ℕ) (n : ℤ) → is_numeric (zoned_text k n) ≡ true
 numeric-zoned k (pos a) =
@@ -133,14 +133,14 @@ pub Spells-zoned : (k : ℕ) (n : ℤ) → 1 ≤ k → unsigned_abs n < 10 ^ k �
 Spells-zoned k n low h = record { good = numeric-zoned k n; value = sym (spelled-zoned k n low h) }
 
 -- the text as it is written: the digits in front, then the last character
-pub written_is : (old front : List ℕ) (n : ℤ) (size c : ℕ) → 1 ≤ length old → front ≡ map (λ d. 48 + d) (digits (length (take (length old - 1) old)) (size / 10))
+pub written_is : (old front : List ℕ) (n : ℤ) (size c : ℕ) → 1 ≤ length old → front ≡ map (λ d. 48 + d) (lowest_digits (length (take (length old - 1) old)) (size / 10))
     → size ≡ unsigned_abs n → c ≡ last_character n → set (front ++ drop (length old - 1) old) (length old - 1) c ≡ zoned_text (length old) n
 written_is old front n size c some front_is size_is c_is =
     let k = length old - 1 in
     let taken : length (take k old) ≡ k = length-take-le k old (omega arith) in
-    let ds = digits (length (take k old)) (size / 10) in
+    let ds = lowest_digits (length (take k old)) (size / 10) in
     let long : length front ≡ k = ap length front_is ∙ length-map ds (λ d. 48 + d) ∙ length-digits (length (take k old)) (size / 10) ∙ taken in
     ap (λ l. set (front ++ l) k c) (drop_more old k 0 (omega arith))
     ∙ set_at front (get_or old k 0) (drop (k + 1) old) c k long
     ∙ ap (λ l. front ++ c ∷ l) (drop_all (k + 1) old (omega arith))
-    ∙ ap₂ (λ f x. f ++ x ∷ []) (front_is ∙ ap₂ (λ j m. map (λ d. 48 + d) (digits j (m / 10))) taken size_is) c_is
+    ∙ ap₂ (λ f x. f ++ x ∷ []) (front_is ∙ ap₂ (λ j m. map (λ d. 48 + d) (lowest_digits j (m / 10))) taken size_is) c_is

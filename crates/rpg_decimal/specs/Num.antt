@@ -1,5 +1,5 @@
 -- The values of numbers.
-use Rattle.rpg_numbers.specs.Fraction.{Fraction, with_decimals}
+use Rattle.rpg_decimal_words.specs.Fraction.{Fraction, with_decimals}
 use Rattle.rpg_decimal.specs.declared.num.Num.{Num}
 
 -- the value of a number

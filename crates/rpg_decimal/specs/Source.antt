@@ -1,14 +1,14 @@
 -- What is moved, and what it gives.
 use Rattle.std.specs.Prelude.{ℕ, ◌+◌, ◌-◌, ◌≤◌, ℤ, List, length, Option, Some}
-use Rattle.rpg_numbers.specs.Move.{overlay_right, overlay_left, number_moved_right, number_moved_left}
-use Rattle.rpg_numbers.specs.Zoned.{zoned_text, number_in, IsFirstBad}
+use Rattle.rpg_decimal_words.specs.Move.{overlay_right, overlay_left, number_moved_right, number_moved_left}
+use Rattle.rpg_decimal_words.specs.Zoned.{zoned_text, number_in, IsFirstBad}
 use Rattle.rpg_decimal.specs.declared.moves.Source.{Source}
 use Rattle.rpg_decimal.specs.declared.moves.Source.TheVariants.{Number, Text}
 
 -- the characters that a source has: of a number those written for it
-abbrev pub text_of : Source → List ℕ
-text_of (Number n) = zoned_text n.len n.value
-text_of (Text t) = t.now
+abbrev pub source_characters : Source → List ℕ
+source_characters (Number n) = zoned_text n.len n.value
+source_characters (Text t) = t.now
 
 -- MOVE to a number: a text goes over the old number's text, and what comes out is read
 abbrev pub moved_right : Source → ℕ → ℤ → Option ℤ

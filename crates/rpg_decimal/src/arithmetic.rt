@@ -1,7 +1,7 @@
 //! Sums, differences and products, as a result field keeps them. That digits too many on the left are
 //! lost with no halt is this profile's rule.
 ghost use Rattle.std.specs.Prelude.{◌≡◌, ◌+◌, ◌*◌, ◌^◌, ◌<◌, ◌≤◌, max, pos, ◌*ℤ◌, unsigned_abs};
-ghost use Rattle.rpg_numbers.specs.Fraction.{stored_number, plus, minus, times, with_decimals};
+ghost use Rattle.rpg_decimal_words.specs.Fraction.{stored_number, plus, minus, times, with_decimals};
 ghost use Rattle.rpg_decimal.specs.Num.{value_of};
 
 use crate::num::{Num, Scale, Target};

@@ -1,7 +1,7 @@
 //! Quotients, and what they leave for MVR.
 ghost use Rattle.std.specs.Prelude.{◌≡◌, ◌↔◌, ◌*◌, ◌^◌, ◌<◌, ◌≤◌, pos, ◌*ℤ◌, unsigned_abs, false, IfOk, Err};
 ghost use Rattle.std.specs.Int.{int_signum};
-ghost use Rattle.rpg_numbers.specs.Fraction.{stored_number, aligned_number, with_decimals, over, rest_of, rest_decimals, IsSameValue};
+ghost use Rattle.rpg_decimal_words.specs.Fraction.{stored_number, aligned_number, with_decimals, over, rest_of, rest_decimals, IsSameValue};
 ghost use Rattle.rpg_decimal.specs.Num.{value_of};
 
 use crate::arithmetic::widened;

@@ -1,12 +1,12 @@
 //! Laws of the definitions that the other contracts cite. The functions do nothing: each is called for its contract alone.
 ghost use Rattle.std.specs.Prelude.{◌≡◌, ◌↔◌, ℕ, ◌^◌, ◌<◌, ◌≤◌, ℤ, Bool, List, length, nat_lt, unsigned_abs, IsTrue, Some};
 ghost use Rattle.std.specs.List.{list_all, range_with_len};
-ghost use Rattle.rpg_numbers.specs.Fraction.{Fraction, stored_number};
+ghost use Rattle.rpg_decimal_words.specs.Fraction.{Fraction, stored_number};
 ghost use Rattle.rpg_decimal.specs.Laws.{MovesFromRight, MovesFromLeft, MovesDigitsFromRight, MovesDigitsFromLeft, SpellsByPlaces, SpellsPlainly};
-ghost use Rattle.rpg_numbers.specs.Move.{overlay_right, overlay_left, number_moved_right, number_moved_left};
-ghost use Rattle.rpg_numbers.specs.Order.{collating_sequence, rank};
+ghost use Rattle.rpg_decimal_words.specs.Move.{overlay_right, overlay_left, number_moved_right, number_moved_left};
+ghost use Rattle.rpg_decimal_words.specs.Order.{collating_sequence, rank};
 ghost use Rattle.rpg_decimal.specs.Source.{moved_right, moved_left};
-ghost use Rattle.rpg_numbers.specs.Zoned.{zoned_text, number_in, Spells};
+ghost use Rattle.rpg_decimal_words.specs.Zoned.{zoned_text, number_in, Spells};
 ghost use Rattle.rpg_decimal.specs.declared.moves.Source.{Source};
 
 /// A move goes place by place, and takes the sign with the last place.
@@ -35,7 +35,7 @@ pub fn stored_numbers_fit()
 {}
 
 /// The collating sequence has each of the 95 characters, from the blank to `~`, once.
-#[tactic(auto, unfolding(rpg_numbers::specs::Order::rank, rpg_numbers::specs::Order::collating_sequence))]
+#[tactic(auto, unfolding(rpg_decimal_words::specs::Order::rank, rpg_decimal_words::specs::Order::collating_sequence))]
 pub fn each_character_has_one_place()
     ensures count { length collating_sequence ≡ 95 }
     ensures every { IsTrue (list_all (λ c. nat_lt (rank c) 95) (range_with_len 32 95)) }

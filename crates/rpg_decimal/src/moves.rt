@@ -2,11 +2,11 @@
 //! and which characters may go to a number, are this profile's rules.
 ghost use Rattle.std.specs.Prelude.{◌≡◌, ◌+◌, ◌-◌, ◌<◌, ◌≤◌, ◌^◌, unsigned_abs, length, IfOk, IfErr};
 ghost use Rattle.std.specs.Result.{result_ok};
-ghost use Rattle.rpg_numbers.specs.Move.{overlay_right, overlay_left, number_moved_right, number_moved_left};
-ghost use Rattle.rpg_numbers.specs.Place.{digits, place_value};
-ghost use Rattle.rpg_numbers.specs.Whole.{with_sign_of};
-ghost use Rattle.rpg_numbers.specs.Zoned.{number_in, zoned_text, IsFirstBad};
-ghost use Rattle.rpg_decimal.specs.Source.{text_of, moved_right, moved_left, IsFirstBadRight, IsFirstBadLeft};
+ghost use Rattle.rpg_decimal_words.specs.Move.{overlay_right, overlay_left, number_moved_right, number_moved_left};
+ghost use Rattle.rpg_decimal_words.specs.Place.{lowest_digits, place_value};
+ghost use Rattle.rpg_decimal_words.specs.Whole.{with_sign_of};
+ghost use Rattle.rpg_decimal_words.specs.Zoned.{number_in, zoned_text, IsFirstBad};
+ghost use Rattle.rpg_decimal.specs.Source.{source_characters, moved_right, moved_left, IsFirstBadRight, IsFirstBadLeft};
 
 use crate::num::Figure;
 use crate::whole::power_of_ten;
@@ -38,7 +38,7 @@ fn overlay_left(source: &[u8], target: &mut [u8])
 
 /// MOVE to a text: a number as the text that is written for it.
 pub fn move_right_text(source: Source<'_>, target: &mut [u8])
-    ensures { target.new ≡ overlay_right (text_of source.entry) target.old }
+    ensures { target.new ≡ overlay_right (source_characters source.entry) target.old }
 {
     match source {
         Source::Text(text) => overlay_right(text, target),
@@ -53,7 +53,7 @@ pub fn move_right_text(source: Source<'_>, target: &mut [u8])
 
 /// MOVEL to a text.
 pub fn move_left_text(source: Source<'_>, target: &mut [u8])
-    ensures { target.new ≡ overlay_left (text_of source.entry) target.old }
+    ensures { target.new ≡ overlay_left (source_characters source.entry) target.old }
 {
     match source {
         Source::Text(text) => overlay_left(text, target),
@@ -108,7 +108,7 @@ fn size_of(figure: Figure) -> u64
 
 /// The source's last digits behind the first ones of the old number.
 fn digits_moved_right(source: Figure, before: Figure) -> u64
-    ensures value { result ≡ place_value (overlay_right (digits source.len (unsigned_abs source.value)) (digits before.len (unsigned_abs before.value))) }
+    ensures value { result ≡ place_value (overlay_right (lowest_digits source.len (unsigned_abs source.value)) (lowest_digits before.len (unsigned_abs before.value))) }
     ensures bound { result < 10 ^ before.len }
     ensures small { result < 10 ^ 15 }
 {
@@ -118,7 +118,7 @@ fn digits_moved_right(source: Figure, before: Figure) -> u64
 
 /// The source's first digits before the last ones of the old number.
 fn digits_moved_left(source: Figure, before: Figure) -> u64
-    ensures value { result ≡ place_value (overlay_left (digits source.len (unsigned_abs source.value)) (digits before.len (unsigned_abs before.value))) }
+    ensures value { result ≡ place_value (overlay_left (lowest_digits source.len (unsigned_abs source.value)) (lowest_digits before.len (unsigned_abs before.value))) }
     ensures bound { result < 10 ^ before.len }
     ensures small { result < 10 ^ 15 }
 {

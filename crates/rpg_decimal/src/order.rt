@@ -1,8 +1,8 @@
 //! The order of numbers and of texts, for COMP and searches.
-ghost use Rattle.std.specs.Prelude.{◌≡◌, ◌+◌, ◌<◌, ◌≤◌, ◌==◌, length, position, unwrap_or, slice_index_or};
-ghost use Rattle.rpg_numbers.specs.Fraction.{fraction_cmp};
+ghost use Rattle.std.specs.Prelude.{◌≡◌, ◌+◌, ◌<◌, ◌≤◌, ◌==◌, position, unwrap_or, slice_index_or};
+ghost use Rattle.rpg_decimal_words.specs.Fraction.{fraction_cmp};
 ghost use Rattle.rpg_decimal.specs.Num.{value_of};
-ghost use Rattle.rpg_numbers.specs.Order.{rank, text_cmp};
+ghost use Rattle.rpg_decimal_words.specs.Order.{rank, text_cmp};
 
 use crate::arithmetic::widened;
 use crate::num::Num;
@@ -30,7 +30,7 @@ fn place_in(sequence: &[u8], c: u8) -> Option<usize>
 }
 
 /// The place of a character in the order; other bytes come behind all of them, by value.
-#[tactic(auto, unfolding(rpg_numbers::specs::Order::rank, rpg_numbers::specs::Order::collating_sequence))]
+#[tactic(auto, unfolding(rpg_decimal_words::specs::Order::rank, rpg_decimal_words::specs::Order::collating_sequence))]
 fn rank(c: u8) -> usize
     ensures { result ≡ rank c }
 {

@@ -1,7 +1,7 @@
 //! Whole numbers: shifts by powers of ten, half adjust, and the lowest digits.
 ghost use Rattle.std.specs.Prelude.{◌≡◌, ◌+◌, ◌*◌, ◌/◌, ◌^◌, ◌<◌, ◌≤◌, unsigned_abs};
-ghost use Rattle.rpg_numbers.specs.Whole.{fit, rounded_quotient, with_sign_of};
-ghost use Rattle.rpg_numbers.specs.Fraction.{aligned_number, with_decimals};
+ghost use Rattle.rpg_decimal_words.specs.Whole.{fit, rounded_quotient, with_sign_of};
+ghost use Rattle.rpg_decimal_words.specs.Fraction.{aligned_number, with_decimals};
 
 use crate::num::Scale;
 

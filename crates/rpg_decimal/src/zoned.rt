@@ -2,8 +2,8 @@
 //! 0 to 9, `{` and A to I for plus 0 to 9.
 ghost use Rattle.std.specs.Prelude.{◌≡◌, ◌+◌, ◌<◌, ◌≤◌, ◌^◌, unsigned_abs, length, map, IfOk, IfErr, OnOk, EachIndex};
 ghost use Rattle.std.specs.Result.{result_ok};
-ghost use Rattle.rpg_numbers.specs.Place.{digits, place_value};
-ghost use Rattle.rpg_numbers.specs.Zoned.{digit_of, is_minus, may_stand, last_character, number_in, zoned_text, IsGoodAt, Spells, IsFirstBad};
+ghost use Rattle.rpg_decimal_words.specs.Place.{lowest_digits, place_value};
+ghost use Rattle.rpg_decimal_words.specs.Zoned.{digit_of, is_minus, may_stand, last_character, number_in, zoned_text, IsGoodAt, Spells, IsFirstBad};
 
 use thiserror::Error;
 
@@ -101,7 +101,7 @@ fn read_digits(text: &[u8]) -> Result<u64, BadDigit>
 
 /// Writes the lowest digits of a number, as many as the text has places.
 fn write_digits(size: u64, text: &mut [u8])
-    ensures { text.new ≡ map (λ d. 48 + d) (digits (length text.old) size) }
+    ensures { text.new ≡ map (λ d. 48 + d) (lowest_digits (length text.old) size) }
 {
     let mut rest = size;
     let mut place = text.len();

@@ -3,10 +3,10 @@ use Rattle.std.proofs.Common.{◌≡◌, ℕ, zero, suc, ◌+◌, ◌-◌, ◌<�
 use Rattle.rpg_edit.proofs.Written.{writes-more}
 use Rattle.rpg_edit.specs.Written.{Writes}
 use Rattle.rpg_edit.specs.declared.suppression.Pass.{Pass}
-use Rattle.rpg_marks.specs.Code.{comma_marks, whole_marks, decimal_marks}
-use Rattle.rpg_marks.specs.declared.mark.Mark.{Mark}
-use Rattle.rpg_marks.specs.declared.mark.Mark.TheVariants.{Digit, Insert}
-use Rattle.rpg_widths.proofs.Codes.{whole-more}
+use Rattle.rpg_edit_marks.specs.Code.{comma_marks, whole_marks, decimal_marks}
+use Rattle.rpg_edit_marks.specs.declared.mark.Mark.{Mark}
+use Rattle.rpg_edit_marks.specs.declared.mark.Mark.TheVariants.{Digit, Insert}
+use Rattle.rpg_edit_widths.proofs.Codes.{whole-more}
 
 -- fewer digits have fewer marks
 fewer-by : (commas : Bool) (left d : ℕ) → 1 + length (comma_marks commas left) + length (whole_marks commas left) ≤ length (whole_marks commas (d + suc left))

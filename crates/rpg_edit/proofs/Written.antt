@@ -1,14 +1,14 @@
 -- Texts written from the last mark to the first.
 use Rattle.std.proofs.Common.{◌-◌, ℤ, unsigned_abs, ◌≡◌, ℕ, suc, ◌+◌, ◌/◌, ◌^◌, ◌≤◌, Bool, List, [], ◌∷◌, ◌++◌, length, take, drop, refl, sym, ap, ◌∙◌, arith, append_assoc, length-append, length-drop, append-nil, add-one, pow-suc, get_or, drop-cons, ◌<◌, replicate}
-use Rattle.rpg_marks.specs.declared.mark.Mark.TheVariants.{Digit}
+use Rattle.rpg_edit_marks.specs.declared.mark.Mark.TheVariants.{Digit}
 use Rattle.std.proofs.Math.Nat.{div-div-eq-div-mul}
 use Rattle.std.proofs.lemmas.List.{take-take, drop_all, take-append-drop, take_all}
 use borrow.Rule.Slice.PartMut.{put_mid, mid_of, post_of}
 use Rattle.std.specs.Int.{is_negative}
 use Rattle.std.proofs.lemmas.List.Sums.{sum_by-append}
-use Rattle.rpg_marks.specs.declared.mark.Mark.{Mark}
+use Rattle.rpg_edit_marks.specs.declared.mark.Mark.{Mark}
 use Rattle.rpg_edit.specs.declared.suppression.Pass.{Pass}
-use Rattle.rpg_marks.specs.Edited.{places, character, characters, text_of}
+use Rattle.rpg_edit_marks.specs.Edited.{places, character, characters, marked_text}
 use Rattle.rpg_edit.specs.Written.{characters_before, Writes}
 
 places-append : (xs ys : List Mark) → places (xs ++ ys) ≡ places xs + places ys
@@ -75,7 +75,7 @@ writes-mark marks left i p q s o r t e within before one =
 pub record IsWritten (marks : List Mark) (n : ℤ) (kept fill : ℕ) (old : List ℕ) (at : ℕ) (new : List ℕ) : Type 0 where
   pub is_start : at ≡ length old - length marks
   pub front : take at new ≡ take at old
-  pub text : drop at new ≡ text_of n kept fill marks
+  pub text : drop at new ≡ marked_text n kept fill marks
 
 pub is_written : (marks : List Mark) (n : ℤ) (kept fill : ℕ) (p q : Pass) (old new : List ℕ) → p.number.negative ≡ is_negative n → p.number.size ≡ unsigned_abs n →
     p.suppression.kept ≡ kept → p.suppression.fill ≡ fill → p.start ≡ length old → p.after ≡ 0 → Writes marks p old q new → IsWritten marks n kept fill old q.start new
@@ -88,13 +88,13 @@ is_written marks n kept fill p q old new negative size is_kept is_fill start aft
     }
 
 -- in front of it stands what stood there
-pub written_text : (marks : List Mark) (n : ℤ) (kept fill : ℕ) (old new : List ℕ) (at : ℕ) → IsWritten marks n kept fill old at new → new ≡ take (length old - length marks) old ++ text_of n kept fill marks
+pub written_text : (marks : List Mark) (n : ℤ) (kept fill : ℕ) (old new : List ℕ) (at : ℕ) → IsWritten marks n kept fill old at new → new ≡ take (length old - length marks) old ++ marked_text n kept fill marks
 written_text marks n kept fill old new at w =
-    sym (take-append-drop at new) ∙ ap (λ xs. xs ++ drop at new) w.front ∙ ap (λ xs. take at old ++ xs) w.text ∙ ap (λ i. take i old ++ text_of n kept fill marks) w.is_start
+    sym (take-append-drop at new) ∙ ap (λ xs. xs ++ drop at new) w.front ∙ ap (λ xs. take at old ++ xs) w.text ∙ ap (λ i. take i old ++ marked_text n kept fill marks) w.is_start
 
 -- and so where the text is changed once more
 pub finished_text : (marks : List Mark) (n : ℤ) (kept fill : ℕ) (old new : List ℕ) (at : ℕ) (change : List ℕ → List ℕ) (last : List ℕ) → IsWritten marks n kept fill old at new →
-    last ≡ change (mid_of at (length new - at) new) → put_mid at (length new - at) new last ≡ take (length old - length marks) old ++ change (text_of n kept fill marks)
+    last ≡ change (mid_of at (length new - at) new) → put_mid at (length new - at) new last ≡ take (length old - length marks) old ++ change (marked_text n kept fill marks)
 finished_text marks n kept fill old new at change last w e =
     let behind : length (drop at new) ≡ length new - at = length-drop at new in
     let none : post_of at (length new - at) new ≡ [] = drop_all (length new - at) (drop at new) (omega (arith, behind)) in

@@ -1,8 +1,8 @@
 -- Numbers written from the last mark to the first.
 use Rattle.std.specs.Prelude.{◌≡◌, ℕ, ◌+◌, Bool, List, [], ◌∷◌, ◌++◌, length, take, drop}
-use Rattle.rpg_marks.specs.declared.mark.Mark.{Mark}
+use Rattle.rpg_edit_marks.specs.declared.mark.Mark.{Mark}
 use Rattle.rpg_edit.specs.declared.suppression.Pass.{Pass}
-use Rattle.rpg_marks.specs.Edited.{places, character}
+use Rattle.rpg_edit_marks.specs.Edited.{places, character}
 
 -- the characters at marks that k more digits follow
 abbrev pub characters_before : Bool → ℕ → ℕ → ℕ → List Mark → ℕ → List ℕ

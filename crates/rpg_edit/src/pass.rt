@@ -5,12 +5,12 @@
 
 ghost use Rattle.std.specs.Prelude.{◌≡◌, ◌+◌, ◌^◌, ◌<◌, ◌≤◌, [], ◌∷◌, length, replicate, unsigned_abs};
 ghost use Rattle.std.specs.Int.{is_negative};
-ghost use Rattle.rpg_marks.specs.Edited.{character};
+ghost use Rattle.rpg_edit_marks.specs.Edited.{character};
 ghost use Rattle.rpg_edit.specs.Written.{Writes};
 
 use crate::suppression::{Number, Pass};
-use rpg_marks::Mark;
-use rpg_widths::Suppression;
+use rpg_edit_marks::Mark;
+use rpg_edit_widths::Suppression;
 
 impl Pass {
     /// A pass over a text that ends at this place.

@@ -4,12 +4,12 @@ use Rattle.std.proofs.Math.Seq.{take-append-add, take-length}
 use Rattle.std.proofs.lemmas.List.{take-append-le}
 use Rattle.std.specs.Io.KnownBytes.{Appends}
 use Rattle.std.proofs.KnownBytes.{Appends-trans}
-use Rattle.rpg_cycle.specs.Ends.{End, GoesOn, EndOfJob, Halt, Wrong}
+use Rattle.rpg_cycle.specs.Ends.{PhaseEnd, GoesOn, EndOfJob, Halt, Wrong}
 use Rattle.rpg_cycle.specs.Job.{feed_at, with_feed}
 use Rattle.rpg_cycle.specs.Runs.{last_feed, printed, stored}
 use Rattle.rpg_cycle.specs.Stages.{stage_at}
-use Rattle.rpg_form.proofs.Papers.{bytes_from-append}
-use Rattle.rpg_form.specs.Paper.{Placed, Position, bytes_from, end_from, end_of, paper}
+use Rattle.rpg_paper.proofs.Papers.{bytes_from-append}
+use Rattle.rpg_paper.specs.Paper.{Placed, Position, bytes_from, last_position, last_position_from, paper}
 use Rattle.rpg_effect.proofs.Putting.{disk-append, end_from-lines}
 use Rattle.rpg_effect.specs.Put.{Bytes, disk_bytes, line_of, with_output}
 use Rattle.rpg_files.specs.Sending.{AppendsFirst}
@@ -24,60 +24,60 @@ pub record BeginsWith (all front : List ℕ) : Type 0 where
   pub is : all ≡ front ++ more
 
 -- the last line's feed
-feed_of_lines : (x : Placed) (xs : List Placed) (last : Option Position) → feed_behind (line_of (end_from (Some x.at) xs)) ≡ 10 ∷ []
+feed_of_lines : (x : Placed) (xs : List Placed) (last : Option Position) → feed_behind (line_of (last_position_from (Some x.at) xs)) ≡ 10 ∷ []
 feed_of_lines x [] last = refl
 feed_of_lines x (y ∷ ys) last = feed_of_lines y ys last
 
-feed_is : (lines : List Placed) → last_feed lines ≡ feed_behind (line_of (end_of lines))
+feed_is : (lines : List Placed) → last_feed lines ≡ feed_behind (line_of (last_position lines))
 feed_is [] = refl
 feed_is (x ∷ xs) = sym (feed_of_lines x xs None)
 
 -- the printer's bytes of two outputs
-paper_both : (a b : List Placed) → paper (a ++ b) ≡ paper a ++ bytes_from (end_of a) b
+paper_both : (a b : List Placed) → paper (a ++ b) ≡ paper a ++ bytes_from (last_position a) b
 paper_both a b = bytes_from-append None a b
 
 -- what a cycle put out, with the last line's feed where the job ended
-abbrev pub put_by : End → Output → Output → Bytes
-put_by e out o = with_feed (feed_at (stage_at e) (line_of (end_from (end_of out.lines) o.lines))) (with_output (end_of out.lines) o.lines o.records no_bytes)
+abbrev pub put_by : PhaseEnd → Output → Output → Bytes
+put_by e out o = with_feed (feed_at (stage_at e) (line_of (last_position_from (last_position out.lines) o.lines))) (with_output (last_position out.lines) o.lines o.records no_bytes)
 
 -- ---- the end of a run
 
-ends_with_feed : (out o : Output) → paper out.lines ++ (([] ++ bytes_from (end_of out.lines) o.lines) ++ feed_behind (line_of (end_from (end_of out.lines) o.lines))) ≡ printed (with_more out o)
+ends_with_feed : (out o : Output) → paper out.lines ++ (([] ++ bytes_from (last_position out.lines) o.lines) ++ feed_behind (line_of (last_position_from (last_position out.lines) o.lines))) ≡ printed (with_more out o)
 ends_with_feed out o =
-    let feed = feed_behind (line_of (end_from (end_of out.lines) o.lines)) in
-    sym (append_assoc (paper out.lines) (bytes_from (end_of out.lines) o.lines) feed)
+    let feed = feed_behind (line_of (last_position_from (last_position out.lines) o.lines)) in
+    sym (append_assoc (paper out.lines) (bytes_from (last_position out.lines) o.lines) feed)
     ∙ ap (λ bytes. bytes ++ feed) (sym (paper_both out.lines o.lines))
     ∙ ap (λ last. paper (out.lines ++ o.lines) ++ feed_behind (line_of last)) (sym (end_from-lines None out.lines o.lines))
     ∙ ap (λ bytes. paper (out.lines ++ o.lines) ++ bytes) (sym (feed_is (out.lines ++ o.lines)))
 
-pub print_ends : (e : End) (out o : Output) → IsLast e → paper out.lines ++ (put_by e out o).print ≡ printed (with_more out o)
+pub print_ends : (e : PhaseEnd) (out o : Output) → IsLast e → paper out.lines ++ (put_by e out o).print ≡ printed (with_more out o)
 print_ends GoesOn out o last = absurd last
 print_ends EndOfJob out o last = ends_with_feed out o
 print_ends (Halt k) out o last = ends_with_feed out o
 print_ends (Wrong f) out o last = ends_with_feed out o
 
-pub disk_goes_on : (e : End) (out o : Output) → disk_bytes out.records ++ (put_by e out o).disk ≡ disk_bytes (out.records ++ o.records)
+pub disk_goes_on : (e : PhaseEnd) (out o : Output) → disk_bytes out.records ++ (put_by e out o).disk ≡ disk_bytes (out.records ++ o.records)
 disk_goes_on e out o = sym (disk-append out.records o.records)
 
 pub print_goes_on : (out o : Output) → paper out.lines ++ (put_by GoesOn out o).print ≡ paper (out.lines ++ o.lines)
-print_goes_on out o = ap (λ bytes. paper out.lines ++ bytes) (append-nil (bytes_from (end_of out.lines) o.lines)) ∙ sym (paper_both out.lines o.lines)
+print_goes_on out o = ap (λ bytes. paper out.lines ++ bytes) (append-nil (bytes_from (last_position out.lines) o.lines)) ∙ sym (paper_both out.lines o.lines)
 
 -- ---- a run begins with what was put out
 
 print_begins : (out more : Output) → BeginsWith (printed (with_more out more)) (paper out.lines)
 print_begins out more = record {
-  more = bytes_from (end_of out.lines) more.lines ++ last_feed (out.lines ++ more.lines);
+  more = bytes_from (last_position out.lines) more.lines ++ last_feed (out.lines ++ more.lines);
   is = ap (λ bytes. bytes ++ last_feed (out.lines ++ more.lines)) (paper_both out.lines more.lines)
-      ∙ append_assoc (paper out.lines) (bytes_from (end_of out.lines) more.lines) (last_feed (out.lines ++ more.lines));
+      ∙ append_assoc (paper out.lines) (bytes_from (last_position out.lines) more.lines) (last_feed (out.lines ++ more.lines));
 }
 
 with_last : (front : List ℕ) (whole : Output) (out o : Output) → whole ≡ with_more out o → front ≡ printed (with_more out o) → BeginsWith (printed whole) front
 with_last front whole out o is ends = record { more = []; is = ap printed is ∙ sym ends ∙ sym (append-nil front) }
 
-with_none : (e : End) (whole out : Output) → GoesOnWith e whole out → IsLast e → whole ≡ out
+with_none : (e : PhaseEnd) (whole out : Output) → GoesOnWith e whole out → IsLast e → whole ≡ out
 with_none e whole out is last = is.output ∙ ap (with_more out) (is.last last) ∙ more_none out
 
-pub printed_begins : (e : End) (whole out o : Output) → GoesOnWith e whole (with_more out o) → BeginsWith (printed whole) (paper out.lines ++ (put_by e out o).print)
+pub printed_begins : (e : PhaseEnd) (whole out o : Output) → GoesOnWith e whole (with_more out o) → BeginsWith (printed whole) (paper out.lines ++ (put_by e out o).print)
 printed_begins GoesOn whole out o is =
     let begins = print_begins (with_more out o) is.more in
     record { more = begins.more; is = ap printed is.output ∙ begins.is ∙ ap (λ front. front ++ begins.more) (sym (print_goes_on out o)) }
@@ -85,7 +85,7 @@ printed_begins EndOfJob whole out o is = with_last _ whole out o (with_none EndO
 printed_begins (Halt k) whole out o is = with_last _ whole out o (with_none (Halt k) whole (with_more out o) is tt) (print_ends (Halt k) out o tt)
 printed_begins (Wrong f) whole out o is = with_last _ whole out o (with_none (Wrong f) whole (with_more out o) is tt) (print_ends (Wrong f) out o tt)
 
-pub stored_begins : (e : End) (whole out o : Output) → GoesOnWith e whole (with_more out o) → BeginsWith (stored whole) (disk_bytes out.records ++ (put_by e out o).disk)
+pub stored_begins : (e : PhaseEnd) (whole out o : Output) → GoesOnWith e whole (with_more out o) → BeginsWith (stored whole) (disk_bytes out.records ++ (put_by e out o).disk)
 stored_begins e whole out o is = record {
   more = disk_bytes is.more.records;
   is = ap stored is.output ∙ disk-append (out.records ++ o.records) is.more.records ∙ ap (λ front. front ++ disk_bytes is.more.records) (sym (disk_goes_on e out o));

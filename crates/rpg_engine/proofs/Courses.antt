@@ -1,12 +1,12 @@
 -- Runs under way: what was done so far, and what is left.
 use Rattle.std.proofs.Common.{◌≡◌, ℕ, suc, ◌+◌, max, List, [], ◌∷◌, ◌++◌, length, None, Some, refl, sym, ap, ◌∙◌, subst, append_assoc, append-nil, arith}
-use Rattle.rpg_records.specs.Earlier.{Selected, left_by, with_record}
-use Rattle.rpg_cycle.specs.Ends.{End, GoesOn, EndOfJob, Halt, Wrong}
+use Rattle.rpg_cycle_records.specs.Earlier.{Selected, left_by, with_record}
+use Rattle.rpg_cycle.specs.Ends.{PhaseEnd, GoesOn, EndOfJob, Halt, Wrong}
 use Rattle.rpg_cycle.specs.Phases.{Cycle, UnderWay, begun}
 use Rattle.rpg_cycle.specs.Runs.{Course, Runs, ends_or, last_cycle, with_cycle}
-use Rattle.rpg_form.specs.Paper.{Placed}
+use Rattle.rpg_paper.specs.Paper.{Placed}
 use Rattle.rpg_machine.specs.Config.{Config, Output, no_output, with_more}
-use Rattle.rpg_program.specs.Object.{Object}
+use Rattle.rpg_object_program.specs.Object.{Object}
 use Rattle.rpg_engine.specs.Streaming.{HeadCycle}
 use Rattle.rpg_engine.proofs.Determined.{cycle_sure}
 use Rattle.rpg_engine.proofs.Passing.{never_on}
@@ -15,7 +15,7 @@ use Rattle.rpg_engine.proofs.Passing.{never_on}
 abbrev pub behind : ℕ → ℕ → Output → Course → Course
 behind cycles most out course = record { ending = course.ending; cycles = cycles + course.cycles; most = max most course.most; output = with_more out course.output }
 
-pub same_course : (e : End) (a b c d : ℕ) (x y : Output) → a ≡ b → c ≡ d → x ≡ y →
+pub same_course : (e : PhaseEnd) (a b c d : ℕ) (x y : Output) → a ≡ b → c ≡ d → x ≡ y →
     (let s : Course = record { ending = e; cycles = a; most = c; output = x } in s) ≡ (let s : Course = record { ending = e; cycles = b; most = d; output = y } in s)
 same_course e a b c d x y h g k =
     ap (λ n. let s : Course = record { ending = e; cycles = n; most = c; output = x } in s) h
@@ -60,21 +60,21 @@ begins p start all = record {
 -- ---- one more cycle
 
 -- the first cycle of what is left is the one that was done
-first_is : (p : Object) (earlier : List Selected) (r : List ℕ) (rs : List (List ℕ)) (now : Config) (e : End) (d : UnderWay) (o : Output) (later : Course)
+first_is : (p : Object) (earlier : List Selected) (r : List ℕ) (rs : List (List ℕ)) (now : Config) (e : PhaseEnd) (d : UnderWay) (o : Output) (later : Course)
     → Cycle p earlier (Some r) (begun p now) e d o → Runs p earlier (r ∷ rs) now later
     → ends_or e d o (λ d rest. Runs p (with_record d.selected earlier) rs d.config rest) later
 first_is p earlier r rs now e d o later cycle runs =
     let same = cycle_sure p (left_by p earlier) (Some r) (begun p now) runs.0 e runs.1 d runs.2 o runs.3 cycle in
-    subst (λ (x : End). ends_or x d o (λ d rest. Runs p (with_record d.selected earlier) rs d.config rest) later) same.end
+    subst (λ (x : PhaseEnd). ends_or x d o (λ d rest. Runs p (with_record d.selected earlier) rs d.config rest) later) same.end
     (subst (λ (x : UnderWay). ends_or runs.0 x o (λ d rest. Runs p (with_record d.selected earlier) rs d.config rest) later) same.leads
     (subst (λ (x : Output). ends_or runs.0 runs.1 x (λ d rest. Runs p (with_record d.selected earlier) rs d.config rest) later) same.out runs.4))
 
 -- the same at the end of the records
-last_is : (p : Object) (earlier : List Selected) (now : Config) (e : End) (d : UnderWay) (o : Output) (later : Course)
+last_is : (p : Object) (earlier : List Selected) (now : Config) (e : PhaseEnd) (d : UnderWay) (o : Output) (later : Course)
     → Cycle p earlier None (begun p now) e d o → Runs p earlier [] now later → ends_or e d o (λ d rest. ⊥) later
 last_is p earlier now e d o later cycle runs =
     let same = cycle_sure p (left_by p earlier) None (begun p now) runs.0 e runs.1 d runs.2 o runs.3 cycle in
-    subst (λ (x : End). ends_or x d o (λ d rest. ⊥) later) same.end
+    subst (λ (x : PhaseEnd). ends_or x d o (λ d rest. ⊥) later) same.end
     (subst (λ (x : UnderWay). ends_or runs.0 x o (λ d rest. ⊥) later) same.leads
     (subst (λ (x : Output). ends_or runs.0 runs.1 x (λ d rest. ⊥) later) same.out runs.4))
 
@@ -102,25 +102,25 @@ one_more p start all earlier now (r ∷ rs) after cycles most greater out d o u 
 
 -- ---- the last cycle
 
-abbrev pub IsLast : End → Type 0
+abbrev pub IsLast : PhaseEnd → Type 0
 IsLast GoesOn = ⊥
 IsLast EndOfJob = Unit {0}
 IsLast (Halt k) = Unit {0}
 IsLast (Wrong f) = Unit {0}
 
-ends_here : (e : End) (d : UnderWay) (o : Output) (Rest : UnderWay → Course → Type 0) → IsLast e → ends_or e d o Rest (last_cycle e d.config o)
+ends_here : (e : PhaseEnd) (d : UnderWay) (o : Output) (Rest : UnderWay → Course → Type 0) → IsLast e → ends_or e d o Rest (last_cycle e d.config o)
 ends_here GoesOn d o Rest last = absurd last
 ends_here EndOfJob d o Rest last = refl
 ends_here (Halt k) d o Rest last = refl
 ends_here (Wrong f) d o Rest last = refl
 
-ends_runs : (p : Object) (earlier : List Selected) (now : Config) (rest after : List (List ℕ)) (e : End) (d : UnderWay) (o : Output) → HeadCycle p earlier now e d o rest after → IsLast e
+ends_runs : (p : Object) (earlier : List Selected) (now : Config) (rest after : List (List ℕ)) (e : PhaseEnd) (d : UnderWay) (o : Output) → HeadCycle p earlier now e d o rest after → IsLast e
     → Runs p earlier rest now (last_cycle e d.config o)
 ends_runs p earlier now [] after e d o head last = (e, d, o, head, ends_here e d o _ last)
 ends_runs p earlier now (r ∷ rs) after e d o head last = (e, d, o, head.0, ends_here e d o _ last)
 
 -- the whole run
-pub ends : (p : Object) (start : Config) (all : List (List ℕ)) (earlier : List Selected) (now : Config) (rest after : List (List ℕ)) (cycles most : ℕ) (out : Output) (e : End) (d : UnderWay) (o : Output)
+pub ends : (p : Object) (start : Config) (all : List (List ℕ)) (earlier : List Selected) (now : Config) (rest after : List (List ℕ)) (cycles most : ℕ) (out : Output) (e : PhaseEnd) (d : UnderWay) (o : Output)
     → IsUnderWay p start all earlier now rest cycles most out → HeadCycle p earlier now e d o rest after → IsLast e
     → Runs p [] all start (behind cycles most out (last_cycle e d.config o))
 ends p start all earlier now rest after cycles most out e d o u head last = u.forth (last_cycle e d.config o) (ends_runs p earlier now rest after e d o head last)
@@ -128,24 +128,24 @@ ends p start all earlier now rest after cycles most out e d o u head last = u.fo
 -- ---- what each run puts out
 
 -- more is put out behind it, nothing where the cycle is the last
-pub record GoesOnWith (e : End) (all out : Output) : Type 0 where
+pub record GoesOnWith (e : PhaseEnd) (all out : Output) : Type 0 where
   pub more : Output
   pub output : all ≡ with_more out more
   pub last : IsLast e → more ≡ no_output
 
-with_first : (e : End) (d : UnderWay) (o : Output) (Rest : UnderWay → Course → Type 0) (later : Course) → ends_or e d o Rest later → GoesOnWith e later.output o
+with_first : (e : PhaseEnd) (d : UnderWay) (o : Output) (Rest : UnderWay → Course → Type 0) (later : Course) → ends_or e d o Rest later → GoesOnWith e later.output o
 with_first GoesOn d o Rest later is = record { more = is.0.output; output = ap (λ (c : Course). c.output) is.2; last = λ last. absurd last }
 with_first EndOfJob d o Rest later is = record { more = no_output; output = ap (λ (c : Course). c.output) is ∙ sym (more_none o); last = λ last. refl }
 with_first (Halt k) d o Rest later is = record { more = no_output; output = ap (λ (c : Course). c.output) is ∙ sym (more_none o); last = λ last. refl }
 with_first (Wrong f) d o Rest later is = record { more = no_output; output = ap (λ (c : Course). c.output) is ∙ sym (more_none o); last = λ last. refl }
 
-head_first : (p : Object) (earlier : List Selected) (now : Config) (rest after : List (List ℕ)) (e : End) (d : UnderWay) (o : Output) (later : Course)
+head_first : (p : Object) (earlier : List Selected) (now : Config) (rest after : List (List ℕ)) (e : PhaseEnd) (d : UnderWay) (o : Output) (later : Course)
     → HeadCycle p earlier now e d o rest after → Runs p earlier rest now later → GoesOnWith e later.output o
 head_first p earlier now [] after e d o later head runs = with_first e d o _ later (last_is p earlier now e d o later head runs)
 head_first p earlier now (r ∷ rs) after e d o later head runs = with_first e d o _ later (first_is p earlier r rs now e d o later head.0 runs)
 
 -- a run's output begins with that of the cycles done and of one more
-pub begins_with : (p : Object) (start : Config) (all : List (List ℕ)) (earlier : List Selected) (now : Config) (rest after : List (List ℕ)) (cycles most : ℕ) (out : Output) (e : End) (d : UnderWay) (o : Output) (course : Course)
+pub begins_with : (p : Object) (start : Config) (all : List (List ℕ)) (earlier : List Selected) (now : Config) (rest after : List (List ℕ)) (cycles most : ℕ) (out : Output) (e : PhaseEnd) (d : UnderWay) (o : Output) (course : Course)
     → IsUnderWay p start all earlier now rest cycles most out → HeadCycle p earlier now e d o rest after → Runs p [] all start course → GoesOnWith e course.output (with_more out o)
 begins_with p start all earlier now rest after cycles most out e d o course u head runs =
     let later = u.back course runs in

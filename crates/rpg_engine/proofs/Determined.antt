@@ -2,8 +2,8 @@
 use Rattle.std.proofs.Common.{◌≡◌, ℕ, zero, suc, ◌+◌, Bool, true, false, List, Option, Some, None, refl, sym, ap, subst, ◌∙◌, arith, inl, inr}
 use Rattle.std.proofs.lemmas.Bool.{cases_Bool}
 use Rattle.std.specs.Ordering.{nat_cmp}
-use Rattle.rpg_records.specs.Earlier.{Left, Selected}
-use Rattle.rpg_cycle.specs.Ends.{End, GoesOn, EndOfJob, Halt, Wrong, end_of}
+use Rattle.rpg_cycle_records.specs.Earlier.{Left, Selected}
+use Rattle.rpg_cycle.specs.Ends.{PhaseEnd, GoesOn, EndOfJob, Halt, Wrong, phase_end}
 use Rattle.rpg_cycle.specs.Phases.{CycleOn, Done, Phase, UnderWay, by_machine, detail_calculations, does, either, fill_fields, fill_from, from_there, output, passes, section, unless, ◌before◌}
 use Rattle.rpg_effect.specs.Effect.{Effect}
 use Rattle.rpg_effect.specs.Ends as effects
@@ -11,13 +11,13 @@ use Rattle.rpg_effect.specs.World.{World}
 use Rattle.rpg_machine.specs.Config.{Config, Output, with_more}
 use Rattle.rpg_machine.specs.Outputs.{ByEffect, FillsFields, PutsOut, output_effect, output_weight}
 use Rattle.rpg_machine.specs.Run.{RunsTo, at_first, is_end, onward, put_before, run}
-use Rattle.rpg_machine.specs.Running.{Act}
+use Rattle.rpg_machine.specs.Running.{Behaviour}
 use Rattle.rpg_machine.specs.Step.{Outcome, Next, Stop, step}
 use Rattle.rpg_machine.specs.declared.time.OutputTime.{OutputTime}
 use Rattle.rpg_machine.specs.declared.time.OutputTime.TheVariants as times
-use Rattle.rpg_program.specs.Object.{Object}
-use Rattle.rpg_program.specs.declared.section.Section.{Section}
-use Rattle.rpg_program.specs.declared.section.Section.TheVariants as sections
+use Rattle.rpg_object_program.specs.Object.{Object}
+use Rattle.rpg_object_program.specs.declared.section.Section.{Section}
+use Rattle.rpg_object_program.specs.declared.section.Section.TheVariants as sections
 
 -- ---- runs of a section
 
@@ -61,7 +61,7 @@ one_stop p n m c e f d d' o put first second =
 
 -- ---- what the machine does
 
-abbrev IsSureAct : Act → Type 0
+abbrev IsSureAct : Behaviour → Type 0
 IsSureAct P = (c : Config) (e f : effects.End) (d d' : Config) (o put : Output) → P c e d o → P c f d' put → AreSame e f d d' o put
 
 effect_sure : (weight : ℕ) (effect : World nat_cmp → Effect nat_cmp) → IsSureAct (ByEffect weight effect)
@@ -78,7 +78,7 @@ section_sure p s c e f d d' o put first second = one_stop p first.enough second.
 
 -- from one cycle under way a phase leads to one other
 abbrev pub IsSure : Phase → Type 0
-IsSure P = (c : UnderWay) (e f : End) (d d' : UnderWay) (o put : Output) → P c e d o → P c f d' put → AreSame e f d d' o put
+IsSure P = (c : UnderWay) (e f : PhaseEnd) (d d' : UnderWay) (o put : Output) → P c e d o → P c f d' put → AreSame e f d d' o put
 
 does_sure : (f : UnderWay → Done) → IsSure (does f)
 does_sure f c e g d d' o put first second = record { end = first.0 ∙ sym second.0; leads = first.1 ∙ sym second.1; out = first.2 ∙ sym second.2 }
@@ -88,17 +88,17 @@ under_way_is c d h g =
     ap (λ (x : Config). let u : UnderWay = record { config = x; selected = c.selected } in u) h
     ∙ ap (λ (x : Option Selected). let u : UnderWay = record { config = d.config; selected = x } in u) g
 
-machine_sure : (P : Act) → IsSureAct P → IsSure (by_machine P)
+machine_sure : (P : Behaviour) → IsSureAct P → IsSure (by_machine P)
 machine_sure P sure c e f d d' o put first second =
     let same = sure c.config first.0 second.0 d.config d'.config o put first.1 second.1 in
     record {
-      end = first.2 ∙ ap end_of same.end ∙ sym second.2;
+      end = first.2 ∙ ap phase_end same.end ∙ sym second.2;
       leads = under_way_is d d' same.leads (first.3 ∙ sym second.3);
       out = same.out;
     }
 
 -- from where the first of two phases has led
-there_sure : (Q : Phase) → IsSure Q → (f : End) (m : UnderWay) (one : Output) (e g : End) (d d' : UnderWay) (o put : Output)
+there_sure : (Q : Phase) → IsSure Q → (f : PhaseEnd) (m : UnderWay) (one : Output) (e g : PhaseEnd) (d d' : UnderWay) (o put : Output)
     → from_there Q f m one e d o → from_there Q f m one g d' put → AreSame e g d d' o put
 there_sure Q sure GoesOn m one e g d d' o put p q =
     let same = sure m e g d d' p.0 q.0 p.1 q.1 in
@@ -111,7 +111,7 @@ before_sure : (P Q : Phase) → IsSure P → IsSure Q → IsSure (P before Q)
 before_sure P Q first_sure then_sure c e f d d' o put p q =
     let same = first_sure c p.0 q.0 p.1 q.1 p.2 q.2 p.3 q.3 in
     there_sure Q then_sure p.0 p.1 p.2 e f d d' o put p.4
-    (subst (λ (x : End). from_there Q x p.1 p.2 f d' put) (sym same.end)
+    (subst (λ (x : PhaseEnd). from_there Q x p.1 p.2 f d' put) (sym same.end)
     (subst (λ (m : UnderWay). from_there Q q.0 m p.2 f d' put) (sym same.leads)
     (subst (λ (x : Output). from_there Q q.0 q.1 x f d' put) (sym same.out) q.4)))
 

@@ -1,14 +1,14 @@
 -- Phases of a cycle that go on, and cycles that don't.
 use Rattle.std.proofs.Common.{◌≡◌, ℕ, Bool, true, false, cond, ◌||◌, List, Option, None, Some, is_none, refl, ap, ◌∙◌}
-use Rattle.rpg_records.specs.Earlier.{Left, Selected}
-use Rattle.rpg_cycle.specs.Ends.{End, GoesOn, EndOfJob, Halt, Wrong}
-use Rattle.rpg_records.specs.Identifying.{is_good}
+use Rattle.rpg_cycle_records.specs.Earlier.{Left, Selected}
+use Rattle.rpg_cycle.specs.Ends.{PhaseEnd, GoesOn, EndOfJob, Halt, Wrong}
+use Rattle.rpg_cycle_records.specs.Identifying.{is_good_record}
 use Rattle.rpg_cycle.specs.Indicators.{is_on, last_record, with_all, with_one, level_indicators}
 use Rattle.rpg_cycle.specs.Phases.{CycleOn, Done, Phase, UnderWay, detail_calculations, detail_lines, done, either, end_where_last, fill_fields, from_there, halt_where_asked, is_bypassed, overflow_lines, output, passes, section, select_record, set_off, total_time, ◌before◌}
 use Rattle.rpg_machine.specs.Config.{Config, Output}
 use Rattle.rpg_machine.specs.declared.time.OutputTime.TheVariants as times
-use Rattle.rpg_program.specs.Object.{Object}
-use Rattle.rpg_program.specs.declared.section.Section.TheVariants as sections
+use Rattle.rpg_object_program.specs.Object.{Object}
+use Rattle.rpg_object_program.specs.declared.section.Section.TheVariants as sections
 
 -- both phases of two went on
 pub record BothOn (P Q : Phase) (c d : UnderWay) : Type 0 where
@@ -66,20 +66,20 @@ bad_selected : (b : Bool) (x y : Config) → (let d : Done = cond b (done GoesOn
 bad_selected true x y = refl
 bad_selected false x y = refl
 
-selects_none : (p : Object) (left : Left) (r : List ℕ) → is_good p r ≡ false → SelectsNone p left (Some r)
+selects_none : (p : Object) (left : Left) (r : List ℕ) → is_good_record p r ≡ false → SelectsNone p left (Some r)
 selects_none p left r bad c d out first =
     let halts = rw bad at first in
     ap (λ (u : UnderWay). u.selected) halts.1 ∙ bad_selected (is_on c.config last_record) (with_all level_indicators true c.config) c.config
 
 -- a cycle with a bad record doesn't go on
-pub bad_stops : (p : Object) (left : Left) (r : List ℕ) (c d : UnderWay) (out : Output) → is_good p r ≡ false → CycleOn p left (Some r) c GoesOn d out → ⊥
+pub bad_stops : (p : Object) (left : Left) (r : List ℕ) (c d : UnderWay) (out : Output) → is_good_record p r ≡ false → CycleOn p left (Some r) c GoesOn d out → ⊥
 bad_stops p left r c d out bad = stops p left (Some r) c d out (selects_none p left r bad)
 
 -- where one phase does what the other does
 abbrev pub Follows : Phase → Phase → Type 0
-Follows P Q = (c : UnderWay) (e : End) (d : UnderWay) (out : Output) → P c e d out → Q c e d out
+Follows P Q = (c : UnderWay) (e : PhaseEnd) (d : UnderWay) (out : Output) → P c e d out → Q c e d out
 
-there : (P Q : Phase) (f : End) (m : UnderWay) (put : Output) (e : End) (d : UnderWay) (out : Output) → Follows P Q → from_there P f m put e d out → from_there Q f m put e d out
+there : (P Q : Phase) (f : PhaseEnd) (m : UnderWay) (put : Output) (e : PhaseEnd) (d : UnderWay) (out : Output) → Follows P Q → from_there P f m put e d out → from_there Q f m put e d out
 there P Q GoesOn m put e d out same h = (h.0, same m e d h.0 h.1, h.2)
 there P Q EndOfJob m put e d out same h = h
 there P Q (Halt k) m put e d out same h = h
@@ -91,10 +91,10 @@ behind_same P Q R same c e d out h = (h.0, h.1, h.2, h.3, there Q R h.0 h.1 h.2 
 pub first_same : (P Q R : Phase) → Follows P Q → Follows (P before R) (Q before R)
 first_same P Q R same c e d out h = (h.0, h.1, h.2, same c h.0 h.1 h.2 h.3, h.4)
 
-selects_same : (p : Object) (left : Left) (r s : List ℕ) → is_good p r ≡ false → is_good p s ≡ false → Follows (select_record p left (Some r)) (select_record p left (Some s))
+selects_same : (p : Object) (left : Left) (r s : List ℕ) → is_good_record p r ≡ false → is_good_record p s ≡ false → Follows (select_record p left (Some r)) (select_record p left (Some s))
 selects_same p left r s bad bad_too c e d out h = rw bad_too (rw bad at h)
 
 -- a cycle does the same with every bad record
-pub bad_are_one : (p : Object) (left : Left) (r s : List ℕ) → is_good p r ≡ false → is_good p s ≡ false → Follows (CycleOn p left (Some r)) (CycleOn p left (Some s))
+pub bad_are_one : (p : Object) (left : Left) (r s : List ℕ) → is_good_record p r ≡ false → is_good_record p s ≡ false → Follows (CycleOn p left (Some r)) (CycleOn p left (Some s))
 bad_are_one p left r s bad bad_too =
     behind_same (detail_lines p) _ _ (behind_same halt_where_asked _ _ (behind_same (set_off p) _ _ (first_same _ _ _ (selects_same p left r s bad bad_too))))

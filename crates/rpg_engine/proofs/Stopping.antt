@@ -3,16 +3,16 @@ use Rattle.std.proofs.Common.{◌≡◌, ℕ, ℤ, ◌+◌, ◌<◌, ◌≤◌, 
 use Rattle.std.proofs.lemmas.Bool.{cases_Bool}
 use Rattle.std.specs.Io.KnownBytes.{Appends}
 use Rattle.std.proofs.KnownBytes.{Appends-trans, Consumes-trans}
-use Rattle.rpg_cycle.specs.Ends.{End}
-use Rattle.rpg_cycle.specs.Job.{AtWork, first_fields, started}
+use Rattle.rpg_cycle.specs.Ends.{PhaseEnd}
+use Rattle.rpg_cycle.specs.Job.{AtWork, first_fields, job_started}
 use Rattle.rpg_cycle.specs.Runs.{Course, Runs, last_cycle, printed, stored}
 use Rattle.rpg_cycle.specs.Stages.{job_end}
-use Rattle.rpg_cycle.specs.Starting.{start_of}
+use Rattle.rpg_cycle.specs.Starting.{job_start}
 use Rattle.rpg_cycle.specs.declared.ends.JobEnd.{JobEnd}
-use Rattle.rpg_form.specs.Paper.{end_of, paper}
+use Rattle.rpg_paper.specs.Paper.{last_position, paper}
 use Rattle.rpg_effect.specs.Put.{Bytes, disk_bytes}
 use Rattle.rpg_files.specs.Counting.{device_of, faults_of}
-use Rattle.rpg_files.specs.Reading.{Advances, ReadsNext, buffered_of, count_of, has_ended, input_of, source_of}
+use Rattle.rpg_files.specs.Reading.{Advances, ReadsNext, buffered_of, count_of, has_ended, input_of, reader_of}
 use Rattle.rpg_files.specs.Records.{begins_with_line_feed, onto_first, records}
 use Rattle.rpg_files.specs.Sending.{AppendsFirst, AppendsPrefix}
 use Rattle.rpg_files.specs.declared.reader.ReadFault.TheVariants as fault
@@ -22,8 +22,8 @@ use Rattle.rpg_machine.specs.Running.{config_on}
 use Rattle.rpg_verify.specs.Bound.{bound}
 use Rattle.rpg_engine.specs.Faults.{Counts, FaultsAre}
 use Rattle.rpg_engine.specs.Inputs.{HasTooMany, OfInput}
-use Rattle.rpg_engine.specs.Reporting.{HasParts, IsRunOver, Reports, SendsParts}
-use Rattle.rpg_engine.specs.Streaming.{IsOfRun, SendsSome, TakesCycle, TakesNone, stage_of}
+use Rattle.rpg_engine.specs.Reporting.{HasParts, IsRunOver, Reports, SendsFirstParts}
+use Rattle.rpg_engine.specs.Streaming.{IsOfRun, SendsSome, TakesCycle, TakesNone, ended_stage}
 use Rattle.rpg_engine.specs.declared.fault.RunFault.{RunFault}
 use Rattle.rpg_engine.specs.declared.fault.RunFault.TheVariants as faults
 use Rattle.rpg_engine.proofs.Bytes.{BeginsWith, disk_goes_on, front_sent, part_sent, print_ends, printed_begins, printed_so_far, stored_begins, stored_so_far}
@@ -34,9 +34,9 @@ use Rattle.rpg_engine.proofs.Taking.{stands_still, told_of}
 -- ---- the start
 
 abbrev IsStart : AtWork → ℤ → Type 0
-IsStart first day = first ≡ started first.program day (first_fields first.program)
+IsStart first day = first ≡ job_started first.program day (first_fields first.program)
 
-start_is : (first : AtWork) (day : ℤ) → IsStart first day → config_on None first.config ≡ start_of first.program day (first_fields first.program)
+start_is : (first : AtWork) (day : ℤ) → IsStart first day → config_on None first.config ≡ job_start first.program day (first_fields first.program)
 start_is first day is = ap (λ (j : AtWork). config_on None j.config) is
 
 -- ---- a report
@@ -44,11 +44,11 @@ start_is first day is = ap (λ (j : AtWork). config_on None j.config) is
 pub stream_reports : {R : Type 0} (remaining : R → Option (List ℕ)) (first job mid : AtWork) (given : Option (List ℕ)) (reader reader' : RecordReader R) (cycles most greater : ℕ)
     (print print' print'' disk disk' disk'' : Option (List ℕ)) (gone_print gone_disk most_steps : ℕ) (j : JobEnd)
     → Streams remaining first given job reader cycles most print print' disk disk' gone_print gone_disk → TakesCycle remaining job reader mid reader'
-    → mid.stage ≡ stage_of (Some j) → greater ≡ max most mid.config.steps → Appends print' print'' mid.output.print → Appends disk' disk'' mid.output.disk
+    → mid.stage ≡ ended_stage (Some j) → greater ≡ max most mid.config.steps → Appends print' print'' mid.output.print → Appends disk' disk'' mid.output.disk
     → most_steps ≡ bound first.program → greater ≤ most_steps → (day : ℤ) → IsStart first day
-    → OfInput given (remaining (device_of (source_of reader'))) (Reports first.program day (record { ending = j; cycles = cycles + 1; most = greater; bound = most_steps }) print print'' disk disk'')
+    → OfInput given (remaining (device_of (reader_of reader'))) (Reports first.program day (record { ending = j; cycles = cycles + 1; most = greater; bound = most_steps }) print print'' disk disk'')
 stream_reports remaining first job mid given reader reader' cycles most greater print print' print'' disk disk' disk'' gone_print gone_disk most_steps j s takes stage most_is sent_print sent_disk bounded few day is =
-    let took = takes.does s.earlier s.left (end_of s.out.lines) s.last in
+    let took = takes.does s.earlier s.left (last_position s.out.lines) s.last in
     let e = took.0 in
     let t = took.1 in
     let does = t.does in
@@ -69,7 +69,7 @@ stream_reports remaining first job mid given reader reader' cycles most greater 
         bytes = record { print = printed course.output; disk = stored course.output };
         run = record {
           runs = subst (λ (c : Config). Runs first.program [] (records (steps.read ++ more)) c course) (start_is first day is)
-              (ends first.program (config_on None first.config) (records (steps.read ++ more)) s.earlier (config_on (end_of s.out.lines) job.config) (steps.rest more) (records (buffered_of reader' ++ more)) cycles most s.out e does.there does.out
+              (ends first.program (config_on None first.config) (records (steps.read ++ more)) s.earlier (config_on (last_position s.out.lines) job.config) (steps.rest more) (records (buffered_of reader' ++ more)) cycles most s.out e does.there does.out
               (steps.under_way more can) (steps.head more can) last);
           print = refl;
           disk = refl;
@@ -87,9 +87,8 @@ stream_reports remaining first job mid given reader reader' cycles most greater 
 -- ---- nothing was done with what stands next
 
 moves : {R : Type 0} (remaining : R → Option (List ℕ)) (old new : RecordReader R) (e : RunFault) → TakesNone remaining old e new → Advances (input_of remaining old) (input_of remaining new) (λ x y. Unit {0})
-moves remaining old new (faults.Object offset code) none = absurd none
-moves remaining old new (faults.Refused rule row) none = absurd none
-moves remaining old new faults.Date none = absurd none
+moves remaining old new (faults.Object fault) none = absurd none
+moves remaining old new faults.BadDate none = absurd none
 moves remaining old new faults.Read none = told_of (input_of remaining old) (input_of remaining new) _ (λ x y. Unit {0}) (λ x y is. tt) none.1.input
 moves remaining old new (faults.Print sent) none = absurd none
 moves remaining old new (faults.Disk sent) none = absurd none
@@ -99,27 +98,24 @@ moves remaining old new faults.NoMemory (inr none) = told_of (input_of remaining
 
 both_parts : {R : Type 0} (remaining : R → Option (List ℕ)) (old new : RecordReader R) (e : RunFault) → TakesNone remaining old e new → (print print' disk disk' : Option (List ℕ)) (bytes : Bytes)
     → AppendsPrefix print print' bytes.print → AppendsPrefix disk disk' bytes.disk → HasParts e print print' disk disk' bytes
-both_parts remaining old new (faults.Object offset code) none print print' disk disk' bytes p d = absurd none
-both_parts remaining old new (faults.Refused rule row) none print print' disk disk' bytes p d = absurd none
-both_parts remaining old new faults.Date none print print' disk disk' bytes p d = absurd none
+both_parts remaining old new (faults.Object fault) none print print' disk disk' bytes p d = absurd none
+both_parts remaining old new faults.BadDate none print print' disk disk' bytes p d = absurd none
 both_parts remaining old new faults.Read none print print' disk disk' bytes p d = (p, d)
 both_parts remaining old new (faults.Print sent) none print print' disk disk' bytes p d = absurd none
 both_parts remaining old new (faults.Disk sent) none print print' disk disk' bytes p d = absurd none
 both_parts remaining old new faults.NoMemory none print print' disk disk' bytes p d = (p, d)
 
 pub none_of_run : {R : Type 0} (remaining : R → Option (List ℕ)) (old new : RecordReader R) (e : RunFault) → TakesNone remaining old e new → IsOfRun e
-none_of_run remaining old new (faults.Object offset code) none = absurd none
-none_of_run remaining old new (faults.Refused rule row) none = absurd none
-none_of_run remaining old new faults.Date none = absurd none
+none_of_run remaining old new (faults.Object fault) none = absurd none
+none_of_run remaining old new faults.BadDate none = absurd none
 none_of_run remaining old new faults.Read none = tt
 none_of_run remaining old new (faults.Print sent) none = tt
 none_of_run remaining old new (faults.Disk sent) none = tt
 none_of_run remaining old new faults.NoMemory none = tt
 
 pub some_of_run : (e : RunFault) (printed stored : ℕ) (print print' disk disk' : Option (List ℕ)) (lines records : List ℕ) → SendsSome e printed stored print print' disk disk' lines records → IsOfRun e
-some_of_run (faults.Object offset code) printed stored print print' disk disk' lines records some = absurd some
-some_of_run (faults.Refused rule row) printed stored print print' disk disk' lines records some = absurd some
-some_of_run faults.Date printed stored print print' disk disk' lines records some = absurd some
+some_of_run (faults.Object fault) printed stored print print' disk disk' lines records some = absurd some
+some_of_run faults.BadDate printed stored print print' disk disk' lines records some = absurd some
 some_of_run faults.Read printed stored print print' disk disk' lines records some = tt
 some_of_run (faults.Print sent) printed stored print print' disk disk' lines records some = tt
 some_of_run (faults.Disk sent) printed stored print print' disk disk' lines records some = tt
@@ -137,13 +133,13 @@ runs_from first day input course bytes is run = subst (λ (c : Config). Runs fir
 pub stopped_reading : {R : Type 0} (remaining : R → Option (List ℕ)) (first job : AtWork) (given : Option (List ℕ)) (reader reader' : RecordReader R) (cycles most : ℕ)
     (print print' disk disk' : Option (List ℕ)) (gone_print gone_disk : ℕ) (e : RunFault)
     → Streams remaining first given job reader cycles most print print' disk disk' gone_print gone_disk → TakesNone remaining reader e reader'
-    → (day : ℤ) → IsStart first day → OfInput given (remaining (device_of (source_of reader'))) (SendsParts first.program day e print print' disk disk')
+    → (day : ℤ) → IsStart first day → OfInput given (remaining (device_of (reader_of reader'))) (SendsFirstParts first.program day e print print' disk disk')
 stopped_reading remaining first job given reader reader' cycles most print print' disk disk' gone_print gone_disk e s none day is =
     let adv = moves remaining reader reader' e none in
     record {
       read = s.read ++ adv.read;
       ended = has_ended reader';
-      consumed = Consumes-trans given (remaining (device_of (source_of reader))) (remaining (device_of (source_of reader'))) s.read adv.read s.consumed adv.consumed;
+      consumed = Consumes-trans given (remaining (device_of (reader_of reader))) (remaining (device_of (reader_of reader'))) s.read adv.read s.consumed adv.consumed;
       at_end = λ ended. adv.at_end ended s.at_end;
       fact = λ more can course bytes run.
           let u = reads_on remaining first job given reader reader' cycles most print print' disk disk' gone_print gone_disk _ s adv more can in
@@ -162,17 +158,16 @@ stopped_reading remaining first job given reader reader' cycles most print print
 
 -- ---- a cycle's output was sent in part
 
-record BothBegin (e : End) (course : Course) (mid : AtWork) (out : Output) : Type 0 where
+record BothBegin (e : PhaseEnd) (course : Course) (mid : AtWork) (out : Output) : Type 0 where
   print : BeginsWith (printed course.output) (paper out.lines ++ mid.output.print)
   disk : BeginsWith (stored course.output) (disk_bytes out.records ++ mid.output.disk)
 
-sent_parts : (e : End) (fault : RunFault) (course : Course) (bytes : Bytes) (mid : AtWork) (out : Output) (print print' print'' disk disk' disk'' : Option (List ℕ)) (gone_print gone_disk : ℕ)
+sent_parts : (e : PhaseEnd) (fault : RunFault) (course : Course) (bytes : Bytes) (mid : AtWork) (out : Output) (print print' print'' disk disk' disk'' : Option (List ℕ)) (gone_print gone_disk : ℕ)
     → bytes.print ≡ printed course.output → bytes.disk ≡ stored course.output → BothBegin e course mid out
     → Appends print print' (paper out.lines) → Appends disk disk' (disk_bytes out.records) → gone_print ≡ length (paper out.lines) → gone_disk ≡ length (disk_bytes out.records)
     → SendsSome fault gone_print gone_disk print' print'' disk' disk'' mid.output.print mid.output.disk → HasParts fault print print'' disk disk'' bytes
-sent_parts e (faults.Object offset code) course bytes mid out print print' print'' disk disk' disk'' gone_print gone_disk p d begins to_print to_disk n m some = absurd some
-sent_parts e (faults.Refused rule row) course bytes mid out print print' print'' disk disk' disk'' gone_print gone_disk p d begins to_print to_disk n m some = absurd some
-sent_parts e faults.Date course bytes mid out print print' print'' disk disk' disk'' gone_print gone_disk p d begins to_print to_disk n m some = absurd some
+sent_parts e (faults.Object fault) course bytes mid out print print' print'' disk disk' disk'' gone_print gone_disk p d begins to_print to_disk n m some = absurd some
+sent_parts e faults.BadDate course bytes mid out print print' print'' disk disk' disk'' gone_print gone_disk p d begins to_print to_disk n m some = absurd some
 sent_parts e faults.Read course bytes mid out print print' print'' disk disk' disk'' gone_print gone_disk p d begins to_print to_disk n m some = absurd some
 sent_parts e faults.NoMemory course bytes mid out print print' print'' disk disk' disk'' gone_print gone_disk p d begins to_print to_disk n m some = absurd some
 sent_parts e (faults.Print sent) course bytes mid out print print' print'' disk disk' disk'' gone_print gone_disk p d begins to_print to_disk n m some =
@@ -199,9 +194,9 @@ pub stopped_sending : {R : Type 0} (remaining : R → Option (List ℕ)) (first 
     (print print' print'' disk disk' disk'' : Option (List ℕ)) (gone_print gone_disk : ℕ) (fault : RunFault)
     → Streams remaining first given job reader cycles most print print' disk disk' gone_print gone_disk → TakesCycle remaining job reader mid reader'
     → SendsSome fault gone_print gone_disk print' print'' disk' disk'' mid.output.print mid.output.disk
-    → (day : ℤ) → IsStart first day → OfInput given (remaining (device_of (source_of reader'))) (SendsParts first.program day fault print print'' disk disk'')
+    → (day : ℤ) → IsStart first day → OfInput given (remaining (device_of (reader_of reader'))) (SendsFirstParts first.program day fault print print'' disk disk'')
 stopped_sending remaining first job mid given reader reader' cycles most print print' print'' disk disk' disk'' gone_print gone_disk fault s takes some day is =
-    let took = takes.does s.earlier s.left (end_of s.out.lines) s.last in
+    let took = takes.does s.earlier s.left (last_position s.out.lines) s.last in
     let e = took.0 in
     let t = took.1 in
     let does = t.does in
@@ -214,7 +209,7 @@ stopped_sending remaining first job mid given reader reader' cycles most print p
       at_end = steps.at_end;
       fact = λ more can course bytes run.
           let goes : GoesOnWith e course.output (with_more s.out does.out) =
-          begins_with first.program (config_on None first.config) (records (steps.read ++ more)) s.earlier (config_on (end_of s.out.lines) job.config) (steps.rest more) (records (buffered_of reader' ++ more)) cycles most s.out e does.there does.out course
+          begins_with first.program (config_on None first.config) (records (steps.read ++ more)) s.earlier (config_on (last_position s.out.lines) job.config) (steps.rest more) (records (buffered_of reader' ++ more)) cycles most s.out e does.there does.out course
           (steps.under_way more can) (steps.head more can) (runs_from first day (steps.read ++ more) course bytes is run) in
           sent_parts e fault course bytes mid s.out print print' print'' disk disk' disk'' gone_print gone_disk run.print run.disk
           (record {
@@ -251,11 +246,11 @@ some_records (b ∷ bytes) some = elim (cases_Bool (b == 10)) [
 too_many : {R : Type 0} (remaining : R → Option (List ℕ)) (first job : AtWork) (given : Option (List ℕ)) (reader reader' : RecordReader R) (cycles most : ℕ)
     (print print' disk disk' : Option (List ℕ)) (gone_print gone_disk : ℕ)
     → Streams remaining first given job reader cycles most print print' disk disk' gone_print gone_disk → cycles ≡ count_of reader → ReadsNext remaining reader (Err fault.TooMany) reader'
-    → OfInput given (remaining (device_of (source_of reader'))) HasTooMany
+    → OfInput given (remaining (device_of (reader_of reader'))) HasTooMany
 too_many remaining first job given reader reader' cycles most print print' disk disk' gone_print gone_disk s count reads = record {
   read = s.read ++ reads.input.read;
   ended = has_ended reader';
-  consumed = Consumes-trans given (remaining (device_of (source_of reader))) (remaining (device_of (source_of reader'))) s.read reads.input.read s.consumed reads.input.consumed;
+  consumed = Consumes-trans given (remaining (device_of (reader_of reader))) (remaining (device_of (reader_of reader'))) s.read reads.input.read s.consumed reads.input.consumed;
   at_end = λ ended. reads.input.at_end ended s.at_end;
   fact = λ more can.
       let u = reads_on remaining first job given reader reader' cycles most print print' disk disk' gone_print gone_disk _ s reads.input more can in
@@ -264,20 +259,16 @@ too_many remaining first job given reader reader' cycles most print print' disk 
       omega (arith, u.counted, some, gives.0, count);
 }
 
-same_counts : (a b c d : ℕ) (n : ℕ) → a ≡ n → (let x : Counts = record { reader = a; print = b; disk = c } in x) ≡ record { reader = n; print = b; disk = c }
-same_counts a b c d n h = ap (λ (k : ℕ). let x : Counts = record { reader = k; print = b; disk = c } in x) h
-
 abbrev counts : ℕ → ℕ → ℕ → Counts
 counts reader print disk = record { reader = reader; print = print; disk = disk }
 
 pub reading_faults : {R : Type 0} (remaining : R → Option (List ℕ)) (first job : AtWork) (given : Option (List ℕ)) (reader reader' : RecordReader R) (cycles most : ℕ)
     (print print' disk disk' : Option (List ℕ)) (gone_print gone_disk of_reader of_print of_print' of_disk of_disk' : ℕ) (e : RunFault) (X : Type 0)
     → Streams remaining first given job reader cycles most print print' disk disk' gone_print gone_disk → cycles ≡ count_of reader → TakesNone remaining reader e reader'
-    → faults_of (source_of reader) ≡ of_reader → of_print' ≡ of_print → of_disk' ≡ of_disk
-    → FaultsAre {X = X} (Err e) given (remaining (device_of (source_of reader'))) (counts of_reader of_print of_disk) (counts (faults_of (source_of reader')) of_print' of_disk')
-reading_faults remaining first job given reader reader' cycles most print print' disk disk' gone_print gone_disk of_reader of_print of_print' of_disk of_disk' (faults.Object offset code) X s count none h p d = absurd none
-reading_faults remaining first job given reader reader' cycles most print print' disk disk' gone_print gone_disk of_reader of_print of_print' of_disk of_disk' (faults.Refused rule row) X s count none h p d = absurd none
-reading_faults remaining first job given reader reader' cycles most print print' disk disk' gone_print gone_disk of_reader of_print of_print' of_disk of_disk' faults.Date X s count none h p d = absurd none
+    → faults_of (reader_of reader) ≡ of_reader → of_print' ≡ of_print → of_disk' ≡ of_disk
+    → FaultsAre {X = X} (Err e) given (remaining (device_of (reader_of reader'))) (counts of_reader of_print of_disk) (counts (faults_of (reader_of reader')) of_print' of_disk')
+reading_faults remaining first job given reader reader' cycles most print print' disk disk' gone_print gone_disk of_reader of_print of_print' of_disk of_disk' (faults.Object fault) X s count none h p d = absurd none
+reading_faults remaining first job given reader reader' cycles most print print' disk disk' gone_print gone_disk of_reader of_print of_print' of_disk of_disk' faults.BadDate X s count none h p d = absurd none
 reading_faults remaining first job given reader reader' cycles most print print' disk disk' gone_print gone_disk of_reader of_print of_print' of_disk of_disk' (faults.Print sent) X s count none h p d = absurd none
 reading_faults remaining first job given reader reader' cycles most print print' disk disk' gone_print gone_disk of_reader of_print of_print' of_disk of_disk' (faults.Disk sent) X s count none h p d = absurd none
 reading_faults remaining first job given reader reader' cycles most print print' disk disk' gone_print gone_disk of_reader of_print of_print' of_disk of_disk' faults.Read X s count (fault.Device, reads) h p d =
@@ -285,6 +276,6 @@ reading_faults remaining first job given reader reader' cycles most print print'
 reading_faults remaining first job given reader reader' cycles most print print' disk disk' gone_print gone_disk of_reader of_print of_print' of_disk of_disk' faults.Read X s count (fault.TooMany, reads) h p d =
     inr (cc (reads.faults, h, p, d), too_many remaining first job given reader reader' cycles most print print' disk disk' gone_print gone_disk s count reads)
 reading_faults remaining first job given reader reader' cycles most print print' disk disk' gone_print gone_disk of_reader of_print of_print' of_disk of_disk' faults.NoMemory X s count (inl same) h p d =
-    cc (ap (λ r. faults_of (source_of r)) same, h, p, d)
+    cc (ap (λ r. faults_of (reader_of r)) same, h, p, d)
 reading_faults remaining first job given reader reader' cycles most print print' disk disk' gone_print gone_disk of_reader of_print of_print' of_disk of_disk' faults.NoMemory X s count (inr (next, reads)) h p d =
     cc (reads.faults, h, p, d)

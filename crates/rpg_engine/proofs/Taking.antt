@@ -2,20 +2,20 @@
 use Rattle.std.proofs.Common.{◌≡◌, ℕ, false, List, [], ◌∷◌, ◌++◌, Option, Some, None, Result, Ok, Err, IfOk, OnOk, refl, sym, ap, subst}
 use Rattle.std.proofs.KnownBytes.{Consumes-nil}
 use Rattle.std.proofs.lemmas.Bool.{and_right}
-use Rattle.rpg_records.specs.Earlier.{Selected, left_by}
-use Rattle.rpg_cycle.specs.Ends.{End, GoesOn}
-use Rattle.rpg_records.specs.Identifying.{is_good}
+use Rattle.rpg_cycle_records.specs.Earlier.{Selected, left_by}
+use Rattle.rpg_cycle.specs.Ends.{GoesOn, PhaseEnd}
+use Rattle.rpg_cycle_records.specs.Identifying.{is_good_record}
 use Rattle.rpg_cycle.specs.Job.{AtWork, Cycles}
 use Rattle.rpg_cycle.specs.Phases.{Cycle, UnderWay, begun, needs_record}
-use Rattle.rpg_form.specs.Paper.{Position}
-use Rattle.rpg_files.specs.Reading.{Advances, Gives, Input, ReadsNext, answer_of, count_of, input_of, is_record, limit_of, record_of}
+use Rattle.rpg_paper.specs.Paper.{Position}
+use Rattle.rpg_files.specs.Reading.{Advances, GivesNext, Input, ReadsNext, answer_of, count_of, input_of, is_record, limit_of, record_of}
 use Rattle.rpg_files.specs.Records.{records}
 use Rattle.rpg_files.specs.declared.reader.Next.TheVariants as next
 use Rattle.rpg_files.specs.declared.reader.RecordReader.{RecordReader}
 use Rattle.rpg_machine.specs.Config.{Output}
 use Rattle.rpg_machine.specs.Running.{config_on}
-use Rattle.rpg_program.specs.Kept.{IsProgram}
-use Rattle.rpg_program.specs.Object.{Object}
+use Rattle.rpg_object_program.specs.Kept.{IsProgram}
+use Rattle.rpg_object_program.specs.Object.{Object}
 use Rattle.rpg_engine.specs.Streaming.{HeadCycle, TakesCycle}
 use Rattle.rpg_engine.proofs.Passing.{bad_are_one, bad_stops, never_on}
 use Rattle.rpg_cycle.proofs.Unneeded.{unneeded}
@@ -45,19 +45,19 @@ stands_still i F holds = record {
 }
 
 -- a cycle of a job with what is next, as the written machine has it
-abbrev Does : AtWork → List Selected → Option Position → Option (List ℕ) → End → UnderWay → Output → Type 0
+abbrev Does : AtWork → List Selected → Option Position → Option (List ℕ) → PhaseEnd → UnderWay → Output → Type 0
 Does job earlier previous next e d out = Cycle job.program earlier next (begun job.program (config_on previous job.config)) e d out
 
-not_at_end : (job : AtWork) (earlier : List Selected) (previous : Option Position) (e : End) (d : UnderWay) (out : Output) → Does job earlier previous None e d out → e ≡ GoesOn → ⊥
+not_at_end : (job : AtWork) (earlier : List Selected) (previous : Option Position) (e : PhaseEnd) (d : UnderWay) (out : Output) → Does job earlier previous None e d out → e ≡ GoesOn → ⊥
 not_at_end job earlier previous e d out cycle on =
     never_on job.program (left_by job.program earlier) (begun job.program (config_on previous job.config)) d out
-    (subst (λ (x : End). Does job earlier previous None x d out) on cycle)
+    (subst (λ (x : PhaseEnd). Does job earlier previous None x d out) on cycle)
 
-not_bad : (job : AtWork) (earlier : List Selected) (previous : Option Position) (r : List ℕ) (e : End) (d : UnderWay) (out : Output) → is_good job.program r ≡ false
+not_bad : (job : AtWork) (earlier : List Selected) (previous : Option Position) (r : List ℕ) (e : PhaseEnd) (d : UnderWay) (out : Output) → is_good_record job.program r ≡ false
     → Does job earlier previous (Some r) e d out → e ≡ GoesOn → ⊥
 not_bad job earlier previous r e d out bad cycle on =
     bad_stops job.program (left_by job.program earlier) r (begun job.program (config_on previous job.config)) d out bad
-    (subst (λ (x : End). Does job earlier previous (Some r) x d out) on cycle)
+    (subst (λ (x : PhaseEnd). Does job earlier previous (Some r) x d out) on cycle)
 
 -- ---- with a record
 
@@ -71,7 +71,7 @@ takes_record remaining job job' old new reads answer cycles = record {
         record {
           next = Some (record_of new);
           does = does;
-          input = told_of (input_of remaining old) (input_of remaining new) (Gives (limit_of old) (count_of old) (record_of new) (Ok next.Record))
+          input = told_of (input_of remaining old) (input_of remaining new) (GivesNext (limit_of old) (count_of old) (record_of new) (Ok next.Record))
               (λ x y. HeadCycle job.program earlier (config_on previous job.config) went.0 does.there does.out (records x) (records y))
               (λ x y gives. subst (λ (rs : List (List ℕ)). HeadCycle job.program earlier (config_on previous job.config) went.0 does.there does.out rs (records y)) (sym gives.2)
               (does.cycle, λ on. refl)) reads.input;
@@ -86,12 +86,12 @@ takes_record remaining job job' old new reads answer cycles = record {
 -- ---- where the job ends
 
 -- the cycle doesn't go on, and it is one with what stands next
-pub record EndsWith {R : Type 0} (remaining : R → Option (List ℕ)) (job : AtWork) (old : RecordReader R) (earlier : List Selected) (previous : Option Position) (e : End) (d : UnderWay) (out : Output) (new : RecordReader R) : Type 0 where
+pub record EndsWith {R : Type 0} (remaining : R → Option (List ℕ)) (job : AtWork) (old : RecordReader R) (earlier : List Selected) (previous : Option Position) (e : PhaseEnd) (d : UnderWay) (out : Output) (new : RecordReader R) : Type 0 where
   pub never : e ≡ GoesOn → ⊥
   pub input : Advances (input_of remaining old) (input_of remaining new) (λ x y. HeadCycle job.program earlier (config_on previous job.config) e d out (records x) (records y))
 
 ends_with : {R : Type 0} (remaining : R → Option (List ℕ)) (job job' : AtWork) (old new : RecordReader R) (with_next : Option (List ℕ)) → limit_of new ≡ limit_of old → Cycles job with_next job'
-    → ((earlier : List Selected) (previous : Option Position) (e : End) (d : UnderWay) (out : Output) → Does job earlier previous with_next e d out → EndsWith remaining job old earlier previous e d out new)
+    → ((earlier : List Selected) (previous : Option Position) (e : PhaseEnd) (d : UnderWay) (out : Output) → Does job earlier previous with_next e d out → EndsWith remaining job old earlier previous e d out new)
     → TakesCycle remaining job old job' new
 ends_with remaining job job' old new with_next limit cycles ends = record {
   does = λ earlier left previous last.
@@ -111,7 +111,7 @@ ends_with remaining job job' old new with_next limit cycles ends = record {
       );
 }
 
-no_character : (p : Object) → is_good p (0 ∷ []) ≡ false
+no_character : (p : Object) → is_good_record p (0 ∷ []) ≡ false
 no_character p = and_right _ _ refl
 
 pub takes_bad : {R : Type 0} (remaining : R → Option (List ℕ)) (job job' : AtWork) (old new : RecordReader R) → limit_of old ≡ job.program.record_length → ReadsNext remaining old (Ok next.Bad) new
@@ -121,11 +121,11 @@ takes_bad remaining job job' old new limit reads cycles = ends_with remaining jo
     let never = not_bad job earlier previous (0 ∷ []) e d out (no_character job.program) cycle in
     record {
       never = never;
-      input = told_of (input_of remaining old) (input_of remaining new) (Gives (limit_of old) (count_of old) (record_of new) (Ok next.Bad))
+      input = told_of (input_of remaining old) (input_of remaining new) (GivesNext (limit_of old) (count_of old) (record_of new) (Ok next.Bad))
           (λ x y. HeadCycle job.program earlier (config_on previous job.config) e d out (records x) (records y))
           (λ x y gives.
           let bad = gives.1 in
-          let bad_too : is_good job.program bad.0 ≡ false = rw limit at bad.3 in
+          let bad_too : is_good_record job.program bad.0 ≡ false = rw limit at bad.3 in
           subst (λ (rs : List (List ℕ)). HeadCycle job.program earlier (config_on previous job.config) e d out rs (records y)) (sym bad.2) (
             bad_are_one job.program (left_by job.program earlier) (0 ∷ []) bad.0 (no_character job.program) bad_too (begun job.program (config_on previous job.config)) e d out cycle,
             λ on. absurd (never on),
@@ -137,7 +137,7 @@ pub takes_end : {R : Type 0} (remaining : R → Option (List ℕ)) (job job' : A
 takes_end remaining job job' old new reads cycles = ends_with remaining job job' old new None reads.limit cycles
     (λ earlier previous e d out cycle. record {
       never = not_at_end job earlier previous e d out cycle;
-      input = told_of (input_of remaining old) (input_of remaining new) (Gives (limit_of old) (count_of old) (record_of new) (Ok next.End))
+      input = told_of (input_of remaining old) (input_of remaining new) (GivesNext (limit_of old) (count_of old) (record_of new) (Ok next.End))
           (λ x y. HeadCycle job.program earlier (config_on previous job.config) e d out (records x) (records y))
           (λ x y gives. subst (λ (bytes : List ℕ). HeadCycle job.program earlier (config_on previous job.config) e d out (records bytes) (records y)) (sym gives) cycle) reads.input;
     })
@@ -152,7 +152,7 @@ takes_no_record remaining job job' reader program needs cycles = ends_with remai
           (λ x. with_any earlier previous e d out (records x) cycle);
     })
   where
-    with_any : (earlier : List Selected) (previous : Option Position) (e : End) (d : UnderWay) (out : Output) (rs : List (List ℕ)) → Does job earlier previous None e d out
+    with_any : (earlier : List Selected) (previous : Option Position) (e : PhaseEnd) (d : UnderWay) (out : Output) (rs : List (List ℕ)) → Does job earlier previous None e d out
         → HeadCycle job.program earlier (config_on previous job.config) e d out rs rs
     with_any earlier previous e d out [] cycle = cycle
     with_any earlier previous e d out (r ∷ rs) cycle = (

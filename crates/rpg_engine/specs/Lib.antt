@@ -1,7 +1,12 @@
--- What the engine refuses, what it reports of a run, and what a run does a cycle at a time.
-pub use Rattle.rpg_cycle.specs.declared.ends.JobEnd
+-- What is wrong with an object, what the engine refuses, what it reports of a run, and what a run does a cycle at a time. And the
+-- definitions from below that a caller needs.
 pub mod Faults
 pub mod Inputs
+pub mod Objects
 pub mod Refusing
 pub mod Reporting
 pub mod Streaming
+pub use Rattle.rpg_cycle.specs.declared.ends.JobEnd
+pub use Rattle.rpg_effect.specs.Halts
+pub use Rattle.rpg_object_format.specs.CodeTexts
+pub use Rattle.rpg_verify_rules.specs.Rules

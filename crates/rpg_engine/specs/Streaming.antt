@@ -1,13 +1,13 @@
 -- What is done with an input a cycle at a time, and what is sent of a cycle's output.
 use Rattle.std.specs.Prelude.{◌≡◌, ℕ, ◌+◌, ◌<◌, ◌⊎◌, true, List, [], ◌∷◌, Option, None, Some, Result, Ok, Err}
 use Rattle.std.specs.Io.KnownBytes.{Appends}
-use Rattle.rpg_records.specs.Earlier.{Selected, left_by}
-use Rattle.rpg_cycle.specs.Ends.{End, GoesOn}
+use Rattle.rpg_cycle_records.specs.Earlier.{Selected, left_by}
+use Rattle.rpg_cycle.specs.Ends.{GoesOn, PhaseEnd}
 use Rattle.rpg_cycle.specs.Job.{AtWork, DoesCycle}
 use Rattle.rpg_cycle.specs.Phases.{Cycle, UnderWay, begun}
 use Rattle.rpg_cycle.specs.Stages.{Ended, Going, Stage, job_end}
 use Rattle.rpg_cycle.specs.declared.ends.JobEnd.{JobEnd}
-use Rattle.rpg_form.specs.Paper.{Position}
+use Rattle.rpg_paper.specs.Paper.{Position}
 use Rattle.rpg_effect.specs.Put.{line_of}
 use Rattle.rpg_files.specs.Reading.{Advances, ReadsNext, answer_of, count_of, input_of, is_record, limit_of}
 use Rattle.rpg_files.specs.Records.{max_records, records}
@@ -17,26 +17,26 @@ use Rattle.rpg_files.specs.declared.reader.ReadFault.{ReadFault}
 use Rattle.rpg_files.specs.declared.reader.RecordReader.{RecordReader}
 use Rattle.rpg_machine.specs.Config.{Config, Output}
 use Rattle.rpg_machine.specs.Running.{config_on}
-use Rattle.rpg_program.specs.Object.{Object}
+use Rattle.rpg_object_program.specs.Object.{Object}
 use Rattle.rpg_engine.specs.declared.fault.RunFault.{RunFault}
 use Rattle.rpg_engine.specs.declared.fault.RunFault.TheVariants as faults
 
 -- ---- one cycle
 
 -- the stage of a job that goes on, or that has ended so
-abbrev pub stage_of : Option JobEnd → Stage
-stage_of None = Going
-stage_of (Some e) = Ended (job_end e)
+abbrev pub ended_stage : Option JobEnd → Stage
+ended_stage None = Going
+ended_stage (Some e) = Ended (job_end e)
 
 -- a cycle with the first of these records, or with none where there is none; where it goes on, the others are left
-abbrev pub HeadCycle : Object → List Selected → Config → End → UnderWay → Output → List (List ℕ) → List (List ℕ) → Type 0
+abbrev pub HeadCycle : Object → List Selected → Config → PhaseEnd → UnderWay → Output → List (List ℕ) → List (List ℕ) → Type 0
 HeadCycle p earlier c e d out [] left = Cycle p earlier None (begun p c) e d out
 HeadCycle p earlier c e d out (r ∷ rs) left = Cycle p earlier (Some r) (begun p c) e d out × (e ≡ GoesOn → left ≡ rs)
 
 -- A job behind those earlier records, and behind a line placed before, did a cycle with what stands next in the input, whatever
 -- follows the bytes that were read; one that goes on took a record.
 pub record TakesNext {R : Type 0} (remaining : R → Option (List ℕ)) (earlier : List Selected) (previous : Option Position) (job : AtWork)
-    (reader : RecordReader R) (e : End) (job' : AtWork) (reader' : RecordReader R) : Type 0 where
+    (reader : RecordReader R) (e : PhaseEnd) (job' : AtWork) (reader' : RecordReader R) : Type 0 where
   pub next : Option (List ℕ)
   pub does : DoesCycle job earlier previous next e job'
   pub input : Advances (input_of remaining reader) (input_of remaining reader')
@@ -50,7 +50,7 @@ pub record TakesNext {R : Type 0} (remaining : R → Option (List ℕ)) (earlier
 pub record TakesCycle {R : Type 0} (remaining : R → Option (List ℕ)) (job : AtWork) (reader : RecordReader R) (job' : AtWork)
     (reader' : RecordReader R) : Type 0 where
   pub does : (earlier : List Selected) → job.left ≡ left_by job.program earlier → (previous : Option Position) → job.last ≡ line_of previous
-      → (e : End) × TakesNext remaining earlier previous job reader e job' reader'
+      → (e : PhaseEnd) × TakesNext remaining earlier previous job reader e job' reader'
 
 -- no cycle was done: the reader failed, or memory ran out, before or after it was asked
 abbrev pub TakesNone : {R : Type 0} → (R → Option (List ℕ)) → RecordReader R → RunFault → RecordReader R → Type 0

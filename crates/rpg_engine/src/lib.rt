@@ -1,16 +1,22 @@
-//! The engine: from object bytes and input bytes to the report and the output bytes, a record at a time.
+//! The engine: from object bytes to what the verifier says of them, and from these and input bytes to the report and the output bytes,
+//! a record at a time.
 #![tactic(auto)]
 
 mod cycle;
 mod engine;
 mod fault;
+mod object;
 mod report;
 mod run;
 mod sending;
 
-pub use engine::execute;
+pub use engine::{execute, execute_program};
 pub use fault::RunFault;
+pub use object::{ObjectFault, accept, decode_object, has_disk_file, verify_bytes};
 pub use report::Report;
 pub use rpg_cycle::{
-    Job, JobEnd, run_records, runs_are_one, runs_are_short, unneeded_records_are_ignored,
+    Halt, Job, JobEnd, run_records, runs_are_one, runs_are_short, unneeded_records_are_ignored,
 };
+pub use rpg_object::Code;
+pub use rpg_object_program::Program;
+pub use rpg_verify::{BrokenRule, Rule, Verified};

@@ -1,14 +1,14 @@
 //! A whole run, a cycle at a time.
 
-ghost use Rattle.std.specs.Prelude.{◌≡◌, ℤ, ◌-◌, ◌^◌, ◌<◌, IfErr, IfOk, true};
-ghost use Rattle.rpg_cycle.specs.Job.{first_fields, started};
+ghost use Rattle.std.specs.Prelude.{◌≡◌, ℤ, ◌-◌, ◌^◌, ◌<◌, IfErr, IfOk};
+ghost use Rattle.rpg_cycle.specs.Job.{first_fields, job_started};
 ghost use Rattle.rpg_files.specs.Counting.{device_of, faults_of};
-ghost use Rattle.rpg_files.specs.Reading.{IsFresh, source_of};
-ghost use Rattle.rpg_program.specs.Kept.{IsProgram};
+ghost use Rattle.rpg_files.specs.Reading.{IsFresh, reader_of};
+ghost use Rattle.rpg_object_program.specs.Kept.{IsProgram};
 ghost use Rattle.rpg_verify.specs.Bound as words;
 ghost use Rattle.rpg_engine.specs.Faults.{FaultsAre, Counts};
 ghost use Rattle.rpg_engine.specs.Inputs.{OfInput};
-ghost use Rattle.rpg_engine.specs.Reporting.{Reports, SendsParts};
+ghost use Rattle.rpg_engine.specs.Reporting.{Reports, SendsFirstParts};
 ghost use Rattle.rpg_engine.specs.Streaming.{IsOfRun};
 
 use crate::cycle::next_cycle;
@@ -28,26 +28,26 @@ pub(crate) fn run<S: Store + Drop, R: Read, W1: Write, W2: Write>(
     disk: &mut Counted<W2>,
     bound: u64,
 ) -> Result<Report, RunFault>
-    requires input { faults_of (source_of records.old) < 2 ^ 64 - 1 }
+    requires input { faults_of (reader_of records.old) < 2 ^ 64 - 1 }
     requires print { faults_of print.old < 2 ^ 64 - 1 }
     requires disk { faults_of disk.old < 2 ^ 64 - 1 }
-    requires starts { (day : ℤ) × (job.old ≡ started job.old.program day (first_fields job.old.program)) }
+    requires starts { (day : ℤ) × (job.old ≡ job_started job.old.program day (first_fields job.old.program)) }
     requires program { IsProgram job.old.program }
     requires fresh { IsFresh job.old.program.record_length records.old }
     requires bound { bound ≡ words.bound job.old.program }
     ensures same_reader { records.new.reader.ghost_name ≡ records.old.reader.ghost_name }
-    ensures report { IfOk result (λ report. (day : ℤ) → job.old ≡ started job.old.program day (first_fields job.old.program)
-        → OfInput (R.remaining (device_of (source_of records.old))) (R.remaining (device_of (source_of records.new)))
+    ensures report { IfOk result (λ report. (day : ℤ) → job.old ≡ job_started job.old.program day (first_fields job.old.program)
+        → OfInput (R.remaining (device_of (reader_of records.old))) (R.remaining (device_of (reader_of records.new)))
         (Reports job.old.program day report (W1.contents (device_of print.old)) (W1.contents (device_of print.new))
         (W2.contents (device_of disk.old)) (W2.contents (device_of disk.new)))) }
-    ensures early { IfErr result (λ e. (day : ℤ) → job.old ≡ started job.old.program day (first_fields job.old.program)
-        → OfInput (R.remaining (device_of (source_of records.old))) (R.remaining (device_of (source_of records.new)))
-        (SendsParts job.old.program day e (W1.contents (device_of print.old)) (W1.contents (device_of print.new))
+    ensures early { IfErr result (λ e. (day : ℤ) → job.old ≡ job_started job.old.program day (first_fields job.old.program)
+        → OfInput (R.remaining (device_of (reader_of records.old))) (R.remaining (device_of (reader_of records.new)))
+        (SendsFirstParts job.old.program day e (W1.contents (device_of print.old)) (W1.contents (device_of print.new))
         (W2.contents (device_of disk.old)) (W2.contents (device_of disk.new)))) }
     ensures only { IfErr result IsOfRun }
-    ensures faults { let before : Counts = record { reader = faults_of (source_of records.old); print = faults_of print.old; disk = faults_of disk.old } in
-        let after : Counts = record { reader = faults_of (source_of records.new); print = faults_of print.new; disk = faults_of disk.new } in
-        FaultsAre result (R.remaining (device_of (source_of records.old))) (R.remaining (device_of (source_of records.new))) before after }
+    ensures faults { let before : Counts = record { reader = faults_of (reader_of records.old); print = faults_of print.old; disk = faults_of disk.old } in
+        let after : Counts = record { reader = faults_of (reader_of records.new); print = faults_of print.new; disk = faults_of disk.new } in
+        FaultsAre result (R.remaining (device_of (reader_of records.old))) (R.remaining (device_of (reader_of records.new))) before after }
 {
     let mut cycles = 0u64;
     let mut most = 0u64;

@@ -1,1 +1,7 @@
+pub mod DeckLemmas
+pub mod EntryLemmas
+pub mod EveryLemmas
 pub mod LeastLemmas
+pub mod LevelLemmas
+pub mod Numbering
+pub mod TypeLemmas

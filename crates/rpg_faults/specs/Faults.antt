@@ -5,15 +5,15 @@ use Rattle.rpg_cards.specs.declared.spec_card.SpecCard.{SpecCard}
 use Rattle.rpg_faults.specs.declared.code.FaultCode.{FaultCode}
 use Rattle.rpg_faults.specs.declared.code.FaultCode.TheVariants.{F1, F2, F3, F4, F5, F6, F7, F8, F9, F10, F11, F12, F13, F14, F15, F16, F17, F18}
 use Rattle.rpg_faults.specs.declared.fault.Fault.{Fault}
-use Rattle.rpg_flow.specs.Kept.{Rule}
-use Rattle.rpg_faults.specs.Codes.{number}
-use Rattle.rpg_limits.specs.Files.{lacks_input}
+use Rattle.rpg_faults_flow.specs.Kept.{Rule}
+use Rattle.rpg_faults.specs.Codes.{fault_number}
+use Rattle.rpg_faults_limits.specs.Files.{lacks_input}
 use Rattle.rpg_faults.specs.Rules.{rule, source_rule}
 
 -- ---- the set: pairs of a card and a code
 
 -- a card with this number breaks a rule
-pub record IsBroken (r : Rule) (cards : List SpecCard) (number : ℕ) : Type 0 where
+pub record BreaksRule (r : Rule) (cards : List SpecCard) (number : ℕ) : Type 0 where
   pub before : List SpecCard
   pub card : SpecCard
   pub after : List SpecCard
@@ -23,19 +23,19 @@ pub record IsBroken (r : Rule) (cards : List SpecCard) (number : ℕ) : Type 0 w
 
 -- what is wrong with the source as a whole has card 0
 abbrev pub HasFault : List SpecCard → Fault → Type 0
-HasFault cards f = IsBroken (rule f.code) cards f.card ⊎ ((f.card ≡ 0) × (source_rule f.code cards ≡ true))
+HasFault cards f = BreaksRule (rule f.code) cards f.card ⊎ ((f.card ≡ 0) × (source_rule f.code cards ≡ true))
 
 abbrev pub Faultless : List SpecCard → Type 0
 Faultless cards = (f : Fault) → ¬ HasFault cards f
 
 -- ---- the least of them, by card and then by code
 
-abbrev pub NotAfter : Fault → Fault → Type 0
-NotAfter f g = (f.card < g.card) ⊎ ((f.card ≡ g.card) × (number f.code ≤ number g.code))
+abbrev pub FaultNotAfter : Fault → Fault → Type 0
+FaultNotAfter f g = (f.card < g.card) ⊎ ((f.card ≡ g.card) × (fault_number f.code ≤ fault_number g.code))
 
 pub record IsLeastFault (cards : List SpecCard) (f : Fault) : Type 0 where
   pub is : HasFault cards f
-  pub least : (g : Fault) → HasFault cards g → NotAfter f g
+  pub least : (g : Fault) → HasFault cards g → FaultNotAfter f g
 
 -- all codes, the least first
 abbrev pub codes : List FaultCode
@@ -46,9 +46,9 @@ codes = F1 ∷ F2 ∷ F3 ∷ F4 ∷ F5 ∷ F6 ∷ F7 ∷ F8 ∷ F9 ∷ F10 ∷ F
 abbrev pub fault_on : SpecCard → FaultCode → Fault
 fault_on c code = record { card = c.number; code = code }
 
-abbrev pub fault_from : List SpecCard → List SpecCard → Option Fault
-fault_from before [] = None
-fault_from before (c ∷ after) = option_or (option_map (fault_on c) (find (λ code. rule code before c after) codes)) (fault_from (before ++ c ∷ []) after)
+abbrev pub least_fault_from : List SpecCard → List SpecCard → Option Fault
+least_fault_from before [] = None
+least_fault_from before (c ∷ after) = option_or (option_map (fault_on c) (find (λ code. rule code before c after) codes)) (least_fault_from (before ++ c ∷ []) after)
 
 abbrev pub least_fault : List SpecCard → Option Fault
-least_fault cards = if lacks_input cards then Some (record { card = 0; code = F7 }) else fault_from [] cards
+least_fault cards = if lacks_input cards then Some (record { card = 0; code = F7 }) else least_fault_from [] cards

@@ -1,4 +1,15 @@
+pub mod Cards
 pub mod Codes
-pub mod Rules
+pub mod Data
+pub mod Decks
+pub mod Entries
+pub mod Every
+pub mod EverySource
 pub mod Faults
+pub mod Lengths
+pub mod Places
+pub mod Rules
 pub mod Seen
+pub mod Source
+pub mod SourceCodes
+pub mod State

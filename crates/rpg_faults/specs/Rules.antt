@@ -3,23 +3,23 @@ use Rattle.std.specs.Prelude.{Bool, false, ◌||◌, List, ◌∷◌, ◌++◌}
 use Rattle.rpg_cards.specs.declared.spec_card.SpecCard.{SpecCard}
 use Rattle.rpg_faults.specs.declared.code.FaultCode.{FaultCode}
 use Rattle.rpg_faults.specs.declared.code.FaultCode.TheVariants.{F1, F2, F3, F4, F5, F6, F7, F8, F9, F10, F11, F12, F13, F14, F15, F16, F17, F18}
-use Rattle.rpg_flow.specs.Columns as calculations
-use Rattle.rpg_flow.specs.Flow.{calls_itself, goes_apart, goes_nowhere, names_twice}
-use Rattle.rpg_flow.specs.Kept.{Rule}
-use Rattle.rpg_flow.specs.Order.{breaks_order}
-use Rattle.rpg_flow.specs.Rounding.{bad_rounding}
-use Rattle.rpg_limits.specs.Files.{breaks_files, lacks_input, moves_disk}
-use Rattle.rpg_limits.specs.Indicators.{bad_indicator}
-use Rattle.rpg_limits.specs.Limits.{passes_limit}
-use Rattle.rpg_limits.specs.Names.{bad_size, redefines}
-use Rattle.rpg_limits.specs.Order.{strays}
-use Rattle.rpg_operands.specs.Columns as operands
-use Rattle.rpg_operands.specs.Editing.{bad_editing}
-use Rattle.rpg_operands.specs.Indexes.{bad_index}
-use Rattle.rpg_operands.specs.Kinds.{wrong_operand}
-use Rattle.rpg_operands.specs.Names.{lacks_name}
-use Rattle.rpg_places.specs.Data.{breaks_data}
-use Rattle.rpg_places.specs.Places.{misplaces}
+use Rattle.rpg_faults_flow.specs.Columns as calculations
+use Rattle.rpg_faults_flow.specs.Flow.{calls_itself, goes_apart, goes_nowhere, names_twice}
+use Rattle.rpg_faults_flow.specs.Kept.{Rule}
+use Rattle.rpg_faults_flow.specs.Order.{breaks_order}
+use Rattle.rpg_faults_flow.specs.Rounding.{bad_rounding}
+use Rattle.rpg_faults_limits.specs.Files.{breaks_files, lacks_input, moves_disk}
+use Rattle.rpg_faults_limits.specs.Indicators.{bad_indicator}
+use Rattle.rpg_faults_limits.specs.Limits.{passes_limit}
+use Rattle.rpg_faults_limits.specs.Names.{bad_size, redefines}
+use Rattle.rpg_faults_limits.specs.Order.{strays}
+use Rattle.rpg_faults_operands.specs.Columns as operands
+use Rattle.rpg_faults_operands.specs.Editing.{bad_editing}
+use Rattle.rpg_faults_operands.specs.Indexes.{bad_index}
+use Rattle.rpg_faults_operands.specs.Kinds.{wrong_operand}
+use Rattle.rpg_faults_operands.specs.Names.{lacks_name}
+use Rattle.rpg_faults.specs.Data.{breaks_data}
+use Rattle.rpg_faults.specs.Places.{misplaces}
 
 -- what a card breaks, seen with the cards before it and those behind it
 unfoldable pub rule : FaultCode → Rule
@@ -31,7 +31,7 @@ rule F5 before c after = bad_index (before ++ c ∷ after) c after
 rule F6 before c after = passes_limit (before ++ c ∷ after) before c after
 rule F7 before c after = breaks_files (before ++ c ∷ after) before c
 rule F8 before c after = bad_indicator (before ++ c ∷ after) c
-rule F9 before c after = calculations.bad_columns before c after || (operands.bad_columns (before ++ c ∷ after) c after || moves_disk (before ++ c ∷ after) before c)
+rule F9 before c after = calculations.bad_calculation_columns before c after || (operands.bad_operand_columns (before ++ c ∷ after) c after || moves_disk (before ++ c ∷ after) before c)
 rule F10 before c after = goes_nowhere (before ++ c ∷ after) before c after
 rule F11 before c after = names_twice before c after
 rule F12 before c after = breaks_order before c after || strays before c

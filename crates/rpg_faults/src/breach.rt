@@ -2,12 +2,12 @@
 
 ghost use Rattle.std.specs.Prelude.{◌≡◌, ◌∷◌};
 ghost use Rattle.rpg_faults.specs.Rules as rules;
-ghost use Rattle.rpg_faults.specs.Seen.{IsSeen};
+ghost use Rattle.rpg_faults.specs.Seen.{AreCardsSeen};
 
 use crate::code::FaultCode;
 use crate::seen::Seen;
 use rpg_cards::{IndexedCards, SpecCard};
-use rpg_flow::Labels;
+use rpg_faults_flow::Labels;
 
 /// Whether a card breaks the rule of a code.
 #[tactic(auto, unfolding(crate::specs::Rules::rule))]
@@ -20,44 +20,39 @@ pub(crate) fn breaks(
     after: &[SpecCard],
 ) -> bool
     requires labels { labels.now ≡ source.now }
-    requires seen { IsSeen source.now (card.now ∷ after.now) seen.now }
+    requires seen { AreCardsSeen source.now (card.now ∷ after.now) seen.now }
     ensures { result ≡ rules.rule code seen.now.before.now card.now after.now }
 {
     let before = seen.before;
     match code {
-        FaultCode::F1 => rpg_operands::lacks_name(source, card, after),
-        FaultCode::F2 => rpg_limits::redefines(source, &seen.limits, before, card, after),
-        FaultCode::F3 => rpg_limits::bad_size(card),
-        FaultCode::F4 => rpg_operands::wrong_operand(source, card, after),
-        FaultCode::F5 => rpg_operands::bad_index(source, card, after),
+        FaultCode::F1 => rpg_faults_operands::lacks_name(source, card, after),
+        FaultCode::F2 => rpg_faults_limits::redefines(source, &seen.limits, before, card, after),
+        FaultCode::F3 => rpg_faults_limits::bad_size(card),
+        FaultCode::F4 => rpg_faults_operands::wrong_operand(source, card, after),
+        FaultCode::F5 => rpg_faults_operands::bad_index(source, card, after),
         FaultCode::F6 => {
-            rpg_limits::passes_limit(source, &seen.sheets, &seen.limits, before, card, after)
+            rpg_faults_limits::passes_limit(source, &seen.sheets, &seen.limits, before, card, after)
         }
-        FaultCode::F7 => rpg_limits::breaks_files(source, &seen.sheets, before, card),
-        FaultCode::F8 => rpg_limits::bad_indicator(source, card),
+        FaultCode::F7 => rpg_faults_limits::breaks_files(source, &seen.sheets, before, card),
+        FaultCode::F8 => rpg_faults_limits::bad_indicator(source, card),
         FaultCode::F9 => {
-            rpg_flow::bad_columns(&seen.flow, before, card, after)
-                || rpg_operands::bad_columns(source, card, after)
-                || rpg_limits::moves_disk(source, &seen.sheets, before, card)
+            rpg_faults_flow::bad_columns(&seen.flow, before, card, after)
+                || rpg_faults_operands::bad_columns(source, card, after)
+                || rpg_faults_limits::moves_disk(source, &seen.sheets, before, card)
         }
-        FaultCode::F10 => rpg_flow::goes_nowhere(labels, before, card, after),
-        FaultCode::F11 => rpg_flow::names_twice(source, labels, &seen.flow, before, card, after),
-        FaultCode::F12 => {
-            rpg_flow::breaks_order(&seen.flow, before, card, after)
-                || rpg_limits::strays(source, &seen.sheets, before, card)
-        }
-        FaultCode::F13 => rpg_flow::goes_apart(labels, &seen.flow, before, card, after),
-        FaultCode::F14 => rpg_flow::calls_itself(labels, &seen.flow, before, card, after),
-        FaultCode::F15 => rpg_flow::bad_rounding(&seen.flow, before, card, after),
-        FaultCode::F16 => rpg_places::misplaces(
-            source,
-            &seen.sheets,
-            &seen.places,
-            before,
-            card,
-            after,
+        FaultCode::F10 => rpg_faults_flow::goes_nowhere(labels, before, card, after),
+        FaultCode::F11 => rpg_faults_flow::names_twice(
+            source, labels, &seen.flow, before, card, after,
         ),
-        FaultCode::F17 => rpg_operands::bad_editing(source, card),
-        FaultCode::F18 => rpg_places::breaks_data(source, &seen.places, before, card),
+        FaultCode::F12 => {
+            rpg_faults_flow::breaks_order(&seen.flow, before, card, after)
+                || rpg_faults_limits::strays(source, &seen.sheets, before, card)
+        }
+        FaultCode::F13 => rpg_faults_flow::goes_apart(labels, &seen.flow, before, card, after),
+        FaultCode::F14 => rpg_faults_flow::calls_itself(labels, &seen.flow, before, card, after),
+        FaultCode::F15 => rpg_faults_flow::bad_rounding(&seen.flow, before, card, after),
+        FaultCode::F16 => crate::misplaces(source, &seen.sheets, &seen.places, before, card, after),
+        FaultCode::F17 => rpg_faults_operands::bad_editing(source, card),
+        FaultCode::F18 => crate::breaks_data(source, &seen.places, before, card),
     }
 }

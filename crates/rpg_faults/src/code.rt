@@ -50,14 +50,14 @@ pub enum FaultCode {
 
 impl FaultCode {
     pub fn number(self) -> u8
-        ensures { result ≡ codes.number self }
+        ensures { result ≡ codes.fault_number self }
     {
         self as u8
     }
 
     /// The letter F and the number.
     pub fn text(self) -> ArrayString<4>
-        ensures value { result.bytes ≡ codes.text self }
+        ensures value { result.bytes ≡ codes.fault_code_text self }
         ensures len { length result.bytes ≤ 4 }
     {
         let mut text = ArrayString::new();
@@ -108,7 +108,7 @@ impl FaultCode {
 }
 
 impl fmt::Display for FaultCode {
-    ghost output = { λ code. Some (codes.text code) };
+    ghost output = { λ code. Some (codes.fault_code_text code) };
 
     fn fmt<W: fmt::Write>(&self, f: &mut fmt::Formatter<W>) -> fmt::Result {
         f.write_str(self.text().as_str())

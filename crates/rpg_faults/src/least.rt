@@ -4,16 +4,16 @@ ghost use Rattle.std.specs.Prelude.{◌≡◌, [], ◌++◌, ◌∷◌, ◌≤�
 ghost use Rattle.rpg_cards.specs.Cards.{Numbered};
 ghost use Rattle.rpg_faults.specs.Faults as faults;
 ghost use Rattle.rpg_faults.specs.Rules as rules;
-ghost use Rattle.rpg_faults.specs.Seen.{IsSeen};
+ghost use Rattle.rpg_faults.specs.Seen.{AreCardsSeen};
 
+use crate::Places;
 use crate::breach::breaks;
 use crate::code::FaultCode;
 use crate::fault::Fault;
 use crate::seen::Seen;
 use rpg_cards::{IndexedCards, SpecCard};
-use rpg_flow::Labels;
-use rpg_limits::lacks_input;
-use rpg_places::Places;
+use rpg_faults_flow::Labels;
+use rpg_faults_limits::lacks_input;
 use std::alloc::{AllocError, Global};
 
 /// The least fault by card, then by code, found in one pass over the cards. An error is for want of memory.
@@ -45,7 +45,7 @@ fn least_fault(source: &IndexedCards, labels: &Labels) -> Option<Fault>
 fn first_on_cards(source: &IndexedCards, labels: &Labels) -> Option<Fault>
     requires labels { labels.now ≡ source.now }
     requires few { length source.now ≤ 2000 }
-    ensures { result ≡ faults.fault_from [] source.now }
+    ensures { result ≡ faults.least_fault_from [] source.now }
 {
     let places = Places::nothing(source);
     let mut seen = Seen::nothing(source, places);
@@ -64,7 +64,7 @@ fn first_on_cards(source: &IndexedCards, labels: &Labels) -> Option<Fault>
 }
 
 /// All codes, the least first.
-fn codes() -> [FaultCode; 18]
+pub(crate) fn codes() -> [FaultCode; 18]
     ensures { result ≡ faults.codes }
 {
     [
@@ -99,7 +99,7 @@ fn least_code(
     after: &[SpecCard],
 ) -> Option<FaultCode>
     requires labels { labels.now ≡ source.now }
-    requires seen { IsSeen source.now (card.now ∷ after.now) seen.now }
+    requires seen { AreCardsSeen source.now (card.now ∷ after.now) seen.now }
     ensures { result ≡ find (λ code. rules.rule code seen.now.before.now card.now after.now) codes.now }
 {
     for code in codes {

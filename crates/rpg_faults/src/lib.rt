@@ -1,12 +1,32 @@
+//! Places that are wrong: columns of records and of lines, and the data of tables.
 //! The least fault of a source.
+//! The cards of a source without a fault, or its least fault.
 #![tactic(auto)]
 
 mod breach;
+mod cards;
 mod code;
+mod columns;
+mod data;
+mod decks;
+mod entries;
+mod every;
+mod every_source;
 mod fault;
 mod least;
+mod lengths;
 mod seen;
+mod source;
+mod source_fault;
+mod state;
 
 pub use code::FaultCode;
+pub use columns::misplaces;
+pub use data::breaks_data;
+pub use every::all_faults;
+pub use every_source::source_faults;
 pub use fault::Fault;
 pub use least::first_fault;
+pub use source::faultless_cards;
+pub use source_fault::{CardFault, SourceCode, SourceFault};
+pub use state::Places;

@@ -1,13 +1,13 @@
 //! What the cards before a card come to.
 
 ghost use Rattle.std.specs.Prelude.{◌≡◌, [], ◌∷◌, ◌++◌, ◌≤◌, length};
-ghost use Rattle.rpg_faults.specs.Seen.{IsSeen};
-ghost use Rattle.rpg_places.specs.State.{IsPlaces};
+ghost use Rattle.rpg_faults.specs.Seen.{AreCardsSeen};
+ghost use Rattle.rpg_faults.specs.State.{IsPlaces};
 
+use crate::Places;
 use rpg_cards::{IndexedCards, Sheets, SpecCard};
-use rpg_flow::Flow;
-use rpg_limits::Limits;
-use rpg_places::Places;
+use rpg_faults_flow::Flow;
+use rpg_faults_limits::Limits;
 
 /// The cards before a card, with what they come to.
 #[derive(Clone, Copy)]
@@ -25,7 +25,7 @@ impl<'a> Seen<'a> {
         requires places { IsPlaces source.now [] places }
         requires few { length source.now ≤ 2000 }
         ensures before { result.before.now ≡ [] }
-        ensures seen { IsSeen source.now source.now result }
+        ensures seen { AreCardsSeen source.now source.now result }
     {
         Seen {
             before: &source.as_slice()[..0],
@@ -38,9 +38,9 @@ impl<'a> Seen<'a> {
 
     /// Before the next card.
     pub fn behind(&self, source: &IndexedCards<'a>, card: &SpecCard, after: &[SpecCard]) -> Self
-        requires { IsSeen source.now (card.now ∷ after.now) self.now }
+        requires { AreCardsSeen source.now (card.now ∷ after.now) self.now }
         ensures before { result.before.now ≡ self.now.before.now ++ card.now ∷ [] }
-        ensures seen { IsSeen source.now after.now result }
+        ensures seen { AreCardsSeen source.now after.now result }
     {
         Seen {
             before: with_card(source, self.before, card, after),

@@ -7,7 +7,7 @@ use Rattle.std.proofs.lemmas.List.{append-nil}
 use Rattle.rpg_files.specs.Answers.{GivesAll, is_device_fault, given_records, input_with, last_answer}
 use Rattle.rpg_files.specs.NextLine.{CanFollow}
 use Rattle.rpg_files.specs.Records.{records, is_good, max_records}
-use Rattle.rpg_files.specs.Reading.{Advances, Gives, Input, is_record}
+use Rattle.rpg_files.specs.Reading.{Advances, GivesNext, Input, is_record}
 use Rattle.rpg_files.proofs.Lines.{some_record}
 use Rattle.rpg_files.specs.declared.reader.Next.{Next}
 use Rattle.rpg_files.specs.declared.reader.Next.TheVariants as next
@@ -79,7 +79,7 @@ last_more limit m r rest good = rw (good, lt_suc m (length rest)) refl
 
 -- the last call
 ends_told : (limit count left : ℕ) → count + left ≡ max_records → (bytes new r : List ℕ) (last : Result Next ReadFault) → is_record last ≡ false → is_device_fault last ≡ false
-    → Gives limit count r last bytes new → Told limit left bytes [] last
+    → GivesNext limit count r last bytes new → Told limit left bytes [] last
 ends_told limit count left all bytes new r (Ok next.Record) no_record told gives = absurd cc
 ends_told limit count zero all bytes new r (Ok next.Bad) no_record told gives = absurd (let lt = gives.0 in omega arith)
 ends_told limit count (suc m) all bytes new r (Ok next.Bad) no_record told gives =
@@ -121,7 +121,7 @@ follows : (limit count left : ℕ) → count + left ≡ max_records → (old : I
 follows limit count left all old bytes known [] new gives =
     subst (λ (input : Input). Follows limit count left old bytes [] input) (sym gives) (record { more = left; all = omega arith; behind = bytes; known = known; given = refl; last = refl })
 follows limit count left all old bytes known (r ∷ rs) new gives =
-    let step = leaves old gives.0 bytes (Gives limit count r (Ok next.Record)) known gives.1 in
+    let step = leaves old gives.0 bytes (GivesNext limit count r (Ok next.Record)) known gives.1 in
     let parts : left ≡ suc (left - 1) = let lt = step.fact.0 in omega arith in
     one_more_given limit count left (left - 1) old gives.0 new bytes step.left r rs parts step.fact.1 step.fact.2 (follows limit (count + 1) (left - 1) (omega arith) gives.0 step.left step.known rs new gives.2)
 
@@ -135,11 +135,11 @@ first_told limit bytes rs new gives =
     (given_of limit done.more (records (new.buffered ++ done.behind)), done.given)
 
 pub all_told : (limit : ℕ) (bytes : List ℕ) (rs : List (List ℕ)) (mid new : Input) (r : List ℕ) (last : Result Next ReadFault) → GivesAll limit 0 rs (input_with bytes) mid
-    → Advances mid new (Gives limit (length rs) r last) → is_record last ≡ false → is_device_fault last ≡ false
+    → Advances mid new (GivesNext limit (length rs) r last) → is_record last ≡ false → is_device_fault last ≡ false
     → (rs ≡ given_records limit (records bytes)) × (last ≡ last_answer limit (records bytes))
 all_told limit bytes rs mid new r last gives adv no_record no_fault =
     let done = from_start limit bytes rs mid gives in
-    let step = leaves mid new done.behind (Gives limit (length rs) r last) done.known adv in
+    let step = leaves mid new done.behind (GivesNext limit (length rs) r last) done.known adv in
     let counts : length rs + done.more ≡ max_records = let all = done.all in omega arith in
     let told = ends_told limit (length rs) done.more counts (mid.buffered ++ done.behind) (new.buffered ++ step.left) r last no_record no_fault step.fact in
     (sym (done.given ∙ ap (λ (behind : List (List ℕ)). rs ++ behind) (sym told.0) ∙ append-nil rs), told.1 ∙ sym done.last)

@@ -86,14 +86,6 @@ last_byte (x ∷ []) zero lt last = refl
 last_byte (x ∷ y ∷ xs) zero lt last = absurd (omega arith)
 last_byte (x ∷ xs) (suc n) lt last = last_byte xs n (omega arith) (omega arith)
 
-pub open_at_return : (limit : ℕ) (xs : List ℕ) (n : ℕ) → n < length xs → length xs ≤ n + 1 → n ≤ limit → list_all is_character (take n xs) ≡ true → get_or xs n 0 ≡ 13 → IsIncomplete limit xs n
-open_at_return limit xs n lt last short all return = record {
-  short = short;
-  within = omega arith;
-  characters = all;
-  behind = inr (last_byte xs n lt last ∙ ap (λ (b : ℕ). b ∷ []) return);
-}
-
 -- characters, and characters behind them
 pub joined : (xs : List ℕ) (a n : ℕ) → list_all is_character (take a xs) ≡ true → list_all is_character (take n (take (length xs - a) (drop a xs))) ≡ true → list_all is_character (take (a + n) xs) ≡ true
 joined xs a n first behind =

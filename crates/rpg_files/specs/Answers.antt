@@ -2,7 +2,7 @@
 use Rattle.std.specs.Prelude.{◌≡◌, ℕ, ◌+◌, Bool, true, false, nat_lt, if◌then◌else◌, List, [], ◌∷◌, ◌++◌, length, take, take_while, Some, Result, Ok, Err}
 use Rattle.std.specs.List.{list_all}
 use Rattle.rpg_files.specs.Records.{records, is_good, max_records}
-use Rattle.rpg_files.specs.Reading.{Advances, Gives, Input, is_record}
+use Rattle.rpg_files.specs.Reading.{Advances, GivesNext, Input, is_record}
 use Rattle.rpg_files.specs.declared.reader.Next.{Next}
 use Rattle.rpg_files.specs.declared.reader.Next.TheVariants as next
 use Rattle.rpg_files.specs.declared.reader.ReadFault.{ReadFault}
@@ -25,7 +25,7 @@ input_with bytes = record { buffered = []; ended = false; remaining = Some bytes
 abbrev pub GivesAll : ℕ → ℕ → List (List ℕ) → Input → Input → Type 0
 GivesAll limit count [] old new = new ≡ old
 GivesAll limit count (r ∷ rs) old new =
-    (mid : Input) × Advances old mid (Gives limit count r (Ok next.Record)) × GivesAll limit (count + 1) rs mid new
+    (mid : Input) × Advances old mid (GivesNext limit count r (Ok next.Record)) × GivesAll limit (count + 1) rs mid new
 
 -- However reads are cut, the records that were given are the first of the input's.
 abbrev pub FirstAnswersAreRecords : Type 0
@@ -42,5 +42,5 @@ is_device_fault (Err fault.TooMany) = false
 -- is the one that belongs behind them, unless the device failed.
 abbrev pub AnswersAreRecords : Type 0
 AnswersAreRecords = (limit : ℕ) (bytes : List ℕ) (rs : List (List ℕ)) (mid new : Input) (r : List ℕ) (last : Result Next ReadFault)
-    → GivesAll limit 0 rs (input_with bytes) mid → Advances mid new (Gives limit (length rs) r last) → is_record last ≡ false → is_device_fault last ≡ false
+    → GivesAll limit 0 rs (input_with bytes) mid → Advances mid new (GivesNext limit (length rs) r last) → is_record last ≡ false → is_device_fault last ≡ false
     → (rs ≡ given_records limit (records bytes)) × (last ≡ last_answer limit (records bytes))

@@ -3,8 +3,8 @@ use Rattle.std.specs.Prelude.{ℕ, List, slice_range, vec_len}
 use Rattle.rpg_files.specs.declared.buffer.Buffer.{Buffer}
 
 -- the bytes that were read and not yet given
-abbrev pub bytes_of : Buffer → List ℕ
-bytes_of w = slice_range w.buf.items w.start w.end
+abbrev pub left_in : Buffer → List ℕ
+left_in w = slice_range w.buf.items w.start w.end
 
 -- how many bytes it has room for
 abbrev pub capacity_of : Buffer → ℕ

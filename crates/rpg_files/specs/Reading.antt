@@ -1,7 +1,7 @@
 -- What a reader of records is to its callers.
 use Rattle.std.specs.Prelude.{◌≡◌, ℕ, ◌+◌, ◌<◌, Bool, true, false, List, [], ◌∷◌, ◌++◌, length, take, drop, Option, Result, Ok, Err}
 use Rattle.std.specs.Io.KnownBytes.{Consumes, IsAtEnd}
-use Rattle.rpg_files.specs.Buffers.{bytes_of}
+use Rattle.rpg_files.specs.Buffers.{left_in}
 use Rattle.rpg_files.specs.Counting.{device_of, faults_of}
 use Rattle.rpg_files.specs.NextLine.{CanFollow}
 use Rattle.rpg_files.specs.Records.{records, is_good, BeginsBad, max_records}
@@ -20,12 +20,12 @@ room_limit r = r.limit
 -- ---- its state
 
 -- the reader that it reads from
-abbrev pub source_of : {R : Type 0} → RecordReader R → Counted R
-source_of r = r.reader.now
+abbrev pub reader_of : {R : Type 0} → RecordReader R → Counted R
+reader_of r = r.reader.now
 
 -- the last record
 abbrev pub record_of : {R : Type 0} → RecordReader R → List ℕ
-record_of r = take r.len (bytes_of r.buffer)
+record_of r = take r.len (left_in r.buffer)
 
 -- the most bytes of a record
 abbrev pub limit_of : {R : Type 0} → RecordReader R → ℕ
@@ -41,7 +41,7 @@ answer_of r = r.answer
 
 -- the bytes that were read and not yet given
 abbrev pub buffered_of : {R : Type 0} → RecordReader R → List ℕ
-buffered_of r = drop r.line_len (bytes_of r.buffer)
+buffered_of r = drop r.line_len (left_in r.buffer)
 
 -- whether it has seen the end of the input
 abbrev pub has_ended : {R : Type 0} → RecordReader R → Bool
@@ -55,7 +55,7 @@ pub record Input : Type 0 where
   pub remaining : Option (List ℕ)
 
 abbrev pub input_of : {R : Type 0} → (R → Option (List ℕ)) → RecordReader R → Input
-input_of remaining r = record { buffered = buffered_of r; ended = has_ended r; remaining = remaining (device_of (source_of r)) }
+input_of remaining r = record { buffered = buffered_of r; ended = has_ended r; remaining = remaining (device_of (reader_of r)) }
 
 -- ---- a call
 
@@ -67,12 +67,12 @@ is_record (Err e) = false
 
 -- With so many records before, a call gave this record and this answer: these bytes were to come before it, and these
 -- are to come behind it.
-abbrev pub Gives : ℕ → ℕ → List ℕ → Result Next ReadFault → List ℕ → List ℕ → Type 0
-Gives limit count record_bytes (Ok next.Record) old new = (count < max_records) × (is_good limit record_bytes ≡ true) × (records old ≡ record_bytes ∷ records new)
-Gives limit count record_bytes (Ok next.Bad) old new = (count < max_records) × BeginsBad limit old
-Gives limit count record_bytes (Ok next.End) old new = old ≡ []
-Gives limit count record_bytes (Err fault.TooMany) old new = (count ≡ max_records) × (0 < length old)
-Gives limit count record_bytes (Err fault.Device) old new = Unit {0}
+abbrev pub GivesNext : ℕ → ℕ → List ℕ → Result Next ReadFault → List ℕ → List ℕ → Type 0
+GivesNext limit count record_bytes (Ok next.Record) old new = (count < max_records) × (is_good limit record_bytes ≡ true) × (records old ≡ record_bytes ∷ records new)
+GivesNext limit count record_bytes (Ok next.Bad) old new = (count < max_records) × BeginsBad limit old
+GivesNext limit count record_bytes (Ok next.End) old new = old ≡ []
+GivesNext limit count record_bytes (Err fault.TooMany) old new = (count ≡ max_records) × (0 < length old)
+GivesNext limit count record_bytes (Err fault.Device) old new = Unit {0}
 
 -- Some bytes were read behind the buffered ones, none once the end was seen. Whatever follows these, Fact holds of all the
 -- bytes that were to come before and of those that are to come now.
@@ -100,8 +100,8 @@ device_faults_after n (Err fault.TooMany) = n
 pub record ReadsNext {R : Type 0} (remaining : R → Option (List ℕ)) (old : RecordReader R) (answer : Result Next ReadFault) (new : RecordReader R) : Type 0 where
   pub limit : limit_of new ≡ limit_of old
   pub count : count_of new ≡ count_after (count_of old) answer
-  pub faults : faults_of (source_of new) ≡ device_faults_after (faults_of (source_of old)) answer
-  pub input : Advances (input_of remaining old) (input_of remaining new) (Gives (limit_of old) (count_of old) (record_of new) answer)
+  pub faults : faults_of (reader_of new) ≡ device_faults_after (faults_of (reader_of old)) answer
+  pub input : Advances (input_of remaining old) (input_of remaining new) (GivesNext (limit_of old) (count_of old) (record_of new) answer)
 
 -- a reader that has read nothing, for records of so many bytes at most
 pub record IsFresh {R : Type 0} (bytes : ℕ) (r : RecordReader R) : Type 0 where

@@ -1,6 +1,6 @@
 //! The bytes that were read and not yet given.
 
-ghost use Rattle.std.specs.Prelude.{◌≡◌, ◌+◌, ◌-◌, ◌^◌, ◌<◌, ◌≤◌, drop, length, slice_range, take, vec_len, IfOk};
+ghost use Rattle.std.specs.Prelude.{◌≡◌, ◌+◌, ◌-◌, ◌^◌, ◌<◌, ◌≤◌, drop, length, take, vec_len, IfOk};
 ghost use Rattle.std.specs.Io.KnownBytes.{ReadConsumes};
 ghost use Rattle.rpg_files.specs.Counting.{faults_after, device_of, faults_of};
 
@@ -19,13 +19,13 @@ pub(crate) struct Buffer {
 }
 
 impl Buffer {
-    ghost use Rattle.std.specs.Prelude.{[], IsTrue, ◌↔◌};
+    ghost use Rattle.std.specs.Prelude.{[], ◌↔◌};
     ghost use Rattle.rpg_files.specs.Reads.{Fills};
-    ghost use Rattle.rpg_files.specs.Buffers.{bytes_of, capacity_of};
+    ghost use Rattle.rpg_files.specs.Buffers.{capacity_of, left_in};
 
     /// No bytes yet, and room for so many.
     pub fn with_capacity(alloc: Global, capacity: usize) -> Result<Buffer, AllocError>
-        ensures bytes { IfOk result (λ w. bytes_of w ≡ []) }
+        ensures bytes { IfOk result (λ w. left_in w ≡ []) }
         ensures capacity { IfOk result (λ w. capacity_of w ≡ capacity) }
     {
         Ok(Buffer {
@@ -36,7 +36,7 @@ impl Buffer {
     }
 
     pub fn bytes(&self) -> &[u8]
-        ensures { result.now ≡ bytes_of self.now }
+        ensures { result.now ≡ left_in self.now }
     {
         let all = self.buf.as_slice();
         &all[self.start..self.end]
@@ -44,14 +44,14 @@ impl Buffer {
 
     /// How many bytes there are.
     pub fn len(&self) -> usize
-        ensures { result ≡ length (bytes_of self.now) }
+        ensures { result ≡ length (left_in self.now) }
     {
         self.end - self.start
     }
 
     pub fn consume(&mut self, n: usize)
-        requires { n ≤ length (bytes_of self.old) }
-        ensures bytes { bytes_of self.new ≡ drop n (bytes_of self.old) }
+        requires { n ≤ length (left_in self.old) }
+        ensures bytes { left_in self.new ≡ drop n (left_in self.old) }
         ensures capacity { capacity_of self.new ≡ capacity_of self.old }
     {
         self.start += n;
@@ -60,8 +60,8 @@ impl Buffer {
     /// Moves the bytes to the front of the room, and reads some behind them: none where the input ends.
     pub fn fill<R: Read>(&mut self, reader: &mut Counted<R>) -> Result<usize, DeviceFault>
         requires faults { faults_of reader.old < 2 ^ 64 - 1 }
-        requires room { length (bytes_of self.old) < capacity_of self.old }
-        ensures bytes { Fills (R.remaining (device_of reader.old)) (R.remaining (device_of reader.new)) (bytes_of self.old) (bytes_of self.new) result }
+        requires room { length (left_in self.old) < capacity_of self.old }
+        ensures bytes { Fills (R.remaining (device_of reader.old)) (R.remaining (device_of reader.new)) (left_in self.old) (left_in self.new) result }
         ensures capacity { capacity_of self.new ≡ capacity_of self.old }
         ensures faults { faults_of reader.new ≡ faults_after (faults_of reader.old) result }
     {

@@ -5,7 +5,7 @@ ghost use Rattle.rpg_files.specs.Counting.{faults_after, device_of, faults_of};
 ghost use Rattle.rpg_files.specs.Reads.{Reads};
 ghost use Rattle.rpg_files.specs.FirstLine.{IsIncomplete};
 ghost use Rattle.rpg_files.specs.NextLine.{HasMore, IsNextLine};
-ghost use Rattle.rpg_files.specs.Buffers.{bytes_of, capacity_of};
+ghost use Rattle.rpg_files.specs.Buffers.{capacity_of, left_in};
 
 use crate::buffer::Buffer;
 use crate::counting::{Counted, DeviceFault};
@@ -29,10 +29,10 @@ fn read_more<R: Read>(
     is_ended: &mut bool,
 ) -> Result<(), DeviceFault>
     requires faults { faults_of reader.old < 2 ^ 64 - 1 }
-    requires room { length (bytes_of buffer.old) < capacity_of buffer.old }
+    requires room { length (left_in buffer.old) < capacity_of buffer.old }
     requires open { is_ended.old ≡ false }
-    ensures read { Reads (R.remaining (device_of reader.old)) (R.remaining (device_of reader.new)) (bytes_of buffer.old) (bytes_of buffer.new) is_ended.old is_ended.new }
-    ensures more { OnOk result (is_ended.new ≡ false → length (bytes_of buffer.old) < length (bytes_of buffer.new)) }
+    ensures read { Reads (R.remaining (device_of reader.old)) (R.remaining (device_of reader.new)) (left_in buffer.old) (left_in buffer.new) is_ended.old is_ended.new }
+    ensures more { OnOk result (is_ended.new ≡ false → length (left_in buffer.old) < length (left_in buffer.new)) }
     ensures capacity { capacity_of buffer.new ≡ capacity_of buffer.old }
     ensures faults { faults_of reader.new ≡ faults_after (faults_of reader.old) result }
 {
@@ -51,8 +51,8 @@ pub(crate) fn has_more<R: Read>(
 ) -> Result<bool, DeviceFault>
     requires faults { faults_of reader.old < 2 ^ 64 - 1 }
     requires room { 0 < capacity_of buffer.old }
-    ensures read { Reads (R.remaining (device_of reader.old)) (R.remaining (device_of reader.new)) (bytes_of buffer.old) (bytes_of buffer.new) is_ended.old is_ended.new }
-    ensures ok { IfOk result (λ more. HasMore more (bytes_of buffer.new) is_ended.new) }
+    ensures read { Reads (R.remaining (device_of reader.old)) (R.remaining (device_of reader.new)) (left_in buffer.old) (left_in buffer.new) is_ended.old is_ended.new }
+    ensures ok { IfOk result (λ more. HasMore more (left_in buffer.new) is_ended.new) }
     ensures capacity { capacity_of buffer.new ≡ capacity_of buffer.old }
     ensures faults { faults_of reader.new ≡ faults_after (faults_of reader.old) result }
 {
@@ -86,8 +86,8 @@ pub(crate) fn read_line<R: Read>(
 ) -> Result<NextLine, DeviceFault>
     requires faults { faults_of reader.old < 2 ^ 64 - 1 }
     requires room { limit + 1 < capacity_of buffer.old }
-    ensures read { Reads (R.remaining (device_of reader.old)) (R.remaining (device_of reader.new)) (bytes_of buffer.old) (bytes_of buffer.new) is_ended.old is_ended.new }
-    ensures ok { IfOk result (λ line. IsNextLine limit (bytes_of buffer.new) is_ended.new line) }
+    ensures read { Reads (R.remaining (device_of reader.old)) (R.remaining (device_of reader.new)) (left_in buffer.old) (left_in buffer.new) is_ended.old is_ended.new }
+    ensures ok { IfOk result (λ line. IsNextLine limit (left_in buffer.new) is_ended.new line) }
     ensures capacity { capacity_of buffer.new ≡ capacity_of buffer.old }
     ensures faults { faults_of reader.new ≡ faults_after (faults_of reader.old) result }
 {

@@ -1,7 +1,7 @@
 //! Records from a reader, one at a time.
 
 ghost use Rattle.std.specs.Prelude.{◌≡◌, ◌+◌, ◌<◌, ◌≤◌, [], length};
-ghost use Rattle.rpg_files.specs.Buffers.{bytes_of, capacity_of};
+ghost use Rattle.rpg_files.specs.Buffers.{capacity_of, left_in};
 ghost use Rattle.rpg_files.specs.Records.{max_records};
 
 use crate::buffer::Buffer;
@@ -51,7 +51,7 @@ pub struct RecordRoom {
     buffer: Buffer,
     /// The most bytes of a record.
     limit: u16,
-    ghost empty: { bytes_of buffer ≡ [] },
+    ghost empty: { left_in buffer ≡ [] },
     ghost room: { limit + 1 < capacity_of buffer },
 }
 
@@ -84,18 +84,18 @@ pub struct RecordReader<'a, R> {
     count: u32,
     answer: Result<Next, ReadFault>,
     ghost ordered: { len ≤ line_len },
-    ghost within: { line_len ≤ length (bytes_of buffer) },
+    ghost within: { line_len ≤ length (left_in buffer) },
     ghost room: { limit + 1 < capacity_of buffer },
     ghost few: { count ≤ max_records },
 }
 
 impl<'a, R> RecordReader<'a, R> {
-    ghost use Rattle.rpg_files.specs.Reading.{IsFresh, record_of, room_limit, source_of};
+    ghost use Rattle.rpg_files.specs.Reading.{IsFresh, reader_of, record_of, room_limit};
 
     /// A reader of records in room that was made for them.
     pub fn new(reader: &'a mut Counted<R>, room: RecordRoom) -> RecordReader<'a, R>
         ensures same_reader { result.reader.ghost_name ≡ reader.entry.ghost_name }
-        ensures untouched { source_of result ≡ reader.old }
+        ensures untouched { reader_of result ≡ reader.old }
         ensures fresh { IsFresh (room_limit room) result }
     {
         RecordReader {
@@ -113,7 +113,7 @@ impl<'a, R> RecordReader<'a, R> {
     /// The reader itself, behind all that was read of it.
     pub fn into_reader(self) -> &'a mut Counted<R>
         ensures same_reader { result.ghost_name ≡ self.entry.reader.ghost_name }
-        ensures now { result.now ≡ source_of self.entry }
+        ensures now { result.now ≡ reader_of self.entry }
     {
         self.reader
     }
@@ -129,11 +129,11 @@ impl<'a, R> RecordReader<'a, R> {
 impl<'a, R: Read> RecordReader<'a, R> {
     ghost use Rattle.std.specs.Prelude.{◌-◌, ◌^◌, true, false};
     ghost use Rattle.rpg_files.specs.Counting.{faults_of};
-    ghost use Rattle.rpg_files.specs.Reading.{ReadsNext, answer_of, is_record, source_of};
+    ghost use Rattle.rpg_files.specs.Reading.{ReadsNext, answer_of, is_record, reader_of};
 
     /// What stands next in the input. An answer other than a record is repeated from then on.
     pub fn next(&mut self) -> Result<Next, ReadFault>
-        requires { faults_of (source_of self.old) < 2 ^ 64 - 1 }
+        requires { faults_of (reader_of self.old) < 2 ^ 64 - 1 }
         ensures same_reader { self.new.reader.ghost_name ≡ self.old.reader.ghost_name }
         ensures answer { answer_of self.new ≡ result }
         ensures behind_record { is_record (answer_of self.old) ≡ true → ReadsNext R.remaining self.old result self.new }
@@ -147,7 +147,7 @@ impl<'a, R: Read> RecordReader<'a, R> {
 
     /// What stands behind the last record.
     fn read_next(&mut self) -> Result<Next, ReadFault>
-        requires { faults_of (source_of self.old) < 2 ^ 64 - 1 }
+        requires { faults_of (reader_of self.old) < 2 ^ 64 - 1 }
         ensures same_reader { self.new.reader.ghost_name ≡ self.old.reader.ghost_name }
         ensures next { ReadsNext R.remaining self.old result self.new }
     {

@@ -2,11 +2,11 @@
 use Rattle.std.proofs.Common.{◌≡◌, ℕ, ◌+◌, ◌-◌, ◌≤◌, Bool, true, false, not, ◌&&◌, cond, eqb-true, nat_le, leb-true, List, [], ◌∷◌, length, Option, None, Some, refl, sym, ap, ◌∙◌, arith}
 use Rattle.std.specs.FinMap as map
 use Rattle.std.specs.Ordering.{nat_cmp}
-use Rattle.rpg_form.specs.Paper.{Position}
+use Rattle.rpg_paper.specs.Paper.{Position}
 use Rattle.rpg_effect.specs.Effect.{Effect, after_output, go_on, then_go, unless_wrong}
 use Rattle.rpg_effect.specs.Ends.{End, Fault, GoesOn, Halt, Wrong}
 use Rattle.rpg_effect.specs.Forms.{form_at, is_plain, kind_of, length_of}
-use Rattle.rpg_effect.specs.Input.{columns, field_in, fits_columns, fits_shows, input_fault, record_in, value_read}
+use Rattle.rpg_effect.specs.Input.{field_in, fits_columns, fits_shows, input_fault, record_in, record_part, value_read}
 use Rattle.rpg_effect.specs.Put.{on_paper}
 use Rattle.rpg_effect.specs.Values.{Text}
 use Rattle.rpg_effect.specs.World.{World}
@@ -16,10 +16,10 @@ use Rattle.rpg_effect.specs.declared.form.Kind.TheVariants as kinds
 use Rattle.rpg_effect.specs.declared.input.InputField.{InputField}
 use Rattle.rpg_machine.proofs.OnPaper.{effect_on, or_halt_on, unless_on}
 use Rattle.rpg_machine.proofs.Ranges.{and_true}
-use Rattle.rpg_machine.specs.Inputs.{filled}
-use Rattle.rpg_operations.proofs.Entries.{text_in_form}
-use Rattle.rpg_operations.proofs.Values.{form_there, length_high, length_low, text_fits}
-use Rattle.rpg_operations.specs.Good.{AreForms, IsValue}
+use Rattle.rpg_machine.specs.Inputs.{filled_field}
+use Rattle.rpg_machine_operations.proofs.Entries.{text_in_form}
+use Rattle.rpg_machine_operations.proofs.Values.{form_there, length_high, length_low, text_fits}
+use Rattle.rpg_machine_operations.specs.Good.{AreForms, IsValue}
 use Rattle.rpg_store.specs.Fits.{Fits}
 use Rattle.rpg_store.specs.Store.{Currents, Values}
 
@@ -82,19 +82,19 @@ text_there forms values current field text fits v long =
 -- ---- what is done
 
 -- one field with which nothing is wrong
-pub field_filled : (forms : List FieldForm) (text part : List ℕ) (f : InputField ℕ) (k : Kind) (w : World nat_cmp) → input_fault (form_at forms) (length text) f ≡ None → k ≡ kind_of (form_at forms f.field) → part ≡ columns f text →
-    filled k f part w ≡ field_in (form_at forms) text f w
+pub field_filled : (forms : List FieldForm) (text part : List ℕ) (f : InputField ℕ) (k : Kind) (w : World nat_cmp) → input_fault (form_at forms) (length text) f ≡ None → k ≡ kind_of (form_at forms f.field) → part ≡ record_part f text →
+    filled_field k f part w ≡ field_in (form_at forms) text f w
 unfolding field_in
 field_filled forms text part f k w right kind is =
-    ap (λ x. filled k f x w) is
-    ∙ ap (λ l. filled l f (columns f text) w) kind
-    ∙ sym (ap (λ o. unless_wrong o w (filled (kind_of (form_at forms f.field)) f (columns f text) w)) right)
+    ap (λ x. filled_field k f x w) is
+    ∙ ap (λ l. filled_field l f (record_part f text) w) kind
+    ∙ sym (ap (λ o. unless_wrong o w (filled_field (kind_of (form_at forms f.field)) f (record_part f text) w)) right)
 
 -- the same on every page
 module _ (forms : ℕ → Option FieldForm) (previous : Option Position) where
   field_on : (text : List ℕ) (f : InputField ℕ) (w : World nat_cmp) → field_in forms text f (on_paper previous w) ≡ effect_on previous (field_in forms text f w)
   unfolding field_in
-  field_on text f w = unless_on previous (input_fault forms (length text) f) w _ _ (or_halt_on previous (value_read (kind_of (forms f.field)) (columns f text)) 4 w _ _ (λ v. refl))
+  field_on text f w = unless_on previous (input_fault forms (length text) f) w _ _ (or_halt_on previous (value_read (kind_of (forms f.field)) (record_part f text)) 4 w _ _ (λ v. refl))
 
   go_by : (x : End) (e : Effect nat_cmp) (go : World nat_cmp → Effect nat_cmp) → ((w : World nat_cmp) → go (on_paper previous w) ≡ effect_on previous (go w)) → go_on x (effect_on previous e) go ≡ effect_on previous (go_on x e go)
   go_by GoesOn e go h = ap (after_output (effect_on previous e)) (h e.world)

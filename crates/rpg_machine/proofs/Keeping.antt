@@ -9,10 +9,10 @@ use Rattle.std.specs.Ordering.{nat_cmp}
 use Rattle.rpg_decimal.proofs.LawLemmas.{left_digits, length-zoned, read_either, right_digits, size-signed}
 use Rattle.rpg_decimal.proofs.PlaceLemmas.{place_value-below}
 use Rattle.rpg_decimal.proofs.WholeLemmas.{fit-below}
-use Rattle.rpg_numbers.specs.Fraction.{Fraction, aligned_number}
-use Rattle.rpg_numbers.specs.Place.{place_value}
-use Rattle.rpg_numbers.specs.Zoned.{digit_of, is_minus, last_of, number_in, zoned_text}
-use Rattle.rpg_effect.specs.Act.{act, divided, exact, field_of_entry, found_in, found_shown, index_set, kept, looked_up, made_current, made_current_if_any, moved, number_over, placed, source_text, store, text_over}
+use Rattle.rpg_decimal_words.specs.Fraction.{Fraction, aligned_number}
+use Rattle.rpg_decimal_words.specs.Place.{place_value}
+use Rattle.rpg_decimal_words.specs.Zoned.{digit_of, is_minus, last_of, number_in, zoned_text}
+use Rattle.rpg_effect.specs.Act.{act, divided, exact, field_of_entry, found_in, found_shown, index_set, looked_up, made_current, made_current_if_any, moved, number_over, source_text, store, stored_value, text_over, with_found}
 use Rattle.rpg_effect.specs.Effect.{Effect, Leaves, or_halt, unless_wrong}
 use Rattle.rpg_effect.specs.Ends.{Fault}
 use Rattle.rpg_effect.specs.Forms.{decimals_of, entries_of, form_at, is_table_form, kind_of, length_of}
@@ -34,16 +34,16 @@ use Rattle.rpg_effect.specs.declared.operation.Shows.{Shows}
 use Rattle.rpg_effect.specs.declared.operation.Side.{Side}
 use Rattle.rpg_effect.specs.declared.operation.Side.TheVariants.{Right, Left}
 use Rattle.rpg_machine.specs.Laws.{FitsIn, GoesRight}
-use Rattle.rpg_operations.proofs.Characters.{over_characters, zoned_characters}
-use Rattle.rpg_operations.proofs.Doing.{assign_entries, compute_entries, cross_entries, divide_entries, look_entries, look_positions, look_reads, move_entries, remainder_entries}
-use Rattle.rpg_operations.proofs.Entries.{text_in_form}
-use Rattle.rpg_operations.proofs.Finding.{first_fits, found_fits, has_position, held, holds_index, index_value, no_position_fault}
-use Rattle.rpg_operations.proofs.Keeping.{fits_current, fits_number, fits_text}
-use Rattle.rpg_operations.proofs.Overlays.{over_length}
-use Rattle.rpg_operations.proofs.Rights.{entries_if}
-use Rattle.rpg_operations.proofs.Values.{form_there, length_low, text_fits, text_is}
-use Rattle.rpg_operations.specs.Good.{AreEntries, AreForms, FitsPosition, HasPosition, IsRight, IsValue, reads_index}
-use Rattle.rpg_program.specs.Kept.{IsCharacter}
+use Rattle.rpg_machine_operations.proofs.Characters.{over_characters, zoned_characters}
+use Rattle.rpg_machine_operations.proofs.Doing.{assign_entries, compute_entries, cross_entries, divide_entries, look_entries, look_positions, look_reads, move_entries, remainder_entries}
+use Rattle.rpg_machine_operations.proofs.Entries.{text_in_form}
+use Rattle.rpg_machine_operations.proofs.Finding.{first_fits, found_fits, has_position, held, holds_index, index_value, no_position_fault}
+use Rattle.rpg_machine_operations.proofs.Keeping.{fits_current, fits_number, fits_text}
+use Rattle.rpg_machine_operations.proofs.Overlays.{over_length}
+use Rattle.rpg_machine_operations.proofs.Rights.{entries_if}
+use Rattle.rpg_machine_operations.proofs.Values.{form_there, length_low, text_fits, text_is}
+use Rattle.rpg_machine_operations.specs.Good.{AreForms, AreOperandEntries, FitsPosition, HasPosition, IsRightAction, IsValue, reads_index}
+use Rattle.rpg_object_program.specs.Kept.{IsCharacter}
 
 -- ---- digits of characters
 
@@ -67,7 +67,7 @@ module _ (forms : List FieldForm) (good : AreForms forms) where
       GoesRight forms (Leaves (store w r s n))
   store_right w r s n fits v low = record { ends = tt; fits = fits_number forms w.fields.values w.fields.current r.field r.position n fits v low }
 
-  kept_low : (half : Bool) (o : Option FieldForm) (x : Fraction) → unsigned_abs (kept half o x) < 10 ^ length_of o
+  kept_low : (half : Bool) (o : Option FieldForm) (x : Fraction) → unsigned_abs (stored_value half o x) < 10 ^ length_of o
   kept_low half o x = fit-below (aligned_number half (decimals_of o) x) (length_of o)
 
   or_halt_right : {A : Type 0} (o : Option A) (k : ℕ) (w : World nat_cmp) (go : A → Effect nat_cmp) → FitsIn forms w → ((x : A) → o ≡ Some x → GoesRight forms (go x)) → GoesRight forms (or_halt o k w go)
@@ -139,8 +139,8 @@ module _ (forms : List FieldForm) (good : AreForms forms) where
   current_if_any None n w low high fits = fits
   current_if_any (Some k) n w low high fits = current_by (is_table_form (form_at forms k)) k n w low high fits
 
-  placed_fits : (b : Entry ℕ) (table : Option ℕ) (o : Option Found) (w : World nat_cmp) → reads_index forms b.index ≡ true → IfSome o (λ f. FitsPosition forms b table f.position) → FitsIn forms w → FitsIn forms (placed (form_at forms) b table o w)
-  unfolding placed
+  placed_fits : (b : Entry ℕ) (table : Option ℕ) (o : Option Found) (w : World nat_cmp) → reads_index forms b.index ≡ true → IfSome o (λ f. FitsPosition forms b table f.position) → FitsIn forms w → FitsIn forms (with_found (form_at forms) b table o w)
+  unfolding with_found
   placed_fits b table None w reads h fits = index_fits b.index 1 w reads (first_fits forms b.index good reads) fits
   placed_fits b table (Some f) w reads h fits =
       let n = f.position in
@@ -154,12 +154,12 @@ module _ (forms : List FieldForm) (good : AreForms forms) where
   looked_right k w a b table s v reads holds fits =
       let o = found_in (form_at forms) w a b s in
       let there = found_fits forms k w a b table s o v holds refl in
-      let right : GoesRight forms (Leaves (found_shown (form_at forms) s o (placed (form_at forms) b table o w))) = record { ends = tt; fits = placed_fits b table o w reads there fits } in
-      subst (λ (f : Option Fault). GoesRight forms (unless_wrong f w (Leaves (found_shown (form_at forms) s o (placed (form_at forms) b table o w))))) (sym (no_position_fault forms b table o there)) right
+      let right : GoesRight forms (Leaves (found_shown (form_at forms) s o (with_found (form_at forms) b table o w))) = record { ends = tt; fits = placed_fits b table o w reads there fits } in
+      subst (λ (f : Option Fault). GoesRight forms (unless_wrong f w (Leaves (found_shown (form_at forms) s o (with_found (form_at forms) b table o w))))) (sym (no_position_fault forms b table o there)) right
 
   -- ---- all
 
-  act_right : (a : Action (Entry ℕ)) (w : World nat_cmp) → AreEntries forms a → FitsIn forms w → GoesRight forms (act (form_at forms) a w)
+  act_right : (a : Action (Entry ℕ)) (w : World nat_cmp) → AreOperandEntries forms a → FitsIn forms w → GoesRight forms (act (form_at forms) a w)
   unfolding act
   act_right (Compute f half a b r s) w h fits = store_right w r s _ fits (compute_entries forms f half a b r s h).1.1 (kept_low half (form_at forms r.field) _)
   act_right (Divide half a b r s) w h fits =
@@ -176,10 +176,10 @@ module _ (forms : List FieldForm) (good : AreForms forms) where
       moved_right (kind_of (form_at forms b.field)) (kind_of (form_at forms r.field)) side w b r fits both.0 both.1
   act_right (SetIndicators is_on s) w h fits = record { ends = tt; fits = fits }
 
-  entries_then : (w : World nat_cmp) (a : Action (Operand ℕ)) (e : Action (Entry ℕ)) → IsRight forms a → FitsIn forms w → resolved (form_at forms) w.fields a ≡ Some e → AreEntries forms e
+  entries_then : (w : World nat_cmp) (a : Action (Operand ℕ)) (e : Action (Entry ℕ)) → IsRightAction forms a → FitsIn forms w → resolved (form_at forms) w.fields a ≡ Some e → AreOperandEntries forms e
   entries_then w a e right fits is =
-      subst (λ (x : Option (Action (Entry ℕ))). IfSome x (λ i. AreEntries forms i)) is (entries_if forms w.fields a (resolved (form_at forms) w.fields a) refl good fits right)
+      subst (λ (x : Option (Action (Entry ℕ))). IfSome x (λ i. AreOperandEntries forms i)) is (entries_if forms w.fields a (resolved (form_at forms) w.fields a) refl good fits right)
 
-  pub operate_right : (a : Action (Operand ℕ)) (w : World nat_cmp) → IsRight forms a → FitsIn forms w → GoesRight forms (operate (form_at forms) a w)
+  pub operate_right : (a : Action (Operand ℕ)) (w : World nat_cmp) → IsRightAction forms a → FitsIn forms w → GoesRight forms (operate (form_at forms) a w)
   unfolding operate
   operate_right a w right fits = or_halt_right (resolved (form_at forms) w.fields a) 2 w _ fits (λ e is. act_right e w (entries_then w a e right fits is) fits)

@@ -3,7 +3,7 @@ use Rattle.std.proofs.Common.{◌≡◌, ℕ, suc, Bool, true, false, cond, eqb,
 use Rattle.std.specs.FinSet as set
 use Rattle.std.specs.Ordering.{nat_cmp}
 use Rattle.std.specs.Prelude.{All}
-use Rattle.rpg_form.specs.Paper.{Position, skipped, spaced, turns_overflow_on}
+use Rattle.rpg_paper.specs.Paper.{Position, skipped, spaced, turns_overflow_on}
 use Rattle.rpg_effect.specs.Effect.{Effect, Leaves, go_on, unless_wrong}
 use Rattle.rpg_effect.specs.Ends.{End, Fault, GoesOn, Halt, Wrong}
 use Rattle.rpg_effect.specs.Entries.{position_of}
@@ -24,16 +24,16 @@ use Rattle.rpg_effect.specs.declared.line.Pass.TheVariants as passes
 use Rattle.rpg_effect.specs.declared.line.Source.{Source}
 use Rattle.rpg_effect.specs.declared.line.Source.TheVariants as sources
 use Rattle.rpg_effect.specs.declared.line.Spacing.{Spacing}
-use Rattle.rpg_lines.proofs.Entering.{one_more}
-use Rattle.rpg_lines.proofs.Fields.{right}
-use Rattle.rpg_lines.proofs.Keeping.{fits-blanked, page_counted, page_kind, page_small}
-use Rattle.rpg_lines.proofs.Operands.{entry_there}
-use Rattle.rpg_lines.specs.Entries.{AreEntries, IsEntry}
-use Rattle.rpg_lines.specs.Right.{AreRightLines, IsRightLine}
+use Rattle.rpg_machine_lines.proofs.Entering.{one_more}
+use Rattle.rpg_machine_lines.proofs.Fields.{right}
+use Rattle.rpg_machine_lines.proofs.Keeping.{fits-blanked, page_counted, page_kind, page_small}
+use Rattle.rpg_machine_lines.proofs.Operands.{entry_there}
+use Rattle.rpg_machine_lines.specs.Entries.{AreFieldEntries, IsFieldEntry}
+use Rattle.rpg_machine_lines.specs.Right.{AreRightLines, IsRightLine}
 use Rattle.rpg_machine.specs.Laws.{FitsIn, GoesRight, IsNoFault}
-use Rattle.rpg_program.specs.Constants.{word_at}
-use Rattle.rpg_program.specs.Kept.{IsFieldRow}
-use Rattle.rpg_program.specs.Object.{LineRow, Object, file_length, line_of, lines_of}
+use Rattle.rpg_object_program.specs.Constants.{word_at}
+use Rattle.rpg_object_program.specs.Kept.{IsFieldRow}
+use Rattle.rpg_object_program.specs.Object.{LineRow, Object, file_length, lines_of, program_line}
 use Rattle.rpg_store.specs.Fits.{Fits, HasForm}
 use Rattle.rpg_store.specs.Store.{IsNumber}
 
@@ -75,7 +75,7 @@ module _ (p : Object) (rows : All IsFieldRow p.fields) where
 
   pub record DraftsRight (d : Draft nat_cmp) : Type 0 where
     pub fits : AreFit p.fields d.fields
-    pub blank : AreEntries p.fields d.to_blank
+    pub blank : AreFieldEntries p.fields d.to_blank
 
   pub record DraftedRight (x : Drafted nat_cmp) : Type 0 where
     pub ends : IsNoFault x.ending
@@ -92,21 +92,21 @@ module _ (p : Object) (rows : All IsFieldRow p.fields) where
   in_form kinds.Number len None k h = absurd h
   in_form kinds.Text len v k h = cc
 
-  page_there : (f e : ℕ) (fields : Fields nat_cmp) → AreFit p.fields fields → IsEntry p.fields f e → fits_source sources.Page (form_at p.fields f) ≡ true → IsNumber (value_in fields (f, e))
+  page_there : (f e : ℕ) (fields : Fields nat_cmp) → AreFit p.fields fields → IsFieldEntry p.fields f e → fits_source sources.Page (form_at p.fields f) ≡ true → IsNumber (value_in fields (f, e))
   page_there f e fields fits i h =
       in_form i.form.kind i.form.length (value_in fields (f, e)) (ap kind_of (sym i.there) ∙ (page_kind (form_at p.fields f) h).0) (fits.each f i.form i.there e i.low i.high)
 
-  counted_fits : (source : Source) (f e : ℕ) (fields : Fields nat_cmp) → AreFit p.fields fields → IsEntry p.fields f e → fits_source source (form_at p.fields f) ≡ true → AreFit p.fields (counted source (f, e) fields)
+  counted_fits : (source : Source) (f e : ℕ) (fields : Fields nat_cmp) → AreFit p.fields fields → IsFieldEntry p.fields f e → fits_source source (form_at p.fields f) ≡ true → AreFit p.fields (counted source (f, e) fields)
   counted_fits sources.Value f e fields fits i h = fits
   counted_fits sources.Page f e fields fits i h =
       let is = number_is (value_in fields (f, e)) (page_there f e fields fits i h) in
       page_counted p.fields fields f e (number_of (value_in fields (f, e))) _ fits i h (page_small p.fields fields f e (number_of (value_in fields (f, e))) fits i h is) refl
 
-  remembered_right : (b : Bool) (f e : ℕ) (es : List (ℕ × ℕ)) → AreEntries p.fields es → IsEntry p.fields f e → AreEntries p.fields (remembered b (f, e) es)
+  remembered_right : (b : Bool) (f e : ℕ) (es : List (ℕ × ℕ)) → AreFieldEntries p.fields es → IsFieldEntry p.fields f e → AreFieldEntries p.fields (remembered b (f, e) es)
   remembered_right true f e es h i = one_more p.fields es f e h i
   remembered_right false f e es h i = h
 
-  laid_right : (d : Draft nat_cmp) (f : LineField ℕ) (len : ℕ) (o : Option ℕ) → field_fault (form_at p.fields) (word_at p) len f ≡ None → IfSome o (λ n. IsEntry p.fields f.operand.field n) → DraftsRight d →
+  laid_right : (d : Draft nat_cmp) (f : LineField ℕ) (len : ℕ) (o : Option ℕ) → field_fault (form_at p.fields) (word_at p) len f ≡ None → IfSome o (λ n. IsFieldEntry p.fields f.operand.field n) → DraftsRight d →
       DraftedRight (laid (form_at p.fields) (word_at p) d f o)
   laid_right d f len None fault there h = record { ends = tt; draft = h }
   laid_right d f len (Some n) fault there h =
@@ -143,7 +143,7 @@ module _ (p : Object) (rows : All IsFieldRow p.fields) where
       go_right (with_field (form_at p.fields) (word_at p) on len d f).ending (with_field (form_at p.fields) (word_at p) on len d f) (assembled (form_at p.fields) (word_at p) on len fs) one.ends one
       (λ e g. assembled_right on len fs e (λ k x l. faults (suc k) x (omega (arith, l))) g)
 
-  blanked_right : (es : List (ℕ × ℕ)) (fields : Fields nat_cmp) → AreEntries p.fields es → AreFit p.fields fields → AreFit p.fields (blanked_all es fields)
+  blanked_right : (es : List (ℕ × ℕ)) (fields : Fields nat_cmp) → AreFieldEntries p.fields es → AreFit p.fields fields → AreFit p.fields (blanked_all es fields)
   blanked_right [] fields h fits = fits
   blanked_right (e ∷ es) fields h fits =
       blanked_right es (blanked_at e fields) (λ k x l. h (suc k) x (omega (arith, l))) (fits-blanked p.fields fields e.0 e.1 fits (h 0 e (omega arith)))
@@ -161,38 +161,38 @@ module _ (p : Object) (rows : All IsFieldRow p.fields) where
   placed_by es fields (Halt k) e goes same fits = cc
   placed_by es fields (Wrong f) e goes same fits = cc
 
-  put_line : (l : LineRow) (w : World nat_cmp) (x : End) (d : Draft nat_cmp) → IsNoFault x → DraftsRight d → GoesRight p.fields (put_out (form_at p.fields) (word_at p) p.overflow (line_of p l) w x d)
+  put_line : (l : LineRow) (w : World nat_cmp) (x : End) (d : Draft nat_cmp) → IsNoFault x → DraftsRight d → GoesRight p.fields (put_out (form_at p.fields) (word_at p) p.overflow (program_line p l) w x d)
   put_line l w GoesOn d ends h =
       let put = put_right p.overflow l.file l.spacing d.text (record w { fields = d.fields }) in
       placed_by d.to_blank d.fields _ (put_on p.overflow l.file l.spacing d.text (record w { fields = d.fields })) put.goes put.fields (blanked_right d.to_blank d.fields h.blank h.fits)
   put_line l w (Halt k) d ends h = record { ends = tt; fits = h.fits }
   put_line l w (Wrong f) d ends h = absurd ends
 
-  line_right : (l : LineRow) (w : World nat_cmp) → IsRightLine p l → FitsIn p.fields w → GoesRight p.fields (line_out (form_at p.fields) (word_at p) p.overflow (line_of p l) w)
+  line_right : (l : LineRow) (w : World nat_cmp) → IsRightLine p l → FitsIn p.fields w → GoesRight p.fields (line_out (form_at p.fields) (word_at p) p.overflow (program_line p l) w)
   unfolding line_out
   line_right l w r fits =
       let len = file_length p l.file in
       let done = assembled (form_at p.fields) (word_at p) w.on len l.fields (blank_line len w) in
       let drafted = assembled_right w.on len l.fields (blank_line len w) r.fields (record { fits = fits; blank = λ k x h. absurd (omega arith) }) in
-      subst (λ (o : Option Fault). GoesRight p.fields (unless_wrong o w (put_out (form_at p.fields) (word_at p) p.overflow (line_of p l) w done.ending done.draft))) (sym r.fault)
+      subst (λ (o : Option Fault). GoesRight p.fields (unless_wrong o w (put_out (form_at p.fields) (word_at p) p.overflow (program_line p l) w done.ending done.draft))) (sym r.fault)
       (put_line l w done.ending done.draft drafted.ends drafted.draft)
 
   asked_right : (b : Bool) (e : Effect nat_cmp) (w : World nat_cmp) → FitsIn p.fields w → GoesRight p.fields e → GoesRight p.fields (where_asked (form_at p.fields) (word_at p) b e w)
   asked_right true e w fits h = h
   asked_right false e w fits h = record { ends = tt; fits = fits }
 
-  one_right : (pass : Pass) (l : LineRow) (w : World nat_cmp) → IsRightLine p l → FitsIn p.fields w → GoesRight p.fields (one_out (form_at p.fields) (word_at p) p.overflow pass (line_of p l) w)
+  one_right : (pass : Pass) (l : LineRow) (w : World nat_cmp) → IsRightLine p l → FitsIn p.fields w → GoesRight p.fields (one_out (form_at p.fields) (word_at p) p.overflow pass (program_line p l) w)
   unfolding one_out
   one_right pass l w r fits =
-      asked_right (is_asked p.overflow pass w.on l.time l.alternatives) (line_out (form_at p.fields) (word_at p) p.overflow (line_of p l) w) w fits (line_right l w r fits)
+      asked_right (is_asked p.overflow pass w.on l.time l.alternatives) (line_out (form_at p.fields) (word_at p) p.overflow (program_line p l) w) w fits (line_right l w r fits)
 
-  lines_right : (pass : Pass) (ls : List LineRow) (w : World nat_cmp) → All (IsRightLine p) ls → FitsIn p.fields w → GoesRight p.fields (lines_out (form_at p.fields) (word_at p) p.overflow pass (map (line_of p) ls) w)
+  lines_right : (pass : Pass) (ls : List LineRow) (w : World nat_cmp) → All (IsRightLine p) ls → FitsIn p.fields w → GoesRight p.fields (lines_out (form_at p.fields) (word_at p) p.overflow pass (map (program_line p) ls) w)
   unfolding lines_out
   lines_right pass [] w h fits = record { ends = tt; fits = fits }
   lines_right pass (l ∷ ls) w h fits =
       let one = one_right pass l w (h 0 l (omega arith)) fits in
-      then_right (one_out (form_at p.fields) (word_at p) p.overflow pass (line_of p l) w).ending (one_out (form_at p.fields) (word_at p) p.overflow pass (line_of p l) w)
-      (lines_out (form_at p.fields) (word_at p) p.overflow pass (map (line_of p) ls)) one.ends one
+      then_right (one_out (form_at p.fields) (word_at p) p.overflow pass (program_line p l) w).ending (one_out (form_at p.fields) (word_at p) p.overflow pass (program_line p l) w)
+      (lines_out (form_at p.fields) (word_at p) p.overflow pass (map (program_line p) ls)) one.ends one
       (λ v g. lines_right pass ls v (λ k x low. h (suc k) x (omega (arith, low))) g)
 
   pub exceptions_right : (w : World nat_cmp) → AreRightLines p → FitsIn p.fields w → GoesRight p.fields (exception_output (form_at p.fields) (word_at p) p.overflow (lines_of p) w)

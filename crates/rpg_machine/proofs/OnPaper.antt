@@ -3,9 +3,9 @@ use Rattle.std.proofs.Common.{◌≡◌, ℕ, Bool, true, false, cond, Option, N
 use Rattle.std.specs.Option.{option_map}
 use Rattle.std.specs.Ordering.{nat_cmp}
 use Rattle.std.specs.declared.cmp.Ordering.{Ordering}
-use Rattle.rpg_numbers.specs.Zoned.{number_in, zoned_text}
-use Rattle.rpg_form.specs.Paper.{Position}
-use Rattle.rpg_effect.specs.Act.{act, divided, entry_at, exact, field_of_entry, found_in, found_shown, index_set, looked_up, made_current, made_current_if_any, moved, order_by, placed, position_fault, start_of, text_over}
+use Rattle.rpg_decimal_words.specs.Zoned.{number_in, zoned_text}
+use Rattle.rpg_paper.specs.Paper.{Position}
+use Rattle.rpg_effect.specs.Act.{act, divided, entry_at, exact, field_of_entry, found_in, found_shown, index_set, looked_up, made_current, made_current_if_any, moved, order_by, position_fault, search_start, text_over, with_found}
 use Rattle.rpg_effect.specs.Effect.{Effect, Leaves, or_halt, unless_wrong}
 use Rattle.rpg_effect.specs.Ends.{Fault}
 use Rattle.rpg_effect.specs.Forms.{entries_of, is_table_form, kind_of, length_of}
@@ -51,7 +51,7 @@ module _ (forms : ℕ → Option FieldForm) (previous : Option Position) where
 
   found_on : (w : World nat_cmp) (a b : Entry ℕ) (s : Shows) → found_in forms (on_paper previous w) a b s ≡ found_in forms w a b s
   unfolding found_in
-  found_on w a b s = ap (λ (f : ℕ → Ordering). search_of f s (positions (start_of b) (entries_of (forms b.field)))) (λ j n. order_on (kind_of (forms a.field)) w (entry_at b n) a j)
+  found_on w a b s = ap (λ (f : ℕ → Ordering). search_of f s (positions (search_start b) (entries_of (forms b.field)))) (λ j n. order_on (kind_of (forms a.field)) w (entry_at b n) a j)
 
   current_by : (b : Bool) (k n : ℕ) (w : World nat_cmp) → cond {A = World nat_cmp} b (set_current (on_paper previous w) k n) (on_paper previous w) ≡ on_paper previous (cond {A = World nat_cmp} b (set_current w k n) w)
   current_by true k n w = refl
@@ -64,8 +64,8 @@ module _ (forms : ℕ → Option FieldForm) (previous : Option Position) where
   current_if_any_on None n w = refl
   current_if_any_on (Some k) n w = current_on k n w
 
-  placed_on : (b : Entry ℕ) (table : Option ℕ) (f : Option Found) (w : World nat_cmp) → placed forms b table f (on_paper previous w) ≡ on_paper previous (placed forms b table f w)
-  unfolding placed
+  placed_on : (b : Entry ℕ) (table : Option ℕ) (f : Option Found) (w : World nat_cmp) → with_found forms b table f (on_paper previous w) ≡ on_paper previous (with_found forms b table f w)
+  unfolding with_found
   placed_on b table None w = index_on previous b.index 1 w
   placed_on b table (Some f) w =
       ap (λ (v : World nat_cmp). made_current_if_any forms table f.position (made_current forms b.field f.position v)) (index_on previous b.index f.position w)

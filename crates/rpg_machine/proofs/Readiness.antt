@@ -2,15 +2,15 @@
 use Rattle.std.proofs.Common.{◌≡◌, ◌≤◌, ◌<◌, ◌^◌, List, IfOk, OnOk, Ok, Err, Result, sym, subst}
 use Rattle.std.specs.FinMap as map
 use Rattle.rpg_effect.specs.declared.form.FieldForm.{FieldForm}
-use Rattle.rpg_lines.specs.Ready as lines
+use Rattle.rpg_machine_lines.specs.Ready as lines
 use Rattle.rpg_machine.specs.Ready.{IsReady}
 use Rattle.rpg_machine.specs.Running.{Running}
 use Rattle.rpg_machine.specs.State.{IsAble, running_of}
 use Rattle.rpg_machine.specs.declared.state.State.{State}
-use Rattle.rpg_memory.specs.declared.memory.Memory.{Memory}
-use Rattle.rpg_operations.specs.Good.{AreForms}
-use Rattle.rpg_program.specs.Kept.{IsProgram}
-use Rattle.rpg_program.specs.Object.{Object}
+use Rattle.rpg_store.specs.declared.memory.Memory.{Memory}
+use Rattle.rpg_machine_operations.specs.Good.{AreForms}
+use Rattle.rpg_object_program.specs.Kept.{IsProgram}
+use Rattle.rpg_object_program.specs.Object.{Object}
 use Rattle.rpg_store.specs.Fits.{Fits}
 use Rattle.rpg_store.specs.Store.{Currents, Values}
 
@@ -29,13 +29,13 @@ module _ {S : Type 0} (forms : S → List FieldForm) (contents : S → Values) (
   ready_of p s able none few = record { fits = able.ready.fits; no_cell = none; few_spends = few; few_pages = able.few_pages }
 
   -- the same in the words of lines
-  pub lines_ready : (p : Object) (m : Memory S) → IsProgram p → IsAble forms contents currents p m → lines.IsReady forms contents currents p.fields m
+  pub lines_ready : (p : Object) (m : Memory S) → IsProgram p → IsAble forms contents currents p m → lines.IsOutputReady forms contents currents p.fields m
   lines_ready p m program able = record {
     fields = record { rows = program.fields; own = able.ready.own; fits = able.ready.fits };
     near = able.few_pages;
   }
 
-  pub able_again : {A E : Type 0} (r : Result A E) (p : Object) (m : Memory S) → AreForms p.fields → OnOk r (lines.IsReady forms contents currents p.fields m) → OnOk r (IsAble forms contents currents p m)
+  pub able_again : {A E : Type 0} (r : Result A E) (p : Object) (m : Memory S) → AreForms p.fields → OnOk r (lines.IsOutputReady forms contents currents p.fields m) → OnOk r (IsAble forms contents currents p m)
   able_again (Ok a) p m good h = record { ready = record { good = good; own = h.fields.own; fits = h.fields.fits }; few_pages = h.near }
   able_again (Err e) p m good h = tt
 

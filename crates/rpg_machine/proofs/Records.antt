@@ -11,7 +11,7 @@ use Rattle.rpg_machine.proofs.Filling.{record_on}
 use Rattle.rpg_machine.proofs.Making.{held}
 use Rattle.rpg_machine.specs.Outputs.{ByEffect, FillsFields, inputs_of}
 use Rattle.rpg_machine.specs.Running.{Did, Running}
-use Rattle.rpg_program.specs.Object.{Object}
+use Rattle.rpg_object_program.specs.Object.{Object}
 
 pub record_filled : (p : Object) (row : ℕ) (text : List ℕ) (t : TypeRow ℕ) (n : ℕ) (e : End) (r : Running) (v : Held) → slice_get p.types row ≡ Some t → n ≡ r.config.steps + length t.inputs → v.last ≡ r.last →
     quiet e v.world ≡ record_in (form_at p.fields) text t.inputs r.config.world →

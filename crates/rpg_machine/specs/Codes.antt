@@ -5,14 +5,14 @@ use Rattle.std.specs.Coded.{Coded, code_by, coded×, coded_ℕ, coded_ℤ, coded
 use Rattle.std.specs.FinMap as map
 use Rattle.std.specs.FinSet as set
 use Rattle.std.specs.Ordering.{nat_cmp}
-use Rattle.rpg_numbers.specs.Fraction.{Fraction}
-use Rattle.rpg_form.specs.Paper.{Position}
+use Rattle.rpg_decimal_words.specs.Fraction.{Fraction}
+use Rattle.rpg_paper.specs.Paper.{Position}
 use Rattle.rpg_effect.specs.Values.{Value, Number, Text}
 use Rattle.rpg_effect.specs.World.{Fields, World}
 use Rattle.rpg_machine.specs.Config.{Config}
-use Rattle.rpg_program.specs.declared.section.Place.{Place}
-use Rattle.rpg_program.specs.declared.section.Section.{Section}
-use Rattle.rpg_program.specs.declared.section.Section.TheVariants.{Detail, Total, Subroutine}
+use Rattle.rpg_object_program.specs.declared.section.Place.{Place}
+use Rattle.rpg_object_program.specs.declared.section.Section.{Section}
+use Rattle.rpg_object_program.specs.declared.section.Section.TheVariants.{Detail, Total, Subroutine}
 use Rattle.rpg_store.specs.Store.{Currents, Values}
 use base.Stored.{coded_unit}
 
@@ -33,8 +33,8 @@ section_law Detail = refl
 section_law Total = refl
 section_law (Subroutine n) = refl
 
-abbrev pub section_code : Coded Section
-section_code = code_by ((Unit {0} ⊎ Unit {0}) ⊎ ℕ) (coded⊎ (coded⊎ coded_unit coded_unit) coded_ℕ) section_to section_from section_law
+abbrev pub coded_section : Coded Section
+coded_section = code_by ((Unit {0} ⊎ Unit {0}) ⊎ ℕ) (coded⊎ (coded⊎ coded_unit coded_unit) coded_ℕ) section_to section_from section_law
 
 abbrev place_to : Place → Section × ℕ
 place_to x = (x.section, x.number)
@@ -43,7 +43,7 @@ abbrev place_from : Section × ℕ → Place
 place_from q = record { section = q.0; number = q.1 }
 
 abbrev pub place_code : Coded Place
-place_code = code_by (Section × ℕ) (coded× section_code coded_ℕ) place_to place_from (λ _. refl)
+place_code = code_by (Section × ℕ) (coded× coded_section coded_ℕ) place_to place_from (λ _. refl)
 
 -- ---- worlds
 
@@ -134,4 +134,4 @@ abbrev config_from : World nat_cmp × Counted → Config
 config_from p = record { world = p.0; section = p.1.0; place = p.1.1.0; cells = p.1.1.1.0; allowance = p.1.1.1.1.0; steps = p.1.1.1.1.1 }
 
 abbrev pub config_code : Coded Config
-config_code = code_by (World nat_cmp × Counted) (coded× world_code (coded× section_code (coded× coded_ℕ (coded× cells_code (coded× coded_ℕ coded_ℕ))))) config_to config_from (λ _. refl)
+config_code = code_by (World nat_cmp × Counted) (coded× world_code (coded× coded_section (coded× coded_ℕ (coded× cells_code (coded× coded_ℕ coded_ℕ))))) config_to config_from (λ _. refl)

@@ -12,8 +12,8 @@ use Rattle.rpg_effect.specs.declared.input.InputField.{InputField}
 use Rattle.rpg_machine.specs.Config.{Config, Output, charged}
 use Rattle.rpg_machine.specs.declared.time.OutputTime.{OutputTime}
 use Rattle.rpg_machine.specs.declared.time.OutputTime.TheVariants as times
-use Rattle.rpg_program.specs.Constants.{word_at}
-use Rattle.rpg_program.specs.Object.{Object, lines_of}
+use Rattle.rpg_object_program.specs.Constants.{word_at}
+use Rattle.rpg_object_program.specs.Object.{Object, lines_of}
 
 -- an effect on the world, which weighs so much
 pub record ByEffect (weight : ℕ) (effect : World nat_cmp → Effect nat_cmp) (c : Config) (e : End) (d : Config) (out : Output) : Type 0 where

@@ -6,34 +6,32 @@ ghost use Rattle.rpg_effect.specs.Ends.{end_of};
 ghost use Rattle.rpg_effect.specs.Forms.{form_at, kind_of, length_of};
 ghost use Rattle.rpg_effect.specs.Input as of;
 ghost use Rattle.rpg_effect.specs.declared.form.Kind.TheVariants as kinds;
-ghost use Rattle.rpg_machine.specs.Inputs.{filled, order_of_text};
-ghost use Rattle.rpg_memory.specs.Memory.{world_of};
-ghost use Rattle.rpg_operations.specs.Good.{IsValue};
-ghost use Rattle.rpg_operations.specs.Ready.{IsReady};
-ghost use Rattle.rpg_program.specs.Kept.{IsCharacter};
+ghost use Rattle.rpg_machine.specs.Inputs.{filled_field, order_of_text};
+ghost use Rattle.rpg_store.specs.Memory.{world_of};
+ghost use Rattle.rpg_machine_operations.specs.Good.{IsValue};
+ghost use Rattle.rpg_machine_operations.specs.Ready.{IsMemoryReady};
+ghost use Rattle.rpg_object_program.specs.Kept.{IsCharacter};
 
-use rpg_columns::forms;
 use rpg_decimal::read_zoned;
 use rpg_effect::form::Kind;
+use rpg_effect::halt::Halt;
 use rpg_effect::input::InputField;
 use rpg_effect::operation::{Entry, Index};
 use rpg_effect::outcome::End;
-use rpg_memory::memory::Memory;
-use rpg_operations::arithmetic::store;
-use rpg_operations::showing::show_if_any;
-use rpg_program::row::Rows;
+use rpg_machine_operations::arithmetic::store;
+use rpg_machine_operations::showing::show_if_any;
+use rpg_object_program::forms;
+use rpg_object_program::row::Rows;
+use rpg_store::memory::Memory;
 use rpg_store::store::{Store, set_text};
 use std::cmp::Ordering;
-
-/// The halt of a character that is no digit.
-const BAD_DIGIT: u8 = 4;
 
 /// The columns of a record that an input field takes.
 fn columns_of(text: &[u8], input: InputField<u16>) -> &[u8]
     requires low { 1 ≤ input.from }
     requires ordered { input.from ≤ input.to }
     requires high { input.to ≤ length text.now }
-    ensures value { result.now ≡ of.columns input text.now }
+    ensures value { result.now ≡ of.record_part input text.now }
     ensures length { length result.now ≡ input.to + 1 - input.from }
 {
     &text[usize::from(input.from) - 1..usize::from(input.to)]
@@ -69,12 +67,12 @@ fn fill_number<S: Store + Drop>(
     input: InputField<u16>,
     digits: &[u8],
 ) -> End
-    requires ready { IsReady S.forms S.contents S.currents rows.now.fields.items memory.old }
+    requires ready { IsMemoryReady S.forms S.contents S.currents rows.now.fields.items memory.old }
     requires field { IsValue rows.now.fields.items kinds.Number input.field 1 }
     requires long { length digits.now ≡ length_of (form_at rows.now.fields.items input.field) }
     ensures done { quiet (end_of result) (world_of S.contents S.currents memory.new) ≡
-        filled kinds.Number input digits.now (world_of S.contents S.currents memory.old) }
-    ensures ready { IsReady S.forms S.contents S.currents rows.now.fields.items memory.new }
+        filled_field kinds.Number input digits.now (world_of S.contents S.currents memory.old) }
+    ensures ready { IsMemoryReady S.forms S.contents S.currents rows.now.fields.items memory.new }
     ensures form { memory.new.form ≡ memory.old.form }
 {
     match read_zoned(digits) {
@@ -86,7 +84,7 @@ fn fill_number<S: Store + Drop>(
             };
             store(rows, memory, to, input.shows, n)
         }
-        Err(_) => End::Halt(BAD_DIGIT),
+        Err(_) => End::Halt(Halt::BadDigit),
     }
 }
 
@@ -97,13 +95,13 @@ fn fill_text<S: Store + Drop>(
     input: InputField<u16>,
     text: &[u8],
 ) -> End
-    requires ready { IsReady S.forms S.contents S.currents rows.now.fields.items memory.old }
+    requires ready { IsMemoryReady S.forms S.contents S.currents rows.now.fields.items memory.old }
     requires field { IsValue rows.now.fields.items kinds.Text input.field 1 }
     requires long { length text.now ≡ length_of (form_at rows.now.fields.items input.field) }
     requires characters { All IsCharacter text.now }
     ensures done { quiet (end_of result) (world_of S.contents S.currents memory.new) ≡
-        filled kinds.Text input text.now (world_of S.contents S.currents memory.old) }
-    ensures ready { IsReady S.forms S.contents S.currents rows.now.fields.items memory.new }
+        filled_field kinds.Text input text.now (world_of S.contents S.currents memory.old) }
+    ensures ready { IsMemoryReady S.forms S.contents S.currents rows.now.fields.items memory.new }
     ensures form { memory.new.form ≡ memory.old.form }
 {
     set_text(&mut memory.store, input.field, 1, text);
@@ -118,12 +116,12 @@ fn fill_one<S: Store + Drop>(
     text: &[u8],
     input: InputField<u16>,
 ) -> End
-    requires ready { IsReady S.forms S.contents S.currents rows.now.fields.items memory.old }
+    requires ready { IsMemoryReady S.forms S.contents S.currents rows.now.fields.items memory.old }
     requires right { of.input_fault (form_at rows.now.fields.items) (length text.now) input ≡ None }
     requires characters { All IsCharacter text.now }
     ensures done { quiet (end_of result) (world_of S.contents S.currents memory.new) ≡
         of.field_in (form_at rows.now.fields.items) text.now input (world_of S.contents S.currents memory.old) }
-    ensures ready { IsReady S.forms S.contents S.currents rows.now.fields.items memory.new }
+    ensures ready { IsMemoryReady S.forms S.contents S.currents rows.now.fields.items memory.new }
     ensures form { memory.new.form ≡ memory.old.form }
 {
     let part = columns_of(text, input);
@@ -141,18 +139,18 @@ pub(crate) fn fill_all<S: Store + Drop>(
     text: &[u8],
     inputs: &[InputField<u16>],
 ) -> End
-    requires ready { IsReady S.forms S.contents S.currents rows.now.fields.items memory.old }
+    requires ready { IsMemoryReady S.forms S.contents S.currents rows.now.fields.items memory.old }
     requires right { All (λ f. of.input_fault (form_at rows.now.fields.items) (length text.now) f ≡ None) inputs.now }
     requires characters { All IsCharacter text.now }
     ensures done { quiet (end_of result) (world_of S.contents S.currents memory.new) ≡
         of.record_in (form_at rows.now.fields.items) text.now inputs.now (world_of S.contents S.currents memory.old) }
-    ensures ready { IsReady S.forms S.contents S.currents rows.now.fields.items memory.new }
+    ensures ready { IsMemoryReady S.forms S.contents S.currents rows.now.fields.items memory.new }
     ensures form { memory.new.form ≡ memory.old.form }
 {
     'fields: for input in inputs {
         match fill_one(rows, memory, text, *input) {
             End::GoesOn => {}
-            End::Halt(number) => return End::Halt(number),
+            End::Halt(halt) => return End::Halt(halt),
         }
     }
     End::GoesOn

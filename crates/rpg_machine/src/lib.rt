@@ -13,4 +13,4 @@ mod state;
 pub mod time;
 
 pub use machine::Machine;
-pub use rpg_lines::Output;
+pub use rpg_machine_lines::Output;

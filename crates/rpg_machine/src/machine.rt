@@ -1,10 +1,9 @@
 //! The machine, to its callers.
 ghost use Rattle.std.specs.Prelude.{◌≡◌, ◌≤◌, length, IfOk};
 ghost use Rattle.rpg_machine.specs.Running as of;
-ghost use Rattle.rpg_lines.specs.Right.{HasRoom};
+ghost use Rattle.rpg_machine_lines.specs.Right.{HasLineRoom};
 ghost use Rattle.rpg_machine.specs.State.{running_of};
-ghost use Rattle.rpg_memory.specs.Memory.{rest_value};
-ghost use Rattle.rpg_program.specs.Object.{seen};
+ghost use Rattle.rpg_object_program.specs.Object.{seen};
 ghost use Rattle.std.specs.FinSet as set;
 ghost use Rattle.std.specs.Prelude.{[], ◌∷◌};
 
@@ -17,12 +16,12 @@ use crate::state::{State, Writer};
 use crate::time::OutputTime;
 use rpg_decimal::{Rest, Scale};
 use rpg_effect::outcome::End;
-use rpg_form::Form;
-use rpg_lines::{Entries, Output};
-use rpg_memory::indicators::Indicators;
-use rpg_memory::memory::Memory;
-use rpg_program::row::Rows;
-use rpg_program::section::Section;
+use rpg_machine_lines::{Entries, Output};
+use rpg_object_program::row::Rows;
+use rpg_object_program::section::Section;
+use rpg_paper::Form;
+use rpg_store::indicators::Indicators;
+use rpg_store::memory::Memory;
 use rpg_store::store::Store;
 use rpg_verify::Verified;
 use std::alloc::{AllocError, Global};
@@ -53,11 +52,11 @@ impl<'a, S: Store + Drop> Model for Machine<'a, S> {
 
     ghost coded = { Prim.hlevel (codes, config_code) };
 
-    ghost use Rattle.rpg_machine.specs.State.{IsKept, running_of};
+    ghost use Rattle.rpg_machine.specs.State.{IsStateOf, running_of};
 
     ghost view = { λ m. running_of S.contents S.currents m.program m.state };
 
-    ghost invariant = { λ m. IsKept S.forms m.program m.state };
+    ghost invariant = { λ m. IsStateOf S.forms m.program m.state };
 }
 
 /// L0 and 1P.
@@ -72,7 +71,7 @@ fn first_on() -> Indicators
 
 /// Room for a line of either file.
 fn line_room(alloc: Global, rows: &Rows) -> Result<Vec<u8>, AllocError>
-    ensures { IfOk result (λ text. HasRoom (seen rows.now) text.items) }
+    ensures { IfOk result (λ text. HasLineRoom (seen rows.now) text.items) }
 {
     let places = rows.printer_length.max(rows.disk_length);
     let text = vec![in alloc; b' '; usize::from(places)]?;
@@ -87,7 +86,7 @@ fn first_state<S: Store + Drop>(
 ) -> Result<State<S>, AllocError>
     ensures start { IfOk result (λ s. running_of S.contents S.currents (seen rows.now) s ≡
         of.started (seen rows.now) (record { values = S.contents store; current = S.currents store })) }
-    ensures room { IfOk result (λ s. HasRoom (seen rows.now) s.writer.text.items) }
+    ensures room { IfOk result (λ s. HasLineRoom (seen rows.now) s.writer.text.items) }
     ensures store { IfOk result (λ s. s.memory.store ≡ store) }
 {
     let text = line_room(alloc, rows)?;
@@ -124,13 +123,13 @@ impl<'a, S: Store + Drop> Machine<'a, S> {
     ghost use Rattle.std.specs.FinSet as set;
     ghost use Rattle.rpg_effect.specs.Ends.{end_of};
     ghost use Rattle.rpg_machine.specs.Outputs.{FillsFields, PutsOut};
-    ghost use Rattle.rpg_machine.specs.Potential.{InBound};
+    ghost use Rattle.rpg_machine.specs.Potential.{PaysForSection};
     ghost use Rattle.rpg_machine.specs.Ready.{IsReady};
     ghost use Rattle.rpg_machine.specs.Run.{RunsTo};
     ghost use Rattle.rpg_machine.specs.Running as of;
     ghost use Rattle.rpg_machine.specs.Running.{Did};
-    ghost use Rattle.rpg_program.specs.Kept.{IsCharacter};
-    ghost use Rattle.rpg_program.specs.Sections.{has_end};
+    ghost use Rattle.rpg_object_program.specs.Kept.{IsCharacter};
+    ghost use Rattle.rpg_object_program.specs.Sections.{has_end};
     ghost use Rattle.rpg_store.specs.Fits.{Fits};
 
     /// A machine before its first cycle: no indicator on but L0 and 1P, the form at its first line, and the values that are in the store.
@@ -156,7 +155,7 @@ impl<'a, S: Store + Drop> Machine<'a, S> {
         requires steps { self.old.config.steps < 2 ^ 63 }
         ensures done { IfOk result (λ e. Did (RunsTo self.old.program section) self.old (end_of e) self.new) }
         ensures ready { IfOk result (λ e. e ≡ End.GoesOn → IsReady self.new) }
-        ensures bound { OnOk result (InBound section self.old self.new) }
+        ensures bound { OnOk result (PaysForSection section self.old self.new) }
     {
         self.program.is_orderly();
         run_section(&self.program, &mut self.state, section)

@@ -4,19 +4,19 @@ ghost use Rattle.rpg_effect.specs.Ends.{end_of};
 ghost use Rattle.rpg_effect.specs.Put.{IsDone};
 ghost use Rattle.rpg_machine.specs.Accepted.{IsOrderly};
 ghost use Rattle.rpg_machine.specs.Outputs as spec;
-ghost use Rattle.rpg_lines.specs.Outputs.{bytes_of};
-ghost use Rattle.rpg_lines.specs.Right.{HasRoom};
+ghost use Rattle.rpg_machine_lines.specs.Outputs.{output_of};
+ghost use Rattle.rpg_machine_lines.specs.Right.{HasLineRoom};
 ghost use Rattle.rpg_machine.specs.State.{IsAble};
-ghost use Rattle.rpg_memory.specs.Memory.{held_of};
-ghost use Rattle.rpg_program.specs.Object.{seen};
+ghost use Rattle.rpg_store.specs.Memory.{held_of};
+ghost use Rattle.rpg_object_program.specs.Object.{seen};
 
 use crate::state::Writer;
 use crate::time::OutputTime;
 use rpg_effect::outcome::End;
-use rpg_lines::weights::{detail_weight, overflow_weight, total_weight};
-use rpg_lines::{put_details, put_overflow, put_totals};
-use rpg_memory::memory::Memory;
-use rpg_program::row::Rows;
+use rpg_machine_lines::weights::{detail_weight, overflow_weight, total_weight};
+use rpg_machine_lines::{put_details, put_overflow, put_totals};
+use rpg_object_program::row::Rows;
+use rpg_store::memory::Memory;
 use rpg_store::store::Store;
 use std::alloc::AllocError;
 
@@ -42,9 +42,9 @@ pub(crate) fn put_out<S: Store + Drop>(
 ) -> Result<End, AllocError>
     requires orderly { IsOrderly (seen rows.now) }
     requires able { IsAble S.forms S.contents S.currents (seen rows.now) memory.old }
-    requires room { HasRoom (seen rows.now) writer.old.text.items }
-    ensures done { IfOk result (λ e. IsDone (spec.output_effect (seen rows.now) time) (held_of S.contents S.currents memory.old) (bytes_of writer.old.output)
-        (end_of e) (held_of S.contents S.currents memory.new) (bytes_of writer.new.output)) }
+    requires room { HasLineRoom (seen rows.now) writer.old.text.items }
+    ensures done { IfOk result (λ e. IsDone (spec.output_effect (seen rows.now) time) (held_of S.contents S.currents memory.old) (output_of writer.old.output)
+        (end_of e) (held_of S.contents S.currents memory.new) (output_of writer.new.output)) }
     ensures able { OnOk result (IsAble S.forms S.contents S.currents (seen rows.now) memory.new) }
     ensures own { S.forms memory.new.store ≡ S.forms memory.old.store }
     ensures room { length writer.new.text.items ≡ length writer.old.text.items }

@@ -1,9 +1,9 @@
 //! What changes while a program runs.
 
 use crate::cells::Cells;
-use rpg_lines::{Entries, Output};
-use rpg_memory::memory::Memory;
-use rpg_program::section::Section;
+use rpg_machine_lines::{Entries, Output};
+use rpg_object_program::section::Section;
+use rpg_store::memory::Memory;
 use rpg_store::store::Store;
 
 /// The bytes that were put out, and room for the line that is assembled.

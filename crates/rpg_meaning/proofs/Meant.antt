@@ -1,47 +1,50 @@
--- The cards come to an end, and the compiled section comes to the same.
-use Rattle.std.proofs.Common.{◌≡◌, ℕ, ◌+◌, ◌≤◌, Bool, true, false, cond, List, [], ◌∷◌, length, Option, refl, arith}
-use Rattle.rpg_calculations.specs.Keys.{Key, Name}
-use Rattle.rpg_calculations.specs.Sections.{Sections, Subroutine, is_name}
-use Rattle.rpg_machine.specs.Accepted.{IsOrderly}
-use Rattle.rpg_machine.specs.Config.{Config}
-use Rattle.rpg_meaning.proofs.Ending.{IsAtEnd, run_ends, work}
-use Rattle.rpg_meaning.proofs.Sections.{Does, section_does, section_ends}
-use Rattle.rpg_meaning.specs.Agreement.{AgreeAt}
-use Rattle.rpg_meaning.specs.Meaning.{Did, On, Over, Source, State, Stops, cards_run}
-use Rattle.rpg_meaning.specs.Parts.{InDetail, InSubroutine, InTotal, Part, body_named, calculations_in}
-use Rattle.rpg_meaning.specs.Sections.{AreOpen, Meets}
-use Rattle.rpg_meaning.specs.Translation.{IsTranslation}
-use Rattle.rpg_program.specs.Object.{Object}
+-- The runs of a source's program are those of its cards.
+use Rattle.std.proofs.Common.{◌≡◌, ℕ, ℤ, List, [], Some, refl, ap, ◌∙◌}
+use Rattle.rpg_cards.specs.Keys.{key_cmp}
+use Rattle.rpg_cards.specs.declared.spec_card.SpecCard.{SpecCard}
+use Rattle.rpg_cycle.specs.Job.{first_fields}
+use Rattle.rpg_cycle.specs.Runs as machine
+use Rattle.rpg_cycle.specs.Starting.{date_in, job_first_world, job_start}
+use Rattle.rpg_effect.specs.World.{World}
+use Rattle.rpg_faults_flow.specs.Columns.{bad_calculation_columns}
+use Rattle.rpg_faults_flow.specs.Kept.{KeepsRule}
+use Rattle.rpg_cycle_safety.proofs.Accepting.{accepted_orderly}
+use Rattle.rpg_cycle_safety.proofs.Starting.{first_holds}
+use Rattle.rpg_cycle_safety.specs.Holding.{Holds}
+use Rattle.rpg_meaning.proofs.Cycling.{runs_follow}
+use Rattle.rpg_meaning.proofs.Starting.{agrees_start, start_agrees}
+use Rattle.rpg_meaning.specs.Job.{IsProgramOf}
+use Rattle.rpg_meaning.specs.Sources.{RunsAreMeant, job_of}
+use Rattle.rpg_meaning.specs.Start.{IsStart}
+use Rattle.rpg_meaning_calculations.proofs.Keys.{named_world}
+use Rattle.rpg_meaning_calculations.proofs.Sources.{translates}
+use Rattle.rpg_object_program.specs.Kept.{IsProgram}
+use Rattle.rpg_verify_rules.specs.Accepted.{IsAccepted}
+use Rattle.rpg_cycle_safety.proofs.Dating.{date_small, start_holds}
+use Rattle.rpg_compile_program.specs.Program.{key_numbers, program_of}
+use Rattle.rpg_compile_program.specs.Table.{table_of}
 
--- no part has more calculations than all parts together
-abbrev all_in : List (Subroutine Key) → ℕ
-all_in [] = 0
-all_in (s ∷ ss) = length s.body + all_in ss
+job_is : (cards : List SpecCard) (allowance : ℕ) → KeepsRule bad_calculation_columns cards → IsProgramOf (program_of cards allowance) (job_of cards allowance) (key_numbers cards)
+unfolding program_of
+job_is cards allowance kept = record { calculations = translates cards allowance kept; same_types = refl; same_length = refl; same_allowance = refl }
 
-abbrev most_of : Sections Key → ℕ
-most_of c = length c.detail + length c.total + all_in c.subroutines
+pub runs_are_meant : (cards : List SpecCard) (allowance : ℕ) (text : List ℕ) (date : ℤ) → IsProgram (program_of cards allowance) → IsAccepted (program_of cards allowance) → KeepsRule bad_calculation_columns cards → date_in text ≡ Some date
+    → RunsAreMeant cards allowance date
+runs_are_meant cards allowance text date program accepted kept dated w start records course bytes run =
+    let p = program_of cards allowance in
+    let agree = start_agrees cards allowance date program.values w start in
+    let holds : Holds p (job_start p date (first_fields p)).world = start_holds p program date (date_small text date dated) (first_fields p) (first_holds p (job_first_world (first_fields p)) program refl) in
+    let k = runs_follow (accepted_orderly p program accepted) (job_is cards allowance kept) records [] w (job_start p date (first_fields p)) agree holds refl course run.runs in
+    record {
+      meant = k.meant;
+      run = record { runs = k.runs; print = run.print ∙ ap machine.printed k.same.output; disk = run.disk ∙ ap machine.stored k.same.output };
+      ending = k.same.ending;
+      cycles = k.same.cycles;
+    }
 
-few_in : (name : Option Name) (ss : List (Subroutine Key)) → length (body_named name ss) ≤ all_in ss
-few_in name [] = omega arith
-few_in name (s ∷ ss) = by_name (is_name name s.name) (few_in name ss)
-  where
-    by_name : (b : Bool) → length (body_named name ss) ≤ all_in ss → length (cond b s.body (body_named name ss)) ≤ length s.body + all_in ss
-    by_name true h = omega arith
-    by_name false h = omega arith
-
-few : (c : Sections Key) (part : Part) → length (calculations_in c part) ≤ most_of c
-few c InDetail = omega arith
-few c InTotal = omega arith
-few c (InSubroutine name) = let h = few_in name c.subroutines in omega arith
-
-module _ {p : Object} {source : Source} {number : Key → ℕ} (orderly : IsOrderly p) (is : IsTranslation p source number) where
-  by_end : (s : State) (d : Config) (n : ℕ) → AgreeAt p source number s d → AreOpen p source.sections d.cells s.part s.back → (x : Did) → cards_run source n s ≡ x → IsAtEnd source.sections x → Does p source number d x → Meets p source number d x
-  by_end s d n a opened (On t o) ran end does = let r = section_ends orderly is n s t o d a opened ran end in (end, r.0, r.1, r.2)
-  by_end s d n a opened (Stops k t o) ran end does = does
-  by_end s d n a opened Over ran end does = does
-
-  pub section_means : (s : State) (d : Config) → AgreeAt p source number s d → AreOpen p source.sections d.cells s.part s.back
-      → (n : ℕ) × Meets p source number d (cards_run source n s)
-  section_means s d a opened =
-      let n = work source (most_of source.sections) (few source.sections) s + 1 in
-      (n, by_end s d n a opened _ refl (run_ends source (most_of source.sections) (few source.sections) n s (omega arith)) (section_does orderly is n s d a opened))
+-- there is such a start
+pub has_start : (cards : List SpecCard) (allowance : ℕ) (date : ℤ) → IsProgram (program_of cards allowance) → (w : World key_cmp) × IsStart cards date w
+has_start cards allowance date program =
+    let p = program_of cards allowance in
+    let v = named_world (table_of cards) (job_start p date (first_fields p)).world in
+    (v.0, agrees_start cards allowance date program.values v.0 v.1)

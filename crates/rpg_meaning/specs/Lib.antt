@@ -1,8 +1,7 @@
-pub mod Agreement
-pub mod Laws
-pub mod Meaning
-pub mod NextCard
-pub mod Parts
-pub mod Sections
+pub mod Cycle
+pub mod Job
+pub mod Meant
+pub mod Phases
+pub mod Runs
 pub mod Sources
-pub mod Translation
+pub mod Start

@@ -1,19 +1,43 @@
--- What the cards of a source say by names.
-use Rattle.std.specs.Prelude.{List}
-use Rattle.std.specs.Option.{option_and_then}
+-- The job that a source and an allowance say, and what it is that a program does it.
+use Rattle.std.specs.Prelude.{◌≡◌, ℕ, ℤ, List}
+use Rattle.rpg_cards.specs.Keys.{key_cmp}
 use Rattle.rpg_cards.specs.Files.{file_for}
 use Rattle.rpg_cards.specs.declared.files.FileUse.TheVariants as uses
 use Rattle.rpg_cards.specs.declared.spec_card.SpecCard.{SpecCard}
-use Rattle.rpg_meaning.specs.Meaning.{Source}
-use Rattle.rpg_translation.specs.Lines.{lines_on}
-use Rattle.rpg_translation.specs.Program.{sections}
-use Rattle.rpg_translation.specs.Table.{key_form, key_word, table_of}
+use Rattle.rpg_cycle.specs.Job.{first_fields}
+use Rattle.rpg_cycle.specs.Runs as machine
+use Rattle.rpg_effect.specs.Put.{Bytes}
+use Rattle.rpg_effect.specs.World.{World}
+use Rattle.rpg_meaning.specs.Job.{Job}
+use Rattle.rpg_meaning.specs.Runs.{IsMeantRun, MeantCourse}
+use Rattle.rpg_meaning.specs.Start.{IsStart}
+use Rattle.rpg_meaning_calculations.specs.Sources.{source_of}
+use Rattle.rpg_compile_program.specs.Lines.{record_length_of}
+use Rattle.rpg_compile_program.specs.Program.{program_of}
+use Rattle.rpg_compile_program.specs.Types.{types_on}
 
-abbrev pub source_of : List SpecCard → Source
-source_of cards = record {
-  sections = sections cards;
-  forms = key_form (table_of cards);
-  words = key_word (table_of cards);
-  overflow = option_and_then (λ f. f.overflow) (file_for uses.Printer cards);
-  lines = lines_on cards;
+abbrev pub job_of : List SpecCard → ℕ → Job
+job_of cards allowance = record {
+  source = source_of cards;
+  types = types_on cards;
+  record_length = record_length_of (file_for uses.Primary cards);
+  allowance = allowance;
 }
+
+-- the run of the program is the run of the cards: one end, as many cycles, and the same bytes
+pub record IsMeant (cards : List SpecCard) (allowance : ℕ) (w : World key_cmp) (records : List (List ℕ)) (course : machine.Course) (bytes : Bytes) : Type 0 where
+  pub meant : MeantCourse
+  pub run : IsMeantRun (job_of cards allowance) w records meant bytes
+  pub ending : course.ending ≡ meant.ending
+  pub cycles : course.cycles ≡ meant.cycles
+
+-- each run of the program over records on a date is the run of the cards from what they start with
+abbrev pub RunsAreMeant : List SpecCard → ℕ → ℤ → Type 0
+RunsAreMeant cards allowance date =
+    (w : World key_cmp) → IsStart cards date w
+    → (records : List (List ℕ)) (course : machine.Course) (bytes : Bytes) → machine.IsRun (program_of cards allowance) date (first_fields (program_of cards allowance)) records course bytes
+    → IsMeant cards allowance w records course bytes
+
+-- a job has one run
+abbrev pub MeantRunsAreOne : Type 0
+MeantRunsAreOne = (job : Job) (w : World key_cmp) (records : List (List ℕ)) (k l : MeantCourse) (a b : Bytes) → IsMeantRun job w records k a → IsMeantRun job w records l b → (k ≡ l) × (a ≡ b)

@@ -1,38 +1,15 @@
-//! Laws of the definitions. The functions do nothing: each is called for its contract alone.
-ghost use Rattle.std.specs.Ordering.{nat_cmp};
-ghost use Rattle.std.specs.Prelude.{ℕ, List};
-ghost use Rattle.rpg_calculations.specs.Keys.{Key, key_cmp};
-ghost use Rattle.rpg_cards.specs.Cards.{Numbered};
-ghost use Rattle.rpg_cards.specs.declared.spec_card.SpecCard.{SpecCard};
-ghost use Rattle.rpg_effect.specs.World.{World};
-ghost use Rattle.rpg_flow.specs.Columns.{bad_columns};
-ghost use Rattle.rpg_flow.specs.Kept.{IsKept};
-ghost use Rattle.rpg_meaning.specs.Laws.{KeepsMeaning};
-ghost use Rattle.rpg_meaning.specs.Meaning.{Source};
-ghost use Rattle.rpg_meaning.specs.NextCard.{NumbersAreTheirs, NumbersGoUp};
-ghost use Rattle.rpg_meaning.specs.Sources.{source_of};
-ghost use Rattle.rpg_meaning.specs.Translation.{IsTranslation};
-ghost use Rattle.rpg_program.specs.Kept.{IsProgram};
-ghost use Rattle.rpg_program.specs.Object.{Object};
-ghost use Rattle.rpg_renaming.specs.Naming.{Agree};
-ghost use Rattle.rpg_rules.specs.Accepted.{IsAccepted};
-ghost use Rattle.rpg_translation.specs.Program.{numbers, program_of};
+//! Laws of what is compiled. The functions do nothing: each is called for its contract alone.
+ghost use Rattle.rpg_compile.specs.Compile.{Compiles};
+ghost use Rattle.rpg_meaning.specs.Meant.{DoesAsMeant};
+ghost use Rattle.rpg_faults.specs.Source.{cards_in};
 
-/// An accepted program that is what calculation cards stand for does what they mean.
-pub fn accepted_programs_keep_meaning()
-    ensures { (p : Object) → IsProgram p → IsAccepted p → (source : Source) (number : Key → ℕ) → IsTranslation p source number → KeepsMeaning p source number }
-{}
+use rpg_object_program::Program;
 
-/// So does the program of a source, where no calculation card lacks what it must have. And whatever a program's fields hold, there are
-/// values by name that agree with them.
-pub fn compiled_cards_keep_meaning()
-    ensures meaning { (cards : List SpecCard) (allowance : ℕ) → IsProgram (program_of cards allowance) → IsAccepted (program_of cards allowance) → IsKept bad_columns cards →
-        KeepsMeaning (program_of cards allowance) (source_of cards) (numbers cards) }
-    ensures worlds { (cards : List SpecCard) (w : World nat_cmp) → (v : World key_cmp) × Agree (source_of cards).forms (numbers cards) v w }
-{}
-
-/// The number of the next card is that of the first card of the next calculation, and an earlier calculation begins on an earlier card.
-pub fn numbers_are_of_cards()
-    ensures theirs { (cards : List SpecCard) → NumbersAreTheirs cards }
-    ensures up { (cards : List SpecCard) (low : ℕ) → Numbered low cards → NumbersGoUp cards }
-{}
+/// A compiled program does what the cards of its text mean.
+#[tactic(auto, using(crate::proofs::CompiledMeant::does_as_meant))]
+pub fn compiled_programs_do_as_meant(text: &[u8], allowance: u16, program: &Program)
+    requires { Compiles text.now allowance program.now }
+    ensures { DoesAsMeant (cards_in text.now) allowance program.now }
+{
+    let _rows = program.rows();
+}

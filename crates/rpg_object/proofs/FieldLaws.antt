@@ -7,15 +7,15 @@ use Rattle.rpg_effect.specs.declared.form.Class.TheVariants as classes
 use Rattle.rpg_effect.specs.declared.form.FieldForm.{FieldForm}
 use Rattle.rpg_effect.specs.declared.form.Kind.{Kind}
 use Rattle.rpg_effect.specs.declared.form.Kind.TheVariants as kinds
-use Rattle.rpg_format.specs.declared.fault.Code.TheVariants.{NotAllowed, PastLimit}
-use Rattle.rpg_format.specs.Format.{byte, two_bytes, pair, row, times_with, AllAlong}
-use Rattle.rpg_format.specs.Numbers.{is_between, flag_number}
-use Rattle.rpg_format.proofs.Laws.{IsFormat, IsRule, byte_law, two_law, pair_law, row_law, times_law}
-use Rattle.rpg_format.proofs.Rules.{chosen, stands_for, guarded, choice_rule, number_law, byte_where_law}
-use Rattle.rpg_program.specs.Kept.{has_entries, length_limit, AreDecimals, IsDateForm, IsFieldRow, storage_of}
-use Rattle.rpg_object.specs.Fields.{kind_number, kind_of, class_number, classes_of, class_of, shortest, longest, most_decimals, is_decimals, sequences_of, sequence_of, most_entries, entries_within, field, storage_after, fields}
+use Rattle.rpg_object_format.specs.declared.fault.Code.TheVariants.{NotAllowed, PastLimit}
+use Rattle.rpg_object_format.specs.Format.{byte, two_bytes, pair, row, times_with, AllAlong}
+use Rattle.rpg_object_format.specs.Numbers.{is_between, flag_number}
+use Rattle.rpg_object_format.proofs.Laws.{IsFormat, IsRule, byte_law, two_law, pair_law, row_law, times_law}
+use Rattle.rpg_object_format.proofs.Rules.{chosen, stands_for, guarded, choice_rule, number_law, byte_where_law}
+use Rattle.rpg_object_program.specs.Kept.{may_have_entries, length_limit, AreDecimals, IsDateForm, IsFieldRow, storage_of}
+use Rattle.rpg_object.specs.Fields.{kind_number, kind_by_number, class_number, classes_of, class_of, shortest, longest_field, most_decimals, is_decimals, sequences_of, sequence_of, most_entries, entries_within, field, storage_after, fields}
 use Rattle.rpg_object.specs.FirstValues.{HasLength}
-use Rattle.rpg_instructions.proofs.Choices.{passed, within, taken, between}
+use Rattle.rpg_object_rows.proofs.Choices.{passed, within, taken, between}
 use Rattle.rpg_object.proofs.Tables.{all_from_along, all_head, all_tail}
 
 -- ---- laws of the format
@@ -33,7 +33,7 @@ field_law storage =
     row_law _ _ _ (λ a h. refl) (λ x. refl)
     (pair_law _ _ (byte_law _ _ (choice_rule (kinds.Number ∷ kinds.Text ∷ []) kind_number)) (λ k.
     pair_law _ _ (byte_law _ _ (choice_rule (classes_of k) class_number)) (λ c.
-    pair_law _ _ (number_law (is_between (shortest c) (longest k c))) (λ len.
+    pair_law _ _ (number_law (is_between (shortest c) (longest_field k c))) (λ len.
     pair_law _ _ (byte_where_law (is_decimals (most_decimals k c) len)) (λ decimals.
     pair_law _ _ (byte_law _ _ (choice_rule (sequences_of c) flag_number)) (λ is_ascending.
     two_law _ _ (entries_rule (most_entries c) len storage)))))))
@@ -51,7 +51,7 @@ least classes.Table len h = h
 least classes.Constant len h = h
 least classes.Date len h = omega arith
 
-most : (k : Kind) (c : Class) (len : ℕ) → len ≤ longest k c → len ≤ length_limit k
+most : (k : Kind) (c : Class) (len : ℕ) → len ≤ longest_field k c → len ≤ length_limit k
 most k classes.Plain len h = h
 most k classes.Array len h = h
 most k classes.Table len h = h
@@ -82,7 +82,7 @@ date_decimals kinds.Text = omega arith
 record AreNumbers (k : Kind) (c : Class) (len decimals : ℕ) : Type 0 where
   class : class_of k (class_number c) ≡ Ok c
   low : shortest c ≤ len
-  high : len ≤ longest k c
+  high : len ≤ longest_field k c
   few : decimals ≤ most_decimals k c
   in_length : decimals ≤ len
 
@@ -92,11 +92,11 @@ date_from f c e h =
     let none = date_decimals f.kind in
     record { kind = date_kind f.kind n.class; digits = omega (arith, n.low, n.high); decimals = omega (arith, n.few) }
 
-unordered : (c : Class) (b : Bool) → has_entries c ≡ false → sequence_of c (flag_number b) ≡ Ok b → b ≡ false
+unordered : (c : Class) (b : Bool) → may_have_entries c ≡ false → sequence_of c (flag_number b) ≡ Ok b → b ≡ false
 unordered c false e h = refl
 unordered c true e h = absurd (let k = rw e at h in cc)
 
-single : (c : Class) (n : ℕ) → has_entries c ≡ false → n ≤ most_entries c → n ≤ 1
+single : (c : Class) (n : ℕ) → may_have_entries c ≡ false → n ≤ most_entries c → n ≤ 1
 single c n e h = rw e at h
 
 some_entries : (c : Class) → most_entries c ≤ 9999
@@ -124,7 +124,7 @@ entries_are most len storage n e =
 pub field_kept : (s : ℕ) (f : FieldForm) → (field s).Holds f → IsFieldRow f
 unfolding field row pair byte two_bytes
 field_kept s f h =
-    let len = within (shortest f.class) (longest f.kind f.class) f.length h.1.1.0.0 in
+    let len = within (shortest f.class) (longest_field f.kind f.class) f.length h.1.1.0.0 in
     let decimals = and_parts (leb f.decimals (most_decimals f.kind f.class)) (leb f.decimals f.length) (passed (is_decimals (most_decimals f.kind f.class) f.length) f.decimals h.1.1.1.0.0) in
     let few = leb-true _ _ decimals.0 in
     let in_length = leb-true _ _ decimals.1 in
@@ -168,7 +168,7 @@ fields_lengths n fs h = lengths_kept fs (fields_kept n fs h)
 
 -- ---- what keeps that is a field
 
-kind_from : (k : Kind) → (kind_of (kind_number k) ≡ Ok k) × (kind_number k < 2 ^ 8)
+kind_from : (k : Kind) → (kind_by_number (kind_number k) ≡ Ok k) × (kind_number k < 2 ^ 8)
 kind_from kinds.Number = (refl, omega arith)
 kind_from kinds.Text = (refl, omega arith)
 
@@ -187,7 +187,7 @@ class_from kinds.Text classes.Date h = absurd (let k : kinds.Text ≡ kinds.Numb
 -- how long a field is, and how many decimals it has
 record IsSized (k : Kind) (c : Class) (len decimals : ℕ) : Type 0 where
   low : shortest c ≤ len
-  high : len ≤ longest k c
+  high : len ≤ longest_field k c
   few : decimals ≤ most_decimals k c
   in_length : decimals ≤ len
 
@@ -209,7 +209,7 @@ form_sized : (k : Kind) (f : FieldForm) → f.kind ≡ k → 1 ≤ f.length → 
 form_sized kinds.Number f e a b d date = number_sized f.class f refl a b d.0 d.1 date
 form_sized kinds.Text f e a b d date = text_sized f.class f e a b d date
 
-sequence_from : (c : Class) (b : Bool) → (has_entries c ≡ false → b ≡ false) → (sequence_of c (flag_number b) ≡ Ok b) × (flag_number b < 2 ^ 8)
+sequence_from : (c : Class) (b : Bool) → (may_have_entries c ≡ false → b ≡ false) → (sequence_of c (flag_number b) ≡ Ok b) × (flag_number b < 2 ^ 8)
 sequence_from classes.Plain b h = rw (h refl) (refl, omega arith)
 sequence_from classes.Constant b h = rw (h refl) (refl, omega arith)
 sequence_from classes.Date b h = rw (h refl) (refl, omega arith)
@@ -218,7 +218,7 @@ sequence_from classes.Array false h = (refl, omega arith)
 sequence_from classes.Table true h = (refl, omega arith)
 sequence_from classes.Table false h = (refl, omega arith)
 
-entries_limit : (c : Class) (n : ℕ) → n ≤ 9999 → (has_entries c ≡ false → n ≡ 1) → n ≤ most_entries c
+entries_limit : (c : Class) (n : ℕ) → n ≤ 9999 → (may_have_entries c ≡ false → n ≡ 1) → n ≤ most_entries c
 entries_limit classes.Plain n h one = let e = one refl in omega arith
 entries_limit classes.Constant n h one = let e = one refl in omega arith
 entries_limit classes.Date n h one = let e = one refl in omega arith
@@ -242,7 +242,7 @@ field_from s f h storage =
     let z = form_sized f.kind f refl h.shortest h.longest h.decimals h.date in
     let small = length_small f.kind in
     let few = decimals_small f.kind f.length f.decimals h.decimals in
-    let len = between (shortest f.class) (longest f.kind f.class) f.length z.low z.high in
+    let len = between (shortest f.class) (longest_field f.kind f.class) f.length z.low z.high in
     let decimals = taken (is_decimals (most_decimals f.kind f.class) f.length) f.decimals (and_from (leb f.decimals (most_decimals f.kind f.class)) (leb f.decimals f.length) (le-leb _ _ z.few) (le-leb _ _ z.in_length)) in
     let entries = entries_from (most_entries f.class) f.length s f.entries h.fewest (entries_limit f.class f.entries h.most h.single) storage in (
       kind_from f.kind,

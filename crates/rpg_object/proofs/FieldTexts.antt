@@ -1,7 +1,7 @@
 -- The text of a field doesn't depend on the storage that is left.
 use Rattle.std.proofs.Common.{◌≡◌, ℕ, List, [], ◌∷◌, ◌++◌, refl, ap}
 use Rattle.rpg_effect.specs.declared.form.FieldForm.{FieldForm}
-use Rattle.rpg_format.specs.Format.{keep, spelled_along, times_with, byte, two_bytes, pair, row}
+use Rattle.rpg_object_format.specs.Format.{keep, spelled_along, times_with, byte, two_bytes, pair, row}
 use Rattle.rpg_object.specs.Fields.{field, fields, storage_after}
 
 abbrev pub field_text : FieldForm → List ℕ

@@ -2,11 +2,11 @@
 use Rattle.std.proofs.Common.{◌≡◌, ℕ, zero, suc, ◌+◌, ◌<◌, List, [], ◌∷◌, length, drop, get_or, refl, sym, ap, ◌∙◌, add-one, drop-cons, arith}
 use Rattle.rpg_effect.specs.declared.form.FieldForm.{FieldForm}
 use Rattle.rpg_effect.specs.Values.{Value}
-use Rattle.rpg_program.specs.Kept.{AreEntriesOf, AreValuesOf}
-use Rattle.rpg_object.specs.FirstValues.{entries, next_entries, later_fields}
+use Rattle.rpg_object_program.specs.Kept.{AreEntriesOf, AreValuesOf}
+use Rattle.rpg_object.specs.FirstValues.{entries_format, next_entries, later_fields}
 
 -- the values of the next field
-pub next_entries-drop : (fs : List FieldForm) (i : ℕ) (d : FieldForm) → i < length fs → next_entries (drop i fs) ≡ entries (get_or fs i d)
+pub next_entries-drop : (fs : List FieldForm) (i : ℕ) (d : FieldForm) → i < length fs → next_entries (drop i fs) ≡ entries_format (get_or fs i d)
 next_entries-drop fs i d h = ap next_entries (drop-cons fs i d h)
 
 later_suc : (fs : List FieldForm) (i : ℕ) (vs : List Value) → later_fields (drop i fs) vs ≡ drop (suc i) fs

@@ -2,17 +2,17 @@
 use Rattle.std.proofs.Common.{◌≡◌, ℕ, ◌-◌, ◌^◌, ◌<◌, ◌≤◌, cond, Option, Some, None, Ok, Err, refl, sym, ap, ◌∙◌, arith, inl, inr, leb, eqb, eqb-true, ne_eqb}
 use Rattle.std.proofs.lemmas.Bool.{leb-true, le-leb, and_parts, and_from}
 use Rattle.std.specs.Option.{ForSome}
-use Rattle.rpg_format.specs.declared.fault.Code.TheVariants.{NotAllowed, Unused, Version}
-use Rattle.rpg_format.specs.Format.{two_bytes, pair, row}
-use Rattle.rpg_format.specs.Numbers.{is_between}
-use Rattle.rpg_format.proofs.Laws.{IsFormat, IsRule, two_law, pair_law, row_law}
-use Rattle.rpg_format.proofs.Rules.{chosen, stands_for, value_is, guarded, number_law, count_law, only_number_law}
-use Rattle.rpg_program.specs.Kept.{IsOverflowIndicator}
+use Rattle.rpg_object_format.specs.declared.fault.Code.TheVariants.{NotAllowed, Unused, Version}
+use Rattle.rpg_object_format.specs.Format.{two_bytes, pair, row}
+use Rattle.rpg_object_format.specs.Numbers.{is_between}
+use Rattle.rpg_object_format.proofs.Laws.{IsFormat, IsRule, two_law, pair_law, row_law}
+use Rattle.rpg_object_format.proofs.Rules.{chosen, stands_for, value_is, guarded, number_law, count_law, only_number_law}
+use Rattle.rpg_object_program.specs.Kept.{IsOverflowIndicator}
 use Rattle.rpg_object.specs.declared.header.Counts.{Counts}
 use Rattle.rpg_object.specs.declared.header.Header.{Header}
 use Rattle.rpg_object.specs.declared.header.Settings.{Settings}
-use Rattle.rpg_object.specs.Header.{overflow_of, overflow_number, settings, most_instructions, counts, header}
-use Rattle.rpg_instructions.proofs.Choices.{within, counted, between, few}
+use Rattle.rpg_object.specs.Header.{overflow_of, overflow_number, settings, most_instructions, counts, header_format}
+use Rattle.rpg_object_rows.proofs.Choices.{within, counted, between, few}
 
 overflow_rule : IsRule overflow_of overflow_number
 overflow_rule n x e =
@@ -38,8 +38,8 @@ counts_law =
     (pair_law _ _ (count_law 4000) (λ f. pair_law _ _ (count_law 200) (λ t. pair_law _ _ (count_law 1000) (λ l.
     pair_law _ _ (count_law most_instructions) (λ d. pair_law _ _ (count_law (most_instructions - d)) (λ n. count_law 100))))))
 
-pub header_law : IsFormat header
-unfolding header
+pub header_law : IsFormat header_format
+unfolding header_format
 header_law =
     row_law _ _ _ (λ a h. refl) (λ x. refl)
     (pair_law _ _ (only_number_law 1 Version) (λ version. pair_law _ _ settings_law (λ s. pair_law _ _ counts_law (λ c. only_number_law 0 Unused))))
@@ -101,8 +101,8 @@ counts_kept c h = record {
   few_subroutines = counted 100 c.subroutines h.1.1.1.1.1.0;
 }
 
-pub header_kept : (h : Header) → header.Holds h → AreSettings h.settings × AreCounts h.counts
-unfolding header row pair
+pub header_kept : (h : Header) → header_format.Holds h → AreSettings h.settings × AreCounts h.counts
+unfolding header_format row pair
 header_kept h holds = (settings_kept h.settings holds.1.0, counts_kept h.counts holds.1.1.0)
 
 -- ---- what keeps that is a header
@@ -138,6 +138,6 @@ counts_from c h =
       ),
     )
 
-pub header_from : (h : Header) → AreSettings h.settings → AreCounts h.counts → header.Holds h
-unfolding header row pair two_bytes
+pub header_from : (h : Header) → AreSettings h.settings → AreCounts h.counts → header_format.Holds h
+unfolding header_format row pair two_bytes
 header_from h s c = ((refl, omega arith), (settings_from h.settings s, (counts_from h.counts c, (refl, omega arith))))

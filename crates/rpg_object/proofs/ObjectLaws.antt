@@ -2,24 +2,24 @@
 use Rattle.std.proofs.Common.{◌≡◌, ℕ, zero, suc, ◌+◌, ◌-◌, ◌≤◌, Bool, true, false, ◌&&◌, List, [], ◌∷◌, ◌++◌, length, drop, Some, Result, Ok, Err, refl, sym, ap, subst, ◌∙◌, append-nil, arith, inl, inr, eqb, eqb-true, length-append, length-drop}
 use Rattle.std.proofs.lemmas.List.{drop-append-le}
 use Rattle.std.specs.Prelude.{◌⊎◌}
-use Rattle.rpg_format.specs.declared.fault.Code.{Code}
-use Rattle.rpg_format.specs.declared.fault.Code.TheVariants.{NoObject, CutShort, LeftOver}
-use Rattle.rpg_format.specs.declared.fault.Fault.{Fault}
-use Rattle.rpg_format.specs.Format.{◌>>=◌, fault_at, pair, times_with}
-use Rattle.rpg_format.proofs.Laws.{IsBytes, IsBytes-rest, IsFormat, further, bind_ok, bind_err, ok_is, pair_law, row_law, table_law}
-use Rattle.rpg_format.proofs.Rules.{chosen}
-use Rattle.rpg_program.specs.Object.{Object}
-use Rattle.rpg_instructions.specs.Instructions.{instruction}
-use Rattle.rpg_rows.specs.Lines.{line}
-use Rattle.rpg_rows.specs.Types.{record_type}
-use Rattle.rpg_instructions.proofs.InstructionLaws.{instruction_law}
-use Rattle.rpg_rows.proofs.LineLaws.{line_law}
-use Rattle.rpg_rows.proofs.TypeLaws.{record_type_law}
+use Rattle.rpg_object_format.specs.declared.fault.Code.{Code}
+use Rattle.rpg_object_format.specs.declared.fault.Code.TheVariants.{NoObject, CutShort, LeftOver}
+use Rattle.rpg_object_format.specs.declared.fault.Fault.{Fault}
+use Rattle.rpg_object_format.specs.Format.{◌>>=◌, fault_at, pair, times_with}
+use Rattle.rpg_object_format.proofs.Laws.{IsBytes, IsBytes-rest, IsFormat, further, bind_ok, bind_err, ok_is, pair_law, row_law, table_law}
+use Rattle.rpg_object_format.proofs.Rules.{chosen}
+use Rattle.rpg_object_program.specs.Object.{Object}
+use Rattle.rpg_object_rows.specs.Instructions.{instruction}
+use Rattle.rpg_object_rows.specs.Lines.{line}
+use Rattle.rpg_object_rows.specs.Types.{record_type_format}
+use Rattle.rpg_object_rows.proofs.InstructionLaws.{instruction_law}
+use Rattle.rpg_object_rows.proofs.LineLaws.{line_law}
+use Rattle.rpg_object_rows.proofs.TypeLaws.{record_type_law}
 use Rattle.rpg_object.specs.declared.header.Counts.{Counts}
 use Rattle.rpg_object.specs.declared.header.Header.{Header}
 use Rattle.rpg_object.specs.Fields.{fields}
-use Rattle.rpg_object.specs.Header.{header, most_instructions}
-use Rattle.rpg_object.specs.Program.{Tables, tables, object_of, header_of, tables_of, body, name, spelling, ended, begins_with, reading, fault_in, first_fault, FaultStays}
+use Rattle.rpg_object.specs.Header.{header_format, most_instructions}
+use Rattle.rpg_object.specs.Program.{Tables, tables, object_of, header_of, tables_of, body, object_name, spelling, wholly_read, begins_with, reading, fault_in, first_fault, FaultStays}
 use Rattle.rpg_object.specs.Subroutines.{subroutines}
 use Rattle.rpg_object.proofs.FieldLaws.{fields_law}
 use Rattle.rpg_object.proofs.HeaderLaws.{header_law}
@@ -31,7 +31,7 @@ unfolding tables
 tables_law c =
     pair_law _ _ (fields_law c.fields) (λ fs.
     pair_law _ _ (values_law fs) (λ vs.
-    pair_law _ _ (table_law c.types record_type record_type_law) (λ ts.
+    pair_law _ _ (table_law c.types record_type_format record_type_law) (λ ts.
     pair_law _ _ (table_law c.lines line line_law) (λ ls.
     pair_law _ _ (table_law c.detail instruction instruction_law) (λ detail.
     pair_law _ _ (table_law c.total instruction instruction_law) (λ total.
@@ -49,7 +49,7 @@ counts_are h {f} {f'} {t} {t'} {l} {l'} {d} {d'} {n} {n'} {s} {s'} ef et el ed e
 abbrev with_header : Header × Tables → Header → Header × Tables
 with_header a h = (h, a.1)
 
-there : (a : Header × Tables) → (pair header (λ h. tables h.counts)).Holds a → (header_of (object_of a), tables_of (object_of a)) ≡ a
+there : (a : Header × Tables) → (pair header_format (λ h. tables h.counts)).Holds a → (header_of (object_of a), tables_of (object_of a)) ≡ a
 unfolding tables pair fields subroutines times_with
 there a h =
     let f : length a.1.0 ≡ a.0.counts.fields = h.1.0.0 in
@@ -62,7 +62,7 @@ there a h =
 
 pub body_law : IsFormat body
 unfolding body
-body_law = row_law object_of (λ p. (header_of p, tables_of p)) (pair header (λ h. tables h.counts)) there (λ x. refl) (pair_law header (λ h. tables h.counts) header_law (λ h. tables_law h.counts))
+body_law = row_law object_of (λ p. (header_of p, tables_of p)) (pair header_format (λ h. tables h.counts)) there (λ x. refl) (pair_law header_format (λ h. tables h.counts) header_law (λ h. tables_law h.counts))
 
 -- ---- whole objects
 
@@ -81,11 +81,11 @@ begins_front (x ∷ xs) (b ∷ bytes) e =
     let same : x ≡ b = eqb-true _ _ k.0 in
     rw same (ap (λ (y : List ℕ). b ∷ y) (begins_front xs bytes k.1))
 
-ended_ok : (p : Object) (rest : List ℕ) (q : Object) → ended (p, rest) ≡ Ok q → (rest ≡ []) × (p ≡ q)
+ended_ok : (p : Object) (rest : List ℕ) (q : Object) → wholly_read (p, rest) ≡ Ok q → (rest ≡ []) × (p ≡ q)
 ended_ok p [] q e = (refl, ok_is p q e)
 ended_ok p (b ∷ rest) q e = absurd cc
 
-ended_err : (p : Object) (rest : List ℕ) (d : Fault) → ended (p, rest) ≡ Err d → d.left ≤ length rest
+ended_err : (p : Object) (rest : List ℕ) (d : Fault) → wholly_read (p, rest) ≡ Err d → d.left ≤ length rest
 ended_err p [] d e = absurd cc
 ended_err p (b ∷ rest) d e = let k : fault_at (b ∷ rest) LeftOver ≡ d = cc in let l : suc (length rest) ≡ d.left = ap (λ (f : Fault). f.left) k in omega arith
 
@@ -97,14 +97,14 @@ IsBytes-drop (suc n) (b ∷ bytes) h = IsBytes-drop n bytes (IsBytes-rest b byte
 pub all_takes : (bytes : List ℕ) (p : Object) → IsBytes bytes → reading bytes ≡ Ok p → body.Holds p × (bytes ≡ spelling p)
 unfolding reading
 all_takes bytes p fits e =
-    elim (chosen (begins_with name bytes) (body.reading (drop 6 bytes) >>= ended) (Err (fault_at bytes NoObject)) (found p) e) [
+    elim (chosen (begins_with object_name bytes) (body.reading (drop 6 bytes) >>= wholly_read) (Err (fault_at bytes NoObject)) (found p) e) [
       | inl w ↦
-          let front : bytes ≡ name ++ drop 6 bytes = begins_front name bytes w.0 in
-          let a = bind_ok (body.reading (drop 6 bytes)) ended p w.1 in
+          let front : bytes ≡ object_name ++ drop 6 bytes = begins_front object_name bytes w.0 in
+          let a = bind_ok (body.reading (drop 6 bytes)) wholly_read p w.1 in
           let t = body_law.takes (drop 6 bytes) a.0.0 a.0.1 (IsBytes-drop 6 bytes fits) a.1 in
           let k = ended_ok a.0.0 a.0.1 p a.2 in
           let all : drop 6 bytes ≡ body.spelling a.0.0 = t.0.parts ∙ ap (λ (r : List ℕ). body.spelling a.0.0 ++ r) k.0 ∙ append-nil (body.spelling a.0.0) in
-          subst (λ (q : Object). body.Holds q × (bytes ≡ name ++ body.spelling q)) k.1 (t.1, front ∙ ap (λ (r : List ℕ). name ++ r) all)
+          subst (λ (q : Object). body.Holds q × (bytes ≡ object_name ++ body.spelling q)) k.1 (t.1, front ∙ ap (λ (r : List ℕ). object_name ++ r) all)
       | inr w ↦ absurd (let k = w.1 in cc)
     ]
 
@@ -112,15 +112,15 @@ pub all_again : (p : Object) → body.Holds p → reading (spelling p) ≡ Ok p
 unfolding reading
 all_again p h =
     let one : body.reading (body.spelling p) ≡ Ok (p, []) = ap body.reading (sym (append-nil (body.spelling p))) ∙ body_law.again p [] h in
-    (ap (λ (r : Result (Object × List ℕ) Fault). r >>= ended) one)
+    (ap (λ (r : Result (Object × List ℕ) Fault). r >>= wholly_read) one)
 
 pub all_within : (bytes : List ℕ) (d : Fault) → IsBytes bytes → reading bytes ≡ Err d → d.left ≤ length bytes
 unfolding reading
 all_within bytes d fits e =
-    elim (chosen (begins_with name bytes) (body.reading (drop 6 bytes) >>= ended) (Err (fault_at bytes NoObject)) (Err d) e) [
+    elim (chosen (begins_with object_name bytes) (body.reading (drop 6 bytes) >>= wholly_read) (Err (fault_at bytes NoObject)) (Err d) e) [
       | inl w ↦
           let shorter : length (drop 6 bytes) ≤ length bytes = omega (arith, length-drop 6 bytes) in
-          elim (bind_err (body.reading (drop 6 bytes)) ended d w.1) [
+          elim (bind_err (body.reading (drop 6 bytes)) wholly_read d w.1) [
             | inl bad ↦ let k = body_law.within (drop 6 bytes) d (IsBytes-drop 6 bytes fits) bad in omega arith
             | inr a ↦
                 let t = body_law.takes (drop 6 bytes) a.0.0 a.0.1 (IsBytes-drop 6 bytes fits) a.1 in
@@ -174,7 +174,7 @@ begins_not (x ∷ xs) (b ∷ bytes) more le e =
       | inr w ↦ ap (λ (t : Bool). t && begins_with xs (bytes ++ more)) w.0 ∙ begins_not xs bytes more (omega arith) w.1
     ]
 
-ended_longer : (p : Object) (rest more : List ℕ) (d : Fault) → ended (p, rest) ≡ Err d → ended (p, rest ++ more) ≡ Err (further (length more) d)
+ended_longer : (p : Object) (rest more : List ℕ) (d : Fault) → wholly_read (p, rest) ≡ Err d → wholly_read (p, rest ++ more) ≡ Err (further (length more) d)
 ended_longer p [] more d e = absurd cc
 ended_longer p (b ∷ rest) more d e =
     let k : fault_at (b ∷ rest) LeftOver ≡ d = cc in
@@ -184,19 +184,19 @@ ended_longer p (b ∷ rest) more d e =
 pub reading_fails_alike : (bytes more : List ℕ) (d : Fault) → reading bytes ≡ Err d → (d.code ≡ CutShort → ⊥) → (d.code ≡ NoObject → 6 ≤ length bytes) → reading (bytes ++ more) ≡ Err (further (length more) d)
 unfolding reading
 reading_fails_alike bytes more d e whole long =
-    elim (chosen (begins_with name bytes) (body.reading (drop 6 bytes) >>= ended) (Err (fault_at bytes NoObject)) (Err d) e) [
+    elim (chosen (begins_with object_name bytes) (body.reading (drop 6 bytes) >>= wholly_read) (Err (fault_at bytes NoObject)) (Err d) e) [
       | inl w ↦
-          let six : 6 ≤ length bytes = begins_long name bytes w.0 in
-          let front : begins_with name (bytes ++ more) ≡ true = begins_longer name bytes more w.0 in
+          let six : 6 ≤ length bytes = begins_long object_name bytes w.0 in
+          let front : begins_with object_name (bytes ++ more) ≡ true = begins_longer object_name bytes more w.0 in
           let dropped : drop 6 (bytes ++ more) ≡ drop 6 bytes ++ more = drop-append-le 6 bytes more six in
-          elim (bind_err (body.reading (drop 6 bytes)) ended d w.1) [
+          elim (bind_err (body.reading (drop 6 bytes)) wholly_read d w.1) [
             | inl bad ↦ rw (front, dropped, body_law.fails_alike (drop 6 bytes) more d bad whole) refl
             | inr a ↦ rw (front, dropped, body_law.stays (drop 6 bytes) more a.0.0 a.0.1 a.1) (ended_longer a.0.0 a.0.1 more d a.2)
           ]
       | inr w ↦
           let k : fault_at bytes NoObject ≡ d = let m = w.1 in cc in
           let six : 6 ≤ length bytes = long (ap (λ (f : Fault). f.code) (sym k)) in
-          rw (begins_not name bytes more six w.0) (ap fails (fault-longer bytes more NoObject ∙ ap (further (length more)) k))
+          rw (begins_not object_name bytes more six w.0) (ap fails (fault-longer bytes more NoObject ∙ ap (further (length more)) k))
     ]
 
 fault_is : (bytes : List ℕ) (r : Result Object Fault) (offset : ℕ) (code : Code) → fault_in bytes r ≡ Some (offset, code) → (d : Fault) × (r ≡ Err d) × (length bytes - d.left ≡ offset) × (d.code ≡ code)

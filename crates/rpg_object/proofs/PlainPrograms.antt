@@ -1,19 +1,19 @@
 -- What the format of programs holds is a program in plain words, and back.
 use Rattle.std.proofs.Common.{◌-◌, length, arith}
-use Rattle.rpg_format.specs.Format.{pair, row}
-use Rattle.rpg_program.specs.Kept.{IsInstructionRow, IsLineRow, IsProgram, IsTypeRow}
-use Rattle.rpg_program.specs.Object.{Object}
-use Rattle.rpg_instructions.specs.Instructions.{instruction}
-use Rattle.rpg_rows.specs.Lines.{line}
-use Rattle.rpg_rows.specs.Types.{record_type}
-use Rattle.rpg_instructions.proofs.InstructionKept.{instruction_kept, instruction_from}
-use Rattle.rpg_rows.proofs.LineLaws.{line_kept, line_from}
-use Rattle.rpg_rows.proofs.TypeLaws.{type_kept, type_from}
+use Rattle.rpg_object_format.specs.Format.{pair, row}
+use Rattle.rpg_object_program.specs.Kept.{IsInstructionRow, IsLineRow, IsProgram, IsTypeRow}
+use Rattle.rpg_object_program.specs.Object.{Object}
+use Rattle.rpg_object_rows.specs.Instructions.{instruction}
+use Rattle.rpg_object_rows.specs.Lines.{line}
+use Rattle.rpg_object_rows.specs.Types.{record_type_format}
+use Rattle.rpg_object_rows.proofs.InstructionKept.{instruction_kept, instruction_from}
+use Rattle.rpg_object_rows.proofs.LineLaws.{line_kept, line_from}
+use Rattle.rpg_object_rows.proofs.TypeLaws.{type_kept, type_from}
 use Rattle.rpg_object.specs.Program.{body, counts_of, header_of, settings_of, tables}
 use Rattle.rpg_object.proofs.FieldLaws.{fields_kept, storage_kept, fields_from}
 use Rattle.rpg_object.proofs.HeaderLaws.{AreSettings, AreCounts, header_kept, header_from}
 use Rattle.rpg_object.proofs.SubroutineLaws.{subroutines_kept, instructions_within, subroutines_from}
-use Rattle.rpg_instructions.proofs.Choices.{all_from_table, table_from_all}
+use Rattle.rpg_object_rows.proofs.Choices.{all_from_table, table_from_all}
 use Rattle.rpg_object.proofs.ValueLaws.{values_kept, values_from}
 
 pub program_kept : (p : Object) → body.Holds p → IsProgram p
@@ -38,7 +38,7 @@ program_kept p h =
       storage = storage_kept (length p.fields) p.fields h.1.0;
       values = values_kept p.fields p.values h.1.1.0;
       few_types = c.few_types;
-      types = all_from_table record_type IsTypeRow type_kept (length p.types) p.types h.1.1.1.0;
+      types = all_from_table record_type_format IsTypeRow type_kept (length p.types) p.types h.1.1.1.0;
       few_lines = c.few_lines;
       lines = all_from_table line IsLineRow line_kept (length p.lines) p.lines h.1.1.1.1.0;
       detail = all_from_table instruction IsInstructionRow instruction_kept (length p.detail) p.detail h.1.1.1.1.1.0;
@@ -81,7 +81,7 @@ program_from p h =
         (
           values_from p.fields p.values h.fields h.values,
           (
-            table_from_all record_type IsTypeRow type_from p.types h.types,
+            table_from_all record_type_format IsTypeRow type_from p.types h.types,
             (
               table_from_all line IsLineRow line_from p.lines h.lines,
               (

@@ -2,18 +2,18 @@
 use Rattle.std.proofs.Common.{◌≡◌, ℕ, ◌≤◌, zero, suc, List, [], ◌∷◌, ◌++◌, length, refl, ap, ◌∙◌, append_assoc, arith}
 use Rattle.std.specs.Prelude.{All}
 use Rattle.rpg_effect.specs.declared.operation.Instruction.{Instruction}
-use Rattle.rpg_format.specs.Format.{two_bytes, pair, row, table, times_with, keep, spelled_along, AllAlong}
-use Rattle.rpg_format.specs.Numbers.{any_number, count, two}
-use Rattle.rpg_format.proofs.Laws.{IsFormat, pair_law, row_law, times_law, table_law}
-use Rattle.rpg_format.proofs.Rules.{any_number_law, count_law}
-use Rattle.rpg_program.specs.Kept.{IsInstructionRow, IsSubroutineRow}
-use Rattle.rpg_program.specs.Object.{SubroutineRow}
-use Rattle.rpg_program.specs.Sections.{instructions_in}
-use Rattle.rpg_instructions.specs.Instructions.{instruction}
-use Rattle.rpg_instructions.proofs.InstructionLaws.{instruction_law}
-use Rattle.rpg_instructions.proofs.InstructionKept.{instruction_kept, instruction_from}
+use Rattle.rpg_object_format.specs.Format.{two_bytes, pair, row, table, times_with, keep, spelled_along, AllAlong}
+use Rattle.rpg_object_format.specs.Numbers.{any_number, count, two}
+use Rattle.rpg_object_format.proofs.Laws.{IsFormat, pair_law, row_law, times_law, table_law}
+use Rattle.rpg_object_format.proofs.Rules.{any_number_law, count_law}
+use Rattle.rpg_object_program.specs.Kept.{IsInstructionRow, IsSubroutineRow}
+use Rattle.rpg_object_program.specs.Object.{SubroutineRow}
+use Rattle.rpg_object_program.specs.Sections.{instructions_in}
+use Rattle.rpg_object_rows.specs.Instructions.{instruction}
+use Rattle.rpg_object_rows.proofs.InstructionLaws.{instruction_law}
+use Rattle.rpg_object_rows.proofs.InstructionKept.{instruction_kept, instruction_from}
 use Rattle.rpg_object.specs.Subroutines.{subroutine, left_after, subroutines}
-use Rattle.rpg_instructions.proofs.Choices.{all_from_table, table_from_all, counted, few}
+use Rattle.rpg_object_rows.proofs.Choices.{all_from_table, table_from_all, counted, few}
 use Rattle.rpg_object.proofs.Tables.{all_from_along, all_head, all_tail}
 
 abbrev with_count : ℕ × (ℕ × List (Instruction ℕ)) → ℕ → ℕ × (ℕ × List (Instruction ℕ))

@@ -1,12 +1,12 @@
 -- Tables whose rows all keep something, and tables that were read.
 use Rattle.std.proofs.Common.{◌≡◌, ℕ, zero, suc, ◌+◌, ◌*◌, ◌≤◌, List, [], ◌∷◌, length, Result, Ok, sym, ap, subst, ◌∙◌, arith}
 use Rattle.std.specs.Prelude.{All}
-use Rattle.rpg_format.specs.declared.fault.Fault.{Fault}
-use Rattle.rpg_format.specs.Format.{Format, AllAlong, keep, table, times_with, read_times, read_two, listed, ◌>>=◌}
-use Rattle.rpg_format.specs.Numbers.{up_to}
-use Rattle.rpg_format.proofs.Laws.{bind_ok, ok_is, ruled_ok}
-use Rattle.rpg_format.proofs.Rules.{up_to_rule}
-use Rattle.rpg_instructions.proofs.Choices.{counted}
+use Rattle.rpg_object_format.specs.declared.fault.Fault.{Fault}
+use Rattle.rpg_object_format.specs.Format.{Format, AllAlong, keep, table, times_with, read_times, read_two, with_listed, ◌>>=◌}
+use Rattle.rpg_object_format.specs.Numbers.{up_to}
+use Rattle.rpg_object_format.proofs.Laws.{bind_ok, ok_is, ruled_ok}
+use Rattle.rpg_object_format.proofs.Rules.{up_to_rule}
+use Rattle.rpg_object_rows.proofs.Choices.{counted}
 
 -- what each row keeps, all rows keep
 pub all_from_along : {S X : Type 0} (P : S → X → Type 0) (Q : X → Type 0) (next : S → X → S) → ((s : S) (x : X) → P s x → Q x) → (s : S) (xs : List X) → AllAlong P next s xs → All Q xs
@@ -27,8 +27,8 @@ rows_read {S} {X} read next zero s bytes xs rest e =
     let none : List X × List ℕ = ([], bytes) in
     ap (λ (y : List X × List ℕ). length y.0) (sym (ok_is none (xs, rest) e))
 rows_read {S} {X} read next (suc n) s bytes xs rest e =
-    let a = bind_ok (read s bytes) (λ x. read_times read next n (next s x.0) x.1 >>= listed x.0) (xs, rest) e in
-    let b = bind_ok (read_times read next n (next s a.0.0) a.0.1) (listed a.0.0) (xs, rest) a.2 in
+    let a = bind_ok (read s bytes) (λ x. read_times read next n (next s x.0) x.1 >>= with_listed x.0) (xs, rest) e in
+    let b = bind_ok (read_times read next n (next s a.0.0) a.0.1) (with_listed a.0.0) (xs, rest) a.2 in
     let all_read : List X × List ℕ = (a.0.0 ∷ b.0.0, b.0.1) in
     ap (λ (y : List X × List ℕ). length y.0) (sym (ok_is all_read (xs, rest) b.2)) ∙ ap suc (rows_read read next n (next s a.0.0) a.0.1 b.0.0 b.0.1 b.1)
 

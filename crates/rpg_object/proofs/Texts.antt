@@ -1,29 +1,29 @@
 -- The text of a program, table by table.
 use Rattle.std.proofs.Common.{◌≡◌, ℕ, List, ◌++◌, length, sym, ap, ◌∙◌, append_assoc}
-use Rattle.rpg_format.specs.Format.{pair, row, table}
-use Rattle.rpg_program.specs.Object.{Object}
-use Rattle.rpg_instructions.specs.Instructions.{instruction}
-use Rattle.rpg_rows.specs.Lines.{line}
-use Rattle.rpg_rows.specs.Types.{record_type}
+use Rattle.rpg_object_format.specs.Format.{pair, row, table}
+use Rattle.rpg_object_program.specs.Object.{Object}
+use Rattle.rpg_object_rows.specs.Instructions.{instruction}
+use Rattle.rpg_object_rows.specs.Lines.{line}
+use Rattle.rpg_object_rows.specs.Types.{record_type_format}
 use Rattle.rpg_object.specs.Fields.{fields}
-use Rattle.rpg_object.specs.FirstValues.{values}
-use Rattle.rpg_object.specs.Header.{header}
+use Rattle.rpg_object.specs.FirstValues.{values_format}
+use Rattle.rpg_object.specs.Header.{header_format}
 use Rattle.rpg_object.specs.Program.{body, header_of, tables}
 use Rattle.rpg_object.specs.Subroutines.{subroutines}
 use Rattle.rpg_object.proofs.SubroutineLaws.{subroutines_text}
 
 module _ (p : Object) where
   abbrev head_text : List ℕ
-  head_text = header.spelling (header_of p)
+  head_text = header_format.spelling (header_of p)
 
   abbrev fields_text : List ℕ
   fields_text = (fields (length p.fields)).spelling p.fields
 
   abbrev values_text : List ℕ
-  values_text = (values p.fields).spelling p.values
+  values_text = (values_format p.fields).spelling p.values
 
   abbrev types_text : List ℕ
-  types_text = (table (length p.types) record_type).spelling p.types
+  types_text = (table (length p.types) record_type_format).spelling p.types
 
   abbrev lines_text : List ℕ
   lines_text = (table (length p.lines) line).spelling p.lines

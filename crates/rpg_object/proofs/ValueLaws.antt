@@ -8,21 +8,21 @@ use Rattle.std.proofs.Math.Seq.{take-append_seam, drop-append_seam}
 use Rattle.std.proofs.lemmas.List.Sums.{AllPass-from_list_all, list_all-from_AllPass}
 use Rattle.std.specs.List.{list_all, AllPass}
 use Rattle.std.specs.Str.{bytes_eq}
-use Rattle.rpg_numbers.specs.Zoned.{number_in, zoned_text}
+use Rattle.rpg_decimal_words.specs.Zoned.{number_in, zoned_text}
 use Rattle.rpg_decimal.proofs.LawLemmas.{length-zoned}
 use Rattle.rpg_effect.specs.declared.form.FieldForm.{FieldForm}
 use Rattle.rpg_effect.specs.declared.form.Kind.{Kind}
 use Rattle.rpg_effect.specs.declared.form.Kind.TheVariants as kind
 use Rattle.rpg_effect.specs.Values.{Value, Number, Text}
-use Rattle.rpg_format.specs.declared.fault.Code.{Code}
-use Rattle.rpg_format.specs.declared.fault.Code.TheVariants.{CutShort, NotAllowed}
-use Rattle.rpg_format.specs.declared.fault.Fault.{Fault}
-use Rattle.rpg_format.specs.Format.{ends_early, ruled, times_with, AllAlong}
-use Rattle.rpg_format.proofs.Laws.{IsBytes, Takes, IsFormat, IsBytes-rest, further, at_end, times_law, table_law, ruled_ok, ruled_err, ruled_stays, ruled_fails}
-use Rattle.rpg_format.proofs.Rules.{chosen, stands_for, value_is}
-use Rattle.rpg_program.specs.Kept.{IsCharacter, IsFieldRow, IsValueOf, AreEntriesOf, AreValuesOf}
-use Rattle.rpg_object.specs.FirstValues.{as_written, as_value, is_character, value_in, read_value, value_text, IsWrittenValue, value, entries, next_entries, later_fields, values}
-use Rattle.rpg_instructions.proofs.Choices.{all_from_table, table_from_all}
+use Rattle.rpg_object_format.specs.declared.fault.Code.{Code}
+use Rattle.rpg_object_format.specs.declared.fault.Code.TheVariants.{CutShort, NotAllowed}
+use Rattle.rpg_object_format.specs.declared.fault.Fault.{Fault}
+use Rattle.rpg_object_format.specs.Format.{ends_early, ruled, times_with, AllAlong}
+use Rattle.rpg_object_format.proofs.Laws.{IsBytes, Takes, IsFormat, IsBytes-rest, further, at_end, times_law, table_law, ruled_ok, ruled_err, ruled_stays, ruled_fails}
+use Rattle.rpg_object_format.proofs.Rules.{chosen, stands_for, value_is}
+use Rattle.rpg_object_program.specs.Kept.{IsCharacter, IsFieldRow, IsValueOf, AreEntriesOf, AreValuesOf}
+use Rattle.rpg_object.specs.FirstValues.{as_written, as_value, is_character, first_value_in, read_value, value_text, IsWrittenValue, value, entries_format, next_entries, later_fields, values_format}
+use Rattle.rpg_object_rows.proofs.Choices.{all_from_table, table_from_all}
 use Rattle.rpg_object.proofs.Tables.{all_head, all_tail}
 use Rattle.rpg_object.proofs.ZonedTexts.{number_in-zoned, number_in-below}
 
@@ -55,7 +55,7 @@ long_enough : (text : List ℕ) (k : ℕ) (n : ℤ) → text ≡ zoned_text k n 
 long_enough text k n e = let l = ap length e ∙ length_push _ _ in omega arith
 
 -- what was read as a value is the text of it
-text_of_value : (k : Kind) (text : List ℕ) (v : Value) → value_in k text ≡ Ok v → (text ≡ value_text (length text) v) × IsWrittenValue k (length text) v
+text_of_value : (k : Kind) (text : List ℕ) (v : Value) → first_value_in k text ≡ Ok v → (text ≡ value_text (length text) v) × IsWrittenValue k (length text) v
 text_of_value kind.Number text v e =
     let a = value_is_number (as_written text (number_in text)) v e in
     let b = written_is text (number_in text) a.0 a.1 in
@@ -74,13 +74,13 @@ number_of_text k n low below =
     ap (λ (o : Option ℤ). as_value (as_written (zoned_text k n) o)) (number_in-zoned k n low below)
     ∙ ap (λ (b : Bool). as_value (cond b (Ok n) (Err NotAllowed))) equal
 
-characters_of_text : (text : List ℕ) → AllPass is_character text → value_in kind.Text text ≡ Ok (Text text)
+characters_of_text : (text : List ℕ) → AllPass is_character text → first_value_in kind.Text text ≡ Ok (Text text)
 characters_of_text text h = ap (λ (b : Bool). cond b (stands_for (Text text)) (Err NotAllowed)) (list_all-from_AllPass is_character text h)
 
 -- a value's text is as long as its field, and has the value
 record IsTextOf (k : Kind) (len : ℕ) (v : Value) : Type 0 where
   size : length (value_text len v) ≡ len
-  value : value_in k (value_text len v) ≡ Ok v
+  value : first_value_in k (value_text len v) ≡ Ok v
 
 value_of_text : (k : Kind) (len : ℕ) (v : Value) → IsWrittenValue k len v → IsTextOf k len v
 value_of_text kind.Number len (Number n) h = record { size = length-zoned len n h.0; value = number_of_text len n h.0 h.1 }
@@ -101,7 +101,7 @@ unfolding value
 value_law k len = record { takes = takes; again = again; within = within; stays = stays; fails_alike = fails_alike }
   where
     answer : List ℕ → Result Value Code
-    answer bytes = value_in k (take len bytes)
+    answer bytes = first_value_in k (take len bytes)
 
     takes : (bytes : List ℕ) (v : Value) (rest : List ℕ) → IsBytes bytes → read_value k len bytes ≡ Ok (v, rest) → Takes bytes (value_text len v) rest × IsWrittenValue k len v
     takes bytes v rest fits e =
@@ -152,16 +152,16 @@ value_law k len = record { takes = takes; again = again; within = within; stays 
               rw (longer, take-append-le len bytes more long) (ruled_fails bytes (drop len bytes) (drop len (bytes ++ more)) more (answer bytes) d w.1)
         ]
 
-pub entries_law : (f : FieldForm) → IsFormat (entries f)
-unfolding entries
+pub entries_law : (f : FieldForm) → IsFormat (entries_format f)
+unfolding entries_format
 entries_law f = table_law f.entries (value f.kind f.length) (value_law f.kind f.length)
 
 next_law : (fs : List FieldForm) → IsFormat (next_entries fs)
 next_law [] = table_law 0 (value kind.Text 1) (value_law kind.Text 1)
 next_law (f ∷ fs) = entries_law f
 
-pub values_law : (fs : List FieldForm) → IsFormat (values fs)
-unfolding values
+pub values_law : (fs : List FieldForm) → IsFormat (values_format fs)
+unfolding values_format
 values_law fs = times_law next_entries later_fields next_law (length fs) fs
 
 -- ---- what first values keep
@@ -171,8 +171,8 @@ unfolding value
 value_kept kind.Number len v h = h.1
 value_kept kind.Text len v h = h
 
-entries_kept : (f : FieldForm) (vs : List Value) → (entries f).Holds vs → AreEntriesOf f vs
-unfolding entries times_with
+entries_kept : (f : FieldForm) (vs : List Value) → (entries_format f).Holds vs → AreEntriesOf f vs
+unfolding entries_format times_with
 entries_kept f vs h = record { number = h.0; each = all_from_table (value f.kind f.length) (IsValueOf f.kind f.length) (value_kept f.kind f.length) f.entries vs h }
 
 values_along : (fs : List FieldForm) (vs : List (List Value)) → length vs ≡ length fs → AllAlong (λ s v. (next_entries s).Holds v) later_fields fs vs → AreValuesOf fs vs
@@ -181,8 +181,8 @@ values_along [] (v ∷ vs) len h = absurd (omega arith)
 values_along (f ∷ fs) [] len h = absurd (omega arith)
 values_along (f ∷ fs) (v ∷ vs) len h = (entries_kept f v h.0, values_along fs vs (omega arith) h.1)
 
-pub values_kept : (fs : List FieldForm) (vs : List (List Value)) → (values fs).Holds vs → AreValuesOf fs vs
-unfolding values times_with
+pub values_kept : (fs : List FieldForm) (vs : List (List Value)) → (values_format fs).Holds vs → AreValuesOf fs vs
+unfolding values_format times_with
 values_kept fs vs h = values_along fs vs h.0 h.1
 
 value_from : (k : Kind) (len : ℕ) → 1 ≤ len → (v : Value) → IsValueOf k len v → (value k len).Holds v
@@ -190,8 +190,8 @@ unfolding value
 value_from kind.Number len some v h = (some, h)
 value_from kind.Text len some v h = h
 
-entries_from : (f : FieldForm) (vs : List Value) → 1 ≤ f.length → AreEntriesOf f vs → (entries f).Holds vs
-unfolding entries
+entries_from : (f : FieldForm) (vs : List Value) → 1 ≤ f.length → AreEntriesOf f vs → (entries_format f).Holds vs
+unfolding entries_format
 entries_from f vs some h = rw (← h.number) (table_from_all (value f.kind f.length) (IsValueOf f.kind f.length) (value_from f.kind f.length some) vs h.each)
 
 from_along : (fs : List FieldForm) (vs : List (List Value)) → All IsFieldRow fs → AreValuesOf fs vs → (length vs ≡ length fs) × AllAlong (λ s v. (next_entries s).Holds v) later_fields fs vs
@@ -202,6 +202,6 @@ from_along (f ∷ fs) (v ∷ vs) rows h =
     let more = from_along fs vs (all_tail IsFieldRow f fs rows) h.1 in
     (ap suc more.0, (entries_from f v (all_head IsFieldRow f fs rows).shortest h.0, more.1))
 
-pub values_from : (fs : List FieldForm) (vs : List (List Value)) → All IsFieldRow fs → AreValuesOf fs vs → (values fs).Holds vs
-unfolding values times_with
+pub values_from : (fs : List FieldForm) (vs : List (List Value)) → All IsFieldRow fs → AreValuesOf fs vs → (values_format fs).Holds vs
+unfolding values_format times_with
 values_from fs vs rows h = from_along fs vs rows h

@@ -3,10 +3,10 @@ use Rattle.std.proofs.Common.{◌≡◌, ℕ, zero, suc, ◌+◌, ◌*◌, ◌^�
 use Rattle.std.proofs.Math.Nat.{mul-le-mul_right}
 use Rattle.std.proofs.lemmas.Bool.Decides.{nat_tests}
 use Rattle.std.proofs.lemmas.List.{length-map}
-use Rattle.rpg_numbers.specs.Place.{place_value, signed_number}
-use Rattle.rpg_numbers.specs.Zoned.{is_numeric, is_minus, digit_of, last_of, spelled_number, number_in, zoned_text}
+use Rattle.rpg_decimal_words.specs.Place.{place_value, signed_number}
+use Rattle.rpg_decimal_words.specs.Zoned.{is_numeric, is_minus, digit_of, last_of, spelled_number, number_in, zoned_text}
 use Rattle.rpg_decimal.proofs.ZonedLemmas.{number_some, numeric-zoned, spelled-zoned}
-use Rattle.rpg_format.proofs.Rules.{chosen}
+use Rattle.rpg_object_format.proofs.Rules.{chosen}
 
 -- what is written for a number of k digits is read as it
 pub number_in-zoned : (k : ℕ) (n : ℤ) → 1 ≤ k → unsigned_abs n < 10 ^ k → number_in (zoned_text k n) ≡ Some n

@@ -1,8 +1,8 @@
 -- What decoding answers.
 use Rattle.std.specs.Prelude.{◌≡◌, ℕ, ◌++◌, List, codes, Option, Some, None, Result, Ok, Err}
 use Rattle.std.specs.Fmt.{decimal}
-use Rattle.rpg_format.specs.CodeTexts.{code_text}
-use Rattle.rpg_format.specs.declared.fault.Code.{Code}
+use Rattle.rpg_object_format.specs.CodeTexts.{code_text}
+use Rattle.rpg_object_format.specs.declared.fault.Code.{Code}
 use Rattle.rpg_object.specs.declared.decoding.DecodeFault.{DecodeFault}
 use Rattle.rpg_object.specs.declared.decoding.DecodeFault.TheVariants as faults
 

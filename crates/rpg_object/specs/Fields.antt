@@ -6,11 +6,11 @@ use Rattle.rpg_effect.specs.declared.form.Class.TheVariants as classes
 use Rattle.rpg_effect.specs.declared.form.FieldForm.{FieldForm}
 use Rattle.rpg_effect.specs.declared.form.Kind.{Kind}
 use Rattle.rpg_effect.specs.declared.form.Kind.TheVariants as kinds
-use Rattle.rpg_format.specs.declared.fault.Code.{Code}
-use Rattle.rpg_format.specs.declared.fault.Code.TheVariants.{NotAllowed, PastLimit}
-use Rattle.rpg_format.specs.Format.{Format, byte, two_bytes, pair, row, times_with}
-use Rattle.rpg_format.specs.Numbers.{is_between, choice, flag_number, number_where, byte_where}
-use Rattle.rpg_program.specs.Kept.{has_entries, length_limit}
+use Rattle.rpg_object_format.specs.declared.fault.Code.{Code}
+use Rattle.rpg_object_format.specs.declared.fault.Code.TheVariants.{NotAllowed, PastLimit}
+use Rattle.rpg_object_format.specs.Format.{Format, byte, two_bytes, pair, row, times_with}
+use Rattle.rpg_object_format.specs.Numbers.{is_between, choice, flag_number, number_where, byte_where}
+use Rattle.rpg_object_program.specs.Kept.{length_limit, may_have_entries}
 
 abbrev pub kind_number : Kind → ℕ
 kind_number kinds.Number = 1
@@ -23,8 +23,8 @@ class_number classes.Table = 2
 class_number classes.Constant = 3
 class_number classes.Date = 4
 
-abbrev pub kind_of : ℕ → Result Kind Code
-kind_of = choice (kinds.Number ∷ kinds.Text ∷ []) kind_number
+abbrev pub kind_by_number : ℕ → Result Kind Code
+kind_by_number = choice (kinds.Number ∷ kinds.Text ∷ []) kind_number
 
 -- the date is a number
 abbrev pub classes_of : Kind → List Class
@@ -38,8 +38,8 @@ class_of k = choice (classes_of k) class_number
 abbrev pub shortest : Class → ℕ
 shortest c = if is_date c then 6 else 1
 
-abbrev pub longest : Kind → Class → ℕ
-longest k c = if is_date c then 6 else length_limit k
+abbrev pub longest_field : Kind → Class → ℕ
+longest_field k c = if is_date c then 6 else length_limit k
 
 -- the date and texts have no decimals
 abbrev pub most_decimals : Kind → Class → ℕ
@@ -52,13 +52,13 @@ is_decimals most digits n = nat_le n most && nat_le n digits
 
 -- only the entries of arrays and tables may stand in ascending sequence
 abbrev pub sequences_of : Class → List Bool
-sequences_of c = if has_entries c then false ∷ true ∷ [] else false ∷ []
+sequences_of c = if may_have_entries c then false ∷ true ∷ [] else false ∷ []
 
 abbrev pub sequence_of : Class → ℕ → Result Bool Code
 sequence_of c = choice (sequences_of c) flag_number
 
 abbrev pub most_entries : Class → ℕ
-most_entries c = if has_entries c then 9999 else 1
+most_entries c = if may_have_entries c then 9999 else 1
 
 -- the entries, whose bytes must lie within the storage that is left
 abbrev pub entries_within : ℕ → ℕ → ℕ → ℕ → Result ℕ Code
@@ -70,9 +70,9 @@ unfoldable pub field : ℕ → Format FieldForm
 field storage = row
     (λ p. record { kind = p.0; class = p.1.0; length = p.1.1.0; decimals = p.1.1.1.0; is_ascending = p.1.1.1.1.0; entries = p.1.1.1.1.1 })
     (λ f. (f.kind, (f.class, (f.length, (f.decimals, (f.is_ascending, f.entries))))))
-    (pair (byte kind_of kind_number) (λ k.
+    (pair (byte kind_by_number kind_number) (λ k.
     pair (byte (class_of k) class_number) (λ c.
-    pair (number_where (is_between (shortest c) (longest k c))) (λ len.
+    pair (number_where (is_between (shortest c) (longest_field k c))) (λ len.
     pair (byte_where (is_decimals (most_decimals k c) len)) (λ decimals.
     pair (byte (sequence_of c) flag_number) (λ is_ascending.
     two_bytes (entries_within (most_entries c) len storage) (λ n. n)))))))

@@ -2,17 +2,17 @@
 use Rattle.std.specs.Prelude.{◌≡◌, ℕ, ◌≤◌, ℤ, List, [], ◌∷◌, length, take, drop, Bool, nat_lt, if◌then◌else◌, Option, Some, None, Result, Ok, Err}
 use Rattle.std.specs.List.{list_all}
 use Rattle.std.specs.Str.{bytes_eq}
-use Rattle.rpg_numbers.specs.Zoned.{number_in, zoned_text}
+use Rattle.rpg_decimal_words.specs.Zoned.{number_in, zoned_text}
 use Rattle.rpg_effect.specs.declared.form.FieldForm.{FieldForm}
 use Rattle.rpg_effect.specs.declared.form.Kind.{Kind}
 use Rattle.rpg_effect.specs.declared.form.Kind.TheVariants as kinds
 use Rattle.rpg_effect.specs.Values.{Value, Number, Text}
-use Rattle.rpg_format.specs.declared.fault.Code.{Code}
-use Rattle.rpg_format.specs.declared.fault.Code.TheVariants.{NotAllowed}
-use Rattle.rpg_format.specs.declared.fault.Fault.{Fault}
-use Rattle.rpg_format.specs.Format.{Format, ends_early, ruled, times_with, table}
-use Rattle.rpg_format.specs.Numbers.{is_between}
-use Rattle.rpg_program.specs.Kept.{IsValueOf}
+use Rattle.rpg_object_format.specs.declared.fault.Code.{Code}
+use Rattle.rpg_object_format.specs.declared.fault.Code.TheVariants.{NotAllowed}
+use Rattle.rpg_object_format.specs.declared.fault.Fault.{Fault}
+use Rattle.rpg_object_format.specs.Format.{Format, ends_early, ruled, times_with, table}
+use Rattle.rpg_object_format.specs.Numbers.{is_between}
+use Rattle.rpg_object_program.specs.Kept.{IsValueOf}
 
 -- the number that a text was read as, where the text is the one that is written for it
 abbrev pub as_written : List ℕ → Option ℤ → Result ℤ Code
@@ -27,14 +27,14 @@ abbrev pub is_character : ℕ → Bool
 is_character c = is_between 32 126 c
 
 -- the value of that kind that a text stands for
-abbrev pub value_in : Kind → List ℕ → Result Value Code
-value_in kinds.Number text = as_value (as_written text (number_in text))
-value_in kinds.Text text = if list_all is_character text then Ok (Text text) else Err NotAllowed
+abbrev pub first_value_in : Kind → List ℕ → Result Value Code
+first_value_in kinds.Number text = as_value (as_written text (number_in text))
+first_value_in kinds.Text text = if list_all is_character text then Ok (Text text) else Err NotAllowed
 
 abbrev pub read_value : Kind → ℕ → List ℕ → Result (Value × List ℕ) Fault
 read_value k len bytes =
     if nat_lt (length bytes) len then Err ends_early
-    else ruled bytes (drop len bytes) (value_in k (take len bytes))
+    else ruled bytes (drop len bytes) (first_value_in k (take len bytes))
 
 abbrev pub value_text : ℕ → Value → List ℕ
 value_text len (Number n) = zoned_text len n
@@ -54,23 +54,23 @@ value k len = record {
 }
 
 -- the values of a field's entries
-unfoldable pub entries : FieldForm → Format (List Value)
-entries f = table f.entries (value f.kind f.length)
+unfoldable pub entries_format : FieldForm → Format (List Value)
+entries_format f = table f.entries (value f.kind f.length)
 
 -- ---- all fields
 
 -- the values of the next field, none where there is no further one
 abbrev pub next_entries : List FieldForm → Format (List Value)
 next_entries [] = table 0 (value kinds.Text 1)
-next_entries (f ∷ fs) = entries f
+next_entries (f ∷ fs) = entries_format f
 
 abbrev pub later_fields : List FieldForm → List Value → List FieldForm
 later_fields [] vs = []
 later_fields (f ∷ fs) vs = fs
 
 -- the values of each field
-unfoldable pub values : List FieldForm → Format (List (List Value))
-values fs = times_with next_entries later_fields (length fs) fs
+unfoldable pub values_format : List FieldForm → Format (List (List Value))
+values_format fs = times_with next_entries later_fields (length fs) fs
 
 -- 1 to 15 digits, or at least one character
 pub record HasLength (f : FieldForm) : Type 0 where

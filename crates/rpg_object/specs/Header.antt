@@ -1,9 +1,9 @@
 -- The format of the header: the numbers before the tables.
 use Rattle.std.specs.Prelude.{ℕ, ◌-◌, ◌==◌, if◌then◌else◌, Option, Some, None, Result, Ok, Err}
-use Rattle.rpg_format.specs.declared.fault.Code.{Code}
-use Rattle.rpg_format.specs.declared.fault.Code.TheVariants.{NotAllowed, Unused, Version}
-use Rattle.rpg_format.specs.Format.{Format, two_bytes, pair, row}
-use Rattle.rpg_format.specs.Numbers.{is_between, number_where, count, only_number}
+use Rattle.rpg_object_format.specs.declared.fault.Code.{Code}
+use Rattle.rpg_object_format.specs.declared.fault.Code.TheVariants.{NotAllowed, Unused, Version}
+use Rattle.rpg_object_format.specs.Format.{Format, two_bytes, pair, row}
+use Rattle.rpg_object_format.specs.Numbers.{is_between, number_where, count, only_number}
 use Rattle.rpg_object.specs.declared.header.Counts.{Counts}
 use Rattle.rpg_object.specs.declared.header.Header.{Header}
 use Rattle.rpg_object.specs.declared.header.Settings.{Settings}
@@ -40,8 +40,8 @@ counts = row
     pair (count most_instructions) (λ d. pair (count (most_instructions - d)) (λ n. count 100))))))
 
 -- version, settings, counts, 0
-unfoldable pub header : Format Header
-header = row
+unfoldable pub header_format : Format Header
+header_format = row
     (λ p. record { settings = p.1.0; counts = p.1.1.0 })
     (λ h. (tt, (h.settings, (h.counts, tt))))
     (pair (only_number 1 Version) (λ version. pair settings (λ s. pair counts (λ c. only_number 0 Unused))))

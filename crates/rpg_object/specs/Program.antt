@@ -4,20 +4,20 @@ use Rattle.rpg_effect.specs.Input.{TypeRow}
 use Rattle.rpg_effect.specs.Values.{Value}
 use Rattle.rpg_effect.specs.declared.form.FieldForm.{FieldForm}
 use Rattle.rpg_effect.specs.declared.operation.Instruction.{Instruction}
-use Rattle.rpg_format.specs.declared.fault.Code.{Code}
-use Rattle.rpg_format.specs.declared.fault.Code.TheVariants.{NoObject, CutShort, LeftOver}
-use Rattle.rpg_format.specs.declared.fault.Fault.{Fault}
-use Rattle.rpg_format.specs.Format.{Format, pair, row, table, fault_at, ◌>>=◌}
-use Rattle.rpg_program.specs.Object.{LineRow, Object, SubroutineRow}
-use Rattle.rpg_instructions.specs.Instructions.{instruction}
-use Rattle.rpg_rows.specs.Lines.{line}
-use Rattle.rpg_rows.specs.Types.{record_type}
+use Rattle.rpg_object_format.specs.declared.fault.Code.{Code}
+use Rattle.rpg_object_format.specs.declared.fault.Code.TheVariants.{NoObject, CutShort, LeftOver}
+use Rattle.rpg_object_format.specs.declared.fault.Fault.{Fault}
+use Rattle.rpg_object_format.specs.Format.{Format, pair, row, table, fault_at, ◌>>=◌}
+use Rattle.rpg_object_program.specs.Object.{LineRow, Object, SubroutineRow}
+use Rattle.rpg_object_rows.specs.Instructions.{instruction}
+use Rattle.rpg_object_rows.specs.Lines.{line}
+use Rattle.rpg_object_rows.specs.Types.{record_type_format}
 use Rattle.rpg_object.specs.declared.header.Counts.{Counts}
 use Rattle.rpg_object.specs.declared.header.Header.{Header}
 use Rattle.rpg_object.specs.declared.header.Settings.{Settings}
 use Rattle.rpg_object.specs.Fields.{fields}
-use Rattle.rpg_object.specs.FirstValues.{values}
-use Rattle.rpg_object.specs.Header.{header, most_instructions}
+use Rattle.rpg_object.specs.FirstValues.{values_format}
+use Rattle.rpg_object.specs.Header.{header_format, most_instructions}
 use Rattle.rpg_object.specs.Subroutines.{subroutines}
 
 abbrev pub Tables : Type 0
@@ -27,8 +27,8 @@ Tables = List FieldForm × (List (List Value) × (List (TypeRow ℕ) × (List Li
 unfoldable pub tables : Counts → Format Tables
 tables c =
     pair (fields c.fields) (λ fs.
-    pair (values fs) (λ vs.
-    pair (table c.types record_type) (λ ts.
+    pair (values_format fs) (λ vs.
+    pair (table c.types record_type_format) (λ ts.
     pair (table c.lines line) (λ ls.
     pair (table c.detail instruction) (λ detail.
     pair (table c.total instruction) (λ total.
@@ -64,20 +64,20 @@ abbrev pub tables_of : Object → Tables
 tables_of p = (p.fields, (p.values, (p.types, (p.lines, (p.detail, (p.total, p.subroutines))))))
 
 unfoldable pub body : Format Object
-body = row object_of (λ p. (header_of p, tables_of p)) (pair header (λ h. tables h.counts))
+body = row object_of (λ p. (header_of p, tables_of p)) (pair header_format (λ h. tables h.counts))
 
 -- ---- whole objects
 
-abbrev pub name : List ℕ
-name = codes "RPGOBJ"
+abbrev pub object_name : List ℕ
+object_name = codes "RPGOBJ"
 
 -- the bytes of an object program
 abbrev pub spelling : Object → List ℕ
-spelling p = name ++ body.spelling p
+spelling p = object_name ++ body.spelling p
 
-abbrev pub ended : Object × List ℕ → Result Object Fault
-ended (p, []) = Ok p
-ended (p, b ∷ rest) = Err (fault_at (b ∷ rest) LeftOver)
+abbrev pub wholly_read : Object × List ℕ → Result Object Fault
+wholly_read (p, []) = Ok p
+wholly_read (p, b ∷ rest) = Err (fault_at (b ∷ rest) LeftOver)
 
 abbrev pub begins_with : List ℕ → List ℕ → Bool
 begins_with [] bytes = true
@@ -86,7 +86,7 @@ begins_with (x ∷ xs) (b ∷ bytes) = x == b && begins_with xs bytes
 
 -- the program that bytes spell, or their first fault
 unfoldable pub reading : List ℕ → Result Object Fault
-reading bytes = if begins_with name bytes then (body.reading (drop 6 bytes) >>= ended) else Err (fault_at bytes NoObject)
+reading bytes = if begins_with object_name bytes then (body.reading (drop 6 bytes) >>= wholly_read) else Err (fault_at bytes NoObject)
 
 -- ---- faults by their offsets
 

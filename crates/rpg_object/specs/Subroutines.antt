@@ -1,9 +1,9 @@
 -- The format of subroutines.
 use Rattle.std.specs.Prelude.{ℕ, ◌-◌, List, length}
-use Rattle.rpg_format.specs.Format.{Format, pair, row, table, times_with}
-use Rattle.rpg_format.specs.Numbers.{any_number, count}
-use Rattle.rpg_program.specs.Object.{SubroutineRow}
-use Rattle.rpg_instructions.specs.Instructions.{instruction}
+use Rattle.rpg_object_format.specs.Format.{Format, pair, row, table, times_with}
+use Rattle.rpg_object_format.specs.Numbers.{any_number, count}
+use Rattle.rpg_object_program.specs.Object.{SubroutineRow}
+use Rattle.rpg_object_rows.specs.Instructions.{instruction}
 
 -- level, count, instructions, with the instructions that the sections before it leave
 unfoldable pub subroutine : ℕ → Format SubroutineRow

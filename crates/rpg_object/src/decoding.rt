@@ -1,10 +1,10 @@
 //! Bytes to an object program.
 
 ghost use Rattle.std.specs.Prelude.{◌≡◌, IfOk, Some};
-ghost use Rattle.rpg_format.specs.Format.{fault_at};
-ghost use Rattle.rpg_format.specs.Reading.{Gives};
-ghost use Rattle.rpg_program.specs.Kept.{IsProgram};
-ghost use Rattle.rpg_program.specs.Object.{Object, seen};
+ghost use Rattle.rpg_object_format.specs.Format.{fault_at};
+ghost use Rattle.rpg_object_format.specs.Reading.{Gives};
+ghost use Rattle.rpg_object_program.specs.Kept.{IsProgram};
+ghost use Rattle.rpg_object_program.specs.Object.{Object, seen};
 ghost use Rattle.rpg_object.specs.Decoding.{fault_text, FaultIs, IsOkBarMemory};
 ghost use Rattle.rpg_object.specs.Program.{body, first_fault, reading, spelling};
 
@@ -12,11 +12,11 @@ use crate::field::fields_at;
 use crate::first_value::values_at;
 use crate::header::{INSTRUCTIONS, header_at};
 use crate::subroutine::subroutines_at;
-use rpg_format::fault::{Code, ReadFault};
-use rpg_format::number::fault_at;
-use rpg_program::Program;
-use rpg_program::row::Rows;
-use rpg_rows::{instructions_at, lines_at, record_types_at};
+use rpg_object_format::fault::{Code, ReadFault};
+use rpg_object_format::number::fault_at;
+use rpg_object_program::Program;
+use rpg_object_program::row::Rows;
+use rpg_object_rows::{instructions_at, lines_at, record_types_at};
 use std::alloc::Global;
 use std::error::Error;
 use std::fmt;
@@ -44,7 +44,7 @@ impl fmt::Display for DecodeFault {
 impl Error for DecodeFault {}
 
 /// Reads the rows behind the name.
-#[tactic(auto, unfolding(rpg_format::specs::Format::pair, rpg_format::specs::Format::row, crate::specs::Program::tables, crate::specs::Program::body))]
+#[tactic(auto, unfolding(rpg_object_format::specs::Format::pair, rpg_object_format::specs::Format::row, crate::specs::Program::tables, crate::specs::Program::body))]
 fn body_at(alloc: Global, bytes: &[u8]) -> Result<(Rows, &[u8]), ReadFault>
     ensures { Gives (λ x. (seen x.0, x.1.now)) result (body.reading bytes.now) }
 {

@@ -2,24 +2,24 @@
 
 ghost use Rattle.std.specs.Prelude.{◌≡◌, ◌++◌, All, length, Result, IfOk, OnOk};
 ghost use Rattle.rpg_effect.specs.Forms.{is_date};
-ghost use Rattle.rpg_format.specs.declared.fault.Code.{Code};
-ghost use Rattle.rpg_format.specs.Format.{read_byte, read_two, spelled_along};
-ghost use Rattle.rpg_format.specs.Numbers.{allowed};
-ghost use Rattle.rpg_format.specs.Reading.{Gives};
-ghost use Rattle.rpg_program.specs.Kept.{has_entries};
-ghost use Rattle.rpg_object.specs.Fields.{class_number, class_of, entries_within, field, fields, is_decimals, kind_number, kind_of, longest, most_decimals, most_entries, sequence_of, shortest, storage_after};
+ghost use Rattle.rpg_object_format.specs.declared.fault.Code.{Code};
+ghost use Rattle.rpg_object_format.specs.Format.{read_byte, read_two};
+ghost use Rattle.rpg_object_format.specs.Numbers.{allowed};
+ghost use Rattle.rpg_object_format.specs.Reading.{Gives};
+ghost use Rattle.rpg_object_program.specs.Kept.{may_have_entries};
+ghost use Rattle.rpg_object.specs.Fields.{class_number, class_of, entries_within, field, fields, is_decimals, kind_by_number, kind_number, longest_field, most_decimals, most_entries, sequence_of, shortest};
 ghost use Rattle.rpg_object.specs.FirstValues.{HasLength};
 
 use rpg_effect::form::{Class, FieldForm, Kind};
-use rpg_format::fault::{Code, ReadFault};
-use rpg_format::number::{byte_at, flag_number, high, low, number_at, number_between_at};
+use rpg_object_format::fault::{Code, ReadFault};
+use rpg_object_format::number::{byte_at, flag_number, high, low, number_at, number_between_at};
 use std::alloc::{AllocError, Global};
 
 /// Bytes of storage in all.
 const STORAGE: u32 = 65_535;
 
 fn kind_of(n: u8) -> Result<Kind, Code>
-    ensures { result ≡ kind_of n }
+    ensures { result ≡ kind_by_number n }
 {
     match n {
         1 => Ok(Kind::Number),
@@ -73,7 +73,7 @@ fn is_date(class: Class) -> bool
 }
 
 fn has_entries(class: Class) -> bool
-    ensures { result ≡ has_entries class }
+    ensures { result ≡ may_have_entries class }
 {
     match class {
         Class::Array | Class::Table => true,
@@ -88,7 +88,7 @@ fn shortest(class: Class) -> u16
 }
 
 fn longest(kind: Kind, class: Class) -> u16
-    ensures { result ≡ longest kind class }
+    ensures { result ≡ longest_field kind class }
 {
     if is_date(class) {
         return 6;
@@ -147,35 +147,35 @@ fn entries_within(most: u16, length: u16, storage: u32, n: u16) -> Result<u16, C
     }
 }
 
-#[tactic(auto, unfolding(rpg_format::specs::Format::read_byte))]
+#[tactic(auto, unfolding(rpg_object_format::specs::Format::read_byte))]
 fn kind_at(bytes: &[u8]) -> Result<(Kind, &[u8]), ReadFault>
-    ensures { Gives (λ x. (x.0, x.1.now)) result (read_byte kind_of bytes.now) }
+    ensures { Gives (λ x. (x.0, x.1.now)) result (read_byte kind_by_number bytes.now) }
 {
     byte_at(bytes, kind_of)
 }
 
-#[tactic(auto, unfolding(rpg_format::specs::Format::read_byte))]
+#[tactic(auto, unfolding(rpg_object_format::specs::Format::read_byte))]
 fn class_at(bytes: &[u8], kind: Kind) -> Result<(Class, &[u8]), ReadFault>
     ensures { Gives (λ x. (x.0, x.1.now)) result (read_byte (class_of kind) bytes.now) }
 {
     byte_at(bytes, |n| class_of(kind, n))
 }
 
-#[tactic(auto, unfolding(rpg_format::specs::Format::read_byte))]
+#[tactic(auto, unfolding(rpg_object_format::specs::Format::read_byte))]
 fn sequence_at(bytes: &[u8], class: Class) -> Result<(bool, &[u8]), ReadFault>
     ensures { Gives (λ x. (x.0, x.1.now)) result (read_byte (sequence_of class) bytes.now) }
 {
     byte_at(bytes, |n| sequence_of(class, n))
 }
 
-#[tactic(auto, unfolding(rpg_format::specs::Format::read_byte))]
+#[tactic(auto, unfolding(rpg_object_format::specs::Format::read_byte))]
 fn decimals_at(bytes: &[u8], most: u8, length: u16) -> Result<(u8, &[u8]), ReadFault>
     ensures { Gives (λ x. (x.0, x.1.now)) result (read_byte (allowed (is_decimals most length)) bytes.now) }
 {
     byte_at(bytes, |n| decimals_of(most, length, n))
 }
 
-#[tactic(auto, unfolding(rpg_format::specs::Format::read_two))]
+#[tactic(auto, unfolding(rpg_object_format::specs::Format::read_two))]
 fn entries_at(bytes: &[u8], most: u16, length: u16, storage: u32) -> Result<(u16, &[u8]), ReadFault>
     ensures { Gives (λ x. (x.0, x.1.now)) result (read_two (entries_within most length storage) bytes.now) }
 {
@@ -183,7 +183,7 @@ fn entries_at(bytes: &[u8], most: u16, length: u16, storage: u32) -> Result<(u16
 }
 
 /// Reads a field that takes its bytes from the storage that is left.
-#[tactic(auto, unfolding(rpg_format::specs::Format::byte, rpg_format::specs::Format::two_bytes, rpg_format::specs::Format::pair, rpg_format::specs::Format::row, crate::specs::Fields::field))]
+#[tactic(auto, unfolding(rpg_object_format::specs::Format::byte, rpg_object_format::specs::Format::two_bytes, rpg_object_format::specs::Format::pair, rpg_object_format::specs::Format::row, crate::specs::Fields::field))]
 fn field_at(bytes: &[u8], storage: u32) -> Result<(FieldForm, &[u8]), ReadFault>
     ensures { Gives (λ x. (x.0, x.1.now)) result ((field storage).reading bytes.now) }
 {
@@ -228,7 +228,7 @@ pub fn fields_at(
 }
 
 /// Writes a field.
-#[tactic(auto, unfolding(rpg_format::specs::Format::byte, rpg_format::specs::Format::two_bytes, rpg_format::specs::Format::pair, rpg_format::specs::Format::row, crate::specs::Fields::field))]
+#[tactic(auto, unfolding(rpg_object_format::specs::Format::byte, rpg_object_format::specs::Format::two_bytes, rpg_object_format::specs::Format::pair, rpg_object_format::specs::Format::row, crate::specs::Fields::field))]
 fn put_field(out: &mut Vec<u8>, f: &FieldForm) -> Result<(), AllocError>
     ensures { OnOk result (out.new.items ≡ out.old.items ++ (field 65535).spelling f.now) }
 {

@@ -2,20 +2,19 @@
 
 ghost use Rattle.std.specs.Prelude.{◌≡◌, ◌++◌, ◌≤◌, All, length, map, OnOk};
 ghost use Rattle.std.specs.List.{list_all};
-ghost use Rattle.rpg_numbers.specs.Zoned.{number_in};
+ghost use Rattle.rpg_decimal_words.specs.Zoned.{number_in};
 ghost use Rattle.rpg_effect.specs.declared.form.Kind.TheVariants as kinds;
 ghost use Rattle.rpg_effect.specs.Values.{held};
-ghost use Rattle.rpg_format.specs.Format.{table};
-ghost use Rattle.rpg_format.specs.Reading.{Gives};
-ghost use Rattle.rpg_program.specs.Kept.{AreEntriesOf, AreValuesOf, IsValueOf};
+ghost use Rattle.rpg_object_format.specs.Reading.{Gives};
+ghost use Rattle.rpg_object_program.specs.Kept.{AreEntriesOf, AreValuesOf, IsValueOf};
 ghost use Rattle.rpg_object.specs.FirstValues as spec;
-ghost use Rattle.rpg_object.specs.FirstValues.{as_written, is_character, read_value, value, value_in, value_text, values, HasLength};
+ghost use Rattle.rpg_object.specs.FirstValues.{as_written, is_character, read_value, value, value_text, values_format, HasLength};
 
 use rpg_decimal::{read_zoned, write_zoned};
 use rpg_effect::form::{FieldForm, Kind};
 use rpg_effect::value::Value;
-use rpg_format::fault::{Code, ReadFault};
-use rpg_format::number::{ends_early, fault_at};
+use rpg_object_format::fault::{Code, ReadFault};
+use rpg_object_format::number::{ends_early, fault_at};
 use std::alloc::{AllocError, Global};
 
 /// The most digits that a number has.
@@ -98,7 +97,7 @@ fn entries_at(
     bytes: &[u8],
 ) -> Result<(Vec<Value>, &[u8]), ReadFault>
     requires { HasLength form }
-    ensures { Gives (λ x. (map held x.0.items, x.1.now)) result ((spec.entries form).reading bytes.now) }
+    ensures { Gives (λ x. (map held x.0.items, x.1.now)) result ((spec.entries_format form).reading bytes.now) }
 {
     let mut entries = Vec::with_capacity(alloc, form.entries as usize)?;
     let mut rest = bytes;
@@ -117,7 +116,7 @@ pub fn values_at<'a>(
     bytes: &'a [u8],
 ) -> Result<(Vec<Vec<Value>>, &'a [u8]), ReadFault>
     requires { All HasLength fields.now }
-    ensures { Gives (λ x. (map (λ vs. map held vs.items) x.0.items, x.1.now)) result ((values fields.now).reading bytes.now) }
+    ensures { Gives (λ x. (map (λ vs. map held vs.items) x.0.items, x.1.now)) result ((values_format fields.now).reading bytes.now) }
 {
     let mut values = Vec::with_capacity(alloc, fields.len())?;
     let mut rest = bytes;
@@ -154,7 +153,7 @@ fn put_value(out: &mut Vec<u8>, value: &Value, form: FieldForm) -> Result<(), Al
 fn put_entries(out: &mut Vec<u8>, entries: &[Value], form: FieldForm) -> Result<(), AllocError>
     requires length { HasLength form }
     requires entries { AreEntriesOf form (map held entries.now) }
-    ensures { OnOk result (out.new.items ≡ out.old.items ++ (spec.entries form).spelling (map held entries.now)) }
+    ensures { OnOk result (out.new.items ≡ out.old.items ++ (spec.entries_format form).spelling (map held entries.now)) }
 {
     for value in entries {
         put_value(out, value, form)?;
@@ -171,7 +170,7 @@ pub fn put_values(
     requires lengths { All HasLength fields.now }
     requires number { length list.now ≡ length fields.now }
     requires values { AreValuesOf fields.now (map (λ vs. map held vs.items) list.now) }
-    ensures { OnOk result (out.new.items ≡ out.old.items ++ (values fields.now).spelling (map (λ vs. map held vs.items) list.now)) }
+    ensures { OnOk result (out.new.items ≡ out.old.items ++ (values_format fields.now).spelling (map (λ vs. map held vs.items) list.now)) }
 {
     for (i, field) in fields.iter().enumerate() {
         put_entries(out, &list[i], *field)?;

@@ -1,14 +1,16 @@
 //! The header: the numbers of a program before its tables.
 
 ghost use Rattle.std.specs.Prelude.{◌≡◌, ◌++◌, Result, OnOk};
-ghost use Rattle.rpg_format.specs.declared.fault.Code.{Code};
-ghost use Rattle.rpg_format.specs.Format.{read_two};
-ghost use Rattle.rpg_format.specs.Reading.{Gives};
+ghost use Rattle.rpg_object_format.specs.declared.fault.Code.{Code};
+ghost use Rattle.rpg_object_format.specs.Format.{read_two};
+ghost use Rattle.rpg_object_format.specs.Reading.{Gives};
 ghost use Rattle.rpg_object.specs.Header as spec;
 ghost use Rattle.rpg_object.specs.Header.{overflow_of, overflow_number};
 
-use rpg_format::fault::{Code, ReadFault};
-use rpg_format::number::{count_at, number_at, number_between_at, only_number_at, put_numbers};
+use rpg_object_format::fault::{Code, ReadFault};
+use rpg_object_format::number::{
+    count_at, number_at, number_between_at, only_number_at, put_numbers,
+};
 use std::alloc::AllocError;
 
 /// The most instructions that a program has, of all its sections together.
@@ -61,14 +63,14 @@ fn overflow_number(overflow: Option<u8>) -> u16
     }
 }
 
-#[tactic(auto, unfolding(rpg_format::specs::Format::read_two))]
+#[tactic(auto, unfolding(rpg_object_format::specs::Format::read_two))]
 fn overflow_at(bytes: &[u8]) -> Result<(Option<u8>, &[u8]), ReadFault>
     ensures { Gives (λ x. (x.0, x.1.now)) result (read_two overflow_of bytes.now) }
 {
     number_at(bytes, overflow_of)
 }
 
-#[tactic(auto, unfolding(rpg_format::specs::Format::two_bytes, rpg_format::specs::Format::pair, rpg_format::specs::Format::row, crate::specs::Header::settings))]
+#[tactic(auto, unfolding(rpg_object_format::specs::Format::two_bytes, rpg_object_format::specs::Format::pair, rpg_object_format::specs::Format::row, crate::specs::Header::settings))]
 fn settings_at(bytes: &[u8]) -> Result<(Settings, &[u8]), ReadFault>
     ensures { Gives (λ x. (x.0, x.1.now)) result (spec.settings.reading bytes.now) }
 {
@@ -89,7 +91,7 @@ fn settings_at(bytes: &[u8]) -> Result<(Settings, &[u8]), ReadFault>
     ))
 }
 
-#[tactic(auto, unfolding(rpg_format::specs::Format::two_bytes, rpg_format::specs::Format::pair, rpg_format::specs::Format::row, crate::specs::Header::counts))]
+#[tactic(auto, unfolding(rpg_object_format::specs::Format::two_bytes, rpg_object_format::specs::Format::pair, rpg_object_format::specs::Format::row, crate::specs::Header::counts))]
 fn counts_at(bytes: &[u8]) -> Result<(Counts, &[u8]), ReadFault>
     ensures { Gives (λ x. (x.0, x.1.now)) result (spec.counts.reading bytes.now) }
 {
@@ -113,9 +115,9 @@ fn counts_at(bytes: &[u8]) -> Result<(Counts, &[u8]), ReadFault>
 }
 
 /// Reads the header behind the name.
-#[tactic(auto, unfolding(rpg_format::specs::Format::two_bytes, rpg_format::specs::Format::pair, rpg_format::specs::Format::row, crate::specs::Header::header))]
+#[tactic(auto, unfolding(rpg_object_format::specs::Format::two_bytes, rpg_object_format::specs::Format::pair, rpg_object_format::specs::Format::row, crate::specs::Header::header_format))]
 pub fn header_at(bytes: &[u8]) -> Result<(Header, &[u8]), ReadFault>
-    ensures { Gives (λ x. (x.0, x.1.now)) result (spec.header.reading bytes.now) }
+    ensures { Gives (λ x. (x.0, x.1.now)) result (spec.header_format.reading bytes.now) }
 {
     let (_, rest) = only_number_at(bytes, 1, Code::Version)?;
     let (settings, rest) = settings_at(rest)?;
@@ -125,9 +127,9 @@ pub fn header_at(bytes: &[u8]) -> Result<(Header, &[u8]), ReadFault>
 }
 
 /// Writes the header behind the name.
-#[tactic(auto, unfolding(rpg_format::specs::Format::two_bytes, rpg_format::specs::Format::pair, rpg_format::specs::Format::row, crate::specs::Header::settings, crate::specs::Header::counts, crate::specs::Header::header))]
+#[tactic(auto, unfolding(rpg_object_format::specs::Format::two_bytes, rpg_object_format::specs::Format::pair, rpg_object_format::specs::Format::row, crate::specs::Header::settings, crate::specs::Header::counts, crate::specs::Header::header_format))]
 pub fn put_header(out: &mut Vec<u8>, header: Header) -> Result<(), AllocError>
-    ensures { OnOk result (out.new.items ≡ out.old.items ++ spec.header.spelling header) }
+    ensures { OnOk result (out.new.items ≡ out.old.items ++ spec.header_format.spelling header) }
 {
     let settings = header.settings;
     let counts = header.counts;

@@ -11,4 +11,4 @@ mod subroutine;
 
 pub use decoding::{DecodeFault, decode};
 pub use encoding::encode;
-pub use rpg_format::fault::Code;
+pub use rpg_object_format::fault::Code;

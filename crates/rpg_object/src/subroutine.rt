@@ -1,20 +1,20 @@
 //! Subroutines: each with its level and its instructions.
 
 ghost use Rattle.std.specs.Prelude.{◌≡◌, ◌++◌, ◌≤◌, All, length, map, IfOk, OnOk};
-ghost use Rattle.rpg_format.specs.Reading.{Gives};
-ghost use Rattle.rpg_program.specs.Kept.{IsSubroutineRow};
-ghost use Rattle.rpg_program.specs.Object.{subroutine_row};
-ghost use Rattle.rpg_program.specs.Sections.{instructions_in};
+ghost use Rattle.rpg_object_format.specs.Reading.{Gives};
+ghost use Rattle.rpg_object_program.specs.Kept.{IsSubroutineRow};
+ghost use Rattle.rpg_object_program.specs.Object.{subroutine_row};
+ghost use Rattle.rpg_object_program.specs.Sections.{instructions_in};
 ghost use Rattle.rpg_object.specs.Subroutines as spec;
 
-use rpg_format::fault::ReadFault;
-use rpg_format::number::{any_number_at, count_at, put_numbers};
-use rpg_program::row::Subroutine;
-use rpg_rows::{instructions_at, put_instructions};
+use rpg_object_format::fault::ReadFault;
+use rpg_object_format::number::{any_number_at, count_at, put_numbers};
+use rpg_object_program::row::Subroutine;
+use rpg_object_rows::{instructions_at, put_instructions};
 use std::alloc::{AllocError, Global};
 
 /// Reads a subroutine that takes its instructions from those that are left.
-#[tactic(auto, unfolding(rpg_format::specs::Format::two_bytes, rpg_format::specs::Format::pair, rpg_format::specs::Format::row, crate::specs::Subroutines::subroutine))]
+#[tactic(auto, unfolding(rpg_object_format::specs::Format::two_bytes, rpg_object_format::specs::Format::pair, rpg_object_format::specs::Format::row, crate::specs::Subroutines::subroutine))]
 fn subroutine_at(alloc: Global, left: u16, bytes: &[u8]) -> Result<(Subroutine, &[u8]), ReadFault>
     ensures read { Gives (λ x. (subroutine_row x.0, x.1.now)) result ((spec.subroutine left).reading bytes.now) }
     ensures few { IfOk result (λ x. length x.0.instructions.items ≤ 65535) }

@@ -1,1 +1,4 @@
+mod CardLaws
+mod Laws
+mod Padding
 mod SheetLemmas

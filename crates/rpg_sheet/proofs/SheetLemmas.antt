@@ -6,16 +6,16 @@ use Rattle.std.specs.Option.{option_map_or, option_or}
 use Rattle.std.specs.Str.Lines.{lines}
 use Rattle.std.proofs.lemmas.List.Folds.{list_any-append}
 use Rattle.std.proofs.lemmas.Grind.{common_steps}
-use Rattle.rpg_spec.specs.declared.form_type.FormType.{FormType}
+use Rattle.rpg_sheet_specs.specs.declared.form_type.FormType.{FormType}
 use Rattle.rpg_sheet.specs.declared.sheet.SheetCode.{SheetCode}
 use Rattle.rpg_sheet.specs.declared.sheet.SheetCode.TheVariants.{S1, S2, S3, S4, S5, S6}
 use Rattle.rpg_sheet.specs.declared.sheet.SheetFault.TheVariants.{At}
 use Rattle.rpg_text.specs.Texts.{is_character}
-use Rattle.rpg_spec.specs.Cards.{card_of, begins_data, ends_source, is_sheet, form_type, place_of}
-use Rattle.rpg_spec.specs.Specs.{spec_of, specs_from}
-use Rattle.rpg_readers.specs.Readable.{has_bad_column}
-use Rattle.rpg_sheet.specs.Sheet.{comes_after, is_data_behind, code_of, columns_of, fault_behind, source}
-use Rattle.rpg_sheet.specs.Seen.{IsSeen, form_code, sheet_code, code_seen}
+use Rattle.rpg_sheet_specs.specs.Cards.{card_of, begins_data, ends_source, is_sheet, form_type, sheet_place}
+use Rattle.rpg_sheet_specs.specs.Specs.{spec_of, specs_from}
+use Rattle.rpg_sheet.specs.Readable.{has_bad_column}
+use Rattle.rpg_sheet.specs.Sheet.{comes_after, is_data_behind, line_code, fault_columns, fault_behind, source}
+use Rattle.rpg_sheet.specs.Seen.{AreLinesSeen, form_code, sheet_code, code_seen}
 
 -- which of six tests is the first that passes
 abbrev first_code : Bool → Bool → Bool → Bool → Bool → Bool → Option SheetCode
@@ -44,19 +44,19 @@ by_cases false false true many (Some g) late wrong = two (late g) (wrong g)
     two false false = refl
 
 same_form_code : (earlier : List (List ℕ)) (latest : ℕ) (card : List ℕ) (f : Option FormType) → ((n : ℕ) → list_any (λ e. comes_after n (card_of e)) earlier ≡ nat_lt n latest)
-    → form_code latest card f ≡ judged (λ g. list_any (λ e. comes_after (place_of g) (card_of e)) earlier) (λ g. has_bad_column g card) f
+    → form_code latest card f ≡ judged (λ g. list_any (λ e. comes_after (sheet_place g) (card_of e)) earlier) (λ g. has_bad_column g card) f
 same_form_code earlier latest card None h = refl
-same_form_code earlier latest card (Some g) h = rw (h (place_of g)) refl
+same_form_code earlier latest card (Some g) h = rw (h (sheet_place g)) refl
 
-pub code_is_seen : (earlier : List (List ℕ)) (count latest : ℕ) (behind : Bool) (line : List ℕ) → IsSeen earlier count latest behind → code_seen count latest behind line ≡ code_of earlier line
+pub code_is_seen : (earlier : List (List ℕ)) (count latest : ℕ) (behind : Bool) (line : List ℕ) → AreLinesSeen earlier count latest behind → code_seen count latest behind line ≡ line_code earlier line
 code_is_seen earlier count latest behind line seen =
     rw (seen.count_is, seen.behind_is, same_form_code earlier latest (card_of line) (form_type (card_of line)) seen.latest_is)
     (by_cases (nat_lt 80 (length line)) (not (list_all is_character line)) (is_sheet (is_data_behind earlier) (card_of line)) (nat_le 2000 (length earlier))
-    (form_type (card_of line)) (λ f. list_any (λ e. comes_after (place_of f) (card_of e)) earlier) (λ f. has_bad_column f (card_of line)))
+    (form_type (card_of line)) (λ f. list_any (λ e. comes_after (sheet_place f) (card_of e)) earlier) (λ f. has_bad_column f (card_of line)))
 
-pub seen-push : (earlier : List (List ℕ)) (count latest latest' : ℕ) (behind : Bool) (line : List ℕ) → IsSeen earlier count latest behind
+pub seen-push : (earlier : List (List ℕ)) (count latest latest' : ℕ) (behind : Bool) (line : List ℕ) → AreLinesSeen earlier count latest behind
     → ((n : ℕ) → nat_lt n latest' ≡ (nat_lt n latest || comes_after n (card_of line)))
-    → IsSeen (earlier ++ line ∷ []) (count + 1) latest' (behind || begins_data (card_of line))
+    → AreLinesSeen (earlier ++ line ∷ []) (count + 1) latest' (behind || begins_data (card_of line))
 seen-push earlier count latest latest' behind line seen step = record {
   count_is = let c = seen.count_is in omega (arith, length-append earlier (line ∷ []));
   latest_is = λ n. rw (list_any-append, seen.latest_is n, step n) (or_false (nat_lt n latest) (comes_after n (card_of line)));
@@ -67,12 +67,6 @@ seen-push earlier count latest latest' behind line seen step = record {
     or_false true b = refl
     or_false false true = refl
     or_false false false = refl
-
-pub seen_none : IsSeen [] 0 0 false
-seen_none = record { count_is = refl; latest_is = λ n. none n; behind_is = refl }
-  where
-    none : (n : ℕ) → false ≡ nat_lt n 0
-    none n = grind (arith, common_steps)
 
 pub few_seen : (count latest : ℕ) (behind : Bool) (line : List ℕ) → code_seen count latest behind line ≡ None → count < 2000
 few_seen count latest behind line h = by (nat_lt 80 (length line)) (not (list_all is_character line)) (sheet_code latest behind (card_of line)) h
@@ -99,14 +93,14 @@ source_begins text line behind cut = by (ends_source (card_of line)) refl
     by false e = (source behind, source_goes_on text line behind cut e)
 
 -- a line without a fault
-pub fault_behind-good : (earlier more : List (List ℕ)) (count latest : ℕ) (behind : Bool) (line : List ℕ) → IsSeen earlier count latest behind → code_seen count latest behind line ≡ None
+pub fault_behind-good : (earlier more : List (List ℕ)) (count latest : ℕ) (behind : Bool) (line : List ℕ) → AreLinesSeen earlier count latest behind → code_seen count latest behind line ≡ None
     → fault_behind earlier (line ∷ more) ≡ fault_behind (earlier ++ line ∷ []) more
 fault_behind-good earlier more count latest behind line seen good = rw (sym (code_is_seen earlier count latest behind line seen) ∙ good) refl
 
 -- a line with one
 pub fault_behind-bad : (earlier : List (List ℕ)) (text rest : List ℕ) (count latest : ℕ) (behind : Bool) (line : List ℕ) (code : SheetCode) → lines text ≡ line ∷ lines rest
-    → IsSeen earlier count latest behind → code_seen count latest behind line ≡ Some code
-    → fault_behind earlier (source text) ≡ Some (At (count + 1) code (columns_of behind (card_of line) code))
+    → AreLinesSeen earlier count latest behind → code_seen count latest behind line ≡ Some code
+    → fault_behind earlier (source text) ≡ Some (At (count + 1) code (fault_columns behind (card_of line) code))
 fault_behind-bad earlier text rest count latest behind line code cut seen bad =
     let first = source_begins text line rest cut in
     rw (first.1, sym (code_is_seen earlier count latest behind line seen) ∙ bad, seen.count_is, seen.behind_is) refl

@@ -3,13 +3,13 @@ use Rattle.std.specs.Prelude.{ℕ, List, ◌++◌, codes, decimal}
 use Rattle.rpg_sheet.specs.declared.sheet.SheetCode.{SheetCode}
 use Rattle.rpg_sheet.specs.declared.sheet.SheetCode.TheVariants.{S1, S2, S3, S4, S5, S6}
 
-abbrev pub number : SheetCode → ℕ
-number S1 = 1
-number S2 = 2
-number S3 = 3
-number S4 = 4
-number S5 = 5
-number S6 = 6
+abbrev pub sheet_code_number : SheetCode → ℕ
+sheet_code_number S1 = 1
+sheet_code_number S2 = 2
+sheet_code_number S3 = 3
+sheet_code_number S4 = 4
+sheet_code_number S5 = 5
+sheet_code_number S6 = 6
 
-abbrev pub text : SheetCode → List ℕ
-text code = codes "S" ++ decimal (number code)
+abbrev pub sheet_code_text : SheetCode → List ℕ
+sheet_code_text code = codes "S" ++ decimal (sheet_code_number code)

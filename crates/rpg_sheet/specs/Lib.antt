@@ -1,5 +1,9 @@
-pub use Rattle.rpg_spec.specs.Cards
-pub use Rattle.rpg_readers.specs.Readable
 pub mod Codes
-pub mod Sheet
+pub mod Readable
 pub mod Seen
+pub mod Sheet
+pub use Rattle.rpg_sheet.specs.Readable
+pub use Rattle.rpg_sheet_specs.specs.Cards
+pub use Rattle.rpg_sheet_specs.specs.Columns
+pub use Rattle.rpg_sheet_specs.specs.Specs
+pub use Rattle.rpg_sheet_specs.specs.Tables

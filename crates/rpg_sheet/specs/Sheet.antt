@@ -7,10 +7,10 @@ use Rattle.rpg_sheet.specs.declared.sheet.SheetCode.{SheetCode}
 use Rattle.rpg_sheet.specs.declared.sheet.SheetCode.TheVariants.{S1, S2, S3, S4, S5, S6}
 use Rattle.rpg_sheet.specs.declared.sheet.SheetFault.{SheetFault}
 use Rattle.rpg_sheet.specs.declared.sheet.SheetFault.TheVariants.{At, NoMemory}
-use Rattle.rpg_spec.specs.declared.column.ColumnFault.{ColumnFault}
-use Rattle.rpg_spec.specs.declared.form_type.FormType.{FormType}
-use Rattle.rpg_spec.specs.Cards.{card_of, begins_data, ends_source, is_sheet, form_type, sheet_of, place_of}
-use Rattle.rpg_readers.specs.Readable.{has_bad_column, bad_columns}
+use Rattle.rpg_sheet_specs.specs.declared.column.ColumnFault.{ColumnFault}
+use Rattle.rpg_sheet_specs.specs.declared.form_type.FormType.{FormType}
+use Rattle.rpg_sheet_specs.specs.Cards.{card_of, begins_data, ends_source, is_sheet, form_type, sheet_of, sheet_place}
+use Rattle.rpg_sheet.specs.Readable.{has_bad_column, bad_value_columns}
 use Rattle.rpg_text.specs.Texts.{is_character}
 
 -- the items up to the first that passes, and this one
@@ -30,7 +30,7 @@ is_data_behind earlier = list_any (λ e. begins_data (card_of e)) earlier
 
 -- a card before all data is on a sheet that comes behind the one at place n
 abbrev pub comes_after : ℕ → List ℕ → Bool
-comes_after n card = option_map_or (λ f. nat_lt n (place_of f)) (sheet_of false card) false
+comes_after n card = option_map_or (λ f. nat_lt n (sheet_place f)) (sheet_of false card) false
 
 -- the sheet that a line is on
 abbrev pub sheet_behind : List (List ℕ) → List ℕ → Option FormType
@@ -40,35 +40,35 @@ abbrev pub has : List (List ℕ) → List ℕ → SheetCode → Bool
 has earlier line S1 = nat_lt 80 (length line)
 has earlier line S2 = not (list_all is_character line)
 has earlier line S3 = is_sheet (is_data_behind earlier) (card_of line) && is_none (form_type (card_of line))
-has earlier line S4 = option_map_or (λ f. list_any (λ e. comes_after (place_of f) (card_of e)) earlier) (sheet_behind earlier line) false
+has earlier line S4 = option_map_or (λ f. list_any (λ e. comes_after (sheet_place f) (card_of e)) earlier) (sheet_behind earlier line) false
 has earlier line S5 = option_map_or (λ f. has_bad_column f (card_of line)) (sheet_behind earlier line) false
 has earlier line S6 = nat_le 2000 (length earlier)
 
 -- the least code of a line
-abbrev pub code_of : List (List ℕ) → List ℕ → Option SheetCode
-code_of earlier line = find (has earlier line) (S1 ∷ S2 ∷ S3 ∷ S4 ∷ S5 ∷ S6 ∷ [])
+abbrev pub line_code : List (List ℕ) → List ℕ → Option SheetCode
+line_code earlier line = find (has earlier line) (S1 ∷ S2 ∷ S3 ∷ S4 ∷ S5 ∷ S6 ∷ [])
 
 -- with S5 the columns of a card's least bad value
-abbrev pub columns_of : Bool → List ℕ → SheetCode → Option ColumnFault
-columns_of behind card S1 = None
-columns_of behind card S2 = None
-columns_of behind card S3 = None
-columns_of behind card S4 = None
-columns_of behind card S5 = option_and_then (λ f. bad_columns f card) (sheet_of behind card)
-columns_of behind card S6 = None
+abbrev pub fault_columns : Bool → List ℕ → SheetCode → Option ColumnFault
+fault_columns behind card S1 = None
+fault_columns behind card S2 = None
+fault_columns behind card S3 = None
+fault_columns behind card S4 = None
+fault_columns behind card S5 = option_and_then (λ f. bad_value_columns f card) (sheet_of behind card)
+fault_columns behind card S6 = None
 
 abbrev pub fault_under : List (List ℕ) → List ℕ → SheetCode → SheetFault
-fault_under earlier line code = At (length earlier + 1) code (columns_of (is_data_behind earlier) (card_of line) code)
+fault_under earlier line code = At (length earlier + 1) code (fault_columns (is_data_behind earlier) (card_of line) code)
 
 -- the first line with a fault, of lines that come behind others
 abbrev pub fault_behind : List (List ℕ) → List (List ℕ) → Option SheetFault
 fault_behind earlier [] = None
-fault_behind earlier (line ∷ more) = option_or (option_map (fault_under earlier line) (code_of earlier line)) (fault_behind (earlier ++ line ∷ []) more)
+fault_behind earlier (line ∷ more) = option_or (option_map (fault_under earlier line) (line_code earlier line)) (fault_behind (earlier ++ line ∷ []) more)
 
-abbrev pub first_fault : List (List ℕ) → Option SheetFault
-first_fault all = fault_behind [] all
+abbrev pub first_sheet_fault : List (List ℕ) → Option SheetFault
+first_sheet_fault all = fault_behind [] all
 
 -- what a refusal says of a source: nothing where memory was wanted
-abbrev pub IsRefusal : SheetFault → List ℕ → Type 0
-IsRefusal NoMemory text = Unit {0}
-IsRefusal (At card code columns) text = first_fault (source text) ≡ Some (At card code columns)
+abbrev pub IsSheetRefusal : SheetFault → List ℕ → Type 0
+IsSheetRefusal NoMemory text = Unit {0}
+IsSheetRefusal (At card code columns) text = first_sheet_fault (source text) ≡ Some (At card code columns)

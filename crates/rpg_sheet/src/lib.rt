@@ -1,11 +1,22 @@
 //! From a source's bytes to what its cards stand for, or what is wrong with the first card that has a fault.
+//! A card, the sheet that it is on, and the readers of its columns.
 #![tactic(auto)]
 
+mod calculation;
+mod card;
+mod columns;
+mod extension;
+mod file;
+mod form;
+mod header;
+mod input;
+mod output;
 mod sheet;
 mod source;
+mod spec;
 
-pub use rpg_readers::Card;
-pub use rpg_spec::{
+pub use card::Card;
+pub use rpg_sheet_specs::{
     CalculationSpec, ColumnFault, Condition, ControlLevel, DataCard, DataSpec, Device, EditCode,
     Entry, EntryIndex, ExtensionSpec, Factor, FileRole, FileSpec, FormType, HeaderSpec, Indicator,
     InputField, InputSpec, LineTime, Literal, Movement, NumericLiteral, Operation, OutputField,

@@ -1,18 +1,18 @@
 //! The sheets of a source, and what can be wrong with its cards.
 
 ghost use Rattle.std.specs.Prelude.{◌≡◌, ◌≤◌, length, None, Some, vec_len, IfOk, IfErr};
-ghost use Rattle.rpg_spec.specs.Cards as cards;
-ghost use Rattle.rpg_spec.specs.Specs.{data_of, spec_of};
+ghost use Rattle.rpg_sheet_specs.specs.Cards as cards;
+ghost use Rattle.rpg_sheet_specs.specs.Specs.{data_spec_of, spec_of};
 ghost use Rattle.rpg_sheet.specs.Codes as codes;
 ghost use Rattle.rpg_sheet.specs.Seen.{sheet_code};
-ghost use Rattle.rpg_sheet.specs.Sheet.{columns_of};
+ghost use Rattle.rpg_sheet.specs.Sheet.{fault_columns};
 ghost use Rattle.rpg_sheet.specs.declared.sheet.SheetCode.TheVariants.{S5};
 ghost use Rattle.rpg_sheet.specs.declared.sheet.SheetFault.TheVariants.{NoMemory};
 
+use crate::Card;
 use arrayvec::ArrayString;
 use itoa::Buffer;
-use rpg_readers::Card;
-use rpg_spec::{ColumnFault, DataCard, DataSpec, FormType, Spec};
+use rpg_sheet_specs::{ColumnFault, DataCard, DataSpec, FormType, Spec};
 use std::alloc::AllocFailed;
 use std::fmt;
 use std::marker::Model;
@@ -20,7 +20,7 @@ use thiserror::Error;
 
 /// A sheet's place among the sheets of a source.
 pub(crate) fn place(sheet: FormType) -> u8
-    ensures value { result ≡ cards.place_of sheet }
+    ensures value { result ≡ cards.sheet_place sheet }
     ensures few { result ≤ 5 }
 {
     match sheet {
@@ -52,14 +52,14 @@ pub enum SheetCode {
 
 impl SheetCode {
     pub fn number(self) -> u8
-        ensures { result ≡ codes.number self }
+        ensures { result ≡ codes.sheet_code_number self }
     {
         self as u8
     }
 
     /// The letter S and the number.
     pub fn text(self) -> ArrayString<4>
-        ensures value { result.bytes ≡ codes.text self }
+        ensures value { result.bytes ≡ codes.sheet_code_text self }
         ensures len { length result.bytes ≤ 4 }
     {
         let mut text = ArrayString::new();
@@ -67,10 +67,24 @@ impl SheetCode {
         text.push_str(Buffer::new().format(self.number()));
         text
     }
+
+    /// What is wrong, as a person reads it.
+    pub const fn sentence(self) -> &'static str {
+        match self {
+            SheetCode::S1 => "the card has more than 80 characters",
+            SheetCode::S2 => "the card has a byte that is no character",
+            SheetCode::S3 => "column 6 has no form type",
+            SheetCode::S4 => "the card's form type is earlier than one before",
+            SheetCode::S5 => {
+                "columns have a value that isn't allowed, or a column is filled that must be blank"
+            }
+            SheetCode::S6 => "it is card 2,001",
+        }
+    }
 }
 
 impl fmt::Display for SheetCode {
-    ghost output = { λ code. Some (codes.text code) };
+    ghost output = { λ code. Some (codes.sheet_code_text code) };
 
     fn fmt<W: fmt::Write>(&self, f: &mut fmt::Formatter<W>) -> fmt::Result {
         f.write_str(self.text().as_str())
@@ -136,7 +150,7 @@ pub struct Cards {
 
 impl Model for Cards {
     ghost use Rattle.std.specs.Prelude.{List, Option, vec_len, ◌≤◌};
-    ghost use Rattle.rpg_spec.specs.declared.spec.Spec.{Spec};
+    ghost use Rattle.rpg_sheet_specs.specs.declared.spec.Spec.{Spec};
 
     ghost Value = { List (Option Spec) };
 
@@ -164,7 +178,7 @@ impl Cards {
 /// What a card stands for behind a sheet at place `latest`, or what is wrong with its form type and its columns. `behind` says whether data has begun.
 pub(crate) fn read(card: &Card, latest: u8, behind: bool) -> Result<Option<Spec>, CardFault>
     ensures ok { IfOk result (λ spec. (spec ≡ spec_of behind card.now) × (sheet_code latest behind card.now ≡ None)) }
-    ensures err { IfErr result (λ fault. (sheet_code latest behind card.now ≡ Some fault.code) × (fault.columns ≡ columns_of behind card.now fault.code)) }
+    ensures err { IfErr result (λ fault. (sheet_code latest behind card.now ≡ Some fault.code) × (fault.columns ≡ fault_columns behind card.now fault.code)) }
 {
     if !card.is_sheet(behind) {
         return Ok(data(card, behind).map(Spec::Data));
@@ -180,7 +194,7 @@ pub(crate) fn read(card: &Card, latest: u8, behind: bool) -> Result<Option<Spec>
 
 /// What a card that is on no sheet stands for.
 fn data(card: &Card, behind: bool) -> Option<DataSpec>
-    ensures { result ≡ data_of behind card.now }
+    ensures { result ≡ data_spec_of behind card.now }
 {
     if card.ends_source() {
         None

@@ -3,12 +3,12 @@
 ghost use Rattle.std.specs.Prelude.{◌≡◌, ℕ, ◌<◌, ◌||◌, None, Some, map, nat_lt, OnOk, IfOk, IfErr};
 ghost use Rattle.rpg_sheet.specs.Seen as seen;
 ghost use Rattle.rpg_sheet.specs.Sheet as sheets;
-ghost use Rattle.rpg_spec.specs.Cards.{card_of};
-ghost use Rattle.rpg_spec.specs.Specs.{spec_of, specs_of};
+ghost use Rattle.rpg_sheet_specs.specs.Cards.{card_of};
+ghost use Rattle.rpg_sheet_specs.specs.Specs.{spec_of, specs_of};
 
+use crate::Card;
 use crate::sheet::{CardFault, Cards, SheetCode, SheetFault, place, read};
-use rpg_readers::Card;
-use rpg_spec::Spec;
+use rpg_sheet_specs::Spec;
 use rpg_text::{first_line, has_only_characters};
 use std::alloc::Global;
 
@@ -22,8 +22,8 @@ const CARDS: usize = 2000;
 /// `NoMemory` is answered where a growth was refused, in place of any fault behind it.
 pub fn cards(alloc: Global, text: &[u8]) -> Result<Cards, SheetFault>
     ensures cards { IfOk result (λ cards. cards ≡ specs_of (map card_of (sheets.source text.now))) }
-    ensures faultless { OnOk result (sheets.first_fault (sheets.source text.now) ≡ None) }
-    ensures fault { IfErr result (λ fault. sheets.IsRefusal fault text.now) }
+    ensures faultless { OnOk result (sheets.first_sheet_fault (sheets.source text.now) ≡ None) }
+    ensures fault { IfErr result (λ fault. sheets.IsSheetRefusal fault text.now) }
 {
     let mut specs = Vec::new(alloc);
     let mut rest = text;
@@ -64,7 +64,7 @@ fn checked(
     ensures spec { IfOk result (λ read. read.1 ≡ spec_of behind (card_of line.now)) }
     ensures good { OnOk result (seen.code_seen count latest behind line.now ≡ None) }
     ensures code { IfErr result (λ fault. seen.code_seen count latest behind line.now ≡ Some fault.code) }
-    ensures columns { IfErr result (λ fault. fault.columns ≡ sheets.columns_of behind (card_of line.now) fault.code) }
+    ensures columns { IfErr result (λ fault. fault.columns ≡ sheets.fault_columns behind (card_of line.now) fault.code) }
 {
     if line.len() > COLUMNS {
         return Err(SheetCode::S1.into());

@@ -4,7 +4,7 @@ use Rattle.std.proofs.Math.ListN.{set}
 use Rattle.std.proofs.lemmas.Option.{same_Some, slice_get_within}
 use Rattle.rpg_effect.specs.declared.form.FieldForm.{FieldForm}
 use Rattle.rpg_store.specs.Contents.{IsEntry, entries_from}
-use Rattle.rpg_store.specs.Slots.{forms_of, first_of, slot_at, spot, AreInOrder}
+use Rattle.rpg_store.specs.Slots.{forms_of, slot_start, slot_at, spot, AreInOrder}
 use Rattle.rpg_store.specs.declared.slot.Slot.{Slot}
 use Rattle.rpg_store.proofs.ByEntry.{before, stands}
 
@@ -42,7 +42,7 @@ slot_at_index slots (suc k) h = let e : suc k - 1 ≡ k = omega arith in ap (sli
 
 -- the place that the table gives, of the entry at that index of the table
 pub spot_is : (slots : List Slot) (q e : ℕ) (r : Slot) → 1 ≤ q → slice_get slots (q - 1) ≡ Some r → spot slots (q, e) ≡ r.first + (e - 1)
-spot_is slots q e r l h = ap (λ o. first_of o + (e - 1)) (slot_at_index slots q l ∙ h)
+spot_is slots q e r l h = ap (λ o. slot_start o + (e - 1)) (slot_at_index slots q l ∙ h)
 
 -- where the slots are in order, it is the entry's place among all entries
 pub spot_place : (slots : List Slot) (n q e : ℕ) → AreInOrder 0 slots → slice_get (entries_from 1 (forms_of slots)) n ≡ Some (q, e) → spot slots (q, e) ≡ n

@@ -6,10 +6,10 @@ use Rattle.std.specs.FinMap as maps
 use Rattle.std.specs.Option.{option_map}
 use Rattle.rpg_effect.specs.Values.{Value}
 use Rattle.rpg_effect.specs.declared.form.FieldForm.{FieldForm}
-use Rattle.rpg_program.specs.Kept.{AreValuesOf}
+use Rattle.rpg_object_program.specs.Kept.{AreValuesOf}
 use Rattle.rpg_store.specs.Contents.{by_entry, entries_from, positions_from}
 use Rattle.rpg_store.specs.Filling.{with_fields, with_positions}
-use Rattle.rpg_store.specs.First.{joined}
+use Rattle.rpg_store.specs.First.{joined_values}
 use Rattle.rpg_store.specs.Store.{Values}
 use Rattle.rpg_store.proofs.ByEntry.{at_only, by_entry-set, entries_total, length-positions_from, tied, ties}
 use Rattle.rpg_store.proofs.Places.{entry_here, in_first, in_second}
@@ -89,7 +89,7 @@ empty [] h = refl
 empty (w ∷ ws) h = absurd (omega arith)
 
 fields_filled : (gs fs : List FieldForm) (ks : List (ℕ × ℕ)) (k : ℕ) (xs ws : List Value) (vss : List (List Value)) → entries_from 1 gs ≡ ks ++ entries_from k fs → length ks ≡ length xs → AreValuesOf fs vss → length ws ≡ length (entries_from k fs) →
-    with_fields (by_entry gs (xs ++ ws)) k vss ≡ by_entry gs (xs ++ joined vss)
+    with_fields (by_entry gs (xs ++ ws)) k vss ≡ by_entry gs (xs ++ joined_values vss)
 fields_filled gs [] ks k xs ws [] is l h n = ap (λ ys. by_entry gs (xs ++ ys)) (empty ws n)
 fields_filled gs [] ks k xs ws (vs ∷ vss) is l h n = absurd h
 fields_filled gs (f ∷ fs) ks k xs ws [] is l h n = absurd h
@@ -107,10 +107,10 @@ fields_filled gs (f ∷ fs) ks k xs ws (vs ∷ vss) is l h n =
     ap (λ es. slice_get es (length xs + j)) is ∙ in_second ks (mine ++ rest) (length xs + j) j (k, 1 + j) (omega arith) (in_first mine rest j (k, 1 + j) (entry_here k 1 f.entries j (omega arith)))) (omega arith)
     ∙ ap (by_entry gs) (sym (append_assoc xs vs (drop (length vs) ws))))
     ∙ fields_filled gs fs (ks ++ mine) (k + 1) (xs ++ vs) (drop (length vs) ws) vss (is ∙ sym (append_assoc ks mine rest)) (omega arith) h.1 (omega arith)
-    ∙ ap (by_entry gs) (append_assoc xs vs (joined vss))
+    ∙ ap (by_entry gs) (append_assoc xs vs (joined_values vss))
 
 -- where there is a value for each entry, all are new
-pub all_filled : (fs : List FieldForm) (ws : List Value) (vss : List (List Value)) → AreValuesOf fs vss → length ws ≡ length (entries_from 1 fs) → with_fields (by_entry fs ws) 1 vss ≡ by_entry fs (joined vss)
+pub all_filled : (fs : List FieldForm) (ws : List Value) (vss : List (List Value)) → AreValuesOf fs vss → length ws ≡ length (entries_from 1 fs) → with_fields (by_entry fs ws) 1 vss ≡ by_entry fs (joined_values vss)
 all_filled fs ws vss h n = fields_filled fs fs [] 1 [] ws vss refl refl h n
 
 -- an item of a list, as it is seen

@@ -10,10 +10,10 @@ use Rattle.rpg_effect.specs.Values.{Value, Number, Text}
 use Rattle.rpg_effect.specs.declared.form.FieldForm.{FieldForm}
 use Rattle.rpg_effect.specs.declared.form.Kind.{Kind}
 use Rattle.rpg_effect.specs.declared.form.Kind.TheVariants as kinds
-use Rattle.rpg_program.specs.Kept.{AreValuesOf, IsCharacter, IsFieldRow, IsProgram, IsValueOf}
-use Rattle.rpg_program.specs.Object.{Object}
+use Rattle.rpg_object_program.specs.Kept.{AreValuesOf, IsCharacter, IsFieldRow, IsProgram, IsValueOf}
+use Rattle.rpg_object_program.specs.Object.{Object}
 use Rattle.rpg_store.specs.Contents.{by_entry}
-use Rattle.rpg_store.specs.First.{first_contents, first_currents, joined, tables_from}
+use Rattle.rpg_store.specs.First.{first_contents, first_currents, joined_values, tables_from}
 use Rattle.rpg_store.specs.Fits.{Fits, HasForm}
 use Rattle.rpg_store.proofs.ByEntry.{before, cut, there, value_here}
 use Rattle.rpg_store.proofs.FirstValues.{value_at}
@@ -22,7 +22,7 @@ use Rattle.rpg_store.proofs.Places.{entry_place, in_first, in_second}
 -- ---- values
 
 -- each position of a field has a value of the field's form
-value_there : (fs : List FieldForm) (vss : List (List Value)) (i j : ℕ) (f : FieldForm) → AreValuesOf fs vss → slice_get fs i ≡ Some f → j < f.entries → (v : Value) × ((slice_get (joined vss) (before fs i + j) ≡ Some v) × IsValueOf f.kind f.length v)
+value_there : (fs : List FieldForm) (vss : List (List Value)) (i j : ℕ) (f : FieldForm) → AreValuesOf fs vss → slice_get fs i ≡ Some f → j < f.entries → (v : Value) × ((slice_get (joined_values vss) (before fs i + j) ≡ Some v) × IsValueOf f.kind f.length v)
 value_there [] vss i j f h is l = cc
 value_there (g ∷ fs) [] i j f h is l = absurd h
 value_there (g ∷ fs) (vs ∷ vss) zero j f h is l =
@@ -32,11 +32,11 @@ value_there (g ∷ fs) (vs ∷ vss) zero j f h is l =
     let inside : j < length vs = omega arith in
     let v : Value = get_or vs j (Number (pos 0)) in
     let place : 0 + j ≡ j = omega arith in
-    (v, (ap (slice_get (joined (vs ∷ vss))) place ∙ in_first vs (joined vss) j v (slice_get-get_or vs j (Number (pos 0)) inside), subst (λ (d : FieldForm). IsValueOf d.kind d.length v) same (h.0.each j (Number (pos 0)) inside)))
+    (v, (ap (slice_get (joined_values (vs ∷ vss))) place ∙ in_first vs (joined_values vss) j v (slice_get-get_or vs j (Number (pos 0)) inside), subst (λ (d : FieldForm). IsValueOf d.kind d.length v) same (h.0.each j (Number (pos 0)) inside)))
 value_there (g ∷ fs) (vs ∷ vss) (suc i) j f h is l =
     let t = value_there fs vss i j f h.1 is l in
     let number = h.0.number in
-    (t.0, (in_second vs (joined vss) (g.entries + before fs i + j) (before fs i + j) t.0 (omega arith) t.1.0, t.1.1))
+    (t.0, (in_second vs (joined_values vss) (g.entries + before fs i + j) (before fs i + j) t.0 (omega arith) t.1.0, t.1.1))
 
 has_form : (k : Kind) (len : ℕ) (v : Value) → IsValueOf k len v → HasForm k len (Some v)
 has_form kinds.Number len (Number n) h = h
@@ -44,12 +44,12 @@ has_form kinds.Number len (Text text) h = absurd h
 has_form kinds.Text len (Number n) h = absurd h
 has_form kinds.Text len (Text text) h = h.0
 
-each_first : (fs : List FieldForm) (vss : List (List Value)) (q n : ℕ) (d : FieldForm) → AreValuesOf fs vss → form_at fs q ≡ Some d → 1 ≤ n → n ≤ d.entries → (v : Value) × ((maps.get (by_entry fs (joined vss)) (q, n) ≡ Some v) × IsValueOf d.kind d.length v)
+each_first : (fs : List FieldForm) (vss : List (List Value)) (q n : ℕ) (d : FieldForm) → AreValuesOf fs vss → form_at fs q ≡ Some d → 1 ≤ n → n ≤ d.entries → (v : Value) × ((maps.get (by_entry fs (joined_values vss)) (q, n) ≡ Some v) × IsValueOf d.kind d.length v)
 each_first fs vss zero n d h is low high = cc
 each_first fs vss (suc i) n d h is low high =
     let field : 1 + i ≡ suc i = omega arith in
     let t = value_there fs vss i (n - 1) d h is (omega arith) in
-    (t.0, (value_here fs (joined vss) (before fs i + (n - 1)) (suc i, n) (entry_place fs 1 i n d is low high ∙ ap (λ (j : ℕ). Some (j, n)) field) ∙ t.1.0, t.1.1))
+    (t.0, (value_here fs (joined_values vss) (before fs i + (n - 1)) (suc i, n) (entry_place fs 1 i n d is low high ∙ ap (λ (j : ℕ). Some (j, n)) field) ∙ t.1.0, t.1.1))
 
 -- ---- characters
 
@@ -57,11 +57,11 @@ text_characters : (k : Kind) (len : ℕ) (text : List ℕ) → IsValueOf k len (
 text_characters kinds.Number len text h = absurd h
 text_characters kinds.Text len text h = h.1
 
-characters_there : (fs : List FieldForm) (vss : List (List Value)) (m : ℕ) (text : List ℕ) → AreValuesOf fs vss → slice_get (joined vss) m ≡ Some (Text text) → All IsCharacter text
+characters_there : (fs : List FieldForm) (vss : List (List Value)) (m : ℕ) (text : List ℕ) → AreValuesOf fs vss → slice_get (joined_values vss) m ≡ Some (Text text) → All IsCharacter text
 characters_there [] [] m text h is = cc
 characters_there [] (vs ∷ vss) m text h is = absurd h
 characters_there (f ∷ fs) [] m text h is = absurd h
-characters_there (f ∷ fs) (vs ∷ vss) m text h is = elim (cut vs (joined vss) m (Text text) is) [
+characters_there (f ∷ fs) (vs ∷ vss) m text h is = elim (cut vs (joined_values vss) m (Text text) is) [
   | inl x ↦ text_characters f.kind f.length text (value_at f vs m (Text text) h.0 x)
   | inr x ↦ characters_there fs vss x.0 text h.1 x.1.1
 ]
@@ -97,7 +97,7 @@ form_row fs (suc i) d rows h = subst (λ (x : FieldForm). IsFieldRow x) (get_or_
 pub first_fits : (p : Object) → IsProgram p → Fits p.fields (first_contents p) (first_currents p)
 first_fits p kept = record {
   each = λ q d is n low high. let t = each_first p.fields p.values q n d kept.values is low high in subst (λ (o : Option Value). HasForm d.kind d.length o) (sym t.1.0) (has_form d.kind d.length t.0 t.1.1);
-  characters = λ q n text is. let t = there p.fields (joined p.values) (q, n) (Text text) is in characters_there p.fields p.values t.0 text kept.values t.1.1;
+  characters = λ q n text is. let t = there p.fields (joined_values p.values) (q, n) (Text text) is in characters_there p.fields p.values t.0 text kept.values t.1.1;
   low = λ q h. let one = first_is_one p q in omega arith;
   high = λ q h.
       let t = table_there (form_at p.fields q) h in

@@ -8,8 +8,8 @@ use Rattle.std.specs.Ordering.{eq_by_cmp, nat_cmp}
 use Rattle.rpg_effect.specs.Forms.{entries_of, form_at, is_constant}
 use Rattle.rpg_effect.specs.Values.{Value, Text}
 use Rattle.rpg_effect.specs.declared.form.FieldForm.{FieldForm}
-use Rattle.rpg_program.specs.Kept.{IsCharacter}
-use Rattle.rpg_program.specs.Object.{Object}
+use Rattle.rpg_object_program.specs.Kept.{IsCharacter}
+use Rattle.rpg_object_program.specs.Object.{Object}
 use Rattle.rpg_store.specs.Fits.{Fits, HasForm, KeepsConstants}
 use Rattle.rpg_store.specs.Store.{Currents, Values}
 use Rattle.rpg_store.proofs.ByEntry.{at_only, entries_total, tied, ties}

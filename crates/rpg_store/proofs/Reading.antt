@@ -4,8 +4,8 @@ use Rattle.std.proofs.lemmas.Bool.{and_parts, leb-true, or_left, or_right}
 use Rattle.std.proofs.lemmas.Bool.Decides.{nat_tests}
 use Rattle.std.proofs.lemmas.List.{get_or-map, length-map}
 use Rattle.std.specs.List.{All}
-use Rattle.rpg_numbers.specs.Place.{digits, place_value}
-use Rattle.rpg_numbers.specs.Zoned.{digit_of, is_digit, is_minus, last_character, last_of, minus_letter, spelled_number}
+use Rattle.rpg_decimal_words.specs.Place.{lowest_digits, place_value}
+use Rattle.rpg_decimal_words.specs.Zoned.{digit_of, is_digit, is_minus, last_character, last_of, minus_letter, spelled_number}
 use Rattle.rpg_decimal.proofs.PlaceLemmas.{get_or-digits-below, length-digits, place_value_more}
 use Rattle.rpg_decimal.proofs.ZonedLemmas.{digit_stands, is_minus-letter, last_character-pos, last_of_push}
 use Rattle.rpg_store.specs.Written.{IsDigit, IsLastWritten, IsWritten}
@@ -17,24 +17,24 @@ front_all xs c k h = ap (λ n. take n (xs ++ c ∷ [])) (sym h) ∙ whole xs
     whole [] = refl
     whole (y ∷ ys) = ap (λ zs. y ∷ zs) (whole ys)
 
-long_front : (k m : ℕ) → length (map (λ d. 48 + d) (digits k m)) ≡ k
-long_front k m = length-map (digits k m) (λ d. 48 + d) ∙ length-digits k m
+long_front : (k m : ℕ) → length (map (λ d. 48 + d) (lowest_digits k m)) ≡ k
+long_front k m = length-map (lowest_digits k m) (λ d. 48 + d) ∙ length-digits k m
 
 -- the places before the last one have digits
 pub front_digits : (text : List ℕ) → IsWritten text → All IsDigit (take (length text - 1) text)
 front_digits text h =
     let k = length text - 1 in
     let m = unsigned_abs (spelled_number text) / 10 in
-    let front = map (λ d. 48 + d) (digits k m) in
+    let front = map (λ d. 48 + d) (lowest_digits k m) in
     let is : take k text ≡ front = ap (take k) h ∙ front_all front (last_character (spelled_number text)) k (long_front k m) in
     subst (λ xs. All IsDigit xs) (sym is) (λ i d l.
     let lf = long_front k m in
     let ld = length-digits k m in
-    subst IsDigit (sym (get_or-map (λ e. 48 + e) (digits k m) i 0 d (omega arith))) (digit_stands (get_or (digits k m) i 0) (get_or-digits-below k m i)))
+    subst IsDigit (sym (get_or-map (λ e. 48 + e) (lowest_digits k m) i 0 d (omega arith))) (digit_stands (get_or (lowest_digits k m) i 0) (get_or-digits-below k m i)))
 
 -- the last place, as it is written for a number
 last_is : (text : List ℕ) → IsWritten text → last_of text ≡ last_character (spelled_number text)
-last_is text h = ap last_of h ∙ last_of_push (map (λ d. 48 + d) (digits (length text - 1) (unsigned_abs (spelled_number text) / 10))) (last_character (spelled_number text))
+last_is text h = ap last_of h ∙ last_of_push (map (λ d. 48 + d) (lowest_digits (length text - 1) (unsigned_abs (spelled_number text) / 10))) (last_character (spelled_number text))
 
 last_of_number : (n : ℤ) → IsLastWritten (last_character n)
 last_of_number (pos a) = subst IsLastWritten (sym (last_character-pos a)) (or_left (is_digit (48 + a % 10)) (is_minus (48 + a % 10)) (digit_stands (a % 10) (omega arith)))

@@ -1,7 +1,7 @@
 -- A text of zeros is the one that is written for zero.
 use Rattle.std.proofs.Common.{◌≡◌, ℕ, zero, suc, ◌+◌, ◌-◌, ◌/◌, ◌%◌, ◌^◌, ◌≤◌, pos, [], ◌∷◌, ◌++◌, length, map, take, get_or, refl, sym, ap, ◌∙◌, arith}
-use Rattle.rpg_numbers.specs.Place.{digits, place_value, signed_number}
-use Rattle.rpg_numbers.specs.Zoned.{digit_of, is_minus, spelled_number, zoned_text}
+use Rattle.rpg_decimal_words.specs.Place.{lowest_digits, place_value, signed_number}
+use Rattle.rpg_decimal_words.specs.Zoned.{digit_of, is_minus, spelled_number, zoned_text}
 use Rattle.rpg_store.specs.Area.{bytes_at, zeros}
 use Rattle.rpg_store.specs.Written.{IsWritten}
 
@@ -27,9 +27,9 @@ last_zero : (k : ℕ) → get_or (zeros (suc k)) k 0 ≡ 48
 last_zero zero = refl
 last_zero (suc k) = last_zero k
 
-no_digits : (k : ℕ) → map (λ d. 48 + d) (digits k 0) ≡ zeros k
+no_digits : (k : ℕ) → map (λ d. 48 + d) (lowest_digits k 0) ≡ zeros k
 no_digits zero = refl
-no_digits (suc k) = let e : 0 / 10 ^ k ≡ 0 = grind arith in ap (λ q. (48 + q % 10) ∷ map (λ d. 48 + d) (digits k 0)) e ∙ ap (λ xs. 48 ∷ xs) (no_digits k)
+no_digits (suc k) = let e : 0 / 10 ^ k ≡ 0 = grind arith in ap (λ q. (48 + q % 10) ∷ map (λ d. 48 + d) (lowest_digits k 0)) e ∙ ap (λ xs. 48 ∷ xs) (no_digits k)
 
 one_more : (k : ℕ) → zeros k ++ (48 ∷ []) ≡ zeros (suc k)
 one_more zero = refl
@@ -45,7 +45,7 @@ spells_zero k =
 zoned : (k : ℕ) → zoned_text (suc k) (pos 0) ≡ zeros (suc k)
 zoned k =
     let e : suc k - 1 ≡ k = omega arith in
-    ap (λ i. map (λ d. 48 + d) (digits i 0) ++ 48 ∷ []) e ∙ ap (λ xs. xs ++ 48 ∷ []) (no_digits k) ∙ one_more k
+    ap (λ i. map (λ d. 48 + d) (lowest_digits i 0) ++ 48 ∷ []) e ∙ ap (λ xs. xs ++ 48 ∷ []) (no_digits k) ∙ one_more k
 
 pub zero_is_written : (len : ℕ) → 1 ≤ len → IsWritten (zeros len)
 zero_is_written zero h = absurd (omega arith)

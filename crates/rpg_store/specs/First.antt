@@ -5,17 +5,17 @@ use Rattle.std.specs.FinMap as map
 use Rattle.rpg_effect.specs.Forms.{is_table}
 use Rattle.rpg_effect.specs.Values.{Value}
 use Rattle.rpg_effect.specs.declared.form.FieldForm.{FieldForm}
-use Rattle.rpg_program.specs.Object.{Object}
+use Rattle.rpg_object_program.specs.Object.{Object}
 use Rattle.rpg_store.specs.Contents.{by_entry}
 use Rattle.rpg_store.specs.Store.{Currents, Values}
 
 -- the values of all fields, one behind the other
-abbrev pub joined : List (List Value) → List Value
-joined values = flat_map (λ vs. vs) values
+abbrev pub joined_values : List (List Value) → List Value
+joined_values values = flat_map (λ vs. vs) values
 
 -- the first values of a program
 abbrev pub first_contents : Object → Values
-first_contents p = by_entry p.fields (joined p.values)
+first_contents p = by_entry p.fields (joined_values p.values)
 
 -- tables, each with its first entry; the first field has that number
 abbrev pub tables_from : ℕ → List FieldForm → List (ℕ × ℕ)

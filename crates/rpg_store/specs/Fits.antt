@@ -6,8 +6,8 @@ use Rattle.rpg_effect.specs.Values.{Value, Number, Text}
 use Rattle.rpg_effect.specs.declared.form.FieldForm.{FieldForm}
 use Rattle.rpg_effect.specs.declared.form.Kind.{Kind}
 use Rattle.rpg_effect.specs.declared.form.Kind.TheVariants as kinds
-use Rattle.rpg_program.specs.Kept.{IsCharacter}
-use Rattle.rpg_program.specs.Object.{Object}
+use Rattle.rpg_object_program.specs.Kept.{IsCharacter}
+use Rattle.rpg_object_program.specs.Object.{Object}
 use Rattle.rpg_store.specs.First.{first_contents}
 use Rattle.rpg_store.specs.Store.{Currents, Values}
 

@@ -10,13 +10,13 @@ pub record Listed : Type 0 where
   pub slots : List Slot
   pub list : List Value
 
-abbrev pub contents_of : Listed → Values
-contents_of s = by_entry (forms_of s.slots) s.list
+abbrev pub listed_contents : Listed → Values
+listed_contents s = by_entry (forms_of s.slots) s.list
 
 -- bytes over the front of a text, as far as it goes
-abbrev pub over : List ℕ → List ℕ → List ℕ
-over text w = take (length text) (w ++ drop (length w) text)
+abbrev pub laid_at_front : List ℕ → List ℕ → List ℕ
+laid_at_front text w = take (length text) (w ++ drop (length w) text)
 
 -- these bytes over the text of an entry
-abbrev pub with_text : Listed → ℕ → ℕ → List ℕ → Listed
-with_text s field position w = record s { list = slice_set s.list (spot s.slots (field, position)) (Text (over (characters_of (slice_get s.list (spot s.slots (field, position)))) w)) }
+abbrev pub listed_with_text : Listed → ℕ → ℕ → List ℕ → Listed
+listed_with_text s field position w = record s { list = slice_set s.list (spot s.slots (field, position)) (Text (laid_at_front (characters_of (slice_get s.list (spot s.slots (field, position)))) w)) }

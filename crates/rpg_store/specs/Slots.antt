@@ -27,13 +27,13 @@ abbrev pub slot_at : List Slot → ℕ → Option Slot
 slot_at slots zero = None
 slot_at slots (suc k) = slice_get slots k
 
-abbrev pub first_of : Option Slot → ℕ
-first_of None = 0
-first_of (Some r) = r.first
+abbrev pub slot_start : Option Slot → ℕ
+slot_start None = 0
+slot_start (Some r) = r.first
 
 -- the place of an entry among all entries, by the table
 abbrev pub spot : List Slot → ℕ × ℕ → ℕ
-spot slots entry = first_of (slot_at slots entry.0) + (entry.1 - 1)
+spot slots entry = slot_start (slot_at slots entry.0) + (entry.1 - 1)
 
 -- the table of these fields, their first entries current, where the first of them begins at that place among all entries
 abbrev pub slots_from : ℕ → List FieldForm → List Slot

@@ -1,6 +1,6 @@
 -- Texts that were written for numbers.
 use Rattle.std.specs.Prelude.{◌≡◌, ℕ, ◌||◌, IsTrue, List, length}
-use Rattle.rpg_numbers.specs.Zoned.{is_digit, is_minus, spelled_number, zoned_text}
+use Rattle.rpg_decimal_words.specs.Zoned.{is_digit, is_minus, spelled_number, zoned_text}
 
 -- the text is the one that is written for its number
 abbrev pub IsWritten : List ℕ → Type 0

@@ -2,13 +2,12 @@
 ghost use Rattle.std.specs.Prelude.{◌≡◌, ◌+◌, ◌≤◌, All, length, map as along, slice_range, IfOk};
 ghost use Rattle.std.specs.FinMap as map;
 ghost use Rattle.rpg_effect.specs.Values.{held};
-ghost use Rattle.rpg_program.specs.Kept.{IsFieldRow, storage_of};
-ghost use Rattle.rpg_program.specs.Object.{Object};
-ghost use Rattle.rpg_store.specs.Area.{all_digits, area_slots, length_in, start, zeros};
+ghost use Rattle.rpg_object_program.specs.Kept.{IsFieldRow, storage_of};
+ghost use Rattle.rpg_store.specs.Area.{all_number_bytes, area_slots, length_in, start, zeros};
 ghost use Rattle.rpg_store.specs.Contents.{IsEntry};
 ghost use Rattle.rpg_store.specs.Filling.{with_fields, with_positions, MayTake, MayTakeAll, MayTakeFields};
 ghost use Rattle.rpg_store.specs.First.{first_contents, first_currents};
-ghost use Rattle.rpg_store.specs.Flat.{contents_of, with_text};
+ghost use Rattle.rpg_store.specs.Flat.{flat_contents, flat_with_text};
 ghost use Rattle.rpg_store.specs.Slots.{currents, forms_of, slot_at};
 
 use crate::slot::Slot;
@@ -17,7 +16,7 @@ use crate::written::read_written;
 use rpg_decimal::write_zoned;
 use rpg_effect::form::{FieldForm, Kind};
 use rpg_effect::value::Value;
-use rpg_program::Program;
+use rpg_object_program::Program;
 use std::alloc::{AllocError, Global};
 use std::marker::Model;
 
@@ -44,7 +43,7 @@ impl Model for FlatStore {
 #[tactic(auto, using(crate::proofs::Storage::all_bytes))]
 fn digits_in(fields: &[FieldForm]) -> usize
     requires { storage_of fields.now ≤ 65535 }
-    ensures { result ≡ all_digits fields.now }
+    ensures { result ≡ all_number_bytes fields.now }
 {
     let mut total = 0;
     for form in fields {
@@ -76,7 +75,7 @@ fn area_slots_of(
     digits: usize,
 ) -> Result<Vec<Slot>, AllocError>
     requires few { storage_of fields.now ≤ 65535 }
-    requires digits { digits ≡ all_digits fields.now }
+    requires digits { digits ≡ all_number_bytes fields.now }
     ensures { IfOk result (λ slots. slots.items ≡ area_slots 0 digits fields.now) }
 {
     let mut slots = Vec::new(alloc);
@@ -113,7 +112,7 @@ fn area_slots_of(
 fn zeroed(alloc: Global, fields: &[FieldForm]) -> Result<FlatStore, AllocError>
     requires rows { All IsFieldRow fields.now }
     requires few { storage_of fields.now ≤ 65535 }
-    ensures slots { IfOk result (λ s. s.slots ≡ area_slots 0 (all_digits fields.now) fields.now) }
+    ensures slots { IfOk result (λ s. s.slots ≡ area_slots 0 (all_number_bytes fields.now) fields.now) }
     ensures area { IfOk result (λ s. s.area ≡ zeros (storage_of fields.now)) }
 {
     let digits = digits_in(fields);
@@ -124,8 +123,8 @@ fn zeroed(alloc: Global, fields: &[FieldForm]) -> Result<FlatStore, AllocError>
 
 /// Puts a value into an entry.
 fn put(store: &mut FlatStore, field: u16, position: u16, value: &Value)
-    requires { MayTake (forms_of store.old.slots) (contents_of store.old) field position (held value.now) }
-    ensures contents { contents_of store.new ≡ map.insert (contents_of store.old) (field, position) (held value.now) }
+    requires { MayTake (forms_of store.old.slots) (flat_contents store.old) field position (held value.now) }
+    ensures contents { flat_contents store.new ≡ map.insert (flat_contents store.old) (field, position) (held value.now) }
     ensures currents { currents store.new.slots ≡ currents store.old.slots }
     ensures forms { forms_of store.new.slots ≡ forms_of store.old.slots }
 {
@@ -137,8 +136,8 @@ fn put(store: &mut FlatStore, field: u16, position: u16, value: &Value)
 
 /// Puts values into the positions of a field.
 fn put_field(store: &mut FlatStore, field: u16, values: &[Value])
-    requires { MayTakeAll (forms_of store.old.slots) (contents_of store.old) field (along held values.now) }
-    ensures contents { contents_of store.new ≡ with_positions (contents_of store.old) field 1 (along held values.now) }
+    requires { MayTakeAll (forms_of store.old.slots) (flat_contents store.old) field (along held values.now) }
+    ensures contents { flat_contents store.new ≡ with_positions (flat_contents store.old) field 1 (along held values.now) }
     ensures currents { currents store.new.slots ≡ currents store.old.slots }
     ensures forms { forms_of store.new.slots ≡ forms_of store.old.slots }
 {
@@ -152,8 +151,8 @@ fn put_field(store: &mut FlatStore, field: u16, values: &[Value])
 /// Puts values into all fields.
 fn put_all(store: &mut FlatStore, values: &[Vec<Value>])
     requires few { length values.now ≤ 4000 }
-    requires like { MayTakeFields (forms_of store.old.slots) (contents_of store.old) (along (λ vs. along held vs.items) values.now) }
-    ensures contents { contents_of store.new ≡ with_fields (contents_of store.old) 1 (along (λ vs. along held vs.items) values.now) }
+    requires like { MayTakeFields (forms_of store.old.slots) (flat_contents store.old) (along (λ vs. along held vs.items) values.now) }
+    ensures contents { flat_contents store.new ≡ with_fields (flat_contents store.old) 1 (along (λ vs. along held vs.items) values.now) }
     ensures currents { currents store.new.slots ≡ currents store.old.slots }
     ensures forms { forms_of store.new.slots ≡ forms_of store.old.slots }
 {
@@ -168,7 +167,7 @@ impl FlatStore {
     /// The first values of a program, and the first entry of each table current.
     pub fn new(alloc: Global, program: &Program) -> Result<FlatStore, AllocError>
         ensures forms { IfOk result (λ s. forms_of s.slots ≡ program.now.fields) }
-        ensures contents { IfOk result (λ s. contents_of s ≡ first_contents program.now) }
+        ensures contents { IfOk result (λ s. flat_contents s ≡ first_contents program.now) }
         ensures currents { IfOk result (λ s. currents s.slots ≡ first_currents program.now) }
     {
         let tables = program.rows();
@@ -209,11 +208,11 @@ fn bytes_between(area: &[u8], from: usize, to: usize) -> &[u8]
 impl Store for FlatStore {
     ghost forms = { λ s. forms_of s.slots };
 
-    ghost contents = { contents_of };
+    ghost contents = { flat_contents };
 
     ghost currents = { λ s. currents s.slots };
 
-    ghost written = { with_text };
+    ghost written = { flat_with_text };
 
     fn number(&self, field: u16, position: u16) -> i64 {
         let (from, to) = part_of(&self.slots, field, position);

@@ -1,9 +1,8 @@
 //! Laws of the definitions.
 ghost use Rattle.rpg_store.specs.First.{first_contents, first_currents};
 ghost use Rattle.rpg_store.specs.Fits.{Fits, KeepsConstants};
-ghost use Rattle.rpg_program.specs.Object.{Object};
 
-use rpg_program::Program;
+use rpg_object_program::Program;
 
 /// What a program starts with fits its fields, and constants have their first values.
 #[tactic(auto, using(crate::proofs::FirstFits::first_fits))]

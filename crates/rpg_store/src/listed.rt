@@ -1,20 +1,18 @@
 //! A store that lists its values.
-ghost use Rattle.std.specs.Prelude.{◌≡◌, ℕ, ◌≤◌, ◌++◌, List, length, map as along, IfOk, OnOk, Some};
+ghost use Rattle.std.specs.Prelude.{◌≡◌, ℕ, ◌≤◌, ◌++◌, map as along, IfOk, OnOk, Some};
 ghost use Rattle.std.specs.Borrow.{Lends, sem, Array, u8 as byte};
-ghost use Rattle.std.specs.FinMap as map;
 ghost use Rattle.rpg_effect.specs.Values.{Number, Text, held};
 ghost use Rattle.rpg_effect.specs.contracts.value.Value.{the_row as value_row};
-ghost use Rattle.rpg_program.specs.Object.{Object};
 ghost use Rattle.rpg_store.specs.Characters.{with_characters};
-ghost use Rattle.rpg_store.specs.First.{first_contents, first_currents, joined};
-ghost use Rattle.rpg_store.specs.Listed.{contents_of, with_text};
+ghost use Rattle.rpg_store.specs.First.{first_contents, first_currents, joined_values};
+ghost use Rattle.rpg_store.specs.Listed.{listed_contents, listed_with_text};
 ghost use Rattle.rpg_store.specs.Slots.{currents, forms_of};
 ghost use Rattle.rpg_store.specs.Store.{IsNumber, IsText};
 
 use crate::slot::{Slot, place, slots_of};
 use crate::store::Store;
 use rpg_effect::value::Value;
-use rpg_program::Program;
+use rpg_object_program::Program;
 use std::alloc::{AllocError, Global};
 use std::marker::Model;
 
@@ -61,7 +59,7 @@ fn add_copies(alloc: Global, values: &[Value], copies: &mut Vec<Value>) -> Resul
 
 /// The values of all fields, one behind the other.
 fn copies_of(alloc: Global, values: &[Vec<Value>]) -> Result<Vec<Value>, AllocError>
-    ensures { IfOk result (λ vs. along held vs.items ≡ joined (along (λ us. along held us.items) values.now)) }
+    ensures { IfOk result (λ vs. along held vs.items ≡ joined_values (along (λ us. along held us.items) values.now)) }
 {
     let mut copies = Vec::new(alloc);
     for of_field in values {
@@ -74,7 +72,7 @@ impl ListedStore {
     /// The first values of a program, and the first entry of each table current.
     pub fn new(alloc: Global, program: &Program) -> Result<ListedStore, AllocError>
         ensures forms { IfOk result (λ s. forms_of s.slots ≡ program.now.fields) }
-        ensures contents { IfOk result (λ s. contents_of s ≡ first_contents program.now) }
+        ensures contents { IfOk result (λ s. listed_contents s ≡ first_contents program.now) }
         ensures currents { IfOk result (λ s. currents s.slots ≡ first_currents program.now) }
     {
         let tables = program.rows();
@@ -110,11 +108,11 @@ fn put_number(value: &mut Value, n: i64)
 impl Store for ListedStore {
     ghost forms = { λ s. forms_of s.slots };
 
-    ghost contents = { contents_of };
+    ghost contents = { listed_contents };
 
     ghost currents = { λ s. currents s.slots };
 
-    ghost written = { with_text };
+    ghost written = { listed_with_text };
 
     fn number(&self, field: u16, position: u16) -> i64 {
         match &self.list[place(&self.slots, field, position)] {

@@ -1,7 +1,7 @@
 //! Numbers read from texts that were written for them: no character is tested for being a digit.
 ghost use Rattle.std.specs.Prelude.{◌≡◌, ◌<◌, ◌≤◌, ◌^◌, All, length, map};
-ghost use Rattle.rpg_numbers.specs.Place.{place_value};
-ghost use Rattle.rpg_numbers.specs.Zoned.{digit_of, spelled_number};
+ghost use Rattle.rpg_decimal_words.specs.Place.{place_value};
+ghost use Rattle.rpg_decimal_words.specs.Zoned.{digit_of, spelled_number};
 ghost use Rattle.rpg_store.specs.Written.{IsDigit, IsLastWritten, IsWritten};
 
 /// The number of these digits.

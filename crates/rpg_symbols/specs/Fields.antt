@@ -15,24 +15,24 @@ use Rattle.rpg_symbols.specs.declared.symbols.DefineFault.{DefineFault}
 use Rattle.rpg_symbols.specs.declared.symbols.DefineFault.TheVariants.{Other, Full, NoMemory}
 
 -- the names that are defined, in order, each with its form
-abbrev pub Fields : Type 0
-Fields = List (List ℕ × FieldForm)
+abbrev pub NamedForms : Type 0
+NamedForms = List (List ℕ × FieldForm)
 
 -- a number of so many digits, without decimals
 abbrev pub number_form : Class → ℕ → FieldForm
 number_form c n = record { kind = kind.Number; class = c; length = n; decimals = 0; is_ascending = false; entries = 1 }
 
 -- the job's date and the page number, which every program has
-abbrev pub given : Fields
+abbrev pub given : NamedForms
 given = (codes "UDATE", number_form class.Date 6) ∷ (codes "PAGE", number_form class.Plain 4) ∷ []
 
 -- the number of a name is the place of its first definition, counted from 1
-abbrev pub number_of : Fields → List ℕ → Option ℕ
-number_of fields name = option_map (λ i. i + 1) (position (pointwise nat_eq name) (keys_of fields))
+abbrev pub number_of_name : NamedForms → List ℕ → Option ℕ
+number_of_name fields name = option_map (λ i. i + 1) (position (pointwise nat_eq name) (keys_of fields))
 
 -- the form of its first definition
-abbrev pub form_of : Fields → List ℕ → Option FieldForm
-form_of fields name = lookup (pointwise nat_eq name) fields
+abbrev pub defined_form : NamedForms → List ℕ → Option FieldForm
+defined_form fields name = lookup (pointwise nat_eq name) fields
 
 -- two forms that agree in every part
 abbrev pub same_form : FieldForm → FieldForm → Bool
@@ -44,35 +44,35 @@ same_form f g =
 abbrev pub size_of : FieldForm → ℕ
 size_of form = form.length * form.entries
 
-abbrev pub storage : Fields → ℕ
+abbrev pub storage : NamedForms → ℕ
 storage fields = sum_by (λ (f : List ℕ × FieldForm). size_of f.1) fields
 
 -- one more field of this form keeps the limits
-pub record HasRoom (fields : Fields) (form : FieldForm) : Type 0 where
+pub record HasFieldRoom (fields : NamedForms) (form : FieldForm) : Type 0 where
   pub rows : length fields < 4000
   pub bytes : storage fields + size_of form ≤ 65535
 
 -- a name that was defined so before
-pub record IsKnown (old : Fields) (name : List ℕ) (form : FieldForm) (new : Fields) (n : ℕ) : Type 0 where
-  pub number : number_of old name ≡ Some n
-  pub same_form : form_of old name ≡ Some form
+pub record IsKnown (old : NamedForms) (name : List ℕ) (form : FieldForm) (new : NamedForms) (n : ℕ) : Type 0 where
+  pub number : number_of_name old name ≡ Some n
+  pub same_form : defined_form old name ≡ Some form
   pub unchanged : new ≡ old
 
 -- a name that is defined for the first time
-pub record IsAdded (old : Fields) (name : List ℕ) (form : FieldForm) (new : Fields) (n : ℕ) : Type 0 where
-  pub absent : form_of old name ≡ None
-  pub room : HasRoom old form
+pub record IsAdded (old : NamedForms) (name : List ℕ) (form : FieldForm) (new : NamedForms) (n : ℕ) : Type 0 where
+  pub absent : defined_form old name ≡ None
+  pub room : HasFieldRoom old form
   pub added : new ≡ old ++ (name, form) ∷ []
   pub number : n ≡ length old + 1
 
 -- a name that was defined in another form before
-pub record HasOtherForm (old : Fields) (name : List ℕ) (form : FieldForm) : Type 0 where
+pub record HasOtherForm (old : NamedForms) (name : List ℕ) (form : FieldForm) : Type 0 where
   pub before : FieldForm
-  pub first_form : form_of old name ≡ Some before
+  pub first_form : defined_form old name ≡ Some before
   pub differs : before ≢ form
 
 -- when each refusal comes
-abbrev pub Refuses : DefineFault → Fields → List ℕ → FieldForm → Type 0
+abbrev pub Refuses : DefineFault → NamedForms → List ℕ → FieldForm → Type 0
 Refuses Other old name form = HasOtherForm old name form
-Refuses Full old name form = (form_of old name ≡ None) × ¬ HasRoom old form
-Refuses NoMemory old name form = (form_of old name ≡ None) × HasRoom old form
+Refuses Full old name form = (defined_form old name ≡ None) × ¬ HasFieldRoom old form
+Refuses NoMemory old name form = (defined_form old name ≡ None) × HasFieldRoom old form

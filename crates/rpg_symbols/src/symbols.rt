@@ -2,12 +2,12 @@
 
 ghost use Rattle.std.specs.Prelude.{◌≡◌, ◌≢◌, ◌-◌, ◌≤◌, ◌⊎◌, None, Some, length, slice_get, option_map, IfOk, IfErr, OnErr};
 ghost use Rattle.std.specs.Bool.{OnTrue, OnFalse};
-ghost use Rattle.rpg_symbols.specs.Fields.{form_of, given, number_form, number_of, same_form, size_of, IsKnown, IsAdded, Refuses};
+ghost use Rattle.rpg_symbols.specs.Fields.{defined_form, given, number_form, number_of_name, same_form, size_of, IsKnown, IsAdded, Refuses};
 ghost use Rattle.rpg_symbols.specs.declared.symbols.DefineFault.TheVariants.{NoMemory};
 
 use indexmap::IndexMap;
 use rpg_effect::form::{Class, FieldForm, Kind};
-use rpg_spec::Word;
+use rpg_sheet_specs::Word;
 use std::alloc::{AllocFailed, Global};
 use std::marker::Model;
 use thiserror::Error;
@@ -49,9 +49,9 @@ pub struct Symbols {
 
 impl Model for Symbols {
     ghost use Rattle.std.specs.Prelude.{◌≡◌, ◌≤◌, length};
-    ghost use Rattle.rpg_symbols.specs.Fields.{Fields, storage};
+    ghost use Rattle.rpg_symbols.specs.Fields.{NamedForms, storage};
 
-    ghost Value = { Fields };
+    ghost Value = { NamedForms };
 
     ghost view = { λ s. s.fields.entries };
 
@@ -72,7 +72,7 @@ impl Symbols {
 
     /// The number of a name.
     pub fn look(&self, name: &Name) -> Option<u16>
-        ensures { result ≡ number_of self.now name.now }
+        ensures { result ≡ number_of_name self.now name.now }
     {
         match self.fields.get_index_of(name) {
             Some(place) => Some(place as u16 + 1),
@@ -110,7 +110,7 @@ impl Symbols {
 
     /// Defines a name for the first time. After a fault nothing has changed.
     fn add(&mut self, name: Name, form: FieldForm) -> Result<u16, DefineFault>
-        requires { form_of self.old name ≡ None }
+        requires { defined_form self.old name ≡ None }
         ensures ok { IfOk result (λ n. IsAdded self.old name form self.new n) }
         ensures err { IfErr result (λ fault. Refuses fault self.old name form) }
         ensures unchanged { OnErr result (self.new ≡ self.old) }

@@ -3,20 +3,20 @@ use Rattle.std.proofs.Common.{◌≡◌, ℕ, suc, ◌+◌, ◌<◌, Bool, not, 
 use Rattle.rpg_effect.specs.Weights.{is_exception, is_in_cycle, lines_weight, type_weight, types_weight}
 use Rattle.rpg_effect.specs.declared.line.Time.{Time}
 use Rattle.rpg_effect.specs.declared.line.Time.TheVariants as times
-use Rattle.rpg_program.specs.Object.{Object, line_of, line_row, type_row}
-use Rattle.rpg_program.specs.declared.row.Line.{Line}
-use Rattle.rpg_program.specs.declared.row.RecordType.{RecordType}
+use Rattle.rpg_object_program.specs.Object.{Object, line_row, program_line, type_row}
+use Rattle.rpg_object_program.specs.declared.row.Line.{Line}
+use Rattle.rpg_object_program.specs.declared.row.RecordType.{RecordType}
 
 left_of : {X Y : Type 0} (f : X → Y) (xs : List X) (i : ℕ) (x : X) → i < length xs → x ≡ get_or xs i x → map f (drop i xs) ≡ f x ∷ map f (drop (i + 1) xs)
 left_of f xs i x h e = ap (map f) (drop-cons xs i x h ∙ ap (λ y. y ∷ drop (suc i) xs) (sym e) ∙ ap (λ k. x ∷ drop k xs) (sym (add-one i)))
 
 -- the weights of the lines that are left
 abbrev pub weight_left : Object → (Time → Bool) → List Line → ℕ → ℕ
-weight_left p meant lines i = lines_weight meant (map (line_of p) (map line_row (drop i lines)))
+weight_left p meant lines i = lines_weight meant (map (program_line p) (map line_row (drop i lines)))
 
 pub line_left : (p : Object) (meant : Time → Bool) (lines : List Line) (i : ℕ) (l : Line) → i < length lines → l ≡ get_or lines i l →
     weight_left p meant lines i ≡ cond (meant l.time) (1 + length l.fields.items) 0 + weight_left p meant lines (i + 1)
-line_left p meant lines i l h e = ap (λ xs. lines_weight meant (map (line_of p) xs)) (left_of line_row lines i l h e)
+line_left p meant lines i l h e = ap (λ xs. lines_weight meant (map (program_line p) xs)) (left_of line_row lines i l h e)
 
 pub in_cycle : (t : Time) → is_in_cycle t ≡ not (is_exception t)
 in_cycle times.Heading = refl

@@ -1,6 +1,6 @@
-pub mod PathCosts
-pub mod Left
 pub mod Joining
-pub mod Sizes
-pub mod Placing
+pub mod Left
 pub mod Most
+pub mod PathCosts
+pub mod Placing
+pub mod Sizes

@@ -5,13 +5,13 @@ use Rattle.std.proofs.lemmas.Bool.{le-leb}
 use Rattle.rpg_effect.specs.declared.condition.Conditions.{Conditions}
 use Rattle.rpg_effect.specs.declared.operation.Instruction.{Instruction}
 use Rattle.rpg_effect.specs.declared.operation.Instruction.TheVariants.{Branch}
-use Rattle.rpg_program.specs.Kept.{IsProgram}
-use Rattle.rpg_program.specs.Object.{Object, SubroutineRow}
-use Rattle.rpg_program.specs.Sections.{body_of, code_of, first_in, first_of, instruction_at}
-use Rattle.rpg_program.specs.declared.section.Place.{Place}
-use Rattle.rpg_program.specs.declared.section.Section.{Section}
-use Rattle.rpg_program.specs.declared.section.Section.TheVariants.{Detail, Total, Subroutine}
-use Rattle.rpg_rules.specs.Sound.{IsAt}
+use Rattle.rpg_object_program.specs.Kept.{IsProgram}
+use Rattle.rpg_object_program.specs.Object.{Object, SubroutineRow}
+use Rattle.rpg_object_program.specs.Sections.{body_of, first_in, first_place, instruction_at, section_instructions}
+use Rattle.rpg_object_program.specs.declared.section.Place.{Place}
+use Rattle.rpg_object_program.specs.declared.section.Section.{Section}
+use Rattle.rpg_object_program.specs.declared.section.Section.TheVariants.{Detail, Total, Subroutine}
+use Rattle.rpg_verify_rules.specs.Sound.{IsAt}
 use Rattle.rpg_verify.proofs.PathCosts.{costs_are}
 use Rattle.rpg_verify.proofs.Placing.{cost_there}
 use Rattle.rpg_verify.proofs.Sizes.{bound_few}
@@ -20,8 +20,8 @@ use Rattle.rpg_verify.specs.Greatest.{AreGreatest}
 use Rattle.rpg_verify.specs.Paths.{IsCost}
 use Rattle.rpg_verify.specs.Weighing.{weight}
 
-pub greatest_at : (p : Object) (x : Place) → first_of p x.section ≤ x.number → IsCost (weight p) (stretch p x.section) x.number (cost p x)
-greatest_at p x low = subst (IsCost (weight p) (stretch p x.section) x.number) (sym (cost_there p x low)) (costs_are (weight p) (first_of p x.section) (code_of p x.section) x.number low)
+pub greatest_at : (p : Object) (x : Place) → first_place p x.section ≤ x.number → IsCost (weight p) (stretch p x.section) x.number (cost p x)
+greatest_at p x low = subst (IsCost (weight p) (stretch p x.section) x.number) (sym (cost_there p x low)) (costs_are (weight p) (first_place p x.section) (section_instructions p x.section) x.number low)
 
 -- ---- targets of branches
 
@@ -47,8 +47,8 @@ sub_most p b [] n = omega arith
 sub_most p b (s ∷ ss) zero = omega arith
 sub_most p b (s ∷ ss) (suc n) = let h = sub_most p (b + length s.instructions) ss n in omega (arith, h)
 
-section_most : (p : Object) (s : Section) → most_at p (first_of p s) (code_of p s) ≤ most p
-unfolding first_of
+section_most : (p : Object) (s : Section) → most_at p (first_place p s) (section_instructions p s) ≤ most p
+unfolding first_place
 section_most p Detail = omega arith
 section_most p Total = omega arith
 section_most p (Subroutine n) = let h = sub_most p (length p.detail + length p.total) p.subroutines n in omega (arith, h)
@@ -56,23 +56,23 @@ section_most p (Subroutine n) = let h = sub_most p (length p.detail + length p.t
 back : (p : Object) (x : Place) (k : Bool) (cs : Conditions) (target : ℕ) → IsAt p x (Branch k cs target) → target ≤ x.number → cost p (record { section = x.section; number = target }) ≤ most p
 unfolding instruction_at
 back p x k cs target at low =
-    let first = first_of p x.section in
-    let costs = costs_at p first (code_of p x.section) in
+    let first = first_place p x.section in
+    let costs = costs_at p first (section_instructions p x.section) in
     let begins = at.0 in
-    let one = one_back first costs first (code_of p x.section) (x.number - first) (Branch k cs target) at.1 in
+    let one = one_back first costs first (section_instructions p x.section) (x.number - first) (Branch k cs target) at.1 in
     let here : back_cost first costs (first + (x.number - first)) (Branch k cs target) ≡ back_cost first costs x.number (Branch k cs target) = ap (λ n. back_cost first costs n (Branch k cs target)) (omega (arith, begins)) in
     let taken : back_cost first costs x.number (Branch k cs target) ≡ cost p (record { section = x.section; number = target }) = by_test (nat_le target x.number) (le-leb target x.number low) in
     let all = section_most p x.section in
     omega (arith, one, here, taken, all)
   where
-    by_test : (b : Bool) → b ≡ true → cond b (cost_in (first_of p x.section) (costs_at p (first_of p x.section) (code_of p x.section)) target) 0 ≡ cost_in (first_of p x.section) (costs_at p (first_of p x.section) (code_of p x.section)) target
+    by_test : (b : Bool) → b ≡ true → cond b (cost_in (first_place p x.section) (costs_at p (first_place p x.section) (section_instructions p x.section)) target) 0 ≡ cost_in (first_place p x.section) (costs_at p (first_place p x.section) (section_instructions p x.section)) target
     by_test true e = refl
     by_test false e = cc
 
 -- ---- first places of subroutines
 
-calls : (p : Object) (n : ℕ) → cost p (record { section = Subroutine n; number = first_of p (Subroutine n) }) ≤ most p
-unfolding first_of
+calls : (p : Object) (n : ℕ) → cost p (record { section = Subroutine n; number = first_place p (Subroutine n) }) ≤ most p
+unfolding first_place
 calls p n =
     let first = first_in (length p.detail + length p.total) p.subroutines n in
     let costs = costs_at p first (body_of (slice_get p.subroutines n)) in

@@ -4,11 +4,11 @@ use Rattle.std.specs.Prelude.{nat_le, slice_index}
 use Rattle.std.proofs.lemmas.Bool.{le-leb}
 use Rattle.std.proofs.lemmas.List.{get_or_append_left, get_or-append_right}
 use Rattle.rpg_effect.specs.declared.operation.Instruction.{Instruction}
-use Rattle.rpg_program.specs.Object.{Object, SubroutineRow}
-use Rattle.rpg_program.specs.Sections.{body_of, code_of, end_of, first_in, first_of, instructions_in, places_of}
-use Rattle.rpg_program.specs.declared.section.Place.{Place}
-use Rattle.rpg_program.specs.declared.section.Section.{Section}
-use Rattle.rpg_program.specs.declared.section.Section.TheVariants.{Detail, Total, Subroutine}
+use Rattle.rpg_object_program.specs.Object.{Object, SubroutineRow}
+use Rattle.rpg_object_program.specs.Sections.{body_of, first_in, first_place, instructions_in, place_behind, places_of, section_instructions}
+use Rattle.rpg_object_program.specs.declared.section.Place.{Place}
+use Rattle.rpg_object_program.specs.declared.section.Section.{Section}
+use Rattle.rpg_object_program.specs.declared.section.Section.TheVariants.{Detail, Total, Subroutine}
 use Rattle.rpg_verify.specs.Bound.{cost, costs, costs_at, costs_in, main_costs}
 use Rattle.rpg_verify.specs.Paths.{costs_from}
 use Rattle.rpg_verify.specs.Weighing.{weight}
@@ -51,8 +51,8 @@ main_long p =
     omega (arith, d, t, both)
 
 -- by its section, where the section's first place is `first`
-by_section : (p : Object) (s : Section) (x : ℕ) → first_of p s ≤ x → x < end_of p s → slice_index (costs p) x ≡ slice_index (costs_at p (first_of p s) (code_of p s)) (x - first_of p s)
-unfolding first_of end_of
+by_section : (p : Object) (s : Section) (x : ℕ) → first_place p s ≤ x → x < place_behind p s → slice_index (costs p) x ≡ slice_index (costs_at p (first_place p s) (section_instructions p s)) (x - first_place p s)
+unfolding first_place place_behind
 by_section p Detail x low high =
     let d = length_costs (weight p) 0 p.detail in
     let all = main_long p in
@@ -69,15 +69,15 @@ by_section p (Subroutine n) x low high =
     in_back (main_costs p) (costs_in p (length p.detail + length p.total) p.subroutines) (length p.detail + length p.total) x (main_long p) (omega (arith, least, low))
     ∙ in_subroutines p (length p.detail + length p.total) p.subroutines n x low high
 
-pub cost_there : (p : Object) (x : Place) → first_of p x.section ≤ x.number → cost p x ≡ slice_index (costs_at p (first_of p x.section) (code_of p x.section)) (x.number - first_of p x.section)
-cost_there p x low = by_test (nat_le (first_of p x.section) x.number) (le-leb (first_of p x.section) x.number low)
+pub cost_there : (p : Object) (x : Place) → first_place p x.section ≤ x.number → cost p x ≡ slice_index (costs_at p (first_place p x.section) (section_instructions p x.section)) (x.number - first_place p x.section)
+cost_there p x low = by_test (nat_le (first_place p x.section) x.number) (le-leb (first_place p x.section) x.number low)
   where
-    by_test : (b : Bool) → b ≡ true → cond b (slice_index (costs_at p (first_of p x.section) (code_of p x.section)) (x.number - first_of p x.section)) 0 ≡ slice_index (costs_at p (first_of p x.section) (code_of p x.section)) (x.number - first_of p x.section)
+    by_test : (b : Bool) → b ≡ true → cond b (slice_index (costs_at p (first_place p x.section) (section_instructions p x.section)) (x.number - first_place p x.section)) 0 ≡ slice_index (costs_at p (first_place p x.section) (section_instructions p x.section)) (x.number - first_place p x.section)
     by_test true e = refl
     by_test false e = cc
 
 -- the costs of all places have the cost of each
-pub stored : (p : Object) (x : Place) → first_of p x.section ≤ x.number → x.number < end_of p x.section → slice_index (costs p) x.number ≡ cost p x
+pub stored : (p : Object) (x : Place) → first_place p x.section ≤ x.number → x.number < place_behind p x.section → slice_index (costs p) x.number ≡ cost p x
 stored p x low high = by_section p x.section x.number low high ∙ sym (cost_there p x low)
 
 -- ---- all places have a cost
@@ -102,20 +102,20 @@ end_in b [] n = omega arith
 end_in b (s ∷ ss) zero = omega arith
 end_in b (s ∷ ss) (suc n) = let h = end_in (b + length s.instructions) ss n in omega (arith, h)
 
-pub ends_within : (p : Object) (s : Section) → end_of p s ≤ places_of p
-unfolding end_of first_of
+pub ends_within : (p : Object) (s : Section) → place_behind p s ≤ places_of p
+unfolding place_behind first_place
 ends_within p Detail = omega arith
 ends_within p Total = omega arith
 ends_within p (Subroutine n) = end_in (length p.detail + length p.total) p.subroutines n
 
 -- ---- as they are stored
 
-pub in_stored : (p : Object) (s : Section) (n : ℕ) (all : List ℕ) → all ≡ costs p → n < end_of p s → n < length all
+pub in_stored : (p : Object) (s : Section) (n : ℕ) (all : List ℕ) → all ≡ costs p → n < place_behind p s → n < length all
 in_stored p s n all e h =
     let l = length_all p in
     let w = ends_within p s in
     let same : length all ≡ length (costs p) = ap length e in
     omega (arith, l, w, same, h)
 
-pub read_stored : (p : Object) (x : Place) (all : List ℕ) → all ≡ costs p → first_of p x.section ≤ x.number → x.number < end_of p x.section → slice_index all x.number ≡ cost p x
+pub read_stored : (p : Object) (x : Place) (all : List ℕ) → all ≡ costs p → first_place p x.section ≤ x.number → x.number < place_behind p x.section → slice_index all x.number ≡ cost p x
 read_stored p x all e low high = ap (λ xs. slice_index xs x.number) e ∙ stored p x low high

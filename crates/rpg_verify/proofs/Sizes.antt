@@ -13,12 +13,12 @@ use Rattle.rpg_effect.specs.declared.operation.Instruction.{Instruction}
 use Rattle.rpg_effect.specs.declared.operation.Instruction.TheVariants.{Act, Except, Branch, Call, Return}
 use Rattle.rpg_effect.specs.declared.operation.Operand.{Operand}
 use Rattle.rpg_effect.specs.declared.row.Use.{Use}
-use Rattle.rpg_program.specs.Kept.{IsFieldRow, IsLineRow, IsProgram, IsTypeRow}
-use Rattle.rpg_program.specs.Object.{LineRow, Object, SubroutineRow, line_of, lines_of}
-use Rattle.rpg_program.specs.Sections.{instructions_in}
+use Rattle.rpg_object_program.specs.Kept.{IsFieldRow, IsLineRow, IsProgram, IsTypeRow}
+use Rattle.rpg_object_program.specs.Object.{LineRow, Object, SubroutineRow, lines_of, program_line}
+use Rattle.rpg_object_program.specs.Sections.{instructions_in}
 use Rattle.rpg_verify.specs.Bound.{back_cost, bound, cost_in, costs_at, most, most_at, most_back, most_in, once}
 use Rattle.rpg_verify.specs.Paths.{cost_onward, with_cost, costs_from}
-use Rattle.rpg_verify.specs.Weighing.{output_weight, weight}
+use Rattle.rpg_verify.specs.Weighing.{all_outputs_weight, weight}
 
 -- ---- all of a list
 
@@ -39,11 +39,11 @@ entries_at : (fields : List FieldForm) (n : ℕ) → All IsFieldRow fields → e
 entries_at fields zero h = omega arith
 entries_at fields (suc n) h = few_entries fields n h
 
-pub lines_few : (p : Object) (meant : Time → Bool) (ls : List LineRow) → All IsLineRow ls → lines_weight meant (map (line_of p) ls) ≤ 201 * length ls
+pub lines_few : (p : Object) (meant : Time → Bool) (ls : List LineRow) → All IsLineRow ls → lines_weight meant (map (program_line p) ls) ≤ 201 * length ls
 lines_few p meant [] h = omega arith
 lines_few p meant (l ∷ ls) h = by_time (meant l.time) (lines_few p meant ls (others_all IsLineRow l ls h)) (first_all IsLineRow l ls h).few_fields
   where
-    by_time : (b : Bool) → lines_weight meant (map (line_of p) ls) ≤ 201 * length ls → length l.fields ≤ 200 → cond b (1 + length l.fields) 0 + lines_weight meant (map (line_of p) ls) ≤ 201 * length (l ∷ ls)
+    by_time : (b : Bool) → lines_weight meant (map (program_line p) ls) ≤ 201 * length ls → length l.fields ≤ 200 → cond b (1 + length l.fields) 0 + lines_weight meant (map (program_line p) ls) ≤ 201 * length (l ∷ ls)
     by_time true r w = omega (arith, r, w)
     by_time false r w = omega (arith, r)
 
@@ -172,7 +172,7 @@ most_few p h =
 
 -- ---- all
 
-pub output_few : (p : Object) → IsProgram p → output_weight p ≤ 402000
+pub output_few : (p : Object) → IsProgram p → all_outputs_weight p ≤ 402000
 output_few p h = by_test (is_some p.overflow) (others_few p h)
   where
     by_test : (b : Bool) → overflow_weight (lines_of p) ≤ 201000 → cond b (overflow_weight (lines_of p) + overflow_weight (lines_of p)) (overflow_weight (lines_of p)) ≤ 402000

@@ -3,16 +3,16 @@ use Rattle.std.specs.Prelude.{ℕ, ◌+◌, ◌-◌, ◌*◌, List, [], ◌∷�
 use Rattle.rpg_effect.specs.Weights.{types_weight}
 use Rattle.rpg_effect.specs.declared.operation.Instruction.{Instruction}
 use Rattle.rpg_effect.specs.declared.operation.Instruction.TheVariants.{Branch}
-use Rattle.rpg_program.specs.Object.{Object, SubroutineRow}
-use Rattle.rpg_program.specs.Sections.{code_of, first_of}
-use Rattle.rpg_program.specs.declared.section.Place.{Place}
-use Rattle.rpg_program.specs.declared.section.Section.{Section}
+use Rattle.rpg_object_program.specs.Object.{Object, SubroutineRow}
+use Rattle.rpg_object_program.specs.Sections.{first_place, section_instructions}
+use Rattle.rpg_object_program.specs.declared.section.Place.{Place}
+use Rattle.rpg_object_program.specs.declared.section.Section.{Section}
 use Rattle.rpg_verify.specs.Paths.{Stretch, costs_from}
-use Rattle.rpg_verify.specs.Weighing.{output_weight, weight}
+use Rattle.rpg_verify.specs.Weighing.{all_outputs_weight, weight}
 
 -- a section of a program as it lies
 abbrev pub stretch : Object → Section → Stretch
-stretch p s = record { first = first_of p s; code = code_of p s }
+stretch p s = record { first = first_place p s; code = section_instructions p s }
 
 -- the costs of the places of a section that begins at a place
 abbrev pub costs_at : Object → ℕ → List (Instruction ℕ) → List ℕ
@@ -24,7 +24,7 @@ cost_in first costs place = if nat_le first place then slice_index costs (place 
 
 -- the cost of a place of the program
 abbrev pub cost : Object → Place → ℕ
-cost p x = cost_in (first_of p x.section) (costs_at p (first_of p x.section) (code_of p x.section)) x.number
+cost p x = cost_in (first_place p x.section) (costs_at p (first_place p x.section) (section_instructions p x.section)) x.number
 
 -- the cost of the first place of a section that begins at `first`
 abbrev pub first_cost : Object → ℕ → List (Instruction ℕ) → ℕ
@@ -69,7 +69,7 @@ abbrev pub once : Object → ℕ
 once p = first_cost p 0 p.detail + first_cost p (length p.detail) p.total
 
 unfoldable pub bound : Object → ℕ
-bound p = types_weight p.types + output_weight p + once p + p.allowance * most p
+bound p = types_weight p.types + all_outputs_weight p + once p + p.allowance * most p
 
 -- ---- the costs of all places, one behind the other
 

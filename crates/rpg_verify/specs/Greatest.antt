@@ -2,11 +2,11 @@
 use Rattle.std.specs.Prelude.{ℕ, Bool, ◌<◌, ◌≤◌, ◌^◌}
 use Rattle.rpg_effect.specs.declared.condition.Conditions.{Conditions}
 use Rattle.rpg_effect.specs.declared.operation.Instruction.TheVariants.{Branch}
-use Rattle.rpg_program.specs.Object.{Object}
-use Rattle.rpg_program.specs.Sections.{first_of}
-use Rattle.rpg_program.specs.declared.section.Place.{Place}
-use Rattle.rpg_program.specs.declared.section.Section.TheVariants.{Subroutine}
-use Rattle.rpg_rules.specs.Sound.{IsAt}
+use Rattle.rpg_object_program.specs.Object.{Object}
+use Rattle.rpg_object_program.specs.Sections.{first_place}
+use Rattle.rpg_object_program.specs.declared.section.Place.{Place}
+use Rattle.rpg_object_program.specs.declared.section.Section.TheVariants.{Subroutine}
+use Rattle.rpg_verify_rules.specs.Sound.{IsAt}
 use Rattle.rpg_verify.specs.Bound.{bound, cost, most, stretch}
 use Rattle.rpg_verify.specs.Paths.{IsCost}
 use Rattle.rpg_verify.specs.Weighing.{weight}
@@ -15,7 +15,7 @@ use Rattle.rpg_verify.specs.Weighing.{weight}
 -- costs that a spend leads to: those of the targets of branches to a place not later than their own, and of first places of
 -- subroutines that are called.
 pub record AreGreatest (p : Object) : Type 0 where
-  pub each : (x : Place) → first_of p x.section ≤ x.number → IsCost (weight p) (stretch p x.section) x.number (cost p x)
+  pub each : (x : Place) → first_place p x.section ≤ x.number → IsCost (weight p) (stretch p x.section) x.number (cost p x)
   pub back : (x : Place) (is_taken_where : Bool) (cs : Conditions) (target : ℕ) → IsAt p x (Branch is_taken_where cs target) → target ≤ x.number → cost p (record { section = x.section; number = target }) ≤ most p
-  pub calls : (n : ℕ) → cost p (record { section = Subroutine n; number = first_of p (Subroutine n) }) ≤ most p
+  pub calls : (n : ℕ) → cost p (record { section = Subroutine n; number = first_place p (Subroutine n) }) ≤ most p
   pub few : bound p < 2 ^ 48

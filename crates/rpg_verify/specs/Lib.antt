@@ -1,5 +1,5 @@
-pub mod Paths
-pub mod Weighing
 pub mod Bound
-pub mod Verified
 pub mod Greatest
+pub mod Paths
+pub mod Verified
+pub mod Weighing

@@ -1,10 +1,10 @@
 -- What a verified program keeps beside its rows, and what a refusal tells.
 use Rattle.std.specs.Prelude.{◌≡◌, ℕ, List}
-use Rattle.rpg_program.specs.Kept.{IsProgram}
-use Rattle.rpg_program.specs.Object.{Object}
-use Rattle.rpg_rules.specs.Accepted.{IsAccepted}
-use Rattle.rpg_rules.specs.Least.{IsLeast}
-use Rattle.rpg_rules.specs.Rules.{broken, number}
+use Rattle.rpg_object_program.specs.Kept.{IsProgram}
+use Rattle.rpg_object_program.specs.Object.{Object}
+use Rattle.rpg_verify_rules.specs.Accepted.{IsAccepted}
+use Rattle.rpg_verify_rules.specs.Least.{IsLeast}
+use Rattle.rpg_verify_rules.specs.Rules.{broken, rule_number}
 use Rattle.rpg_verify.specs.Bound.{bound, costs}
 use Rattle.rpg_verify.specs.declared.verified.VerifyFault.{VerifyFault}
 use Rattle.rpg_verify.specs.declared.verified.VerifyFault.TheVariants.{Refused, NoMemory}
@@ -18,5 +18,5 @@ pub record IsVerified (p : Object) (stored : List ℕ) (most_steps : ℕ) : Type
 
 -- the least broken rule and its first row; memory is wanted for accepted programs alone
 abbrev pub IsRefusal : Object → VerifyFault → Type 0
-IsRefusal p (Refused rule row) = IsLeast number (broken p) rule row
+IsRefusal p (Refused rule row) = IsLeast rule_number (broken p) rule row
 IsRefusal p NoMemory = IsAccepted p

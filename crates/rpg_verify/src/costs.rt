@@ -4,13 +4,13 @@ ghost use Rattle.std.specs.Prelude.{◌≡◌, ℕ, ◌+◌, ◌≤◌, length, 
 ghost use Rattle.rpg_effect.specs.Control as control;
 ghost use Rattle.rpg_effect.specs.Forms.{form_at};
 ghost use Rattle.rpg_effect.specs.Weights.{instruction_weight};
-ghost use Rattle.rpg_program.specs.Kept.{IsFieldRow};
+ghost use Rattle.rpg_object_program.specs.Kept.{IsFieldRow};
 ghost use Rattle.rpg_verify.specs.Paths as paths;
 
 use crate::weights::weight_of;
 use rpg_effect::condition::Conditions;
 use rpg_effect::operation::Instruction;
-use rpg_program::row::Rows;
+use rpg_object_program::row::Rows;
 use std::alloc::{AllocError, Global};
 
 fn has_conditions(conditions: Conditions) -> bool

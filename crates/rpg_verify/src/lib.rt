@@ -6,5 +6,5 @@ mod costs;
 mod verified;
 mod weights;
 
-pub use rpg_rules::{BrokenRule, LineRule, PlaceRule, Rule, SubroutineRule, TypeRule};
+pub use rpg_verify_rules::{BrokenRule, LineRule, PlaceRule, Rule, SubroutineRule, TypeRule};
 pub use verified::{Verified, VerifyFault, verify};

@@ -1,10 +1,10 @@
 //! Programs that may be run.
 
 ghost use Rattle.std.specs.Prelude.{◌≡◌, ◌<◌, ◌≤◌, ◌^◌, IfErr, IfOk};
-ghost use Rattle.rpg_program.specs.Kept.{IsProgram};
-ghost use Rattle.rpg_program.specs.Sections.{end_of, first_of};
-ghost use Rattle.rpg_rules.specs.Accepted.{IsAccepted};
-ghost use Rattle.rpg_rules.specs.Sound.{IsSound};
+ghost use Rattle.rpg_object_program.specs.Kept.{IsProgram};
+ghost use Rattle.rpg_object_program.specs.Sections.{first_place, place_behind};
+ghost use Rattle.rpg_verify_rules.specs.Accepted.{IsAccepted};
+ghost use Rattle.rpg_verify_rules.specs.Sound.{IsSound};
 ghost use Rattle.rpg_verify.specs.Bound as words;
 ghost use Rattle.rpg_verify.specs.Greatest.{AreGreatest};
 ghost use Rattle.rpg_verify.specs.Paths.{IsCost};
@@ -12,9 +12,9 @@ ghost use Rattle.rpg_verify.specs.Verified.{IsRefusal};
 ghost use Rattle.rpg_verify.specs.Weighing.{weight};
 
 use crate::bound::{Measured, measure};
-use rpg_program::Program;
-use rpg_program::section::Place;
-use rpg_rules::{Rule, first_broken};
+use rpg_object_program::Program;
+use rpg_object_program::section::Place;
+use rpg_verify_rules::{Rule, first_broken};
 use std::alloc::Global;
 use std::marker::Model;
 
@@ -27,7 +27,7 @@ pub struct Verified {
 }
 
 impl Model for Verified {
-    ghost use Rattle.rpg_program.specs.Object.{Object};
+    ghost use Rattle.rpg_object_program.specs.Object.{Object};
     ghost use Rattle.rpg_verify.specs.Verified.{IsVerified};
 
     ghost Value = { Object };
@@ -89,8 +89,8 @@ impl Verified {
 
     /// The greatest sum of weights along a forward path from a place where an instruction stands.
     pub fn path_cost(&self, place: Place) -> u64
-        requires first { first_of self.now place.section ≤ place.number }
-        requires last { place.number < end_of self.now place.section }
+        requires first { first_place self.now place.section ≤ place.number }
+        requires last { place.number < place_behind self.now place.section }
         ensures cost { result ≡ words.cost self.now place }
         ensures greatest { IsCost (weight self.now) (words.stretch self.now place.section) place.number result }
     {

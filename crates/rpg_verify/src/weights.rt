@@ -3,16 +3,16 @@
 ghost use Rattle.std.specs.Prelude.{◌≡◌, ◌+◌, ◌≤◌, cond, length, map};
 ghost use Rattle.rpg_effect.specs.Forms.{form_at};
 ghost use Rattle.rpg_effect.specs.Weights as words;
-ghost use Rattle.rpg_program.specs.Kept.{IsProgram};
-ghost use Rattle.rpg_program.specs.Object.{lines_of, seen, type_row};
+ghost use Rattle.rpg_object_program.specs.Kept.{IsProgram};
+ghost use Rattle.rpg_object_program.specs.Object.{lines_of, seen, type_row};
 ghost use Rattle.rpg_verify.specs.Weighing as weighing;
 
-use rpg_columns::columns::columns_of;
-use rpg_columns::forms;
 use rpg_effect::line::Time;
 use rpg_effect::operation::{Instruction, Operand};
 use rpg_effect::row::{Shape, Use};
-use rpg_program::row::{Line, RecordType, Rows};
+use rpg_object_program::columns::columns_of;
+use rpg_object_program::forms;
+use rpg_object_program::row::{Line, RecordType, Rows};
 
 fn goes_through(shape: Shape) -> bool
     ensures { result ≡ words.goes_through shape }
@@ -115,7 +115,7 @@ pub(crate) fn line_weights(rows: &Rows) -> LineWeights
 pub(crate) fn output_weight(rows: &Rows, lines: LineWeights) -> u64
     requires lines { lines.others ≡ words.overflow_weight (lines_of (seen rows.now)) }
     requires few { lines.others ≤ 201000 }
-    ensures { result ≡ weighing.output_weight (seen rows.now) }
+    ensures { result ≡ weighing.all_outputs_weight (seen rows.now) }
 {
     match rows.overflow {
         None => lines.others,

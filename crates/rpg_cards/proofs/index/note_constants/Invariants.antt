@@ -2,7 +2,7 @@ use Rattle.std.proofs.Common.{◌≡◌, ◌+◌, ◌++◌, length}
 use Rattle.std.specs.Map.{lookup}
 use Rattle.std.specs.Option.{option_or}
 use Rattle.rpg_cards.specs.Constants.{is_same}
-use Rattle.rpg_cards.specs.Index.{first_at, place_of}
+use Rattle.rpg_cards.specs.Index.{first_at, place_of_constant}
 use Rattle.rpg_cards.specs.declared.constants.Constant.{Constant}
 use Rattle.rpg_cards.proofs.index.note_constants.Given as goal
 
@@ -10,5 +10,5 @@ abbrev pub invariant-loop-constant : goal.invariant-loop-constant
 invariant-loop-constant l = record {
   items : l.yielded ++ l.constant-iterator ≡ l.initial.constant-iterator;
   place : l.place ≡ l.start + length l.yielded;
-  noted : (x : Constant) → lookup (is_same x) l.constants.entries ≡ option_or (lookup (is_same x) l.initial.constants.entries) (first_at (is_same x) place_of l.start l.yielded);
+  noted : (x : Constant) → lookup (is_same x) l.constants.entries ≡ option_or (lookup (is_same x) l.initial.constants.entries) (first_at (is_same x) place_of_constant l.start l.yielded);
 }

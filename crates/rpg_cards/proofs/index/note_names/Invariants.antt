@@ -3,7 +3,7 @@ use Rattle.std.specs.Cmp.Lexicographic.{pointwise}
 use Rattle.std.specs.Map.{lookup}
 use Rattle.std.specs.Option.{option_or}
 use Rattle.std.specs.Prelude.{nat_eq}
-use Rattle.rpg_cards.specs.Index.{first_at, placed}
+use Rattle.rpg_cards.specs.Index.{first_at, placed_definition}
 use Rattle.rpg_cards.specs.Names.{is_of}
 use Rattle.rpg_cards.proofs.index.note_names.Given as goal
 
@@ -11,5 +11,5 @@ abbrev pub invariant-loop-definition : goal.invariant-loop-definition
 invariant-loop-definition l = record {
   items : l.yielded ++ l.definition-iterator ≡ l.initial.definition-iterator;
   place : l.place ≡ l.start + length l.yielded;
-  noted : (name : List ℕ) → lookup (pointwise nat_eq name) l.names.entries ≡ option_or (lookup (pointwise nat_eq name) l.initial.names.entries) (first_at (is_of name) placed l.start l.yielded);
+  noted : (name : List ℕ) → lookup (pointwise nat_eq name) l.names.entries ≡ option_or (lookup (pointwise nat_eq name) l.initial.names.entries) (first_at (is_of name) placed_definition l.start l.yielded);
 }

@@ -4,14 +4,14 @@ use Rattle.rpg_cycle.proofs.Composing.{memory_both, ok_of_err, passed_map, passe
 use Rattle.rpg_cycle.proofs.Nine.{begins, by_left, last, step, stop}
 use Rattle.rpg_cycle.proofs.Spending.{all_bounded, at_no_cost, full_reach, lines_bounded, low_here, low_left, low_right, selected_low}
 use Rattle.rpg_cycle.specs.Ends.{GoesOn}
-use Rattle.rpg_records.specs.Keeping.{left_of, selected_as}
+use Rattle.rpg_cycle_records.specs.Keeping.{left_of, selected_as}
 use Rattle.rpg_cycle.specs.Phases as spec
 use Rattle.rpg_cycle.specs.Phases.{◌before◌}
 use Rattle.rpg_cycle.specs.Spending.{inputs_weight, reach}
 use Rattle.rpg_cycle.specs.Stages.{job_end}
 use Rattle.rpg_machine.specs.Running.{Running}
 use Rattle.rpg_machine.specs.declared.time.OutputTime.TheVariants as times
-use Rattle.rpg_program.specs.declared.section.Section.TheVariants as sections
+use Rattle.rpg_object_program.specs.declared.section.Section.TheVariants as sections
 use Rattle.rpg_cycle.proofs.cycle.run_cycle.Goals as goal
 
 pub returns-in_err-put_out_details-clause-stops : goal.returns-in_err-put_out_details-clause-stops

@@ -7,8 +7,8 @@ use Rattle.rpg_cycle.specs.Doing.{Does}
 use Rattle.rpg_cycle.specs.Ends.{GoesOn}
 use Rattle.rpg_cycle.specs.Phases as spec
 use Rattle.rpg_cycle.specs.Stages.{job_end}
-use Rattle.rpg_program.specs.Kept.{IsCharacter}
-use Rattle.rpg_records.specs.Keeping.{left_of, selected_as}
+use Rattle.rpg_object_program.specs.Kept.{IsCharacter}
+use Rattle.rpg_cycle_records.specs.Keeping.{left_of, selected_as}
 use Rattle.rpg_cycle.proofs.cycle.take_record.Goals as goal
 
 pub returns-in_err-take_total_time-clause-stops : goal.returns-in_err-take_total_time-clause-stops

@@ -2,7 +2,7 @@ use Rattle.std.proofs.Common.{Option, ℕ, ap, sym, subst}
 use Rattle.rpg_cycle.proofs.Composing.{memory_both, ok_map, stops_map}
 use Rattle.rpg_cycle.proofs.Machining.{filled, nothing_filled}
 use Rattle.rpg_cycle.proofs.Spending.{fields_spend}
-use Rattle.rpg_cycle.specs.Ends.{GoesOn, end_of}
+use Rattle.rpg_cycle.specs.Ends.{GoesOn, phase_end}
 use Rattle.rpg_cycle.specs.Spending.{Spends, inputs_weight}
 use Rattle.rpg_cycle.specs.Stages.{job_end}
 use Rattle.rpg_effect.specs.Ends as effects
@@ -16,7 +16,7 @@ pub returns-in-Some-clause-goes : goal.returns-in-Some-clause-goes
 returns-in-Some-clause-goes g c =
     ok_map c.go_on.result _ _
     (λ x h. filled c.args.program.now c.args.selected c.in-Some.row c.args.text.now c.args.machine.now c.fill_fields-end.new.self _ GoesOn c.in-Some.is c.requires.program
-    (ap (λ (x : answers.End). end_of (effects.end_of x)) h) c.fill_fields-end.ensures.done)
+    (ap (λ (x : answers.End). phase_end (effects.end_of x)) h) c.fill_fields-end.ensures.done)
     c.go_on.ensures.goes
 
 pub returns-in-Some-clause-stops : goal.returns-in-Some-clause-stops

@@ -1,19 +1,19 @@
 use Rattle.std.proofs.Common.{◌≡◌, ◌≤◌, ◌++◌, List, ℕ, None, [], refl, sym, ap, ◌∙◌, subst}
 use Rattle.rpg_cycle.proofs.Composing.{ok_of_err}
 use Rattle.rpg_cycle.specs.Job.{AtWork, Starts, first_fields}
-use Rattle.rpg_cycle.specs.Running.{RunsOn, RunsWhole, course_of, summary_of}
+use Rattle.rpg_cycle.specs.Running.{RunsRecords, RunsWhole, course_of, summary_of}
 use Rattle.rpg_cycle.specs.Runs.{Runs, printed, stored}
 use Rattle.rpg_cycle.specs.Stages.{is_going}
 use Rattle.rpg_cycle.specs.declared.runs.Run.{Run}
 use Rattle.rpg_cycle.specs.declared.runs.Summary.{Summary}
 use Rattle.rpg_machine.specs.Running.{config_on}
-use Rattle.rpg_program.specs.Object.{Object}
-use Rattle.rpg_records.specs.Earlier.{left_by}
+use Rattle.rpg_object_program.specs.Object.{Object}
+use Rattle.rpg_cycle_records.specs.Earlier.{left_by}
 use Rattle.rpg_verify.specs.Bound.{bound}
 use Rattle.rpg_cycle.proofs.runs.run_records.Goals as goal
 
 -- a job that began on the date ran over the records
-ran_whole : (p : Object) (date : List ℕ) (j k : AtWork) (records : List (List ℕ)) (s : Summary) (r : Run) → Starts p date (first_fields p) j → RunsOn j records s k → summary_of r ≡ s →
+ran_whole : (p : Object) (date : List ℕ) (j k : AtWork) (records : List (List ℕ)) (s : Summary) (r : Run) → Starts p date (first_fields p) j → RunsRecords j records s k → summary_of r ≡ s →
     r.output.print.items ≡ k.output.print → r.output.disk.items ≡ k.output.disk → RunsWhole p date records r
 ran_whole p date j k records s r starts ran same print disk = record {
   number = starts.number;

@@ -1,18 +1,19 @@
 use Rattle.std.proofs.Common.{◌∙◌, ℕ, List, All, sym, subst, refl}
-use Rattle.rpg_records.specs.Earlier.{control_fields}
-use Rattle.rpg_records.specs.Keeping.{left_of, seen_levels}
+use Rattle.rpg_cycle_records.specs.Earlier.{control_fields}
+use Rattle.rpg_cycle_records.specs.Keeping.{left_of, seen_levels}
 use Rattle.rpg_cycle.specs.Selecting.{TakesType, IsCompared}
 use Rattle.rpg_cycle.specs.declared.ends.JobEnd.TheVariants as jobs
-use Rattle.rpg_records.specs.declared.levels.LastBytes.{LastBytes}
+use Rattle.rpg_effect.specs.declared.halt.Halt.TheVariants as halts
+use Rattle.rpg_cycle_records.specs.declared.levels.LastBytes.{LastBytes}
 use Rattle.rpg_cycle.proofs.Composing.{passed_map}
-use Rattle.rpg_records.proofs.Recording.{filled_characters}
+use Rattle.rpg_cycle_records.proofs.Recording.{filled_characters}
 use Rattle.rpg_cycle.proofs.Selecting.{refused, untaken, untaken_spends, has_taken, taken_selects}
-use Rattle.rpg_program.specs.Kept.{IsCharacter}
+use Rattle.rpg_object_program.specs.Kept.{IsCharacter}
 use Rattle.rpg_cycle.proofs.selection.read.Goals as goal
 
 pub returns-then-not-is_good-clause-stops : goal.returns-then-not-is_good-clause-stops
 returns-then-not-is_good-clause-stops g c =
-    refused c.args.program.now (left_of c.args.kept.now) c.args.text.now c.args.machine.now (jobs.Halt 7) (sym c.is_good.ensures ∙ c.if-not-is_good.true) refl
+    refused c.args.program.now (left_of c.args.kept.now) c.args.text.now c.args.machine.now (jobs.Halt halts.BadRecord) (sym c.is_good.ensures ∙ c.if-not-is_good.true) refl
 
 pub returns-in_err-row-clause-stops : goal.returns-in_err-row-clause-stops
 returns-in_err-row-clause-stops g c =

@@ -1,5 +1,5 @@
 use Rattle.std.proofs.Common.{rules, ap₂, ◌∙◌, to_z-of_z, FitsSigned, w64}
-use Rattle.rpg_numbers.specs.Fraction.{stored_number, with_decimals}
+use Rattle.rpg_decimal_words.specs.Fraction.{stored_number, with_decimals}
 use Rattle.rpg_decimal.proofs.WholeLemmas.{back_64, sum_is, sum_fits, sum_below}
 use Rattle.rpg_decimal.proofs.SumLemmas.{stored-sum}
 use Rattle.rpg_decimal.proofs.arithmetic.add.Goals as goal

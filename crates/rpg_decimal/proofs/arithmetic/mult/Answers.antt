@@ -1,6 +1,6 @@
 use Rattle.std.proofs.Common.{◌≡◌, ℤ, ◌<◌, ◌≤◌, ◌^◌, ◌*◌, ◌*ℤ◌, unsigned_abs, arith, rules, ap₂, ◌∙◌, to_z-of_z, FitsSigned, w64}
 use Rattle.std.proofs.lemmas.Nat.{mul-le}
-use Rattle.rpg_numbers.specs.Fraction.{stored_number, with_decimals}
+use Rattle.rpg_decimal_words.specs.Fraction.{stored_number, with_decimals}
 use Rattle.rpg_decimal.proofs.WholeLemmas.{back_64, stored-joined}
 use Rattle.rpg_decimal.proofs.QuotientLemmas.{product_is, product_fits, product_below}
 use Rattle.rpg_decimal.proofs.arithmetic.mult.Goals as goal

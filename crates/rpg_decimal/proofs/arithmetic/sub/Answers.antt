@@ -1,5 +1,5 @@
 use Rattle.std.proofs.Common.{rules, ap₂, ◌∙◌, to_z-of_z, FitsSigned, w64}
-use Rattle.rpg_numbers.specs.Fraction.{stored_number, with_decimals}
+use Rattle.rpg_decimal_words.specs.Fraction.{stored_number, with_decimals}
 use Rattle.rpg_decimal.proofs.WholeLemmas.{back_64, difference_is, difference_fits, difference_below}
 use Rattle.rpg_decimal.proofs.SumLemmas.{stored-difference}
 use Rattle.rpg_decimal.proofs.arithmetic.sub.Goals as goal

@@ -1,6 +1,6 @@
 use Rattle.std.proofs.Common.{◌^◌, unsigned_abs, rules, ap, ap₂, ◌∙◌, to_z-of_z, FitsSigned, w64, mul-pos, mul_comm}
 use Rattle.std.specs.Int.{int_signum}
-use Rattle.rpg_numbers.specs.Whole.{fit, rounded_quotient}
+use Rattle.rpg_decimal_words.specs.Whole.{fit, rounded_quotient}
 use Rattle.rpg_decimal.proofs.WholeLemmas.{back, back_64, ten_pos}
 use Rattle.rpg_decimal.proofs.QuotientLemmas.{size_pos, dividend_is}
 use Rattle.rpg_decimal.proofs.division.div.Goals as goal

@@ -1,7 +1,7 @@
 use Rattle.std.proofs.Common.{◌≡◌, ◌+◌, ◌-◌, unsigned_abs, arith, rules, ap, ◌∙◌, to_z, of_z, to_z-of_z, subst, sym, FitsSigned, w64, mul-pos, ℕ, false}
 use Rattle.std.specs.Int.{w128}
 use Rattle.rpg_decimal.specs.Num.{value_of}
-use Rattle.rpg_numbers.specs.Fraction.{with_decimals, rest_of, IsSameValue, aligned_number}
+use Rattle.rpg_decimal_words.specs.Fraction.{with_decimals, rest_of, IsSameValue, aligned_number}
 use Rattle.rpg_decimal.proofs.WholeLemmas.{back, ten_pos}
 use Rattle.rpg_decimal.proofs.QuotientLemmas.{size_pos, rest_value, rest_exact, rest_below}
 use Rattle.rpg_decimal.proofs.division.remainder.Goals as goal

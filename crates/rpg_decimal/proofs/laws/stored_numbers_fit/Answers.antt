@@ -1,4 +1,4 @@
-use Rattle.rpg_numbers.specs.Fraction.{aligned_number}
+use Rattle.rpg_decimal_words.specs.Fraction.{aligned_number}
 use Rattle.rpg_decimal.proofs.LawLemmas.{right_fits, left_fits}
 use Rattle.rpg_decimal.proofs.WholeLemmas.{fit-below}
 use Rattle.rpg_decimal.proofs.laws.stored_numbers_fit.Goals as goal

@@ -1,6 +1,6 @@
 use Rattle.std.proofs.Common.{◌≡◌, ℕ, ◌+◌, ◌-◌, ◌≤◌, length, arith, rules, ap, ap₂, subst, sym, ◌∙◌, to_z-of_z, FitsSigned, w64, length-take}
-use Rattle.rpg_numbers.specs.Move.{overlay_right}
-use Rattle.rpg_numbers.specs.Zoned.{zoned_text, IsFirstBad}
+use Rattle.rpg_decimal_words.specs.Move.{overlay_right}
+use Rattle.rpg_decimal_words.specs.Zoned.{zoned_text, IsFirstBad}
 use Rattle.rpg_decimal.proofs.MoveLemmas.{bad_in_source}
 use Rattle.rpg_decimal.proofs.moves.move_right_of_text.Goals as goal
 

@@ -1,6 +1,6 @@
 use Rattle.std.proofs.Common.{◌≡◌, ◌+◌, get_or, nat_cmp, sym, ap, ap₂, ◌∙◌, arith}
 use Rattle.std.specs.Ordering.{ordering_then}
-use Rattle.rpg_numbers.specs.Order.{character_cmp, rank}
+use Rattle.rpg_decimal_words.specs.Order.{character_cmp, rank}
 use Rattle.rpg_decimal.proofs.OrderLemmas.{compared_from, compared_more, same_character, then-other, other_order, equal_order}
 use Rattle.rpg_decimal.proofs.order.compare_text.Goals as goal
 use Rattle.rpg_decimal.proofs.order.compare_text.Goals.{then-x-y+else-ne, else-x-y}

@@ -1,5 +1,5 @@
 use Rattle.std.proofs.Common.{◌≡◌}
-use Rattle.rpg_numbers.specs.Order.{text_cmp}
+use Rattle.rpg_decimal_words.specs.Order.{text_cmp}
 use Rattle.rpg_decimal.proofs.OrderLemmas.{compared_from}
 use Rattle.rpg_decimal.proofs.order.compare_text.Given as goal
 

@@ -1,6 +1,6 @@
 use Rattle.std.proofs.Common.{◌≡◌, ◌<◌, ◌*◌, ◌^◌, ◌-◌, ◌≤◌, ℕ, ℤ, Bool, pos, ◌*ℤ◌, unsigned_abs, FitsSigned, arith, ap, ap₂, sym, ◌∙◌, to_z, of_z, to_z-of_z}
 use Rattle.std.specs.Int.{w128}
-use Rattle.rpg_numbers.specs.Fraction.{aligned_number, with_decimals}
+use Rattle.rpg_decimal_words.specs.Fraction.{aligned_number, with_decimals}
 use Rattle.rpg_decimal.proofs.WholeLemmas.{back, mag_below, times_is, aligned_up, aligned_down, aligned_same, unsigned_abs-times, unsigned_abs-with_sign}
 use Rattle.rpg_decimal.proofs.whole.align.Goals as goal
 

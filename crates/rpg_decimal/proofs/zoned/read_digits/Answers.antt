@@ -1,6 +1,6 @@
 use Rattle.std.proofs.Common.{◌+◌, ◌*◌, ap₂, sym, ◌∙◌, arith, below_more}
 use Rattle.std.proofs.lemmas.Nat.{pow-add}
-use Rattle.rpg_numbers.specs.Zoned.{digit_of, IsGoodAt}
+use Rattle.rpg_decimal_words.specs.Zoned.{digit_of, IsGoodAt}
 use Rattle.rpg_decimal.proofs.WholeLemmas.{ten_le}
 use Rattle.rpg_decimal.proofs.PlaceLemmas.{place_value_more}
 use Rattle.rpg_decimal.proofs.zoned.read_digits.Goals as goal

@@ -1,6 +1,6 @@
 use Rattle.std.proofs.Common.{◌≡◌, ℕ, ◌<◌, ◌^◌, map, take}
-use Rattle.rpg_numbers.specs.Place.{place_value}
-use Rattle.rpg_numbers.specs.Zoned.{digit_of, IsGoodAt}
+use Rattle.rpg_decimal_words.specs.Place.{place_value}
+use Rattle.rpg_decimal_words.specs.Zoned.{digit_of, IsGoodAt}
 use Rattle.rpg_decimal.proofs.zoned.read_digits.Given as goal
 
 abbrev pub invariant-loop-spot : goal.invariant-loop-spot

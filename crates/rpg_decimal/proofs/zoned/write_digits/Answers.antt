@@ -1,7 +1,7 @@
 use Rattle.std.proofs.Common.{◌≡◌, ℕ, ◌+◌, ◌-◌, ◌/◌, ◌%◌, ◌^◌, ◌<◌, ◌≤◌, List, length, set, get_or, ap, sym, ◌∙◌, arith, inl, inr, length-set, get_or-set_same, get_or-set_other}
 use Rattle.std.proofs.lemmas.List.{ext_get_or, get_or-map, length-map}
 use Rattle.std.proofs.lemmas.Bool.{cases_eq}
-use Rattle.rpg_numbers.specs.Place.{digits}
+use Rattle.rpg_decimal_words.specs.Place.{lowest_digits}
 use Rattle.rpg_decimal.proofs.PlaceLemmas.{get_or-digits, length-digits, div-ten_more}
 use Rattle.rpg_decimal.proofs.zoned.write_digits.Goals as goal
 
@@ -37,7 +37,7 @@ pub returns : goal.returns
 returns c =
     let n = length c.args.text.now in
     let same : length c.loop-place.text ≡ n = omega arith in
-    let ds = digits n c.args.size in
+    let ds = lowest_digits n c.args.size in
     ext_get_or 0 _ _ (same ∙ sym (length-map ds (λ d. 48 + d) ∙ length-digits n c.args.size))
     (λ i h. c.loop-place.invariant.done i (omega arith) h ∙ ap (λ m. 48 + c.args.size / 10 ^ (m - 1 - i) % 10) same
     ∙ sym (get_or-map (λ d. 48 + d) ds i 0 0 (rw (length-digits n c.args.size) (omega arith)) ∙ ap (λ d. 48 + d) (get_or-digits n c.args.size i (omega arith))))

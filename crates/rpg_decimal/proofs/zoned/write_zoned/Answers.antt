@@ -1,5 +1,5 @@
 use Rattle.std.proofs.Common.{ap, ◌∙◌, sym, subst, unsigned_abs, to_z-of_z}
-use Rattle.rpg_numbers.specs.Zoned.{Spells, last_character}
+use Rattle.rpg_decimal_words.specs.Zoned.{Spells, last_character}
 use Rattle.rpg_decimal.proofs.ZonedLemmas.{Spells-zoned, written_is}
 use Rattle.rpg_decimal.proofs.zoned.write_zoned.Goals as goal
 

@@ -1,5 +1,5 @@
 use Rattle.std.proofs.Common.{◌-◌}
-use Rattle.rpg_marks.specs.Code.{dollar_marks, whole_marks, decimal_marks, ending_marks}
+use Rattle.rpg_edit_marks.specs.Code.{dollar_marks, whole_marks, decimal_marks, ending_marks}
 use Rattle.rpg_edit.proofs.Codes.{writes-parts}
 use Rattle.rpg_edit.proofs.code.put_by.Goals as goal
 

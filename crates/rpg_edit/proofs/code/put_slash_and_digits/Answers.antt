@@ -1,5 +1,5 @@
 use Rattle.std.proofs.Common.{[], ◌∷◌, replicate}
-use Rattle.rpg_marks.specs.declared.mark.Mark.TheVariants.{Digit, Insert}
+use Rattle.rpg_edit_marks.specs.declared.mark.Mark.TheVariants.{Digit, Insert}
 use Rattle.rpg_edit.proofs.Written.{writes-more}
 use Rattle.rpg_edit.proofs.code.put_slash_and_digits.Goals as goal
 

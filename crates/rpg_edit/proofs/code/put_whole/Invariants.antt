@@ -1,4 +1,4 @@
-use Rattle.rpg_marks.specs.Code.{whole_marks}
+use Rattle.rpg_edit_marks.specs.Code.{whole_marks}
 use Rattle.rpg_edit.specs.Written.{Writes}
 use Rattle.rpg_edit.proofs.code.put_whole.Given as goal
 

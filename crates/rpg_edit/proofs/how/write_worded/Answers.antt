@@ -1,7 +1,7 @@
 use Rattle.std.proofs.Common.{ap, ◌∙◌, unsigned_abs}
 use Rattle.std.proofs.lemmas.Int.{to_z-of_z}
 use Rattle.std.specs.Int.{is_negative}
-use Rattle.rpg_marks.specs.Word.{digits_behind_stop, word_fill}
+use Rattle.rpg_edit_marks.specs.Word.{digits_behind_stop, word_fill}
 use Rattle.rpg_edit.proofs.Written.{is_written, written_text}
 use Rattle.rpg_edit.proofs.how.write_worded.Goals as goal
 

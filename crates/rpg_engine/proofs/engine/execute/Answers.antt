@@ -1,77 +1,42 @@
-use Rattle.std.proofs.Common.{◌≡◌, Err, ap, refl, rules}
-use Rattle.rpg_files.specs.Counting.{device_of}
-use Rattle.rpg_files.specs.Reading.{source_of}
+use Rattle.std.proofs.Common.{refl}
 use Rattle.std.proofs.lemmas.Result.{err_from_is_err_and}
-use Rattle.rpg_engine.proofs.Refusing.{faults_same, may_run, no_room, not_started, object_counts, object_refused, object_told, on_err, on_ok, parts_same, reports_same, start_counts, start_told, told_of_run}
+use Rattle.rpg_engine.proofs.Refusing.{headline_of, no_day, object_refused, on_err, on_ok, parts_of, reports_of, told_of_program}
+use Rattle.rpg_engine.proofs.Headline.{with_run}
 use Rattle.rpg_engine.proofs.engine.execute.Goals as goal
 
-pub returns-in_err-verified-clause-early : goal.returns-in_err-verified-clause-early
-returns-in_err-verified-clause-early g c =
+-- what is told of an object that is refused
+pub returns-in_err-program-clause-early : goal.returns-in_err-program-clause-early
+returns-in_err-program-clause-early g c =
     let e = err_from_is_err_and c.from_residual.result c.from_residual.ensures.1 in
-    rw (e.1, e.2) (λ p day job. object_refused _ _ _ _ c.args.object.now p day c.in_err-verified.ensures.refused)
+    rw (e.1, e.2) (λ p day job. with_run p c.args.date.now day job.spells.program job.accepted job.dated _ _ _ _ _ _ _ (object_refused _ _ _ _ c.args.object.now p day c.in_err-program.ensures.refused))
 
-pub returns-in_err-job-clause-early : goal.returns-in_err-job-clause-early
-returns-in_err-job-clause-early g c =
-    let e = err_from_is_err_and c.from_residual-in_err-job.result c.from_residual-in_err-job.ensures.1 in
-    rw (e.1, e.2) (λ p day job. not_started _ _ _ _ p day)
+pub returns-in_err-program-clause-refused : goal.returns-in_err-program-clause-refused
+returns-in_err-program-clause-refused g c =
+    let e = err_from_is_err_and c.from_residual.result c.from_residual.ensures.1 in
+    rw (e.1, e.2) c.in_err-program.ensures.refused
 
-pub returns-in_err-room-clause-early : goal.returns-in_err-room-clause-early
-returns-in_err-room-clause-early g c =
-    let e = err_from_is_err_and c.from_residual-in_err-room.result c.from_residual-in_err-room.ensures.1 in
-    rw (e.1, e.2) (λ p day job. no_room _ _ _ p day)
+pub returns-in_err-program-clause-faults : goal.returns-in_err-program-clause-faults
+returns-in_err-program-clause-faults g c =
+    let e = err_from_is_err_and c.from_residual.result c.from_residual.ensures.1 in
+    rw (e.1, e.2) refl
 
+-- what is told of an accepted program
 pub returns-clause-refused : goal.returns-clause-refused
 returns-clause-refused g c =
-    told_of_run c.run-report.result c.args.object.now c.args.date.now (may_run c.args.object.now c.args.date.now c.in_ok-verified.verified c.in_ok-job.job c.in_ok-verified.ensures.spelled c.in_ok-verified.ensures.accepted c.in_ok-job.ensures.start) c.run-report.ensures.only
+    told_of_program c.execute_program.result c.args.object.now c.args.date.now c.in_ok-program.program c.in_ok-program.ensures.spelled c.in_ok-program.ensures.accepted c.execute_program.ensures.refused
 
--- the reader ends as the run left it
+pub returns-clause-untouched : goal.returns-clause-untouched
+returns-clause-untouched g c = λ none.
+    c.execute_program.ensures.untouched (no_day c.args.object.now c.args.date.now c.in_ok-program.program c.in_ok-program.ensures.spelled c.in_ok-program.ensures.accepted none)
+
 pub returns-clause-report : goal.returns-clause-report
 returns-clause-report g c =
-    let same : source_of c.run-report.new.records ≡ c.input-1.given.0 = search rules in
-    on_ok c.run-report.result _ _ (λ report holds p day job. reports_same c.args.object.now c.args.date.now c.in_ok-verified.verified p day c.in_ok-job.job _ _ _ _ _ _ _ _ report
-    (ap (λ x. g.R.Read.remaining (device_of x)) c.new-records.ensures.untouched) (ap (λ x. g.R.Read.remaining (device_of x)) same) holds c.in_ok-job.ensures.start c.in_ok-verified.ensures.only job) c.run-report.ensures.report
+    on_ok c.execute_program.result _ _ (λ report holds p day job. reports_of c.args.object.now c.args.date.now c.in_ok-program.program p day _ _ _ _ _ _ report holds c.in_ok-program.ensures.only job) c.execute_program.ensures.report
+
+pub returns-clause-headline : goal.returns-clause-headline
+returns-clause-headline g c =
+    on_ok c.execute_program.result _ _ (λ report holds p day job. headline_of c.args.object.now c.args.date.now c.in_ok-program.program p day _ _ report holds c.in_ok-program.ensures.only job) c.execute_program.ensures.headline
 
 pub returns-clause-early : goal.returns-clause-early
 returns-clause-early g c =
-    let same : source_of c.run-report.new.records ≡ c.input-1.given.0 = search rules in
-    on_err c.run-report.result _ _ (λ e holds p day job. parts_same c.args.object.now c.args.date.now c.in_ok-verified.verified p day c.in_ok-job.job _ _ _ _ _ _ _ _ e
-    (ap (λ x. g.R.Read.remaining (device_of x)) c.new-records.ensures.untouched) (ap (λ x. g.R.Read.remaining (device_of x)) same) holds c.in_ok-job.ensures.start c.in_ok-verified.ensures.only job) c.run-report.ensures.early
-
-pub returns-clause-faults : goal.returns-clause-faults
-returns-clause-faults g c =
-    let same : source_of c.run-report.new.records ≡ c.input-1.given.0 = search rules in
-    faults_same c.run-report.result _ _ _ _ c.args.print.now c.args.disk.now c.run-report.new.print c.run-report.new.disk g.R.Read.remaining c.new-records.ensures.untouched same c.run-report.ensures.faults
-
--- what is told where no job began
-pub returns-in_err-verified-clause-refused : goal.returns-in_err-verified-clause-refused
-returns-in_err-verified-clause-refused g c =
-    let e = err_from_is_err_and c.from_residual.result c.from_residual.ensures.1 in
-    rw (e.1, e.2) (object_told _ c.args.object.now c.args.date.now c.in_err-verified.ensures.refused)
-
-pub returns-in_err-verified-clause-faults : goal.returns-in_err-verified-clause-faults
-returns-in_err-verified-clause-faults g c =
-    let e = err_from_is_err_and c.from_residual.result c.from_residual.ensures.1 in
-    rw (e.1, e.2) (object_counts _ c.args.object.now _ _ _ c.in_err-verified.ensures.refused)
-
-pub returns-in_err-job-clause-refused : goal.returns-in_err-job-clause-refused
-returns-in_err-job-clause-refused g c =
-    let e = err_from_is_err_and c.from_residual-in_err-job.result c.from_residual-in_err-job.ensures.1 in
-    rw (e.1, e.2) (start_told _ c.args.object.now c.args.date.now c.in_ok-verified.verified c.in_ok-verified.ensures.spelled c.in_ok-verified.ensures.accepted (λ is. c.in_err-job.ensures.date (ap Err is)))
-
-pub returns-in_err-job-clause-faults : goal.returns-in_err-job-clause-faults
-returns-in_err-job-clause-faults g c =
-    let e = err_from_is_err_and c.from_residual-in_err-job.result c.from_residual-in_err-job.ensures.1 in
-    rw (e.1, e.2) (start_counts _ _ _ _)
-
-pub returns-in_err-room-clause-refused : goal.returns-in_err-room-clause-refused
-returns-in_err-room-clause-refused g c =
-    let e = err_from_is_err_and c.from_residual-in_err-room.result c.from_residual-in_err-room.ensures.1 in
-    rw (e.1, e.2) tt
-
-pub returns-in_err-room-clause-faults : goal.returns-in_err-room-clause-faults
-returns-in_err-room-clause-faults g c =
-    let e = err_from_is_err_and c.from_residual-in_err-room.result c.from_residual-in_err-room.ensures.1 in
-    rw (e.1, e.2) refl
-
-pub returns-clause-untouched : goal.returns-clause-untouched
-returns-clause-untouched g c = λ none. absurd (none (may_run c.args.object.now c.args.date.now c.in_ok-verified.verified c.in_ok-job.job c.in_ok-verified.ensures.spelled c.in_ok-verified.ensures.accepted c.in_ok-job.ensures.start))
+    on_err c.execute_program.result _ _ (λ e holds p day job. parts_of c.args.object.now c.args.date.now c.in_ok-program.program p day _ _ _ _ _ _ e holds c.in_ok-program.ensures.only job) c.execute_program.ensures.early

@@ -2,8 +2,8 @@ use Rattle.std.proofs.Common.{◌∙◌, sym, ap, max, arith, refl}
 use Rattle.std.proofs.lemmas.Result.{err_from_is_err_and}
 use Rattle.rpg_cycle.specs.Job.{AtWork}
 use Rattle.rpg_cycle.specs.Stages.{is_going}
-use Rattle.rpg_form.specs.Paper.{end_of}
-use Rattle.rpg_engine.specs.Streaming.{stage_of}
+use Rattle.rpg_paper.specs.Paper.{last_position}
+use Rattle.rpg_engine.specs.Streaming.{ended_stage}
 use Rattle.rpg_engine.specs.declared.report.Report.{Report}
 use Rattle.rpg_engine.proofs.Stopping.{none_of_run, reading_faults, some_of_run, stopped_reading, stopped_sending, stream_reports}
 use Rattle.rpg_engine.proofs.Streams.{has_gone_on, stays_bounded, stream_begins, stream_on}
@@ -60,17 +60,17 @@ returns-in-Some-clause-report g c =
     streams c.in_ok-ended.ensures.cycle c.cycles.invariant.bounded c.in_ok-ended.ensures.bound in
     let most = c.max-most.ensures ∙ ap (max c.cycles.most) c.steps.ensures in
     stream_reports g.R.Read.remaining c.args.job.now c.cycles.job c.next_cycle.new.job _ c.cycles.records c.next_cycle.new.records c.cycles.cycles c.cycles.most c.max-most.result _ _ _ _ _ _ c.cycles.sent.print c.cycles.sent.disk c.args.bound c.in-Some.ending
-    streams c.in_ok-ended.ensures.cycle (c.in_ok-ended.ensures.told ∙ ap stage_of c.in-Some.is) most
+    streams c.in_ok-ended.ensures.cycle (c.in_ok-ended.ensures.told ∙ ap ended_stage c.in-Some.is) most
     (rw c.output.ensures.print at c.in_ok-send_output.ensures.printed) (rw c.output.ensures.disk at c.in_ok-send_output.ensures.stored) c.requires.bound (omega (arith, few, most, c.requires.bound))
 
 pub cycles-preserved : goal.cycles-preserved
 cycles-preserved g c =
     let streams = c.cycles.invariant.streams in
-    let stage = c.in_ok-ended.ensures.told ∙ ap stage_of c.in_default.is in
+    let stage = c.in_ok-ended.ensures.told ∙ ap ended_stage c.in_default.is in
     let most = c.max-most.ensures ∙ ap (max c.cycles.most) c.steps.ensures in
     let few = stays_bounded g.R.Read.remaining c.args.job.now c.cycles.job c.next_cycle.new.job _ c.cycles.records c.next_cycle.new.records c.cycles.cycles c.cycles.most _ _ _ _ c.cycles.sent.print c.cycles.sent.disk
     streams c.in_ok-ended.ensures.cycle c.cycles.invariant.bounded c.in_ok-ended.ensures.bound in
-    let on = has_gone_on g.R.Read.remaining c.cycles.job c.next_cycle.new.job c.cycles.records c.next_cycle.new.records streams.earlier (end_of streams.out.lines) streams.left streams.last c.in_ok-ended.ensures.cycle stage in
+    let on = has_gone_on g.R.Read.remaining c.cycles.job c.next_cycle.new.job c.cycles.records c.next_cycle.new.records streams.earlier (last_position streams.out.lines) streams.left streams.last c.in_ok-ended.ensures.cycle stage in
     record {
       streams = rw c.clear_output.ensures (stream_on g.R.Read.remaining c.args.job.now c.cycles.job c.next_cycle.new.job _ c.cycles.records c.next_cycle.new.records c.cycles.cycles c.cycles.most c.max-most.result
           _ _ _ _ _ _ c.cycles.sent.print c.cycles.sent.disk c.send_output.new.sent.print c.send_output.new.sent.disk
@@ -94,8 +94,8 @@ cycles-preserved g c =
 pub cycles-smaller : goal.cycles-smaller
 cycles-smaller g c =
     let streams = c.cycles.invariant.streams in
-    let stage = c.in_ok-ended.ensures.told ∙ ap stage_of c.in_default.is in
-    let on = has_gone_on g.R.Read.remaining c.cycles.job c.next_cycle.new.job c.cycles.records c.next_cycle.new.records streams.earlier (end_of streams.out.lines) streams.left streams.last c.in_ok-ended.ensures.cycle stage in
+    let stage = c.in_ok-ended.ensures.told ∙ ap ended_stage c.in_default.is in
+    let on = has_gone_on g.R.Read.remaining c.cycles.job c.next_cycle.new.job c.cycles.records c.next_cycle.new.records streams.earlier (last_position streams.out.lines) streams.left streams.last c.in_ok-ended.ensures.cycle stage in
     omega (arith, on.count, on.few)
 
 pub returns-in_err-ended-clause-only : goal.returns-in_err-ended-clause-only

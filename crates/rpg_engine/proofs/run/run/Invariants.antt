@@ -1,7 +1,7 @@
 use Rattle.std.proofs.Common.{◌≡◌, ◌≤◌, ◌-◌, ◌+◌, ◌*◌, true}
 use Rattle.rpg_cycle.specs.Stages.{is_going}
 use Rattle.rpg_files.specs.Counting.{device_of, faults_of}
-use Rattle.rpg_files.specs.Reading.{answer_of, count_of, is_record, limit_of, source_of}
+use Rattle.rpg_files.specs.Reading.{answer_of, count_of, is_record, limit_of, reader_of}
 use Rattle.rpg_files.specs.Records.{max_records}
 use Rattle.rpg_verify.specs.Bound.{bound}
 use Rattle.rpg_engine.proofs.Streams.{Streams}
@@ -9,7 +9,7 @@ use Rattle.rpg_engine.proofs.run.run.Given as goal
 
 abbrev pub invariant-cycles : goal.invariant-cycles
 invariant-cycles g l = record {
-  streams : Streams g.R.Read.remaining l.initial.job (g.R.Read.remaining (device_of (source_of l.initial.records))) l.job l.records l.cycles l.most
+  streams : Streams g.R.Read.remaining l.initial.job (g.R.Read.remaining (device_of (reader_of l.initial.records))) l.job l.records l.cycles l.most
       (g.W1.Write.contents (device_of l.initial.print)) (g.W1.Write.contents (device_of l.print))
       (g.W2.Write.contents (device_of l.initial.disk)) (g.W2.Write.contents (device_of l.disk)) l.sent.print l.sent.disk;
   going : is_going l.job.stage ≡ true;
@@ -21,7 +21,7 @@ invariant-cycles g l = record {
   few_printed : l.sent.print ≤ l.cycles * 18446744073709551616;
   few_stored : l.sent.disk ≤ l.cycles * 18446744073709551616;
   bounded : l.most ≤ bound l.initial.job.program;
-  input : faults_of (source_of l.records) ≡ faults_of (source_of l.initial.records);
+  input : faults_of (reader_of l.records) ≡ faults_of (reader_of l.initial.records);
   print : faults_of l.print ≡ faults_of l.initial.print;
   disk : faults_of l.disk ≡ faults_of l.initial.disk;
 }

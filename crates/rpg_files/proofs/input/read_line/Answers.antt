@@ -1,5 +1,5 @@
 use Rattle.std.proofs.Common.{◌≡◌, ◌+◌, ◌≤◌, length, arith}
-use Rattle.rpg_files.specs.Buffers.{bytes_of, capacity_of}
+use Rattle.rpg_files.specs.Buffers.{capacity_of, left_in}
 use Rattle.rpg_files.proofs.NextLines.{open_short, reads_longer, comes_nearer, found_at_end}
 use Rattle.rpg_files.proofs.input.read_line.Goals as goal
 
@@ -12,12 +12,12 @@ returns-then-is_ended-clause-ok g c = found_at_end _ _ _ _ _ c.bytes-then-is_end
 pub read_more-requires-clause-room : goal.read_more-requires-clause-room
 read_more-requires-clause-room g c =
     let short = open_short c.args.limit c.bytes.result.now c.in-Incomplete.known c.in-Incomplete.ensures in
-    let same : length (bytes_of c.reading.buffer) ≤ c.args.limit + 1 = rw c.bytes.ensures at short in
+    let same : length (left_in c.reading.buffer) ≤ c.args.limit + 1 = rw c.bytes.ensures at short in
     let capacity : capacity_of c.reading.buffer ≡ capacity_of c.args.buffer.now = c.reading.invariant.capacity in
     omega (arith, c.requires.room)
 
 pub reading-smaller : goal.reading-smaller
 reading-smaller g c =
     let short = open_short c.args.limit c.bytes.result.now c.in-Incomplete.known c.in-Incomplete.ensures in
-    comes_nearer c.args.limit (length (bytes_of c.reading.buffer)) (length (bytes_of c.read_more.new.buffer)) c.reading.is_ended c.read_more.new.is_ended c.if-is_ended.false (rw c.bytes.ensures at short)
+    comes_nearer c.args.limit (length (left_in c.reading.buffer)) (length (left_in c.read_more.new.buffer)) c.reading.is_ended c.read_more.new.is_ended c.if-is_ended.false (rw c.bytes.ensures at short)
     (reads_longer _ _ _ _ _ _ c.read_more.ensures.read) c.in_ok-read_more.ensures.more

@@ -1,7 +1,7 @@
 use Rattle.std.proofs.Common.{◌∙◌, ap, sym, length}
 use Rattle.rpg_effect.specs.Forms.{kind_of}
 use Rattle.rpg_effect.specs.declared.form.Kind.TheVariants as kinds
-use Rattle.rpg_memory.specs.Memory.{world_of}
+use Rattle.rpg_store.specs.Memory.{world_of}
 use Rattle.rpg_machine.proofs.Filling.{field_filled, fits_field, long_there, value_there}
 use Rattle.rpg_machine.proofs.inputs.fill_one.Goals as goal
 

@@ -1,5 +1,5 @@
 use Rattle.rpg_machine.proofs.Filling.{text_there}
-use Rattle.rpg_operations.proofs.Keeping.{ready_text}
+use Rattle.rpg_machine_operations.proofs.Keeping.{ready_text}
 use Rattle.rpg_machine.proofs.inputs.fill_text.Goals as goal
 
 pub set_text-requires : goal.set_text-requires

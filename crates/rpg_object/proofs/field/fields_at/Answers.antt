@@ -1,7 +1,7 @@
 use Rattle.std.proofs.Common.{arith}
 use Rattle.std.proofs.lemmas.Result.{err_from_is_err_and}
-use Rattle.rpg_format.specs.Format.{times_with}
-use Rattle.rpg_format.proofs.Loop.{goes_on, ends, is_done}
+use Rattle.rpg_object_format.specs.Format.{times_with}
+use Rattle.rpg_object_format.proofs.Loop.{goes_on, ends, is_done}
 use Rattle.rpg_object.specs.Fields.{field, fields, storage_after}
 use Rattle.rpg_object.proofs.FieldLaws.{fields_lengths, fields_law}
 use Rattle.rpg_object.proofs.field.fields_at.Goals as goal

@@ -1,6 +1,6 @@
 use Rattle.std.proofs.Common.{◌≡◌, ◌-◌}
-use Rattle.rpg_format.specs.Format.{read_times}
-use Rattle.rpg_format.proofs.Loop.{with_front}
+use Rattle.rpg_object_format.specs.Format.{read_times}
+use Rattle.rpg_object_format.proofs.Loop.{with_front}
 use Rattle.rpg_object.specs.Fields.{field, storage_after}
 use Rattle.rpg_object.proofs.field.fields_at.Given as goal
 

@@ -1,5 +1,5 @@
 use Rattle.std.proofs.Common.{◌≡◌, ◌++◌, drop}
-use Rattle.rpg_format.specs.Format.{keep, spelled_along}
+use Rattle.rpg_object_format.specs.Format.{keep, spelled_along}
 use Rattle.rpg_object.proofs.FieldTexts.{field_text}
 use Rattle.rpg_object.proofs.field.put_fields.Given as goal
 

@@ -1,7 +1,7 @@
 use Rattle.std.proofs.Common.{◌≡◌, ◌-◌, map}
 use Rattle.rpg_effect.specs.Values.{held}
-use Rattle.rpg_format.specs.Format.{keep, read_times}
-use Rattle.rpg_format.proofs.Loop.{with_front}
+use Rattle.rpg_object_format.specs.Format.{keep, read_times}
+use Rattle.rpg_object_format.proofs.Loop.{with_front}
 use Rattle.rpg_object.specs.FirstValues.{value}
 use Rattle.rpg_object.proofs.first_value.entries_at.Given as goal
 

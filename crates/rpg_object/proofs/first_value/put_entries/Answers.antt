@@ -1,10 +1,10 @@
 use Rattle.std.proofs.Common.{map, arith, refl}
 use Rattle.std.proofs.lemmas.List.{length-map}
 use Rattle.rpg_effect.specs.Values.{held}
-use Rattle.rpg_format.specs.Format.{keep, times_with}
-use Rattle.rpg_format.proofs.Loop.{writes_on, all_written, mapped-drop, mapped_keeps}
-use Rattle.rpg_program.specs.Kept.{IsValueOf}
-use Rattle.rpg_object.specs.FirstValues.{entries, value}
+use Rattle.rpg_object_format.specs.Format.{keep, times_with}
+use Rattle.rpg_object_format.proofs.Loop.{writes_on, all_written, mapped-drop, mapped_keeps}
+use Rattle.rpg_object_program.specs.Kept.{IsValueOf}
+use Rattle.rpg_object.specs.FirstValues.{entries_format, value}
 use Rattle.rpg_object.proofs.first_value.put_entries.Goals as goal
 
 pub put_value-requires-clause-value : goal.put_value-requires-clause-value
@@ -17,5 +17,5 @@ loop-value-preserved c =
     rw c.in_ok-put_value.ensures (writes_on (λ s v. (value c.args.form.kind c.args.form.length).spelling v) keep c.loop-value.out.items _ tt tt (map held c.args.entries.now) c.loop-value.value-index (held c.value-item.result) _ more refl refl c.loop-value.invariant)
 
 pub returns : goal.returns
-unfolding entries times_with
+unfolding entries_format times_with
 returns c = all_written (λ s v. (value c.args.form.kind c.args.form.length).spelling v) keep c.loop-value.out.items tt (map held c.args.entries.now) c.loop-value.value-index _ (omega (arith, length-map c.args.entries.now held, c.loop-value-test.false)) c.loop-value.invariant

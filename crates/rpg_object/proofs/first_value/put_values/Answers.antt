@@ -1,9 +1,9 @@
 use Rattle.std.proofs.Common.{◌<◌, length, drop, map, arith, ap, ◌+◌}
 use Rattle.std.proofs.lemmas.List.{length-map}
 use Rattle.rpg_effect.specs.Values.{held}
-use Rattle.rpg_format.specs.Format.{times_with}
-use Rattle.rpg_format.proofs.Loop.{writes_on, all_written, mapped-at, mapped-drop}
-use Rattle.rpg_object.specs.FirstValues.{values, next_entries, later_fields}
+use Rattle.rpg_object_format.specs.Format.{times_with}
+use Rattle.rpg_object_format.proofs.Loop.{writes_on, all_written, mapped-at, mapped-drop}
+use Rattle.rpg_object.specs.FirstValues.{values_format, next_entries, later_fields}
 use Rattle.rpg_object.proofs.FieldsLeft.{next_entries-drop, later_fields-drop, entries-at}
 use Rattle.rpg_object.proofs.first_value.put_values.Goals as goal
 
@@ -25,7 +25,7 @@ loop-i-preserved c =
     rw (c.in_ok-put_entries.ensures, c.deref.ensures.value) (writes_on (λ s vs. (next_entries s).spelling vs) later_fields c.loop-i.out.items _ (drop c.loop-i.i c.args.fields.now) (drop (c.loop-i.i + 1) c.args.fields.now) all c.loop-i.i entries _ more text later c.loop-i.invariant)
 
 pub returns : goal.returns
-unfolding values times_with
+unfolding values_format times_with
 returns c =
     let all = map (λ vs. map held vs.items) c.args.list.now in
     all_written (λ s vs. (next_entries s).spelling vs) later_fields c.loop-i.out.items (drop c.loop-i.i c.args.fields.now) all c.loop-i.i _ (omega (arith, c.requires.number, length-map c.args.list.now (λ vs. map held vs.items), c.loop-i-test.false)) c.loop-i.invariant

@@ -1,7 +1,7 @@
 use Rattle.std.proofs.Common.{◌≡◌, ◌-◌, length, drop, map}
 use Rattle.rpg_effect.specs.Values.{held}
-use Rattle.rpg_format.specs.Format.{read_times}
-use Rattle.rpg_format.proofs.Loop.{with_front}
+use Rattle.rpg_object_format.specs.Format.{read_times}
+use Rattle.rpg_object_format.proofs.Loop.{with_front}
 use Rattle.rpg_object.specs.FirstValues.{next_entries, later_fields}
 use Rattle.rpg_object.proofs.first_value.values_at.Given as goal
 

@@ -7,7 +7,7 @@ use Rattle.rpg_effect.specs.Values.{Value, held}
 use Rattle.rpg_effect.specs.declared.form.FieldForm.{FieldForm}
 use Rattle.rpg_effect.specs.declared.value.Value as entry
 use Rattle.rpg_store.specs.Filling.{IsLike, MayTakeAll, with_positions}
-use Rattle.rpg_store.specs.Flat.{contents_of}
+use Rattle.rpg_store.specs.Flat.{flat_contents}
 use Rattle.rpg_store.specs.Slots.{forms_of}
 use Rattle.rpg_store.proofs.Filling.{all_fields, field_stays, item_there, next_field}
 use Rattle.rpg_store.proofs.flat.put_all.Goals as goal
@@ -22,11 +22,11 @@ put_field-requires c =
     let vs = values_of c.of_field-item.result in
     let i = item_there values_of c.args.values.now k c.of_field-item.result c.loop-of_field-test.true c.of_field-item.is in
     let r = c.requires.like k vs i in
-    subst (λ (us : List Value). MayTakeAll (forms_of l.store.slots) (contents_of l.store) l.field us) (sym (ap (map held) c.deref.ensures.value))
-    (subst (λ (p : ℕ). MayTakeAll (forms_of l.store.slots) (contents_of l.store) p vs) (sym l.invariant.counted) (record {
+    subst (λ (us : List Value). MayTakeAll (forms_of l.store.slots) (flat_contents l.store) l.field us) (sym (ap (map held) c.deref.ensures.value))
+    (subst (λ (p : ℕ). MayTakeAll (forms_of l.store.slots) (flat_contents l.store) p vs) (sym l.invariant.counted) (record {
       few = r.few;
       each = λ n v j.
-          subst (λ (fs : List FieldForm). IsLike (maps.get (contents_of l.store) (k + 1, n + 1)) (length_of (form_at fs (k + 1))) v) (sym l.invariant.forms)
+          subst (λ (fs : List FieldForm). IsLike (maps.get (flat_contents l.store) (k + 1, n + 1)) (length_of (form_at fs (k + 1))) v) (sym l.invariant.forms)
           (subst (λ (o : Option Value). IsLike o (length_of (form_at (forms_of c.args.store.now.slots) (k + 1))) v) (sym (l.invariant.others k (n + 1) (omega arith))) (r.each n v j));
     }))
 
@@ -36,11 +36,11 @@ loop-of_field-preserved c =
     let k = l.of_field-index in
     let vs = values_of c.of_field-item.result in
     let there = item_there values_of c.args.values.now k c.of_field-item.result c.loop-of_field-test.true c.of_field-item.is in
-    let put = c.put_field.ensures.contents ∙ ap (λ us. with_positions (contents_of l.store) l.field 1 (map held us)) c.deref.ensures.value ∙ ap (λ (p : ℕ). with_positions (contents_of l.store) p 1 vs) l.invariant.counted in
+    let put = c.put_field.ensures.contents ∙ ap (λ us. with_positions (flat_contents l.store) l.field 1 (map held us)) c.deref.ensures.value ∙ ap (λ (p : ℕ). with_positions (flat_contents l.store) p 1 vs) l.invariant.counted in
     record {
       counted = ap (λ (p : ℕ). p + 1) l.invariant.counted;
-      to_do = next_field (contents_of l.store) _ k vs (map values_of c.args.values.now) put there ∙ l.invariant.to_do;
-      others = λ j n h. field_stays (contents_of l.store) _ k j n vs put h ∙ l.invariant.others j n (omega arith);
+      to_do = next_field (flat_contents l.store) _ k vs (map values_of c.args.values.now) put there ∙ l.invariant.to_do;
+      others = λ j n h. field_stays (flat_contents l.store) _ k j n vs put h ∙ l.invariant.others j n (omega arith);
       currents = c.put_field.ensures.currents ∙ l.invariant.currents;
       forms = c.put_field.ensures.forms ∙ l.invariant.forms;
     }
@@ -49,4 +49,4 @@ pub returns-clause-contents : goal.returns-clause-contents
 returns-clause-contents c =
     let l = c.loop-of_field in
     let n = length-map c.args.values.now values_of in
-    sym (all_fields (contents_of l.store) l.of_field-index (map values_of c.args.values.now) (omega arith)) ∙ l.invariant.to_do
+    sym (all_fields (flat_contents l.store) l.of_field-index (map values_of c.args.values.now) (omega arith)) ∙ l.invariant.to_do

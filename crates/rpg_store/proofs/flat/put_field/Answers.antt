@@ -5,7 +5,7 @@ use Rattle.rpg_effect.specs.Forms.{form_at, length_of}
 use Rattle.rpg_effect.specs.Values.{Value, held}
 use Rattle.rpg_effect.specs.declared.form.FieldForm.{FieldForm}
 use Rattle.rpg_store.specs.Filling.{IsLike, MayTake}
-use Rattle.rpg_store.specs.Flat.{contents_of}
+use Rattle.rpg_store.specs.Flat.{flat_contents}
 use Rattle.rpg_store.specs.Slots.{forms_of}
 use Rattle.rpg_store.proofs.Filling.{all_positions, item_there, next_position, position_stays}
 use Rattle.rpg_store.proofs.flat.put_field.Goals as goal
@@ -16,8 +16,8 @@ put-requires c =
     let field = c.args.field in
     let v = held c.value-item.result in
     let i = item_there held c.args.values.now l.value-index c.value-item.result c.loop-value-test.true c.value-item.is in
-    subst (λ (p : ℕ). MayTake (forms_of l.store.slots) (contents_of l.store) field p v) (sym l.invariant.counted)
-    (subst (λ (fs : List FieldForm). IsLike (maps.get (contents_of l.store) (field, l.value-index + 1)) (length_of (form_at fs field)) v) (sym l.invariant.forms)
+    subst (λ (p : ℕ). MayTake (forms_of l.store.slots) (flat_contents l.store) field p v) (sym l.invariant.counted)
+    (subst (λ (fs : List FieldForm). IsLike (maps.get (flat_contents l.store) (field, l.value-index + 1)) (length_of (form_at fs field)) v) (sym l.invariant.forms)
     (subst (λ (o : Option Value). IsLike o (length_of (form_at (forms_of c.args.store.now.slots) field)) v) (sym (l.invariant.others l.value-index (omega arith))) (c.requires.each l.value-index v i)))
 
 pub overflow_add-position : goal.overflow_add-position
@@ -33,11 +33,11 @@ loop-value-preserved c =
     let field = c.args.field in
     let i = l.value-index in
     let there = item_there held c.args.values.now i c.value-item.result c.loop-value-test.true c.value-item.is in
-    let put = c.put.ensures.contents ∙ ap (λ (p : ℕ). maps.insert (contents_of l.store) (field, p) (held c.value-item.result)) l.invariant.counted in
+    let put = c.put.ensures.contents ∙ ap (λ (p : ℕ). maps.insert (flat_contents l.store) (field, p) (held c.value-item.result)) l.invariant.counted in
     record {
       counted = ap (λ (p : ℕ). p + 1) l.invariant.counted;
-      to_do = next_position (contents_of l.store) _ field i (held c.value-item.result) (map held c.args.values.now) put there ∙ l.invariant.to_do;
-      others = λ n h. position_stays (contents_of l.store) _ field i n (held c.value-item.result) put h ∙ l.invariant.others n (omega arith);
+      to_do = next_position (flat_contents l.store) _ field i (held c.value-item.result) (map held c.args.values.now) put there ∙ l.invariant.to_do;
+      others = λ n h. position_stays (flat_contents l.store) _ field i n (held c.value-item.result) put h ∙ l.invariant.others n (omega arith);
       currents = c.put.ensures.currents ∙ l.invariant.currents;
       forms = c.put.ensures.forms ∙ l.invariant.forms;
     }
@@ -46,4 +46,4 @@ pub returns-clause-contents : goal.returns-clause-contents
 returns-clause-contents c =
     let l = c.loop-value in
     let n = length-map c.args.values.now held in
-    sym (all_positions (contents_of l.store) c.args.field l.value-index (map held c.args.values.now) (omega arith)) ∙ l.invariant.to_do
+    sym (all_positions (flat_contents l.store) c.args.field l.value-index (map held c.args.values.now) (omega arith)) ∙ l.invariant.to_do

@@ -1,8 +1,8 @@
 use Rattle.std.proofs.Common.{◌≡◌, ◌+◌, ◌*◌, ◌-◌, map, length, take, ap₂, sym, ◌∙◌, arith}
 use Rattle.std.proofs.lemmas.Int.{ints}
 use Rattle.std.proofs.lemmas.List.{length-take-le}
-use Rattle.rpg_numbers.specs.Place.{place_value}
-use Rattle.rpg_numbers.specs.Zoned.{digit_of, last_of}
+use Rattle.rpg_decimal_words.specs.Place.{place_value}
+use Rattle.rpg_decimal_words.specs.Zoned.{digit_of, last_of}
 use Rattle.rpg_decimal.proofs.WholeLemmas.{ten_le}
 use Rattle.rpg_decimal.proofs.ZonedLemmas.{minus_back, plus_back, spelled-minus, spelled-plus}
 use Rattle.rpg_store.proofs.Reading.{all_places, front_digits, last_written, sign_minus, sign_plain}

@@ -1,6 +1,6 @@
 use Rattle.std.proofs.Common.{◌+◌, ◌*◌, get_or, ap₂, sym, ◌∙◌, arith}
 use Rattle.std.proofs.lemmas.Nat.{pow-add}
-use Rattle.rpg_numbers.specs.Zoned.{digit_of}
+use Rattle.rpg_decimal_words.specs.Zoned.{digit_of}
 use Rattle.rpg_decimal.proofs.PlaceLemmas.{place_value_more}
 use Rattle.rpg_decimal.proofs.WholeLemmas.{ten_le}
 use Rattle.rpg_store.proofs.Reading.{digit_bounds, digit_is}

@@ -1,6 +1,6 @@
 use Rattle.std.proofs.Common.{◌≡◌, ◌<◌, ◌^◌, map, take}
-use Rattle.rpg_numbers.specs.Place.{place_value}
-use Rattle.rpg_numbers.specs.Zoned.{digit_of}
+use Rattle.rpg_decimal_words.specs.Place.{place_value}
+use Rattle.rpg_decimal_words.specs.Zoned.{digit_of}
 use Rattle.rpg_store.proofs.written.value_of.Given as goal
 
 abbrev pub invariant-loop-c : goal.invariant-loop-c

@@ -1,10 +1,10 @@
 use Rattle.std.proofs.Common.{sym, ap, ◌∙◌, ◌≡◌, subst}
 use Rattle.std.specs.Option.{option_map}
 use Rattle.rpg_cycle.proofs.JobCycles.{job, goes_on, ends}
-use Rattle.rpg_records.specs.Earlier.{left_by}
+use Rattle.rpg_cycle_records.specs.Earlier.{left_by}
 use Rattle.rpg_cycle.specs.Ends.{GoesOn}
 use Rattle.rpg_cycle.specs.Job as of
-use Rattle.rpg_records.specs.Keeping.{left_of, noted}
+use Rattle.rpg_cycle_records.specs.Keeping.{left_of, noted}
 use Rattle.rpg_cycle.specs.Stages.{Going, Ended, is_going, job_end, stage_of}
 use Rattle.rpg_effect.specs.Put.{line_of}
 use Rattle.rpg_cycle.proofs.jobs.Job.cycle_on.Goals as goal

@@ -1,5 +1,5 @@
 use Rattle.std.proofs.Common.{replicate}
-use Rattle.rpg_marks.specs.declared.mark.Mark.TheVariants.{Digit}
+use Rattle.rpg_edit_marks.specs.declared.mark.Mark.TheVariants.{Digit}
 use Rattle.rpg_edit.specs.Written.{Writes}
 use Rattle.rpg_edit.proofs.suppression.Pass.put_digits.Given as goal
 

@@ -1,8 +1,8 @@
 use Rattle.std.proofs.Common.{◌≡◌, ◌++◌, ◌∷◌, [], ◌∙◌, sym, ap, subst, append_assoc}
 use Rattle.rpg_cards.specs.Sheets.{AreSheets}
-use Rattle.rpg_flow.specs.Seen.{IsFlow}
-use Rattle.rpg_limits.specs.State.{AreLimits}
-use Rattle.rpg_places.specs.State.{IsPlaces}
+use Rattle.rpg_faults_flow.specs.Seen.{IsFlow}
+use Rattle.rpg_faults_limits.specs.State.{AreLimits}
+use Rattle.rpg_faults.specs.State.{IsPlaces}
 use Rattle.rpg_faults.proofs.seen.Seen.behind.Goals as goal
 
 pub returns-clause-seen : goal.returns-clause-seen

@@ -2,7 +2,7 @@ use Rattle.std.proofs.Common.{◌≡◌, ℕ, ◌+◌, ◌<◌, List, All, lengt
 use Rattle.std.proofs.lemmas.List.{length-map}
 use Rattle.std.proofs.lemmas.Option.{slice_get-get_or, slice_get-map}
 use Rattle.std.specs.Option.{option_map}
-use Rattle.rpg_form.specs.Form.{Standing}
+use Rattle.rpg_paper.specs.Form.{Standing}
 use Rattle.rpg_effect.specs.Ends.{end_of}
 use Rattle.rpg_effect.specs.Forms.{form_at}
 use Rattle.rpg_effect.specs.Input.{input_fault, record_in}
@@ -11,10 +11,10 @@ use Rattle.rpg_machine.proofs.Records.{record_filled}
 use Rattle.rpg_machine.specs.Outputs.{FillsFields}
 use Rattle.rpg_machine.specs.Running.{Did, Running}
 use Rattle.rpg_machine.specs.State.{running_of}
-use Rattle.rpg_memory.specs.Memory.{held_of}
-use Rattle.rpg_program.specs.Object.{Object, seen, type_row}
-use Rattle.rpg_rules.proofs.Values.{one_of_all}
-use Rattle.rpg_rules.specs.Sound.{IsSound, IsSoundType}
+use Rattle.rpg_store.specs.Memory.{held_of}
+use Rattle.rpg_object_program.specs.Object.{Object, seen, type_row}
+use Rattle.rpg_verify_rules.proofs.Values.{one_of_all}
+use Rattle.rpg_verify_rules.specs.Sound.{IsSound, IsSoundType}
 use Rattle.rpg_machine.proofs.machine.Machine.fill_fields.Goals as goal
 
 pub fill_all-requires-clause-right : goal.fill_all-requires-clause-right

@@ -1,9 +1,9 @@
 use Rattle.std.proofs.Common.{sym, subst}
-use Rattle.rpg_lines.specs.Right.{HasRoom}
+use Rattle.rpg_machine_lines.specs.Right.{HasLineRoom}
 use Rattle.rpg_machine.proofs.Readiness.{able_of}
 use Rattle.rpg_machine.specs.Accepted.{IsOrderly}
 use Rattle.rpg_machine.specs.State.{IsAble}
-use Rattle.rpg_program.specs.Object.{Object}
+use Rattle.rpg_object_program.specs.Object.{Object}
 use Rattle.rpg_machine.proofs.machine.Machine.output.Goals as goal
 
 pub put_out-requires-clause-orderly : goal.put_out-requires-clause-orderly
@@ -16,4 +16,4 @@ put_out-requires-clause-able g c =
     (able_of S.forms S.contents S.currents c.self.inside.program c.self.inside.state c.args.self.now c.self.view_is c.requires.ready c.rows-rows.ensures.orderly.forms c.self.invariant.own)
 
 pub put_out-requires-clause-room : goal.put_out-requires-clause-room
-put_out-requires-clause-room g c = subst (λ (o : Object). HasRoom o c.self.inside.state.writer.text.items) (sym c.rows-rows.ensures.same) c.self.invariant.room
+put_out-requires-clause-room g c = subst (λ (o : Object). HasLineRoom o c.self.inside.state.writer.text.items) (sym c.rows-rows.ensures.same) c.self.invariant.room

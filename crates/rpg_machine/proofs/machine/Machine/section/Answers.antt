@@ -1,6 +1,6 @@
 use Rattle.std.proofs.Common.{◌<◌, ◌^◌, OnOk, sym, subst, arith}
 use Rattle.rpg_machine.proofs.Readiness.{able_of, both_ok, ready_of}
-use Rattle.rpg_machine.specs.Potential.{InBound}
+use Rattle.rpg_machine.specs.Potential.{PaysForSection}
 use Rattle.rpg_machine.specs.Running.{Running}
 use Rattle.rpg_machine.specs.State.{running_of}
 use Rattle.rpg_machine.proofs.machine.Machine.section.Goals as goal
@@ -18,4 +18,4 @@ returns-clause-ready g c =
 pub returns-clause-bound : goal.returns-clause-bound
 returns-clause-bound g c =
     let new = running_of g.S.Store.contents g.S.Store.currents c.self.inside.program c.run_section.new.state in
-    subst (λ (r : Running). OnOk c.run_section.result (InBound c.args.section r new)) c.self.view_is c.run_section.ensures.bound
+    subst (λ (r : Running). OnOk c.run_section.result (PaysForSection c.args.section r new)) c.self.view_is c.run_section.ensures.bound

@@ -4,9 +4,9 @@ use Rattle.std.proofs.lemmas.Option.{get_or_from_slice_get, slice_get_within}
 use Rattle.std.specs.FinMap as maps
 use Rattle.rpg_effect.specs.declared.form.FieldForm.{FieldForm}
 use Rattle.rpg_effect.specs.Forms.{is_table}
-use Rattle.rpg_store.specs.Area.{parts, value_of, IsArea}
+use Rattle.rpg_store.specs.Area.{part_value, parts, IsArea}
 use Rattle.rpg_store.specs.Contents.{by_entry}
-use Rattle.rpg_store.specs.Flat.{Flat, contents_of}
+use Rattle.rpg_store.specs.Flat.{Flat, flat_contents}
 use Rattle.rpg_store.specs.Slots.{currents, forms_of}
 use Rattle.rpg_store.specs.declared.slot.Slot.{Slot}
 use Rattle.rpg_store.proofs.ByPart.{parts-set}
@@ -53,9 +53,9 @@ returns-clause-contents c =
     let new : Slot = record { form = c.index_mut.result.now.form; first = c.index_mut.result.now.first; current = c.args.position } in
     let slots = c.self.inside.slots.items in
     let m = c.args.table - 1 in
-    ap (λ ps. by_entry (forms_of (set slots m new)) (map (value_of c.self.inside.area.items) ps)) (parts-set slots m t.1.0 new h (ap (λ (x : Slot). x.form) r) (ap (λ (x : Slot). x.first) r))
-    ∙ ap (λ (fs : List FieldForm). by_entry fs (map (value_of c.self.inside.area.items) (parts slots))) (forms-set slots m t.1.0 new h (ap (λ (x : Slot). x.form) r))
-    ∙ ap (λ (x : Flat). contents_of x) c.self.view_is
+    ap (λ ps. by_entry (forms_of (set slots m new)) (map (part_value c.self.inside.area.items) ps)) (parts-set slots m t.1.0 new h (ap (λ (x : Slot). x.form) r) (ap (λ (x : Slot). x.first) r))
+    ∙ ap (λ (fs : List FieldForm). by_entry fs (map (part_value c.self.inside.area.items) (parts slots))) (forms-set slots m t.1.0 new h (ap (λ (x : Slot). x.form) r))
+    ∙ ap (λ (x : Flat). flat_contents x) c.self.view_is
 
 pub returns-clause-forms : goal.returns-clause-forms
 returns-clause-forms c =

@@ -4,7 +4,7 @@ use Rattle.std.specs.FinMap as maps
 use Rattle.rpg_effect.specs.Forms.{form_at, length_of}
 use Rattle.rpg_effect.specs.Values.{Value, Number}
 use Rattle.rpg_store.specs.Area.{bytes_in, parts, IsArea}
-use Rattle.rpg_store.specs.Flat.{Flat, contents_of}
+use Rattle.rpg_store.specs.Flat.{Flat, flat_contents}
 use Rattle.rpg_store.specs.Slots.{currents, forms_of}
 use Rattle.rpg_store.proofs.ByPart.{is_number, number_keeps, written_there}
 use Rattle.rpg_store.proofs.InArea.{as_written_at, flat, found, is_entry, number_written, of_store, written}
@@ -84,10 +84,10 @@ returns-clause-contents c =
     let l : length c.slice_mut.result.now ≡ f.at.part.len = ap length b ∙ f.long in
     let w = c.write_zoned.new.text in
     let lw : length w ≡ length c.slice_mut.result.now = c.write_zoned.auto.text in
-    ap (λ xs. contents_of (flat slots xs)) (as_written_at c.self.inside.area.len f.at.part.at c.part_of-from.result.0 area w c.self.inside.area.ok.0 f.begins)
+    ap (λ xs. flat_contents (flat slots xs)) (as_written_at c.self.inside.area.len f.at.part.at c.part_of-from.result.0 area w c.self.inside.area.ok.0 f.begins)
     ∙ written_there slots area c.args.field c.args.position _ w c.self.invariant f.at (lw ∙ l)
-    ∙ ap (λ (v : Value). maps.insert (contents_of (flat slots area)) (c.args.field, c.args.position) v) (number_written f.at.part.kind w _ (is_number slots area c.args.field c.args.position t.0 f.at) c.write_zoned.ensures.spells ∙ ap Number (to_z-of_z c.ranges.n))
-    ∙ ap (λ (s : Flat). maps.insert (contents_of s) (c.args.field, c.args.position) (Number c.args.n)) c.self.view_is
+    ∙ ap (λ (v : Value). maps.insert (flat_contents (flat slots area)) (c.args.field, c.args.position) v) (number_written f.at.part.kind w _ (is_number slots area c.args.field c.args.position t.0 f.at) c.write_zoned.ensures.spells ∙ ap Number (to_z-of_z c.ranges.n))
+    ∙ ap (λ (s : Flat). maps.insert (flat_contents s) (c.args.field, c.args.position) (Number c.args.n)) c.self.view_is
 
 pub returns-clause-currents : goal.returns-clause-currents
 returns-clause-currents c =

@@ -2,7 +2,7 @@ use Rattle.std.proofs.Common.{◌≡◌, length, refl, sym, ap, ◌∙◌, subst
 use Rattle.std.specs.FinMap as maps
 use Rattle.rpg_effect.specs.Values.{Value, Text}
 use Rattle.rpg_store.specs.Area.{bytes_in, parts, start, IsArea}
-use Rattle.rpg_store.specs.Flat.{Flat, contents_of, with_text, written_at}
+use Rattle.rpg_store.specs.Flat.{Flat, flat_contents, flat_with_text, written_at}
 use Rattle.rpg_store.proofs.ByPart.{is_text, text_keeps, written_there}
 use Rattle.rpg_store.proofs.InArea.{as_written_at, flat, found, is_entry, of_store, text_is, text_written}
 use Rattle.rpg_store.proofs.Listing.{text_there}
@@ -42,16 +42,16 @@ returns c =
     let b : c.slice_mut.result.now ≡ bytes_in area f.at.part = c.slice_mut.ensures.value ∙ f.bytes in
     let l : length c.slice_mut.result.now ≡ f.at.part.len = ap length b ∙ f.long in
     let begins : c.part_of-from.result.0 ≡ start slots (c.args.field, c.args.position) = f.begins ∙ f.at.begins in (
-      (refl, λ w. ap (flat slots) (as_written_at c.self.inside.area.len (start slots (c.args.field, c.args.position)) c.part_of-from.result.0 area w c.self.inside.area.ok.0 begins) ∙ ap (λ (s : Flat). with_text s c.args.field c.args.position w) c.self.view_is),
+      (refl, λ w. ap (flat slots) (as_written_at c.self.inside.area.len (start slots (c.args.field, c.args.position)) c.part_of-from.result.0 area w c.self.inside.area.ok.0 begins) ∙ ap (λ (s : Flat). flat_with_text s c.args.field c.args.position w) c.self.view_is),
       record {
         writes_back = tt;
         value = t.1 ∙ ap (λ xs. Some (Text xs)) (sym (b ∙ text_is slots area c.args.field c.args.position t.0 f.at));
         contents = λ w h.
-            ap (λ (s : Flat). contents_of (with_text s c.args.field c.args.position w)) (sym c.self.view_is)
-            ∙ ap (λ k. contents_of (flat slots (written_at area k w))) (sym f.at.begins)
+            ap (λ (s : Flat). flat_contents (flat_with_text s c.args.field c.args.position w)) (sym c.self.view_is)
+            ∙ ap (λ k. flat_contents (flat slots (written_at area k w))) (sym f.at.begins)
             ∙ written_there slots area c.args.field c.args.position _ w c.self.invariant f.at (h ∙ l)
-            ∙ ap (λ (v : Value). maps.insert (contents_of (flat slots area)) (c.args.field, c.args.position) v) (text_written f.at.part.kind w (is_text slots area c.args.field c.args.position t.0 f.at))
-            ∙ ap (λ (s : Flat). maps.insert (contents_of s) (c.args.field, c.args.position) (Text w)) c.self.view_is;
+            ∙ ap (λ (v : Value). maps.insert (flat_contents (flat slots area)) (c.args.field, c.args.position) v) (text_written f.at.part.kind w (is_text slots area c.args.field c.args.position t.0 f.at))
+            ∙ ap (λ (s : Flat). maps.insert (flat_contents s) (c.args.field, c.args.position) (Text w)) c.self.view_is;
         currents = λ w. refl;
         forms = λ w. refl;
       },

@@ -3,7 +3,7 @@ use Rattle.std.proofs.Math.Facts.{to_z-of_z}
 use Rattle.std.specs.FinMap as maps
 use Rattle.rpg_effect.specs.Values.{Number, Value, held}
 use Rattle.rpg_store.specs.Contents.{IsEntry}
-use Rattle.rpg_store.specs.Listed.{Listed, contents_of}
+use Rattle.rpg_store.specs.Listed.{Listed, listed_contents}
 use Rattle.rpg_store.specs.Store.{IsNumber}
 use Rattle.rpg_store.specs.Slots.{currents, forms_of, spot}
 use Rattle.rpg_store.specs.declared.slot.Slot.{Slot}
@@ -37,9 +37,9 @@ returns-clause-contents c =
     let a = of_store c.self.inside.slots.items c.self.inside.list.items c.args.self.now c.args.field c.args.position _ c.self.view_is c.self.invariant t.1 in
     let p : c.place-at.result ≡ spot c.self.inside.slots.items (c.args.field, c.args.position) = c.place-at.ensures ∙ ap (λ slots. spot slots (c.args.field, c.args.position)) c.deref.ensures.value in
     put_there c.self.inside.slots.items c.self.inside.list.items c.args.field c.args.position _ c.place-at.result _ c.self.invariant a p
-    ∙ ap (λ (s : Listed). maps.insert (contents_of s) (c.args.field, c.args.position) (held c.put_number.new.value)) c.self.view_is
-    ∙ ap (λ v. maps.insert (contents_of c.args.self.now) (c.args.field, c.args.position) v) c.put_number.ensures
-    ∙ ap (λ n. maps.insert (contents_of c.args.self.now) (c.args.field, c.args.position) (Number n)) (to_z-of_z c.ranges.n)
+    ∙ ap (λ (s : Listed). maps.insert (listed_contents s) (c.args.field, c.args.position) (held c.put_number.new.value)) c.self.view_is
+    ∙ ap (λ v. maps.insert (listed_contents c.args.self.now) (c.args.field, c.args.position) v) c.put_number.ensures
+    ∙ ap (λ n. maps.insert (listed_contents c.args.self.now) (c.args.field, c.args.position) (Number n)) (to_z-of_z c.ranges.n)
 
 pub returns-clause-currents : goal.returns-clause-currents
 returns-clause-currents c = ap (λ (s : Listed). currents s.slots) c.self.view_is

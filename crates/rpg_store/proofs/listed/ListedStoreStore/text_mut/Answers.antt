@@ -3,7 +3,7 @@ use Rattle.std.specs.FinMap as maps
 use Rattle.rpg_effect.specs.Values.{Value, Text, characters_of}
 use Rattle.rpg_store.specs.Contents.{IsEntry}
 use Rattle.rpg_store.specs.Store.{IsText}
-use Rattle.rpg_store.specs.Listed.{Listed, contents_of, with_text}
+use Rattle.rpg_store.specs.Listed.{Listed, listed_contents, listed_with_text}
 use Rattle.rpg_store.specs.Slots.{forms_of, spot}
 use Rattle.rpg_store.specs.declared.slot.Slot.{Slot}
 use Rattle.rpg_store.proofs.Listing.{text_there, of_store, read_there, lent_there, wrote_there}
@@ -41,15 +41,15 @@ returns c =
     let p : c.place-at.result ≡ spot slots (field, position) = c.place-at.ensures ∙ ap (λ rs. spot rs (field, position)) c.deref.ensures.value in
     let r = read_there slots vs field position _ c.place-at.result c.index_mut.result.now a p c.index_mut.ensures.value in
     let same : Text t.0 ≡ Text c.characters_mut.result.now = sym r ∙ c.characters_mut.ensures.text in (
-      (refl, λ w. lent_there slots vs field position t.0 c.place-at.result c.index_mut.result.now w a p c.index_mut.ensures.value ∙ ap (λ (s : Listed). with_text s field position w) c.self.view_is),
+      (refl, λ w. lent_there slots vs field position t.0 c.place-at.result c.index_mut.result.now w a p c.index_mut.ensures.value ∙ ap (λ (s : Listed). listed_with_text s field position w) c.self.view_is),
       record {
         writes_back = tt;
         value = t.1 ∙ ap Some same;
         contents = λ w h.
             let long : length w ≡ length t.0 = h ∙ ap (λ (v : Value). length (characters_of (Some v))) (sym same) in
-            ap (λ (s : Listed). contents_of (with_text s field position w)) (sym c.self.view_is)
+            ap (λ (s : Listed). listed_contents (listed_with_text s field position w)) (sym c.self.view_is)
             ∙ wrote_there slots vs field position t.0 w c.self.invariant a long
-            ∙ ap (λ (s : Listed). maps.insert (contents_of s) (field, position) (Text w)) c.self.view_is;
+            ∙ ap (λ (s : Listed). maps.insert (listed_contents s) (field, position) (Text w)) c.self.view_is;
         currents = λ w. refl;
         forms = λ w. refl;
       },

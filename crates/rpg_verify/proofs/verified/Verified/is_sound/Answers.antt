@@ -1,6 +1,6 @@
 use Rattle.std.proofs.Common.{rules, ◌≡◌, subst}
-use Rattle.rpg_rules.proofs.Soundness.{sound}
-use Rattle.rpg_rules.specs.Sound.{IsSound}
+use Rattle.rpg_verify_rules.proofs.Soundness.{sound}
+use Rattle.rpg_verify_rules.specs.Sound.{IsSound}
 use Rattle.rpg_verify.proofs.verified.Verified.is_sound.Goals as goal
 
 pub returns : goal.returns

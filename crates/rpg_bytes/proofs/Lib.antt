@@ -1,2 +1,0 @@
--- Lemmas on spelled programs.
-pub mod Spelled

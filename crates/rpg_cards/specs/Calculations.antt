@@ -1,0 +1,142 @@
+-- The calculations of cards: a C card with the AN and OR cards right behind it is one, which ends on the last of them.
+use Rattle.std.specs.Prelude.{ℕ, ◌==◌, ◌++◌, Bool, true, false, List, [], ◌∷◌, Option, None, Some, unwrap_or, map, slice_get, if◌then◌else◌}
+use Rattle.std.specs.List.{filter_map, last_or}
+use Rattle.std.specs.Option.{option_map, option_map_or, option_to_list}
+use Rattle.rpg_cards.specs.Deeds.{Calculation, deed_of}
+use Rattle.rpg_cards.specs.Keys.{Key}
+use Rattle.rpg_cards.specs.Cards.{calculation_on}
+use Rattle.rpg_cards.specs.Groups.{joins}
+use Rattle.rpg_cards.specs.declared.spec_card.SpecCard.{SpecCard}
+use Rattle.rpg_effect.specs.Control.{has_conditions}
+use Rattle.rpg_effect.specs.declared.condition.Condition.{Condition}
+use Rattle.rpg_effect.specs.declared.condition.Conditions.{Conditions}
+use Rattle.rpg_sheet_specs.specs.declared.calculation.CalculationSpec.{CalculationSpec}
+use Rattle.rpg_sheet_specs.specs.declared.calculation.ControlLevel.{ControlLevel}
+use Rattle.rpg_sheet_specs.specs.declared.calculation.ControlLevel.TheVariants as control
+use Rattle.rpg_sheet_specs.specs.declared.indicator.Condition as sheet
+use Rattle.rpg_sheet_specs.specs.declared.indicator.Three.{Three}
+use Rattle.rpg_sheet_specs.specs.declared.spec.Spec.{Spec}
+
+-- ---- when it is done
+
+-- the level indicator that it waits for, L1 to L9 or LR
+abbrev pub awaited_level : ControlLevel → Option ℕ
+awaited_level control.Detail = None
+awaited_level (control.Total n) = if n == 100 then None else Some n
+awaited_level control.Subroutine = None
+awaited_level control.And = None
+awaited_level control.Or = None
+
+abbrev pub condition_of : sheet.Condition → Condition
+condition_of c = record { indicator = c.indicator; is_negated = c.negated }
+
+-- those that stand, in the order of the columns, from the first place on
+abbrev pub standing : Three (Option sheet.Condition) → List Condition
+standing t = map condition_of (filter_map (λ c. c) (t.first ∷ t.second ∷ t.third ∷ []))
+
+abbrev pub in_places : List Condition → Conditions
+in_places cs = record { first = slice_get cs 0; second = slice_get cs 1; third = slice_get cs 2 }
+
+abbrev pub conditions_on : CalculationSpec → Conditions
+conditions_on k = in_places (standing k.conditions)
+
+abbrev pub depends : CalculationSpec → Bool
+depends k = has_conditions (conditions_on k)
+
+-- a card without conditions has no test
+abbrev pub tests_on : CalculationSpec → List Conditions
+tests_on k = if depends k then conditions_on k ∷ [] else []
+
+abbrev pub is_or : ControlLevel → Bool
+is_or control.Detail = false
+is_or (control.Total n) = false
+is_or control.Subroutine = false
+is_or control.And = false
+is_or control.Or = true
+
+-- an AN card goes on with the alternative, an OR card begins one
+abbrev pub alternatives : List Conditions → List CalculationSpec → List (List Conditions)
+alternatives so_far [] = so_far ∷ []
+alternatives so_far (k ∷ ks) = if is_or k.control_level then so_far ∷ alternatives (tests_on k) ks else alternatives (so_far ++ tests_on k) ks
+
+-- ---- groups of cards
+
+pub record CalculationGroup : Type 0 where
+  pub first : CalculationSpec
+  pub followers : List CalculationSpec  -- its AN and OR cards
+
+abbrev pub last_card : CalculationGroup → CalculationSpec
+last_card g = unwrap_or (last_or None g.followers) g.first
+
+abbrev pub calculation_of : CalculationGroup → Calculation Key
+calculation_of g = record {
+  control = g.first.control_level;
+  level = awaited_level g.first.control_level;
+  alternatives = alternatives (tests_on g.first) g.followers;
+  deed = deed_of (last_card g);
+}
+
+abbrev pub alone : CalculationSpec → CalculationGroup
+alone k = record { first = k; followers = [] }
+
+abbrev pub joined_group : CalculationGroup → CalculationSpec → CalculationGroup
+joined_group g k = record { first = g.first; followers = g.followers ++ k ∷ [] }
+
+-- an AN or OR card that no C card stands right before begins a group as others do
+abbrev pub group_with : Option CalculationGroup → CalculationSpec → CalculationGroup
+group_with None k = alone k
+group_with (Some g) k = if joins k.control_level then joined_group g k else alone k
+
+-- ---- from the front: the group that the card right before belongs to
+
+abbrev pub open_with : Option CalculationGroup → Spec → Option CalculationGroup
+open_with o s = option_map (group_with o) (calculation_on s)
+
+abbrev pub open_behind : Option CalculationGroup → List SpecCard → Option CalculationGroup
+open_behind o [] = o
+open_behind o (c ∷ cs) = open_behind (open_with o c.spec) cs
+
+abbrev pub open_calculation_group : List SpecCard → Option CalculationGroup
+open_calculation_group before = open_behind None before
+
+-- an AN or OR card stands right behind
+abbrev pub goes_on : List SpecCard → Bool
+goes_on [] = false
+goes_on (c ∷ cs) = option_map_or (λ k. joins k.control_level) (calculation_on c.spec) false
+
+-- the group whose last card this is
+abbrev pub group_at : Option CalculationGroup → SpecCard → List SpecCard → Option CalculationGroup
+group_at o c after = if goes_on after then None else open_with o c.spec
+
+-- the calculations that end on the cards at the front, seen with those behind
+abbrev pub calculations_from : Option CalculationGroup → List SpecCard → List SpecCard → List (Calculation Key)
+calculations_from o [] after = []
+calculations_from o (c ∷ cs) after = option_to_list (option_map calculation_of (group_at o c (cs ++ after))) ++ calculations_from (open_with o c.spec) cs after
+
+abbrev pub calculations_before : List SpecCard → List SpecCard → List (Calculation Key)
+calculations_before before after = calculations_from None before after
+
+abbrev pub calculations : List SpecCard → List (Calculation Key)
+calculations cards = calculations_before cards []
+
+-- ---- what ends on a card
+
+abbrev pub group_ending : List SpecCard → SpecCard → List SpecCard → Option CalculationGroup
+group_ending before c after = group_at (open_calculation_group before) c after
+
+abbrev pub calculation_ending : List SpecCard → SpecCard → List SpecCard → Option (Calculation Key)
+calculation_ending before c after = option_map calculation_of (group_ending before c after)
+
+-- the card with the operation
+abbrev pub card_ending : SpecCard → List SpecCard → Option CalculationSpec
+card_ending c after = if goes_on after then None else calculation_on c.spec
+
+-- ---- a group with the AN and OR cards behind
+
+abbrev pub completed : CalculationGroup → List SpecCard → CalculationGroup
+completed g [] = g
+completed g (c ∷ cs) = option_map_or (λ k. if joins k.control_level then completed (joined_group g k) cs else g) (calculation_on c.spec) g
+
+-- the last card of the group of a card
+abbrev pub group_end : CalculationSpec → List SpecCard → CalculationSpec
+group_end k after = last_card (completed (alone k) after)

@@ -1,0 +1,101 @@
+-- What calculations do and when, by keys of any kind: names and constants on cards, numbers in a program.
+use Rattle.std.specs.Prelude.{ℕ, ◌+◌, true, false, List, [], ◌∷◌, length, Option, None, Some, unwrap_or}
+use Rattle.std.specs.Option.{option_and_then, option_map}
+use Rattle.rpg_cards.specs.Keys.{Key, Name, entry_operand, factor_operand, nowhere, plain_name}
+use Rattle.rpg_effect.specs.declared.condition.Conditions.{Conditions}
+use Rattle.rpg_effect.specs.declared.operation.Action.{Action}
+use Rattle.rpg_effect.specs.declared.operation.Action.TheVariants.{Compute, Divide, Assign, TakeRemainder, CrossFoot, Compare, LookUp, Move, SetIndicators}
+use Rattle.rpg_effect.specs.declared.operation.Operand.{Operand}
+use Rattle.rpg_effect.specs.declared.operation.Operator.{Operator}
+use Rattle.rpg_effect.specs.declared.operation.Operator.TheVariants as operator
+use Rattle.rpg_effect.specs.declared.operation.Shows.{Shows}
+use Rattle.rpg_effect.specs.declared.operation.Side.TheVariants.{Right, Left}
+use Rattle.rpg_sheet_specs.specs.declared.calculation.CalculationSpec.{CalculationSpec}
+use Rattle.rpg_sheet_specs.specs.declared.calculation.ControlLevel.{ControlLevel}
+use Rattle.rpg_sheet_specs.specs.declared.calculation.Operation.{Operation}
+use Rattle.rpg_sheet_specs.specs.declared.calculation.Operation.TheVariants as op
+use Rattle.rpg_sheet_specs.specs.declared.indicator.Three.{Three}
+
+-- Labels and subroutines are said by name; none where the card has none.
+pub data Deed (K : Type 0) : Type 0 where
+  Acts : Action (Operand K) → Deed K
+  PutsOut : Deed K  -- EXCPT
+  GoesTo : Option Name → Deed K  -- GOTO
+  Executes : Option Name → Deed K  -- EXSR
+  Marks : Option Name → Deed K  -- TAG
+  Begins : Option Name → Deed K  -- BEGSR
+  Ends : Option Name → Deed K  -- ENDSR, with its label
+  Nothing : Deed K  -- no operation
+
+-- A group of C cards. It is done where its level indicator is on and all conditions of one of its alternatives hold: of each alternative
+-- those of its cards, one empty alternative where no card has any.
+pub record Calculation (K : Type 0) : Type 0 where
+  pub control : ControlLevel
+  pub level : Option ℕ
+  pub alternatives : List (List Conditions)
+  pub deed : Deed K
+
+-- how many cards have conditions
+abbrev pub tests : List (List Conditions) → ℕ
+tests [] = 0
+tests (cs ∷ rest) = length cs + tests rest
+
+-- ---- the deed of a card
+
+abbrev pub shows_of : Three (Option ℕ) → Shows
+shows_of t = record { plus = t.first; minus = t.second; zero = t.third }
+
+module _ (k : CalculationSpec) where
+  abbrev pub first : Operand Key
+  first = unwrap_or (option_map factor_operand k.factor_1) nowhere
+
+  abbrev pub second : Operand Key
+  second = unwrap_or (option_map factor_operand k.factor_2) nowhere
+
+  abbrev pub result : Operand Key
+  result = unwrap_or (option_map entry_operand k.result_field) nowhere
+
+  -- a blank factor 1 is the result field
+  abbrev pub first_or_result : Operand Key
+  first_or_result = unwrap_or (option_map factor_operand k.factor_1) result
+
+  abbrev pub resulting_shows : Shows
+  resulting_shows = shows_of k.resulting_indicators
+
+  abbrev pub given_name : Option Name
+  given_name = option_and_then plain_name k.factor_1
+
+  abbrev pub wanted_name : Option Name
+  wanted_name = option_and_then plain_name k.factor_2
+
+  abbrev pub computes : Operator → Deed Key
+  computes o = Acts (Compute o k.half_adjust first_or_result second result resulting_shows)
+
+  abbrev pub deed_by : Operation → Deed Key
+  deed_by op.Add = computes operator.Add
+  deed_by op.Subtract = computes operator.Subtract
+  deed_by op.Multiply = computes operator.Multiply
+  deed_by op.Divide = Acts (Divide k.half_adjust first_or_result second result resulting_shows)
+  deed_by op.ZeroAdd = Acts (Assign false k.half_adjust second result resulting_shows)
+  deed_by op.ZeroSubtract = Acts (Assign true k.half_adjust second result resulting_shows)
+  deed_by op.MoveRemainder = Acts (TakeRemainder result resulting_shows)
+  deed_by op.CrossFoot = Acts (CrossFoot k.half_adjust second result resulting_shows)
+  deed_by op.Move = Acts (Move Right second result)
+  deed_by op.MoveLeft = Acts (Move Left second result)
+  deed_by op.Compare = Acts (Compare first second resulting_shows)
+  deed_by op.LookUp = Acts (LookUp first second (option_map entry_operand k.result_field) resulting_shows)
+  deed_by op.SetOn = Acts (SetIndicators true resulting_shows)
+  deed_by op.SetOff = Acts (SetIndicators false resulting_shows)
+  deed_by op.GoTo = GoesTo wanted_name
+  deed_by op.Call = Executes wanted_name
+  deed_by op.Label = Marks given_name
+  deed_by op.BeginSubroutine = Begins given_name
+  deed_by op.EndSubroutine = Ends given_name
+  deed_by op.Except = PutsOut
+
+  abbrev pub deed_from : Option Operation → Deed Key
+  deed_from None = Nothing
+  deed_from (Some o) = deed_by o
+
+abbrev pub deed_of : CalculationSpec → Deed Key
+deed_of k = deed_from k k.operation

@@ -1,0 +1,113 @@
+-- Labels and subroutine names of a source, with the section of each.
+use Rattle.std.specs.Prelude.{ℕ, suc, ◌-◌, List, [], ◌∷◌, ◌++◌, Bool, true, false, ◌&&◌, ◌||◌, if◌then◌else◌, Option, None, Some, find}
+use Rattle.std.specs.List.{filter, last_or}
+use Rattle.std.specs.Option.{option_map, option_map_or, option_to_list}
+use Rattle.rpg_cards.specs.Deeds.{Acts, Begins, Calculation, Executes, Deed, Ends, GoesTo, Marks, Nothing, PutsOut}
+use Rattle.rpg_cards.specs.Keys.{Key, Name}
+use Rattle.rpg_cards.specs.Sections.{is_same_name, is_subroutine}
+use Rattle.rpg_cards.specs.declared.labels.Label.{Label}
+use Rattle.rpg_cards.specs.declared.labels.Named.{Named}
+use Rattle.rpg_cards.specs.declared.labels.Section.{Section}
+use Rattle.rpg_cards.specs.declared.labels.Section.TheVariants.{Detail, Total, Subroutine, Outside}
+use Rattle.rpg_sheet_specs.specs.declared.calculation.ControlLevel.{ControlLevel}
+use Rattle.rpg_sheet_specs.specs.declared.calculation.ControlLevel.TheVariants as control
+
+-- ---- the section of a calculation, by those before it
+
+abbrev pub is_begsr : Deed Key → Bool
+is_begsr (Begins n) = true
+is_begsr (Acts a) = false
+is_begsr PutsOut = false
+is_begsr (GoesTo l) = false
+is_begsr (Executes n) = false
+is_begsr (Marks l) = false
+is_begsr (Ends l) = false
+is_begsr Nothing = false
+
+abbrev pub is_endsr : Deed Key → Bool
+is_endsr (Ends l) = true
+is_endsr (Acts a) = false
+is_endsr PutsOut = false
+is_endsr (GoesTo l) = false
+is_endsr (Executes n) = false
+is_endsr (Marks l) = false
+is_endsr (Begins n) = false
+is_endsr Nothing = false
+
+abbrev pub begins_subroutine : Calculation Key → Bool
+begins_subroutine g = is_subroutine g.control && is_begsr g.deed
+
+abbrev pub ends : Calculation Key → Bool
+ends g = is_subroutine g.control && is_endsr g.deed
+
+abbrev pub brackets : List (Calculation Key) → List (Calculation Key)
+brackets gs = filter (λ g. begins_subroutine g || ends g) gs
+
+-- the last BEGSR or ENDSR before is a BEGSR
+abbrev pub is_inside_subroutine : List (Calculation Key) → Bool
+is_inside_subroutine before = option_map_or begins_subroutine (last_or None (brackets before)) false
+
+abbrev pub begun_count : List (Calculation Key) → ℕ
+begun_count [] = 0
+begun_count (g ∷ gs) = if begins_subroutine g then suc (begun_count gs) else begun_count gs
+
+abbrev pub subroutine_at : List (Calculation Key) → Bool → Section
+subroutine_at before true = Subroutine (begun_count before)
+subroutine_at before false = if is_inside_subroutine before then Subroutine (begun_count before - 1) else Outside
+
+abbrev pub section_by : List (Calculation Key) → Bool → ControlLevel → Section
+section_by before is_first control.Detail = Detail
+section_by before is_first (control.Total i) = Total
+section_by before is_first control.Subroutine = subroutine_at before is_first
+section_by before is_first control.And = Outside
+section_by before is_first control.Or = Outside
+
+abbrev pub section_of : List (Calculation Key) → Calculation Key → Section
+section_of before g = section_by before (begins_subroutine g) g.control
+
+-- ---- labels
+
+abbrev pub named_by : Bool → Option Name → Option Named
+named_by is_subroutine n = option_map (λ name. record { name = name; is_subroutine = is_subroutine }) n
+
+abbrev pub as_label : Option Name → Option Named
+as_label n = named_by false n
+
+abbrev pub as_subroutine : Option Name → Option Named
+as_subroutine n = named_by true n
+
+-- TAG, ENDSR and BEGSR give a name
+abbrev pub gives : Deed Key → Option Named
+gives (Marks l) = as_label l
+gives (Ends l) = as_label l
+gives (Begins n) = as_subroutine n
+gives (Acts a) = None
+gives PutsOut = None
+gives (GoesTo l) = None
+gives (Executes n) = None
+gives Nothing = None
+
+-- GOTO and EXSR want one
+abbrev pub wants : Deed Key → Option Named
+wants (GoesTo l) = as_label l
+wants (Executes n) = as_subroutine n
+wants (Acts a) = None
+wants PutsOut = None
+wants (Marks l) = None
+wants (Begins n) = None
+wants (Ends l) = None
+wants Nothing = None
+
+abbrev pub label_at : List (Calculation Key) → Calculation Key → Option Label
+label_at before g = option_map (λ n. record { named = n; section = section_of before g }) (gives g.deed)
+
+abbrev pub labels_behind : List (Calculation Key) → List (Calculation Key) → List Label
+labels_behind before [] = []
+labels_behind before (g ∷ gs) = option_to_list (label_at before g) ++ labels_behind (before ++ g ∷ []) gs
+
+abbrev pub labels : List (Calculation Key) → List Label
+labels gs = labels_behind [] gs
+
+-- a name that is given twice counts where it stands first
+abbrev pub label_named : Name → List Label → Option Label
+label_named name ls = find (λ (l : Label). is_same_name (Some name) (Some l.named.name)) ls

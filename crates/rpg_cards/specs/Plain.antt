@@ -1,0 +1,130 @@
+-- What a source without a fault says of its sections: what the rules on targets, calls, returns and levels need.
+use Rattle.std.specs.Prelude.{◌≡◌, ℕ, suc, ◌≤◌, ◌⊎◌, Bool, true, false, ◌||◌, List, [], ◌∷◌, ◌++◌, length, nat_eq, Option, None, Some}
+use Rattle.std.specs.List.{list_any}
+use Rattle.rpg_cards.specs.Deeds.{Acts, Begins, Calculation, Executes, Deed, Ends, GoesTo, Marks, Nothing, PutsOut, tests}
+use Rattle.rpg_cards.specs.Keys.{Key, Name}
+use Rattle.rpg_cards.specs.Sections.{Sections, Subroutine, callee, is_same_name, label_on}
+
+-- what holds of each element, as a chain of pairs
+abbrev pub Each : {X : Type 0} → (X → Type 0) → List X → Type 0
+Each P [] = Unit {0}
+Each P (x ∷ xs) = P x × Each P xs
+
+-- a label that a section has
+abbrev pub has_label : Option Name → List (Calculation Key) → Bool
+has_label l [] = false
+has_label l (g ∷ gs) = is_same_name l (label_on g.deed) || has_label l gs
+
+abbrev pub defines_subroutine : Option Name → List (Subroutine Key) → Bool
+defines_subroutine n [] = false
+defines_subroutine n (s ∷ ss) = is_same_name n s.name || defines_subroutine n ss
+
+-- a GOTO's label is among these
+abbrev pub HasGoal : List (Calculation Key) → Deed Key → Type 0
+HasGoal gs (GoesTo l) = has_label l gs ≡ true
+HasGoal gs (Acts a) = Unit {0}
+HasGoal gs PutsOut = Unit {0}
+HasGoal gs (Executes n) = Unit {0}
+HasGoal gs (Marks l) = Unit {0}
+HasGoal gs (Begins n) = Unit {0}
+HasGoal gs (Ends l) = Unit {0}
+HasGoal gs Nothing = Unit {0}
+
+-- an EXSR's subroutine is there
+abbrev pub IsFound : List (Subroutine Key) → Deed Key → Type 0
+IsFound all (Executes n) = defines_subroutine n all ≡ true
+IsFound all (Acts a) = Unit {0}
+IsFound all PutsOut = Unit {0}
+IsFound all (GoesTo l) = Unit {0}
+IsFound all (Marks l) = Unit {0}
+IsFound all (Begins n) = Unit {0}
+IsFound all (Ends l) = Unit {0}
+IsFound all Nothing = Unit {0}
+
+abbrev pub IsNoReturn : Deed Key → Type 0
+IsNoReturn (Ends l) = ⊥
+IsNoReturn (Acts a) = Unit {0}
+IsNoReturn PutsOut = Unit {0}
+IsNoReturn (GoesTo l) = Unit {0}
+IsNoReturn (Executes n) = Unit {0}
+IsNoReturn (Marks l) = Unit {0}
+IsNoReturn (Begins n) = Unit {0}
+IsNoReturn Nothing = Unit {0}
+
+-- ---- calls of subroutines by subroutines: caller and callee
+
+abbrev pub Pair : Type 0
+Pair = ℕ × ℕ
+
+abbrev pub call_in : Deed Key → Option (Option Name)
+call_in (Executes n) = Some n
+call_in (Acts a) = None
+call_in PutsOut = None
+call_in (GoesTo l) = None
+call_in (Marks l) = None
+call_in (Begins n) = None
+call_in (Ends l) = None
+call_in Nothing = None
+
+abbrev pub with_call : List (Subroutine Key) → ℕ → Option (Option Name) → List Pair → List Pair
+with_call all caller None ps = ps
+with_call all caller (Some n) ps = (caller, callee n all) ∷ ps
+
+abbrev pub calls_in : List (Subroutine Key) → ℕ → List (Calculation Key) → List Pair
+calls_in all caller [] = []
+calls_in all caller (g ∷ gs) = with_call all caller (call_in g.deed) (calls_in all caller gs)
+
+-- the calls in subroutines from a number on
+abbrev pub calls_from : List (Subroutine Key) → ℕ → List (Subroutine Key) → List Pair
+calls_from all caller [] = []
+calls_from all caller (s ∷ ss) = calls_in all caller s.body ++ calls_from all (suc caller) ss
+
+abbrev pub calls_of : List (Subroutine Key) → List Pair
+calls_of all = calls_from all 0 all
+
+-- a chain of calls that ends in s: the callers from the last one back
+abbrev pub IsCallAmong : ℕ → ℕ → List Pair → Type 0
+IsCallAmong a b [] = ⊥
+IsCallAmong a b (p ∷ ps) = ((p.0 ≡ a) × (p.1 ≡ b)) ⊎ IsCallAmong a b ps
+
+abbrev pub IsChainAmong : List Pair → ℕ → List ℕ → Type 0
+IsChainAmong ps s [] = Unit {0}
+IsChainAmong ps s (a ∷ chain) = IsCallAmong a s ps × IsChainAmong ps a chain
+
+-- no subroutine calls one that reaches it by so many calls
+abbrev pub NoneComesBack : ℕ → List Pair → Type 0
+NoneComesBack most ps = (s : ℕ) (chain : List ℕ) → length chain ≤ most → IsChainAmong ps s chain → list_any (nat_eq s) chain ≡ false
+
+-- ---- sections
+
+pub record IsPlainBody (all : List (Subroutine Key)) (s : Subroutine Key) : Type 0 where
+  -- F12: BEGSR and ENDSR in pairs, no SR card outside a pair
+  pub front : List (Calculation Key)
+  pub last : Calculation Key
+  pub label : Option Name
+  pub split : s.body ≡ front ++ last ∷ []
+  pub returns : last.deed ≡ Ends label
+  -- columns 7-8 of its first card have SR; F9: ENDSR has no conditions
+  pub waits : last.level ≡ None
+  pub free : tests last.alternatives ≡ 0
+  -- F10, F13: a GOTO's label is in its section
+  pub goals : Each (λ g. HasGoal s.body g.deed) front
+  -- F10: an EXSR's subroutine is there
+  pub found : Each (λ g. IsFound all g.deed) s.body
+
+abbrev pub ArePlainBodies : List (Subroutine Key) → List (Subroutine Key) → Type 0
+ArePlainBodies all [] = Unit {0}
+ArePlainBodies all (s ∷ ss) = IsPlainBody all s × ArePlainBodies all ss
+
+pub record ArePlain (s : Sections Key) : Type 0 where
+  -- F12: no ENDSR outside SR cards
+  pub detail_ends : Each (λ g. IsNoReturn g.deed) s.detail
+  pub total_ends : Each (λ g. IsNoReturn g.deed) s.total
+  -- F10
+  pub detail_found : Each (λ g. IsFound s.subroutines g.deed) s.detail
+  pub total_found : Each (λ g. IsFound s.subroutines g.deed) s.total
+  pub bodies : ArePlainBodies s.subroutines s.subroutines
+  -- F14
+  pub forward : NoneComesBack (length s.subroutines) (calls_of s.subroutines)
+  -- F6
+  pub few : length s.subroutines ≤ 100

@@ -1,0 +1,102 @@
+-- The sections of calculations.
+use Rattle.std.specs.Prelude.{ℕ, suc, Bool, true, false, List, [], ◌∷◌, Option, None, Some, nat_eq, if◌then◌else◌}
+use Rattle.std.specs.Cmp.Lexicographic.{pointwise}
+use Rattle.rpg_cards.specs.Deeds.{Acts, Begins, Calculation, Executes, Deed, Ends, GoesTo, Marks, Nothing, PutsOut}
+use Rattle.rpg_cards.specs.Keys.{Name}
+use Rattle.rpg_sheet_specs.specs.declared.calculation.ControlLevel.{ControlLevel}
+use Rattle.rpg_sheet_specs.specs.declared.calculation.ControlLevel.TheVariants as control
+
+pub record Subroutine (K : Type 0) : Type 0 where
+  pub name : Option Name
+  pub body : List (Calculation K)  -- its ENDSR the last
+
+pub record Sections (K : Type 0) : Type 0 where
+  pub detail : List (Calculation K)
+  pub total : List (Calculation K)
+  pub subroutines : List (Subroutine K)
+
+abbrev pub is_detail : ControlLevel → Bool
+is_detail control.Detail = true
+is_detail (control.Total n) = false
+is_detail control.Subroutine = false
+is_detail control.And = false
+is_detail control.Or = false
+
+abbrev pub is_total : ControlLevel → Bool
+is_total control.Detail = false
+is_total (control.Total n) = true
+is_total control.Subroutine = false
+is_total control.And = false
+is_total control.Or = false
+
+abbrev pub is_subroutine : ControlLevel → Bool
+is_subroutine control.Detail = false
+is_subroutine (control.Total n) = false
+is_subroutine control.Subroutine = true
+is_subroutine control.And = false
+is_subroutine control.Or = false
+
+abbrev pub is_named : Name → Option Name → Bool
+is_named n None = false
+is_named n (Some m) = pointwise nat_eq m n
+
+-- the same name, where there is one
+abbrev pub is_same_name : Option Name → Option Name → Bool
+is_same_name m None = false
+is_same_name m (Some n) = is_named n m
+
+module _ {K : Type 0} where
+  abbrev pub of_control : (ControlLevel → Bool) → List (Calculation K) → List (Calculation K)
+  of_control test [] = []
+  of_control test (g ∷ gs) = if test g.control then g ∷ of_control test gs else of_control test gs
+
+  -- ---- subroutines: each BEGSR with what stands behind it, up to the next one
+
+  abbrev pub begun_by : Deed K → Option (Option Name)
+  begun_by (Begins n) = Some n
+  begun_by (Acts a) = None
+  begun_by PutsOut = None
+  begun_by (GoesTo l) = None
+  begun_by (Executes n) = None
+  begun_by (Marks l) = None
+  begun_by (Ends l) = None
+  begun_by Nothing = None
+
+  abbrev pub unless_begun : Option (Option Name) → List (Calculation K) → List (Calculation K)
+  unless_begun None gs = gs
+  unless_begun (Some n) gs = []
+
+  abbrev pub up_to_begin : List (Calculation K) → List (Calculation K)
+  up_to_begin [] = []
+  up_to_begin (g ∷ gs) = unless_begun (begun_by g.deed) (g ∷ up_to_begin gs)
+
+  abbrev pub with_begun : Option (Option Name) → List (Calculation K) → List (Subroutine K) → List (Subroutine K)
+  with_begun None body ss = ss
+  with_begun (Some n) body ss = record { name = n; body = body } ∷ ss
+
+  abbrev pub subroutines_of : List (Calculation K) → List (Subroutine K)
+  subroutines_of [] = []
+  subroutines_of (g ∷ gs) = with_begun (begun_by g.deed) (up_to_begin gs) (subroutines_of gs)
+
+  abbrev pub sections_of : List (Calculation K) → Sections K
+  sections_of all = record {
+    detail = of_control is_detail all;
+    total = of_control is_total all;
+    subroutines = subroutines_of (of_control is_subroutine all);
+  }
+
+  -- the number of a subroutine, from 0
+  abbrev pub callee : Option Name → List (Subroutine K) → ℕ
+  callee n [] = 0
+  callee n (s ∷ ss) = if is_same_name n s.name then 0 else suc (callee n ss)
+
+  -- the label of a TAG or ENDSR
+  abbrev pub label_on : Deed K → Option Name
+  label_on (Marks l) = l
+  label_on (Ends l) = l
+  label_on (Acts a) = None
+  label_on PutsOut = None
+  label_on (GoesTo l) = None
+  label_on (Executes n) = None
+  label_on (Begins n) = None
+  label_on Nothing = None

@@ -1,0 +1,61 @@
+//! Groups: a calculation card with the AN and OR cards right behind it.
+
+ghost use Rattle.std.specs.Prelude.{◌≡◌, option_copied};
+ghost use Rattle.rpg_cards.specs.Calculations as calculations;
+ghost use Rattle.rpg_cards.specs.Groups as groups;
+
+use crate::SpecCard;
+use rpg_sheet_specs::{CalculationSpec, ControlLevel};
+
+/// Whether a card has AN or OR in columns 7 and 8.
+pub fn joins(calculation: &CalculationSpec) -> bool
+    ensures { result ≡ groups.joins calculation.now.control_level }
+{
+    match calculation.control_level {
+        ControlLevel::Detail | ControlLevel::Total(_) | ControlLevel::Subroutine => false,
+        ControlLevel::And | ControlLevel::Or => true,
+    }
+}
+
+/// Whether an AN or OR card stands right behind.
+pub fn goes_on(after: &[SpecCard]) -> bool
+    ensures { result ≡ calculations.goes_on after.now }
+{
+    let Some((card, _)) = after.split_first() else {
+        return false;
+    };
+    match card.calculation() {
+        None => false,
+        Some(calculation) => joins(calculation),
+    }
+}
+
+/// The last card of the group that a card belongs to.
+pub fn group_end<'a>(card: &'a CalculationSpec, after: &'a [SpecCard]) -> &'a CalculationSpec
+    ensures { result.now ≡ calculations.group_end card.now after.now }
+{
+    let Some((next, behind)) = after.split_first() else {
+        return card;
+    };
+    match next.calculation() {
+        None => card,
+        Some(next) => {
+            if joins(next) {
+                group_end(next, behind)
+            } else {
+                card
+            }
+        }
+    }
+}
+
+/// The calculation card itself, where it is the last of its group: the card with the operation.
+pub fn last_card<'a>(card: &'a SpecCard, after: &[SpecCard]) -> Option<&'a CalculationSpec>
+    ensures { option_copied result ≡ calculations.card_ending card.now after.now }
+{
+    if goes_on(after) {
+        None
+    } else {
+        card.calculation()
+    }
+}

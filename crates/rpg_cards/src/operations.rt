@@ -1,0 +1,176 @@
+//! What operations have on their cards.
+
+ghost use Rattle.std.specs.Prelude.{◌≡◌};
+ghost use Rattle.rpg_cards.specs.Operations as operations;
+
+use rpg_sheet_specs::Operation;
+
+/// What stands in a column of a calculation card.
+#[derive(Clone, Copy)]
+pub enum Content {
+    /// A plain field, a constant, an array entry or a current table entry.
+    Value,
+    WholeArray,
+    /// A table, an array, or an entry of one from which on it is searched.
+    Searched,
+    Table,
+    Label,
+    Subroutine,
+}
+
+/// Whether a column is filled, and with what.
+#[derive(Clone, Copy)]
+pub enum Column {
+    Blank,
+    May(Content),
+    Must(Content),
+}
+
+/// How many resulting indicators are filled.
+#[derive(Clone, Copy)]
+pub enum Shown {
+    Unused,
+    Any,
+    Some,
+    /// One or two, but not high with low.
+    Search,
+}
+
+/// What the operands of an operation hold.
+#[derive(Clone, Copy)]
+pub enum Kinds {
+    Numbers,
+    /// Factors 1 and 2 are numbers both, or texts both.
+    Alike,
+    Any,
+}
+
+/// What an operation has on its card.
+#[derive(Clone, Copy)]
+pub struct OperationColumns {
+    pub factor_1: Column,
+    pub factor_2: Column,
+    pub result_field: Column,
+    pub may_half_adjust: bool,
+    pub indicators: Shown,
+    pub kinds: Kinds,
+    /// Whether its group may have conditions.
+    pub may_depend: bool,
+}
+
+const fn row(
+    factor_1: Column,
+    factor_2: Column,
+    result_field: Column,
+    may_half_adjust: bool,
+    indicators: Shown,
+    kinds: Kinds,
+    may_depend: bool,
+) -> OperationColumns
+    ensures { result ≡ operations.column_row factor_1 factor_2 result_field may_half_adjust indicators kinds may_depend }
+{
+    OperationColumns {
+        factor_1,
+        factor_2,
+        result_field,
+        may_half_adjust,
+        indicators,
+        kinds,
+        may_depend,
+    }
+}
+
+pub const fn columns(operation: Operation) -> OperationColumns
+    ensures { result ≡ operations.card_columns operation }
+{
+    let blank = Column::Blank;
+    let value = Column::Must(Content::Value);
+    match operation {
+        Operation::Add | Operation::Subtract | Operation::Multiply | Operation::Divide => row(
+            Column::May(Content::Value),
+            value,
+            value,
+            true,
+            Shown::Any,
+            Kinds::Numbers,
+            true,
+        ),
+        Operation::ZeroAdd | Operation::ZeroSubtract => {
+            row(blank, value, value, true, Shown::Any, Kinds::Numbers, true)
+        }
+        Operation::MoveRemainder => {
+            row(blank, blank, value, false, Shown::Any, Kinds::Numbers, true)
+        }
+        Operation::CrossFoot => row(
+            blank,
+            Column::Must(Content::WholeArray),
+            value,
+            true,
+            Shown::Any,
+            Kinds::Numbers,
+            true,
+        ),
+        Operation::Move | Operation::MoveLeft => {
+            row(blank, value, value, false, Shown::Unused, Kinds::Any, true)
+        }
+        Operation::Compare => row(value, value, blank, false, Shown::Some, Kinds::Alike, true),
+        Operation::LookUp => row(
+            value,
+            Column::Must(Content::Searched),
+            Column::May(Content::Table),
+            false,
+            Shown::Search,
+            Kinds::Alike,
+            true,
+        ),
+        Operation::SetOn | Operation::SetOff => {
+            row(blank, blank, blank, false, Shown::Some, Kinds::Any, true)
+        }
+        Operation::GoTo => row(
+            blank,
+            Column::Must(Content::Label),
+            blank,
+            false,
+            Shown::Unused,
+            Kinds::Any,
+            true,
+        ),
+        Operation::Call => row(
+            blank,
+            Column::Must(Content::Subroutine),
+            blank,
+            false,
+            Shown::Unused,
+            Kinds::Any,
+            true,
+        ),
+        Operation::Label => row(
+            Column::Must(Content::Label),
+            blank,
+            blank,
+            false,
+            Shown::Unused,
+            Kinds::Any,
+            false,
+        ),
+        Operation::BeginSubroutine => row(
+            Column::Must(Content::Subroutine),
+            blank,
+            blank,
+            false,
+            Shown::Unused,
+            Kinds::Any,
+            false,
+        ),
+        Operation::EndSubroutine => row(
+            Column::May(Content::Label),
+            blank,
+            blank,
+            false,
+            Shown::Unused,
+            Kinds::Any,
+            false,
+        ),
+        Operation::Except => row(blank, blank, blank, false, Shown::Unused, Kinds::Any, true),
+    }
+}

@@ -1,0 +1,106 @@
+//! The commands of `rpg2`, as clap knows them.
+
+use clap::{Arg, ArgAction, Command, value_parser};
+use std::alloc::{AllocError, Global};
+
+/// A word that has to be there.
+fn word<'a>(alloc: Global, name: &'a str, help: &'a str) -> Arg<'a> {
+    Arg::new(alloc, name)
+        .required(true)
+        .action(ArgAction::Set)
+        .help(help)
+}
+
+/// How many backward branches and calls a cycle may take.
+fn allowance<'a>(alloc: Global) -> Arg<'a> {
+    Arg::new(alloc, "allowance")
+        .long("allowance")
+        .value_name("N")
+        .value_parser(value_parser!(u16).range(1..))
+        .default_value("1000")
+        .help("How many backward branches and calls a cycle may take")
+}
+
+fn compile_command<'a>(alloc: Global) -> Result<Command<'a>, AllocError> {
+    Command::new(alloc, "compile")
+        .about("Compiles the source SRC to the object program OBJ")
+        .arg(word(alloc, "SRC", "The source, a card a line"))?
+        .arg(word(alloc, "OBJ", "Where the object program goes"))?
+        .arg(allowance(alloc))
+}
+
+fn check_command<'a>(alloc: Global) -> Result<Command<'a>, AllocError> {
+    Command::new(alloc, "check")
+        .about("Tells all faults of the source SRC on standard error, and writes nothing")
+        .arg(word(alloc, "SRC", "The source, a card a line"))
+}
+
+fn verify_command<'a>(alloc: Global) -> Result<Command<'a>, AllocError> {
+    Command::new(alloc, "verify")
+        .about(
+            "Tells whether the object program OBJ may be run, and the most steps that a cycle can take",
+        )
+        .arg(word(alloc, "OBJ", "The object program"))
+}
+
+fn date<'a>(alloc: Global) -> Arg<'a> {
+    word(alloc, "date", "The date, as six digits")
+        .long("date")
+        .value_name("N")
+}
+
+fn disk<'a>(alloc: Global) -> Arg<'a> {
+    Arg::new(alloc, "disk")
+        .long("disk")
+        .value_name("FILE")
+        .action(ArgAction::Set)
+        .help("Where the records of a disk file go")
+}
+
+/// The greatest bound that a program may have.
+fn most<'a>(alloc: Global) -> Arg<'a> {
+    Arg::new(alloc, "most")
+        .long("most")
+        .value_name("N")
+        .value_parser(value_parser!(u64))
+        .action(ArgAction::Set)
+        .help("Refuses a program of which a cycle may take more than N steps")
+}
+
+/// The command that runs an object program, with its files.
+fn run_with_files<'a>(alloc: Global) -> Result<Command<'a>, AllocError> {
+    Command::new(alloc, "run")
+        .about("Runs the object program OBJ over the records of INPUT, and prints to PRINT")
+        .arg(word(alloc, "OBJ", "The object program"))?
+        .arg(word(alloc, "INPUT", "The records"))?
+        .arg(word(alloc, "PRINT", "Where the printed lines go"))
+}
+
+fn run_command<'a>(alloc: Global) -> Result<Command<'a>, AllocError> {
+    run_with_files(alloc)?
+        .arg(date(alloc))?
+        .arg(disk(alloc))?
+        .arg(most(alloc))
+}
+
+/// Adds a command, if there was memory for it.
+fn with_subcommand<'a>(
+    command: Command<'a>,
+    added: Result<Command<'a>, AllocError>,
+) -> Result<Command<'a>, AllocError> {
+    command.subcommand(added?)
+}
+
+fn command_without_words<'a>(alloc: Global) -> Command<'a> {
+    Command::new(alloc, "rpg2")
+        .about("RPG II")
+        .subcommand_required(true)
+        .arg_required_else_help(true)
+}
+
+pub(crate) fn command<'a>(alloc: Global) -> Result<Command<'a>, AllocError> {
+    let command = with_subcommand(command_without_words(alloc), compile_command(alloc))?;
+    let command = with_subcommand(command, check_command(alloc))?;
+    let command = with_subcommand(command, verify_command(alloc))?;
+    with_subcommand(command, run_command(alloc))
+}

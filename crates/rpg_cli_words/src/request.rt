@@ -1,0 +1,146 @@
+//! What the words ask for, or what clap says in place of that.
+
+ghost use Rattle.std.specs.Prelude.{◌<◌, ◌≤◌};
+
+use crate::command::command;
+use clap::error::ErrorKind;
+use clap::{ArgMatches, Command, Error};
+use std::alloc::Global;
+
+/// What the words ask for.
+#[derive(Clone, Copy)]
+pub enum Request<'a> {
+    /// Compiles a source.
+    Compile(CompileWords<'a>),
+    /// Tells all faults of a source.
+    Check(CheckWords<'a>),
+    /// Verifies an object program.
+    Verify(VerifyWords<'a>),
+    /// Runs an object program.
+    Run(RunWords<'a>),
+}
+
+/// The words of `compile`.
+#[derive(Clone, Copy)]
+pub struct CompileWords<'a> {
+    pub source: &'a str,
+    pub object: &'a str,
+    /// How many backward branches and calls a cycle may take.
+    pub allowance: u16,
+    ghost positive: { 0 < allowance },
+}
+
+/// The words of `check`.
+#[derive(Clone, Copy)]
+pub struct CheckWords<'a> {
+    pub source: &'a str,
+}
+
+/// The words of `verify`.
+#[derive(Clone, Copy)]
+pub struct VerifyWords<'a> {
+    pub object: &'a str,
+}
+
+/// The words of `run`.
+#[derive(Clone, Copy)]
+pub struct RunWords<'a> {
+    pub object: &'a str,
+    pub input: &'a str,
+    pub print: &'a str,
+    pub date: &'a str,
+    /// Where the records of a disk file go, if the words tell it.
+    pub disk: Option<&'a str>,
+    /// The greatest bound that a program may have, if the words tell one.
+    pub most: Option<u64>,
+}
+
+/// Why there is no request: a fault of the command line, help that was asked for, or want of memory.
+#[derive(Drop)]
+pub struct Refusal {
+    error: Error,
+}
+
+impl Refusal {
+    pub fn is_no_memory(&self) -> bool {
+        self.error.kind() == ErrorKind::OutOfMemory
+    }
+
+    /// Prints clap's text, a fault on standard error and help on standard output, and answers the exit status.
+    pub fn explain<R: Print + Eprint + AllocGlobal>(&self, rt: &R) -> u8
+        ensures { result ≤ 2 }
+    {
+        let is_fault = self.error.use_stderr();
+        match self.error.print(rt) {
+            Ok(()) if is_fault => 2,
+            Ok(()) => 0,
+            Err(_) => 1,
+        }
+    }
+}
+
+fn compile_words<'a>(given: &ArgMatches<'a>) -> Option<CompileWords<'a>> {
+    let allowance = given.get_one::<u16>("allowance")?;
+    if allowance == 0 {
+        return None;
+    }
+    Some(CompileWords {
+        source: given.get_str("SRC")?,
+        object: given.get_str("OBJ")?,
+        allowance,
+    })
+}
+
+fn check_words<'a>(given: &ArgMatches<'a>) -> Option<CheckWords<'a>> {
+    Some(CheckWords {
+        source: given.get_str("SRC")?,
+    })
+}
+
+fn verify_words<'a>(given: &ArgMatches<'a>) -> Option<VerifyWords<'a>> {
+    Some(VerifyWords {
+        object: given.get_str("OBJ")?,
+    })
+}
+
+fn run_words<'a>(given: &ArgMatches<'a>) -> Option<RunWords<'a>> {
+    Some(RunWords {
+        object: given.get_str("OBJ")?,
+        input: given.get_str("INPUT")?,
+        print: given.get_str("PRINT")?,
+        date: given.get_str("date")?,
+        disk: given.get_str("disk"),
+        most: given.get_one::<u64>("most"),
+    })
+}
+
+fn request_in<'a>(matches: &ArgMatches<'a>) -> Option<Request<'a>> {
+    match matches.subcommand()? {
+        ("compile", given) => compile_words(given).map(Request::Compile),
+        ("check", given) => check_words(given).map(Request::Check),
+        ("verify", given) => verify_words(given).map(Request::Verify),
+        ("run", given) => run_words(given).map(Request::Run),
+        _ => None,
+    }
+}
+
+fn command_wanted(command: &mut Command<'_>) -> Error {
+    match command.error(ErrorKind::MissingSubcommand, "a command is wanted") {
+        Ok(error) => error,
+        Err(error) => Error::from(error),
+    }
+}
+
+fn read<'a>(alloc: Global, words: &'a [String]) -> Result<Request<'a>, Error> {
+    let mut command = command(alloc)?;
+    let matches = command.try_get_matches_from_mut(words)?;
+    match request_in(&matches) {
+        Some(request) => Ok(request),
+        None => Err(command_wanted(&mut command)),
+    }
+}
+
+/// The request that the words ask for. The first word is the program's name.
+pub fn request_of<'a>(alloc: Global, words: &'a [String]) -> Result<Request<'a>, Refusal> {
+    read(alloc, words).map_err(|error| Refusal { error })
+}

@@ -1,4 +1,0 @@
-pub mod Code
-pub mod Levels
-pub mod Sound
-pub mod Whole

@@ -1,0 +1,10 @@
+pub mod Alternatives
+pub mod Called
+pub mod Groups
+pub mod Levels
+pub mod Noted
+pub mod Sections
+pub mod Sizes
+pub mod Steps
+pub mod Walk
+pub mod Written

@@ -1,0 +1,31 @@
+-- Calls of subroutines by subroutines, by the numbers of names, and levels by the numbers of subroutines.
+use Rattle.std.specs.Prelude.{ℕ, suc, List, [], ◌∷◌, ◌++◌, slice_index, Option, None, Some}
+use Rattle.std.specs.Option.{option_map}
+use Rattle.rpg_cards.specs.Deeds.{Calculation, Deed}
+use Rattle.rpg_cards.specs.Keys.{Key, Name}
+use Rattle.rpg_cards.specs.Plain.{Pair, call_in}
+use Rattle.rpg_cards.specs.Sections.{Subroutine}
+
+module _ (number : Option Name → ℕ) where
+  -- the subroutine that an EXSR calls
+  abbrev pub callee_in : Deed Key → Option ℕ
+  callee_in d = option_map number (call_in d)
+
+abbrev pub with_callee : ℕ → Option ℕ → List Pair → List Pair
+with_callee caller None ps = ps
+with_callee caller (Some callee) ps = (caller, callee) ∷ ps
+
+module _ (number : Option Name → ℕ) where
+  abbrev pub numbered_calls_in : ℕ → List (Calculation Key) → List Pair
+  numbered_calls_in caller [] = []
+  numbered_calls_in caller (g ∷ gs) = with_callee caller (callee_in number g.deed) (numbered_calls_in caller gs)
+
+  -- those of subroutines from a number on
+  abbrev pub numbered_calls_from : ℕ → List (Subroutine Key) → List Pair
+  numbered_calls_from caller [] = []
+  numbered_calls_from caller (s ∷ ss) = numbered_calls_in caller s.body ++ numbered_calls_from (suc caller) ss
+
+-- ---- levels
+
+abbrev pub level_at : List ℕ → ℕ → ℕ
+level_at levels s = slice_index levels s

@@ -1,0 +1,34 @@
+-- The tests on the cards of a group, and the alternatives that they make.
+use Rattle.std.specs.Prelude.{Bool, false, List, [], ◌∷◌, ◌++◌, if◌then◌else◌}
+use Rattle.std.specs.List.{filter_map, flat_map}
+use Rattle.std.specs.Option.{option_map_or}
+use Rattle.rpg_cards.specs.Calculations.{is_or, tests_on}
+use Rattle.rpg_cards.specs.Cards.{calculation_on}
+use Rattle.rpg_cards.specs.declared.spec_card.SpecCard.{SpecCard}
+use Rattle.rpg_effect.specs.declared.condition.Conditions.{Conditions}
+use Rattle.rpg_sheet_specs.specs.declared.calculation.CalculationSpec.{CalculationSpec}
+
+-- the C cards among these
+abbrev pub calculation_specs_in : List SpecCard → List CalculationSpec
+calculation_specs_in cards = filter_map (λ c. calculation_on c.spec) cards
+
+-- the test of a card, where it has one
+abbrev pub tests_at : SpecCard → List Conditions
+tests_at c = option_map_or tests_on (calculation_on c.spec) []
+
+abbrev pub tests_in : List SpecCard → List Conditions
+tests_in cards = flat_map tests_at cards
+
+-- an OR card
+abbrev pub begins_alternative : SpecCard → Bool
+begins_alternative c = option_map_or (λ k. is_or k.control_level) (calculation_on c.spec) false
+
+-- those of further cards, behind the tests so far
+abbrev pub alternatives_from : List Conditions → List SpecCard → List (List Conditions)
+alternatives_from so_far [] = so_far ∷ []
+alternatives_from so_far (c ∷ cs) = if begins_alternative c then so_far ∷ alternatives_from (tests_at c) cs else alternatives_from (so_far ++ tests_at c) cs
+
+-- the alternatives of cards that begin with the first card of a group or of an alternative
+abbrev pub alternatives_in : List SpecCard → List (List Conditions)
+alternatives_in [] = []
+alternatives_in (c ∷ cs) = alternatives_from (tests_at c) cs

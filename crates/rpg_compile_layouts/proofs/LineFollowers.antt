@@ -1,0 +1,111 @@
+-- Lines by the card in front, and what follows their headings.
+use Rattle.std.proofs.Common.{◌≡◌, ℕ, ◌+◌, ◌<◌, ◌≤◌, List, [], ◌∷◌, ◌++◌, length, get_or, drop, map, Option, None, Some, refl, sym, ap, ◌∙◌, subst, arith}
+use Rattle.std.proofs.lemmas.List.{at_drop_more}
+use Rattle.std.specs.Option.{option_and_then, option_or}
+use Rattle.std.specs.Prelude.{All}
+use Rattle.rpg_cards.specs.Calculations.{standing}
+use Rattle.rpg_cards.specs.Cards.{output_on, output_record_in, output_record_on}
+use Rattle.rpg_cards.specs.Files.{file_by}
+use Rattle.rpg_cards.specs.Groups.{followers, following, groups_from, opening, output_card_role, output_role, role_on}
+use Rattle.rpg_cards.specs.declared.spec_card.SpecCard.{SpecCard}
+use Rattle.rpg_object_program.specs.Object.{LineRow}
+use Rattle.rpg_effect.specs.declared.condition.Condition.{Condition}
+use Rattle.rpg_effect.specs.declared.line.File.{File}
+use Rattle.rpg_effect.specs.declared.line.LineField.{LineField}
+use Rattle.rpg_effect.specs.declared.line.Spacing.{Spacing}
+use Rattle.rpg_effect.specs.declared.line.Time.{Time}
+use Rattle.rpg_compile_layouts.specs.Rows.{alternatives_behind, field_row, output_rows_behind, row_behind, row_in_table, rows_from}
+use Rattle.rpg_compile_layouts.specs.Within.{AreFew, IsLineWithin}
+use Rattle.rpg_object_program.specs.Kept.{IsConditionRow, IsLineFieldRow, IsLineRow, IsSpacingRow}
+use Rattle.rpg_effect_renaming.specs.Naming.{renamed_field}
+use Rattle.rpg_sheet_specs.specs.declared.output.OutputField.{OutputField}
+use Rattle.rpg_sheet_specs.specs.declared.output.OutputRecord.{OutputRecord}
+use Rattle.rpg_sheet_specs.specs.declared.output.OutputSpec.{OutputSpec}
+use Rattle.rpg_sheet_specs.specs.declared.output.OutputSpec.TheVariants as output
+use Rattle.rpg_compile_program.specs.Lines.{card_line, line_alternatives, line_field_of, output_fields_in, output_file, spacing_of, time_of}
+use Rattle.rpg_compile_program.specs.Table.{Table, key_number}
+
+-- ---- the card in front
+
+module _ (t : Table) (source : List SpecCard) where
+  abbrev rows_at : Option (List ℕ) → List SpecCard → Option OutputSpec → List LineRow
+  rows_at name behind o = map (row_in_table t) (map (card_line source) (opening (role_on output_card_role o) name (followers output_role behind) (λ own. groups_from output_role own behind)))
+
+  rows_heading : (name : Option (List ℕ)) (c : SpecCard) (behind rest : List SpecCard) (r : OutputRecord) → rest ≡ c ∷ behind → Some r ≡ output_record_on c.spec
+      → rows_from t source name rest ≡ row_behind t (output_file (file_by (option_or r.file name) source)) r behind ∷ rows_from t source (option_or r.file name) behind
+  rows_heading name c behind rest r split on = ap (rows_from t source name) split ∙ by_card (output_on c.spec) on
+    where
+      by_card : (o : Option OutputSpec) → Some r ≡ option_and_then output_record_in o
+          → rows_at name behind o ≡ row_behind t (output_file (file_by (option_or r.file name) source)) r behind ∷ rows_from t source (option_or r.file name) behind
+      by_card None e = absurd cc
+      by_card (Some (output.Record s)) e =
+          let same : r ≡ s = cc in
+          ap (λ x. row_behind t (output_file (file_by (option_or x.file name) source)) x behind ∷ rows_from t source (option_or x.file name) behind) (sym same)
+      by_card (Some (output.And cs)) e = absurd cc
+      by_card (Some (output.Or cs)) e = absurd cc
+      by_card (Some (output.Field f)) e = absurd cc
+
+  pub rows_first : (name own : Option (List ℕ)) (file : File) (c : SpecCard) (behind rest : List SpecCard) (r : OutputRecord) → rest ≡ c ∷ behind → Some r ≡ output_record_on c.spec → own ≡ option_or r.file name → file ≡ output_file (file_by own source)
+      → rows_from t source name rest ≡ row_behind t file r behind ∷ rows_from t source own behind
+  rows_first name own file c behind rest r split on named put =
+      rows_heading name c behind rest r split on
+      ∙ ap (λ n. row_behind t (output_file (file_by n source)) r behind ∷ rows_from t source n behind) (sym named)
+      ∙ ap (λ f. row_behind t f r behind ∷ rows_from t source own behind) (sym put)
+
+  pub rows_other : (name : Option (List ℕ)) (c : SpecCard) (behind rest : List SpecCard) → rest ≡ c ∷ behind → None ≡ output_record_on c.spec → rows_from t source name rest ≡ rows_from t source name behind
+  rows_other name c behind rest split none = ap (rows_from t source name) split ∙ by_card (output_on c.spec) none
+    where
+      by_card : (o : Option OutputSpec) → None ≡ option_and_then output_record_in o → rows_at name behind o ≡ rows_from t source name behind
+      by_card None e = refl
+      by_card (Some (output.Record s)) e = absurd cc
+      by_card (Some (output.And cs)) e = refl
+      by_card (Some (output.Or cs)) e = refl
+      by_card (Some (output.Field f)) e = refl
+
+-- ---- a card behind a heading
+
+pub next_output : (cards : List SpecCard) (i : ℕ) (c : SpecCard) (s : OutputSpec) → i < length cards → c ≡ get_or cards i c → Some s ≡ output_on c.spec
+    → followers output_role (drop i cards) ≡ following (output_card_role s) (followers output_role (drop (i + 1) cards))
+next_output cards i c s lt is on =
+    at_drop_more (followers output_role) cards i c lt
+    ∙ ap (λ (d : SpecCard). following (output_role d.spec) (followers output_role (drop (i + 1) cards))) (sym is)
+    ∙ ap (λ o. following (role_on output_card_role o) (followers output_role (drop (i + 1) cards))) (sym on)
+
+pub next_field : (t : Table) (cards : List SpecCard) (i : ℕ) (c : SpecCard) (f : OutputField) → i < length cards → c ≡ get_or cards i c → Some (output.Field f) ≡ output_on c.spec
+    → output_rows_behind t (drop i cards) ≡ field_row t f ∷ output_rows_behind t (drop (i + 1) cards)
+next_field t cards i c f lt is on = ap (λ os. map (renamed_field (key_number t)) (map line_field_of (output_fields_in os))) (next_output cards i c (output.Field f) lt is on)
+
+-- ---- a whole line
+
+some_alternatives : (so_far : List Condition) (os : List OutputSpec) → 1 ≤ length (line_alternatives so_far os)
+some_alternatives so_far [] = omega arith
+some_alternatives so_far (output.And cs ∷ os) = some_alternatives (so_far ++ standing cs) os
+some_alternatives so_far (output.Or cs ∷ os) = omega arith
+some_alternatives so_far (output.Record r ∷ os) = some_alternatives so_far os
+some_alternatives so_far (output.Field f ∷ os) = some_alternatives so_far os
+
+module _ (t : Table) (file : File) (r : OutputRecord) (behind : List SpecCard) (time : Time) (spacing : Spacing) (found : List (List Condition)) (fields : List (LineField ℕ)) where
+  abbrev made : LineRow
+  made = record { file = file; time = time; spacing = spacing; alternatives = found; fields = fields }
+
+  pub line_same : time ≡ time_of r.time → spacing ≡ spacing_of file r.movement → found ≡ alternatives_behind (standing r.conditions) behind → fields ≡ output_rows_behind t behind → made ≡ row_behind t file r behind
+  line_same timed spaced asked shown =
+      ap (λ x. record { file = file; time = x; spacing = spacing; alternatives = found; fields = fields }) timed
+      ∙ ap (λ x. record { file = file; time = time_of r.time; spacing = x; alternatives = found; fields = fields }) spaced
+      ∙ ap (λ x. record { file = file; time = time_of r.time; spacing = spacing_of file r.movement; alternatives = x; fields = fields }) asked
+      ∙ ap (λ x. record { file = file; time = time_of r.time; spacing = spacing_of file r.movement; alternatives = alternatives_behind (standing r.conditions) behind; fields = x }) shown
+
+  -- parts that are rows make a row, where the line keeps the limits
+  pub line_kept : IsLineWithin (row_behind t file r behind) → IsSpacingRow spacing → found ≡ alternatives_behind (standing r.conditions) behind → All (λ a. All IsConditionRow a) found
+      → fields ≡ output_rows_behind t behind → All IsLineFieldRow fields → IsLineRow made
+  line_kept within spaced asked conditions shown kept =
+      let few = subst (λ (alts : List (List Condition)). length alts ≤ 50) (sym asked) within.few_alternatives in
+      let each = subst (λ (alts : List (List Condition)). All AreFew alts) (sym asked) within.alternatives in
+      record {
+        spacing = spaced;
+        some_alternatives = subst (λ (alts : List (List Condition)). 1 ≤ length alts) (sym asked) (some_alternatives (standing r.conditions) (followers output_role behind));
+        few_alternatives = few;
+        alternatives = λ k d lt. record { few = each k d lt; each = conditions k d lt };
+        few_fields = subst (λ (fs : List (LineField ℕ)). length fs ≤ 200) (sym shown) within.few_fields;
+        fields = kept;
+      }

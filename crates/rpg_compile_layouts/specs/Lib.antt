@@ -1,0 +1,5 @@
+pub mod Loaded
+pub mod Parts
+pub mod Rows
+pub mod Tables
+pub mod Within

@@ -1,0 +1,40 @@
+-- Lines at the numbers of their fields: by their headings and the cards behind them.
+use Rattle.std.specs.Prelude.{ℕ, List, map, Option, None}
+use Rattle.rpg_cards.specs.Keys.{Key}
+use Rattle.rpg_cards.specs.Groups.{followers, groups_from, output_role}
+use Rattle.rpg_cards.specs.declared.spec_card.SpecCard.{SpecCard}
+use Rattle.rpg_effect.specs.Lines.{Line}
+use Rattle.rpg_effect.specs.declared.condition.Condition.{Condition}
+use Rattle.rpg_effect.specs.declared.line.File.{File}
+use Rattle.rpg_effect.specs.declared.line.LineField.{LineField}
+use Rattle.rpg_object_program.specs.Object.{LineRow}
+use Rattle.rpg_effect_renaming.specs.Naming.{renamed_field, renamed_line}
+use Rattle.rpg_sheet_specs.specs.declared.output.OutputField.{OutputField}
+use Rattle.rpg_sheet_specs.specs.declared.output.OutputRecord.{OutputRecord}
+use Rattle.rpg_compile_program.specs.Lines.{card_line, line_alternatives, line_field_of, line_of_file, lines_on, output_fields_in}
+use Rattle.rpg_compile_program.specs.Program.{row_of_line}
+use Rattle.rpg_compile_program.specs.Table.{Table, key_number}
+
+abbrev pub row_in_table : Table → Line Key → LineRow
+row_in_table t l = row_of_line (renamed_line (key_number t) l)
+
+-- those of the groups in these cards, where groups without a file go to the one of that name
+abbrev pub rows_from : Table → List SpecCard → Option (List ℕ) → List SpecCard → List LineRow
+rows_from t source name cards = map (row_in_table t) (map (card_line source) (groups_from output_role name cards))
+
+abbrev pub rows_of : Table → List SpecCard → List LineRow
+rows_of t source = map (row_in_table t) (lines_on source)
+
+-- ---- a line by its heading and the cards behind it
+
+abbrev pub row_behind : Table → File → OutputRecord → List SpecCard → LineRow
+row_behind t file r cards = row_in_table t (line_of_file file 0 (record { heading = r; followers = followers output_role cards; file = None }))
+
+abbrev pub alternatives_behind : List Condition → List SpecCard → List (List Condition)
+alternatives_behind so_far cards = line_alternatives so_far (followers output_role cards)
+
+abbrev pub field_row : Table → OutputField → LineField ℕ
+field_row t f = renamed_field (key_number t) (line_field_of f)
+
+abbrev pub output_rows_behind : Table → List SpecCard → List (LineField ℕ)
+output_rows_behind t cards = map (renamed_field (key_number t)) (map line_field_of (output_fields_in (followers output_role cards)))

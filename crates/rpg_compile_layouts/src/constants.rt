@@ -1,0 +1,79 @@
+//! The constants of a program.
+
+ghost use Rattle.std.specs.Prelude.{◌≡◌, ◌++◌, All, map, IfOk, OnOk};
+ghost use Rattle.indexmap.specs.IndexSet.{insert_all};
+ghost use Rattle.rpg_cards.specs.Constants as known;
+ghost use Rattle.rpg_effect.specs.Values.{held};
+ghost use Rattle.rpg_compile_program.specs.Data.{constant_value, constant_values};
+
+use arrayvec::ArrayVec;
+use indexmap::IndexSet;
+use rpg_cards::{Constant, SpecCard};
+use rpg_effect::form::FieldForm;
+use rpg_effect::value::Value;
+use std::alloc::{AllocError, Global};
+
+/// The constants of cards, equal ones once, in the order in which they come first.
+pub(crate) fn constants_of(
+    alloc: Global,
+    cards: &[SpecCard],
+) -> Result<IndexSet<Constant>, AllocError>
+    ensures { IfOk result (λ set. set.keys ≡ known.constants cards.now) }
+{
+    let mut constants = IndexSet::new(alloc);
+    for card in cards {
+        add(&mut constants, card.constants())?;
+    }
+    Ok(constants)
+}
+
+/// Puts constants behind the others, each unless it is among them.
+fn add(constants: &mut IndexSet<Constant>, items: ArrayVec<Constant, 2>) -> Result<(), AllocError>
+    ensures { OnOk result (constants.new.keys ≡ insert_all known.is_same constants.old.keys items.items) }
+{
+    for constant in items {
+        constants.insert(constant)?;
+    }
+    Ok(())
+}
+
+/// Puts the forms and values of constants behind those of the names.
+pub(crate) fn add_constants(
+    alloc: Global,
+    constants: &[Constant],
+    forms: &mut Vec<FieldForm>,
+    values: &mut Vec<Vec<Value>>,
+) -> Result<(), AllocError>
+    ensures forms { OnOk result (forms.new.items ≡ forms.old.items ++ map known.constant_form constants.now) }
+    ensures values { OnOk result (map (λ vs. map held vs.items) values.new.items ≡ map (λ vs. map held vs.items) values.old.items ++ map constant_values constants.now) }
+    ensures kept { OnOk result (All known.IsConstant constants.now) }
+{
+    let mut rest = constants;
+    while let Some((constant, behind)) = rest.split_first() {
+        constant.keeps_limits();
+        forms.push(constant.form())?;
+        values.push(values_of(alloc, constant)?)?;
+        rest = behind;
+    }
+    Ok(())
+}
+
+/// What its one entry holds.
+fn values_of(alloc: Global, constant: &Constant) -> Result<Vec<Value>, AllocError>
+    ensures { IfOk result (λ v. map held v.items ≡ constant_values constant.now) }
+{
+    Ok(vec![in alloc; value_of(alloc, constant)?]?)
+}
+
+fn value_of(alloc: Global, constant: &Constant) -> Result<Value, AllocError>
+    ensures { IfOk result (λ v. held v ≡ constant_value constant.now) }
+{
+    match constant {
+        Constant::Number(number) => Ok(Value::Number(number.value())),
+        Constant::Text(text) => {
+            let mut characters = Vec::new(alloc);
+            characters.extend_from_slice(text.as_slice())?;
+            Ok(Value::Text(characters))
+        }
+    }
+}

@@ -1,0 +1,54 @@
+//! The fields of a program with what they hold before the first cycle.
+
+ghost use Rattle.std.specs.Prelude.{◌≡◌, ◌+◌, ◌≤◌, All, length, map, IfOk};
+ghost use Rattle.rpg_cards.specs.Constants.{IsConstant, constants};
+ghost use Rattle.rpg_effect.specs.Values.{held};
+ghost use Rattle.rpg_faults_flow.specs.Kept.{KeepsRule};
+ghost use Rattle.rpg_faults_limits.specs.Names.{bad_size};
+ghost use Rattle.rpg_symbols.specs.Fields.{storage};
+ghost use Rattle.rpg_compile_program.specs.Data.{values_of};
+ghost use Rattle.rpg_compile_program.specs.Table as fields;
+
+use crate::constants::{add_constants, constants_of};
+use crate::loaded::Loaded;
+use crate::names::NameTable;
+use crate::table::FieldTable;
+use rpg_cards::SpecCard;
+use rpg_effect::form::FieldForm;
+use rpg_effect::value::Value;
+use std::alloc::{AllocError, Global};
+
+/// The fields of a program in the order of their numbers: names, and constants behind them.
+#[derive(Drop)]
+pub struct Fields {
+    pub table: FieldTable,
+    pub forms: Vec<FieldForm>,
+    /// What they hold before the first cycle, entry by entry.
+    pub values: Vec<Vec<Value>>,
+}
+
+/// The fields of cards. An error is for want of memory.
+pub fn fields_of(alloc: Global, cards: &[SpecCard]) -> Result<Fields, AllocError>
+    requires fields { length (fields.defined_fields cards.now) + length (constants cards.now) ≤ 4000 }
+    requires storage { storage (fields.defined_fields cards.now) ≤ 65535 }
+    requires sizes { KeepsRule (λ before c after. bad_size c) cards.now }
+    ensures table { IfOk result (λ f. f.table ≡ fields.table_of cards.now) }
+    ensures forms { IfOk result (λ f. f.forms.items ≡ fields.forms (fields.table_of cards.now)) }
+    ensures values { IfOk result (λ f. map (λ vs. map held vs.items) f.values.items ≡ values_of cards.now) }
+    ensures kept { IfOk result (λ f. All IsConstant (constants cards.now)) }
+{
+    let loaded = Loaded::of_cards(alloc, cards)?;
+    let NameTable {
+        symbols,
+        mut forms,
+        mut values,
+    } = NameTable::of_cards(alloc, &loaded, cards)?;
+    let names = forms.len() as u16;
+    let constants = constants_of(alloc, cards)?;
+    add_constants(alloc, constants.as_slice(), &mut forms, &mut values)?;
+    Ok(Fields {
+        table: FieldTable::new(symbols, names, constants),
+        forms,
+        values,
+    })
+}

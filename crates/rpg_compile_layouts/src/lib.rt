@@ -1,0 +1,23 @@
+//! The fields of a program, from cards: numbers and forms of names and constants, and what they hold before the first cycle.
+//! Record types and output lines of a program, from the cards that they stand on.
+#![tactic(auto)]
+
+mod alternatives;
+mod codes;
+mod constants;
+mod fields;
+mod levels;
+mod lines;
+mod loaded;
+mod names;
+mod output_fields;
+mod spacing;
+mod table;
+mod tables;
+mod types;
+mod values;
+
+pub use fields::{Fields, fields_of};
+pub use lines::lines_of;
+pub use table::FieldTable;
+pub use types::types_of;

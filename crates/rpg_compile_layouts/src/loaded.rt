@@ -1,0 +1,166 @@
+//! The data of arrays and tables, by their names.
+
+ghost use Rattle.std.specs.Prelude.{◌≡◌, [], ◌∷◌, ◌++◌, map, false, IfOk, OnOk, MatchOption};
+ghost use Rattle.rpg_cards.specs.Groups.{data_role, followers};
+ghost use Rattle.rpg_effect.specs.Values.{held};
+ghost use Rattle.rpg_compile_layouts.specs.Loaded.{HasSameData, TakesDeck, tables_behind};
+ghost use Rattle.rpg_compile_layouts.specs.Tables.{values_on};
+ghost use Rattle.rpg_faults_flow.specs.Kept.{KeepsRule};
+ghost use Rattle.rpg_faults_limits.specs.Names.{bad_size, bad_size_of_tables};
+ghost use Rattle.rpg_faults.specs.Data as rules;
+ghost use Rattle.rpg_faults.specs.Decks.{BeginsDeck};
+ghost use Rattle.rpg_compile_program.specs.Data as loads;
+
+use crate::tables::TableData;
+use crate::values::empty_values;
+use indexmap::IndexMap;
+use rpg_cards::SpecCard;
+use rpg_effect::form::FieldForm;
+use rpg_effect::value::Value;
+use rpg_sheet_specs::{DataSpec, ExtensionSpec};
+use rpg_symbols::Name;
+use std::alloc::{AllocError, Global};
+use std::marker::Model;
+
+/// The data of arrays and tables. Of a name that has data twice, those that come first.
+#[derive(Drop)]
+pub(crate) struct Loaded<'a> {
+    tables: IndexMap<Name, TableData<'a>>,
+}
+
+impl<'a> Model for Loaded<'a> {
+    ghost use Rattle.std.specs.Prelude.{List, map};
+    ghost use Rattle.rpg_compile_layouts.specs.Tables.{values_on};
+    ghost use Rattle.rpg_compile_program.specs.Data as loads;
+
+    ghost Value = { List loads.Loaded };
+
+    ghost view = { λ l. map (λ e. (e.0, values_on e.1)) l.tables.entries };
+}
+
+impl<'a> Loaded<'a> {
+    /// The data of all cards: the E cards with entries per card take the decks in their order.
+    pub(crate) fn of_cards(alloc: Global, cards: &'a [SpecCard]) -> Result<Self, AllocError>
+        requires sizes { KeepsRule (λ before c after. bad_size c) cards.now }
+        ensures { IfOk result (λ l. HasSameData l (loads.loaded cards.now)) }
+    {
+        let mut loaded = Loaded {
+            tables: IndexMap::new(alloc),
+        };
+        let mut decks = cards;
+        for card in cards {
+            if let Some(extension) = card.extension() {
+                decks = loaded.take_deck(extension, decks)?;
+            }
+        }
+        Ok(loaded)
+    }
+
+    /// With the tables of an E card, which takes the first of these decks if it wants one. Answers the cards with the other decks.
+    fn take_deck(
+        &mut self,
+        extension: &'a ExtensionSpec,
+        decks: &'a [SpecCard],
+    ) -> Result<&'a [SpecCard], AllocError>
+        requires { bad_size_of_tables extension.now ≡ false }
+        ensures { IfOk result (λ rest. TakesDeck extension.now self.old decks.now self.new rest.now) }
+    {
+        let Some(per_card) = extension.entries_per_card else {
+            return Ok(decks);
+        };
+        let Some(deck) = behind_next(decks) else {
+            return Ok(&[]);
+        };
+        self.add_tables(extension, per_card, deck)?;
+        Ok(deck)
+    }
+
+    fn add_tables(
+        &mut self,
+        extension: &'a ExtensionSpec,
+        per_card: u16,
+        deck: &'a [SpecCard],
+    ) -> Result<(), AllocError>
+        requires { bad_size_of_tables extension.now ≡ false }
+        ensures { OnOk result (HasSameData self.new (self.old ++ tables_behind extension.now per_card deck.now)) }
+    {
+        let width = columns_of(extension);
+        let first = TableData {
+            table: &extension.table,
+            entries: extension.entries,
+            per_card,
+            width,
+            from: 0,
+            deck,
+        };
+        self.add(first)?;
+        if let Some(table) = &extension.alternating {
+            self.add(TableData {
+                table,
+                entries: extension.entries,
+                per_card,
+                width,
+                from: extension.table.length,
+                deck,
+            })?;
+        }
+        Ok(())
+    }
+
+    /// With one more table, unless its name has data.
+    fn add(&mut self, table: TableData<'a>) -> Result<(), AllocError>
+        ensures { OnOk result (HasSameData self.new (self.old ++ (table.entry.table.now.name, values_on table.entry) ∷ [])) }
+    {
+        let name = Name::new(table.table.name.as_slice());
+        if !self.tables.contains_key(&name) {
+            self.tables.insert(name, table)?;
+        }
+        Ok(())
+    }
+
+    /// What a field holds: its data, else zeros or blanks.
+    pub(crate) fn values_of(
+        &self,
+        alloc: Global,
+        name: &Name,
+        form: &FieldForm,
+    ) -> Result<Vec<Value>, AllocError>
+        ensures { IfOk result (λ v. map held v.items ≡ loads.field_values self.now (name.now, form.now)) }
+    {
+        match self.tables.get(name) {
+            Some(table) => table.values(alloc),
+            None => empty_values(alloc, form),
+        }
+    }
+}
+
+/// The columns that an entry takes, with that of the alternating table.
+fn columns_of(extension: &ExtensionSpec) -> u32
+    ensures { result ≡ rules.data_columns extension.now }
+{
+    let alternating = match &extension.alternating {
+        None => 0,
+        Some(table) => table.length as u32,
+    };
+    extension.table.length as u32 + alternating
+}
+
+/// The cards behind the next `**` card.
+fn behind_next(cards: &[SpecCard]) -> Option<&[SpecCard]>
+    ensures { MatchOption result (loads.decks cards.now ≡ []) (λ behind. loads.decks cards.now ≡ followers data_role behind.now ∷ loads.decks behind.now) }
+{
+    let mut rest = cards;
+    while let Some((card, behind)) = rest.split_first() {
+        if begins_deck(card) {
+            return Some(behind);
+        }
+        rest = behind;
+    }
+    None
+}
+
+fn begins_deck(card: &SpecCard) -> bool
+    ensures { BeginsDeck card.now result }
+{
+    matches!(card.data(), Some(DataSpec::Begin))
+}

@@ -1,0 +1,157 @@
+//! The names of a program.
+
+ghost use Rattle.std.specs.Prelude.{◌≡◌, ◌≤◌, length, map, IfOk, OnOk};
+ghost use Rattle.rpg_cards.specs.Names.{definitions_on};
+ghost use Rattle.rpg_effect.specs.Values.{held};
+ghost use Rattle.rpg_compile_program.specs.Data.{field_values};
+ghost use Rattle.rpg_compile_program.specs.Table as fields;
+ghost use Rattle.rpg_symbols.specs.Fields.{given, storage};
+
+use crate::loaded::Loaded;
+use rpg_cards::{Definition, SpecCard};
+use rpg_effect::form::FieldForm;
+use rpg_effect::value::Value;
+use rpg_symbols::{DefineFault, Name, Symbols};
+use std::alloc::{AllocError, Global};
+
+/// The names of a program with their numbers, and in the order of the numbers their forms, and what they hold before the first cycle.
+#[derive(Drop)]
+pub(crate) struct NameTable {
+    pub(crate) symbols: Symbols,
+    pub(crate) forms: Vec<FieldForm>,
+    pub(crate) values: Vec<Vec<Value>>,
+}
+
+impl NameTable {
+    /// The names that cards define.
+    pub(crate) fn of_cards(
+        alloc: Global,
+        loaded: &Loaded,
+        cards: &[SpecCard],
+    ) -> Result<Self, AllocError>
+        requires few { length (fields.defined_fields cards.now) ≤ 4000 }
+        requires storage { storage (fields.defined_fields cards.now) ≤ 65535 }
+        ensures symbols { IfOk result (λ t. t.symbols ≡ fields.defined_fields cards.now) }
+        ensures forms { IfOk result (λ t. t.forms.items ≡ fields.name_forms (fields.defined_fields cards.now)) }
+        ensures values { IfOk result (λ t. map (λ vs. map held vs.items) t.values.items ≡ map (field_values loaded.now) (fields.defined_fields cards.now)) }
+    {
+        let mut table = NameTable::given(alloc, loaded)?;
+        for card in cards {
+            table.define_on(alloc, loaded, card)?;
+        }
+        Ok(table)
+    }
+
+    /// The names that every program has.
+    fn given(alloc: Global, loaded: &Loaded) -> Result<Self, AllocError>
+        ensures symbols { IfOk result (λ t. t.symbols ≡ given) }
+        ensures forms { IfOk result (λ t. t.forms.items ≡ fields.name_forms given) }
+        ensures values { IfOk result (λ t. map (λ vs. map held vs.items) t.values.items ≡ map (field_values loaded.now) given) }
+    {
+        let Ok(symbols) = Symbols::new(alloc) else {
+            return Err(AllocError);
+        };
+        let date = symbols.form(1);
+        let page = symbols.form(2);
+        let mut forms = Vec::new(alloc);
+        forms.push(date)?;
+        forms.push(page)?;
+        let mut values = Vec::new(alloc);
+        values.push(loaded.values_of(alloc, &Name::new(b"UDATE"), &date)?)?;
+        values.push(loaded.values_of(alloc, &Name::new(b"PAGE"), &page)?)?;
+        Ok(NameTable {
+            symbols,
+            forms,
+            values,
+        })
+    }
+
+    /// One more field for each name that a card defines and that isn't known yet.
+    fn define_on(
+        &mut self,
+        alloc: Global,
+        loaded: &Loaded,
+        card: &SpecCard,
+    ) -> Result<(), AllocError>
+        requires same { self.old.forms.items ≡ fields.name_forms self.old.symbols }
+        requires values { map (λ vs. map held vs.items) self.old.values.items ≡ map (field_values loaded.now) self.old.symbols }
+        requires few { length (fields.with_definitions self.old.symbols (definitions_on card.now.spec)) ≤ 4000 }
+        requires room { storage (fields.with_definitions self.old.symbols (definitions_on card.now.spec)) ≤ 65535 }
+        ensures symbols { OnOk result (self.new.symbols ≡ fields.with_definitions self.old.symbols (definitions_on card.now.spec)) }
+        ensures forms { OnOk result (self.new.forms.items ≡ fields.name_forms self.new.symbols) }
+        ensures values { OnOk result (map (λ vs. map held vs.items) self.new.values.items ≡ map (field_values loaded.now) self.new.symbols) }
+    {
+        self.define_all(alloc, loaded, card.definitions().as_slice())
+    }
+
+    fn define_all(
+        &mut self,
+        alloc: Global,
+        loaded: &Loaded,
+        definitions: &[Definition],
+    ) -> Result<(), AllocError>
+        requires same { self.old.forms.items ≡ fields.name_forms self.old.symbols }
+        requires values { map (λ vs. map held vs.items) self.old.values.items ≡ map (field_values loaded.now) self.old.symbols }
+        requires few { length (fields.with_definitions self.old.symbols definitions.now) ≤ 4000 }
+        requires room { storage (fields.with_definitions self.old.symbols definitions.now) ≤ 65535 }
+        ensures symbols { OnOk result (self.new.symbols ≡ fields.with_definitions self.old.symbols definitions.now) }
+        ensures forms { OnOk result (self.new.forms.items ≡ fields.name_forms self.new.symbols) }
+        ensures values { OnOk result (map (λ vs. map held vs.items) self.new.values.items ≡ map (field_values loaded.now) self.new.symbols) }
+    {
+        for definition in definitions {
+            self.define(alloc, loaded, definition)?;
+        }
+        Ok(())
+    }
+
+    /// One more field, where the definition has a form and its name isn't known yet.
+    fn define(
+        &mut self,
+        alloc: Global,
+        loaded: &Loaded,
+        definition: &Definition,
+    ) -> Result<(), AllocError>
+        requires same { self.old.forms.items ≡ fields.name_forms self.old.symbols }
+        requires values { map (λ vs. map held vs.items) self.old.values.items ≡ map (field_values loaded.now) self.old.symbols }
+        requires few { length (fields.with_definition self.old.symbols definition.now) ≤ 4000 }
+        requires room { storage (fields.with_definition self.old.symbols definition.now) ≤ 65535 }
+        ensures symbols { OnOk result (self.new.symbols ≡ fields.with_definition self.old.symbols definition.now) }
+        ensures forms { OnOk result (self.new.forms.items ≡ fields.name_forms self.new.symbols) }
+        ensures values { OnOk result (map (λ vs. map held vs.items) self.new.values.items ≡ map (field_values loaded.now) self.new.symbols) }
+    {
+        match definition.form {
+            Some(form) => self.define_name(alloc, loaded, &definition.name, form),
+            None => Ok(()),
+        }
+    }
+
+    /// One more field, where the name isn't known yet.
+    fn define_name(
+        &mut self,
+        alloc: Global,
+        loaded: &Loaded,
+        name: &Name,
+        form: FieldForm,
+    ) -> Result<(), AllocError>
+        requires same { self.old.forms.items ≡ fields.name_forms self.old.symbols }
+        requires values { map (λ vs. map held vs.items) self.old.values.items ≡ map (field_values loaded.now) self.old.symbols }
+        requires few { length (fields.with_name self.old.symbols name.now form) ≤ 4000 }
+        requires room { storage (fields.with_name self.old.symbols name.now form) ≤ 65535 }
+        ensures symbols { OnOk result (self.new.symbols ≡ fields.with_name self.old.symbols name.now form) }
+        ensures forms { OnOk result (self.new.forms.items ≡ fields.name_forms self.new.symbols) }
+        ensures values { OnOk result (map (λ vs. map held vs.items) self.new.values.items ≡ map (field_values loaded.now) self.new.symbols) }
+    {
+        match self.symbols.define(Name::new(name.as_slice()), form) {
+            Ok(number) => {
+                if number as usize > self.forms.len() {
+                    self.forms.push(form)?;
+                    self.values.push(loaded.values_of(alloc, name, &form)?)?;
+                }
+                Ok(())
+            }
+            Err(DefineFault::Other) => Ok(()),
+            Err(DefineFault::Full) => unreachable!(),
+            Err(DefineFault::NoMemory) => Err(AllocError),
+        }
+    }
+}

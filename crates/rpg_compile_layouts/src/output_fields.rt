@@ -1,0 +1,182 @@
+//! The fields of lines.
+
+ghost use Rattle.std.specs.Prelude.{◌≡◌, false, All, None, IfOk};
+ghost use Rattle.rpg_cards.specs.Keys.{Fixed};
+ghost use Rattle.rpg_cards.specs.declared.constants.Constant.TheVariants.{Text};
+ghost use Rattle.rpg_effect.specs.declared.line.Editing.TheVariants as editings;
+ghost use Rattle.rpg_effect.specs.declared.line.Source.TheVariants as sources;
+ghost use Rattle.rpg_compile_layouts.specs.Rows.{field_row, output_rows_behind};
+ghost use Rattle.rpg_compile_layouts.specs.Within.{HasIndexRow};
+ghost use Rattle.rpg_edit_marks.specs.declared.code.Fill.TheVariants as fills;
+ghost use Rattle.rpg_object_program.specs.Kept.{AreConditions, IsEditingRow, IsIndexRow, IsLineFieldRow};
+ghost use Rattle.rpg_effect_renaming.specs.Naming.{renamed_editing, renamed_operand};
+ghost use Rattle.rpg_compile_program.specs.Lines as lines;
+ghost use Rattle.rpg_compile_program.specs.Table.{key_number};
+
+use crate::FieldTable;
+use rpg_cards::{Constant, SpecCard, in_places};
+use rpg_edit_marks::Fill;
+use rpg_effect::condition::Conditions;
+use rpg_effect::line::{Editing, LineField, Source};
+use rpg_effect::operation::{Index, Operand};
+use rpg_sheet_specs::{EditCode, Entry, OutputField, OutputSpec, TextLiteral};
+use std::alloc::{AllocError, Global};
+
+/// A field for each field card up to the next record card.
+#[tactic(auto, using(crate::proofs::LineFollowers::next_output))]
+pub(crate) fn fields_of(
+    alloc: Global,
+    table: &FieldTable,
+    behind: &[SpecCard],
+) -> Result<Vec<LineField<u16>>, AllocError>
+    requires { All HasIndexRow (output_rows_behind table.now behind.now) }
+    ensures fields { IfOk result (λ v. v.items ≡ output_rows_behind table.now behind.now) }
+    ensures kept { IfOk result (λ v. All IsLineFieldRow v.items) }
+{
+    let mut fields = Vec::new(alloc);
+    for card in behind {
+        let field = match card.output() {
+            Some(OutputSpec::Record(_)) => return Ok(fields),
+            Some(OutputSpec::Field(field)) => field,
+            Some(OutputSpec::And(_)) | Some(OutputSpec::Or(_)) | None => continue,
+        };
+        fields.push(field_of(table, field))?;
+    }
+    Ok(fields)
+}
+
+/// What an output field puts out, how it is edited, and where its text ends.
+fn field_of(table: &FieldTable, field: &OutputField) -> LineField<u16>
+    requires { HasIndexRow (field_row table.now field.now) }
+    ensures value { result ≡ field_row table.now field.now }
+    ensures kept { IsLineFieldRow result }
+{
+    let operand = put_out(table, field);
+    let mut row = unedited(
+        operand.field,
+        operand.index,
+        field.end,
+        in_places(field.conditions),
+    );
+    row.source = source_of(field);
+    row.editing = editing_of(table, field);
+    row.fill = fill_of(field);
+    row.is_blanked = field.blank_after;
+    row
+}
+
+/// A value as it is.
+fn unedited(field: u16, index: Index<u16>, end: u16, conditions: Conditions) -> LineField<u16>
+    requires index { IsIndexRow index }
+    requires conditions { AreConditions conditions }
+    ensures value { result ≡ record { source = sources.Value; operand = record { field = field; index = index }; editing = editings.Plain; fill = fills.Blank; is_blanked = false; end = end; conditions = conditions } }
+    ensures kept { IsLineFieldRow result }
+{
+    LineField {
+        source: Source::Value,
+        operand: Operand { field, index },
+        editing: Editing::Plain,
+        fill: Fill::Blank,
+        is_blanked: false,
+        end,
+        conditions,
+    }
+}
+
+/// An entry, else the constant.
+fn put_out(table: &FieldTable, field: &OutputField) -> Operand<u16>
+    ensures { result ≡ renamed_operand (key_number table.now) (lines.operand_put_out field.now) }
+{
+    match &field.operand {
+        Some(entry) => table.entry_of(entry),
+        None => Operand {
+            field: match &field.text {
+                Some(text) => text_number(table, text),
+                None => 0,
+            },
+            index: Index::Blank,
+        },
+    }
+}
+
+fn text_number(table: &FieldTable, text: &TextLiteral<24>) -> u16
+    ensures { result ≡ key_number table.now (Fixed (Text text.now)) }
+{
+    table.constant_number(&Constant::of_text(text))
+}
+
+/// PAGE without an index is made one more before it is put out.
+fn source_of(field: &OutputField) -> Source
+    ensures { result ≡ lines.output_source field.now }
+{
+    if puts_page(field) {
+        Source::Page
+    } else {
+        Source::Value
+    }
+}
+
+fn puts_page(field: &OutputField) -> bool
+    ensures { result ≡ lines.puts_page field.now }
+{
+    match &field.operand {
+        Some(entry) => is_page(entry),
+        None => false,
+    }
+}
+
+fn is_page(entry: &Entry) -> bool
+    ensures { result ≡ lines.names_page entry.now }
+{
+    entry.index.is_none() && entry.name.as_slice() == b"PAGE".as_slice()
+}
+
+/// The edit code; beside a name without one the edit word; Z for PAGE with neither.
+fn editing_of(table: &FieldTable, field: &OutputField) -> Editing<u16>
+    ensures value { result ≡ renamed_editing (key_number table.now) (lines.editing_of field.now) }
+    ensures kept { IsEditingRow result }
+{
+    if let Some(code) = field.code {
+        return Editing::Code(code);
+    }
+    if field.operand.is_none() {
+        return Editing::Plain;
+    }
+    match &field.text {
+        Some(text) => Editing::Word(text_number(table, text)),
+        None => unmarked(puts_page(field)),
+    }
+}
+
+fn unmarked(is_page: bool) -> Editing<u16>
+    ensures value { result ≡ renamed_editing (λ k. 0) (lines.editing_unmarked is_page None) }
+    ensures kept { IsEditingRow result }
+{
+    if is_page {
+        Editing::Code(EditCode::Z)
+    } else {
+        Editing::Plain
+    }
+}
+
+/// The text beside an edit code.
+fn fill_of(field: &OutputField) -> Fill
+    ensures { result ≡ lines.output_fill field.now }
+{
+    match (&field.code, &field.text) {
+        (Some(_), Some(text)) => fill_by(text.as_slice()),
+        _ => Fill::Blank,
+    }
+}
+
+fn fill_by(text: &[u8]) -> Fill
+    ensures { result ≡ lines.fill_by text.now }
+{
+    if text == b"*".as_slice() {
+        Fill::Star
+    } else if text == b"$".as_slice() {
+        Fill::Dollar
+    } else {
+        Fill::Blank
+    }
+}

@@ -1,0 +1,99 @@
+//! The numbers of names and constants.
+
+ghost use Rattle.std.specs.Prelude.{◌≡◌, ◌+◌, ◌≤◌, ◌<◌, length};
+ghost use Rattle.rpg_cards.specs.Keys as keys;
+ghost use Rattle.rpg_effect_renaming.specs.Naming.{renamed_index, renamed_operand};
+ghost use Rattle.rpg_compile_program.specs.Table as table;
+
+use indexmap::IndexSet;
+use rpg_cards::{Constant, factor_constant};
+use rpg_effect::operation::{Index, Operand};
+use rpg_sheet_specs::{Entry, EntryIndex, Factor};
+use rpg_symbols::{Name, Symbols};
+use std::marker::Model;
+
+/// The fields of a program: names, and constants behind them.
+#[derive(Drop)]
+pub struct FieldTable {
+    symbols: Symbols,
+    /// How many names there are.
+    names: u16,
+    constants: IndexSet<Constant>,
+}
+
+impl Model for FieldTable {
+    ghost use Rattle.std.specs.Prelude.{◌≡◌, ◌+◌, ◌≤◌, length};
+    ghost use Rattle.rpg_compile_program.specs.Table.{Table};
+
+    ghost Value = { Table };
+
+    ghost view = { λ t. record { names = t.symbols; constants = t.constants.keys } };
+
+    ghost invariant = { λ t. (t.names ≡ length t.symbols) × (length t.symbols + length t.constants.keys ≤ 4000) };
+}
+
+impl FieldTable {
+    pub(crate) fn new(symbols: Symbols, names: u16, constants: IndexSet<Constant>) -> Self
+        requires names { names ≡ length symbols }
+        requires few { length symbols + length constants.keys ≤ 4000 }
+        ensures { result ≡ record { names = symbols; constants = constants.keys } }
+    {
+        FieldTable {
+            symbols,
+            names,
+            constants,
+        }
+    }
+
+    /// The number of a name; 0 where it isn't defined.
+    pub fn name_number(&self, name: &Name) -> u16
+        ensures { result ≡ table.name_number self.now name.now }
+    {
+        self.symbols.look(name).unwrap_or(0)
+    }
+
+    /// The number of a constant; 0 where no card has it.
+    pub fn constant_number(&self, constant: &Constant) -> u16
+        ensures { result ≡ table.constant_number self.now constant.now }
+    {
+        match self.constants.get_index_of(constant) {
+            None => 0,
+            Some(place) => self.names + place as u16 + 1,
+        }
+    }
+
+    /// What stands in a factor.
+    pub fn operand_of(&self, factor: &Factor) -> Operand<u16>
+        ensures { result ≡ renamed_operand (table.key_number self.now) (keys.factor_operand factor.now) }
+    {
+        match factor {
+            Factor::Entry(entry) => self.entry_of(entry),
+            Factor::Literal(_) => Operand {
+                field: match factor_constant(factor) {
+                    None => 0,
+                    Some(constant) => self.constant_number(&constant),
+                },
+                index: Index::Blank,
+            },
+        }
+    }
+
+    pub fn entry_of(&self, entry: &Entry) -> Operand<u16>
+        ensures { result ≡ renamed_operand (table.key_number self.now) (keys.entry_operand entry.now) }
+    {
+        Operand {
+            field: self.name_number(&entry.name),
+            index: self.index_of(&entry.index),
+        }
+    }
+
+    fn index_of(&self, index: &Option<EntryIndex>) -> Index<u16>
+        ensures { result ≡ renamed_index (table.key_number self.now) (keys.key_index index.now) }
+    {
+        match index {
+            None => Index::Blank,
+            Some(EntryIndex::Literal(position)) => Index::Literal(*position),
+            Some(EntryIndex::Name(name)) => Index::Field(self.name_number(name)),
+        }
+    }
+}

@@ -1,0 +1,114 @@
+//! The values of a table, from the cards of its deck.
+
+ghost use Rattle.std.specs.Prelude.{◌≡◌, ◌++◌, ◌+◌, ◌≤◌, ◌<◌, ◌^◌, false, pos, length, map, unwrap_or, slice_range, IfOk, OnOk};
+ghost use Rattle.rpg_effect.specs.Values.{held};
+ghost use Rattle.rpg_faults_limits.specs.Names.{bad_size_of_table};
+ghost use Rattle.rpg_decimal_words.specs.Zoned.{number_in};
+ghost use Rattle.rpg_faults.specs.Data.{entry_on};
+ghost use Rattle.rpg_compile_program.specs.Data.{entry_value};
+
+use crate::values::text_value;
+use rpg_cards::SpecCard;
+use rpg_decimal::read_zoned;
+use rpg_effect::value::Value;
+use rpg_sheet_specs::{DataSpec, TableSpec};
+use std::alloc::{AllocError, Global};
+
+/// Where the entries of a table stand.
+#[derive(Clone, Copy)]
+pub(crate) struct TableData<'a> {
+    pub table: &'a TableSpec,
+    pub entries: u16,
+    pub per_card: u16,
+    /// How many columns each takes, with that of an alternating table.
+    pub width: u32,
+    /// The first column of the first, from 0.
+    pub from: u16,
+    /// The cards behind the `**` card.
+    pub deck: &'a [SpecCard],
+
+    ghost sized: { bad_size_of_table table.now ≡ false },
+}
+
+impl TableData<'_> {
+    ghost use Rattle.rpg_compile_layouts.specs.Tables.{values_on, values_on_card};
+
+    pub(crate) fn values(self, alloc: Global) -> Result<Vec<Value>, AllocError>
+        ensures { IfOk result (λ v. map held v.items ≡ values_on self.entry) }
+    {
+        let mut values = Vec::new(alloc);
+        let mut left = self.entries;
+        for card in self.deck {
+            match card.data() {
+                None => {}
+                Some(DataSpec::Begin) => return Ok(values),
+                Some(DataSpec::Card(data)) => {
+                    let number = left.min(self.per_card);
+                    self.add_entries(alloc, data.as_slice(), number, &mut values)?;
+                    left -= number;
+                }
+            }
+        }
+        Ok(values)
+    }
+
+    /// Puts the first entries of a card behind other values, so many of them.
+    fn add_entries(
+        self,
+        alloc: Global,
+        card: &[u8],
+        number: u16,
+        values: &mut Vec<Value>,
+    ) -> Result<(), AllocError>
+        ensures { OnOk result (map held values.new.items ≡ map held values.old.items ++ values_on_card self.entry card.now number) }
+    {
+        for i in 0..number {
+            values.push(value_of(alloc, self.table, self.entry(card, i))?)?;
+        }
+        Ok(())
+    }
+
+    /// The entry with this number on a card, from 0.
+    fn entry(self, card: &[u8], number: u16) -> &[u8]
+        ensures value { result.now ≡ entry_on self.entry.width self.entry.from self.entry.table.now.length card.now number }
+        ensures length { length result.now ≤ self.entry.table.now.length }
+    {
+        let start = number as usize * self.width as usize + self.from as usize;
+        part(card, start, self.table.length as usize)
+    }
+}
+
+/// So many characters from a place on; of those behind the end none.
+fn part(text: &[u8], start: usize, count: usize) -> &[u8]
+    requires { start + count < 2 ^ 64 }
+    ensures value { result.now ≡ slice_range text.now start (start + count) }
+    ensures length { length result.now ≤ count }
+{
+    let behind = &text[start.min(text.len())..];
+    &behind[..count.min(behind.len())]
+}
+
+/// What an entry of a table holds: zero where it should be a number, and is none.
+fn value_of(alloc: Global, table: &TableSpec, text: &[u8]) -> Result<Value, AllocError>
+    requires size { bad_size_of_table table.now ≡ false }
+    requires length { length text.now ≤ table.now.length }
+    ensures { IfOk result (λ v. held v ≡ entry_value table.now text.now) }
+{
+    match table.decimals {
+        None => text_value(alloc, text),
+        Some(_) => Ok(Value::Number(number_or_zero(text))),
+    }
+}
+
+fn number_or_zero(text: &[u8]) -> i64
+    requires { length text.now ≤ 15 }
+    ensures { result ≡ unwrap_or (number_in text.now) (pos 0) }
+{
+    if text.is_empty() {
+        return 0;
+    }
+    match read_zoned(text) {
+        Ok(number) => number,
+        Err(_) => 0,
+    }
+}

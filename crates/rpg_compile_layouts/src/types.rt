@@ -1,0 +1,105 @@
+//! Record types, from the groups of I cards.
+
+ghost use Rattle.std.specs.Prelude.{◌≡◌, All, map, IfOk};
+ghost use Rattle.rpg_compile_layouts.specs.Parts.{inputs_behind, type_behind};
+ghost use Rattle.rpg_compile_layouts.specs.Within.{IsTypeWithin};
+ghost use Rattle.rpg_object_program.specs.Kept.{AreIndicators, IsInputRow, IsTypeRow};
+ghost use Rattle.rpg_object_program.specs.Object.{type_row};
+ghost use Rattle.rpg_effect_renaming.specs.Naming.{renamed_input, renamed_type};
+ghost use Rattle.rpg_compile_program.specs.Table.{key_number};
+ghost use Rattle.rpg_compile_program.specs.Types as types;
+
+use crate::FieldTable;
+use crate::codes::codes_of;
+use crate::levels::levels_of;
+use rpg_cards::{SpecCard, number_of, shows_of};
+use rpg_effect::input::InputField;
+use rpg_effect::operation::Shows;
+use rpg_object_program::row::RecordType;
+use rpg_sheet_specs::InputSpec;
+use std::alloc::{AllocError, Global};
+
+/// A row for each group of I cards, in which fields stand by their numbers.
+#[tactic(auto, using(crate::proofs::Followers::types_on_other))]
+pub fn types_of(
+    alloc: Global,
+    table: &FieldTable,
+    cards: &[SpecCard],
+) -> Result<Vec<RecordType>, AllocError>
+    requires { All IsTypeWithin (types.types_on cards.now) }
+    ensures types { IfOk result (λ v. map type_row v.items ≡ map (renamed_type (key_number table.now)) (types.types_on cards.now)) }
+    ensures rows { IfOk result (λ v. All IsTypeRow (map type_row v.items)) }
+{
+    let mut types = Vec::new(alloc);
+    let mut rest = cards;
+    while let Some((card, behind)) = rest.split_first() {
+        if let Some(record_type) = card.record_type() {
+            types.push(type_of(alloc, table, record_type, behind)?)?;
+        }
+        rest = behind;
+    }
+    Ok(types)
+}
+
+/// The type that a type card begins, with the cards behind it.
+fn type_of(
+    alloc: Global,
+    table: &FieldTable,
+    record_type: &rpg_sheet_specs::RecordType,
+    behind: &[SpecCard],
+) -> Result<RecordType, AllocError>
+    requires { IsTypeWithin (type_behind record_type.now behind.now) }
+    ensures row { IfOk result (λ t. type_row t ≡ renamed_type (key_number table.now) (type_behind record_type.now behind.now)) }
+    ensures kept { IfOk result (λ t. IsTypeRow (type_row t)) }
+{
+    Ok(RecordType {
+        indicator: number_of(record_type.indicator),
+        codes: codes_of(alloc, record_type.codes, behind)?,
+        levels: levels_of(alloc, behind)?,
+        inputs: inputs_of(alloc, table, behind)?,
+    })
+}
+
+/// An input field for each field card up to the next type card.
+#[tactic(auto, using(crate::proofs::Followers::next_input))]
+fn inputs_of(
+    alloc: Global,
+    table: &FieldTable,
+    behind: &[SpecCard],
+) -> Result<Vec<InputField<u16>>, AllocError>
+    ensures inputs { IfOk result (λ v. v.items ≡ map (renamed_input (key_number table.now)) (inputs_behind behind.now)) }
+    ensures kept { IfOk result (λ v. All IsInputRow v.items) }
+{
+    let mut inputs = Vec::new(alloc);
+    for card in behind {
+        let field = match card.input() {
+            Some(InputSpec::Type(_)) => return Ok(inputs),
+            Some(InputSpec::Field(field)) => field,
+            Some(InputSpec::And(_)) | None => continue,
+        };
+        inputs.push(input_of(table, field))?;
+    }
+    Ok(inputs)
+}
+
+/// The columns of a field, with the indicators that show its value.
+fn input_of(table: &FieldTable, field: &rpg_sheet_specs::InputField) -> InputField<u16>
+    ensures value { result ≡ renamed_input (key_number table.now) (types.input_row field.now) }
+    ensures kept { IsInputRow result }
+{
+    let number = table.name_number(&field.name);
+    input_row(field.from, field.to, number, shows_of(field.indicators))
+}
+
+fn input_row(from: u16, to: u16, field: u16, shows: Shows) -> InputField<u16>
+    requires { AreIndicators shows }
+    ensures value { result ≡ record { from = from; to = to; field = field; shows = shows } }
+    ensures kept { IsInputRow result }
+{
+    InputField {
+        from,
+        to,
+        field,
+        shows,
+    }
+}

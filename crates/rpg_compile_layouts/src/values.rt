@@ -1,0 +1,37 @@
+//! Zeros and blanks, and copies of texts.
+
+ghost use Rattle.std.specs.Prelude.{◌≡◌, map, replicate, IfOk};
+ghost use Rattle.rpg_effect.specs.Values.{Text, held};
+ghost use Rattle.rpg_compile_program.specs.Data.{first_of_kind};
+
+use rpg_effect::form::{FieldForm, Kind};
+use rpg_effect::value::Value;
+use std::alloc::{AllocError, Global};
+
+/// Zeros or blanks, one for each entry of a field.
+pub(crate) fn empty_values(alloc: Global, form: &FieldForm) -> Result<Vec<Value>, AllocError>
+    ensures { IfOk result (λ v. map held v.items ≡ replicate form.now.entries (first_of_kind form.now.kind form.now.length)) }
+{
+    let mut values = Vec::with_capacity(alloc, form.entries as usize)?;
+    for _ in 0..form.entries {
+        values.push(empty_value(alloc, form)?)?;
+    }
+    Ok(values)
+}
+
+fn empty_value(alloc: Global, form: &FieldForm) -> Result<Value, AllocError>
+    ensures { IfOk result (λ v. held v ≡ first_of_kind form.now.kind form.now.length) }
+{
+    match form.kind {
+        Kind::Number => Ok(Value::Number(0)),
+        Kind::Text => Ok(Value::Text(vec![in alloc; b' '; form.length as usize]?)),
+    }
+}
+
+pub(crate) fn text_value(alloc: Global, text: &[u8]) -> Result<Value, AllocError>
+    ensures { IfOk result (λ v. held v ≡ Text text.now) }
+{
+    let mut characters = Vec::new(alloc);
+    characters.extend_from_slice(text)?;
+    Ok(Value::Text(characters))
+}

@@ -1,0 +1,127 @@
+-- Conditions and resulting indicators of C cards that break no rule of cards are those that a program may have.
+use Rattle.std.proofs.Common.{◌≡◌, ◌≢◌, ◌⊎◌, ℕ, ◌≤◌, Bool, true, false, cond, ◌&&◌, ◌||◌, List, [], ◌∷◌, ◌++◌, map, Option, None, Some, refl, inl, inr, arith}
+use Rattle.std.proofs.lemmas.Bool.{and_from, cases_Bool, eqb-false, le-leb, leb-false, leb-true, or_left, or_parts, or_right}
+use Rattle.std.specs.List.{filter_map}
+use Rattle.std.specs.Option.{ForSome, option_map_or}
+use Rattle.std.specs.Prelude.{nat_le, ◌==◌}
+use Rattle.rpg_cards.specs.Calculations.{alternatives, awaited_level, condition_of, conditions_on, depends, in_places, is_or, tests_on}
+use Rattle.rpg_cards.specs.Deeds.{shows_of}
+use Rattle.rpg_cards.specs.Plain.{Each}
+use Rattle.rpg_cards.specs.declared.spec_card.SpecCard.{SpecCard}
+use Rattle.rpg_compile_program.proofs.Each.{each_append}
+use Rattle.rpg_effect.specs.Control.{has_conditions}
+use Rattle.rpg_effect.specs.declared.condition.Conditions.{Conditions}
+use Rattle.rpg_faults_limits.specs.Indicators.{any_of, bad_in_calculation, cannot_be_set}
+use Rattle.rpg_object_program.specs.Kept.{IsIndicator}
+use Rattle.rpg_verify_rules.specs.Indicators.{all_asked, are_settable, if_any, is_settable, is_within}
+use Rattle.rpg_sheet_specs.specs.declared.calculation.CalculationSpec.{CalculationSpec}
+use Rattle.rpg_sheet_specs.specs.declared.calculation.ControlLevel.{ControlLevel}
+use Rattle.rpg_sheet_specs.specs.declared.calculation.ControlLevel.TheVariants as control
+use Rattle.rpg_sheet_specs.specs.declared.indicator.Condition as sheet
+use Rattle.rpg_sheet_specs.specs.declared.indicator.Three.{Three}
+use Rattle.rpg_compile_program.specs.Ranges.{InThree, IsCondition, IsControl}
+
+-- ---- resulting indicators
+
+inside : (first last n : ℕ) → first ≤ n → n ≤ last → is_within first last n ≡ true
+inside first last n low high = and_from _ _ (le-leb first n low) (le-leb n last high)
+
+settable_by : (n : ℕ) → 1 ≤ n → n ≤ 129 → (n ≡ 100 → ⊥) → (n ≡ 111 → ⊥) → (n ≡ 129 → ⊥) → (nat_le n 99 ≡ true) ⊎ (nat_le n 99 ≡ false)
+    → (nat_le n 110 ≡ true) ⊎ (nat_le n 110 ≡ false) → is_settable n ≡ true
+settable_by n low high no_l0 no_1p no_mr (inl a) b = or_left _ _ (inside 1 99 n low (leb-true n 99 a))
+settable_by n low high no_l0 no_1p no_mr (inr a) (inl b) =
+    let above = leb-false n 99 a in
+    or_right (is_within 1 99 n) _ (or_left _ _ (inside 101 110 n (omega arith) (leb-true n 110 b)))
+settable_by n low high no_l0 no_1p no_mr (inr a) (inr b) =
+    let above = leb-false n 110 b in
+    or_right (is_within 1 99 n) _ (or_right (is_within 101 110 n) _ (inside 112 128 n (omega arith) (omega arith)))
+
+settable_if_any : (o : Option ℕ) → option_map_or cannot_be_set o false ≡ false → ForSome o IsIndicator → if_any is_settable o ≡ true
+settable_if_any None right range = refl
+settable_if_any (Some n) right range =
+    let two = or_parts _ _ right in
+    let one = or_parts _ _ two.0 in
+    settable_by n (range n refl).lowest (range n refl).highest (eqb-false n 100 one.0) (eqb-false n 111 one.1) (eqb-false n 129 two.1) (cases_Bool (nat_le n 99)) (cases_Bool (nat_le n 110))
+
+pub all_settable : (t : Three (Option ℕ)) → any_of cannot_be_set t ≡ false → InThree IsIndicator t → are_settable (shows_of t) ≡ true
+all_settable t right range =
+    let two = or_parts _ _ right in
+    let one = or_parts _ _ two.0 in
+    and_from _ _ (settable_if_any t.first one.0 range.first) (and_from _ _ (settable_if_any t.second one.1 range.second) (settable_if_any t.third two.1 range.third))
+
+-- ---- conditions
+
+abbrev may_ask : Option sheet.Condition → Bool
+may_ask o = option_map_or (λ (c : sheet.Condition). nat_le c.indicator 128) o true
+
+asked_if_any : (cards : List SpecCard) (o : Option sheet.Condition) → option_map_or (bad_in_calculation cards) o false ≡ false → ForSome o IsCondition → may_ask o ≡ true
+asked_if_any cards None right range = refl
+asked_if_any cards (Some c) right range =
+    let within : c.indicator ≤ 129 = (range c refl).highest in
+    let other : c.indicator ≢ 129 = eqb-false c.indicator 129 (by_mr (c.indicator == 129) (or_parts (c.indicator == 111) ((c.indicator == 129) && true) right).1) in
+    le-leb c.indicator 128 (omega arith)
+  where
+    by_mr : (b : Bool) → (b && true) ≡ false → b ≡ false
+    by_mr true h = h
+    by_mr false h = refl
+
+places_asked : (a b c : Option sheet.Condition) → may_ask a ≡ true → may_ask b ≡ true → may_ask c ≡ true → all_asked (in_places (map condition_of (filter_map (λ x. x) (a ∷ b ∷ c ∷ [])))) ≡ true
+places_asked None None None p q r = refl
+places_asked None None (Some z) p q r = and_from _ _ r refl
+places_asked None (Some y) None p q r = and_from _ _ q refl
+places_asked None (Some y) (Some z) p q r = and_from _ _ q (and_from _ _ r refl)
+places_asked (Some x) None None p q r = and_from _ _ p refl
+places_asked (Some x) None (Some z) p q r = and_from _ _ p (and_from _ _ r refl)
+places_asked (Some x) (Some y) None p q r = and_from _ _ p (and_from _ _ q refl)
+places_asked (Some x) (Some y) (Some z) p q r = and_from _ _ p (and_from _ _ q r)
+
+-- a card's conditions may be asked
+abbrev pub MayAsk : CalculationSpec → Type 0
+MayAsk k = all_asked (conditions_on k) ≡ true
+
+pub may_be_asked : (cards : List SpecCard) (k : CalculationSpec) → any_of (bad_in_calculation cards) k.conditions ≡ false → InThree IsCondition k.conditions → MayAsk k
+may_be_asked cards k right range =
+    let t = k.conditions in
+    let two = or_parts _ _ right in
+    let one = or_parts _ _ two.0 in
+    places_asked t.first t.second t.third (asked_if_any cards t.first one.0 range.first) (asked_if_any cards t.second one.1 range.second) (asked_if_any cards t.third two.1 range.third)
+
+-- ---- the tests of a group
+
+-- a test has conditions, and they may be asked
+pub record IsTested (cs : Conditions) : Type 0 where
+  pub some : has_conditions cs ≡ true
+  pub asked : all_asked cs ≡ true
+
+tests_right : (k : CalculationSpec) → MayAsk k → Each IsTested (tests_on k)
+tests_right k asked = by (depends k) refl
+  where
+    by : (b : Bool) → depends k ≡ b → Each IsTested (cond b (conditions_on k ∷ []) [])
+    by true some = (record { some = some; asked = asked }, tt)
+    by false some = tt
+
+alternatives_tested : (so_far : List Conditions) (ks : List CalculationSpec) → Each IsTested so_far → Each MayAsk ks → Each (Each IsTested) (alternatives so_far ks)
+alternatives_tested so_far [] h asked = (h, tt)
+alternatives_tested so_far (k ∷ ks) h asked =
+    by (is_or k.control_level) (alternatives_tested (tests_on k) ks (tests_right k asked.0) asked.1)
+    (alternatives_tested (so_far ++ tests_on k) ks (each_append IsTested so_far (tests_on k) h (tests_right k asked.0)) asked.1)
+  where
+    by : (b : Bool) → Each (Each IsTested) (alternatives (tests_on k) ks) → Each (Each IsTested) (alternatives (so_far ++ tests_on k) ks)
+        → Each (Each IsTested) (cond b (so_far ∷ alternatives (tests_on k) ks) (alternatives (so_far ++ tests_on k) ks))
+    by true begun more = (h, begun)
+    by false begun more = more
+
+pub group_tested : (first : CalculationSpec) (followers : List CalculationSpec) → MayAsk first → Each MayAsk followers → Each (Each IsTested) (alternatives (tests_on first) followers)
+group_tested first followers asked more = alternatives_tested (tests_on first) followers (tests_right first asked) more
+
+-- the level indicator that it waits for
+pub level_within : (c : ControlLevel) → IsControl c → ForSome (awaited_level c) (λ n. n ≤ 110)
+level_within control.Detail range = λ n is. absurd cc
+level_within (control.Total n) range = by (n == 100)
+  where
+    by : (b : Bool) → ForSome (cond b None (Some n)) (λ n. n ≤ 110)
+    by true = λ m is. absurd cc
+    by false = λ m is. let same : n ≡ m = cc in let high = range.1 in omega arith
+level_within control.Subroutine range = λ n is. absurd cc
+level_within control.And range = λ n is. absurd cc
+level_within control.Or range = λ n is. absurd cc

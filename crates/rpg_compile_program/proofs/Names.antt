@@ -1,0 +1,129 @@
+-- The form of a name's key is that of the name's first definition, and a constant of a card has its own.
+use Rattle.std.proofs.Common.{◌≡◌, ℕ, Bool, true, false, not, cond, ◌||◌, List, [], ◌∷◌, ◌++◌, fold, Option, None, Some, refl, sym, ap, ◌∙◌, subst}
+use Rattle.std.proofs.lemmas.Cmp.{nat_list_eq_equiv}
+use Rattle.std.specs.Cmp.Lexicographic.{pointwise}
+use Rattle.std.specs.List.{list_any}
+use Rattle.std.specs.Map.{lookup}
+use Rattle.std.specs.Option.{option_or, option_to_list}
+use Rattle.std.specs.Prelude.{is_some, nat_eq}
+use Rattle.rpg_compile_program.proofs.Definitions.{AreDefined, HasForm, IsForm}
+use Rattle.rpg_cards.specs.Keys.{Fixed, Named}
+use Rattle.rpg_cards.specs.Plain.{Each}
+use Rattle.rpg_cards.proofs.IndexLemmas.{known_stays, lookup_push, option_or_assoc}
+use Rattle.rpg_cards.proofs.InsertLemmas.{among}
+use Rattle.rpg_cards.proofs.ItemLemmas.{constants_in-append}
+use Rattle.rpg_cards.specs.Constants.{constant_form, constants_in, constants_on, is_same}
+use Rattle.rpg_cards.specs.Names.{defined_as, definitions, first_form, form_in, form_of_name, is_missing, unless_given}
+use Rattle.rpg_cards.specs.SameConstants.{is_same_equiv}
+use Rattle.rpg_cards.specs.declared.constants.Constant.{Constant}
+use Rattle.rpg_cards.specs.declared.names.Defined.{Defined}
+use Rattle.rpg_cards.specs.declared.names.Defined.TheVariants.{Bad, Good, Missing}
+use Rattle.rpg_cards.specs.declared.names.Definition.{Definition}
+use Rattle.rpg_cards.specs.declared.spec_card.SpecCard.{SpecCard}
+use Rattle.rpg_effect.specs.declared.form.FieldForm.{FieldForm}
+use Rattle.rpg_symbols.specs.Fields.{NamedForms, defined_form, given}
+use Rattle.rpg_compile_program.specs.Table.{defined_fields, key_form, table_of, with_definitions, with_form, with_name}
+
+-- ---- names
+
+with_name-form : (fields : NamedForms) (name q : List ℕ) (form : FieldForm) →
+    defined_form (with_name fields name form) q ≡ option_or (defined_form fields q) (cond (pointwise nat_eq q name) (Some form) None)
+with_name-form fields name q form = by_cases (is_some (defined_form fields name)) refl
+  where
+    by_cases : (b : Bool) → is_some (defined_form fields name) ≡ b →
+        defined_form (cond b fields (fields ++ (name, form) ∷ [])) q ≡ option_or (defined_form fields q) (cond (pointwise nat_eq q name) (Some form) None)
+    by_cases true e = known_stays (pointwise nat_eq) nat_list_eq_equiv fields q name form e
+    by_cases false e = lookup_push (pointwise nat_eq q) fields name form
+
+first_form-in : (name q : List ℕ) (form : FieldForm) (later : Defined) →
+    option_or (cond (pointwise nat_eq q name) (Some form) None) (form_in later) ≡ form_in (cond (pointwise nat_eq q name) (Good form) later)
+first_form-in name q form later = by_cases (pointwise nat_eq q name)
+  where
+    by_cases : (b : Bool) → option_or (cond b (Some form) None) (form_in later) ≡ form_in (cond b (Good form) later)
+    by_cases true = refl
+    by_cases false = refl
+
+one_definition : (fields : NamedForms) (q name : List ℕ) (o : Option FieldForm) (ds : List Definition) → IsForm o →
+    ((more : NamedForms) → defined_form (with_definitions more ds) q ≡ option_or (defined_form more q) (form_in (first_form q ds))) →
+    defined_form (with_definitions (with_form fields name o) ds) q ≡ option_or (defined_form fields q) (form_in (cond (pointwise nat_eq q name) (defined_as o) (first_form q ds)))
+one_definition fields q name None ds good rest = absurd good
+one_definition fields q name (Some form) ds good rest =
+    let later = first_form q ds in
+    rest (with_name fields name form) ∙ ap (λ o. option_or o (form_in later)) (with_name-form fields name q form) ∙ option_or_assoc (defined_form fields q) _ (form_in later)
+    ∙ ap (option_or (defined_form fields q)) (first_form-in name q form later)
+
+with_definitions-form : (fields : NamedForms) (ds : List Definition) (q : List ℕ) → Each HasForm ds →
+    defined_form (with_definitions fields ds) q ≡ option_or (defined_form fields q) (form_in (first_form q ds))
+with_definitions-form fields [] q good = or_none (defined_form fields q)
+  where
+    or_none : {X : Type 0} (o : Option X) → o ≡ option_or o None
+    or_none None = refl
+    or_none (Some x) = refl
+with_definitions-form fields (d ∷ ds) q good = one_definition fields q d.name d.form ds good.0 (λ more. with_definitions-form more ds q good.1)
+
+given_or : (o : Option FieldForm) (d : Defined) → option_or o (form_in d) ≡ form_in (unless_given o d)
+given_or None d = refl
+given_or (Some form) d = refl
+
+-- no definition is bad, so a name that isn't missing has a form
+abbrev IsGood : Defined → Type 0
+IsGood Missing = Unit {0}
+IsGood Bad = ⊥
+IsGood (Good form) = Unit {0}
+
+good_in : (name : List ℕ) (ds : List Definition) → Each HasForm ds → IsGood (first_form name ds)
+good_in name [] good = tt
+good_in name (d ∷ ds) good = by _ d.form good.0 (good_in name ds good.1)
+  where
+    by : (b : Bool) (o : Option FieldForm) → IsForm o → IsGood (first_form name ds) → IsGood (cond b (defined_as o) (first_form name ds))
+    by b None h rest = absurd h
+    by true (Some form) h rest = tt
+    by false (Some form) h rest = rest
+
+unless_good : (o : Option FieldForm) (d : Defined) → IsGood d → IsGood (unless_given o d)
+unless_good None d h = h
+unless_good (Some form) d h = tt
+
+there : (d : Defined) → IsGood d → is_missing d ≡ false → (form : FieldForm) × (d ≡ Good form)
+there Missing good e = absurd cc
+there Bad good e = absurd good
+there (Good form) good e = (form, refl)
+
+module _ (cards : List SpecCard) (defined : AreDefined cards) where
+  pub name_form : (name : List ℕ) → key_form (table_of cards) (Named name) ≡ form_in (form_of_name name cards)
+  name_form name = with_definitions-form given (definitions cards) name defined ∙ given_or (defined_form given name) (first_form name (definitions cards))
+
+  pub name_there : (name : List ℕ) → is_missing (form_of_name name cards) ≡ false → (form : FieldForm) × (form_of_name name cards ≡ Good form)
+  name_there name e = there (form_of_name name cards) (unless_good (defined_form given name) (first_form name (definitions cards)) (good_in name (definitions cards) defined)) e
+
+-- ---- constants
+
+or_left : (a b : Bool) → a ≡ true → (a || b) ≡ true
+or_left true b e = refl
+or_left false b e = cc
+
+or_right : (a b : Bool) → b ≡ true → (a || b) ≡ true
+or_right true b e = refl
+or_right false b e = e
+
+any_append : {X : Type 0} (test : X → Bool) (xs ys : List X) → list_any test (xs ++ ys) ≡ (list_any test xs || list_any test ys)
+any_append test [] ys = refl
+any_append test (x ∷ xs) ys = ap (λ b. test x || b) (any_append test xs ys) ∙ by (test x)
+  where
+    by : (b : Bool) → (b || (list_any test xs || list_any test ys)) ≡ ((b || list_any test xs) || list_any test ys)
+    by true = refl
+    by false = refl
+
+stands_here : (x : Constant) (before : List SpecCard) (c : SpecCard) (after : List SpecCard) → list_any (is_same x) (constants_on c.spec) ≡ true → list_any (is_same x) (constants_in (before ++ c ∷ after)) ≡ true
+stands_here x before c after e =
+    ap (list_any (is_same x)) (constants_in-append before (c ∷ after)) ∙ any_append (is_same x) (constants_in before) (constants_in (c ∷ after))
+    ∙ or_right (list_any (is_same x) (constants_in before)) _ (any_append (is_same x) (constants_on c.spec) (constants_in after) ∙ or_left (list_any (is_same x) (constants_on c.spec)) _ e)
+
+pub constant_there : (cards before : List SpecCard) (c : SpecCard) (after : List SpecCard) (x : Constant) → cards ≡ before ++ c ∷ after → list_any (is_same x) (constants_on c.spec) ≡ true → key_form (table_of cards) (Fixed x) ≡ Some (constant_form x)
+constant_there cards before c after x split e =
+    ap (λ b. cond b (Some (constant_form x)) None)
+    (among is_same is_same_equiv x [] (constants_in cards) ∙ ap (λ cs. list_any (is_same x) (constants_in cs)) split ∙ stands_here x before c after e)
+
+-- the constants of a card: of factor 1, of factor 2, of an output field
+stands_itself : (x : Constant) (o : Option Constant) → o ≡ Some x → list_any (is_same x) (option_to_list o) ≡ true
+stands_itself x o e = ap (λ (p : Option Constant). list_any (is_same x) (option_to_list p)) e ∙ ap (λ b. b || false) ((is_same_equiv).refl x)

@@ -1,0 +1,110 @@
+-- The instructions of calculations.
+use Rattle.std.specs.Prelude.{ℕ, suc, ◌+◌, ◌++◌, Bool, true, false, List, [], ◌∷◌, length, map, Option, None, Some, if◌then◌else◌}
+use Rattle.rpg_effect.specs.declared.condition.Conditions.{Conditions}
+use Rattle.rpg_effect.specs.declared.operation.Instruction.{Instruction}
+use Rattle.rpg_effect.specs.declared.operation.Instruction.TheVariants as made
+use Rattle.rpg_object_program.specs.Object.{SubroutineRow}
+use Rattle.rpg_cards.specs.Deeds.{Acts, Begins, Calculation, Deed, Ends, Executes, GoesTo, Marks, Nothing, PutsOut}
+use Rattle.rpg_cards.specs.Keys.{Key, Name}
+use Rattle.rpg_cards.specs.Sections.{Subroutine}
+use Rattle.rpg_cards.specs.Sections.{is_same_name, label_on}
+use Rattle.rpg_cards.specs.Deeds.{tests}
+use Rattle.rpg_effect_renaming.specs.Naming.{renamed_action}
+
+-- ---- how many instructions
+
+-- TAG and BEGSR become nothing
+abbrev pub has_instruction : Deed Key → Bool
+has_instruction (Acts a) = true
+has_instruction PutsOut = true
+has_instruction (GoesTo l) = true
+has_instruction (Executes s) = true
+has_instruction (Marks l) = false
+has_instruction (Begins s) = false
+has_instruction (Ends l) = true
+has_instruction Nothing = false
+
+abbrev pub waits : Option ℕ → ℕ
+waits None = 0
+waits (Some n) = 1
+
+unfoldable pub size : Calculation Key → ℕ
+size g = if has_instruction g.deed then waits g.level + tests g.alternatives + 1 else 0
+
+abbrev pub sizes : List (Calculation Key) → ℕ
+sizes [] = 0
+sizes (g ∷ gs) = size g + sizes gs
+
+-- ---- labels
+
+-- the place of the next instruction of the section behind a label; its end where there is no such label
+abbrev pub label_place : Option Name → List (Calculation Key) → ℕ → ℕ
+label_place n [] place = place
+label_place n (g ∷ gs) place = if is_same_name n (label_on g.deed) then place else label_place n gs (place + size g)
+
+-- ---- instructions
+
+abbrev pub no_conditions : Conditions
+no_conditions = record { first = None; second = None; third = None }
+
+abbrev pub on_level : ℕ → Conditions
+on_level n = record { first = Some (record { indicator = n; is_negated = false }); second = None; third = None }
+
+abbrev pub jump : ℕ → Conditions → Instruction ℕ
+jump target cs = made.Branch true cs target
+
+abbrev pub skip_code : ℕ → Conditions → Instruction ℕ
+skip_code target cs = made.Branch false cs target
+
+-- a SKIP to behind the group, where it waits for an indicator
+abbrev pub level_code : ℕ → Option ℕ → List (Instruction ℕ)
+level_code behind None = []
+level_code behind (Some n) = skip_code behind (on_level n) ∷ []
+
+-- an alternative before the last one: SKIPs to the next one, and a JUMP to the operation
+abbrev pub alternative_code : ℕ → ℕ → List Conditions → List (Instruction ℕ)
+alternative_code next operation [] = []
+alternative_code next operation (cs ∷ []) = jump operation cs ∷ []
+alternative_code next operation (cs ∷ ds ∷ rest) = skip_code next cs ∷ alternative_code next operation (ds ∷ rest)
+
+-- alternatives from a place on; the last one SKIPs to behind the group
+abbrev pub tests_code : ℕ → ℕ → ℕ → List (List Conditions) → List (Instruction ℕ)
+tests_code place operation behind [] = []
+tests_code place operation behind (cs ∷ []) = map (skip_code behind) cs
+tests_code place operation behind (cs ∷ ds ∷ rest) = alternative_code (place + length cs) operation cs ++ tests_code (place + length cs) operation behind (ds ∷ rest)
+
+-- numbers of fields, places of labels, numbers of subroutines, and the number of the running one
+module _ (number : Key → ℕ) (place_of callee_of : Option Name → ℕ) (own : ℕ) where
+  unfoldable pub step_code : Deed Key → List (Instruction ℕ)
+  step_code (Acts a) = made.Act (renamed_action number a) ∷ []
+  step_code PutsOut = made.Except ∷ []
+  step_code (GoesTo l) = jump (place_of l) no_conditions ∷ []
+  step_code (Executes s) = made.Call (callee_of s) ∷ []
+  step_code (Marks l) = []
+  step_code (Begins s) = []
+  step_code (Ends l) = made.Return own ∷ []
+  step_code Nothing = []
+
+  unfoldable pub group_code : ℕ → Calculation Key → List (Instruction ℕ)
+  group_code place g =
+      if has_instruction g.deed then
+      level_code (place + size g) g.level
+      ++ (tests_code (place + waits g.level) (place + waits g.level + tests g.alternatives) (place + size g) g.alternatives
+      ++ step_code g.deed)
+      else []
+
+  -- groups one behind the other, from a place on
+  unfoldable pub code_from : ℕ → List (Calculation Key) → List (Instruction ℕ)
+  code_from place [] = []
+  code_from place (g ∷ gs) = group_code place g ++ code_from (place + size g) gs
+
+-- a section that begins at a place: its labels are its own
+unfoldable pub section_code : (Key → ℕ) → (Option Name → ℕ) → ℕ → ℕ → List (Calculation Key) → List (Instruction ℕ)
+section_code number callee_of own first gs = code_from number (λ l. label_place l gs first) callee_of own first gs
+
+-- subroutines from a number on, which begin at a place
+unfoldable pub subroutines_code : (Key → ℕ) → (Option Name → ℕ) → (ℕ → ℕ) → ℕ → ℕ → List (Subroutine Key) → List SubroutineRow
+subroutines_code number callee_of level own first [] = []
+subroutines_code number callee_of level own first (s ∷ ss) =
+    record { level = level own; instructions = section_code number callee_of own first s.body }
+    ∷ subroutines_code number callee_of level (suc own) (first + sizes s.body) ss

@@ -1,0 +1,11 @@
+pub mod Code
+pub mod Data
+pub mod Levels
+pub mod Lines
+pub mod Program
+pub mod Ranges
+pub mod Rules
+pub mod Sound
+pub mod Table
+pub mod Types
+pub mod Whole

@@ -1,0 +1,55 @@
+-- The program that the cards of a source stand for: what they say by names, at the numbers of the names.
+use Rattle.std.specs.Prelude.{ℕ, List, map}
+use Rattle.std.specs.Option.{option_and_then}
+use Rattle.rpg_cards.specs.Calculations.{calculations}
+use Rattle.rpg_cards.specs.Keys.{Key}
+use Rattle.rpg_cards.specs.Sections.{Sections, sections_of}
+use Rattle.rpg_cards.specs.Files.{file_for}
+use Rattle.rpg_cards.specs.declared.files.FileUse.TheVariants as uses
+use Rattle.rpg_cards.specs.declared.spec_card.SpecCard.{SpecCard}
+use Rattle.rpg_compile_program.specs.Levels.{subroutine_level}
+use Rattle.rpg_compile_program.specs.Whole.{detail_code, subroutine_rows, total_code}
+use Rattle.rpg_effect.specs.Input.{TypeRow}
+use Rattle.rpg_effect.specs.Lines.{Line}
+use Rattle.rpg_object_program.specs.Object.{LineRow, Object}
+use Rattle.rpg_effect_renaming.specs.Naming.{renamed_line, renamed_type}
+use Rattle.rpg_compile_program.specs.Data.{values_of}
+use Rattle.rpg_compile_program.specs.Lines.{lines_on, record_length_of}
+use Rattle.rpg_compile_program.specs.Table.{forms, key_number, table_of}
+use Rattle.rpg_compile_program.specs.Types.{types_on}
+
+-- the number of each key
+abbrev pub key_numbers : List SpecCard → Key → ℕ
+key_numbers cards = key_number (table_of cards)
+
+abbrev pub types_of : List SpecCard → List (TypeRow ℕ)
+types_of cards = map (renamed_type (key_numbers cards)) (types_on cards)
+
+-- a line's row doesn't tell its length: the file has it
+abbrev pub row_of_line : Line ℕ → LineRow
+row_of_line l = record { file = l.file; time = l.time; spacing = l.spacing; alternatives = l.alternatives; fields = l.fields }
+
+abbrev pub numbered_line : List SpecCard → Line Key → LineRow
+numbered_line cards l = row_of_line (renamed_line (key_numbers cards) l)
+
+abbrev pub line_rows : List SpecCard → List LineRow
+line_rows cards = map (numbered_line cards) (lines_on cards)
+
+abbrev pub sections : List SpecCard → Sections Key
+sections cards = sections_of (calculations cards)
+
+unfoldable pub program_of : List SpecCard → ℕ → Object
+program_of cards allowance = record {
+  allowance = allowance;
+  record_length = record_length_of (file_for uses.Primary cards);
+  printer_length = record_length_of (file_for uses.Printer cards);
+  disk_length = record_length_of (file_for uses.Disk cards);
+  overflow = option_and_then (λ f. f.overflow) (file_for uses.Printer cards);
+  fields = forms (table_of cards);
+  values = values_of cards;
+  types = types_of cards;
+  lines = line_rows cards;
+  detail = detail_code (key_numbers cards) (sections cards);
+  total = total_code (key_numbers cards) (sections cards);
+  subroutines = subroutine_rows (key_numbers cards) (subroutine_level (sections cards).subroutines) (sections cards);
+}

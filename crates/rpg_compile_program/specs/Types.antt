@@ -1,0 +1,62 @@
+-- Record types, from the groups of I cards, by names.
+use Rattle.std.specs.Prelude.{ℕ, ◌++◌, List, [], ◌∷◌, map, Option, is_some}
+use Rattle.std.specs.List.{filter_map, flat_map}
+use Rattle.std.specs.Option.{option_map}
+use Rattle.rpg_cards.specs.Deeds.{shows_of}
+use Rattle.rpg_cards.specs.Keys.{Key, Named}
+use Rattle.rpg_cards.specs.Cards.{input_field_in}
+use Rattle.rpg_cards.specs.Groups.{Group, groups, input_role}
+use Rattle.rpg_cards.specs.declared.spec_card.SpecCard.{SpecCard}
+use Rattle.rpg_effect.specs.Input.{TypeRow}
+use Rattle.rpg_effect.specs.declared.input.ControlField.{ControlField}
+use Rattle.rpg_effect.specs.declared.input.InputField as row
+use Rattle.rpg_effect.specs.declared.input.RecordCode as row_code
+use Rattle.rpg_sheet_specs.specs.declared.indicator.Three.{Three}
+use Rattle.rpg_sheet_specs.specs.declared.input.InputField.{InputField}
+use Rattle.rpg_sheet_specs.specs.declared.input.InputSpec.{InputSpec}
+use Rattle.rpg_sheet_specs.specs.declared.input.InputSpec.TheVariants as input
+use Rattle.rpg_sheet_specs.specs.declared.input.RecordCode.{RecordCode}
+use Rattle.rpg_sheet_specs.specs.declared.input.RecordType.{RecordType}
+
+-- ---- record codes
+
+abbrev pub record_code_of : RecordCode → row_code.RecordCode
+record_code_of c = record { position = c.position; is_negated = c.negated; character = c.character }
+
+-- those that stand, in the order of the columns
+abbrev pub codes_of : Three (Option RecordCode) → List row_code.RecordCode
+codes_of t = map record_code_of (filter_map (λ c. c) (t.first ∷ t.second ∷ t.third ∷ []))
+
+-- those of an AND card
+abbrev pub and_card_codes : InputSpec → List row_code.RecordCode
+and_card_codes (input.Type t) = []
+and_card_codes (input.And cs) = codes_of cs
+and_card_codes (input.Field f) = []
+
+-- ---- fields
+
+-- numeric where column 52 is filled
+abbrev pub control_field : InputField → ℕ → ControlField
+control_field f level = record { level = level; is_numeric = is_some f.decimals; from = f.from; to = f.to }
+
+abbrev pub control_field_of : InputField → Option ControlField
+control_field_of f = option_map (control_field f) f.level
+
+abbrev pub input_row : InputField → row.InputField Key
+input_row f = record { from = f.from; to = f.to; field = Named f.name; shows = shows_of f.indicators }
+
+-- ---- types
+
+abbrev pub input_fields_in : List InputSpec → List InputField
+input_fields_in cards = filter_map input_field_in cards
+
+abbrev pub type_of : Group RecordType InputSpec → TypeRow Key
+type_of g = record {
+  indicator = g.heading.indicator;
+  codes = codes_of g.heading.codes ++ flat_map and_card_codes g.followers;
+  levels = filter_map control_field_of (input_fields_in g.followers);
+  inputs = map input_row (input_fields_in g.followers);
+}
+
+abbrev pub types_on : List SpecCard → List (TypeRow Key)
+types_on cards = map type_of (groups input_role cards)

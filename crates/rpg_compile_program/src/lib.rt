@@ -1,0 +1,6 @@
+//! The instructions of calculations.
+//! The object program that the cards of a source stand for: definitions (in specs/), and what is always so of them.
+#![tactic(auto)]
+
+pub mod laws;
+pub mod ranges;

@@ -1,0 +1,17 @@
+pub mod Constants
+pub mod Entries
+pub mod Fields
+pub mod Files
+pub mod Filled
+pub mod Indices
+pub mod Instructions
+pub mod Kept
+pub mod LimitsKept
+pub mod Lines
+pub mod Loaded
+pub mod Names
+pub mod Programs
+pub mod Sizes
+pub mod Totals
+pub mod Types
+pub mod Walks

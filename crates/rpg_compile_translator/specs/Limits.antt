@@ -1,0 +1,43 @@
+-- The limits of the object format, of the program that cards stand for.
+use Rattle.std.specs.Prelude.{ℕ, ◌+◌, ◌≤◌, List, All, length}
+use Rattle.std.specs.Option.{ForSome, option_and_then}
+use Rattle.rpg_cards.specs.Calculations.{calculations}
+use Rattle.rpg_cards.specs.Plain.{ArePlain}
+use Rattle.rpg_cards.specs.Sections.{sections_of}
+use Rattle.rpg_cards.specs.Constants.{constants}
+use Rattle.rpg_cards.specs.Files.{file_for}
+use Rattle.rpg_cards.specs.declared.files.FileUse.TheVariants as uses
+use Rattle.rpg_cards.specs.declared.spec_card.SpecCard.{SpecCard}
+use Rattle.rpg_compile_layouts.specs.Rows.{rows_of}
+use Rattle.rpg_compile_layouts.specs.Within.{IsLineWithin, IsTypeWithin}
+use Rattle.rpg_object_program.specs.Kept.{IsFieldRow, IsOverflowIndicator, storage_of}
+use Rattle.rpg_object_program.specs.Sections.{places_of}
+use Rattle.rpg_symbols.specs.Fields as symbols
+use Rattle.rpg_compile_program.specs.Lines.{lines_on, record_length_of}
+use Rattle.rpg_compile_program.specs.Program.{program_of, sections}
+use Rattle.rpg_compile_program.specs.Table.{defined_fields, forms, table_of}
+use Rattle.rpg_compile_program.specs.Types.{types_on}
+
+-- all that the format asks, but for first values
+pub record KeepsLimits (cards : List SpecCard) : Type 0 where
+  -- ---- files
+  pub shortest_record : 1 ≤ record_length_of (file_for uses.Primary cards)
+  pub longest_record : record_length_of (file_for uses.Primary cards) ≤ 9999
+  pub widest_line : record_length_of (file_for uses.Printer cards) ≤ 132
+  pub longest_disk_record : record_length_of (file_for uses.Disk cards) ≤ 9999
+  pub overflow : ForSome (option_and_then (λ f. f.overflow) (file_for uses.Printer cards)) IsOverflowIndicator
+  -- ---- fields
+  pub names : length (defined_fields cards) + length (constants cards) ≤ 4000
+  pub few_fields : length (forms (table_of cards)) ≤ 4000
+  pub fields : All IsFieldRow (forms (table_of cards))
+  pub name_storage : symbols.storage (defined_fields cards) ≤ 65535
+  pub storage : storage_of (forms (table_of cards)) ≤ 65535
+  -- ---- record types, and lines at the numbers of their fields
+  pub few_types : length (types_on cards) ≤ 200
+  pub types : All IsTypeWithin (types_on cards)
+  pub few_lines : length (lines_on cards) ≤ 1000
+  pub lines : All IsLineWithin (rows_of (table_of cards) cards)
+  -- ---- calculations
+  pub plain : ArePlain (sections_of (calculations cards))
+  pub few_subroutines : length (sections cards).subroutines ≤ 100
+  pub few_instructions : (allowance : ℕ) → places_of (program_of cards allowance) ≤ 8192

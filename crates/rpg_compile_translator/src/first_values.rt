@@ -1,0 +1,19 @@
+//! Laws of the definitions. The functions do nothing: each is called for its contract alone.
+
+ghost use Rattle.rpg_faults.specs.Faults.{Faultless};
+ghost use Rattle.rpg_object_program.specs.Kept.{AreValuesOf};
+ghost use Rattle.rpg_compile_program.specs.Data.{values_of};
+ghost use Rattle.rpg_compile_program.specs.Table.{forms, table_of};
+
+use rpg_cards::SpecCard;
+use rpg_compile_program::ranges::cards_are_in_range;
+use rpg_decimal::texts_spell_by_places;
+
+/// What the fields of a source without a fault hold before the first cycle fits them: each has as many values as entries,
+/// and each value has the kind and the length of its field. Arrays and tables with data hold what stands on their cards.
+pub fn faultless_sources_fill_their_fields(cards: &[SpecCard])
+    ensures { Faultless cards.now → AreValuesOf (forms (table_of cards.now)) (values_of cards.now) }
+{
+    cards_are_in_range(cards);
+    texts_spell_by_places();
+}

@@ -1,0 +1,40 @@
+-- What a job keeps of earlier records.
+use Rattle.std.specs.Prelude.{ℕ, zero, suc, ◌+◌, true, false, ◌||◌, List, [], ◌∷◌, map, slice_index_or, slice_set, Option, None, Some, if◌then◌else◌}
+use Rattle.rpg_cycle_records.specs.Earlier.{Left, Selected, control_fields, is_any, or_before}
+use Rattle.rpg_cycle_records.specs.Levels.{level_bytes}
+use Rattle.rpg_cycle_records.specs.declared.kept.Kept.{Kept}
+use Rattle.rpg_cycle_records.specs.declared.levels.LastBytes.{LastBytes}
+use Rattle.rpg_effect.specs.declared.input.ControlField.{ControlField}
+use Rattle.rpg_object_program.specs.Object.{Object}
+
+abbrev pub seen_bytes : LastBytes → Option (List ℕ)
+seen_bytes l = if l.is_known then Some l.bytes.items else None
+
+abbrev pub seen_levels : List LastBytes → List (Option (List ℕ))
+seen_levels ls = map seen_bytes ls
+
+abbrev pub left_of : Kept → Left
+left_of k = record { any = k.has_any; control = k.has_control; bytes = seen_levels k.levels.items }
+
+-- of the first n levels the bytes of this record, where its type has the level, in the place of those before
+abbrev pub renewed : List ControlField → List ℕ → ℕ → List (Option (List ℕ)) → List (Option (List ℕ))
+renewed fs text zero bytes = bytes
+renewed fs text (suc n) bytes = slice_set (renewed fs text n bytes) n (or_before (slice_index_or bytes n None) (level_bytes fs text (n + 1)))
+
+-- the record that is kept, as one of that type
+abbrev pub selected_as : Option ℕ → List ℕ → Option Selected
+selected_as None text = None
+selected_as (Some t) text = Some (record { type = t; text = text })
+
+-- the levels renewed by the record that was selected, if one was
+abbrev pub kept_levels : Object → Option ℕ → List ℕ → Left → Left
+kept_levels p None text l = l
+kept_levels p (Some t) text l = record l { bytes = renewed (control_fields p t) text 9 l.bytes }
+
+-- that a record was selected is kept, and whether its type has control fields
+abbrev pub noted : Object → Option ℕ → Left → Left
+noted p None l = l
+noted p (Some t) l = record l { any = true; control = l.control || is_any (control_fields p t) }
+
+abbrev pub nothing_left : Left
+nothing_left = record { any = false; control = false; bytes = None ∷ None ∷ None ∷ None ∷ None ∷ None ∷ None ∷ None ∷ None ∷ [] }

@@ -1,0 +1,7 @@
+-- What the code's answer says of the trying of types.
+use Rattle.std.specs.Prelude.{ℕ, Option, None, Some}
+use Rattle.rpg_cycle_records.specs.Identifying.{Trial, IsOf, IsOfNone}
+
+abbrev pub trial_of : Option ℕ → Trial
+trial_of None = IsOfNone
+trial_of (Some t) = IsOf t

@@ -1,0 +1,208 @@
+//! Control levels.
+ghost use Rattle.std.specs.Prelude.{◌≡◌, ◌∷◌, [], ◌++◌, ◌+◌, ◌-◌, ◌≤◌, ◌<◌, IfOk, OnOk, length, slice_range, Some, None, true, option_map, if◌then◌else◌};
+ghost use Rattle.std.specs.List.{All};
+ghost use Rattle.rpg_cycle_records.specs.Fitting.{IsControlIn};
+ghost use Rattle.rpg_cycle_records.specs.Earlier.{or_before};
+ghost use Rattle.rpg_cycle_records.specs.Keeping.{renewed, seen_bytes, seen_levels};
+ghost use Rattle.rpg_cycle_records.specs.Levels as spec;
+ghost use Rattle.rpg_cycle_records.specs.Fronts.{rest_behind};
+
+use rpg_effect::input::ControlField;
+use std::alloc::AllocError;
+
+/// The digit that a byte of a numeric control field has.
+fn digit_of(byte: u8) -> u8
+    ensures { result ≡ spec.unsigned_digit byte }
+{
+    match byte {
+        b' ' | b'{' | b'}' => b'0',
+        b'A'..=b'I' => byte - 16,
+        b'J'..=b'R' => byte - 25,
+        _ => byte,
+    }
+}
+
+fn byte_of(is_numeric: bool, byte: u8) -> u8
+    ensures { result ≡ spec.byte_of is_numeric byte }
+{
+    if is_numeric { digit_of(byte) } else { byte }
+}
+
+/// The columns of a control field.
+fn columns_of(text: &[u8], field: ControlField) -> &[u8]
+    requires { IsControlIn (length text.now) field }
+    ensures { result.now ≡ slice_range text.now (field.from - 1) field.to }
+{
+    &text[field.from as usize - 1..field.to as usize]
+}
+
+/// What is behind a first byte, where it is that one.
+fn behind_one(bytes: &[u8], first: u8) -> Option<&[u8]>
+    ensures { option_map (λ r. r.now) result ≡ rest_behind (first ∷ []) bytes.now }
+{
+    match bytes {
+        [byte, others @ ..] if *byte == first => Some(others),
+        _ => None,
+    }
+}
+
+/// What is behind a control field's bytes, where the bytes begin with them.
+fn behind<'a>(bytes: &'a [u8], text: &[u8], field: ControlField) -> Option<&'a [u8]>
+    requires { IsControlIn (length text.now) field }
+    ensures { option_map (λ r. r.now) result ≡ rest_behind (spec.compared text.now field) bytes.now }
+{
+    let columns = columns_of(text, field);
+    let mut rest = bytes;
+    for byte in columns {
+        match behind_one(rest, byte_of(field.is_numeric, *byte)) {
+            Some(others) => rest = others,
+            None => return None,
+        }
+    }
+    Some(rest)
+}
+
+/// The same of a control field that may be of another level.
+fn behind_level<'a>(
+    bytes: &'a [u8],
+    text: &[u8],
+    field: ControlField,
+    level: u8,
+) -> Option<&'a [u8]>
+    requires { IsControlIn (length text.now) field }
+    ensures { option_map (λ r. r.now) result ≡ rest_behind (spec.at_level text.now level field) bytes.now }
+{
+    if field.level == level {
+        behind(bytes, text, field)
+    } else {
+        Some(bytes)
+    }
+}
+
+/// Whether these are the bytes of a level.
+#[tactic(auto, using(crate::proofs::Fronts::same_behind))]
+fn is_joined(bytes: &[u8], fields: &[ControlField], text: &[u8], level: u8) -> bool
+    requires { All (IsControlIn (length text.now)) fields.now }
+    ensures { result ≡ spec.same_bytes bytes.now (spec.joined_bytes fields.now text.now level) }
+{
+    let mut rest = bytes;
+    for field in fields {
+        match behind_level(rest, text, *field, level) {
+            Some(others) => rest = others,
+            None => return false,
+        }
+    }
+    rest.is_empty()
+}
+
+/// Adds the bytes of a control field.
+fn add(bytes: &mut Vec<u8>, text: &[u8], field: ControlField) -> Result<(), AllocError>
+    requires { IsControlIn (length text.now) field }
+    ensures { OnOk result (bytes.new.items ≡ bytes.old.items ++ spec.compared text.now field) }
+{
+    let columns = columns_of(text, field);
+    for byte in columns {
+        bytes.push(byte_of(field.is_numeric, *byte))?;
+    }
+    Ok(())
+}
+
+/// Adds the bytes of a level.
+fn join(
+    bytes: &mut Vec<u8>,
+    fields: &[ControlField],
+    text: &[u8],
+    level: u8,
+) -> Result<(), AllocError>
+    requires { All (IsControlIn (length text.now)) fields.now }
+    ensures { OnOk result (bytes.new.items ≡ bytes.old.items ++ spec.joined_bytes fields.now text.now level) }
+{
+    for field in fields {
+        if field.level == level {
+            add(bytes, text, *field)?;
+        }
+    }
+    Ok(())
+}
+
+/// The bytes of a level in the last record that has it.
+#[derive(Drop)]
+pub struct LastBytes {
+    /// Whether a record had the level.
+    pub is_known: bool,
+    pub bytes: Vec<u8>,
+}
+
+/// Compares a level's bytes with the last ones, and keeps them in their place. Answers whether they differ.
+fn renew(
+    last: &mut LastBytes,
+    fields: &[ControlField],
+    text: &[u8],
+    level: u8,
+) -> Result<bool, AllocError>
+    requires { All (IsControlIn (length text.now)) fields.now }
+    ensures differs { IfOk result (λ b. b ≡ spec.differs (seen_bytes last.old) (Some (spec.joined_bytes fields.now text.now level))) }
+    ensures kept { OnOk result (seen_bytes last.new ≡ Some (spec.joined_bytes fields.now text.now level)) }
+{
+    if last.is_known && is_joined(&last.bytes, fields, text, level) {
+        return Ok(false);
+    }
+    last.bytes.clear();
+    join(&mut last.bytes, fields, text, level)?;
+    last.is_known = true;
+    Ok(true)
+}
+
+fn has_level(fields: &[ControlField], level: u8) -> bool
+    ensures { result ≡ spec.has_level fields.now level }
+{
+    fields.iter().any(|f| f.level == level)
+}
+
+/// The same, where the fields have the level.
+fn renew_if_there(
+    last: &mut LastBytes,
+    fields: &[ControlField],
+    text: &[u8],
+    level: u8,
+) -> Result<bool, AllocError>
+    requires { All (IsControlIn (length text.now)) fields.now }
+    ensures differs { IfOk result (λ b. b ≡ spec.differs (seen_bytes last.old) (spec.level_bytes fields.now text.now level)) }
+    ensures kept { OnOk result (seen_bytes last.new ≡ or_before (seen_bytes last.old) (spec.level_bytes fields.now text.now level)) }
+{
+    if !has_level(fields, level) {
+        return Ok(false);
+    }
+    renew(last, fields, text, level)
+}
+
+fn higher(is_broken: bool, level: usize, lower: usize) -> usize
+    ensures { result ≡ if is_broken then level else lower }
+{
+    if is_broken { level } else { lower }
+}
+
+/// Compares the levels of a record, which is filled to its length, with the last bytes, L1 first, and keeps the record's. Answers the
+/// highest level that differs, 1 to 9, 0 for none. It takes memory only where the room of a level's bytes is too small; on an error
+/// some levels may be kept and others not.
+pub fn compare(
+    levels: &mut [LastBytes],
+    fields: &[ControlField],
+    text: &[u8],
+) -> Result<usize, AllocError>
+    requires nine { length levels.old ≡ 9 }
+    requires fields { All (IsControlIn (length text.now)) fields.now }
+    ensures broken { IfOk result (λ n. n ≡ spec.broken_in fields.now text.now (seen_levels levels.old)) }
+    ensures low { IfOk result (λ n. n ≤ 9) }
+    ensures kept { OnOk result (seen_levels levels.new ≡ renewed fields.now text.now 9 (seen_levels levels.old)) }
+{
+    if fields.is_empty() {
+        return Ok(0);
+    }
+    let mut broken = 0;
+    for i in 0..9 {
+        let is_broken = renew_if_there(&mut levels[i], fields, text, i as u8 + 1)?;
+        broken = higher(is_broken, i + 1, broken);
+    }
+    Ok(broken)
+}

@@ -1,0 +1,15 @@
+pub mod Accepting
+pub mod Acting
+pub mod Coursing
+pub mod Cycling
+pub mod Dating
+pub mod Filling
+pub mod Instructing
+pub mod Printing
+pub mod Running
+pub mod Selecting
+pub mod Starting
+pub mod Stepping
+pub mod Turning
+pub mod Working
+pub mod Writing

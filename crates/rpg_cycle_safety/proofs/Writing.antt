@@ -1,0 +1,130 @@
+-- What is written keeps what holds of a world.
+use Rattle.std.proofs.Common.{◌≡◌, ℕ, ℤ, ◌≤◌, ◌<◌, ◌^◌, true, false, List, Option, None, Some, refl, sym, ap, ◌∙◌, subst, length, unsigned_abs, nat_cmp}
+use Rattle.std.specs.FinMap as maps
+use Rattle.std.specs.Prelude.{All}
+use Rattle.rpg_effect.specs.Effect.{Effect, Leaves, go_on, or_halt, quiet, then_go}
+use Rattle.rpg_effect.specs.Ends.{End, GoesOn, Halt, Wrong}
+use Rattle.rpg_effect.specs.Forms.{entries_of, form_at, is_constant, is_index_form, is_plain, is_plain_form, is_writable, length_of, may_write}
+use Rattle.rpg_effect.specs.Values.{Value, Number, Text, characters_of}
+use Rattle.rpg_effect.specs.World.{Fields, World, characters_at, set_current, set_value}
+use Rattle.rpg_effect.specs.declared.form.Class.{Class}
+use Rattle.rpg_effect.specs.declared.form.Class.TheVariants as classes
+use Rattle.rpg_effect.specs.declared.form.FieldForm.{FieldForm}
+use Rattle.rpg_effect.specs.declared.form.Kind.TheVariants as kinds
+use Rattle.rpg_cycle_safety.specs.Holding.{Holds, Keeps}
+use Rattle.rpg_machine_operations.proofs.Entries.{and_true, text_in_form}
+use Rattle.rpg_machine_operations.proofs.Keeping.{fits_current, fits_number, fits_text}
+use Rattle.rpg_machine_operations.proofs.Values.{form_there}
+use Rattle.rpg_machine_operations.specs.Good.{IsRightEnd, IsValue}
+use Rattle.rpg_object_program.specs.Kept.{IsCharacter}
+use Rattle.rpg_object_program.specs.Object.{Object}
+use Rattle.rpg_store.proofs.Fitting.{constants-insert}
+use Rattle.rpg_store.specs.Fits.{Fits, KeepsConstants}
+
+-- ---- fields that may be written
+
+writable_is_no_constant : (c : Class) → is_writable c ≡ true → is_constant c ≡ false
+writable_is_no_constant classes.Plain h = refl
+writable_is_no_constant classes.Array h = refl
+writable_is_no_constant classes.Table h = refl
+writable_is_no_constant classes.Constant h = cc
+writable_is_no_constant classes.Date h = refl
+
+no_constant : (form : Option FieldForm) (d : FieldForm) → may_write form ≡ true → form ≡ Some d → is_constant d.class ≡ false
+no_constant form d h is = writable_is_no_constant d.class (ap may_write (sym is) ∙ h)
+
+plain_is_writable : (c : Class) → is_plain c ≡ true → is_writable c ≡ true
+plain_is_writable classes.Plain h = refl
+plain_is_writable classes.Array h = cc
+plain_is_writable classes.Table h = cc
+plain_is_writable classes.Constant h = cc
+plain_is_writable classes.Date h = cc
+
+-- a plain field may be written
+pub plain_may : (form : Option FieldForm) → is_plain_form form ≡ true → may_write form ≡ true
+plain_may None h = cc
+plain_may (Some d) h = plain_is_writable d.class h
+
+-- an index field may be written
+pub index_may : (form : Option FieldForm) → is_index_form form ≡ true → may_write form ≡ true
+index_may form h = plain_may form (and_true (is_plain_form form) _ (and_true _ _ h).1).0
+
+-- ---- worlds
+
+module _ (p : Object) where
+  -- nothing but the fields matters
+  pub same_fields : (w v : World nat_cmp) → Holds p w → v.fields ≡ w.fields → Holds p v
+  same_fields w v h is = record {
+    fits = subst (λ (f : Fields nat_cmp). Fits p.fields f.values f.current) (sym is) h.fits;
+    constants = subst (λ (f : Fields nat_cmp). KeepsConstants p f.values) (sym is) h.constants;
+  }
+
+  constants_kept : (w : World nat_cmp) (field n : ℕ) (v : Value) → Holds p w → may_write (form_at p.fields field) ≡ true →
+      KeepsConstants p (maps.insert w.fields.values (field, n) v)
+  constants_kept w field n v h may = constants-insert p w.fields.values field n v h.constants (λ d is. no_constant (form_at p.fields field) d may is)
+
+  -- a number of so many digits is stored in a number field
+  pub number_written : (w : World nat_cmp) (field n : ℕ) (x : ℤ) → Holds p w → IsValue p.fields kinds.Number field n →
+      may_write (form_at p.fields field) ≡ true → unsigned_abs x < 10 ^ length_of (form_at p.fields field) →
+      Holds p (set_value w field n (Number x))
+  number_written w field n x h value may small = record {
+    fits = fits_number p.fields w.fields.values w.fields.current field n x h.fits value small;
+    constants = constants_kept w field n (Number x) h may;
+  }
+
+  -- a text of so many characters is stored in a text field
+  pub text_written : (w : World nat_cmp) (field n : ℕ) (text : List ℕ) → Holds p w → IsValue p.fields kinds.Text field n →
+      may_write (form_at p.fields field) ≡ true → length text ≡ length_of (form_at p.fields field) → All IsCharacter text →
+      Holds p (set_value w field n (Text text))
+  text_written w field n text h value may long spelled = record {
+    fits = fits_text p.fields w.fields.values w.fields.current field n text h.fits value long spelled;
+    constants = constants_kept w field n (Text text) h may;
+  }
+
+  -- one of its entries becomes current in a table
+  pub current_set : (w : World nat_cmp) (table n : ℕ) → Holds p w → 1 ≤ n → n ≤ entries_of (form_at p.fields table) → Holds p (set_current w table n)
+  current_set w table n h low high = record { fits = fits_current p.fields w.fields.values w.fields.current table n h.fits low high; constants = h.constants }
+
+  -- ---- what stands in a text field
+
+  text_at : (w : World nat_cmp) (field n : ℕ) → Holds p w → IsValue p.fields kinds.Text field n →
+      (length (characters_at w field n) ≡ length_of (form_at p.fields field)) × All IsCharacter (characters_at w field n)
+  text_at w field n h value =
+      let found = text_in_form value.form.length _ (form_there p.fields w.fields.values w.fields.current kinds.Text field n h.fits value) in
+      let same : found.0 ≡ characters_at w field n = ap characters_of (sym found.1) in
+      (ap length (sym same) ∙ found.2 ∙ ap length_of (sym value.there), subst (λ (t : List ℕ). All IsCharacter t) same (h.fits.characters field n found.0 found.1))
+
+  -- the text of an entry is as long as its field
+  pub text_long : (w : World nat_cmp) (field n : ℕ) → Holds p w → IsValue p.fields kinds.Text field n →
+      length (characters_at w field n) ≡ length_of (form_at p.fields field)
+  text_long w field n h value = (text_at w field n h value).0
+
+  -- the text of an entry is characters
+  pub text_spelled : (w : World nat_cmp) (field n : ℕ) → Holds p w → IsValue p.fields kinds.Text field n → All IsCharacter (characters_at w field n)
+  text_spelled w field n h value = (text_at w field n h value).1
+
+  -- ---- effects
+
+  -- it goes on at a world of which all of this holds
+  pub leaves : (w : World nat_cmp) → Holds p w → Keeps p (Leaves w)
+  leaves w h = record { ending = tt; holds = h }
+
+  -- it halts there
+  pub halts : (k : ℕ) (w : World nat_cmp) → 1 ≤ k → k ≤ 4 → Holds p w → Keeps p (quiet (Halt k) w)
+  halts k w low high h = record { ending = (low, high); holds = h }
+
+  pub or_halts : {A : Type 0} (o : Option A) (k : ℕ) (w : World nat_cmp) (go : A → Effect nat_cmp) → 1 ≤ k → k ≤ 4 → Holds p w →
+      ((x : A) → o ≡ Some x → Keeps p (go x)) → Keeps p (or_halt o k w go)
+  or_halts None k w go low high h next = halts k w low high h
+  or_halts (Some x) k w go low high h next = next x refl
+
+  follows : (ending : End) (e : Effect nat_cmp) (go : World nat_cmp → Effect nat_cmp) → IsRightEnd ending → Keeps p e →
+      ((w : World nat_cmp) → Holds p w → Keeps p (go w)) → Keeps p (go_on ending e go)
+  follows GoesOn e go right h next = let more = next e.world h.holds in record { ending = more.ending; holds = more.holds }
+  follows (Halt k) e go right h next = h
+  follows (Wrong f) e go right h next = absurd right
+
+  -- the one, and then the other
+  pub then_keeps : (e : Effect nat_cmp) (go : World nat_cmp → Effect nat_cmp) → Keeps p e → ((w : World nat_cmp) → Holds p w → Keeps p (go w)) →
+      Keeps p (then_go e go)
+  then_keeps e go h next = follows e.ending e go h.ending h next

@@ -1,0 +1,56 @@
+-- What a cycle and a run of an accepted program come to.
+use Rattle.std.specs.Prelude.{◌≡◌, ℕ, ◌+◌, ◌≤◌, ℤ, List, Option, length}
+use Rattle.std.specs.FinMap as map
+use Rattle.std.specs.Ordering.{nat_cmp}
+use Rattle.rpg_cycle_records.specs.Earlier.{Selected}
+use Rattle.rpg_cycle.specs.Ends.{PhaseEnd, GoesOn, EndOfJob, Halt, Wrong}
+use Rattle.rpg_cycle.specs.Phases.{Cycle, UnderWay, begun}
+use Rattle.rpg_cycle.specs.Runs.{Course, IsRun}
+use Rattle.rpg_effect.specs.Put.{Bytes}
+use Rattle.rpg_effect.specs.World.{Fields}
+use Rattle.rpg_cycle_safety.specs.Holding.{Holds}
+use Rattle.rpg_machine.specs.Config.{Config, Output}
+use Rattle.rpg_object_program.specs.Object.{Object}
+use Rattle.rpg_verify.specs.Bound.{bound}
+
+-- how a cycle may end: nothing is wrong, it goes on, comes to the end of the job, or halts with a number that is named for it
+abbrev pub IsCycleEnd : PhaseEnd → Type 0
+IsCycleEnd GoesOn = Unit {0}
+IsCycleEnd EndOfJob = Unit {0}
+IsCycleEnd (Halt k) = (1 ≤ k) × (k ≤ 7)
+IsCycleEnd (Wrong f) = ⊥
+
+-- how a run may end: it doesn't go on
+abbrev pub IsJobEnd : PhaseEnd → Type 0
+IsJobEnd GoesOn = ⊥
+IsJobEnd EndOfJob = Unit {0}
+IsJobEnd (Halt k) = IsCycleEnd (Halt k)
+IsJobEnd (Wrong f) = ⊥
+
+-- a cycle ends with values that are what they are to be, and within the program's bound; where the job goes on no subroutine runs
+pub record CyclesWell (p : Object) (e : PhaseEnd) (d : UnderWay) : Type 0 where
+  pub ending : IsCycleEnd e
+  pub values : Holds p d.config.world
+  pub no_cell : e ≡ GoesOn → d.config.cells ≡ map.empty
+  pub few : d.config.steps ≤ bound p
+
+-- there is a cycle, and this is what it comes to
+pub record HasCycle (p : Object) (earlier : List Selected) (next : Option (List ℕ)) (c : Config) : Type 0 where
+  pub ending : PhaseEnd
+  pub last : UnderWay
+  pub output : Output
+  pub cycle : Cycle p earlier next (begun p c) ending last output
+  pub well : CyclesWell p ending last
+
+-- a run over so many records ends at the end of the job or at a halt, within one cycle more, none of which took more steps than the bound
+pub record RunsWell (p : Object) (records : ℕ) (course : Course) : Type 0 where
+  pub ending : IsJobEnd course.ending
+  pub cycles : course.cycles ≤ records + 1
+  pub few : course.most ≤ bound p
+
+-- there is a run, and this is what it comes to
+pub record HasRun (p : Object) (date : ℤ) (fields : Fields nat_cmp) (records : List (List ℕ)) : Type 0 where
+  pub course : Course
+  pub bytes : Bytes
+  pub run : IsRun p date fields records course bytes
+  pub well : RunsWell p (length records) course

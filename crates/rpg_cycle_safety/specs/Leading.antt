@@ -1,0 +1,60 @@
+-- What holds of a configuration all along a run of an accepted program, what a step of it may lead to, and what a section's run may come to.
+use Rattle.std.specs.Prelude.{◌≡◌, ◌+◌, ◌*◌, ◌≤◌}
+use Rattle.std.specs.FinMap as map
+use Rattle.rpg_effect.specs.Ends.{End, GoesOn, Halt, Wrong}
+use Rattle.rpg_cycle_safety.specs.Holding.{Holds}
+use Rattle.rpg_machine.specs.Chain.{IsSafe}
+use Rattle.rpg_machine.specs.Config.{Config, Output}
+use Rattle.rpg_machine.specs.Potential.{potential}
+use Rattle.rpg_machine.specs.Run.{RunsTo}
+use Rattle.rpg_machine.specs.Step.{Outcome, Next, Stop}
+use Rattle.rpg_object_program.specs.Object.{Object}
+use Rattle.rpg_object_program.specs.Sections.{first_place}
+use Rattle.rpg_object_program.specs.declared.section.Section.{Section}
+use Rattle.rpg_verify.specs.Bound.{cost, most}
+
+-- the values are what they are to be, the place is one of the running section, and the return cells are one chain
+pub record IsSteady (p : Object) (c : Config) : Type 0 where
+  pub values : Holds p c.world
+  pub control : IsSafe p c
+
+-- nothing is wrong: it goes on, or halts with a number that is named for it, 5 where the allowance is spent
+abbrev pub IsNamedEnd : End → Type 0
+IsNamedEnd GoesOn = Unit {0}
+IsNamedEnd (Halt k) = (1 ≤ k) × (k ≤ 5)
+IsNamedEnd (Wrong f) = ⊥
+
+-- a step goes on at such a configuration, or halts; a section's end is no step
+abbrev pub StepsWell : Object → Outcome → Type 0
+StepsWell p (Next d o) = IsSteady p d
+StepsWell p (Stop GoesOn d o) = ⊥
+StepsWell p (Stop (Halt k) d o) = IsNamedEnd (Halt k) × Holds p d.world
+StepsWell p (Stop (Wrong f) d o) = ⊥
+
+-- so far as a run has come: at such a configuration, at its end, or at a halt
+abbrev pub StandsWell : Object → Outcome → Type 0
+StandsWell p (Next d o) = IsSteady p d
+StandsWell p (Stop e d o) = IsNamedEnd e × Holds p d.world
+
+-- What a run of a section comes to: its end or a halt, with values that are what they are to be. At the section's end no subroutine
+-- runs. What it took, and all that is left of the allowance can still buy, are at most the cost of the section's first place and what
+-- the allowance could buy before.
+pub record EndsWell (p : Object) (section : Section) (c : Config) (e : End) (d : Config) : Type 0 where
+  pub ending : IsNamedEnd e
+  pub values : Holds p d.world
+  pub no_cell : e ≡ GoesOn → d.cells ≡ map.empty
+  pub spent : d.allowance ≤ c.allowance
+  pub bound : d.steps + d.allowance * most p ≤ c.steps + cost p (record { section = section; number = first_place p section }) + c.allowance * most p
+
+-- a section has a run, and this is what it comes to
+pub record HasSectionRun (p : Object) (section : Section) (c : Config) : Type 0 where
+  pub ending : End
+  pub last : Config
+  pub output : Output
+  pub runs : RunsTo p section c ending last output
+  pub ends : EndsWell p section c ending last
+
+-- a step leads to a place of its section, with a chain of cells, and the sum of the steps and of all that may still come hasn't grown
+pub record StaysInBound (p : Object) (c : Config) (d : Config) (before : IsSafe p c) : Type 0 where
+  pub control : IsSafe p d
+  pub bound : potential (cost p) (most p) d control.cells ≤ potential (cost p) (most p) c before.cells

@@ -1,0 +1,3 @@
+pub mod Coming
+pub mod Holding
+pub mod Leading

@@ -1,0 +1,38 @@
+//! Laws of cycles and of whole runs. The functions do nothing: each is called for its contract alone.
+ghost use Rattle.std.specs.Prelude.{◌≡◌, ℕ, ℤ, List, Option, Some, length};
+ghost use Rattle.std.specs.FinMap as map;
+ghost use Rattle.std.specs.Ordering.{nat_cmp};
+ghost use Rattle.rpg_cycle_records.specs.Earlier.{Selected};
+ghost use Rattle.rpg_cycle.specs.Ends.{PhaseEnd};
+ghost use Rattle.rpg_cycle.specs.Phases.{Cycle, UnderWay, begun};
+ghost use Rattle.rpg_cycle.specs.Runs.{Course, IsRun};
+ghost use Rattle.rpg_cycle.specs.Starting.{date_in, job_first_world};
+ghost use Rattle.rpg_effect.specs.Put.{Bytes};
+ghost use Rattle.rpg_effect.specs.World.{Fields};
+ghost use Rattle.rpg_cycle_safety.specs.Holding.{Holds};
+ghost use Rattle.rpg_machine.specs.Config.{Config, Output};
+ghost use Rattle.rpg_object_program.specs.Kept.{IsProgram};
+ghost use Rattle.rpg_object_program.specs.Object.{Object};
+ghost use Rattle.rpg_verify_rules.specs.Accepted.{IsAccepted};
+ghost use Rattle.rpg_cycle_safety.specs.Coming.{CyclesWell, HasCycle, HasRun, RunsWell};
+
+/// There is a cycle from any configuration whose values hold and in which no subroutine runs, whatever was read before and whatever is
+/// next; and no cycle from there is wrong or takes more steps than the program's bound.
+pub fn cycles_keep()
+    ensures exists { (p : Object) (earlier : List Selected) (next : Option (List ℕ)) (c : Config) → IsProgram p → IsAccepted p → Holds p c.world →
+        c.cells ≡ map.empty → HasCycle p earlier next c }
+    ensures each { (p : Object) (earlier : List Selected) (next : Option (List ℕ)) (c : Config) (e : PhaseEnd) (d : UnderWay) (out : Output) →
+        IsProgram p → IsAccepted p → Holds p c.world → c.cells ≡ map.empty →
+        Cycle p earlier next (begun p c) e d out → CyclesWell p e d }
+{}
+
+/// There is a run over any records, on any date, from values that hold; and each run from there ends at the end of the job or at a halt, in at
+/// most one cycle more than there are records, none of which took more steps than the program's bound. Nothing in it is wrong.
+pub fn runs_keep()
+    ensures exists { (p : Object) (text : List ℕ) (date : ℤ) (fields : Fields nat_cmp) (records : List (List ℕ)) → IsProgram p → IsAccepted p →
+        date_in text ≡ Some date → Holds p (job_first_world fields) →
+        HasRun p date fields records }
+    ensures each { (p : Object) (text : List ℕ) (date : ℤ) (fields : Fields nat_cmp) (records : List (List ℕ)) (course : Course) (bytes : Bytes) →
+        IsProgram p → IsAccepted p → date_in text ≡ Some date →
+        Holds p (job_first_world fields) → IsRun p date fields records course bytes → RunsWell p (length records) course }
+{}

@@ -1,0 +1,53 @@
+//! Halts.
+
+ghost use Rattle.std.specs.Prelude.{◌≡◌};
+ghost use Rattle.rpg_effect.specs.Halts.{halt_number};
+
+/// Why a job halts.
+#[derive(Clone, Copy, PartialEq, Eq)]
+pub enum Halt {
+    /// A division by zero.
+    ZeroDivisor,
+    /// An index that is no entry of its table or array.
+    BadIndex,
+    /// A record that is of no type.
+    NoRecordType,
+    /// A digit of a number that is none.
+    BadDigit,
+    /// A branch back or a call for which the cycle has no allowance left.
+    AllowanceSpent,
+    /// A halt indicator that is on.
+    IndicatorOn,
+    /// A record that is too long, or has a byte that is no character.
+    BadRecord,
+}
+
+impl Halt {
+    /// The number by which a halt is told.
+    pub fn number(self) -> u8
+        ensures { result ≡ halt_number self }
+    {
+        match self {
+            Halt::ZeroDivisor => 1,
+            Halt::BadIndex => 2,
+            Halt::NoRecordType => 3,
+            Halt::BadDigit => 4,
+            Halt::AllowanceSpent => 5,
+            Halt::IndicatorOn => 6,
+            Halt::BadRecord => 7,
+        }
+    }
+
+    /// What happened, in a sentence.
+    pub fn sentence(self) -> &'static str {
+        match self {
+            Halt::ZeroDivisor => "a calculation divides by zero",
+            Halt::BadIndex => "an index is no entry of its table or array",
+            Halt::NoRecordType => "the record is of no type",
+            Halt::BadDigit => "a digit of a number is none",
+            Halt::AllowanceSpent => "the cycle has no allowance left for a branch back or a call",
+            Halt::IndicatorOn => "a halt indicator is on",
+            Halt::BadRecord => "the record is too long, or a byte of it is no character",
+        }
+    }
+}

@@ -1,0 +1,15 @@
+//! Laws of the definitions. The functions do nothing: each is called for its contract alone.
+ghost use Rattle.rpg_effect_renaming.specs.Laws.{InputsAgree, LinesAgree, OperationsAgree, RowsAgree, WorldsAgree};
+
+/// Operations, lines, input fields and what the rules ask of operands are the same by any names.
+pub fn names_make_no_difference<K: Ord, L: Ord>()
+    ensures operations { OperationsAgree K.cmp L.cmp }
+    ensures lines { LinesAgree K.cmp L.cmp }
+    ensures inputs { InputsAgree K.cmp L.cmp }
+    ensures rows { RowsAgree K.cmp L.cmp }
+{}
+
+/// Whatever a program's fields hold, there are values by name that agree with them.
+pub fn numbers_have_names<K: Ord>()
+    ensures { WorldsAgree K.cmp }
+{}

@@ -1,0 +1,33 @@
+-- All faults of a source, in their order.
+use Rattle.std.specs.Prelude.{◌≡◌, ℕ, ◌<◌, ◌⊎◌, ◌↔◌, List, [], ◌∷◌, ◌++◌, AllPairs, Contains, filter, map, if◌then◌else◌}
+use Rattle.rpg_cards.specs.declared.spec_card.SpecCard.{SpecCard}
+use Rattle.rpg_faults.specs.declared.code.FaultCode.TheVariants.{F7}
+use Rattle.rpg_faults.specs.declared.fault.Fault.{Fault}
+use Rattle.rpg_faults_limits.specs.Files.{lacks_input}
+use Rattle.rpg_faults.specs.Codes.{fault_number}
+use Rattle.rpg_faults.specs.Faults.{HasFault, codes, fault_on}
+use Rattle.rpg_faults.specs.Rules.{rule}
+
+-- by card, and then by code
+abbrev pub IsBefore : Fault → Fault → Type 0
+IsBefore f g = (f.card < g.card) ⊎ ((f.card ≡ g.card) × (fault_number f.code < fault_number g.code))
+
+-- just the faults that a source has, each once, the least first
+pub record AreAllFaults (cards : List SpecCard) (faults : List Fault) : Type 0 where
+  pub just : (f : Fault) → HasFault cards f ↔ Contains faults f
+  pub in_order : AllPairs IsBefore faults
+
+-- ---- how they are found: what the source as a whole breaks, then card by card, code by code
+
+abbrev pub faults_on : List SpecCard → SpecCard → List SpecCard → List Fault
+faults_on before c after = map (fault_on c) (filter (λ code. rule code before c after) codes)
+
+abbrev pub faults_from : List SpecCard → List SpecCard → List Fault
+faults_from before [] = []
+faults_from before (c ∷ after) = faults_on before c after ++ faults_from (before ++ c ∷ []) after
+
+abbrev pub faults_of_whole : List SpecCard → List Fault
+faults_of_whole cards = if lacks_input cards then record { card = 0; code = F7 } ∷ [] else []
+
+abbrev pub all_faults : List SpecCard → List Fault
+all_faults cards = faults_of_whole cards ++ faults_from [] cards

@@ -1,0 +1,35 @@
+-- The joined lengths that the cards before a card come to, level by level.
+use Rattle.std.specs.Prelude.{◌≡◌, ℕ, ◌+◌, ◌==◌, List, min, map, take, sum_by, Option, None, Some, if◌then◌else◌}
+use Rattle.std.specs.Option.{option_map}
+use Rattle.rpg_cards.specs.Groups.{Group, group_count, groups, input_role, open_group}
+use Rattle.rpg_cards.specs.declared.spec_card.SpecCard.{SpecCard}
+use Rattle.rpg_faults.specs.Places.{first_length, has_bad, input_columns, joined_length, levels}
+use Rattle.rpg_faults.specs.declared.lengths.JoinedLengths.{JoinedLengths}
+use Rattle.rpg_sheet_specs.specs.declared.input.InputField.{InputField}
+use Rattle.rpg_sheet_specs.specs.declared.input.InputSpec.{InputSpec}
+use Rattle.rpg_sheet_specs.specs.declared.input.RecordType.{RecordType}
+
+-- those of the types up to the open one, with all their fields
+abbrev pub first_lengths : List SpecCard → List SpecCard → List (Option ℕ)
+first_lengths cards before = map (λ level. first_length level (take (group_count input_role before) (groups input_role cards))) levels
+
+-- those of a type's fields; what is longer counts as 65,535
+abbrev pub lengths_of : List InputSpec → List ℕ
+lengths_of specs = map (λ level. min (joined_length level specs) 65535) levels
+
+abbrev pub input_specs_in : Option (Group RecordType InputSpec) → Option (List InputSpec)
+input_specs_in o = option_map (λ g. g.followers) o
+
+pub record AreJoinedLengths (cards before : List SpecCard) (j : JoinedLengths) : Type 0 where
+  pub first : j.first ≡ first_lengths cards before
+  pub open_type : j.open_type ≡ option_map lengths_of (input_specs_in (open_group input_role before))
+
+-- ---- a level's fields, one by one
+
+-- a field has a column at least
+abbrev pub some_length : ℕ → Option ℕ
+some_length n = if n == 0 then None else Some n
+
+-- with fields of that joined length before them
+abbrev pub length_behind : ℕ → List InputField → Option ℕ
+length_behind n fs = if has_bad fs then None else some_length (n + sum_by input_columns fs)

@@ -1,0 +1,119 @@
+//! F16: columns of records and of lines.
+
+ghost use Rattle.std.specs.Prelude.{◌≡◌, ◌≤◌, ◌∷◌, ◌++◌, List, Option, length};
+ghost use Rattle.std.specs.Option.{option_map};
+ghost use Rattle.rpg_cards.specs.Files.{file_by};
+ghost use Rattle.rpg_cards.specs.Groups.{input_role, open_file};
+ghost use Rattle.rpg_cards.specs.Sheets.{AreSheets, group_file};
+ghost use Rattle.rpg_cards.specs.declared.spec_card.SpecCard.{SpecCard};
+ghost use Rattle.rpg_faults.specs.Places as rules;
+ghost use Rattle.rpg_faults.specs.State.{IsPlaces};
+ghost use Rattle.rpg_sheet_specs.specs.declared.file.FileSpec.{FileSpec};
+
+use crate::state::Places;
+use rpg_cards::{GroupFile, IndexedCards, Sheets, SpecCard};
+use rpg_faults_operands::width;
+use rpg_sheet_specs::{InputField, InputSpec, OutputField, RecordCode, Three};
+
+/// Whether columns lie outside the record or the line, a field is wider than its end, or control fields are joined to a wrong length.
+pub fn misplaces(
+    source: &IndexedCards,
+    sheets: &Sheets,
+    places: &Places,
+    before: &[SpecCard],
+    card: &SpecCard,
+    after: &[SpecCard],
+) -> bool
+    requires split { source.now ≡ before.now ++ card.now ∷ after.now }
+    requires few { length source.now ≤ 2000 }
+    requires sheets { AreSheets source.now before.now sheets.now }
+    requires places { IsPlaces source.now before.now places.now }
+    ensures { result ≡ rules.misplaces source.now before.now card.now after.now }
+{
+    if let Some(input) = card.input() {
+        return outside_on_input(own_length(source, sheets.types.file, input), input)
+            || places.lengths.join_badly(card, after);
+    }
+    match card.output_field() {
+        None => false,
+        Some(field) => outside_line(source, length_of(sheets.lines.file), field),
+    }
+}
+
+/// The record length of the file of an I card: that of the open type, or the one that a type card names.
+fn own_length(source: &IndexedCards, file: Option<GroupFile>, input: &InputSpec) -> Option<u16>
+    ensures { (before : List SpecCard) → file ≡ option_map group_file (file_by (open_file input_role before) source.now) → result ≡ option_map (λ f. f.record_length) (file_by (rules.own_file before input.now) source.now) }
+{
+    match input {
+        InputSpec::Type(record_type) => match &record_type.file {
+            None => length_of(file),
+            Some(name) => Some(source.file_named(name)?.record_length),
+        },
+        _ => length_of(file),
+    }
+}
+
+fn length_of(file: Option<GroupFile>) -> Option<u16>
+    ensures { result ≡ option_map (λ f. f.record_length) file }
+{
+    Some(file?.record_length)
+}
+
+fn outside_on_input(length: Option<u16>, input: &InputSpec) -> bool
+    ensures { (file : Option FileSpec) → length ≡ option_map (λ f. f.record_length) file → result ≡ rules.outside_on_input file input.now }
+{
+    match input {
+        InputSpec::Type(record_type) => bad_codes(length, &record_type.codes),
+        InputSpec::And(codes) => bad_codes(length, codes),
+        InputSpec::Field(field) => outside_record(length, field),
+    }
+}
+
+fn bad_codes(length: Option<u16>, codes: &Three<Option<RecordCode>>) -> bool
+    ensures { (file : Option FileSpec) → length ≡ option_map (λ f. f.record_length) file → result ≡ rules.bad_codes file codes.now }
+{
+    is_outside(length, codes.first)
+        || is_outside(length, codes.second)
+        || is_outside(length, codes.third)
+}
+
+fn is_outside(length: Option<u16>, code: Option<RecordCode>) -> bool
+    ensures { (file : Option FileSpec) → length ≡ option_map (λ f. f.record_length) file → result ≡ rules.is_code_outside file code }
+{
+    match code {
+        None => false,
+        Some(code) => code.position == 0 || is_past(length, code.position),
+    }
+}
+
+fn outside_record(length: Option<u16>, field: &InputField) -> bool
+    ensures { (file : Option FileSpec) → length ≡ option_map (λ f. f.record_length) file → result ≡ rules.outside_record file field.now }
+{
+    field.from == 0 || field.to == 0 || field.to < field.from || is_past(length, field.to)
+}
+
+fn outside_line(source: &IndexedCards, length: Option<u16>, field: &OutputField) -> bool
+    ensures { (file : Option FileSpec) → length ≡ option_map (λ f. f.record_length) file → result ≡ rules.outside_line source.now file field.now }
+{
+    field.end == 0 || is_past(length, field.end) || is_wider(source, field)
+}
+
+/// Nothing is held against the length of a file that is unknown.
+fn is_past(length: Option<u16>, column: u16) -> bool
+    ensures { (file : Option FileSpec) → length ≡ option_map (λ f. f.record_length) file → result ≡ rules.is_past file column }
+{
+    match length {
+        None => false,
+        Some(length) => length < column,
+    }
+}
+
+/// Whether a field takes more columns than there are up to its end.
+fn is_wider(source: &IndexedCards, field: &OutputField) -> bool
+    ensures { result ≡ rules.is_wider source.now field.now }
+{
+    match width(source, field) {
+        None => false,
+        Some(width) => width > field.end as usize,
+    }
+}

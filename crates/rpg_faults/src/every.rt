@@ -1,0 +1,90 @@
+//! All faults.
+
+ghost use Rattle.std.specs.Prelude.{◌≡◌, [], ◌++◌, ◌∷◌, ◌≤◌, length, IfOk, OnOk};
+ghost use Rattle.rpg_cards.specs.Cards.{Numbered};
+ghost use Rattle.rpg_faults.specs.Every as every;
+ghost use Rattle.rpg_faults.specs.Seen.{AreCardsSeen};
+
+use crate::Places;
+use crate::breach::breaks;
+use crate::code::FaultCode;
+use crate::fault::Fault;
+use crate::least::codes;
+use crate::seen::Seen;
+use rpg_cards::{IndexedCards, SpecCard};
+use rpg_faults_flow::Labels;
+use rpg_faults_limits::lacks_input;
+use std::alloc::{AllocError, Global};
+
+/// All faults by card, then by code, found in one pass over the cards. There are none exactly where `first_fault` finds none. An error is for want of
+/// memory.
+pub fn all_faults(alloc: Global, cards: &[SpecCard]) -> Result<Vec<Fault>, AllocError>
+    requires numbered { Numbered 1 cards.now }
+    requires few { length cards.now ≤ 2000 }
+    ensures { IfOk result (λ faults. every.AreAllFaults cards.now faults.items) }
+{
+    let source = IndexedCards::new(alloc, cards)?;
+    let labels = Labels::new(alloc, cards)?;
+    let mut faults = Vec::new(alloc);
+    put_fault_of_whole(&mut faults, &source)?;
+    put_faults(&mut faults, &source, &labels)?;
+    Ok(faults)
+}
+
+/// Appends what the source as a whole breaks.
+fn put_fault_of_whole(faults: &mut Vec<Fault>, source: &IndexedCards) -> Result<(), AllocError>
+    ensures { OnOk result (faults.new.items ≡ faults.old.items ++ every.faults_of_whole source.now) }
+{
+    if lacks_input(source) {
+        faults.push(Fault {
+            card: 0,
+            code: FaultCode::F7,
+        })?;
+    }
+    Ok(())
+}
+
+/// Appends what the cards break, card by card.
+fn put_faults(
+    faults: &mut Vec<Fault>,
+    source: &IndexedCards,
+    labels: &Labels,
+) -> Result<(), AllocError>
+    requires labels { labels.now ≡ source.now }
+    requires few { length source.now ≤ 2000 }
+    ensures { OnOk result (faults.new.items ≡ faults.old.items ++ every.faults_from [] source.now) }
+{
+    let places = Places::nothing(source);
+    let mut seen = Seen::nothing(source, places);
+    let mut rest = source.as_slice();
+    while let Some((card, after)) = rest.split_first() {
+        put_faults_on(faults, source, labels, &seen, card, after)?;
+        seen = seen.behind(source, card, after);
+        rest = after;
+    }
+    Ok(())
+}
+
+/// Appends what a card breaks, code by code.
+fn put_faults_on(
+    faults: &mut Vec<Fault>,
+    source: &IndexedCards,
+    labels: &Labels,
+    seen: &Seen,
+    card: &SpecCard,
+    after: &[SpecCard],
+) -> Result<(), AllocError>
+    requires labels { labels.now ≡ source.now }
+    requires seen { AreCardsSeen source.now (card.now ∷ after.now) seen.now }
+    ensures { OnOk result (faults.new.items ≡ faults.old.items ++ every.faults_on seen.now.before.now card.now after.now) }
+{
+    for code in codes() {
+        if breaks(code, source, labels, seen, card, after) {
+            faults.push(Fault {
+                card: card.number,
+                code,
+            })?;
+        }
+    }
+    Ok(())
+}

@@ -1,0 +1,192 @@
+//! The joined lengths of control fields.
+
+ghost use Rattle.std.specs.Prelude.{◌≡◌, ◌≤◌, ◌-◌, [], ◌∷◌, ◌++◌, List, length, map, min, false, Option, slice_index_or};
+ghost use Rattle.std.specs.List.{list_any};
+ghost use Rattle.std.specs.Option.{option_map, option_map_or, option_or};
+ghost use Rattle.rpg_cards.specs.Cards.{input_on};
+ghost use Rattle.rpg_cards.specs.Groups.{followers, input_role, open_group};
+ghost use Rattle.rpg_cards.specs.declared.spec_card.SpecCard.{SpecCard};
+ghost use Rattle.rpg_faults.specs.Places as rules;
+ghost use Rattle.rpg_faults.specs.Lengths.{AreJoinedLengths, input_specs_in, lengths_of, some_length};
+ghost use Rattle.rpg_sheet_specs.specs.declared.input.InputSpec.{InputSpec};
+ghost use Rattle.rpg_sheet_specs.specs.declared.input.InputSpec.TheVariants as input;
+
+use rpg_cards::SpecCard;
+use rpg_sheet_specs::{InputField, InputSpec};
+
+/// The greatest joined length of a level.
+const LIMIT: u16 = 256;
+
+/// The joined lengths of the control levels, L1 first.
+#[derive(Clone, Copy)]
+pub(crate) struct JoinedLengths {
+    /// In the first type that has the level.
+    first: [Option<u32>; 9],
+    /// In the open type, of the fields so far; what is longer counts as `u16::MAX`.
+    open_type: Option<[u16; 9]>,
+}
+
+impl JoinedLengths {
+    /// Before all cards.
+    pub(crate) fn nothing() -> Self
+        ensures { (cards : List SpecCard) → AreJoinedLengths cards [] result }
+    {
+        JoinedLengths {
+            first: [None; 9],
+            open_type: None,
+        }
+    }
+
+    /// With one more card, before those behind it.
+    pub(crate) fn with(self, card: &SpecCard, after: &[SpecCard]) -> Self
+        requires { length after.now ≤ 2000 }
+        ensures { (before : List SpecCard) → let cards = before ++ card.now ∷ after.now in AreJoinedLengths cards before self → AreJoinedLengths cards (before ++ card.now ∷ []) result }
+    {
+        let first = self.first;
+        match card.input() {
+            Some(InputSpec::Type(_)) => {
+                let first = with_type(first, after);
+                JoinedLengths {
+                    first,
+                    open_type: Some([0; 9]),
+                }
+            }
+            Some(InputSpec::Field(field)) => JoinedLengths {
+                first,
+                open_type: with_field(self.open_type, field),
+            },
+            Some(InputSpec::And(_)) => self,
+            None => self,
+        }
+    }
+
+    /// Whether a type has other joined lengths than the first types with its levels, or a field's level passes the limit with it.
+    pub(crate) fn join_badly(&self, card: &SpecCard, after: &[SpecCard]) -> bool
+        requires { length after.now ≤ 2000 }
+        ensures { (before : List SpecCard) → AreJoinedLengths (before ++ card.now ∷ after.now) before self.now → result ≡ option_map_or (rules.joins_badly before after.now) (input_on card.now.spec) false }
+    {
+        match card.input() {
+            Some(InputSpec::Type(_)) => self.differ_from(after),
+            Some(InputSpec::Field(field)) => self.pass_limit_with(field),
+            _ => false,
+        }
+    }
+
+    /// Whether a type's joined lengths aren't the first ones.
+    fn differ_from(&self, after: &[SpecCard]) -> bool
+        requires { length after.now ≤ 2000 }
+        ensures { result ≡ list_any (λ level. rules.lengths_differ (slice_index_or self.now.first (level - 1) None) (rules.level_length level (followers input_role after.now))) rules.levels }
+    {
+        for level in 1..=9 {
+            let first = self.first[level as usize - 1];
+            if is_other(first, level_length(level, after)) {
+                return true;
+            }
+        }
+        false
+    }
+
+    /// Whether the joined length of a field's level passes its limit with it.
+    fn pass_limit_with(&self, field: &InputField) -> bool
+        ensures { (before : List SpecCard) → self.now.open_type ≡ option_map lengths_of (input_specs_in (open_group input_role before)) → result ≡ rules.passes_length before field.now }
+    {
+        let Some(level) = field.level else {
+            return false;
+        };
+        let joined = self.open_length(level.number());
+        joined <= LIMIT && joined.saturating_add(columns_of(field)) > LIMIT
+    }
+
+    /// That of a level in the open type.
+    fn open_length(&self, level: u8) -> u16
+        requires low { 1 ≤ level }
+        requires high { level ≤ 9 }
+        ensures { (before : List SpecCard) → self.now.open_type ≡ option_map lengths_of (input_specs_in (open_group input_role before)) → result ≡ min (rules.joined_length level (rules.open_specs before)) 65535 }
+    {
+        match self.open_type {
+            None => 0,
+            Some(lengths) => lengths[level as usize - 1],
+        }
+    }
+}
+
+/// The first lengths with those of a further type.
+fn with_type(first: [Option<u32>; 9], after: &[SpecCard]) -> [Option<u32>; 9]
+    requires { length after.now ≤ 2000 }
+    ensures { result ≡ map (λ level. option_or (slice_index_or first (level - 1) None) (rules.level_length level (followers input_role after.now))) rules.levels }
+{
+    let mut first = first;
+    for level in 1..=9 {
+        let i = level as usize - 1;
+        first[i] = first[i].or(level_length(level, after));
+    }
+    first
+}
+
+/// The lengths of the open type with a further field.
+fn with_field(open_type: Option<[u16; 9]>, field: &InputField) -> Option<[u16; 9]>
+    ensures { (specs : Option (List InputSpec)) → open_type ≡ option_map lengths_of specs → result ≡ option_map (λ fs. lengths_of (fs ++ input.Field field.now ∷ [])) specs }
+{
+    let mut lengths = open_type?;
+    if let Some(level) = field.level {
+        let i = level.number() as usize - 1;
+        lengths[i] = lengths[i].saturating_add(columns_of(field));
+    }
+    Some(lengths)
+}
+
+fn is_other(first: Option<u32>, own: Option<u32>) -> bool
+    ensures { result ≡ rules.lengths_differ first own }
+{
+    match (first, own) {
+        (Some(first), Some(own)) => first != own,
+        _ => false,
+    }
+}
+
+/// The joined length of a level's fields up to the next record type: none without a field, or with bad columns.
+fn level_length(level: u8, after: &[SpecCard]) -> Option<u32>
+    requires { length after.now ≤ 2000 }
+    ensures { result ≡ rules.level_length level (followers input_role after.now) }
+{
+    let mut sum = 0;
+    for card in after {
+        match card.input() {
+            Some(InputSpec::Type(_)) => return some_length(sum),
+            Some(InputSpec::Field(field)) if is_at_level(level, field) => {
+                let columns = columns_of(field);
+                if columns == 0 {
+                    return None;
+                }
+                sum += columns as u32;
+            }
+            _ => {}
+        }
+    }
+    some_length(sum)
+}
+
+fn some_length(sum: u32) -> Option<u32>
+    ensures { result ≡ some_length sum }
+{
+    if sum == 0 { None } else { Some(sum) }
+}
+
+fn is_at_level(level: u8, field: &InputField) -> bool
+    ensures { result ≡ rules.is_at_level level field.now }
+{
+    match field.level {
+        None => false,
+        Some(own) => own.number() == level,
+    }
+}
+
+/// How many columns a field has: 0 where they begin at 0 or are turned round.
+fn columns_of(field: &InputField) -> u16
+    ensures { result ≡ rules.input_columns field.now }
+{
+    if field.from == 0 {
+        return 0;
+    }
+    field.to.saturating_sub(field.from - 1)
+}

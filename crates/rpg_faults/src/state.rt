@@ -1,0 +1,46 @@
+//! What is kept of the cards before a card.
+
+ghost use Rattle.std.specs.Prelude.{◌≡◌, ◌≤◌, [], ◌∷◌, ◌++◌, length};
+ghost use Rattle.rpg_faults.specs.State.{IsPlaces};
+
+use crate::decks::Decks;
+use crate::lengths::JoinedLengths;
+use rpg_cards::{IndexedCards, SpecCard};
+
+/// The decks of data that are left, and the joined lengths of control fields.
+#[derive(Clone, Copy)]
+pub struct Places<'a> {
+    pub(crate) decks: Decks<'a>,
+    pub(crate) lengths: JoinedLengths,
+}
+
+impl<'a> Places<'a> {
+    /// Before all cards.
+    pub fn nothing(source: &IndexedCards<'a>) -> Self
+        ensures { IsPlaces source.now [] result }
+    {
+        Places {
+            decks: Decks::all(source.as_slice()),
+            lengths: JoinedLengths::nothing(),
+        }
+    }
+
+    /// With the card behind those before.
+    pub fn with(
+        self,
+        source: &IndexedCards,
+        before: &[SpecCard],
+        card: &SpecCard,
+        after: &[SpecCard],
+    ) -> Self
+        requires split { source.now ≡ before.now ++ card.now ∷ after.now }
+        requires few { length source.now ≤ 2000 }
+        requires places { IsPlaces source.now before.now self }
+        ensures { IsPlaces source.now (before.now ++ card.now ∷ []) result }
+    {
+        Places {
+            decks: self.decks.with(card),
+            lengths: self.lengths.with(card, after),
+        }
+    }
+}

@@ -1,0 +1,86 @@
+-- F9 of calculation cards: columns that are missing or not allowed (but for the sequence of what LOKUP searches, which wants forms).
+use Rattle.std.specs.Prelude.{ℕ, ◌+◌, ◌==◌, nat_lt, List, Bool, true, false, not, ◌&&◌, ◌||◌, Option, is_some, is_none}
+use Rattle.std.specs.Option.{option_map, option_map_or}
+use Rattle.rpg_cards.specs.Calculations.{CalculationGroup, depends, goes_on, group_end, open_calculation_group}
+use Rattle.rpg_cards.specs.Keys.{plain_name}
+use Rattle.rpg_cards.specs.Operations.{card_columns}
+use Rattle.rpg_cards.specs.declared.operations.Column.{Column}
+use Rattle.rpg_cards.specs.declared.operations.Column.TheVariants.{Blank, May, Must}
+use Rattle.rpg_cards.specs.declared.operations.Content.{Content}
+use Rattle.rpg_cards.specs.declared.operations.Content.TheVariants as content
+use Rattle.rpg_cards.specs.declared.operations.Shown.{Shown}
+use Rattle.rpg_cards.specs.declared.operations.Shown.TheVariants as shown
+use Rattle.rpg_cards.specs.Cards.{calculation_on}
+use Rattle.rpg_cards.specs.Groups.{joins}
+use Rattle.rpg_cards.specs.declared.spec_card.SpecCard.{SpecCard}
+use Rattle.rpg_sheet_specs.specs.declared.calculation.CalculationSpec.{CalculationSpec}
+use Rattle.rpg_sheet_specs.specs.declared.calculation.Operation.{Operation}
+use Rattle.rpg_sheet_specs.specs.declared.indicator.Three.{Three}
+use Rattle.rpg_sheet_specs.specs.declared.literal.Factor.{Factor}
+use Rattle.rpg_sheet_specs.specs.declared.literal.Factor.TheVariants as factor
+
+-- ---- what the operation has, on the last card of its group
+
+-- labels and subroutines are plain names
+abbrev pub is_for_name : Content → Bool
+is_for_name content.Label = true
+is_for_name content.Subroutine = true
+is_for_name content.Value = false
+is_for_name content.WholeArray = false
+is_for_name content.Searched = false
+is_for_name content.Table = false
+
+abbrev pub is_unfit : Content → Factor → Bool
+is_unfit c f = is_for_name c && is_none (plain_name f)
+
+abbrev pub misses : Column → Option Factor → Bool
+misses Blank f = is_some f
+misses (May c) f = option_map_or (is_unfit c) f false
+misses (Must c) f = option_map_or (is_unfit c) f true
+
+abbrev pub filled_one : Option ℕ → ℕ
+filled_one o = option_map_or (λ n. 1) o 0
+
+abbrev pub filled_count : Three (Option ℕ) → ℕ
+filled_count t = filled_one t.first + filled_one t.second + filled_one t.third
+
+-- high, low, equal
+abbrev pub bad_shown : Shown → Three (Option ℕ) → Bool
+bad_shown shown.Unused t = nat_lt 0 (filled_count t)
+bad_shown shown.Any t = false
+bad_shown shown.Some t = filled_count t == 0
+bad_shown shown.Search t = filled_count t == 0 || (is_some t.first && is_some t.second)
+
+abbrev pub bad_operation : CalculationSpec → Operation → Bool
+bad_operation k o =
+    misses (card_columns o).factor_1 k.factor_1
+    || (misses (card_columns o).factor_2 k.factor_2
+    || (misses (card_columns o).result_field (option_map factor.Entry k.result_field)
+    || bad_shown (card_columns o).indicators k.resulting_indicators))
+
+-- ---- a group's cards
+
+-- a card before the last has conditions and nothing else
+abbrev pub has_more : CalculationSpec → Bool
+has_more k = is_some k.operation || is_some k.factor_1 || is_some k.factor_2 || is_some k.result_field || is_some k.length || nat_lt 0 (filled_count k.resulting_indicators)
+
+-- TAG, BEGSR and ENDSR have no conditions
+abbrev pub may_depend : CalculationSpec → Bool
+may_depend last = option_map_or (λ o. (card_columns o).may_depend) last.operation true
+
+-- of several cards each has conditions, and none has any where the group's operation may have none
+abbrev pub bad_conditions : Option CalculationGroup → CalculationSpec → List SpecCard → Bool
+bad_conditions group k after = ((goes_on after || (joins k.control_level && is_some group)) && not (depends k)) || (depends k && not (may_depend (group_end k after)))
+
+abbrev pub bad_last : CalculationSpec → Bool
+bad_last k = option_map_or (bad_operation k) k.operation true
+
+abbrev pub bad_by_end : Bool → CalculationSpec → Bool
+bad_by_end true k = has_more k
+bad_by_end false k = bad_last k
+
+abbrev pub bad_calculation : Option CalculationGroup → CalculationSpec → List SpecCard → Bool
+bad_calculation group k after = bad_conditions group k after || ((is_some k.length && is_none k.result_field) || bad_by_end (goes_on after) k)
+
+abbrev pub bad_calculation_columns : List SpecCard → SpecCard → List SpecCard → Bool
+bad_calculation_columns before c after = option_map_or (λ k. bad_calculation (open_calculation_group before) k after) (calculation_on c.spec) false

@@ -1,0 +1,78 @@
+-- F10, F11, F13, F14: labels, subroutines, and where control goes.
+use Rattle.std.specs.Prelude.{ℕ, ◌==◌, List, [], ◌∷◌, ◌++◌, Bool, true, false, not, ◌&&◌, ◌||◌, Option, is_some}
+use Rattle.std.specs.List.{list_any}
+use Rattle.std.specs.Option.{option_and_then, option_map_or}
+use Rattle.rpg_cards.specs.Calculations.{calculation_ending, calculations, calculations_before}
+use Rattle.rpg_cards.specs.Calls.{call_at, calls, reaches}
+use Rattle.rpg_cards.specs.Deeds.{Calculation}
+use Rattle.rpg_cards.specs.Keys.{Key, Name}
+use Rattle.rpg_cards.specs.Labels.{gives, label_named, labels, section_of, wants}
+use Rattle.rpg_cards.specs.declared.labels.Label.{Label}
+use Rattle.rpg_cards.specs.declared.labels.Named.{Named}
+use Rattle.rpg_cards.specs.declared.labels.Section.{Section}
+use Rattle.rpg_cards.specs.declared.labels.Section.TheVariants.{Detail, Outside, Subroutine, Total}
+use Rattle.rpg_cards.specs.Names.{definitions, definitions_on, given_names, is_of}
+use Rattle.rpg_cards.specs.declared.names.Definition.{Definition}
+use Rattle.rpg_cards.specs.declared.spec_card.SpecCard.{SpecCard}
+
+-- ---- F10: GOTO a label, EXSR a subroutine that isn't there; a name that is given twice is what it was first
+
+abbrev pub alike : Bool → Bool → Bool
+alike true b = b
+alike false b = not b
+
+abbrev pub is_given_as : List Label → Named → Bool
+is_given_as given n = option_map_or (λ (l : Label). alike l.named.is_subroutine n.is_subroutine) (label_named n.name given) false
+
+abbrev pub lacks_label : List Label → Calculation Key → Bool
+lacks_label given g = option_map_or (λ n. not (is_given_as given n)) (wants g.deed) false
+
+abbrev pub goes_nowhere : List SpecCard → List SpecCard → SpecCard → List SpecCard → Bool
+goes_nowhere cards before c after = option_map_or (lacks_label (labels (calculations cards))) (calculation_ending before c after) false
+
+-- ---- F11: at the later of the two cards
+
+abbrev pub is_defined : Name → List Definition → Bool
+is_defined name ds = list_any (is_of name) given_names || list_any (is_of name) ds
+
+-- a label that is given before, or a field by then
+abbrev pub gives_again : List SpecCard → SpecCard → List SpecCard → Calculation Key → Bool
+gives_again before c after g =
+    option_map_or (λ (n : Named). is_some (label_named n.name (labels (calculations_before before (c ∷ after)))) || is_defined n.name (definitions (before ++ c ∷ []))) (gives g.deed) false
+
+-- a field that is a label before
+abbrev pub defines_label : List Label → SpecCard → Bool
+defines_label given c = list_any (λ (d : Definition). is_some (label_named d.name given)) (definitions_on c.spec)
+
+abbrev pub names_twice : List SpecCard → SpecCard → List SpecCard → Bool
+names_twice before c after =
+    option_map_or (gives_again before c after) (calculation_ending before c after) false
+    || defines_label (labels (calculations_before before (c ∷ after))) c
+
+-- ---- F13: GOTO to a label of another section; nothing is said where one of them is outside the sections
+
+abbrev pub are_apart : Section → Section → Bool
+are_apart Detail Detail = false
+are_apart Total Total = false
+are_apart (Subroutine m) (Subroutine n) = not (m == n)
+are_apart Outside s = false
+are_apart s Outside = false
+are_apart s t = true
+
+abbrev pub leaves_by : Section → Named → Label → Bool
+leaves_by own n l = not l.named.is_subroutine && (not n.is_subroutine && are_apart own l.section)
+
+abbrev pub leaves_section : List Label → List (Calculation Key) → Calculation Key → Bool
+leaves_section given before g = option_map_or (λ (n : Named). option_map_or (leaves_by (section_of before g) n) (label_named n.name given) false) (wants g.deed) false
+
+abbrev pub goes_apart : List SpecCard → List SpecCard → SpecCard → List SpecCard → Bool
+goes_apart cards before c after = option_map_or (leaves_section (labels (calculations cards)) (calculations_before before (c ∷ after))) (calculation_ending before c after) false
+
+-- ---- F14: an EXSR in a subroutine that the one called reaches
+
+abbrev pub comes_back : List (ℕ × ℕ) → Option (ℕ × ℕ) → Bool
+comes_back all call = option_map_or (λ (p : ℕ × ℕ). reaches all p.1 p.0) call false
+
+abbrev pub calls_itself : List SpecCard → List SpecCard → SpecCard → List SpecCard → Bool
+calls_itself cards before c after =
+    comes_back (calls (calculations cards)) (option_and_then (call_at (labels (calculations cards)) (calculations_before before (c ∷ after))) (calculation_ending before c after))

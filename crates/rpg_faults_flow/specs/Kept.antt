@@ -1,0 +1,9 @@
+-- A source of which no card breaks a rule.
+use Rattle.std.specs.Prelude.{◌≡◌, List, ◌∷◌, ◌++◌, Bool, false}
+use Rattle.rpg_cards.specs.declared.spec_card.SpecCard.{SpecCard}
+
+abbrev pub Rule : Type 0
+Rule = List SpecCard → SpecCard → List SpecCard → Bool
+
+abbrev pub KeepsRule : Rule → List SpecCard → Type 0
+KeepsRule r cards = (before : List SpecCard) (c : SpecCard) (after : List SpecCard) → cards ≡ before ++ c ∷ after → r before c after ≡ false

@@ -1,0 +1,47 @@
+-- F15: H where nothing is rounded, and MVR where no division has left a remainder.
+use Rattle.std.specs.Prelude.{List, Bool, true, false, not, ◌&&◌, ◌||◌, Option}
+use Rattle.std.specs.Option.{option_map_or}
+use Rattle.rpg_cards.specs.Calculations.{card_ending, last_card, open_calculation_group}
+use Rattle.rpg_cards.specs.Operations.{card_columns}
+use Rattle.rpg_cards.specs.Cards.{calculation_on}
+use Rattle.rpg_cards.specs.Groups.{joins}
+use Rattle.rpg_cards.specs.declared.spec_card.SpecCard.{SpecCard}
+use Rattle.rpg_sheet_specs.specs.declared.calculation.CalculationSpec.{CalculationSpec}
+use Rattle.rpg_sheet_specs.specs.declared.calculation.Operation.{Operation}
+use Rattle.rpg_sheet_specs.specs.declared.calculation.Operation.TheVariants as op
+
+abbrev pub is_division : Operation → Bool
+is_division op.Divide = true
+is_division o = false
+
+abbrev pub is_remainder : Operation → Bool
+is_remainder op.MoveRemainder = true
+is_remainder o = false
+
+-- the operation passes a test
+abbrev pub operation_passes : (Operation → Bool) → CalculationSpec → Bool
+operation_passes test k = option_map_or test k.operation false
+
+abbrev pub may_half_adjust : Operation → Bool
+may_half_adjust o = (card_columns o).may_half_adjust
+
+abbrev pub leaves_remainder : CalculationSpec → Bool
+leaves_remainder k = operation_passes is_division k && not k.half_adjust
+
+-- the card right before is the last one of a division without H
+abbrev pub is_behind_division : List SpecCard → Bool
+is_behind_division before = option_map_or (λ g. leaves_remainder (last_card g)) (open_calculation_group before) false
+
+-- H on a card before the last, or where the operation doesn't round
+abbrev pub rounds_nothing : CalculationSpec → Option CalculationSpec → Bool
+rounds_nothing k last = k.half_adjust && not (option_map_or (operation_passes may_half_adjust) last false)
+
+-- MVR in a group of one card follows a division
+abbrev pub lacks_remainder : List SpecCard → CalculationSpec → Option CalculationSpec → Bool
+lacks_remainder before k last = option_map_or (operation_passes is_remainder) last false && (joins k.control_level || not (is_behind_division before))
+
+abbrev pub rounds_wrongly : List SpecCard → CalculationSpec → Option CalculationSpec → Bool
+rounds_wrongly before k last = rounds_nothing k last || lacks_remainder before k last
+
+abbrev pub bad_rounding : List SpecCard → SpecCard → List SpecCard → Bool
+bad_rounding before c after = option_map_or (λ k. rounds_wrongly before k (card_ending c after)) (calculation_on c.spec) false

@@ -1,0 +1,154 @@
+//! F9 of calculation cards: columns that are missing or not allowed.
+
+ghost use Rattle.std.specs.Prelude.{◌≡◌, ◌∷◌, Option};
+ghost use Rattle.std.specs.Option.{option_map};
+ghost use Rattle.rpg_faults_flow.specs.Columns as spec;
+ghost use Rattle.rpg_faults_flow.specs.Seen.{IsFlow};
+ghost use Rattle.rpg_faults_flow.specs.ByCard as by_card;
+ghost use Rattle.rpg_sheet_specs.specs.declared.literal.Factor.TheVariants as factor;
+
+use crate::flow::Flow;
+use rpg_cards::{
+    Column, Content, Shown, SpecCard, columns, depends, goes_on, group_end, joins, plain_name,
+};
+use rpg_sheet_specs::{CalculationSpec, Entry, Factor, Indicator, Operation, Three};
+
+/// F9 of calculation cards, but for the sequence of what LOKUP searches.
+pub fn bad_columns(flow: &Flow, before: &[SpecCard], card: &SpecCard, after: &[SpecCard]) -> bool
+    requires { IsFlow before.now (card.now ∷ after.now) flow.now }
+    ensures { result ≡ spec.bad_calculation_columns before.now card.now after.now }
+{
+    let Some(calculation) = card.calculation() else {
+        return false;
+    };
+    bad_card(flow.group.is_some(), calculation, after)
+}
+
+fn bad_card(is_in_group: bool, calculation: &CalculationSpec, after: &[SpecCard]) -> bool
+    ensures { result ≡ by_card.bad_card is_in_group calculation.now after.now }
+{
+    let goes_on = goes_on(after);
+    bad_conditions(is_in_group, goes_on, calculation, after)
+        || (calculation.length.is_some() && calculation.result_field.is_none())
+        || bad_by_end(goes_on, calculation)
+}
+
+/// Of several cards each has conditions, and none has any where the group's operation may have none.
+fn bad_conditions(
+    is_in_group: bool,
+    goes_on: bool,
+    calculation: &CalculationSpec,
+    after: &[SpecCard],
+) -> bool
+    ensures { result ≡ by_card.bad_dependence is_in_group goes_on calculation.now after.now }
+{
+    if depends(calculation) {
+        !may_depend(group_end(calculation, after))
+    } else {
+        goes_on || (joins(calculation) && is_in_group)
+    }
+}
+
+/// Whether the group of this last card may have conditions.
+fn may_depend(last: &CalculationSpec) -> bool
+    ensures { result ≡ spec.may_depend last.now }
+{
+    match last.operation {
+        None => true,
+        Some(operation) => columns(operation).may_depend,
+    }
+}
+
+fn bad_by_end(goes_on: bool, calculation: &CalculationSpec) -> bool
+    ensures { result ≡ spec.bad_by_end goes_on calculation.now }
+{
+    if goes_on {
+        has_more(calculation)
+    } else {
+        match calculation.operation {
+            None => true,
+            Some(operation) => bad_operation(calculation, operation),
+        }
+    }
+}
+
+/// Whether a card has more than conditions.
+fn has_more(calculation: &CalculationSpec) -> bool
+    ensures { result ≡ spec.has_more calculation.now }
+{
+    calculation.operation.is_some()
+        || calculation.factor_1.is_some()
+        || calculation.factor_2.is_some()
+        || calculation.result_field.is_some()
+        || calculation.length.is_some()
+        || filled(calculation.resulting_indicators) > 0
+}
+
+fn bad_operation(calculation: &CalculationSpec, operation: Operation) -> bool
+    ensures { result ≡ spec.bad_operation calculation.now operation }
+{
+    let columns = columns(operation);
+    misses(columns.factor_1, &calculation.factor_1)
+        || misses(columns.factor_2, &calculation.factor_2)
+        || misses_result(columns.result_field, &calculation.result_field)
+        || bad_shown(columns.indicators, calculation.resulting_indicators)
+}
+
+/// Whether a factor is missing or not allowed.
+fn misses(column: Column, factor: &Option<Factor>) -> bool
+    ensures { result ≡ spec.misses column factor.now }
+{
+    match (column, factor) {
+        (Column::Blank, factor) => factor.is_some(),
+        (Column::May(_), None) => false,
+        (Column::Must(_), None) => true,
+        (Column::May(content), Some(factor)) | (Column::Must(content), Some(factor)) => {
+            is_for_name(content) && plain_name(factor).is_none()
+        }
+    }
+}
+
+/// Whether a result field is missing or not allowed.
+fn misses_result(column: Column, entry: &Option<Entry>) -> bool
+    ensures { result ≡ spec.misses column (option_map factor.Entry entry.now) }
+{
+    match (column, entry) {
+        (Column::Blank, entry) => entry.is_some(),
+        (Column::May(_), None) => false,
+        (Column::Must(_), None) => true,
+        (Column::May(content), Some(entry)) | (Column::Must(content), Some(entry)) => {
+            is_for_name(content) && entry.index.is_some()
+        }
+    }
+}
+
+/// Whether a column has a label or the name of a subroutine.
+fn is_for_name(content: Content) -> bool
+    ensures { result ≡ spec.is_for_name content }
+{
+    match content {
+        Content::Label | Content::Subroutine => true,
+        Content::Value | Content::WholeArray | Content::Searched | Content::Table => false,
+    }
+}
+
+fn bad_shown(shown: Shown, indicators: Three<Option<Indicator>>) -> bool
+    ensures { result ≡ spec.bad_shown shown indicators }
+{
+    match shown {
+        Shown::Unused => filled(indicators) > 0,
+        Shown::Any => false,
+        Shown::Some => filled(indicators) == 0,
+        Shown::Search => {
+            filled(indicators) == 0 || (indicators.first.is_some() && indicators.second.is_some())
+        }
+    }
+}
+
+fn filled(indicators: Three<Option<Indicator>>) -> u8
+    ensures { result ≡ spec.filled_count indicators }
+{
+    u8::from(indicators.first.is_some())
+        + u8::from(indicators.second.is_some())
+        + u8::from(indicators.third.is_some())
+}

@@ -1,0 +1,99 @@
+//! What the cards before a card come to.
+
+ghost use Rattle.std.specs.Prelude.{◌≡◌, ◌≤◌, [], ◌∷◌, ◌++◌, List, length};
+ghost use Rattle.rpg_cards.specs.declared.spec_card.SpecCard.{SpecCard};
+ghost use Rattle.rpg_faults_flow.specs.Seen.{IsFlow};
+ghost use Rattle.rpg_faults_flow.specs.ByCard as by_card;
+
+use crate::groups::{bracket_at, is_label_at, level_with, rank};
+use crate::rounding::leaves_remainder;
+use rpg_cards::SpecCard;
+use rpg_sheet_specs::ControlLevel;
+
+/// What the cards before a card come to.
+#[derive(Clone, Copy)]
+pub struct Flow {
+    /// Columns 7 and 8 of the first card of the group that the card right before belongs to.
+    pub(crate) group: Option<ControlLevel>,
+    /// The rank of the section that comes last so far.
+    pub(crate) highest: u8,
+    /// Whether the last BEGSR or ENDSR of SR cards is a BEGSR.
+    pub(crate) is_inside: bool,
+    /// How many BEGSRs of SR cards there are.
+    pub(crate) begun: u16,
+    /// How many labels and names of subroutines are given.
+    pub(crate) labels: u16,
+    /// How many definitions of names there are.
+    pub(crate) definitions: u16,
+    /// Whether the card right before is the last one of a division without H.
+    pub(crate) is_behind_division: bool,
+}
+
+impl Flow {
+    /// Before all cards.
+    pub fn nothing() -> Self
+        ensures { (cards : List SpecCard) → IsFlow [] cards result }
+    {
+        Flow {
+            group: None,
+            highest: 0,
+            is_inside: false,
+            begun: 0,
+            labels: 0,
+            definitions: 0,
+            is_behind_division: false,
+        }
+    }
+
+    /// With one more card, seen with those behind it.
+    pub fn with(self, before: &[SpecCard], card: &SpecCard, after: &[SpecCard]) -> Self
+        requires few { length before.now ≤ 2000 }
+        requires flow { IsFlow before.now (card.now ∷ after.now) self }
+        ensures { IsFlow (before.now ++ card.now ∷ []) after.now result }
+    {
+        let bracket = bracket_at(&self.group, card, after);
+        Flow {
+            group: level_with(&self.group, card),
+            highest: highest_with(self.highest, card),
+            is_inside: inside_behind(self.is_inside, bracket),
+            begun: begun_behind(self.begun, bracket),
+            labels: self.labels + u16::from(is_label_at(card, after)),
+            definitions: self.definitions + card.definitions().len() as u16,
+            is_behind_division: leaves_remainder(card),
+        }
+    }
+}
+
+/// The rank of the section that comes last, with one more card.
+fn highest_with(highest: u8, card: &SpecCard) -> u8
+    ensures { result ≡ by_card.highest_with highest card.now }
+{
+    match card.calculation() {
+        None => highest,
+        Some(calculation) => {
+            let rank = rank(calculation.control_level);
+            if highest < rank { rank } else { highest }
+        }
+    }
+}
+
+/// Whether a subroutine is open behind a bracket, if there is one.
+fn inside_behind(is_inside: bool, bracket: Option<bool>) -> bool
+    ensures { result ≡ by_card.inside_behind is_inside bracket }
+{
+    match bracket {
+        None => is_inside,
+        Some(is_end) => !is_end,
+    }
+}
+
+/// How many subroutines are begun behind a bracket, if there is one.
+fn begun_behind(begun: u16, bracket: Option<bool>) -> u16
+    requires { begun ≤ 2000 }
+    ensures { result ≡ by_card.begun_behind begun bracket }
+{
+    match bracket {
+        None => begun,
+        Some(is_end) => if is_end { begun } else { begun + 1 },
+    }
+}

@@ -1,0 +1,172 @@
+-- F6: limits that are passed, at the card with which a count or a sum passes.
+use Rattle.std.specs.Prelude.{ℕ, ◌+◌, ◌==◌, Bool, true, false, not, ◌&&◌, ◌||◌, nat_le, nat_lt, List, [], ◌∷◌, ◌++◌, length, sum_by, count_by, fold, Option, is_some}
+use Rattle.std.specs.Option.{option_len, option_map_or}
+use Rattle.rpg_cards.specs.Calculations.{calculation_ending, calculations_before}
+use Rattle.rpg_cards.specs.Labels.{begins_subroutine, begun_count}
+use Rattle.rpg_cards.specs.Cards.{calculation_on, extension_on}
+use Rattle.rpg_cards.specs.Constants.{constant_form, constants}
+use Rattle.rpg_cards.specs.Groups.{Group, group_count, input_role, open_group, output_role}
+use Rattle.rpg_cards.specs.Names.{names}
+use Rattle.rpg_cards.specs.declared.constants.Constant.{Constant}
+use Rattle.rpg_cards.specs.declared.names.Definition.{Definition}
+use Rattle.rpg_cards.specs.declared.spec_card.SpecCard.{SpecCard}
+use Rattle.rpg_sheet_specs.specs.declared.extension.ExtensionSpec.{ExtensionSpec}
+use Rattle.rpg_sheet_specs.specs.declared.indicator.Three.{Three}
+use Rattle.rpg_sheet_specs.specs.declared.input.InputSpec.{InputSpec}
+use Rattle.rpg_sheet_specs.specs.declared.input.InputSpec.TheVariants as input
+use Rattle.rpg_sheet_specs.specs.declared.input.RecordType.{RecordType}
+use Rattle.rpg_sheet_specs.specs.declared.output.OutputRecord.{OutputRecord}
+use Rattle.rpg_sheet_specs.specs.declared.output.OutputSpec.{OutputSpec}
+use Rattle.rpg_sheet_specs.specs.declared.output.OutputSpec.TheVariants as output
+use Rattle.rpg_symbols.specs.Fields.{size_of}
+use Rattle.rpg_text.specs.Texts.{is_between}
+
+-- what the cards come to is within a limit before a card, and past it with the card
+abbrev pub crosses : (List SpecCard → ℕ) → ℕ → List SpecCard → SpecCard → Bool
+crosses measure limit before c = nat_le (measure before) limit && nat_lt limit (measure (before ++ c ∷ []))
+
+abbrev pub filled_count : {X : Type 0} → Three (Option X) → ℕ
+filled_count t = option_len t.first + option_len t.second + option_len t.third
+
+-- a measure of the open group: 0 where there is none
+abbrev pub in_open : {H F : Type 0} → (Group H F → ℕ) → Option (Group H F) → ℕ
+in_open measure g = option_map_or measure g 0
+
+-- ---- record types
+
+abbrev pub codes_on : InputSpec → ℕ
+codes_on (input.Type t) = 0
+codes_on (input.And codes) = filled_count codes
+codes_on (input.Field f) = 0
+
+abbrev pub is_input_field_card : InputSpec → Bool
+is_input_field_card (input.Type t) = false
+is_input_field_card (input.And codes) = false
+is_input_field_card (input.Field f) = true
+
+abbrev pub is_level_field : InputSpec → Bool
+is_level_field (input.Type t) = false
+is_level_field (input.And codes) = false
+is_level_field (input.Field f) = is_some f.level
+
+abbrev pub code_count : Group RecordType InputSpec → ℕ
+code_count g = filled_count g.heading.codes + sum_by codes_on g.followers
+
+abbrev pub level_count : Group RecordType InputSpec → ℕ
+level_count g = count_by is_level_field g.followers
+
+abbrev pub field_count : Group RecordType InputSpec → ℕ
+field_count g = count_by is_input_field_card g.followers
+
+-- of the open type
+abbrev pub of_type : (Group RecordType InputSpec → ℕ) → List SpecCard → ℕ
+of_type measure cards = in_open measure (open_group input_role cards)
+
+-- 200 types of 100 codes, 100 levels and 500 fields
+abbrev pub passes_on_types : List SpecCard → SpecCard → Bool
+passes_on_types before c =
+    crosses (group_count input_role) 200 before c
+    || crosses (of_type code_count) 100 before c
+    || crosses (of_type level_count) 100 before c
+    || crosses (of_type field_count) 500 before c
+
+-- ---- lines
+
+abbrev pub is_or_line : OutputSpec → Bool
+is_or_line (output.Record r) = false
+is_or_line (output.And t) = false
+is_or_line (output.Or t) = true
+is_or_line (output.Field f) = false
+
+abbrev pub is_output_field : OutputSpec → Bool
+is_output_field (output.Record r) = false
+is_output_field (output.And t) = false
+is_output_field (output.Or t) = false
+is_output_field (output.Field f) = true
+
+-- the conditions of the last alternative, with one more card
+abbrev pub conditions_with : ℕ → OutputSpec → ℕ
+conditions_with n (output.Record r) = n
+conditions_with n (output.And t) = n + filled_count t
+conditions_with n (output.Or t) = filled_count t
+conditions_with n (output.Field f) = n
+
+abbrev pub condition_count : Group OutputRecord OutputSpec → ℕ
+condition_count g = fold conditions_with (filled_count g.heading.conditions) g.followers
+
+abbrev pub alternative_count : Group OutputRecord OutputSpec → ℕ
+alternative_count g = 1 + count_by is_or_line g.followers
+
+abbrev pub output_field_count : Group OutputRecord OutputSpec → ℕ
+output_field_count g = count_by is_output_field g.followers
+
+-- of the open line
+abbrev pub of_line : (Group OutputRecord OutputSpec → ℕ) → List SpecCard → ℕ
+of_line measure cards = in_open measure (open_group output_role cards)
+
+-- 1,000 lines of 50 alternatives with 60 conditions each, and 200 fields
+abbrev pub passes_on_lines : List SpecCard → SpecCard → Bool
+passes_on_lines before c =
+    crosses (group_count output_role) 1000 before c
+    || crosses (of_line alternative_count) 50 before c
+    || crosses (of_line condition_count) 60 before c
+    || crosses (of_line output_field_count) 200 before c
+
+-- ---- calculations
+
+abbrev pub calculation_count : List SpecCard → ℕ
+calculation_count cards = count_by (λ c. is_some (calculation_on c.spec)) cards
+
+-- the calculation that ends on the card is BEGSR of an SR card, and 100 stand before
+abbrev pub passes_subroutines : List SpecCard → SpecCard → List SpecCard → Bool
+passes_subroutines before c after = begun_count (calculations_before before (c ∷ after)) == 100 && option_map_or begins_subroutine (calculation_ending before c after) false
+
+-- 1,000 calculation cards, 100 subroutines
+abbrev pub passes_on_calculations : List SpecCard → SpecCard → List SpecCard → Bool
+passes_on_calculations before c after = crosses calculation_count 1000 before c || passes_subroutines before c after
+
+-- ---- names, and the bytes of names and constants: a name without a form takes none
+
+abbrev pub name_count : List SpecCard → ℕ
+name_count cards = length (names cards)
+
+abbrev pub definition_bytes : Definition → ℕ
+definition_bytes d = option_map_or size_of d.form 0
+
+abbrev pub name_bytes : List SpecCard → ℕ
+name_bytes cards = sum_by definition_bytes (names cards)
+
+abbrev pub constant_size : Constant → ℕ
+constant_size c = size_of (constant_form c)
+
+abbrev pub constant_bytes : List SpecCard → ℕ
+constant_bytes cards = sum_by constant_size (constants cards)
+
+-- fields are the names of all cards, and behind them the constants: here those of the cards at the front
+abbrev pub fields_up_to : List SpecCard → List SpecCard → ℕ
+fields_up_to cards front = name_count cards + length (constants front)
+
+abbrev pub bytes_up_to : List SpecCard → List SpecCard → ℕ
+bytes_up_to cards front = name_bytes cards + constant_bytes front
+
+-- 4,000 fields, 65,535 bytes of storage; the names alone keep both
+abbrev pub passes_storage : List SpecCard → List SpecCard → SpecCard → Bool
+passes_storage cards before c =
+    crosses name_count 4000 before c
+    || crosses name_bytes 65535 before c
+    || crosses (bytes_up_to cards) 65535 before c
+    || crosses (fields_up_to cards) 4000 before c
+
+-- ---- 1 to 9,999 entries
+
+abbrev pub bad_entries_of : ExtensionSpec → Bool
+bad_entries_of e = not (is_between 1 9999 e.entries)
+
+abbrev pub bad_entries : SpecCard → Bool
+bad_entries c = option_map_or bad_entries_of (extension_on c.spec) false
+
+-- ---- all of them
+
+abbrev pub passes_limit : List SpecCard → List SpecCard → SpecCard → List SpecCard → Bool
+passes_limit cards before c after =
+    passes_on_types before c || passes_on_lines before c || passes_on_calculations before c after || passes_storage cards before c || bad_entries c

@@ -1,0 +1,33 @@
+-- How many names and constants cards have, and the bytes that they take.
+use Rattle.std.specs.Prelude.{◌≡◌, ℕ, ◌+◌, ◌*◌, ◌≤◌, Bool, List, [], ◌∷◌, ◌++◌, length, sum_by}
+use Rattle.indexmap.specs.IndexSet.{insert_all}
+use Rattle.rpg_cards.specs.Constants.{is_same}
+use Rattle.rpg_cards.specs.Names.{given_names, same_name}
+use Rattle.rpg_cards.specs.declared.constants.Constant.{Constant}
+use Rattle.rpg_cards.specs.declared.names.Definition.{Definition}
+use Rattle.rpg_cards.specs.declared.spec_card.SpecCard.{SpecCard}
+use Rattle.rpg_faults_limits.specs.Limits.{constant_size, definition_bytes}
+use Rattle.rpg_faults_limits.specs.declared.totals.Totals.{Totals}
+
+-- a list begins with these
+abbrev pub BeginsWith : {X : Type 0} → List X → List X → Type 0
+BeginsWith {X} xs front = (back : List X) × (xs ≡ front ++ back)
+
+-- how many items there are, how many of them are not among the known ones nor like an earlier one, and the bytes of these with those of the known
+pub record HasTotals (X : Type 0) (same : X → X → Bool) (size : X → ℕ) (known items : List X) (t : Totals) : Type 0 where
+  pub count : t.items ≡ length items
+  pub number : t.number ≡ length (insert_all same known items)
+  pub storage : t.bytes ≡ sum_by size (insert_all same known items)
+  pub few_items : t.items ≤ 4000
+  pub few : t.number ≤ 2 + t.items
+  pub few_bytes : t.bytes ≤ 10 + 4294967295 * t.items
+
+abbrev pub HasNames : List Definition → Totals → Type 0
+HasNames items t = HasTotals Definition same_name definition_bytes given_names items t
+
+abbrev pub HasConstants : List Constant → Totals → Type 0
+HasConstants items t = HasTotals Constant is_same constant_size [] items t
+
+-- a card stands behind these, whose items have been seen
+abbrev pub SeenBefore : {X : Type 0} → (List X → Totals → Type 0) → (List SpecCard → List X) → List SpecCard → SpecCard → Totals → List SpecCard → Type 0
+SeenBefore Has items cards c t before = BeginsWith cards (before ++ c ∷ []) × Has (items before) t

@@ -1,0 +1,130 @@
+//! F7: files that are unknown, given twice or of the wrong use. F9 of lines: spaces and skips for the disk file.
+
+ghost use Rattle.std.specs.Prelude.{◌≡◌, false, option_map};
+ghost use Rattle.std.specs.Option.{option_map_or, option_or};
+ghost use Rattle.rpg_cards.specs.Files as known;
+ghost use Rattle.rpg_cards.specs.Groups.{open_file, output_role};
+ghost use Rattle.rpg_cards.specs.Sheets.{AreSheets};
+ghost use Rattle.rpg_faults_limits.specs.Files as files;
+
+use rpg_cards::{FileUse, IndexedCards, Sheets, SpecCard, file_for, file_named, use_of};
+use rpg_sheet_specs::{FileSpec, Movement, OutputRecord, Word};
+
+/// F7, on a card: an F card whose name or use was given before, or whose records are too long; a type or record card without a file of its use.
+pub fn breaks_files(
+    source: &IndexedCards,
+    sheets: &Sheets,
+    before: &[SpecCard],
+    card: &SpecCard,
+) -> bool
+    requires { AreSheets source.now before.now sheets.now }
+    ensures { result ≡ files.breaks_files source.now before.now card.now }
+{
+    if let Some(file) = card.file() {
+        return is_bad_file(before, file);
+    }
+    if let Some(record_type) = card.record_type() {
+        return lacks_input_file(source, sheets.types.is_open, &record_type.file);
+    }
+    match card.line() {
+        None => false,
+        Some(line) => lacks_output_file(source, sheets.lines.is_open, &line.file),
+    }
+}
+
+/// F7, of the source as a whole: there is no input file.
+pub fn lacks_input(source: &IndexedCards) -> bool
+    ensures { result ≡ files.lacks_input source.now }
+{
+    source.file_for(FileUse::Primary).is_none()
+}
+
+fn is_bad_file(before: &[SpecCard], file: &FileSpec) -> bool
+    ensures { result ≡ files.bad_file before.now file.now }
+{
+    let serves_as = use_of(file);
+    file_named(&file.name, before).is_some()
+        || file_for(serves_as, before).is_some()
+        || !(1..=longest(serves_as)).contains(&file.record_length)
+}
+
+/// The longest record or line.
+const fn longest(serves_as: FileUse) -> u16
+    ensures { result ≡ files.longest_in_file serves_as }
+{
+    match serves_as {
+        FileUse::Primary | FileUse::Disk => 9999,
+        FileUse::Printer => 132,
+    }
+}
+
+fn lacks_input_file(source: &IndexedCards, is_behind: bool, name: &Option<Word<8>>) -> bool
+    ensures { result ≡ files.lacks_file source.now known.is_input is_behind name.now }
+{
+    match name {
+        None => !is_behind,
+        Some(name) => !matches!(serves_as(source, name), Some(FileUse::Primary)),
+    }
+}
+
+fn lacks_output_file(source: &IndexedCards, is_behind: bool, name: &Option<Word<8>>) -> bool
+    ensures { result ≡ files.lacks_file source.now known.is_output is_behind name.now }
+{
+    match name {
+        None => !is_behind,
+        Some(name) => !matches!(
+            serves_as(source, name),
+            Some(FileUse::Printer | FileUse::Disk)
+        ),
+    }
+}
+
+fn serves_as(source: &IndexedCards, name: &Word<8>) -> Option<FileUse>
+    ensures { result ≡ option_map known.file_use (known.file_named name.now source.now) }
+{
+    Some(use_of(source.file_named(name)?))
+}
+
+/// F9 of a line: the disk file has neither spaces nor skips.
+pub fn moves_disk(
+    source: &IndexedCards,
+    sheets: &Sheets,
+    before: &[SpecCard],
+    card: &SpecCard,
+) -> bool
+    requires { AreSheets source.now before.now sheets.now }
+    ensures { result ≡ files.moves_disk source.now before.now card.now }
+{
+    match card.line() {
+        None => false,
+        Some(line) => moves(&line.movement) && is_for_disk(source, sheets, before, line),
+    }
+}
+
+fn moves(movement: &Movement) -> bool
+    ensures { result ≡ files.moves movement.now }
+{
+    movement.space_before.is_some()
+        || movement.space_after.is_some()
+        || movement.skip_before.is_some()
+        || movement.skip_after.is_some()
+}
+
+/// Whether the line goes to the disk file, which it names or which the line before it goes to.
+fn is_for_disk(
+    source: &IndexedCards,
+    sheets: &Sheets,
+    before: &[SpecCard],
+    line: &OutputRecord,
+) -> bool
+    requires { AreSheets source.now before.now sheets.now }
+    ensures { result ≡ option_map_or files.is_disk (known.file_by (option_or line.now.file (open_file output_role before.now)) source.now) false }
+{
+    match &line.file {
+        Some(name) => matches!(serves_as(source, name), Some(FileUse::Disk)),
+        None => match sheets.lines.file {
+            None => false,
+            Some(file) => matches!(file.serves_as, FileUse::Disk),
+        },
+    }
+}

@@ -1,0 +1,73 @@
+//! What stands on the cards of the open line.
+
+ghost use Rattle.std.specs.Prelude.{◌≡◌, ℕ, ◌+◌, ◌≤◌, [], ◌∷◌, ◌++◌, Option, length};
+ghost use Rattle.rpg_cards.specs.Groups.{Group, open_group, output_card_role, output_role, with_card};
+ghost use Rattle.rpg_faults_limits.specs.State.{HasFewOnLine, IsOpenLine};
+ghost use Rattle.rpg_sheet_specs.specs.declared.output.OutputRecord.{OutputRecord};
+ghost use Rattle.rpg_sheet_specs.specs.declared.output.OutputSpec.{OutputSpec};
+
+use crate::filled::filled;
+use rpg_cards::SpecCard;
+use rpg_sheet_specs::OutputSpec;
+
+/// Alternatives, conditions of the last alternative and fields of a line with its AND, OR and field cards: nothing where none is open.
+#[derive(Clone, Copy)]
+pub struct OpenLine {
+    pub is_open: bool,
+    pub alternatives: u64,
+    pub conditions: u64,
+    pub fields: u64,
+}
+
+impl OpenLine {
+    /// Before all cards.
+    pub(crate) const NONE: OpenLine = OpenLine {
+        is_open: false,
+        alternatives: 0,
+        conditions: 0,
+        fields: 0,
+    };
+
+    /// With the card behind those before.
+    pub(crate) fn with(self, before: &[SpecCard], card: &SpecCard) -> Self
+        requires few_cards { length before.now ≤ 2000 }
+        requires open { IsOpenLine (open_group output_role before.now) self }
+        requires few { HasFewOnLine (length before.now) self }
+        ensures open { IsOpenLine (open_group output_role (before.now ++ card.now ∷ [])) result }
+        ensures few { HasFewOnLine (length before.now + 1) result }
+    {
+        match card.output() {
+            None => self,
+            Some(output) => self.with_output(output),
+        }
+    }
+
+    fn with_output(self, output: &OutputSpec) -> Self
+        requires { HasFewOnLine 2000 self }
+        ensures open { (g : Option (Group OutputRecord OutputSpec)) → IsOpenLine g self → IsOpenLine (with_card g (output_card_role output.now)) result }
+        ensures few { (n : ℕ) → HasFewOnLine n self → HasFewOnLine (n + 1) result }
+    {
+        match output {
+            OutputSpec::Record(record) => OpenLine {
+                is_open: true,
+                alternatives: 1,
+                conditions: filled(record.conditions),
+                fields: 0,
+            },
+            OutputSpec::And(conditions) if self.is_open => OpenLine {
+                conditions: self.conditions + filled(*conditions),
+                ..self
+            },
+            OutputSpec::Or(conditions) if self.is_open => OpenLine {
+                alternatives: self.alternatives + 1,
+                conditions: filled(*conditions),
+                ..self
+            },
+            OutputSpec::Field(_) if self.is_open => OpenLine {
+                fields: self.fields + 1,
+                ..self
+            },
+            OutputSpec::And(_) | OutputSpec::Or(_) | OutputSpec::Field(_) => self,
+        }
+    }
+}

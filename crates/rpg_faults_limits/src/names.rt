@@ -1,0 +1,91 @@
+//! F2 and F3: names that are defined again in another form, and sizes past their limit.
+
+ghost use Rattle.std.specs.Prelude.{◌≡◌, List, ◌∷◌, ◌++◌, ◌≤◌, length, take};
+ghost use Rattle.rpg_cards.specs.Names.{definitions};
+ghost use Rattle.rpg_cards.specs.declared.names.Definition.{Definition};
+ghost use Rattle.rpg_faults_limits.specs.Names as names;
+ghost use Rattle.rpg_faults_limits.specs.State.{AreLimits};
+
+use crate::state::Limits;
+use rpg_cards::{Defined, Definition, IndexedCards, SpecCard, field_form, sized_form};
+use rpg_sheet_specs::{ExtensionSpec, InputSpec, Spec, TableSpec};
+use rpg_symbols::is_same_form;
+
+/// F2: a name that is defined again in another form.
+pub fn redefines(
+    source: &IndexedCards,
+    limits: &Limits,
+    before: &[SpecCard],
+    card: &SpecCard,
+    after: &[SpecCard],
+) -> bool
+    requires split { source.now ≡ before.now ++ card.now ∷ after.now }
+    requires few { length source.now ≤ 2000 }
+    requires limits { AreLimits source.now before.now (card.now ∷ after.now) limits.now }
+    ensures { result ≡ names.redefines before.now card.now }
+{
+    are_other(
+        source,
+        limits.storage.names.items,
+        card.definitions().as_slice(),
+    )
+}
+
+/// Whether one of these, which stand behind so many definitions, has another form by those before it.
+fn are_other(source: &IndexedCards, place: usize, items: &[Definition]) -> bool
+    requires few { place ≤ 4000 }
+    requires stand { (front : List Definition) × (back : List Definition) × (place ≡ length front) × (definitions source.now ≡ front ++ (items.now ++ back)) }
+    ensures { result ≡ names.redefine (take place (definitions source.now)) items.now }
+{
+    for (i, definition) in items.iter().enumerate() {
+        if is_other(source, place + i, definition) {
+            return true;
+        }
+    }
+    false
+}
+
+fn is_other(source: &IndexedCards, place: usize, definition: &Definition) -> bool
+    ensures { result ≡ names.redefines_as (take place (definitions source.now)) definition.now }
+{
+    let Some(form) = definition.form else {
+        return false;
+    };
+    match source.form_before(&definition.name, place) {
+        Defined::Missing | Defined::Bad => false,
+        Defined::Good(first) => !is_same_form(&first, &form),
+    }
+}
+
+/// F3: a length or decimals past their limit, or decimals without a length.
+pub fn bad_size(card: &SpecCard) -> bool
+    ensures { result ≡ names.bad_size card.now }
+{
+    match &card.spec {
+        Spec::Extension(extension) => is_bad_extension(extension),
+        Spec::Input(InputSpec::Field(field)) => {
+            field.from <= field.to && field_form(field).is_none()
+        }
+        Spec::Calculation(calculation) => match calculation.length {
+            None => calculation.decimals.is_some(),
+            Some(length) => sized_form(length, calculation.decimals).is_none(),
+        },
+        _ => false,
+    }
+}
+
+fn is_bad_extension(extension: &ExtensionSpec) -> bool
+    ensures { result ≡ names.bad_size_of_tables extension.now }
+{
+    is_bad_table(&extension.table)
+        || match &extension.alternating {
+            None => false,
+            Some(table) => is_bad_table(table),
+        }
+}
+
+fn is_bad_table(table: &TableSpec) -> bool
+    ensures { result ≡ names.bad_size_of_table table.now }
+{
+    sized_form(table.length, table.decimals).is_none()
+}

@@ -1,0 +1,55 @@
+//! What the cards before a card come to.
+
+ghost use Rattle.std.specs.Prelude.{◌≡◌, [], ◌∷◌, ◌++◌, ◌≤◌, length};
+ghost use Rattle.rpg_faults_limits.specs.State.{AreLimits};
+
+use crate::calculations::Calculations;
+use crate::lines::OpenLine;
+use crate::storage::Storage;
+use crate::types::OpenType;
+use rpg_cards::{IndexedCards, SpecCard};
+
+/// What the cards before a card come to, as far as a limit is set for it.
+#[derive(Clone, Copy)]
+pub struct Limits {
+    pub(crate) storage: Storage,
+    pub(crate) calculations: Calculations,
+    pub(crate) open_type: OpenType,
+    pub(crate) open_line: OpenLine,
+}
+
+impl Limits {
+    /// Before the first card.
+    pub fn nothing(source: &IndexedCards) -> Self
+        requires { length source.now ≤ 2000 }
+        ensures { AreLimits source.now [] source.now result }
+    {
+        Limits {
+            storage: Storage::nothing(source),
+            calculations: Calculations::NONE,
+            open_type: OpenType::NONE,
+            open_line: OpenLine::NONE,
+        }
+    }
+
+    /// Before the next card.
+    pub fn with(
+        &self,
+        source: &IndexedCards,
+        before: &[SpecCard],
+        card: &SpecCard,
+        after: &[SpecCard],
+    ) -> Self
+        requires split { source.now ≡ before.now ++ card.now ∷ after.now }
+        requires few { length source.now ≤ 2000 }
+        requires limits { AreLimits source.now before.now (card.now ∷ after.now) self.now }
+        ensures { AreLimits source.now (before.now ++ card.now ∷ []) after.now result }
+    {
+        Limits {
+            storage: self.storage.with(source, before, card),
+            calculations: self.calculations.with(before, card, after),
+            open_type: self.open_type.with(before, card),
+            open_line: self.open_line.with(before, card),
+        }
+    }
+}

@@ -1,0 +1,69 @@
+//! What stands on the cards of the open record type.
+
+ghost use Rattle.std.specs.Prelude.{◌≡◌, ℕ, ◌+◌, ◌≤◌, [], ◌∷◌, ◌++◌, Option, length};
+ghost use Rattle.rpg_cards.specs.Groups.{Group, input_card_role, input_role, open_group, with_card};
+ghost use Rattle.rpg_faults_limits.specs.State.{HasFewOnType, IsOpenType};
+ghost use Rattle.rpg_sheet_specs.specs.declared.input.InputSpec.{InputSpec};
+ghost use Rattle.rpg_sheet_specs.specs.declared.input.RecordType.{RecordType};
+
+use crate::filled::{filled, one_if};
+use rpg_cards::SpecCard;
+use rpg_sheet_specs::InputSpec;
+
+/// Codes, level fields and fields of a record type with its AND and field cards: nothing where none is open.
+#[derive(Clone, Copy)]
+pub struct OpenType {
+    pub is_open: bool,
+    pub codes: u64,
+    pub levels: u64,
+    pub fields: u64,
+}
+
+impl OpenType {
+    /// Before all cards.
+    pub(crate) const NONE: OpenType = OpenType {
+        is_open: false,
+        codes: 0,
+        levels: 0,
+        fields: 0,
+    };
+
+    /// With the card behind those before.
+    pub(crate) fn with(self, before: &[SpecCard], card: &SpecCard) -> Self
+        requires few_cards { length before.now ≤ 2000 }
+        requires open { IsOpenType (open_group input_role before.now) self }
+        requires few { HasFewOnType (length before.now) self }
+        ensures open { IsOpenType (open_group input_role (before.now ++ card.now ∷ [])) result }
+        ensures few { HasFewOnType (length before.now + 1) result }
+    {
+        match card.input() {
+            None => self,
+            Some(input) => self.with_input(input),
+        }
+    }
+
+    fn with_input(self, input: &InputSpec) -> Self
+        requires { HasFewOnType 2000 self }
+        ensures open { (g : Option (Group RecordType InputSpec)) → IsOpenType g self → IsOpenType (with_card g (input_card_role input.now)) result }
+        ensures few { (n : ℕ) → HasFewOnType n self → HasFewOnType (n + 1) result }
+    {
+        match input {
+            InputSpec::Type(record_type) => OpenType {
+                is_open: true,
+                codes: filled(record_type.codes),
+                levels: 0,
+                fields: 0,
+            },
+            InputSpec::And(codes) if self.is_open => OpenType {
+                codes: self.codes + filled(*codes),
+                ..self
+            },
+            InputSpec::Field(field) if self.is_open => OpenType {
+                levels: self.levels + one_if(field.level.is_some()),
+                fields: self.fields + 1,
+                ..self
+            },
+            InputSpec::And(_) | InputSpec::Field(_) => self,
+        }
+    }
+}

@@ -1,0 +1,72 @@
+-- F5: an index that is missing or not allowed, a literal out of range, or a field that can't be an index.
+use Rattle.std.specs.Prelude.{◌^◌, List, Bool, true, false, not, ◌&&◌, ◌||◌, nat_lt, Option, None, Some}
+use Rattle.std.specs.List.{list_any}
+use Rattle.std.specs.Option.{option_and_then, option_map_or}
+use Rattle.rpg_cards.specs.declared.operations.Content.{Content}
+use Rattle.rpg_cards.specs.declared.operations.Content.TheVariants.{Value, WholeArray, Searched, Table, Label, Subroutine}
+use Rattle.rpg_cards.specs.Names.{form_in, form_of_name}
+use Rattle.rpg_cards.specs.declared.spec_card.SpecCard.{SpecCard}
+use Rattle.rpg_effect.specs.Forms.{is_array, is_index_form}
+use Rattle.rpg_effect.specs.declared.form.FieldForm.{FieldForm}
+use Rattle.rpg_sheet_specs.specs.declared.entry.Entry.{Entry}
+use Rattle.rpg_sheet_specs.specs.declared.entry.EntryIndex.{EntryIndex}
+use Rattle.rpg_sheet_specs.specs.declared.entry.EntryIndex.TheVariants as index
+use Rattle.rpg_text.specs.Texts.{is_between}
+use Rattle.rpg_faults_operands.specs.Names.{index_name}
+use Rattle.rpg_faults_operands.specs.Operands.{Operand, card_entry_form, operands_on}
+
+-- a plain number without decimals
+abbrev pub can_index : FieldForm → Bool
+can_index form = is_index_form (Some form)
+
+-- an array is no value: one of its entries is
+abbrev pub needs_index : Content → FieldForm → Bool
+needs_index Value form = is_array form.class
+needs_index WholeArray form = false
+needs_index Searched form = false
+needs_index Table form = false
+needs_index Label form = false
+needs_index Subroutine form = false
+
+-- XFOOT takes an array without an index
+abbrev pub takes_index : Content → FieldForm → Bool
+takes_index Value form = is_array form.class
+takes_index WholeArray form = false
+takes_index Searched form = is_array form.class
+takes_index Table form = is_array form.class
+takes_index Label form = is_array form.class
+takes_index Subroutine form = is_array form.class
+
+abbrev pub is_searched_content : Content → Bool
+is_searched_content Value = false
+is_searched_content WholeArray = false
+is_searched_content Searched = true
+is_searched_content Table = false
+is_searched_content Label = false
+is_searched_content Subroutine = false
+
+-- an index field that LOKUP writes has room for the number of the last entry
+abbrev pub is_too_short : Content → FieldForm → FieldForm → Bool
+is_too_short content form field = is_searched_content content && is_array form.class && can_index field && not (nat_lt form.entries (10 ^ field.length))
+
+-- an index beside a field of that form, where the form of the field that it names is known
+abbrev pub bad_entry : Content → FieldForm → EntryIndex → Option FieldForm → Bool
+bad_entry content form (index.Literal n) field = not (is_between 1 form.entries n)
+bad_entry content form (index.Name x) field = option_map_or (is_too_short content form) field false
+
+abbrev pub misindexed : Content → Option EntryIndex → Option FieldForm → FieldForm → Bool
+misindexed content None field form = needs_index content form
+misindexed content (Some i) field form = not (takes_index content form) || bad_entry content form i field
+
+abbrev pub index_form : List SpecCard → Entry → Option FieldForm
+index_form cards e = option_and_then (λ x. form_in (form_of_name x cards)) (index_name e)
+
+abbrev pub bad_index_field : Option FieldForm → Bool
+bad_index_field field = option_map_or (λ form. not (can_index form)) field false
+
+abbrev pub bad_index_of : List SpecCard → Operand → Bool
+bad_index_of cards o =
+    option_map_or (misindexed o.content o.field.index (index_form cards o.field)) (card_entry_form cards o.field) false || bad_index_field (index_form cards o.field)
+
+abbrev pub bad_index : List SpecCard → SpecCard → List SpecCard → Bool
+bad_index cards c after = list_any (bad_index_of cards) (operands_on c after)

@@ -1,0 +1,80 @@
+//! F9: high or low of a search without sequence, and output fields whose columns don't go together.
+
+ghost use Rattle.std.specs.Prelude.{◌≡◌, false};
+ghost use Rattle.std.specs.Option.{option_map_or};
+ghost use Rattle.rpg_cards.specs.Calculations.{card_ending};
+ghost use Rattle.rpg_faults_operands.specs.Columns as words;
+
+use crate::forms::{is_array, is_table};
+use crate::operands::factor_form;
+use rpg_cards::{IndexedCards, OperationColumns, Shown, SpecCard, columns, last_card};
+use rpg_effect::form::FieldForm;
+use rpg_sheet_specs::{CalculationSpec, OutputField};
+
+/// F9, as far as it is of output fields, or of the sequence of what LOKUP searches.
+pub fn bad_columns(source: &IndexedCards, card: &SpecCard, after: &[SpecCard]) -> bool
+    ensures { result ≡ words.bad_operand_columns source.now card.now after.now }
+{
+    is_bad_search_ending(source, card, after)
+        || match card.output_field() {
+            None => false,
+            Some(field) => is_bad_output_field(field),
+        }
+}
+
+fn is_bad_search_ending(source: &IndexedCards, card: &SpecCard, after: &[SpecCard]) -> bool
+    ensures { result ≡ option_map_or (words.bad_search source.now) (card_ending card.now after.now) false }
+{
+    match last_card(card, after) {
+        None => false,
+        Some(calculation) => is_bad_search(source, calculation),
+    }
+}
+
+fn is_bad_search(source: &IndexedCards, calculation: &CalculationSpec) -> bool
+    ensures { result ≡ words.bad_search source.now calculation.now }
+{
+    match calculation.operation {
+        None => false,
+        Some(operation) => is_unordered(source, calculation, columns(operation)),
+    }
+}
+
+/// High or low need entries in ascending sequence.
+fn is_unordered(
+    source: &IndexedCards,
+    calculation: &CalculationSpec,
+    columns: OperationColumns,
+) -> bool
+    ensures { result ≡ words.is_unordered source.now calculation.now columns }
+{
+    let shown = calculation.resulting_indicators;
+    searches(columns.indicators)
+        && (shown.first.is_some() || shown.second.is_some())
+        && match factor_form(source, columns.factor_2, &calculation.factor_2) {
+            None => false,
+            Some(form) => lacks_sequence(form),
+        }
+}
+
+fn searches(shown: Shown) -> bool
+    ensures { result ≡ words.searches shown }
+{
+    match shown {
+        Shown::Search => true,
+        Shown::Unused | Shown::Any | Shown::Some => false,
+    }
+}
+
+fn lacks_sequence(form: FieldForm) -> bool
+    ensures { result ≡ words.lacks_sequence form }
+{
+    (is_array(form) || is_table(form)) && !form.is_ascending
+}
+
+/// Without a field there is a constant, and neither code nor blank after.
+fn is_bad_output_field(field: &OutputField) -> bool
+    ensures { result ≡ words.bad_output_field field.now }
+{
+    field.operand.is_none() && (field.code.is_some() || field.blank_after || field.text.is_none())
+}

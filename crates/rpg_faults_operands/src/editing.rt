@@ -1,0 +1,182 @@
+//! F17: edit codes and words that don't fit; and how wide an output field is.
+
+ghost use Rattle.std.specs.Prelude.{◌≡◌, ◌≤◌, true, is_some, IfSome};
+ghost use Rattle.rpg_effect.specs.LineFaults as lines;
+ghost use Rattle.rpg_edit_marks.specs.How.{width_of};
+ghost use Rattle.rpg_edit_marks.specs.declared.how.How.TheVariants as how;
+ghost use Rattle.rpg_faults_operands.specs.Editing as editing;
+ghost use Rattle.rpg_faults_operands.specs.Sizes.{IsSized};
+
+use crate::forms::is_text;
+use crate::operands::entry_form;
+use rpg_cards::{IndexedCards, SpecCard};
+use rpg_edit_marks::{EditCode, Fill};
+use rpg_edit_widths::{EditWord, How};
+use rpg_effect::form::{FieldForm, Kind};
+use rpg_sheet_specs::{OutputField, TextLiteral};
+
+// ---- what the columns say
+
+/// Beside a code an asterisk or a dollar sign.
+fn fill_by(text: &[u8]) -> Option<Fill>
+    ensures { result ≡ editing.fill_sign text.now }
+{
+    if text == b"*".as_slice() {
+        Some(Fill::Star)
+    } else if text == b"$".as_slice() {
+        Some(Fill::Dollar)
+    } else {
+        None
+    }
+}
+
+fn fill_in(text: &Option<TextLiteral<24>>) -> Option<Fill>
+    ensures { result ≡ editing.fill_in text.now }
+{
+    match text {
+        None => Some(Fill::Blank),
+        Some(text) => fill_by(text.as_slice()),
+    }
+}
+
+// ---- whether it fits
+
+fn is_blank_fill(fill: Fill) -> bool
+    ensures { result ≡ lines.is_blank_fill fill }
+{
+    match fill {
+        Fill::Blank => true,
+        Fill::Star | Fill::Dollar => false,
+    }
+}
+
+fn takes_fill(code: EditCode, fill: Fill) -> bool
+    ensures { result ≡ editing.takes_fill code fill }
+{
+    match code {
+        EditCode::Combination { .. } => true,
+        EditCode::X | EditCode::Y | EditCode::Z => is_blank_fill(fill),
+    }
+}
+
+fn fits_code(form: FieldForm, code: EditCode, fill: Fill) -> bool
+    ensures { result ≡ editing.suits form (how.Code code fill) }
+{
+    !is_text(form)
+        && takes_fill(code, fill)
+        && match code {
+            EditCode::Combination { .. } | EditCode::X | EditCode::Z => true,
+            EditCode::Y => form.length == 6 && form.decimals == 0,
+        }
+}
+
+/// The word, where it fits.
+fn fitting_word(form: FieldForm, word: &TextLiteral<24>) -> Option<EditWord>
+    requires { IsSized form }
+    ensures fits { is_some result ≡ editing.suits form (how.Word word.now) }
+    ensures word { IfSome result (λ w. w ≡ word.now) }
+{
+    match form.kind {
+        Kind::Text => None,
+        Kind::Number => EditWord::parse(word.as_slice(), form.length as u8).ok(),
+    }
+}
+
+/// How a field of this form is edited, where its code or word fits.
+fn fitting_how(form: FieldForm, field: &OutputField) -> Option<How>
+    requires { IsSized form }
+    ensures how { result ≡ editing.fitting_how form field.now }
+    ensures suited { IfSome result (λ how. editing.suits form how ≡ true) }
+{
+    match field.code {
+        None => match &field.text {
+            None => Some(How::Plain),
+            Some(word) => Some(How::Word(fitting_word(form, word)?)),
+        },
+        Some(code) => {
+            let fill = fill_in(&field.text)?;
+            if fits_code(form, code, fill) {
+                Some(How::Code { code, fill })
+            } else {
+                None
+            }
+        }
+    }
+}
+
+/// Of a field without a form only the fill is known.
+fn lacks_fill(field: &OutputField) -> bool
+    ensures { result ≡ editing.unedited None field.now }
+{
+    let Some(code) = field.code else {
+        return false;
+    };
+    match fill_in(&field.text) {
+        None => true,
+        Some(fill) => !takes_fill(code, fill),
+    }
+}
+
+fn is_badly_edited(source: &IndexedCards, field: &OutputField) -> bool
+    ensures { result ≡ editing.edits_badly source.now field.now }
+{
+    let Some(entry) = &field.operand else {
+        return false;
+    };
+    match entry_form(source, entry) {
+        None => lacks_fill(field),
+        Some(form) => fitting_how(form, field).is_none(),
+    }
+}
+
+/// F17: an edit code or word that doesn't fit.
+pub fn bad_editing(source: &IndexedCards, card: &SpecCard) -> bool
+    ensures { result ≡ editing.bad_editing source.now card.now }
+{
+    match card.output_field() {
+        None => false,
+        Some(field) => is_badly_edited(source, field),
+    }
+}
+
+// ---- widths
+
+fn width_by(form: FieldForm, how: &How) -> usize
+    requires sized { IsSized form }
+    requires suited { editing.suits form how.now ≡ true }
+    ensures { result ≡ width_of form.length form.decimals how.now }
+{
+    match form.kind {
+        Kind::Text => usize::from(form.length),
+        Kind::Number => rpg_edit_widths::width(form.length as u8, form.decimals, how),
+    }
+}
+
+fn edited_width(form: FieldForm, field: &OutputField) -> Option<usize>
+    requires { IsSized form }
+    ensures { result ≡ editing.edited_width form field.now }
+{
+    match fitting_how(form, field) {
+        None => None,
+        Some(how) => Some(width_by(form, &how)),
+    }
+}
+
+/// How many columns an output field takes: none where its code or word doesn't fit, or where its name has no form.
+pub fn width(source: &IndexedCards, field: &OutputField) -> Option<usize>
+    ensures { result ≡ editing.width source.now field.now }
+{
+    match &field.operand {
+        None => constant_width(field),
+        Some(entry) => edited_width(entry_form(source, entry)?, field),
+    }
+}
+
+fn constant_width(field: &OutputField) -> Option<usize>
+    ensures { result ≡ editing.constant_width field.now }
+{
+    match field.code {
+        None => Some(field.text.as_ref()?.as_slice().len()),
+        Some(_) => None,
+    }
+}

@@ -1,0 +1,149 @@
+//! F5: an index that is missing or not allowed, a literal out of range, or a field that can't be an index.
+
+ghost use Rattle.std.specs.Prelude.{◌≡◌, ◌^◌, false, nat_lt};
+ghost use Rattle.std.specs.Option.{option_map_or};
+ghost use Rattle.rpg_faults_operands.specs.Indexes as indexes;
+
+use crate::forms::{can_index, is_array};
+use crate::names::index_name;
+use crate::operands::{Operand, entry_form, form_in, operands_ending, output_operand};
+use rpg_cards::{Content, IndexedCards, SpecCard};
+use rpg_effect::form::FieldForm;
+use rpg_sheet_specs::{Entry, EntryIndex};
+
+/// F5: an index that is missing or not allowed, a literal out of range, or a field that can't be an index.
+#[tactic(auto, using(crate::proofs::Listed::any_listed))]
+pub fn bad_index(source: &IndexedCards, card: &SpecCard, after: &[SpecCard]) -> bool
+    ensures { result ≡ indexes.bad_index source.now card.now after.now }
+{
+    let operands = operands_ending(card, after);
+    is_badly_indexed(source, &operands.first)
+        || is_badly_indexed(source, &operands.second)
+        || is_badly_indexed(source, &operands.third)
+        || is_badly_indexed(source, &output_operand(card))
+}
+
+fn is_badly_indexed(source: &IndexedCards, operand: &Option<Operand>) -> bool
+    ensures { result ≡ option_map_or (indexes.bad_index_of source.now) operand.now false }
+{
+    let Some(operand) = operand else {
+        return false;
+    };
+    let index_form = index_form(source, operand.field);
+    is_bad_index_field(index_form)
+        || match entry_form(source, operand.field) {
+            None => false,
+            Some(form) => is_misindexed(operand.content, &operand.field.index, index_form, form),
+        }
+}
+
+/// The form of the field that an index names.
+fn index_form(source: &IndexedCards, entry: &Entry) -> Option<FieldForm>
+    ensures { result ≡ indexes.index_form source.now entry.now }
+{
+    form_in(source.form_of_name(index_name(entry)?))
+}
+
+/// Whether an index, or none, is wrong beside a field of this form. The index's own field has a form too, where one is known.
+fn is_misindexed(
+    content: Content,
+    index: &Option<EntryIndex>,
+    index_form: Option<FieldForm>,
+    form: FieldForm,
+) -> bool
+    ensures { result ≡ indexes.misindexed content index.now index_form form }
+{
+    match index {
+        None => needs_index(content, form),
+        Some(EntryIndex::Literal(entry)) => {
+            !takes_index(content, form) || !(1 <= *entry && *entry <= form.entries)
+        }
+        Some(EntryIndex::Name(_)) => {
+            !takes_index(content, form) || lacks_digits(content, form, index_form)
+        }
+    }
+}
+
+/// An array is no value: one of its entries is.
+fn needs_index(content: Content, form: FieldForm) -> bool
+    ensures { result ≡ indexes.needs_index content form }
+{
+    match content {
+        Content::Value => is_array(form),
+        Content::WholeArray
+        | Content::Searched
+        | Content::Table
+        | Content::Label
+        | Content::Subroutine => false,
+    }
+}
+
+/// XFOOT takes an array without an index.
+fn takes_index(content: Content, form: FieldForm) -> bool
+    ensures { result ≡ indexes.takes_index content form }
+{
+    match content {
+        Content::WholeArray => false,
+        Content::Value
+        | Content::Searched
+        | Content::Table
+        | Content::Label
+        | Content::Subroutine => is_array(form),
+    }
+}
+
+fn lacks_digits(content: Content, form: FieldForm, index_form: Option<FieldForm>) -> bool
+    ensures { result ≡ option_map_or (indexes.is_too_short content form) index_form false }
+{
+    match index_form {
+        None => false,
+        Some(field) => is_too_short(content, form, field),
+    }
+}
+
+/// An index field that LOKUP writes has room for the number of the last entry.
+fn is_too_short(content: Content, form: FieldForm, field: FieldForm) -> bool
+    ensures { result ≡ indexes.is_too_short content form field }
+{
+    is_searched(content)
+        && is_array(form)
+        && can_index(field)
+        && !fits_digits(form.entries, field.length)
+}
+
+fn is_searched(content: Content) -> bool
+    ensures { result ≡ indexes.is_searched_content content }
+{
+    match content {
+        Content::Searched => true,
+        Content::Value
+        | Content::WholeArray
+        | Content::Table
+        | Content::Label
+        | Content::Subroutine => false,
+    }
+}
+
+/// Whether a number of so many digits may be as large. Five digits hold any number of two bytes.
+#[tactic(auto, using(crate::proofs::Digits::five_digits))]
+fn fits_digits(n: u16, digits: u16) -> bool
+    ensures { result ≡ nat_lt n (10 ^ digits) }
+{
+    match digits {
+        0 => n < 1,
+        1 => n < 10,
+        2 => n < 100,
+        3 => n < 1000,
+        4 => n < 10000,
+        _ => true,
+    }
+}
+
+fn is_bad_index_field(form: Option<FieldForm>) -> bool
+    ensures { result ≡ indexes.bad_index_field form }
+{
+    match form {
+        None => false,
+        Some(form) => !can_index(form),
+    }
+}

@@ -1,0 +1,185 @@
+//! F4: an operand or output field of the wrong kind, a field that can't be written, a table with too few entries.
+
+ghost use Rattle.std.specs.Prelude.{◌≡◌, false};
+ghost use Rattle.std.specs.Option.{option_map_or};
+ghost use Rattle.rpg_cards.specs.Calculations.{card_ending};
+ghost use Rattle.rpg_cards.specs.Cards.{output_field_on};
+ghost use Rattle.rpg_faults_operands.specs.Kinds as words;
+ghost use Rattle.rpg_faults_operands.specs.Operands.{field_content};
+
+use crate::forms::{is_array, is_same_kind, is_table, is_text, is_unwritable};
+use crate::operands::{factor_form, field_content, output_form, result_form};
+use rpg_cards::{Content, IndexedCards, Kinds, OperationColumns, SpecCard, columns, last_card};
+use rpg_effect::form::FieldForm;
+use rpg_sheet_specs::{CalculationSpec, OutputField};
+
+/// F4: an operand or output field of the wrong kind, a field that can't be written, a table with too few entries.
+pub fn wrong_operand(source: &IndexedCards, card: &SpecCard, after: &[SpecCard]) -> bool
+    ensures { result ≡ words.wrong_operand source.now card.now after.now }
+{
+    is_wrong_ending(source, card, after) || is_wrong_output(source, card)
+}
+
+fn is_wrong_ending(source: &IndexedCards, card: &SpecCard, after: &[SpecCard]) -> bool
+    ensures { result ≡ option_map_or (words.wrong_in_calculation source.now) (card_ending card.now after.now) false }
+{
+    match last_card(card, after) {
+        None => false,
+        Some(calculation) => is_wrong_calculation(source, calculation),
+    }
+}
+
+fn is_wrong_calculation(source: &IndexedCards, calculation: &CalculationSpec) -> bool
+    ensures { result ≡ words.wrong_in_calculation source.now calculation.now }
+{
+    let Some(operation) = calculation.operation else {
+        return false;
+    };
+    let columns = columns(operation);
+    are_wrong(
+        columns,
+        factor_form(source, columns.factor_1, &calculation.factor_1),
+        factor_form(source, columns.factor_2, &calculation.factor_2),
+        result_form(source, columns.result_field, &calculation.result_field),
+    )
+}
+
+fn is_wrong_output(source: &IndexedCards, card: &SpecCard) -> bool
+    ensures { result ≡ option_map_or (words.wrong_in_output source.now) (output_field_on card.now.spec) false }
+{
+    let Some(field) = card.output_field() else {
+        return false;
+    };
+    match output_form(source, field) {
+        None => false,
+        Some(form) => is_wrong_as_output(field, form),
+    }
+}
+
+/// The forms of what stands in the columns for factor 1, factor 2 and the result field.
+fn are_wrong(
+    columns: OperationColumns,
+    factor_1: Option<FieldForm>,
+    factor_2: Option<FieldForm>,
+    result_field: Option<FieldForm>,
+) -> bool
+    ensures { result ≡ words.wrong_forms columns factor_1 factor_2 result_field }
+{
+    let result_content = field_content(columns.result_field);
+    has_wrong_class(field_content(columns.factor_1), factor_1)
+        || has_wrong_class(field_content(columns.factor_2), factor_2)
+        || has_wrong_class(result_content, result_field)
+        || are_wrong_kinds(columns.kinds, factor_1, factor_2, result_field)
+        || is_wrong_result(result_content, factor_2, result_field)
+}
+
+fn has_wrong_class(content: Option<Content>, form: Option<FieldForm>) -> bool
+    ensures { result ≡ words.has_wrong_class content form }
+{
+    let Some(content) = content else {
+        return false;
+    };
+    match form {
+        None => false,
+        Some(form) => is_wrong_class(content, form),
+    }
+}
+
+fn is_wrong_class(content: Content, form: FieldForm) -> bool
+    ensures { result ≡ words.is_wrong_class content form }
+{
+    match content {
+        Content::Value | Content::Label | Content::Subroutine => false,
+        Content::WholeArray => !is_array(form),
+        Content::Searched => !(is_array(form) || is_table(form)),
+        Content::Table => !is_table(form),
+    }
+}
+
+fn are_wrong_kinds(
+    kinds: Kinds,
+    factor_1: Option<FieldForm>,
+    factor_2: Option<FieldForm>,
+    result_field: Option<FieldForm>,
+) -> bool
+    ensures { result ≡ words.wrong_kinds kinds factor_1 factor_2 result_field }
+{
+    match kinds {
+        Kinds::Numbers => has_text(factor_1) || has_text(factor_2) || has_text(result_field),
+        Kinds::Alike => differ(factor_1, factor_2),
+        Kinds::Any => false,
+    }
+}
+
+fn has_text(form: Option<FieldForm>) -> bool
+    ensures { result ≡ words.has_text form }
+{
+    match form {
+        None => false,
+        Some(form) => is_text(form),
+    }
+}
+
+/// A number beside a text.
+fn differ(first: Option<FieldForm>, second: Option<FieldForm>) -> bool
+    ensures { result ≡ words.kinds_differ first second }
+{
+    let Some(first) = first else {
+        return false;
+    };
+    match second {
+        None => false,
+        Some(second) => !is_same_kind(first, second),
+    }
+}
+
+fn is_wrong_result(
+    content: Option<Content>,
+    searched: Option<FieldForm>,
+    result_field: Option<FieldForm>,
+) -> bool
+    ensures { result ≡ option_map_or (λ c. words.wrong_result c searched result_field) content false }
+{
+    match content {
+        None => false,
+        Some(Content::Value) => is_never_written(result_field),
+        Some(Content::Table) => finds_too_few(searched, result_field),
+        Some(Content::WholeArray | Content::Searched | Content::Label | Content::Subroutine) => {
+            false
+        }
+    }
+}
+
+fn is_never_written(form: Option<FieldForm>) -> bool
+    ensures { result ≡ option_map_or words.is_unwritable form false }
+{
+    match form {
+        None => false,
+        Some(form) => is_unwritable(form),
+    }
+}
+
+/// A table that is found in with fewer entries than what is searched.
+fn finds_too_few(searched: Option<FieldForm>, found: Option<FieldForm>) -> bool
+    ensures { result ≡ words.finds_too_few searched found }
+{
+    let Some(searched) = searched else {
+        return false;
+    };
+    match found {
+        None => false,
+        Some(found) => {
+            is_table(found)
+                && (is_array(searched) || is_table(searched))
+                && found.entries < searched.entries
+        }
+    }
+}
+
+/// A text that is edited, or the date that is blanked.
+fn is_wrong_as_output(field: &OutputField, form: FieldForm) -> bool
+    ensures { result ≡ words.wrong_as_output field.now form }
+{
+    ((field.code.is_some() || field.text.is_some()) && is_text(form))
+        || (field.blank_after && is_unwritable(form))
+}

@@ -1,0 +1,55 @@
+//! F1: names that are used and that no card defines.
+
+ghost use Rattle.std.specs.Prelude.{◌≡◌, false, option_copied};
+ghost use Rattle.std.specs.Option.{option_map_or};
+ghost use Rattle.rpg_faults_operands.specs.Names as names;
+
+use crate::operands::{Operand, operands_ending, output_operand};
+use rpg_cards::{Defined, IndexedCards, SpecCard};
+use rpg_sheet_specs::{Entry, EntryIndex};
+use rpg_symbols::Name;
+
+/// F1: a name that is used and that no card defines, before or behind.
+#[tactic(auto, using(crate::proofs::Listed::any_listed))]
+pub fn lacks_name(source: &IndexedCards, card: &SpecCard, after: &[SpecCard]) -> bool
+    ensures { result ≡ names.lacks_name source.now card.now after.now }
+{
+    let operands = operands_ending(card, after);
+    names_nothing(source, &operands.first)
+        || names_nothing(source, &operands.second)
+        || names_nothing(source, &operands.third)
+        || names_nothing(source, &output_operand(card))
+}
+
+fn names_nothing(source: &IndexedCards, operand: &Option<Operand>) -> bool
+    ensures { result ≡ option_map_or (names.names_nothing source.now) operand.now false }
+{
+    let Some(operand) = operand else {
+        return false;
+    };
+    is_undefined(source, &operand.field.name)
+        || match index_name(operand.field) {
+            None => false,
+            Some(name) => is_undefined(source, name),
+        }
+}
+
+/// A literal index names no field.
+pub(crate) fn index_name(entry: &Entry) -> Option<&Name>
+    ensures { option_copied result ≡ names.index_name entry.now }
+{
+    match &entry.index {
+        None => None,
+        Some(EntryIndex::Literal(_)) => None,
+        Some(EntryIndex::Name(name)) => Some(name),
+    }
+}
+
+fn is_undefined(source: &IndexedCards, name: &Name) -> bool
+    ensures { result ≡ names.is_undefined source.now name.now }
+{
+    match source.form_of_name(name) {
+        Defined::Missing => true,
+        Defined::Bad | Defined::Good(_) => false,
+    }
+}

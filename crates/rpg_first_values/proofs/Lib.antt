@@ -1,5 +1,0 @@
-pub mod Filled
-pub mod Constants
-pub mod Entries
-pub mod Loaded
-pub mod Names

@@ -1,4 +1,0 @@
-pub mod Format
-pub mod Numbers
-pub mod Reading
-pub mod CodeTexts

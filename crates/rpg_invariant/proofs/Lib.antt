@@ -1,9 +1,0 @@
-pub mod Writing
-pub mod Acting
-pub mod Filling
-pub mod Printing
-pub mod Instructing
-pub mod Stepping
-pub mod Running
-pub mod Accepting
-pub mod Starting

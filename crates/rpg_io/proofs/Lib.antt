@@ -1,2 +1,0 @@
--- Lemmas on parts of an output.
-pub mod Parts

@@ -1,8 +1,0 @@
-use Rattle.rpg_jobs.proofs.Meant.{has_start, runs_are_meant}
-use Rattle.rpg_jobs.proofs.laws.runs_are_those_of_cards.Goals as goal
-
-pub returns-clause-runs : goal.returns-clause-runs
-returns-clause-runs c = runs_are_meant
-
-pub returns-clause-start : goal.returns-clause-start
-returns-clause-start c = has_start

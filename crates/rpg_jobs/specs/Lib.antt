@@ -1,6 +1,0 @@
-pub mod Cycle
-pub mod Job
-pub mod Phases
-pub mod Runs
-pub mod Sources
-pub mod Start

@@ -1,0 +1,26 @@
+-- An effect that was done, and what follows where it goes on.
+use Rattle.std.proofs.Common.{◌≡◌, ℕ, ap, subst, nat_cmp}
+use Rattle.std.specs.Prelude.{Result, Ok, Err, IfOk}
+use Rattle.rpg_effect.proofs.Putting.{halts_done, then_done}
+use Rattle.rpg_effect.specs.Effect.{Effect, then_go}
+use Rattle.rpg_effect.specs.Ends.{End, Halt, end_of}
+use Rattle.rpg_effect.specs.Put.{Bytes, Held, IsDone}
+use Rattle.rpg_effect.specs.World.{World}
+use Rattle.rpg_effect.specs.declared.outcome.End as rust
+use Rattle.rpg_effect.specs.declared.outcome.End.TheVariants as answers
+use Rattle.rpg_effect.specs.Halts.{halt_number}
+use Rattle.rpg_effect.specs.declared.halt.Halt as halts
+
+module _ (first next : World nat_cmp → Effect nat_cmp) (w v : Held) (q o : Bytes) (r : rust.End) (done : IsDone first w q (end_of r) v o) where
+  -- it went on, and so did what follows
+  pub went_on : (u : Held) (t : Bytes) (e : End) → r ≡ answers.GoesOn → IsDone next v o e u t → IsDone (λ x. then_go (first x) next) w q e u t
+  went_on u t e goes h = then_done first next w v u q o t e (subst (λ (x : End). IsDone first w q x v o) (ap end_of goes) done) h
+
+  -- it halted
+  pub halted : (k : halts.Halt) → r ≡ answers.Halt k → IsDone (λ x. then_go (first x) next) w q (Halt (halt_number k)) v o
+  halted k halts = halts_done first next w v q o (halt_number k) (subst (λ (x : End). IsDone first w q x v o) (ap end_of halts) done)
+
+-- what follows from each value
+pub ok_each : {T E : Type 0} (r : Result T E) (P Q : T → Type 0) → ((t : T) → P t → Q t) → IfOk r P → IfOk r Q
+ok_each (Ok t) P Q f h = f t h
+ok_each (Err e) P Q f h = tt

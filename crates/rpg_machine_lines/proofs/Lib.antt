@@ -1,0 +1,13 @@
+pub mod AllLines
+pub mod Assembling
+pub mod Entering
+pub mod Fields
+pub mod Following
+pub mod Keeping
+pub mod Left
+pub mod Moving
+pub mod OneLine
+pub mod Operands
+pub mod Passages
+pub mod Weighing
+pub mod Words

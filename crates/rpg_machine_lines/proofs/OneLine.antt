@@ -1,0 +1,103 @@
+-- A line, from its parts.
+use Rattle.std.proofs.Common.{◌≡◌, ℕ, Bool, true, false, ◌&&◌, cond, nat_le, List, [], Option, None, Some, refl, sym, ap, ◌∙◌, subst, nat_cmp, replicate}
+use Rattle.std.specs.FinSet as sets
+use Rattle.rpg_paper.specs.Paper.{Position}
+use Rattle.rpg_effect.proofs.Putting.{quiet_done, then_done}
+use Rattle.rpg_effect.specs.Effect.{Effect, Leaves, unless_wrong}
+use Rattle.rpg_effect.specs.Ends.{End, Fault, GoesOn, Halt, Storage, end_of}
+use Rattle.rpg_effect.specs.LineFaults.{is_spacing, line_fault}
+use Rattle.rpg_effect.specs.Lines.{Draft, Drafted, Line, assembled, blank_line, blanked_all, drafted, is_asked, line_out, one_out, put_on, put_out, where_asked}
+use Rattle.rpg_effect.specs.Put.{Bytes, Held, IsDone, IsLeft, on_paper}
+use Rattle.rpg_effect.specs.World.{Fields, World}
+use Rattle.rpg_effect.specs.declared.form.FieldForm.{FieldForm}
+use Rattle.rpg_effect.specs.declared.line.LineField.{LineField}
+use Rattle.rpg_effect.specs.declared.line.Pass.{Pass}
+use Rattle.rpg_effect.specs.declared.line.Spacing.{Spacing}
+use Rattle.rpg_effect.specs.declared.outcome.End as rust
+use Rattle.rpg_machine_lines.proofs.Operands.{and_true}
+use Rattle.rpg_machine_lines.specs.Drafts.{draft_of}
+
+-- the same with other fields
+abbrev pub with_fields : Fields nat_cmp → Held → Held
+with_fields fields w = record { last = w.last; world = record w.world { fields = fields } }
+
+module _ (forms : ℕ → Option FieldForm) (words : ℕ → List ℕ) (overflow : Option ℕ) (l : Line ℕ) (w : Held) (q : Bytes) where
+  -- the line's fields were assembled to this draft
+  abbrev pub IsDrafted : End → Draft nat_cmp → Type 0
+  IsDrafted e d = drafted e d ≡ assembled forms words w.world.on l.len l.fields (blank_line l.len w.world)
+
+  -- the line, wherever it is placed
+  abbrev out_at : Option Position → Effect nat_cmp
+  out_at previous = line_out forms words overflow l (on_paper previous w.world)
+
+  line_is : (previous : Option Position) (e : End) (d : Draft nat_cmp) → line_fault l.len l.spacing ≡ None → IsDrafted e d →
+      out_at previous ≡ put_out forms words overflow l (on_paper previous w.world) e d
+  unfolding line_out
+  line_is previous e d h a =
+      let x = on_paper previous w.world in
+      let done = assembled forms words w.world.on l.len l.fields (blank_line l.len w.world) in
+      ap (λ o. unless_wrong o x (put_out forms words overflow l x done.ending done.draft)) h
+      ∙ ap (λ (y : Drafted nat_cmp). put_out forms words overflow l x y.ending y.draft) (sym a)
+
+  -- a field halted
+  pub line_halted : (k : ℕ) (d : Draft nat_cmp) (v : Held) → line_fault l.len l.spacing ≡ None → IsDrafted (Halt k) d → v ≡ with_fields d.fields w →
+      IsDone (line_out forms words overflow l) w q (Halt k) v q
+  line_halted k d v h a is =
+      let last = ap (λ (x : Held). x.last) is in
+      let left = quiet_done (λ x. record x { fields = d.fields }) (Halt k) w v q last (λ p. ap (λ (x : Held). on_paper p x.world) is) in
+      record {
+        behind = λ previous e. subst (λ (x : Effect nat_cmp). IsLeft previous x q (Halt k) v q) (sym (line_is previous (Halt k) d h a)) (left.behind previous e);
+      }
+
+  -- the line was put on its file, and its entries were blanked
+  pub line_placed : (d : Draft nat_cmp) (v u : Held) (o : Bytes) → line_fault l.len l.spacing ≡ None → IsDrafted GoesOn d →
+      IsDone (put_on overflow l.file l.spacing d.text) (with_fields d.fields w) q GoesOn v o →
+      u.last ≡ v.last → u.world ≡ record v.world { fields = blanked_all d.to_blank v.world.fields } →
+      IsDone (line_out forms words overflow l) w q GoesOn u o
+  line_placed d v u o h a put last world =
+      let blank : World nat_cmp → World nat_cmp = λ x. record x { fields = blanked_all d.to_blank x.fields } in
+      let cleared : IsDone (λ x. Leaves (blank x)) v o GoesOn u o = quiet_done blank GoesOn v u o last (λ p. ap (on_paper p) world) in
+      let both = then_done (put_on overflow l.file l.spacing d.text) (λ x. Leaves (blank x)) (with_fields d.fields w) v u q o o GoesOn put cleared in
+      record {
+        behind = λ previous e. subst (λ (x : Effect nat_cmp). IsLeft previous x q GoesOn u o) (sym (line_is previous GoesOn d h a)) (both.behind previous e);
+      }
+
+  -- the line, where it is asked for
+  abbrev asked_at : Bool → Option Position → Effect nat_cmp
+  asked_at b previous = where_asked forms words b (out_at previous) (on_paper previous w.world)
+
+  -- it isn't asked for
+  pub not_asked : (pass : Pass) → is_asked overflow pass w.world.on l.time l.alternatives ≡ false → IsDone (one_out forms words overflow pass l) w q GoesOn w q
+  unfolding one_out
+  not_asked pass h =
+      let none = quiet_done (λ x. x) GoesOn w w q refl (λ p. refl) in
+      record { behind = λ previous e. subst (λ b. IsLeft previous (asked_at b previous) q GoesOn w q) (sym h) (none.behind previous e) }
+
+  -- it is asked for
+  pub line_asked : (pass : Pass) (e : End) (v : Held) (o : Bytes) → is_asked overflow pass w.world.on l.time l.alternatives ≡ true →
+      IsDone (line_out forms words overflow l) w q e v o → IsDone (one_out forms words overflow pass l) w q e v o
+  unfolding one_out
+  line_asked pass e v o h d =
+      record { behind = λ previous g. subst (λ b. IsLeft previous (asked_at b previous) q e v o) (sym h) (d.behind previous g) }
+
+-- assembled, whatever the code called its parts
+pub assembled_from : (forms : ℕ → Option FieldForm) (words : ℕ → List ℕ) (on : sets.FinSet nat_cmp) (fields : Fields nat_cmp) (r : rust.End) (e : End)
+    (d : Draft nat_cmp) (n len : ℕ) (fs gs : List (LineField ℕ)) (text : List ℕ) (es : List (ℕ × ℕ)) →
+    end_of r ≡ e → n ≡ len → fs ≡ gs → text ≡ replicate len 32 → es ≡ [] →
+    drafted (end_of r) d ≡ assembled forms words on n fs (draft_of fields text es) →
+    drafted e d ≡ assembled forms words on len gs (draft_of fields (replicate len 32) [])
+assembled_from forms words on fields r e d n len fs gs text es ends long same blank none h =
+    ap (λ x. drafted x d) (sym ends) ∙ h
+    ∙ ap (λ (m : ℕ). assembled forms words on m fs (draft_of fields text es)) long
+    ∙ ap (λ (xs : List (LineField ℕ)). assembled forms words on len xs (draft_of fields text es)) same
+    ∙ ap (λ (t : List ℕ). assembled forms words on len gs (draft_of fields t es)) blank
+    ∙ ap (λ (xs : List (ℕ × ℕ)). assembled forms words on len gs (draft_of fields (replicate len 32) xs)) none
+
+none_tested : (b : Bool) → ◌≡◌ {A = Option Fault} (cond b None (Some Storage)) None → b ≡ true
+none_tested true h = refl
+none_tested false h = cc
+
+-- the movements of a line with nothing wrong
+pub right_moves : (len : ℕ) (s : Spacing) → line_fault len s ≡ None → is_spacing s ≡ true
+unfolding line_fault
+right_moves len s h = (and_true (nat_le 1 len) (is_spacing s) (none_tested (nat_le 1 len && is_spacing s) h)).1

@@ -1,0 +1,90 @@
+//! What the lines of each output weigh.
+ghost use Rattle.std.specs.Prelude.{◌≡◌, ◌+◌, ◌≤◌, cond, length};
+ghost use Rattle.rpg_effect.specs.Weights as words;
+ghost use Rattle.rpg_machine_lines.specs.Weighed.{weighed};
+ghost use Rattle.rpg_object_program.specs.Kept.{IsProgram};
+ghost use Rattle.rpg_object_program.specs.Object.{lines_of, seen};
+
+use rpg_effect::line::Time;
+use rpg_object_program::row::{Line, Rows};
+
+/// The output whose lines are weighed.
+#[derive(Clone, Copy)]
+enum Weighed {
+    Detail,
+    Total,
+    Overflow,
+    Exception,
+}
+
+fn is_weighed(output: Weighed, time: Time) -> bool
+    ensures { result ≡ weighed output time }
+{
+    match output {
+        Weighed::Detail => matches!(time, Time::Heading | Time::Detail),
+        Weighed::Total => matches!(time, Time::Total),
+        Weighed::Overflow => matches!(time, Time::Heading | Time::Detail | Time::Total),
+        Weighed::Exception => matches!(time, Time::Exception),
+    }
+}
+
+/// A line weighs one, and one more for each of its fields, where it is weighed.
+fn weight_where(is_weighed: bool, line: &Line) -> u64
+    ensures { result ≡ cond is_weighed (1 + length line.now.fields.items) 0 }
+{
+    if is_weighed {
+        1 + line.fields.len() as u64
+    } else {
+        0
+    }
+}
+
+/// Linear in the lines.
+fn lines_weight(rows: &Rows, output: Weighed) -> u64
+    requires { IsProgram (seen rows.now) }
+    ensures value { result ≡ words.lines_weight (weighed output) (lines_of (seen rows.now)) }
+    ensures few { result ≤ 201000 }
+{
+    let mut weight = 0;
+    for line in &rows.lines {
+        let own = weight_where(is_weighed(output, line.time), line);
+        weight += own;
+    }
+    weight
+}
+
+/// The weight of H and D lines. Linear in the lines.
+pub fn detail_weight(rows: &Rows) -> u32
+    requires { IsProgram (seen rows.now) }
+    ensures value { result ≡ words.detail_weight (lines_of (seen rows.now)) }
+    ensures few { result ≤ 201000 }
+{
+    lines_weight(rows, Weighed::Detail) as u32
+}
+
+/// The weight of T lines. Linear in the lines.
+pub fn total_weight(rows: &Rows) -> u32
+    requires { IsProgram (seen rows.now) }
+    ensures value { result ≡ words.total_weight (lines_of (seen rows.now)) }
+    ensures few { result ≤ 201000 }
+{
+    lines_weight(rows, Weighed::Total) as u32
+}
+
+/// The weight of H, D and T lines. Linear in the lines.
+pub fn overflow_weight(rows: &Rows) -> u32
+    requires { IsProgram (seen rows.now) }
+    ensures value { result ≡ words.overflow_weight (lines_of (seen rows.now)) }
+    ensures few { result ≤ 201000 }
+{
+    lines_weight(rows, Weighed::Overflow) as u32
+}
+
+/// The weight of E lines. Linear in the lines.
+pub fn exceptions_weight(rows: &Rows) -> u32
+    requires { IsProgram (seen rows.now) }
+    ensures value { result ≡ words.exceptions_weight (lines_of (seen rows.now)) }
+    ensures few { result ≤ 201000 }
+{
+    lines_weight(rows, Weighed::Exception) as u32
+}

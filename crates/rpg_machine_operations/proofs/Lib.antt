@@ -1,0 +1,9 @@
+pub mod Characters
+pub mod Doing
+pub mod Entries
+pub mod Finding
+pub mod Keeping
+pub mod Overlays
+pub mod Programs
+pub mod Rights
+pub mod Values

@@ -1,0 +1,10 @@
+use Rattle.std.proofs.Common.{◌≡◌, rules, to_z, of_z}
+use Rattle.std.specs.Int.{w64}
+use Rattle.rpg_machine_operations.proofs.Keeping.{ready_number}
+use Rattle.rpg_machine_operations.proofs.places.move_to_number.Goals as goal
+
+pub returns-in-Some-clause-ready : goal.returns-in-Some-clause-ready
+returns-in-Some-clause-ready g c =
+    let read : to_z w64 (of_z w64 c.in-Some.n) ≡ c.in-Some.n = search rules in
+    ready_number g.S.Store.forms g.S.Store.contents g.S.Store.currents c.args.rows.now.fields.items c.args.memory.now _ c.args.to.entry.field c.args.to.entry.position c.in-Some.n _
+    c.requires.ready c.set_number.ensures.forms c.set_number.ensures.contents c.set_number.ensures.currents read c.requires.to.value c.in-Some.ensures.length

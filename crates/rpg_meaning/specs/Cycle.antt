@@ -1,0 +1,139 @@
+-- The fixed program cycle by cards: its nine phases, one after another.
+use Rattle.std.specs.Prelude.{ℕ, ◌+◌, ◌-◌, ◌==◌, Bool, true, false, not, ◌&&◌, ◌||◌, nat_le, List, [], ◌∷◌, ◌++◌, length, replicate, slice_get, take, Option, None, Some, is_none, if◌then◌else◌}
+use Rattle.std.specs.List.{filter, filter_map, list_all, list_any}
+use Rattle.std.specs.Option.{option_map_or, option_to_list}
+use Rattle.rpg_cards.specs.Keys.{Key}
+use Rattle.rpg_cycle.specs.Ends.{PhaseEnd, GoesOn, EndOfJob, Halt}
+use Rattle.rpg_cycle.specs.Indicators.{first_page, halt_indicators, last_record, level_indicators}
+use Rattle.rpg_effect.specs.Input.{TypeRow, record_in}
+use Rattle.rpg_effect.specs.Lines.{detail_output, overflow_output, total_output}
+use Rattle.rpg_effect.specs.declared.input.ControlField.{ControlField}
+use Rattle.rpg_effect.specs.declared.input.InputField.{InputField}
+use Rattle.rpg_meaning.specs.Job.{Job, JobState}
+use Rattle.rpg_meaning.specs.Phases.{MeantPhase, any_on_in, by_effect, calculated, is_on_in, meant_does, meant_passes, meant_unless, with_turned, ◌andthen◌}
+use Rattle.rpg_meaning_calculations.specs.Parts.{InDetail, InTotal}
+use Rattle.rpg_cycle_records.specs.Earlier.{Selected, is_any, or_before}
+use Rattle.rpg_cycle_records.specs.Identifying.{code_holds, is_character}
+use Rattle.rpg_cycle_records.specs.Levels.{differs, highest_broken, level_bytes}
+
+module _ (job : Job) where
+  -- ---- record types
+
+  abbrev pub levels_at : ℕ → List ControlField
+  levels_at type = option_map_or (λ t. t.levels) (slice_get job.types type) []
+
+  abbrev pub meant_inputs_at : ℕ → List (InputField Key)
+  meant_inputs_at type = option_map_or (λ t. t.inputs) (slice_get job.types type) []
+
+  abbrev pub indicator_at : ℕ → Option ℕ
+  indicator_at type = option_map_or (λ t. t.indicator) (slice_get job.types type) None
+
+  -- the bytes of a level in the last of these records whose type has it; they are given from the last to the first
+  abbrev pub meant_last_bytes : ℕ → List Selected → Option (List ℕ)
+  meant_last_bytes level [] = None
+  meant_last_bytes level (s ∷ ss) = or_before (meant_last_bytes level ss) (level_bytes (levels_at s.type) s.text level)
+
+  -- the highest level that a record breaks, 0 where it breaks none
+  abbrev pub meant_broken_level : List Selected → Selected → ℕ
+  meant_broken_level earlier s = highest_broken (λ level. differs (meant_last_bytes level earlier) (level_bytes (levels_at s.type) s.text level)) 9
+
+  -- one of these records had control fields
+  abbrev pub meant_any_control : List Selected → Bool
+  meant_any_control [] = false
+  meant_any_control (s ∷ ss) = meant_any_control ss || is_any (levels_at s.type)
+
+  -- ---- 1 heading and detail lines of the cycle before, and at first those of the first page
+
+  abbrev pub meant_detail_lines : MeantPhase
+  meant_detail_lines = by_effect (detail_output job.source.forms job.source.words job.source.overflow job.source.lines)
+
+  -- ---- 2 halt 6 where a halt indicator is on
+
+  abbrev pub meant_halt_where_asked : MeantPhase
+  meant_halt_where_asked = meant_does (λ s. (if any_on_in halt_indicators s then Halt 6 else GoesOn, s))
+
+  -- ---- 3 the indicators of record types but LR, L1 to L9 and 1P go off
+
+  abbrev pub type_indicators : List (TypeRow Key) → List ℕ
+  type_indicators types = filter (λ n. not (n == last_record)) (filter_map (λ t. t.indicator) types)
+
+  abbrev pub meant_set_off : MeantPhase
+  meant_set_off = meant_does (λ s. (GoesOn, with_turned (type_indicators job.types ++ (level_indicators ++ first_page ∷ [])) false s))
+
+  -- ---- 4 a record is read and identified, and its control fields are compared
+
+  -- characters, and no more than a record has
+  abbrev pub is_good_text : List ℕ → Bool
+  is_good_text text = nat_le (length text) job.record_length && list_all is_character text
+
+  abbrev pub meant_padded : List ℕ → List ℕ
+  meant_padded text = text ++ replicate (job.record_length - length text) 32
+
+  -- the first type all of whose codes hold; the first of these has that number
+  abbrev pub type_of_text : List ℕ → ℕ → List (TypeRow Key) → Option ℕ
+  type_of_text text n [] = None
+  type_of_text text n (t ∷ ts) = if list_all (code_holds text) t.codes then Some n else type_of_text text (n + 1) ts
+
+  -- its indicator goes on, and so do L1 to the highest level that it breaks
+  abbrev pub with_selected : List Selected → Selected → JobState → JobState
+  with_selected earlier r s = record (with_turned (option_to_list (indicator_at r.type) ++ take (meant_broken_level earlier r) level_indicators) true s) { selected = Some r }
+
+  -- a record of no type is halt 3
+  abbrev pub type_taken : List Selected → List ℕ → Option ℕ → JobState → PhaseEnd × JobState
+  type_taken earlier text None s = (Halt 3, s)
+  type_taken earlier text (Some type) s = (GoesOn, with_selected earlier (record { type = type; text = text }) s)
+
+  -- a bad record is halt 7; where there is none LR and L1 to L9 go on
+  abbrev pub read : List Selected → Option (List ℕ) → JobState → PhaseEnd × JobState
+  read earlier None s = (GoesOn, with_turned (last_record ∷ level_indicators) true s)
+  read earlier (Some text) s = if is_good_text text then type_taken earlier (meant_padded text) (type_of_text (meant_padded text) 0 job.types) s else (Halt 7, s)
+
+  -- where LR is on no record is read, and L1 to L9 go on
+  abbrev pub meant_select_record : List Selected → Option (List ℕ) → MeantPhase
+  meant_select_record earlier next = meant_does (λ s. if is_on_in last_record s then (GoesOn, with_turned level_indicators true s) else read earlier next s)
+
+  -- ---- 5 total calculations and total lines, but not in the first cycle, and where types have control fields not before a record had some
+
+  abbrev pub meant_is_bypassed : List Selected → JobState → Bool
+  meant_is_bypassed earlier s = not (is_on_in last_record s) && (not (is_any earlier) || (list_any (λ t. is_any t.levels) job.types && not (meant_any_control earlier)))
+
+  abbrev pub meant_total_time : List Selected → MeantPhase
+  meant_total_time earlier =
+      meant_unless (meant_is_bypassed earlier)
+      (calculated job.source InTotal andthen by_effect (total_output job.source.forms job.source.words job.source.overflow job.source.lines))
+
+  -- ---- 6 the job ends where LR is on, or where no record was selected
+
+  abbrev pub meant_end_where_last : MeantPhase
+  meant_end_where_last = meant_does (λ s. (if is_on_in last_record s || is_none s.selected then EndOfJob else GoesOn, s))
+
+  -- ---- 7 all lines of a new page, where the overflow indicator asks for one
+
+  abbrev pub meant_overflow_lines : MeantPhase
+  meant_overflow_lines =
+      meant_unless (λ s. not (option_map_or (λ n. is_on_in n s) job.source.overflow false))
+      (by_effect (overflow_output job.source.forms job.source.words job.source.overflow job.source.lines))
+
+  -- ---- 8 the columns of the record become values of fields
+
+  abbrev pub meant_fill_from : Option Selected → MeantPhase
+  meant_fill_from None = meant_passes
+  meant_fill_from (Some r) = by_effect (record_in job.source.forms r.text (meant_inputs_at r.type))
+
+  abbrev pub meant_fill_fields : MeantPhase
+  meant_fill_fields s = meant_fill_from s.selected s
+
+  -- ---- 9 detail calculations
+
+  -- the whole cycle, behind those that selected the earlier records, the last of these first, with the record that is next if there is one
+  abbrev pub MeantCycle : List Selected → Option (List ℕ) → MeantPhase
+  MeantCycle earlier next =
+      meant_detail_lines
+      andthen meant_halt_where_asked
+      andthen meant_set_off
+      andthen meant_select_record earlier next
+      andthen meant_total_time earlier
+      andthen meant_end_where_last
+      andthen meant_overflow_lines
+      andthen meant_fill_fields
+      andthen calculated job.source InDetail

@@ -1,0 +1,14 @@
+pub mod Accepted
+pub mod Ending
+pub mod Filled
+pub mod Follows
+pub mod Keys
+pub mod Leads
+pub mod Meant
+pub mod Named
+pub mod NextCard
+pub mod Parts
+pub mod Placed
+pub mod Runs
+pub mod Sections
+pub mod Sources

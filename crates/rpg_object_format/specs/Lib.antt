@@ -1,0 +1,4 @@
+pub mod CodeTexts
+pub mod Format
+pub mod Numbers
+pub mod Reading

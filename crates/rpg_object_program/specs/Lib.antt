@@ -1,0 +1,5 @@
+pub mod Constants
+pub mod Kept
+pub mod Object
+pub mod Sections
+pub mod Spans

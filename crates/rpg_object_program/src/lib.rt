@@ -1,0 +1,12 @@
+//! The rows of an object program, and what a program keeps of them.
+//! What is asked of operands: the forms of the fields that they name, and the table of operations.
+#![tactic(auto)]
+
+pub mod columns;
+pub mod forms;
+pub mod program;
+pub mod row;
+pub mod section;
+pub mod spans;
+
+pub use program::Program;

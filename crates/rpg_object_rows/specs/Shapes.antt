@@ -1,0 +1,41 @@
+-- How rows are made of formats.
+use Rattle.std.specs.Prelude.{◌≡◌, ℕ, List, length, Bool, true, false}
+use Rattle.rpg_object_format.specs.declared.fault.Code.TheVariants.{Unused}
+use Rattle.rpg_object_format.specs.Format.{Format, ◌>>=◌, made, pair, row, table}
+use Rattle.rpg_object_format.specs.Numbers.{is_any_number, byte_where, count, only_byte, only_number}
+
+-- ---- single numbers
+
+-- any byte
+abbrev pub any_byte : Format ℕ
+any_byte = byte_where is_any_number
+
+-- 0, where nothing stands
+abbrev pub unused_byte : Format (Unit {0})
+unused_byte = only_byte 0 Unused
+
+abbrev pub unused_number : Format (Unit {0})
+unused_number = only_number 0 Unused
+
+-- ---- rows
+
+-- the same as a row, of those values alone that are so
+unfoldable pub row_where : {A X : Type 0} → (X → Type 0) → (A → X) → (X → A) → Format A → Format X
+row_where Is make parts f = record {
+  spelling = λ x. f.spelling (parts x);
+  Holds = λ x. Is x × f.Holds (parts x);
+  reading = λ bytes. f.reading bytes >>= made make;
+}
+
+-- one value alone, as numbers that are always the same
+abbrev pub always : {X : Type 0} → X → Format (Unit {0}) → Format X
+always x numbers = row_where (λ y. y ≡ x) (λ u. x) (λ y. tt) numbers
+
+-- a format where it is used; where it isn't, the value that stands for nothing, as these numbers
+abbrev pub where_used : {X : Type 0} → Bool → Format X → X → Format (Unit {0}) → Format X
+where_used true f nothing zeros = f
+where_used false f nothing zeros = always nothing zeros
+
+-- a count, and so many rows
+abbrev pub counted_rows : {X : Type 0} → ℕ → Format X → Format (List X)
+counted_rows limit f = row (λ p. p.1) (λ xs. (length xs, xs)) (pair (count limit) (λ n. table n f))

@@ -1,0 +1,270 @@
+//! Record types, with their codes, control fields and input fields.
+
+ghost use Rattle.std.specs.Prelude.{◌≡◌, ℕ, ◌++◌, ◌≤◌, All, length, map, OnOk};
+ghost use Rattle.rpg_effect.specs.Input.{TypeRow};
+ghost use Rattle.rpg_effect.specs.declared.input.ControlField as control;
+ghost use Rattle.rpg_effect.specs.declared.input.InputField as input;
+ghost use Rattle.rpg_effect.specs.declared.input.RecordCode as code;
+ghost use Rattle.rpg_object_format.specs.Format.{table};
+ghost use Rattle.rpg_object_format.specs.Reading.{Gives};
+ghost use Rattle.rpg_object_program.specs.Kept.{IsCodeRow, IsControlRow, IsInputRow, IsTypeRow};
+ghost use Rattle.rpg_object_program.specs.Object.{type_row};
+ghost use Rattle.rpg_object_rows.specs.Types as rows;
+ghost use Rattle.rpg_object_rows.specs.Types.{control_field_format, input_field_format, record_code_format};
+
+use crate::indicator::{indicator_at, indicator_number, shows_at};
+use crate::table::{Row, put_rows, rows_at};
+use rpg_effect::input::{ControlField, InputField, RecordCode};
+use rpg_object_format::fault::{Code, ReadFault};
+use rpg_object_format::number::{
+    any_number_at, byte_between_at, count_at, flag_at, flag_number, high, low, only_byte_at,
+};
+use rpg_object_program::row::RecordType;
+use std::alloc::{AllocError, Global};
+
+#[tactic(auto, unfolding(rpg_object_format::specs::Format::byte, rpg_object_format::specs::Format::two_bytes, rpg_object_format::specs::Format::pair, rpg_object_format::specs::Format::row, crate::specs::Types::record_code_format))]
+fn record_code_at(bytes: &[u8]) -> Result<(RecordCode, &[u8]), ReadFault>
+    ensures { Gives (λ x. (x.0, x.1.now)) result (record_code_format.reading bytes.now) }
+{
+    let (position, rest) = any_number_at(bytes)?;
+    let (is_negated, rest) = flag_at(rest)?;
+    let (character, rest) = byte_between_at(rest, b' ', b'~')?;
+    Ok((
+        RecordCode {
+            position,
+            is_negated,
+            character,
+        },
+        rest,
+    ))
+}
+
+impl Row for RecordCode {
+    ghost Seen = { code.RecordCode };
+
+    ghost seen = { λ c. c };
+
+    ghost Keeps = { IsCodeRow };
+
+    ghost read = { record_code_format.reading };
+
+    ghost spell = { record_code_format.spelling };
+
+    fn read_row(_alloc: Global, bytes: &[u8]) -> Result<(Self, &[u8]), ReadFault> {
+        record_code_at(bytes)
+    }
+
+    #[tactic(auto, unfolding(rpg_object_format::specs::Format::byte, rpg_object_format::specs::Format::two_bytes, rpg_object_format::specs::Format::pair, rpg_object_format::specs::Format::row, crate::specs::Types::record_code_format))]
+    fn put_row(&self, out: &mut Vec<u8>) -> Result<(), AllocError> {
+        let row = [
+            high(self.position),
+            low(self.position),
+            flag_number(self.is_negated),
+            self.character,
+        ];
+        out.extend_from_slice(&row)?;
+        Ok(())
+    }
+}
+
+#[tactic(auto, unfolding(rpg_object_format::specs::Format::byte, rpg_object_format::specs::Format::two_bytes, rpg_object_format::specs::Format::pair, rpg_object_format::specs::Format::row, crate::specs::Types::control_field_format))]
+fn control_field_at(bytes: &[u8]) -> Result<(ControlField, &[u8]), ReadFault>
+    ensures { Gives (λ x. (x.0, x.1.now)) result (control_field_format.reading bytes.now) }
+{
+    let (level, rest) = byte_between_at(bytes, 1, 9)?;
+    let (is_numeric, rest) = flag_at(rest)?;
+    let (from, rest) = any_number_at(rest)?;
+    let (to, rest) = any_number_at(rest)?;
+    Ok((
+        ControlField {
+            level,
+            is_numeric,
+            from,
+            to,
+        },
+        rest,
+    ))
+}
+
+impl Row for ControlField {
+    ghost Seen = { control.ControlField };
+
+    ghost seen = { λ c. c };
+
+    ghost Keeps = { IsControlRow };
+
+    ghost read = { control_field_format.reading };
+
+    ghost spell = { control_field_format.spelling };
+
+    fn read_row(_alloc: Global, bytes: &[u8]) -> Result<(Self, &[u8]), ReadFault> {
+        control_field_at(bytes)
+    }
+
+    #[tactic(auto, unfolding(rpg_object_format::specs::Format::byte, rpg_object_format::specs::Format::two_bytes, rpg_object_format::specs::Format::pair, rpg_object_format::specs::Format::row, crate::specs::Types::control_field_format))]
+    fn put_row(&self, out: &mut Vec<u8>) -> Result<(), AllocError> {
+        let row = [
+            self.level,
+            flag_number(self.is_numeric),
+            high(self.from),
+            low(self.from),
+            high(self.to),
+            low(self.to),
+        ];
+        out.extend_from_slice(&row)?;
+        Ok(())
+    }
+}
+
+#[tactic(auto, unfolding(rpg_object_format::specs::Format::byte, rpg_object_format::specs::Format::two_bytes, rpg_object_format::specs::Format::pair, rpg_object_format::specs::Format::row, crate::specs::Types::input_field_format))]
+fn input_field_at(bytes: &[u8]) -> Result<(InputField<u16>, &[u8]), ReadFault>
+    ensures { Gives (λ x. (x.0, x.1.now)) result (input_field_format.reading bytes.now) }
+{
+    let (from, rest) = any_number_at(bytes)?;
+    let (to, rest) = any_number_at(rest)?;
+    let (field, rest) = any_number_at(rest)?;
+    let (shows, rest) = shows_at(rest)?;
+    let (_, rest) = only_byte_at(rest, 0, Code::Unused)?;
+    Ok((
+        InputField {
+            from,
+            to,
+            field,
+            shows,
+        },
+        rest,
+    ))
+}
+
+impl Row for InputField<u16> {
+    ghost Seen = { input.InputField ℕ };
+
+    ghost seen = { λ f. f };
+
+    ghost Keeps = { IsInputRow };
+
+    ghost read = { input_field_format.reading };
+
+    ghost spell = { input_field_format.spelling };
+
+    fn read_row(_alloc: Global, bytes: &[u8]) -> Result<(Self, &[u8]), ReadFault> {
+        input_field_at(bytes)
+    }
+
+    #[tactic(auto, unfolding(rpg_object_format::specs::Format::byte, rpg_object_format::specs::Format::two_bytes, rpg_object_format::specs::Format::pair, rpg_object_format::specs::Format::row, crate::specs::Indicators::shows_format, crate::specs::Types::input_field_format))]
+    fn put_row(&self, out: &mut Vec<u8>) -> Result<(), AllocError> {
+        let row = [
+            high(self.from),
+            low(self.from),
+            high(self.to),
+            low(self.to),
+            high(self.field),
+            low(self.field),
+            indicator_number(self.shows.plus),
+            indicator_number(self.shows.minus),
+            indicator_number(self.shows.zero),
+            0,
+        ];
+        out.extend_from_slice(&row)?;
+        Ok(())
+    }
+}
+
+/// Reads a record type. More than 100 codes, 100 control fields or 500 input fields are B7.
+#[tactic(auto, unfolding(rpg_object_format::specs::Format::byte, rpg_object_format::specs::Format::two_bytes, rpg_object_format::specs::Format::pair, rpg_object_format::specs::Format::row, rpg_object_format::specs::Format::times_with, crate::specs::Types::type_parts, crate::specs::Types::record_type_format))]
+pub fn record_type_at(alloc: Global, bytes: &[u8]) -> Result<(RecordType, &[u8]), ReadFault>
+    ensures { Gives (λ x. (type_row x.0, x.1.now)) result (rows.record_type_format.reading bytes.now) }
+{
+    let (indicator, rest) = indicator_at(bytes)?;
+    let (_, rest) = only_byte_at(rest, 0, Code::Unused)?;
+    let (code_count, rest) = count_at(rest, 100)?;
+    let (level_count, rest) = count_at(rest, 100)?;
+    let (input_count, rest) = count_at(rest, 500)?;
+    let (codes, rest) = rows_at(alloc, code_count, rest)?;
+    let (levels, rest) = rows_at(alloc, level_count, rest)?;
+    let (inputs, rest) = rows_at(alloc, input_count, rest)?;
+    Ok((
+        RecordType {
+            indicator,
+            codes,
+            levels,
+            inputs,
+        },
+        rest,
+    ))
+}
+
+/// Writes the numbers of a record type before its tables.
+fn put_type_head(out: &mut Vec<u8>, record_type: &RecordType) -> Result<(), AllocError>
+    requires { IsTypeRow (type_row record_type.now) }
+    ensures { OnOk result (out.new.items ≡ out.old.items ++ rows.type_head (type_row record_type.now)) }
+{
+    let code_count = record_type.codes.len() as u16;
+    let level_count = record_type.levels.len() as u16;
+    let input_count = record_type.inputs.len() as u16;
+    let row = [
+        indicator_number(record_type.indicator),
+        0,
+        high(code_count),
+        low(code_count),
+        high(level_count),
+        low(level_count),
+        high(input_count),
+        low(input_count),
+    ];
+    out.extend_from_slice(&row)?;
+    Ok(())
+}
+
+/// Writes a record type.
+pub fn put_record_type(out: &mut Vec<u8>, record_type: &RecordType) -> Result<(), AllocError>
+    requires { IsTypeRow (type_row record_type.now) }
+    ensures { OnOk result (out.new.items ≡ out.old.items ++ rows.record_type_format.spelling (type_row record_type.now)) }
+{
+    put_type_head(out, record_type)?;
+    put_rows(&record_type.codes, out)?;
+    put_rows(&record_type.levels, out)?;
+    put_rows(&record_type.inputs, out)?;
+    Ok(())
+}
+
+impl Row for RecordType {
+    ghost Seen = { TypeRow ℕ };
+
+    ghost seen = { type_row };
+
+    ghost Keeps = { IsTypeRow };
+
+    ghost read = { rows.record_type_format.reading };
+
+    ghost spell = { rows.record_type_format.spelling };
+
+    fn read_row(alloc: Global, bytes: &[u8]) -> Result<(Self, &[u8]), ReadFault> {
+        record_type_at(alloc, bytes)
+    }
+
+    fn put_row(&self, out: &mut Vec<u8>) -> Result<(), AllocError> {
+        put_record_type(out, self)
+    }
+}
+
+/// Reads so many record types. How many there may be is the caller's to test.
+#[tactic(auto, unfolding(rpg_object_format::specs::Format::times_with))]
+pub fn record_types_at(
+    alloc: Global,
+    count: u16,
+    bytes: &[u8],
+) -> Result<(Vec<RecordType>, &[u8]), ReadFault>
+    ensures { Gives (λ x. (map type_row x.0.items, x.1.now)) result ((table count rows.record_type_format).reading bytes.now) }
+{
+    rows_at(alloc, count, bytes)
+}
+
+/// Writes record types.
+#[tactic(auto, unfolding(rpg_object_format::specs::Format::times_with))]
+pub fn put_record_types(out: &mut Vec<u8>, types: &[RecordType]) -> Result<(), AllocError>
+    requires { All IsTypeRow (map type_row types.now) }
+    ensures { OnOk result (out.new.items ≡ out.old.items ++ (table (length types.now) rows.record_type_format).spelling (map type_row types.now)) }
+{
+    put_rows(types, out)
+}

@@ -1,0 +1,22 @@
+//! Laws of the formats. A function here does nothing: its contract is the law.
+
+ghost use Rattle.std.specs.Prelude.{ℕ};
+ghost use Rattle.rpg_effect.specs.Input.{TypeRow};
+ghost use Rattle.rpg_object_program.specs.Kept.{IsLineRow, IsTypeRow};
+ghost use Rattle.rpg_object_program.specs.Object.{LineRow};
+ghost use Rattle.rpg_object_rows.specs.Lines.{line};
+ghost use Rattle.rpg_object_rows.specs.Types.{record_type_format};
+
+/// What a record type keeps, in plain words, and back.
+#[tactic(auto, using(crate::proofs::TypeLaws::type_kept, crate::proofs::TypeLaws::type_from))]
+pub fn record_types_are_plain()
+    ensures plain { (t : TypeRow ℕ) → record_type_format.Holds t → IsTypeRow t }
+    ensures whole { (t : TypeRow ℕ) → IsTypeRow t → record_type_format.Holds t }
+{}
+
+/// What a line keeps, in plain words, and back.
+#[tactic(auto, using(crate::proofs::LineLaws::line_kept, crate::proofs::LineLaws::line_from))]
+pub fn lines_are_plain()
+    ensures plain { (l : LineRow) → line.Holds l → IsLineRow l }
+    ensures whole { (l : LineRow) → IsLineRow l → line.Holds l }
+{}

@@ -1,9 +1,0 @@
-pub mod Entries
-pub mod Rights
-pub mod Values
-pub mod Keeping
-pub mod Finding
-pub mod Characters
-pub mod Overlays
-pub mod Programs
-pub mod Doing

@@ -1,0 +1,69 @@
+-- The printed form: positions, movements and the bytes that a list of placed lines stands for. A page has 66 lines.
+use Rattle.std.specs.Prelude.{◌≡◌, ℕ, ◌+◌, ◌-◌, ◌*◌, ◌≤◌, ◌&&◌, List, [], ◌∷◌, ◌++◌, length, take, replicate, Option, Some, None, if◌then◌else◌, nat_lt, nat_le, ◌==◌, Bool}
+use Rattle.std.specs.List.{suffix_len}
+
+-- a line of a page, both counted from 1
+pub record Position : Type 0 where
+  pub page : ℕ
+  pub line : ℕ
+
+-- a line of text at its position
+pub record Placed : Type 0 where
+  pub at : Position
+  pub text : List ℕ
+
+abbrev pub top_of_paper : Position
+top_of_paper = record { page = 1; line = 1 }
+
+-- the lines of the paper up to a position, counted from one page before the first
+abbrev pub lines_to : Position → ℕ
+lines_to p = p.page * 66 + p.line
+
+-- n lines on, 66 to a page
+abbrev pub spaced : ℕ → Position → Position
+spaced n p = if nat_le (p.line + n) 66 then record { page = p.page; line = p.line + n } else record { page = p.page + 1; line = p.line + n - 66 }
+
+-- to the next such line that isn't before the present one
+abbrev pub skipped : ℕ → Position → Position
+skipped line p = if nat_le p.line line then record { page = p.page; line = line } else record { page = p.page + 1; line = line }
+
+-- a movement that really moves, keeps to its page, and comes to line 60 or below it
+pub record TurnsOverflowOn (from to : Position) : Type 0 where
+  pub same_page : to.page ≡ from.page
+  pub moved : from.line + 1 ≤ to.line
+  pub low : 60 ≤ to.line
+
+-- the same as a test
+abbrev pub turns_overflow_on : Position → Position → Bool
+turns_overflow_on from to = (to.page == from.page) && nat_lt from.line to.line && nat_le 60 to.line
+
+-- form feeds to the page, then line feeds from its first line; on the page, line feeds
+abbrev pub travel : Position → Position → List ℕ
+travel from to = if to.page == from.page then replicate (to.line - from.line) 10 else replicate (to.page - from.page) 12 ++ replicate (to.line - 1) 10
+
+-- the way from the line placed last, if there is one; on that line again, a carriage return
+abbrev pub way : Option Position → Position → List ℕ
+way None to = travel top_of_paper to
+way (Some from) to = if (to.page == from.page) && (to.line == from.line) then 13 ∷ [] else travel from to
+
+-- without the blanks at the end
+abbrev pub trimmed : List ℕ → List ℕ
+trimmed text = take (length text - suffix_len (λ c. c == 32) text) text
+
+-- what lines add to a paper whose line placed last is known
+abbrev pub bytes_from : Option Position → List Placed → List ℕ
+bytes_from last [] = []
+bytes_from last (x ∷ xs) = way last x.at ++ trimmed x.text ++ bytes_from (Some x.at) xs
+
+-- the position of the line placed last, where lines follow one that was placed before
+abbrev pub last_position_from : Option Position → List Placed → Option Position
+last_position_from last [] = last
+last_position_from last (x ∷ xs) = last_position_from (Some x.at) xs
+
+-- the bytes of all lines, from the top of the paper
+abbrev pub paper : List Placed → List ℕ
+paper lines = bytes_from None lines
+
+-- the position of the line placed last
+abbrev pub last_position : List Placed → Option Position
+last_position lines = last_position_from None lines

@@ -1,0 +1,192 @@
+//! The printed form: where the paper stands, and the bytes that bring it to a line.
+
+ghost use Rattle.std.specs.Prelude.{◌≡◌, ℕ, ◌+◌, ◌<◌, ◌≤◌, ◌↔◌, List, [], ◌∷◌, ◌++◌, take, vec_len, Option, Some, None, IsTrue, OnOk, OnErr};
+ghost use Rattle.rpg_paper.specs.Paper.{Position, Placed, TurnsOverflowOn, turns_overflow_on, top_of_paper, spaced, skipped, trimmed, bytes_from};
+ghost use Rattle.rpg_paper.specs.Form.{StandsAt, HasPrinted, at_first_line, here_of, form_after_space, form_after_skip, after_line, way_of};
+
+use crate::paper::{append_times, trim_end};
+use std::alloc::AllocError;
+use std::error::Error;
+use std::fmt;
+use std::marker::Model;
+
+/// Memory for the printer's bytes was refused.
+#[derive(Clone, Copy, Debug)]
+pub struct NoMemory;
+
+impl fmt::Display for NoMemory {
+    fn fmt<W: fmt::Write>(&self, f: &mut fmt::Formatter<W>) -> fmt::Result {
+        f.write_str("no memory")
+    }
+}
+
+impl Error for NoMemory {}
+
+/// The lines of a page (this profile).
+const PAGE_LINES: u8 = 66;
+
+/// The first line of the overflow area: a movement that ends there turns the overflow indicator on (this profile).
+const OVERFLOW_LINE: u8 = 60;
+
+const LINE_FEED: u8 = 10;
+
+const FORM_FEED: u8 = 12;
+
+const CARRIAGE_RETURN: u8 = 13;
+
+/// Where the printer's paper stands: the line placed last, the pages begun since, and the present line.
+/// Lines are counted from 1 to 66, on pages without end.
+#[derive(Clone, Copy)]
+pub struct Form {
+    last: Option<u8>,
+    begun: u16,
+    line: u8,
+}
+
+impl Model for Form {
+    ghost use Rattle.rpg_paper.specs.Form.{Standing, IsOnPaper};
+
+    ghost Value = { Standing };
+
+    ghost view = { λ f. record { last = f.last; begun = f.begun; line = f.line } };
+
+    ghost invariant = { λ f. IsOnPaper f.last f.begun f.line };
+
+    ghost inverse = { λ s. record { last = s.last; begun = s.begun; line = s.line } };
+}
+
+impl Form {
+    /// The form at the first line of the first page, nothing being placed.
+    pub fn new() -> Self
+        ensures stands { StandsAt result None top_of_paper }
+        ensures paper { HasPrinted result [] top_of_paper [] }
+        ensures form { result ≡ at_first_line }
+    {
+        Form {
+            last: None,
+            begun: 0,
+            line: 1,
+        }
+    }
+
+    /// The pages begun since a line was placed, or since the first page where none was.
+    pub fn begun(&self) -> u16
+        ensures { result ≡ self.now.begun }
+    {
+        self.begun
+    }
+
+    /// The line placed last on its page, if one was placed.
+    pub fn last(&self) -> Option<u8>
+        ensures { result ≡ self.now.last }
+    {
+        self.last
+    }
+
+    /// Moves `lines` lines on. Answers whether this turns the overflow indicator on.
+    pub fn space(&mut self, lines: u8) -> bool
+        requires few_lines { lines ≤ 3 }
+        requires few_pages { self.old.begun < 1000 }
+        ensures moved { (last : Option Position) (here : Position) → StandsAt self.old last here
+            → StandsAt self.new last (spaced lines here) }
+        ensures overflow { (last : Option Position) (here : Position) → StandsAt self.old last here
+            → IsTrue result ↔ TurnsOverflowOn here (spaced lines here) }
+
+        // The same by what the form itself remembers.
+        ensures form { self.new ≡ form_after_space lines self.old }
+        ensures test { result ≡ turns_overflow_on (here_of self.old) (here_of self.new) }
+    {
+        let line = self.line + lines;
+        if line > PAGE_LINES {
+            self.begun += 1;
+            self.line = line - PAGE_LINES;
+            return false;
+        }
+        self.line = line;
+        lines > 0 && line >= OVERFLOW_LINE
+    }
+
+    /// Moves to the next such line that isn't before the present one. Answers whether this turns the overflow
+    /// indicator on.
+    pub fn skip(&mut self, line: u8) -> bool
+        requires low { 1 ≤ line }
+        requires high { line ≤ 66 }
+        requires few_pages { self.old.begun < 1000 }
+        ensures moved { (last : Option Position) (here : Position) → StandsAt self.old last here
+            → StandsAt self.new last (skipped line here) }
+        ensures overflow { (last : Option Position) (here : Position) → StandsAt self.old last here
+            → IsTrue result ↔ TurnsOverflowOn here (skipped line here) }
+
+        // The same by what the form itself remembers.
+        ensures form { self.new ≡ form_after_skip line self.old }
+        ensures test { result ≡ turns_overflow_on (here_of self.old) (here_of self.new) }
+    {
+        let from = self.line;
+        self.line = line;
+        if line < from {
+            self.begun += 1;
+            return false;
+        }
+        line > from && line >= OVERFLOW_LINE
+    }
+
+    /// Places a line of text here: appends the bytes that bring the paper from the line placed last to this one,
+    /// and the text without the blanks at its end.
+    pub fn place(&mut self, text: &[u8], out: &mut Vec<u8>) -> Result<(), NoMemory>
+        // The bytes are those of the paper, whatever was placed before.
+        ensures paper { (sent : List ℕ) (lines : List Placed) (here : Position)
+            → HasPrinted self.old lines here (sent ++ out.old.items)
+            → OnOk result (HasPrinted self.new (lines ++ record { at = here; text = text.now } ∷ []) here (sent ++ out.new.items)) }
+        ensures bytes { (last : Option Position) (here : Position) → StandsAt self.old last here
+            → OnOk result (out.new.items ≡ out.old.items ++ bytes_from last (record { at = here; text = text.now } ∷ [])) }
+        ensures stands { (last : Option Position) (here : Position) → StandsAt self.old last here
+            → OnOk result (StandsAt self.new (Some here) here) }
+
+        // The same by what the form itself remembers.
+        ensures line { OnOk result (out.new.items ≡ out.old.items ++ way_of self.old ++ trimmed text.now) }
+        ensures form { OnOk result (self.new ≡ after_line self.old) }
+
+        ensures same_form { OnErr result (self.new ≡ self.old) }
+        ensures same_bytes { OnErr result (out.new.items ≡ out.old.items) }
+    {
+        let before = out.len();
+        if self.append_line(text, out).is_err() {
+            out.truncate(before);
+            return Err(NoMemory);
+        }
+        self.last = Some(self.line);
+        self.begun = 0;
+        Ok(())
+    }
+
+    fn append_line(&self, text: &[u8], out: &mut Vec<u8>) -> Result<(), AllocError>
+        ensures ok { OnOk result (out.new.items ≡ out.old.items ++ way_of self.now ++ trimmed text.now) }
+        ensures err { OnErr result (take (vec_len out.old) out.new.items ≡ out.old.items) }
+    {
+        self.append_way(out)?;
+        out.extend_from_slice(trim_end(text))
+    }
+
+    fn append_way(&self, out: &mut Vec<u8>) -> Result<(), AllocError>
+        ensures ok { OnOk result (out.new.items ≡ out.old.items ++ way_of self.now) }
+        ensures err { OnErr result (take (vec_len out.old) out.new.items ≡ out.old.items) }
+    {
+        if self.begun > 0 {
+            append_times(out, FORM_FEED, self.begun)?;
+            return append_times(out, LINE_FEED, u16::from(self.line - 1));
+        }
+        match self.last {
+            None => append_times(out, LINE_FEED, u16::from(self.line - 1)),
+            Some(last) if last == self.line => append_times(out, CARRIAGE_RETURN, 1),
+            Some(last) => append_times(out, LINE_FEED, u16::from(self.line - last)),
+        }
+    }
+}
+
+impl Default for Form {
+    ghost is_default = { λ f. f ≡ at_first_line };
+
+    fn default() -> Self {
+        Form::new()
+    }
+}

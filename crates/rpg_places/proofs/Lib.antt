@@ -1,4 +1,0 @@
-pub mod DeckLemmas
-pub mod EntryLemmas
-pub mod LevelLemmas
-pub mod TypeLemmas

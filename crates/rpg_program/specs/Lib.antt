@@ -1,4 +1,0 @@
-pub mod Constants
-pub mod Kept
-pub mod Object
-pub mod Sections

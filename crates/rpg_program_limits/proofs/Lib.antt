@@ -1,9 +1,0 @@
-pub mod Walks
-pub mod Files
-pub mod Fields
-pub mod Totals
-pub mod Indices
-pub mod Types
-pub mod Lines
-pub mod Sizes
-pub mod Kept

@@ -1,3 +1,0 @@
-mod CardLaws
-mod Laws
-mod Padding

@@ -1,6 +1,0 @@
-use Rattle.rpg_readers.proofs.Laws.{read_by}
-use Rattle.rpg_readers.proofs.CardLaws.{input_card_law}
-use Rattle.rpg_readers.proofs.card.Card.i.Goals as goal
-
-pub returns : goal.returns
-returns c = read_by input_card_law c.args.self.now _ c.input_card.ensures

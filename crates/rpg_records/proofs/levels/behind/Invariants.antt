@@ -1,7 +1,0 @@
-use Rattle.std.proofs.Common.{◌≡◌, drop, map}
-use Rattle.rpg_records.specs.Fronts.{rest_behind}
-use Rattle.rpg_records.specs.Levels as spec
-use Rattle.rpg_records.proofs.levels.behind.Given as goal
-
-abbrev pub invariant-loop-byte : goal.invariant-loop-byte
-invariant-loop-byte l = rest_behind (map (spec.byte_of l.field.is_numeric) (drop l.byte-index l.columns)) l.rest ≡ rest_behind (spec.compared l.text l.field) l.bytes

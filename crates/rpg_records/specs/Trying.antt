@@ -1,7 +1,0 @@
--- What the code's answer says of the trying of types.
-use Rattle.std.specs.Prelude.{ℕ, Option, None, Some}
-use Rattle.rpg_records.specs.Identifying.{Trial, IsOf, IsOfNone}
-
-abbrev pub trial_of : Option ℕ → Trial
-trial_of None = IsOfNone
-trial_of (Some t) = IsOf t

@@ -1,5 +1,0 @@
-pub mod Examples
-pub mod LetterLaws
-pub mod LineLaws
-pub mod TableTexts
-pub mod TypeLaws

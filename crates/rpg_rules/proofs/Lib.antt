@@ -1,9 +1,0 @@
-pub mod Lists
-pub mod Measures
-pub mod Sectioning
-pub mod Spanning
-pub mod Values
-pub mod Kept
-pub mod Soundness
-pub mod LeastLaws
-pub mod AllRules

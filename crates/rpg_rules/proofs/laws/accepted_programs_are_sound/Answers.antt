@@ -1,5 +1,0 @@
-use Rattle.rpg_rules.proofs.Soundness.{sound}
-use Rattle.rpg_rules.proofs.laws.accepted_programs_are_sound.Goals as goal
-
-pub returns : goal.returns
-returns c = λ p h. sound p h

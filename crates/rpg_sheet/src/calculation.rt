@@ -1,0 +1,48 @@
+//! The calculation sheet (C).
+
+ghost use Rattle.std.specs.Prelude.{◌≡◌, [], OnOk, IfErr};
+ghost use Rattle.rpg_sheet_specs.specs.Columns.{IsLeastColumn};
+ghost use Rattle.rpg_sheet_specs.specs.Tables as tables;
+
+use crate::card::Card;
+use crate::columns::{at, conditions, indicators};
+use rpg_sheet_specs::{CalculationSpec, ColumnFault};
+
+#[tactic(auto, unfolding(rpg_sheet_specs::specs::Tables::calculation_card, rpg_sheet_specs::specs::Columns::values, rpg_sheet_specs::specs::Columns::at_with, rpg_sheet_specs::specs::Columns::also, rpg_sheet_specs::specs::Columns::past, rpg_sheet_specs::specs::Columns::blank))]
+pub(crate) fn calculation_card(card: &Card) -> Result<CalculationSpec, ColumnFault>
+    ensures { result ≡ tables.calculation_card.reading card.now }
+{
+    let control_level = at(7, 8, rpg_sheet_values::control_level(card.columns(7, 8)))?;
+    let conditions = conditions(card, 9)?;
+    let factor_1 = card.optional_factor(18, 27)?;
+    let operation = card.optional_operation(28, 32)?;
+    let factor_2 = card.optional_factor(33, 42)?;
+    let result_field = card.optional_entry(43, 48)?;
+    let length = card.optional_number(49, 51)?;
+    let decimals = card.optional_digit(52, 52)?;
+    let half_adjust = at(53, 53, rpg_sheet_values::marked(b"H", card.columns(53, 53)))?;
+    let resulting_indicators = indicators(card, 54)?;
+    Ok(CalculationSpec {
+        control_level,
+        conditions,
+        factor_1,
+        operation,
+        factor_2,
+        result_field,
+        length,
+        decimals,
+        half_adjust,
+        resulting_indicators,
+    })
+}
+
+impl Card {
+    /// A C card, or the least first column of its bad values.
+    pub fn c(&self) -> Result<CalculationSpec, ColumnFault>
+        ensures value { result ≡ tables.calculation_card.reading self.now }
+        ensures good { OnOk result (tables.calculation_card.bad self.now ≡ []) }
+        ensures least { IfErr result (λ fault. IsLeastColumn (tables.calculation_card.bad self.now) fault.column) }
+    {
+        calculation_card(self)
+    }
+}

@@ -1,0 +1,392 @@
+//! What ranges of columns hold, each range read by one call. An error names the range's first column.
+
+ghost use Rattle.std.specs.Prelude.{◌≡◌, ◌+◌, ◌≤◌, ok_or};
+ghost use Rattle.rpg_sheet_specs.specs.Columns.{cols, column_fault};
+ghost use Rattle.rpg_sheet_specs.specs.Tables as tables;
+ghost use Rattle.rpg_sheet_specs.specs.Values as values;
+
+use crate::card::Card;
+use rpg_sheet_specs::{
+    ColumnFault, Condition, EditCode, Entry, Factor, Indicator, Operation, RecordCode, TextLiteral,
+    Three, Within, Word,
+};
+
+/// The value of the columns from `first` to `last`.
+pub(crate) fn at<T>(first: u8, last: u8, value: Option<T>) -> Result<T, ColumnFault>
+    ensures { result ≡ ok_or value (column_fault first last) }
+{
+    value.ok_or(ColumnFault {
+        column: first,
+        last,
+    })
+}
+
+impl Card {
+    /// Blank: a value that isn't read yet.
+    pub(crate) fn unused(&self, first: u8, last: u8) -> Result<(), ColumnFault>
+        requires within { last ≤ 80 }
+        requires counted { 1 ≤ first }
+        requires ordered { first ≤ last }
+        ensures { result ≡ ok_or (values.unused (cols first last self.now)) (column_fault first last) }
+    {
+        at(
+            first,
+            last,
+            rpg_sheet_values::unused(self.columns(first, last)),
+        )
+    }
+
+    /// A name of at most `N` characters.
+    pub(crate) fn name<const N: usize>(&self, first: u8, last: u8) -> Result<Word<N>, ColumnFault>
+        requires within { last ≤ 80 }
+        requires counted { 1 ≤ first }
+        requires ordered { first ≤ last }
+        ensures { result ≡ ok_or (values.name N (cols first last self.now)) (column_fault first last) }
+    {
+        at(
+            first,
+            last,
+            rpg_sheet_values::name(self.columns(first, last)),
+        )
+    }
+
+    /// Blank or a name.
+    #[tactic(auto, unfolding(rpg_sheet_specs::specs::Values::blank_or))]
+    pub(crate) fn optional_name<const N: usize>(
+        &self,
+        first: u8,
+        last: u8,
+    ) -> Result<Option<Word<N>>, ColumnFault>
+        requires within { last ≤ 80 }
+        requires counted { 1 ≤ first }
+        requires ordered { first ≤ last }
+        ensures { result ≡ ok_or (values.blank_or (values.name N) (cols first last self.now)) (column_fault first last) }
+    {
+        let text = self.columns(first, last);
+        at(
+            first,
+            last,
+            rpg_sheet_values::blank_or(text, rpg_sheet_values::name(text)),
+        )
+    }
+
+    /// Blank or a factor.
+    #[tactic(auto, unfolding(rpg_sheet_specs::specs::Values::blank_or))]
+    pub(crate) fn optional_factor(&self, first: u8, last: u8) -> Result<Option<Factor>, ColumnFault>
+        requires within { last ≤ 80 }
+        requires counted { 1 ≤ first }
+        requires ordered { first ≤ last }
+        requires short { last ≤ first + 9 }
+        ensures { result ≡ ok_or (values.blank_or values.factor (cols first last self.now)) (column_fault first last) }
+    {
+        let text = self.columns(first, last);
+        at(
+            first,
+            last,
+            rpg_sheet_values::blank_or(text, rpg_sheet_values::factor_of(text)),
+        )
+    }
+
+    /// Right-aligned digits after blanks.
+    pub(crate) fn number(&self, first: u8, last: u8) -> Result<u16, ColumnFault>
+        requires within { last ≤ 80 }
+        requires counted { 1 ≤ first }
+        requires ordered { first ≤ last }
+        requires short { last ≤ first + 3 }
+        ensures { result ≡ ok_or (values.number (cols first last self.now)) (column_fault first last) }
+    {
+        at(
+            first,
+            last,
+            rpg_sheet_values::number(self.columns(first, last)),
+        )
+    }
+
+    /// Blank or a number.
+    #[tactic(auto, unfolding(rpg_sheet_specs::specs::Values::blank_or))]
+    pub(crate) fn optional_number(&self, first: u8, last: u8) -> Result<Option<u16>, ColumnFault>
+        requires within { last ≤ 80 }
+        requires counted { 1 ≤ first }
+        requires ordered { first ≤ last }
+        requires short { last ≤ first + 3 }
+        ensures { result ≡ ok_or (values.blank_or values.number (cols first last self.now)) (column_fault first last) }
+    {
+        let text = self.columns(first, last);
+        at(
+            first,
+            last,
+            rpg_sheet_values::blank_or(text, rpg_sheet_values::number(text)),
+        )
+    }
+
+    /// Blank or a digit.
+    #[tactic(auto, unfolding(rpg_sheet_specs::specs::Values::blank_or))]
+    pub(crate) fn optional_digit(&self, first: u8, last: u8) -> Result<Option<u8>, ColumnFault>
+        requires within { last ≤ 80 }
+        requires counted { 1 ≤ first }
+        requires ordered { first ≤ last }
+        requires one { last ≡ first }
+        ensures { result ≡ ok_or (values.blank_or values.digits (cols first last self.now)) (column_fault first last) }
+    {
+        let text = self.columns(first, last);
+        at(
+            first,
+            last,
+            rpg_sheet_values::blank_or(text, rpg_sheet_values::digit(text)),
+        )
+    }
+
+    /// Blank or an indicator.
+    #[tactic(auto, unfolding(rpg_sheet_specs::specs::Values::blank_or))]
+    pub(crate) fn optional_indicator(
+        &self,
+        first: u8,
+        last: u8,
+    ) -> Result<Option<Indicator>, ColumnFault>
+        requires within { last ≤ 80 }
+        requires counted { 1 ≤ first }
+        requires ordered { first ≤ last }
+        ensures { result ≡ ok_or (values.blank_or values.indicator (cols first last self.now)) (column_fault first last) }
+    {
+        let text = self.columns(first, last);
+        at(
+            first,
+            last,
+            rpg_sheet_values::blank_or(text, rpg_sheet_values::indicator(text)),
+        )
+    }
+
+    /// Blank or a condition.
+    #[tactic(auto, unfolding(rpg_sheet_specs::specs::Values::blank_or))]
+    pub(crate) fn optional_condition(
+        &self,
+        first: u8,
+        last: u8,
+    ) -> Result<Option<Condition>, ColumnFault>
+        requires within { last ≤ 80 }
+        requires counted { 1 ≤ first }
+        requires ordered { first ≤ last }
+        requires three { last ≡ first + 2 }
+        ensures { result ≡ ok_or (values.blank_or values.condition (cols first last self.now)) (column_fault first last) }
+    {
+        let text = self.columns(first, last);
+        at(
+            first,
+            last,
+            rpg_sheet_values::blank_or(text, rpg_sheet_values::condition(text)),
+        )
+    }
+
+    /// Blank or an operation.
+    #[tactic(auto, unfolding(rpg_sheet_specs::specs::Values::blank_or))]
+    pub(crate) fn optional_operation(
+        &self,
+        first: u8,
+        last: u8,
+    ) -> Result<Option<Operation>, ColumnFault>
+        requires within { last ≤ 80 }
+        requires counted { 1 ≤ first }
+        requires ordered { first ≤ last }
+        ensures { result ≡ ok_or (values.blank_or tables.operation (cols first last self.now)) (column_fault first last) }
+    {
+        let text = self.columns(first, last);
+        at(
+            first,
+            last,
+            rpg_sheet_values::blank_or(text, rpg_sheet_values::operation(text)),
+        )
+    }
+
+    /// Blank or an entry.
+    #[tactic(auto, unfolding(rpg_sheet_specs::specs::Values::blank_or))]
+    pub(crate) fn optional_entry(&self, first: u8, last: u8) -> Result<Option<Entry>, ColumnFault>
+        requires within { last ≤ 80 }
+        requires counted { 1 ≤ first }
+        requires ordered { first ≤ last }
+        ensures { result ≡ ok_or (values.blank_or values.entry (cols first last self.now)) (column_fault first last) }
+    {
+        let text = self.columns(first, last);
+        at(
+            first,
+            last,
+            rpg_sheet_values::blank_or(text, rpg_sheet_values::entry(text)),
+        )
+    }
+
+    /// Blank or an indicator with a number in these bounds.
+    #[tactic(auto, unfolding(rpg_sheet_specs::specs::Values::blank_or))]
+    pub(crate) fn optional_indicator_within<const FIRST: u8, const LAST: u8>(
+        &self,
+        first: u8,
+        last: u8,
+    ) -> Result<Option<Within<FIRST, LAST>>, ColumnFault>
+        requires within { last ≤ 80 }
+        requires counted { 1 ≤ first }
+        requires ordered { first ≤ last }
+        ensures { result ≡ ok_or (values.blank_or (values.indicator_within FIRST LAST) (cols first last self.now)) (column_fault first last) }
+    {
+        let text = self.columns(first, last);
+        at(
+            first,
+            last,
+            rpg_sheet_values::blank_or(text, rpg_sheet_values::indicator_within(text)),
+        )
+    }
+
+    /// Blank or a level.
+    #[tactic(auto, unfolding(rpg_sheet_specs::specs::Values::blank_or))]
+    pub(crate) fn optional_level(
+        &self,
+        first: u8,
+        last: u8,
+    ) -> Result<Option<Within<1, 9>>, ColumnFault>
+        requires within { last ≤ 80 }
+        requires counted { 1 ≤ first }
+        requires ordered { first ≤ last }
+        ensures { result ≡ ok_or (values.blank_or values.level (cols first last self.now)) (column_fault first last) }
+    {
+        let text = self.columns(first, last);
+        at(
+            first,
+            last,
+            rpg_sheet_values::blank_or(text, rpg_sheet_values::level(text)),
+        )
+    }
+
+    /// Blank or a record code.
+    #[tactic(auto, unfolding(rpg_sheet_specs::specs::Values::blank_or))]
+    pub(crate) fn optional_record_code(
+        &self,
+        first: u8,
+        last: u8,
+    ) -> Result<Option<RecordCode>, ColumnFault>
+        requires within { last ≤ 80 }
+        requires counted { 1 ≤ first }
+        requires ordered { first ≤ last }
+        requires seven { last ≡ first + 6 }
+        ensures { result ≡ ok_or (values.blank_or values.record_code (cols first last self.now)) (column_fault first last) }
+    {
+        let text = self.columns(first, last);
+        at(
+            first,
+            last,
+            rpg_sheet_values::blank_or(text, rpg_sheet_values::record_code(text)),
+        )
+    }
+
+    /// Blank or how many lines the form spaces.
+    #[tactic(auto, unfolding(rpg_sheet_specs::specs::Values::blank_or))]
+    pub(crate) fn optional_space(
+        &self,
+        first: u8,
+        last: u8,
+    ) -> Result<Option<Within<0, 3>>, ColumnFault>
+        requires within { last ≤ 80 }
+        requires counted { 1 ≤ first }
+        requires ordered { first ≤ last }
+        ensures { result ≡ ok_or (values.blank_or tables.space (cols first last self.now)) (column_fault first last) }
+    {
+        let text = self.columns(first, last);
+        at(
+            first,
+            last,
+            rpg_sheet_values::blank_or(text, rpg_sheet_values::space(text)),
+        )
+    }
+
+    /// Blank or the line that the form skips to.
+    #[tactic(auto, unfolding(rpg_sheet_specs::specs::Values::blank_or))]
+    pub(crate) fn optional_skip(
+        &self,
+        first: u8,
+        last: u8,
+    ) -> Result<Option<Within<1, 66>>, ColumnFault>
+        requires within { last ≤ 80 }
+        requires counted { 1 ≤ first }
+        requires ordered { first ≤ last }
+        requires two { last ≡ first + 1 }
+        ensures { result ≡ ok_or (values.blank_or tables.skip (cols first last self.now)) (column_fault first last) }
+    {
+        let text = self.columns(first, last);
+        at(
+            first,
+            last,
+            rpg_sheet_values::blank_or(text, rpg_sheet_values::skip(text)),
+        )
+    }
+
+    /// Blank or an edit code.
+    #[tactic(auto, unfolding(rpg_sheet_specs::specs::Values::blank_or))]
+    pub(crate) fn optional_edit_code(
+        &self,
+        first: u8,
+        last: u8,
+    ) -> Result<Option<EditCode>, ColumnFault>
+        requires within { last ≤ 80 }
+        requires counted { 1 ≤ first }
+        requires ordered { first ≤ last }
+        ensures { result ≡ ok_or (values.blank_or values.edit_code (cols first last self.now)) (column_fault first last) }
+    {
+        let text = self.columns(first, last);
+        at(
+            first,
+            last,
+            rpg_sheet_values::blank_or(text, rpg_sheet_values::edit_code(text)),
+        )
+    }
+
+    /// Blank or a text.
+    #[tactic(auto, unfolding(rpg_sheet_specs::specs::Values::blank_or))]
+    pub(crate) fn optional_text<const N: usize>(
+        &self,
+        first: u8,
+        last: u8,
+    ) -> Result<Option<TextLiteral<N>>, ColumnFault>
+        requires within { last ≤ 80 }
+        requires counted { 1 ≤ first }
+        requires ordered { first ≤ last }
+        requires short { last ≤ first + N + 1 }
+        ensures { result ≡ ok_or (values.blank_or values.quoted (cols first last self.now)) (column_fault first last) }
+    {
+        let text = self.columns(first, last);
+        at(
+            first,
+            last,
+            rpg_sheet_values::blank_or(text, rpg_sheet_values::quoted(text)),
+        )
+    }
+}
+
+/// Three conditions.
+#[tactic(auto, unfolding(rpg_sheet_specs::specs::Tables::conditions, rpg_sheet_specs::specs::Columns::values, rpg_sheet_specs::specs::Columns::at_with, rpg_sheet_specs::specs::Columns::also))]
+pub(crate) fn conditions(card: &Card, first: u8) -> Result<Three<Option<Condition>>, ColumnFault>
+    requires counted { 1 ≤ first }
+    requires within { first ≤ 72 }
+    ensures { result ≡ (tables.conditions first (first + 2) (first + 3) (first + 5) (first + 6) (first + 8)).reading card.now }
+{
+    let one = card.optional_condition(first, first + 2)?;
+    let two = card.optional_condition(first + 3, first + 5)?;
+    let three = card.optional_condition(first + 6, first + 8)?;
+    Ok(Three {
+        first: one,
+        second: two,
+        third: three,
+    })
+}
+
+/// Three indicators.
+#[tactic(auto, unfolding(rpg_sheet_specs::specs::Tables::indicators, rpg_sheet_specs::specs::Columns::values, rpg_sheet_specs::specs::Columns::at_with, rpg_sheet_specs::specs::Columns::also))]
+pub(crate) fn indicators(card: &Card, first: u8) -> Result<Three<Option<Indicator>>, ColumnFault>
+    requires counted { 1 ≤ first }
+    requires within { first ≤ 75 }
+    ensures { result ≡ (tables.indicators first (first + 1) (first + 2) (first + 3) (first + 4) (first + 5)).reading card.now }
+{
+    let one = card.optional_indicator(first, first + 1)?;
+    let two = card.optional_indicator(first + 2, first + 3)?;
+    let three = card.optional_indicator(first + 4, first + 5)?;
+    Ok(Three {
+        first: one,
+        second: two,
+        third: three,
+    })
+}

@@ -1,0 +1,86 @@
+//! The file description sheet (F).
+
+ghost use Rattle.std.specs.Prelude.{◌≡◌, [], OnOk, IfErr};
+ghost use Rattle.rpg_sheet_specs.specs.Columns.{IsLeastColumn, cols};
+ghost use Rattle.rpg_sheet_specs.specs.Tables as tables;
+
+use crate::card::Card;
+use crate::columns::at;
+use rpg_sheet_specs::{ColumnFault, FileRole, FileSpec, Within};
+
+#[tactic(auto, unfolding(rpg_sheet_specs::specs::Tables::file, rpg_sheet_specs::specs::Columns::values, rpg_sheet_specs::specs::Columns::at_with, rpg_sheet_specs::specs::Columns::also, rpg_sheet_specs::specs::Columns::past, rpg_sheet_specs::specs::Columns::blank))]
+pub(crate) fn file(card: &Card) -> Result<FileSpec, ColumnFault>
+    ensures { result ≡ tables.file.reading card.now }
+{
+    let name = card.name(7, 14)?;
+    at(15, 15, rpg_sheet_values::direction(card.columns(15, 15)))?;
+    let role = at(16, 16, role(card))?;
+    let ends_job = at(17, 17, rpg_sheet_values::marked(b"E", card.columns(17, 17)))?;
+    let ascending = at(18, 18, rpg_sheet_values::marked(b"A", card.columns(18, 18)))?;
+    at(19, 19, rpg_sheet_values::only(b"F", card.columns(19, 19)))?;
+    let record_length = card.number(24, 27)?;
+    let overflow = file_overflow(card)?;
+    let device = rpg_sheet_values::device(card.columns(40, 46));
+    card.blank(47, 74)?;
+    Ok(FileSpec {
+        name,
+        role,
+        ends_job,
+        ascending,
+        record_length,
+        overflow,
+        device,
+    })
+}
+
+#[tactic(auto, unfolding(rpg_sheet_specs::specs::Tables::file_overflow, rpg_sheet_specs::specs::Columns::values, rpg_sheet_specs::specs::Columns::at_with, rpg_sheet_specs::specs::Columns::also, rpg_sheet_specs::specs::Columns::past, rpg_sheet_specs::specs::Columns::blank))]
+fn file_overflow(card: &Card) -> Result<Option<Within<112, 119>>, ColumnFault>
+    ensures { result ≡ tables.file_overflow.reading card.now }
+{
+    card.blank(28, 32)?;
+    let overflow = overflow(card)?;
+    card.blank(35, 39)?;
+    Ok(overflow)
+}
+
+/// With O the indicator of a full page.
+#[tactic(auto, unfolding(rpg_sheet_specs::specs::Tables::overflow, rpg_sheet_specs::specs::Columns::values, rpg_sheet_specs::specs::Columns::at_with, rpg_sheet_specs::specs::Columns::also, rpg_sheet_specs::specs::Columns::past, rpg_sheet_specs::specs::Columns::blank, rpg_sheet_specs::specs::Columns::where_card))]
+fn overflow(card: &Card) -> Result<Option<Within<112, 119>>, ColumnFault>
+    ensures { result ≡ tables.overflow.reading card.now }
+{
+    if card.columns(15, 15) == b"O".as_slice() {
+        Ok(card.optional_indicator_within(33, 34)?)
+    } else {
+        card.unused(33, 34)?;
+        Ok(None)
+    }
+}
+
+impl Card {
+    /// An F card, or the least first column of its bad values.
+    pub fn f(&self) -> Result<FileSpec, ColumnFault>
+        ensures value { result ≡ tables.file.reading self.now }
+        ensures good { OnOk result (tables.file.bad self.now ≡ []) }
+        ensures least { IfErr result (λ fault. IsLeastColumn (tables.file.bad self.now) fault.column) }
+    {
+        file(self)
+    }
+}
+
+/// P with I, blank with O.
+#[tactic(auto, unfolding(rpg_sheet_specs::specs::Tables::role))]
+fn role(card: &Card) -> Option<FileRole>
+    ensures { result ≡ tables.role card.now (cols 16 16 card.now) }
+{
+    if card.columns(15, 15) == b"I".as_slice() {
+        if card.columns(16, 16) == b"P".as_slice() {
+            Some(FileRole::Primary)
+        } else {
+            None
+        }
+    } else if card.columns(16, 16) == b" ".as_slice() {
+        Some(FileRole::Output)
+    } else {
+        None
+    }
+}

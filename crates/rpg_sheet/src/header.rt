@@ -1,0 +1,27 @@
+//! The header sheet (H).
+
+ghost use Rattle.std.specs.Prelude.{◌≡◌, [], OnOk, IfErr};
+ghost use Rattle.rpg_sheet_specs.specs.Columns.{IsLeastColumn};
+ghost use Rattle.rpg_sheet_specs.specs.Tables as tables;
+
+use crate::card::Card;
+use rpg_sheet_specs::{ColumnFault, HeaderSpec};
+
+#[tactic(auto, unfolding(rpg_sheet_specs::specs::Tables::header, rpg_sheet_specs::specs::Columns::values, rpg_sheet_specs::specs::Columns::past, rpg_sheet_specs::specs::Columns::blank))]
+pub(crate) fn header(card: &Card) -> Result<HeaderSpec, ColumnFault>
+    ensures { result ≡ tables.header.reading card.now }
+{
+    card.blank(15, 74)?;
+    Ok(HeaderSpec)
+}
+
+impl Card {
+    /// An H card, or the least first column of its bad values.
+    pub fn h(&self) -> Result<HeaderSpec, ColumnFault>
+        ensures value { result ≡ tables.header.reading self.now }
+        ensures good { OnOk result (tables.header.bad self.now ≡ []) }
+        ensures least { IfErr result (λ fault. IsLeastColumn (tables.header.bad self.now) fault.column) }
+    {
+        header(self)
+    }
+}

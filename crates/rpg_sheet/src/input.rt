@@ -1,0 +1,137 @@
+//! The input sheet (I).
+
+ghost use Rattle.std.specs.Prelude.{◌≡◌, [], OnOk, IfErr};
+ghost use Rattle.rpg_sheet_specs.specs.Columns.{IsLeastColumn};
+ghost use Rattle.rpg_sheet_specs.specs.Tables as tables;
+
+use crate::card::Card;
+use crate::columns::{at, indicators};
+use rpg_sheet_specs::{ColumnFault, InputField, InputSpec, RecordCode, RecordType, Three};
+use rpg_text::is_blank;
+
+#[tactic(auto, unfolding(rpg_sheet_specs::specs::Tables::input_card, rpg_sheet_specs::specs::Columns::values, rpg_sheet_specs::specs::Columns::also, rpg_sheet_specs::specs::Columns::where_card))]
+pub(crate) fn input_card(card: &Card) -> Result<InputSpec, ColumnFault>
+    ensures { result ≡ tables.input_card.reading card.now }
+{
+    if is_and_card(card) {
+        Ok(InputSpec::And(type_and_card(card)?))
+    } else {
+        type_or_field_card(card)
+    }
+}
+
+impl Card {
+    /// An I card, or the least first column of its bad values.
+    pub fn i(&self) -> Result<InputSpec, ColumnFault>
+        ensures value { result ≡ tables.input_card.reading self.now }
+        ensures good { OnOk result (tables.input_card.bad self.now ≡ []) }
+        ensures least { IfErr result (λ fault. IsLeastColumn (tables.input_card.bad self.now) fault.column) }
+    {
+        input_card(self)
+    }
+}
+
+#[tactic(auto, unfolding(rpg_sheet_specs::specs::Tables::type_or_field_card, rpg_sheet_specs::specs::Columns::values, rpg_sheet_specs::specs::Columns::also, rpg_sheet_specs::specs::Columns::where_card))]
+fn type_or_field_card(card: &Card) -> Result<InputSpec, ColumnFault>
+    ensures { result ≡ tables.type_or_field_card.reading card.now }
+{
+    if is_field_card(card) {
+        Ok(InputSpec::Field(field_card(card)?))
+    } else {
+        Ok(InputSpec::Type(type_card(card)?))
+    }
+}
+
+/// AND in 14-16, and nothing before it.
+pub(crate) fn is_and_card(card: &Card) -> bool
+    ensures { result ≡ tables.is_and_card card.now }
+{
+    is_blank(card.columns(7, 13)) && card.columns(14, 16) == b"AND".as_slice()
+}
+
+pub(crate) fn is_field_card(card: &Card) -> bool
+    ensures { result ≡ tables.is_field_card card.now }
+{
+    is_blank(card.columns(7, 16))
+}
+
+#[tactic(auto, unfolding(rpg_sheet_specs::specs::Tables::type_card, rpg_sheet_specs::specs::Columns::values, rpg_sheet_specs::specs::Columns::at_with, rpg_sheet_specs::specs::Columns::also, rpg_sheet_specs::specs::Columns::past, rpg_sheet_specs::specs::Columns::blank))]
+fn type_card(card: &Card) -> Result<RecordType, ColumnFault>
+    ensures { result ≡ tables.type_card.reading card.now }
+{
+    let file = card.optional_name(7, 14)?;
+    let sequence = at(15, 16, rpg_sheet_values::letters(card.columns(15, 16)))?;
+    card.blank(17, 18)?;
+    let indicator = card.optional_indicator(19, 20)?;
+    let codes = record_codes(card)?;
+    card.blank(42, 74)?;
+    Ok(RecordType {
+        file,
+        sequence,
+        indicator,
+        codes,
+    })
+}
+
+#[tactic(auto, unfolding(rpg_sheet_specs::specs::Tables::type_and_card, rpg_sheet_specs::specs::Columns::values, rpg_sheet_specs::specs::Columns::at_with, rpg_sheet_specs::specs::Columns::also, rpg_sheet_specs::specs::Columns::past, rpg_sheet_specs::specs::Columns::blank))]
+fn type_and_card(card: &Card) -> Result<Three<Option<RecordCode>>, ColumnFault>
+    ensures { result ≡ tables.type_and_card.reading card.now }
+{
+    card.blank(17, 20)?;
+    let codes = further_codes(card)?;
+    card.blank(42, 74)?;
+    Ok(codes)
+}
+
+/// At least one code.
+#[tactic(auto, unfolding(rpg_sheet_specs::specs::Tables::and_codes, rpg_sheet_specs::specs::Columns::values, rpg_sheet_specs::specs::Columns::at_with, rpg_sheet_specs::specs::Columns::also, rpg_sheet_specs::specs::Columns::past, rpg_sheet_specs::specs::Columns::blank, rpg_sheet_specs::specs::Columns::where_card))]
+fn further_codes(card: &Card) -> Result<Three<Option<RecordCode>>, ColumnFault>
+    ensures { result ≡ tables.and_codes.reading card.now }
+{
+    if is_blank(card.columns(21, 41)) {
+        Err(ColumnFault {
+            column: 21,
+            last: 41,
+        })
+    } else {
+        record_codes(card)
+    }
+}
+
+#[tactic(auto, unfolding(rpg_sheet_specs::specs::Tables::record_codes, rpg_sheet_specs::specs::Columns::values, rpg_sheet_specs::specs::Columns::at_with, rpg_sheet_specs::specs::Columns::also, rpg_sheet_specs::specs::Columns::past, rpg_sheet_specs::specs::Columns::blank))]
+fn record_codes(card: &Card) -> Result<Three<Option<RecordCode>>, ColumnFault>
+    ensures { result ≡ tables.record_codes.reading card.now }
+{
+    let first = card.optional_record_code(21, 27)?;
+    let second = card.optional_record_code(28, 34)?;
+    let third = card.optional_record_code(35, 41)?;
+    Ok(Three {
+        first,
+        second,
+        third,
+    })
+}
+
+#[tactic(auto, unfolding(rpg_sheet_specs::specs::Tables::field_card, rpg_sheet_specs::specs::Columns::values, rpg_sheet_specs::specs::Columns::at_with, rpg_sheet_specs::specs::Columns::also, rpg_sheet_specs::specs::Columns::past, rpg_sheet_specs::specs::Columns::blank))]
+fn field_card(card: &Card) -> Result<InputField, ColumnFault>
+    ensures { result ≡ tables.field_card.reading card.now }
+{
+    card.blank(17, 43)?;
+    let from = card.number(44, 47)?;
+    let to = card.number(48, 51)?;
+    let decimals = card.optional_digit(52, 52)?;
+    let name = card.name(53, 58)?;
+    let level = card.optional_level(59, 60)?;
+    card.unused(61, 62)?;
+    card.blank(63, 64)?;
+    let indicators = indicators(card, 65)?;
+    card.blank(71, 74)?;
+    Ok(InputField {
+        from,
+        to,
+        decimals,
+        name,
+        level,
+        indicators,
+    })
+}

@@ -1,0 +1,132 @@
+//! The output sheet (O).
+
+ghost use Rattle.std.specs.Prelude.{◌≡◌, [], OnOk, IfErr};
+ghost use Rattle.rpg_sheet_specs.specs.Columns.{IsLeastColumn};
+ghost use Rattle.rpg_sheet_specs.specs.Tables as tables;
+
+use crate::card::Card;
+use crate::columns::{at, conditions};
+use crate::input::{is_and_card, is_field_card};
+use rpg_sheet_specs::{
+    ColumnFault, Condition, Movement, OutputField, OutputRecord, OutputSpec, Three,
+};
+use rpg_text::is_blank;
+
+#[tactic(auto, unfolding(rpg_sheet_specs::specs::Tables::output_card, rpg_sheet_specs::specs::Columns::values, rpg_sheet_specs::specs::Columns::also, rpg_sheet_specs::specs::Columns::where_card))]
+pub(crate) fn output_card(card: &Card) -> Result<OutputSpec, ColumnFault>
+    ensures { result ≡ tables.output_card.reading card.now }
+{
+    if is_and_card(card) {
+        Ok(OutputSpec::And(line_conditions(card)?))
+    } else {
+        line_or_card(card)
+    }
+}
+
+impl Card {
+    /// An O card, or the least first column of its bad values.
+    pub fn o(&self) -> Result<OutputSpec, ColumnFault>
+        ensures value { result ≡ tables.output_card.reading self.now }
+        ensures good { OnOk result (tables.output_card.bad self.now ≡ []) }
+        ensures least { IfErr result (λ fault. IsLeastColumn (tables.output_card.bad self.now) fault.column) }
+    {
+        output_card(self)
+    }
+}
+
+/// OR in 14-15, and nothing before it.
+fn is_or_card(card: &Card) -> bool
+    ensures { result ≡ tables.is_or_card card.now }
+{
+    is_blank(card.columns(7, 13)) && card.columns(14, 15) == b"OR".as_slice()
+}
+
+#[tactic(auto, unfolding(rpg_sheet_specs::specs::Tables::line_or_card, rpg_sheet_specs::specs::Columns::values, rpg_sheet_specs::specs::Columns::at_with, rpg_sheet_specs::specs::Columns::also, rpg_sheet_specs::specs::Columns::past, rpg_sheet_specs::specs::Columns::blank, rpg_sheet_specs::specs::Columns::where_card))]
+fn line_or_card(card: &Card) -> Result<OutputSpec, ColumnFault>
+    ensures { result ≡ tables.line_or_card.reading card.now }
+{
+    if is_or_card(card) {
+        card.blank(16, 16)?;
+        Ok(OutputSpec::Or(line_conditions(card)?))
+    } else {
+        line_or_field_card(card)
+    }
+}
+
+#[tactic(auto, unfolding(rpg_sheet_specs::specs::Tables::line_or_field_card, rpg_sheet_specs::specs::Columns::values, rpg_sheet_specs::specs::Columns::also, rpg_sheet_specs::specs::Columns::where_card))]
+fn line_or_field_card(card: &Card) -> Result<OutputSpec, ColumnFault>
+    ensures { result ≡ tables.line_or_field_card.reading card.now }
+{
+    if is_field_card(card) {
+        Ok(OutputSpec::Field(output_field_card(card)?))
+    } else {
+        Ok(OutputSpec::Record(record_card(card)?))
+    }
+}
+
+#[tactic(auto, unfolding(rpg_sheet_specs::specs::Tables::record_card, rpg_sheet_specs::specs::Columns::values, rpg_sheet_specs::specs::Columns::at_with, rpg_sheet_specs::specs::Columns::also, rpg_sheet_specs::specs::Columns::past, rpg_sheet_specs::specs::Columns::blank))]
+fn record_card(card: &Card) -> Result<OutputRecord, ColumnFault>
+    ensures { result ≡ tables.record_card.reading card.now }
+{
+    let file = card.optional_name(7, 14)?;
+    let time = at(15, 15, rpg_sheet_values::line_time(card.columns(15, 15)))?;
+    card.blank(16, 16)?;
+    let movement = movement(card)?;
+    let conditions = conditions(card, 23)?;
+    card.blank(32, 70)?;
+    Ok(OutputRecord {
+        file,
+        time,
+        movement,
+        conditions,
+    })
+}
+
+#[tactic(auto, unfolding(rpg_sheet_specs::specs::Tables::movement, rpg_sheet_specs::specs::Columns::values, rpg_sheet_specs::specs::Columns::at_with, rpg_sheet_specs::specs::Columns::also, rpg_sheet_specs::specs::Columns::past, rpg_sheet_specs::specs::Columns::blank))]
+fn movement(card: &Card) -> Result<Movement, ColumnFault>
+    ensures { result ≡ tables.movement.reading card.now }
+{
+    let space_before = card.optional_space(17, 17)?;
+    let space_after = card.optional_space(18, 18)?;
+    let skip_before = card.optional_skip(19, 20)?;
+    let skip_after = card.optional_skip(21, 22)?;
+    Ok(Movement {
+        space_before,
+        space_after,
+        skip_before,
+        skip_after,
+    })
+}
+
+/// Further conditions of a line.
+#[tactic(auto, unfolding(rpg_sheet_specs::specs::Tables::line_conditions, rpg_sheet_specs::specs::Columns::values, rpg_sheet_specs::specs::Columns::at_with, rpg_sheet_specs::specs::Columns::also, rpg_sheet_specs::specs::Columns::past, rpg_sheet_specs::specs::Columns::blank))]
+fn line_conditions(card: &Card) -> Result<Three<Option<Condition>>, ColumnFault>
+    ensures { result ≡ tables.line_conditions.reading card.now }
+{
+    card.blank(17, 22)?;
+    let conditions = conditions(card, 23)?;
+    card.blank(32, 70)?;
+    Ok(conditions)
+}
+
+#[tactic(auto, unfolding(rpg_sheet_specs::specs::Tables::output_field_card, rpg_sheet_specs::specs::Columns::values, rpg_sheet_specs::specs::Columns::at_with, rpg_sheet_specs::specs::Columns::also, rpg_sheet_specs::specs::Columns::past, rpg_sheet_specs::specs::Columns::blank))]
+fn output_field_card(card: &Card) -> Result<OutputField, ColumnFault>
+    ensures { result ≡ tables.output_field_card.reading card.now }
+{
+    card.blank(17, 22)?;
+    let conditions = conditions(card, 23)?;
+    let operand = card.optional_entry(32, 37)?;
+    let code = card.optional_edit_code(38, 38)?;
+    let blank_after = at(39, 39, rpg_sheet_values::marked(b"B", card.columns(39, 39)))?;
+    let end = card.number(40, 43)?;
+    card.blank(44, 44)?;
+    let text = card.optional_text(45, 70)?;
+    Ok(OutputField {
+        conditions,
+        operand,
+        code,
+        blank_after,
+        end,
+        text,
+    })
+}

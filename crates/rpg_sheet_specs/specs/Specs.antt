@@ -1,0 +1,43 @@
+-- What a card stands for.
+use Rattle.std.specs.Prelude.{List, [], ◌∷◌, ℕ, Bool, false, Option, None, Some, option_and_then, option_map, if◌then◌else◌, ◌||◌}
+use Rattle.std.specs.Result.{result_ok}
+use Rattle.rpg_sheet_specs.specs.declared.data.DataSpec.{DataSpec}
+use Rattle.rpg_sheet_specs.specs.declared.data.DataSpec.TheVariants as data_spec
+use Rattle.rpg_sheet_specs.specs.declared.form_type.FormType.{FormType}
+use Rattle.rpg_sheet_specs.specs.declared.form_type.FormType.TheVariants as form
+use Rattle.rpg_sheet_specs.specs.declared.spec.Spec.{Spec}
+use Rattle.rpg_sheet_specs.specs.declared.spec.Spec.TheVariants as spec
+use Rattle.rpg_sheet_specs.specs.Cards.{begins_data, ends_source, form_type, is_sheet}
+use Rattle.rpg_sheet_specs.specs.Columns.{Columns, values, ◌⊛◌}
+use Rattle.rpg_sheet_specs.specs.Tables.{header, file, extension, input_card, calculation_card, output_card}
+
+-- a card on this sheet
+abbrev pub card_on : FormType → Columns Spec
+card_on form.Header = values spec.Header ⊛ header
+card_on form.File = values spec.File ⊛ file
+card_on form.Extension = values spec.Extension ⊛ extension
+card_on form.Input = values spec.Input ⊛ input_card
+card_on form.Calculation = values spec.Calculation ⊛ calculation_card
+card_on form.Output = values spec.Output ⊛ output_card
+
+-- what a card that is on no sheet stands for; `behind` says whether one before it begins data
+abbrev pub data_spec_of : Bool → List ℕ → Option DataSpec
+data_spec_of behind card =
+    if ends_source card then None
+    else if begins_data card then Some data_spec.Begin
+    else if behind then Some (data_spec.Card card)
+    else None
+
+-- what a card stands for: nothing where a column is bad, where it is skipped and where it ends the source
+abbrev pub spec_of : Bool → List ℕ → Option Spec
+spec_of behind card =
+    if is_sheet behind card then option_and_then (λ sheet. result_ok ((card_on sheet).reading card)) (form_type card)
+    else option_map spec.Data (data_spec_of behind card)
+
+-- what cards stand for
+abbrev pub specs_from : Bool → List (List ℕ) → List (Option Spec)
+specs_from behind [] = []
+specs_from behind (card ∷ cards) = spec_of behind card ∷ specs_from (behind || begins_data card) cards
+
+abbrev pub specs_of : List (List ℕ) → List (Option Spec)
+specs_of cards = specs_from false cards

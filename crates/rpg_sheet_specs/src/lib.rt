@@ -1,0 +1,35 @@
+//! What the cards of a source stand for: the types of each sheet's specs, and the definitions of columns and their values.
+#![tactic(auto)]
+
+mod calculation;
+mod column;
+mod data;
+mod entry;
+mod extension;
+mod file;
+mod form_type;
+mod header;
+mod indicator;
+mod input;
+mod literal;
+mod output;
+mod spec;
+mod within;
+mod word;
+
+pub use calculation::{CalculationSpec, ControlLevel, Operation};
+pub use column::ColumnFault;
+pub use data::{DataCard, DataSpec};
+pub use entry::{Entry, EntryIndex};
+pub use extension::{ExtensionSpec, TableSpec};
+pub use file::{Device, FileRole, FileSpec};
+pub use form_type::FormType;
+pub use header::HeaderSpec;
+pub use indicator::{Condition, Indicator, Three};
+pub use input::{InputField, InputSpec, RecordCode, RecordType};
+pub use literal::{Factor, Literal, NumericLiteral, TextLiteral};
+pub use output::{LineTime, Movement, OutputField, OutputRecord, OutputSpec};
+pub use rpg_edit_marks::EditCode;
+pub use spec::Spec;
+pub use within::Within;
+pub use word::Word;

@@ -1,0 +1,63 @@
+//! The output sheet (O).
+
+use crate::entry::Entry;
+use crate::indicator::{Condition, Three};
+use crate::literal::TextLiteral;
+use crate::within::Within;
+use crate::word::Word;
+use rpg_edit_marks::EditCode;
+
+/// When a line is put out.
+#[derive(Clone, Copy)]
+pub enum LineTime {
+    Heading,
+    Detail,
+    Total,
+    /// At EXCPT.
+    Exception,
+}
+
+/// How the form moves before and behind a line.
+#[derive(Clone, Copy)]
+pub struct Movement {
+    /// Lines to space.
+    pub space_before: Option<Within<0, 3>>,
+    pub space_after: Option<Within<0, 3>>,
+    /// Lines to skip to.
+    pub skip_before: Option<Within<1, 66>>,
+    pub skip_after: Option<Within<1, 66>>,
+}
+
+/// A line.
+#[derive(Drop)]
+pub struct OutputRecord {
+    /// None is the file of the line before.
+    pub file: Option<Word<8>>,
+    pub time: LineTime,
+    pub movement: Movement,
+    pub conditions: Three<Option<Condition>>,
+}
+
+/// A field of the line above it.
+#[derive(Drop)]
+pub struct OutputField {
+    pub conditions: Three<Option<Condition>>,
+    pub operand: Option<Entry>,
+    pub code: Option<EditCode>,
+    pub blank_after: bool,
+    /// The field's last column in the line, from 1.
+    pub end: u16,
+    /// A constant where no field is named, else an edit word, or beside a code the fill.
+    pub text: Option<TextLiteral<24>>,
+}
+
+/// An O card.
+#[derive(Drop)]
+pub enum OutputSpec {
+    Record(OutputRecord),
+    /// Further conditions of the line above it, which must hold too.
+    And(Three<Option<Condition>>),
+    /// Other conditions of the line above it.
+    Or(Three<Option<Condition>>),
+    Field(OutputField),
+}

@@ -1,0 +1,52 @@
+//! Fields and entries of arrays, from the first column of their range on.
+
+ghost use Rattle.std.specs.Prelude.{◌≡◌, ◌<◌, length, position, IfSome};
+ghost use Rattle.rpg_sheet_specs.specs.Values as values;
+
+use crate::names::name_of;
+use crate::numbers::digits;
+use rpg_sheet_specs::{Entry, EntryIndex};
+use rpg_text::trimmed;
+
+/// A name, or a name and behind a comma an index.
+#[tactic(auto, unfolding(rpg_sheet_specs::specs::Values::entry))]
+pub fn entry(text: &[u8]) -> Option<Entry>
+    ensures { result ≡ values.entry text.now }
+{
+    let text = trimmed(text);
+    match comma(text) {
+        None => name_of(text).map(|name| Entry { name, index: None }),
+        Some(place) => {
+            let name = name_of(&text[..place])?;
+            let index = index(&text[place + 1..])?;
+            Some(Entry {
+                name,
+                index: Some(index),
+            })
+        }
+    }
+}
+
+/// The place of the first comma.
+fn comma(text: &[u8]) -> Option<usize>
+    ensures place { result ≡ position values.is_comma text.now }
+    ensures within { IfSome result (λ place. place < length text.now) }
+{
+    text.iter().position(|c| *c == b',')
+}
+
+/// At most four digits, or a name.
+fn index(text: &[u8]) -> Option<EntryIndex>
+    ensures { result ≡ values.index_spelled text.now }
+{
+    match literal_index(text) {
+        Some(number) => Some(EntryIndex::Literal(number)),
+        None => name_of(text).map(EntryIndex::Name),
+    }
+}
+
+fn literal_index(text: &[u8]) -> Option<u16>
+    ensures { result ≡ values.literal_index text.now }
+{
+    if text.len() <= 4 { digits(text) } else { None }
+}

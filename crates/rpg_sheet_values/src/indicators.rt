@@ -1,0 +1,63 @@
+//! Indicators, and the conditions that name them.
+
+ghost use Rattle.std.specs.Prelude.{◌≡◌, length};
+ghost use Rattle.rpg_sheet_specs.specs.Values as values;
+
+use crate::marks::marked;
+use rpg_sheet_specs::{Condition, Indicator, Within};
+
+/// Two characters.
+#[tactic(auto, unfolding(rpg_sheet_specs::specs::Values::indicator))]
+pub fn indicator(text: &[u8]) -> Option<Indicator>
+    ensures { result ≡ values.indicator text.now }
+{
+    match text {
+        b"00" => None,
+        [tens @ b'0'..=b'9', units @ b'0'..=b'9'] => Some(Indicator::new(
+            10 * (*tens - b'0') + (*units - b'0'),
+        )),
+        [b'L', level @ b'0'..=b'9'] => Some(Indicator::new(100 + (*level - b'0'))),
+        [b'O', letter @ b'A'..=b'G'] => Some(Indicator::new(112 + (*letter - b'A'))),
+        [b'H', halt @ b'1'..=b'9'] => Some(Indicator::new(119 + (*halt - b'0'))),
+        b"LR" => Some(Indicator::new(110)),
+        b"1P" => Some(Indicator::new(111)),
+        b"OV" => Some(Indicator::new(119)),
+        b"MR" => Some(Indicator::new(129)),
+        _ => None,
+    }
+}
+
+/// Blank or N, and an indicator.
+#[tactic(auto, unfolding(rpg_sheet_specs::specs::Values::condition))]
+pub fn condition(text: &[u8]) -> Option<Condition>
+    requires { length text.now ≡ 3 }
+    ensures { result ≡ values.condition text.now }
+{
+    let negated = marked(b"N", &text[..1])?;
+    let indicator = indicator(&text[1..])?;
+    Some(Condition { negated, indicator })
+}
+
+/// An indicator whose number is in these bounds.
+#[tactic(auto, unfolding(rpg_sheet_specs::specs::Values::indicator_within))]
+pub fn indicator_within<const FIRST: u8, const LAST: u8>(text: &[u8]) -> Option<Within<FIRST, LAST>>
+    ensures { result ≡ values.indicator_within FIRST LAST text.now }
+{
+    let number = indicator(text)?.number();
+    if FIRST <= number && number <= LAST {
+        Some(Within::new(number))
+    } else {
+        None
+    }
+}
+
+/// L1 to L9.
+#[tactic(auto, unfolding(rpg_sheet_specs::specs::Values::level))]
+pub fn level(text: &[u8]) -> Option<Within<1, 9>>
+    ensures { result ≡ values.level text.now }
+{
+    match text {
+        [b'L', level @ b'1'..=b'9'] => Some(Within::new(*level - b'0')),
+        _ => None,
+    }
+}

@@ -1,0 +1,155 @@
+//! Literals: numbers and texts that stand on the card itself, from the first column of their range on.
+
+ghost use Rattle.std.specs.Prelude.{◌≡◌, ◌≢◌, ℕ, ◌+◌, ◌-◌, ◌^◌, ◌≤◌, ◌<◌, ◌↔◌, List, [], ◌∷◌, None, length, option_map, position, IfNone, IfSome, IsTrue};
+ghost use Rattle.std.specs.List.{list_all, before_first, after_first};
+ghost use Rattle.std.specs.Str.Parse.{starts_with_minus, without_leading_sign};
+ghost use Rattle.rpg_sheet_specs.specs.Values as values;
+ghost use Rattle.rpg_text.specs.Texts.{is_character, trimmed};
+
+use crate::entries::entry;
+use crate::numbers::{has_only_digits, value_after};
+use rpg_sheet_specs::{Factor, Literal, NumericLiteral, TextLiteral, Word};
+use rpg_text::trimmed;
+
+#[tactic(auto, unfolding(rpg_sheet_specs::specs::Values::factor))]
+pub fn factor_of(text: &[u8]) -> Option<Factor>
+    requires short { length text.now ≤ 10 }
+    requires characters { IsTrue (list_all is_character text.now) }
+    ensures { result ≡ values.factor text.now }
+{
+    match entry(text) {
+        Some(entry) => Some(Factor::Entry(entry)),
+        None => literal_of(text).map(Factor::Literal),
+    }
+}
+
+fn literal_of(text: &[u8]) -> Option<Literal>
+    requires short { length text.now ≤ 10 }
+    requires characters { IsTrue (list_all is_character text.now) }
+    ensures { result ≡ values.literal text.now }
+{
+    match numeric_literal(text) {
+        Some(number) => Some(Literal::Number(number)),
+        None => quoted(text).map(Literal::Text),
+    }
+}
+
+/// A sign or none, and digits with a point or none.
+fn numeric_literal(text: &[u8]) -> Option<NumericLiteral>
+    requires { length text.now ≤ 10 }
+    ensures { result ≡ values.numeric_literal text.now }
+{
+    let text = trimmed(text);
+    let (minus, unsigned) = without_sign(text);
+    let (whole, behind) = around_point(unsigned);
+    numeral(minus, whole, behind)
+}
+
+/// Whether a minus sign stands first, and what is behind a sign.
+fn without_sign(text: &[u8]) -> (bool, &[u8])
+    ensures minus { result.0 ≡ starts_with_minus text.now }
+    ensures rest { result.1.now ≡ without_leading_sign text.now }
+    ensures shorter { length result.1.now ≤ length text.now }
+{
+    match text {
+        [b'-', rest @ ..] => (true, rest),
+        [b'+', rest @ ..] => (false, rest),
+        _ => (false, text),
+    }
+}
+
+/// What stands before the first point, and what stands behind it.
+fn around_point(text: &[u8]) -> (&[u8], &[u8])
+    ensures before { result.0.now ≡ before_first values.is_point text.now }
+    ensures behind { result.1.now ≡ after_first values.is_point text.now }
+    ensures shorter { length result.0.now + length result.1.now ≤ length text.now }
+    ensures point { length result.1.now ≤ length text.now - 1 }
+{
+    match point(text) {
+        Some(point) => (&text[..point], &text[point + 1..]),
+        None => (text, &[]),
+    }
+}
+
+/// The place of the first point.
+fn point(text: &[u8]) -> Option<usize>
+    ensures place { result ≡ position values.is_point text.now }
+    ensures within { IfSome result (λ point. point < length text.now) }
+{
+    text.iter().position(|c| *c == b'.')
+}
+
+/// The number of these digits before its point and these behind it.
+fn numeral(minus: bool, whole: &[u8], behind: &[u8]) -> Option<NumericLiteral>
+    requires short { length whole.now + length behind.now ≤ 10 }
+    requires point { length behind.now ≤ 9 }
+    ensures { result ≡ values.numeral minus whole.now behind.now }
+{
+    let digits = whole.len() + behind.len();
+    if digits == 0 || !has_only_digits(whole) || !has_only_digits(behind) {
+        return None;
+    }
+    let size = value_after(value_after(0, whole), behind);
+    Some(NumericLiteral::new(with_sign(minus, size), digits as u8, behind.len() as u8))
+}
+
+fn with_sign(minus: bool, size: u64) -> i64
+    requires { size < 10 ^ 10 }
+    ensures { result ≡ values.with_sign minus size }
+{
+    let size = size as i64;
+    if minus { -size } else { size }
+}
+
+/// A text in apostrophes, each apostrophe in it doubled.
+#[tactic(auto, unfolding(rpg_sheet_specs::specs::Values::quoted))]
+pub fn quoted<const N: usize>(text: &[u8]) -> Option<TextLiteral<N>>
+    requires short { length text.now ≤ N + 2 }
+    requires characters { IsTrue (list_all is_character text.now) }
+    ensures value { result ≡ values.quoted text.now }
+    ensures written { (t : List ℕ) → (result ≡ Some t) ↔ ((trimmed text.now ≡ values.in_apostrophes t) × (t ≢ [])) }
+{
+    let text = trimmed(text);
+    if !is_enclosed(text) {
+        return None;
+    }
+    let word = undoubled(&text[1..text.len() - 1])?;
+    Some(TextLiteral::new(word))
+}
+
+/// Begins and ends with an apostrophe, and has something between them.
+fn is_enclosed(text: &[u8]) -> bool
+    ensures { result ≡ values.is_enclosed text.now }
+{
+    matches!(text, [b'\'', _, .., b'\''])
+}
+
+/// The text whose apostrophes are written twice: none where one of them stands alone.
+#[tactic(auto, using(crate::proofs::LiteralLemmas::one_more))]
+fn undoubled<const N: usize>(text: &[u8]) -> Option<Word<N>>
+    requires { length text.now ≤ N }
+    ensures { result ≡ values.undoubled text.now }
+{
+    let mut word = Word::new(b"");
+    let mut rest = text;
+    while !rest.is_empty() {
+        let (character, behind) = first_undoubled(rest)?;
+        word.push(character);
+        rest = behind;
+    }
+    Some(word)
+}
+
+/// The character that stands first, and what is behind it: none where it is an apostrophe that stands alone.
+fn first_undoubled(text: &[u8]) -> Option<(u8, &[u8])>
+    requires { 0 < length text.now }
+    ensures first { IfSome result (λ first. values.undoubled text.now ≡ option_map (λ t. first.0 ∷ t) (values.undoubled first.1.now)) }
+    ensures shorter { IfSome result (λ first. length first.1.now < length text.now) }
+    ensures alone { IfNone result (values.undoubled text.now ≡ None) }
+{
+    match text {
+        [b'\'', b'\'', behind @ ..] => Some((b'\'', behind)),
+        [b'\'', ..] | [] => None,
+        [character, behind @ ..] => Some((*character, behind)),
+    }
+}

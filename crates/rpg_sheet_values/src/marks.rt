@@ -1,0 +1,48 @@
+//! Texts that stand for one thing: a spelling, a mark, blanks.
+
+ghost use Rattle.std.specs.Prelude.{◌≡◌, None, Some, if◌then◌else◌, option_map};
+ghost use Rattle.rpg_sheet_specs.specs.Values as values;
+ghost use Rattle.rpg_text.specs.Texts.{all_blank};
+
+use rpg_text::is_blank;
+
+/// The one spelling that is allowed.
+#[tactic(auto, unfolding(rpg_sheet_specs::specs::Values::only))]
+pub fn only(spelling: &[u8], text: &[u8]) -> Option<()>
+    ensures { result ≡ values.only spelling.now text.now }
+{
+    if text == spelling { Some(()) } else { None }
+}
+
+/// Blank: a value that isn't read yet.
+#[tactic(auto, unfolding(rpg_sheet_specs::specs::Values::unused))]
+pub fn unused(text: &[u8]) -> Option<()>
+    ensures { result ≡ values.unused text.now }
+{
+    if is_blank(text) { Some(()) } else { None }
+}
+
+/// Blank, or the value of the text.
+pub fn blank_or<T: Drop>(text: &[u8], value: Option<T>) -> Option<Option<T>>
+    ensures { result ≡ (if all_blank text.now then Some None else option_map Some value) }
+{
+    if is_blank(text) {
+        Some(None)
+    } else {
+        value.map(Some)
+    }
+}
+
+/// Blank or the mark.
+#[tactic(auto, unfolding(rpg_sheet_specs::specs::Values::marked))]
+pub fn marked(mark: &[u8], text: &[u8]) -> Option<bool>
+    ensures { result ≡ values.marked mark.now text.now }
+{
+    if text == b" ".as_slice() {
+        Some(false)
+    } else if text == mark {
+        Some(true)
+    } else {
+        None
+    }
+}

@@ -1,0 +1,72 @@
+//! Numbers as cards have them: digits behind blanks.
+
+ghost use Rattle.std.specs.Prelude.{◌≡◌, ◌-◌, ◌^◌, ◌≤◌, ◌<◌, length, IsTrue};
+ghost use Rattle.std.specs.List.{list_all};
+ghost use Rattle.std.specs.Char.{is_ascii_digit};
+ghost use Rattle.std.specs.Str.Parse.{digits_value_after};
+ghost use Rattle.rpg_sheet_specs.specs.Values as values;
+
+/// A text without the blanks at its front.
+fn right_part(text: &[u8]) -> &[u8]
+    ensures { result.now ≡ values.right_part text.now }
+{
+    let mut start = 0;
+    while start < text.len() && text[start] == b' ' {
+        start += 1;
+    }
+    &text[start..]
+}
+
+pub(crate) fn has_only_digits(text: &[u8]) -> bool
+    ensures { result ≡ list_all is_ascii_digit text.now }
+{
+    text.iter().all(|c| c.is_ascii_digit())
+}
+
+/// The number that digits write behind those of `before`.
+pub(crate) fn value_after(before: u64, digits: &[u8]) -> u64
+    requires digits { IsTrue (list_all is_ascii_digit digits.now) }
+    requires short { length digits.now ≤ 10 }
+    requires room { before < 10 ^ (10 - length digits.now) }
+    ensures value { result ≡ digits_value_after 10 before digits.now }
+{
+    let mut value = before;
+    for digit in digits {
+        value = value * 10 + (*digit - b'0') as u64;
+    }
+    value
+}
+
+/// Digits in every column, four at most.
+#[tactic(auto, unfolding(rpg_sheet_specs::specs::Values::digits))]
+pub(crate) fn digits(text: &[u8]) -> Option<u16>
+    requires { length text.now ≤ 4 }
+    ensures { result ≡ values.digits text.now }
+{
+    if !text.is_empty() && has_only_digits(text) {
+        Some(value_after(0, text) as u16)
+    } else {
+        None
+    }
+}
+
+/// Right-aligned digits after blanks, in four columns at most.
+#[tactic(auto, unfolding(rpg_sheet_specs::specs::Values::number))]
+pub fn number(text: &[u8]) -> Option<u16>
+    requires { length text.now ≤ 4 }
+    ensures { result ≡ values.number text.now }
+{
+    digits(right_part(text))
+}
+
+/// One digit.
+#[tactic(auto, unfolding(rpg_sheet_specs::specs::Values::digits))]
+pub fn digit(text: &[u8]) -> Option<u8>
+    requires { length text.now ≡ 1 }
+    ensures { result ≡ values.digits text.now }
+{
+    match text {
+        [c @ b'0'..=b'9'] => Some(*c - b'0'),
+        _ => None,
+    }
+}

@@ -1,0 +1,30 @@
+//! Lines of what errors say.
+
+use rpg_decimal::{BadDigit, ZeroDivisor};
+use rpg_edit_widths::EditFault;
+use rpg_paper::NoMemory;
+use rpg_show_lines::Line;
+use std::alloc::{AllocError, Global};
+use std::fmt::Display;
+
+/// `say zero_divisor = "division by zero"`: whether an error says this, where the line can be read.
+pub fn is_told(alloc: Global, mut line: Line<'_>) -> Result<Option<bool>, AllocError> {
+    let Some(error) = line.word() else {
+        return Ok(None);
+    };
+    let Some(wanted) = line.answer_text() else {
+        return Ok(None);
+    };
+    Ok(Some(match error {
+        "zero_divisor" => says(alloc, ZeroDivisor, wanted)?,
+        "bad_digit_at_1" => says(alloc, BadDigit { spot: 1 }, wanted)?,
+        "edit_fault" => says(alloc, EditFault, wanted)?,
+        "no_memory" => says(alloc, NoMemory, wanted)?,
+        _ => return Ok(None),
+    }))
+}
+
+fn says<E: Display + Drop>(alloc: Global, error: E, wanted: &str) -> Result<bool, AllocError> {
+    let text = format!(in alloc; "{error}")?;
+    Ok(text.as_str() == wanted)
+}

@@ -1,0 +1,28 @@
+//! Lines of what errors say.
+
+use rpg_show_lines::Line;
+use rpg_symbols::{DefineFault, LevelFault};
+use std::alloc::{AllocError, Global};
+use std::fmt::Display;
+
+/// `say full = ".."`: whether an error says this, where the line can be read.
+pub fn is_told(alloc: Global, mut line: Line<'_>) -> Result<Option<bool>, AllocError> {
+    let Some(error) = line.word() else {
+        return Ok(None);
+    };
+    let Some(wanted) = line.answer_text() else {
+        return Ok(None);
+    };
+    Ok(Some(match error {
+        "other" => says(alloc, DefineFault::Other, wanted)?,
+        "full" => says(alloc, DefineFault::Full, wanted)?,
+        "no_memory" => says(alloc, DefineFault::NoMemory, wanted)?,
+        "cycle_1" => says(alloc, LevelFault::Cycle { call: 1 }, wanted)?,
+        _ => return Ok(None),
+    }))
+}
+
+fn says<E: Display + Drop>(alloc: Global, error: E, wanted: &str) -> Result<bool, AllocError> {
+    let text = format!(in alloc; "{error}")?;
+    Ok(text.as_str() == wanted)
+}

@@ -1,0 +1,114 @@
+//! The commands of a session.
+
+use rpg_cli::{Listener, run};
+use rpg_files::fakes::FullWriter;
+use std::alloc::{AllocError, Global};
+use std::fs;
+use std::io::{self, Write};
+use std::rt::Files;
+
+fn words(alloc: Global, command: &str) -> Result<Vec<String>, AllocError> {
+    let mut words = Vec::new(alloc);
+    for word in command.split_whitespace() {
+        words.push(String::from_str(alloc, word)?)?;
+    }
+    Ok(words)
+}
+
+/// Prints what is told.
+#[derive(Drop)]
+struct Shown<'a, R> {
+    rt: &'a R,
+}
+
+impl<R: Print> Listener for Shown<'_, R> {
+    fn tell(&mut self, text: &str) {
+        let _told = self.rt.print(text);
+    }
+}
+
+/// Gives the words to `rpg2`, and prints its line and a status that isn't 0.
+fn say<R: Files + Print + Eprint + AllocGlobal>(rt: &R, command: &str) -> io::Result<()> {
+    let words = words(rt.alloc(), command)?;
+    let status = run(rt, &words, &mut io::writer(rt), &mut Shown { rt });
+    if status != 0 {
+        println!(rt; "status {status}")?;
+    }
+    Ok(())
+}
+
+/// Gives the words to `rpg2` where its line can't be written, and prints the status.
+fn say_unheard<R: Files + Print + Eprint + AllocGlobal>(rt: &R, command: &str) -> io::Result<()> {
+    let words = words(rt.alloc(), command)?;
+    let status = run(rt, &words, &mut FullWriter, &mut Shown { rt });
+    println!(rt; "status {status}")
+}
+
+/// Prints a file, or that there is none.
+fn show<R: Files + Print + AllocGlobal>(rt: &R, path: &str) -> io::Result<()> {
+    if !fs::exists(rt, path)? {
+        return println!(rt; "no file");
+    }
+    let bytes = fs::read(rt, path)?;
+    io::writer(rt).write_all(&bytes)
+}
+
+/// The word of a command that comes next, or none behind the last.
+fn word<'a>(rest: &mut &'a str) -> &'a str {
+    let (word, behind) = rest.split_once(' ').unwrap_or((*rest, ""));
+    *rest = behind;
+    word
+}
+
+/// The number that comes next, or 0.
+fn number(rest: &mut &str) -> usize {
+    word(rest).parse().unwrap_or(0)
+}
+
+fn byte(rest: &mut &str) -> u8 {
+    word(rest).parse().unwrap_or(0)
+}
+
+/// `fill PATH COUNT BYTE`: a file of so many equal bytes.
+fn fill<R: Files + AllocGlobal>(rt: &R, mut rest: &str) -> io::Result<()> {
+    let path = word(&mut rest);
+    let count = number(&mut rest);
+    let value = byte(&mut rest);
+    fs::write(rt, path, &vec![in rt.alloc(); value; count]?)
+}
+
+/// `change FROM TO PLACE BYTE`: a file like another, but for a byte; places are counted from 0.
+fn change<R: Files + AllocGlobal>(rt: &R, mut rest: &str) -> io::Result<()> {
+    let mut bytes = fs::read(rt, word(&mut rest))?;
+    let path = word(&mut rest);
+    let place = number(&mut rest);
+    if let Some(there) = bytes.get_mut(place) {
+        *there = byte(&mut rest);
+    }
+    fs::write(rt, path, &bytes)
+}
+
+/// `byte PATH PLACE`: prints a byte of a file as a number.
+fn show_byte<R: Files + Print + AllocGlobal>(rt: &R, mut rest: &str) -> io::Result<()> {
+    let bytes = fs::read(rt, word(&mut rest))?;
+    match bytes.get(number(&mut rest)) {
+        Some(byte) => println!(rt; "{byte}"),
+        None => println!(rt; "no byte"),
+    }
+}
+
+/// Prints the command, does it, and prints what comes of it.
+pub fn obey<R: Files + Print + Eprint + AllocGlobal>(rt: &R, command: &str) -> io::Result<()> {
+    println!(rt; "$ {command}")?;
+    let (verb, rest) = command.split_once(' ').unwrap_or((command, ""));
+    match verb {
+        "rpg2" => say(rt, command),
+        "unheard" => say_unheard(rt, rest),
+        "show" => show(rt, rest),
+        "byte" => show_byte(rt, rest),
+        "fill" => fill(rt, rest),
+        "change" => change(rt, rest),
+        "text" | "hex" => Ok(()),
+        _ => println!(rt; "no such command"),
+    }
+}

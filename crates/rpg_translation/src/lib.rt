@@ -1,5 +1,0 @@
-//! The object program that the cards of a source stand for: definitions (in specs/), and what is always so of them.
-#![tactic(auto)]
-
-pub mod laws;
-pub mod ranges;

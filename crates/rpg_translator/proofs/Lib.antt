@@ -1,2 +1,0 @@
-pub mod Instructions
-pub mod Programs

@@ -1,0 +1,9 @@
+pub mod AllRules
+pub mod Kept
+pub mod LeastLaws
+pub mod Lists
+pub mod Measures
+pub mod Sectioning
+pub mod Soundness
+pub mod Spanning
+pub mod Values

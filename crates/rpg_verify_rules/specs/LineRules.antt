@@ -1,0 +1,84 @@
+-- The rules of output lines.
+use Rattle.std.specs.Prelude.{ℕ, Bool, true, not, ◌&&◌, ◌==◌, Option}
+use Rattle.std.specs.List.{list_all, list_any}
+use Rattle.rpg_edit_marks.specs.declared.code.Fill.{Fill}
+use Rattle.rpg_effect.specs.Forms.{decimals_of, form_at, is_text_constant, kind_of, length_of, same_kind}
+use Rattle.rpg_effect.specs.LineFaults.{blanks_writable, fits_code, fits_source, fits_word, has_room, is_blank_fill, is_spacing}
+use Rattle.rpg_effect.specs.Rows.{has_entry, is_one_entry}
+use Rattle.rpg_effect.specs.declared.form.FieldForm.{FieldForm}
+use Rattle.rpg_effect.specs.declared.form.Kind.TheVariants as kinds
+use Rattle.rpg_effect.specs.declared.line.Editing.{Editing}
+use Rattle.rpg_effect.specs.declared.line.Editing.TheVariants.{Plain, Code, Word}
+use Rattle.rpg_effect.specs.declared.line.File.{File}
+use Rattle.rpg_effect.specs.declared.line.File.TheVariants.{Printer, Disk}
+use Rattle.rpg_effect.specs.declared.line.LineField.{LineField}
+use Rattle.rpg_effect.specs.declared.line.Spacing.{Spacing}
+use Rattle.rpg_object_program.specs.Constants.{word_at}
+use Rattle.rpg_object_program.specs.Object.{LineRow, Object, file_length}
+use Rattle.rpg_verify_rules.specs.Indicators.{all_asked, may_be_asked}
+use Rattle.rpg_verify_rules.specs.declared.rule.LineRule.{LineRule}
+use Rattle.rpg_verify_rules.specs.declared.rule.LineRule.TheVariants.{V2, V8, V9, V10, V11, V12, V13, V14, V15}
+
+-- the form of the field that is put out
+abbrev pub form_put_out : Object → LineField ℕ → Option FieldForm
+form_put_out p f = form_at p.fields f.operand.field
+
+-- no space and no skip
+abbrev pub is_unspaced : Spacing → Bool
+is_unspaced s = (s.space_before == 0 && s.space_after == 0) && (s.skip_before == 0 && s.skip_after == 0)
+
+-- the printer's form moves, a disk record has nothing to move
+abbrev pub is_spaced_on : File → Spacing → Bool
+is_spaced_on Printer s = is_spacing s
+is_spaced_on Disk s = is_unspaced s
+
+-- one entry that is there; PAGE is a plain number of 4 digits without decimals
+abbrev pub is_field_there : Object → LineField ℕ → Bool
+is_field_there p f =
+    (has_entry (form_at p.fields) f.operand && is_one_entry (form_at p.fields) f.operand) && fits_source f.source (form_put_out p f)
+
+-- Codes and words edit numbers alone, codes those that they fit. A fill stands with a code alone, where the code takes it.
+abbrev pub edits_form : Option FieldForm → Editing ℕ → Fill → Bool
+edits_form form Plain fill = is_blank_fill fill
+edits_form form (Code code) fill = same_kind (kind_of form) kinds.Number && fits_code (length_of form) (decimals_of form) code fill
+edits_form form (Word k) fill = same_kind (kind_of form) kinds.Number && is_blank_fill fill
+
+abbrev pub is_field_edited : Object → LineField ℕ → Bool
+is_field_edited p f = edits_form (form_put_out p f) f.editing f.fill
+
+-- an edit word is a text constant of 1 to 24 characters that fits the digits
+abbrev pub is_word_for : Object → ℕ → Editing ℕ → Bool
+is_word_for p digits Plain = true
+is_word_for p digits (Code code) = true
+is_word_for p digits (Word k) = is_text_constant (form_at p.fields k) && fits_word digits (word_at p k)
+
+abbrev pub is_field_worded : Object → LineField ℕ → Bool
+is_field_worded p f = is_word_for p (length_of (form_put_out p f)) f.editing
+
+-- it is edited as numbers are, by a word that it can't have
+abbrev pub lacks_word : Object → LineField ℕ → Bool
+lacks_word p f = is_field_edited p f && not (is_field_worded p f)
+
+-- there is such a field and it is edited well, so it has a width
+abbrev pub has_width : Object → LineField ℕ → Bool
+has_width p f = is_field_there p f && (is_field_edited p f && is_field_worded p f)
+
+-- it has a width, and begins before the line or ends behind it
+abbrev pub lacks_room : Object → ℕ → LineField ℕ → Bool
+lacks_room p len f = has_width p f && not (has_room (form_at p.fields) (word_at p) len f)
+
+abbrev pub is_field_asked : LineField ℕ → Bool
+is_field_asked f = all_asked f.conditions
+
+-- ---- whether a line breaks a rule
+
+unfoldable pub line_breaks : LineRule → Object → LineRow → Bool
+line_breaks V2 p l = file_length p l.file == 0
+line_breaks V8 p l = not (is_spaced_on l.file l.spacing)
+line_breaks V9 p l = not (list_all (list_all may_be_asked) l.alternatives)
+line_breaks V10 p l = not (list_all (is_field_there p) l.fields)
+line_breaks V11 p l = not (list_all (is_field_edited p) l.fields)
+line_breaks V12 p l = list_any (lacks_word p) l.fields
+line_breaks V13 p l = list_any (lacks_room p (file_length p l.file)) l.fields
+line_breaks V14 p l = not (list_all (blanks_writable (form_at p.fields) (word_at p)) l.fields)
+line_breaks V15 p l = not (list_all is_field_asked l.fields)

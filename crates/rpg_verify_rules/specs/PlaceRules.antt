@@ -1,0 +1,138 @@
+-- The rules of instructions, and of the subroutines that they stand in.
+use Rattle.std.specs.Prelude.{ℕ, ◌+◌, ◌-◌, Bool, true, false, not, ◌&&◌, ◌||◌, ◌==◌, nat_lt, List, [], ◌∷◌, ◌++◌, map, length, Option, None, Some, is_some, slice_get}
+use Rattle.std.specs.List.{list_all, list_any}
+use Rattle.rpg_effect.specs.Control.{has_conditions}
+use Rattle.rpg_effect.specs.Forms.{form_at}
+use Rattle.rpg_effect.specs.Instructions.{columns_of}
+use Rattle.rpg_effect.specs.Rows.{all_of, all_used, has_kind, holds_positions, is_current_table, is_good_operand, is_two_sided, is_writable_use}
+use Rattle.rpg_effect.specs.declared.form.FieldForm.{FieldForm}
+use Rattle.rpg_effect.specs.declared.operation.Instruction.{Instruction}
+use Rattle.rpg_effect.specs.declared.operation.Instruction.TheVariants.{Branch, Call, Return}
+use Rattle.rpg_effect.specs.declared.operation.Operand.{Operand}
+use Rattle.rpg_effect.specs.declared.row.Marks.{Marks}
+use Rattle.rpg_effect.specs.declared.row.Marks.TheVariants.{Unmarked, Shown, Wanted, Sought}
+use Rattle.rpg_effect.specs.declared.row.Row.{Row}
+use Rattle.rpg_effect.specs.declared.row.Use.{Use}
+use Rattle.rpg_object_program.specs.Object.{Object, SubroutineRow}
+use Rattle.rpg_object_program.specs.Sections.{is_place, level_of, section_instructions}
+use Rattle.rpg_object_program.specs.declared.section.Section.{Section}
+use Rattle.rpg_object_program.specs.declared.section.Section.TheVariants.{Detail, Total, Subroutine}
+use Rattle.rpg_verify_rules.specs.Indicators.{all_asked, are_settable, has_shows, is_within}
+use Rattle.rpg_verify_rules.specs.declared.rule.PlaceRule.{PlaceRule}
+use Rattle.rpg_verify_rules.specs.declared.rule.PlaceRule.TheVariants.{V16, V17, V18, V19, V20, V21, V22}
+
+-- what stands in the columns of an instruction
+abbrev pub columns : Object → Instruction ℕ → Row (Operand ℕ)
+columns p i = columns_of (form_at p.fields) i
+
+-- ---- indicators
+
+-- indicators that may be set, at least one where one is wanted
+abbrev pub are_marked : Marks → Bool
+are_marked Unmarked = true
+are_marked (Shown s) = are_settable s
+are_marked (Wanted s) = are_settable s && has_shows s
+are_marked (Sought s) = are_settable s && has_shows s
+
+-- a search for the next one above or below
+abbrev pub is_ordered : Marks → Bool
+is_ordered (Sought s) = is_some s.plus || is_some s.minus
+is_ordered m = false
+
+abbrev pub is_form_ascending : Option FieldForm → Bool
+is_form_ascending None = false
+is_form_ascending (Some d) = d.is_ascending
+
+-- what stands in a column is in ascending sequence
+abbrev pub is_ascending : Object → Option (Use (Operand ℕ)) → Bool
+is_ascending p None = false
+is_ascending p (Some u) = is_form_ascending (form_at p.fields u.operand.field)
+
+-- a search is for equal ones, or in one direction through what is in ascending sequence
+abbrev pub is_searched_well : Object → Row (Operand ℕ) → Bool
+is_searched_well p r = not (is_two_sided r.marks) && (not (is_ordered r.marks) || is_ascending p r.factor2)
+
+-- conditions that may be asked, for SKIP at least one
+abbrev pub are_asked : Instruction ℕ → Bool
+are_asked (Branch is_taken_where cs target) = all_asked cs && (is_taken_where || has_conditions cs)
+are_asked i = true
+
+-- ---- where control goes
+
+-- a branch stays in its section
+abbrev pub stays_inside : Object → Section → Instruction ℕ → Bool
+stays_inside p s (Branch is_taken_where cs target) = is_place p (record { section = s; number = target })
+stays_inside p s i = true
+
+-- a call leads to a subroutine of a higher level; where there is none of that number the level is 0, which no section is below
+abbrev pub calls_higher : Object → Section → Instruction ℕ → Bool
+calls_higher p s (Call n) = nat_lt (level_of p s) (level_of p (Subroutine n))
+calls_higher p s i = true
+
+-- ---- whether an instruction of a section breaks a rule
+
+unfoldable pub place_breaks : PlaceRule → Object → Section → Instruction ℕ → Bool
+place_breaks V16 p s i = not (all_of (is_good_operand (form_at p.fields)) (columns p i))
+place_breaks V17 p s i = not (all_of (has_kind (form_at p.fields)) (columns p i))
+place_breaks V18 p s i = not (all_used (is_writable_use (form_at p.fields)) (columns p i).result)
+place_breaks V19 p s i = not (are_asked i && (are_marked (columns p i).marks && is_searched_well p (columns p i)))
+place_breaks V20 p s i = not (all_of (is_current_table (form_at p.fields)) (columns p i) && holds_positions (form_at p.fields) (columns p i))
+place_breaks V21 p s i = not (stays_inside p s i)
+place_breaks V22 p s i = not (calls_higher p s i)
+
+-- of each place of a section
+abbrev pub section_judged : PlaceRule → Object → Section → List Bool
+section_judged r p s = map (place_breaks r p s) (section_instructions p s)
+
+-- of each place of the subroutines from a number on
+abbrev pub subroutines_judged : PlaceRule → Object → ℕ → List SubroutineRow → List Bool
+subroutines_judged r p n [] = []
+subroutines_judged r p n (s ∷ ss) = map (place_breaks r p (Subroutine n)) s.instructions ++ subroutines_judged r p (n + 1) ss
+
+-- of each place behind detail calculations
+abbrev pub judged_behind_detail : PlaceRule → Object → List Bool
+judged_behind_detail r p = section_judged r p Total ++ subroutines_judged r p 0 p.subroutines
+
+-- of each place of the program, in order
+abbrev pub places_judged : PlaceRule → Object → List Bool
+places_judged r p = section_judged r p Detail ++ judged_behind_detail r p
+
+-- ---- subroutines
+
+-- a return of any subroutine
+abbrev pub is_return : Instruction ℕ → Bool
+is_return (Return n) = true
+is_return i = false
+
+-- no return, or that subroutine's own
+abbrev pub is_own : ℕ → Instruction ℕ → Bool
+is_own number (Return n) = n == number
+is_own number i = true
+
+-- the last one is a return
+abbrev pub is_return_if_any : Option (Instruction ℕ) → Bool
+is_return_if_any None = false
+is_return_if_any (Some i) = is_return i
+
+abbrev pub ends_in_return : List (Instruction ℕ) → Bool
+ends_in_return code = is_return_if_any (slice_get code (length code - 1))
+
+-- all its returns are its own, and the last instruction is one
+abbrev pub is_body : ℕ → List (Instruction ℕ) → Bool
+is_body number code = list_all (is_own number) code && ends_in_return code
+
+-- of each subroutine from a number on, whether it breaks this
+abbrev pub bodies_judged : ℕ → List SubroutineRow → List Bool
+bodies_judged n [] = []
+bodies_judged n (s ∷ ss) = not (is_body n s.instructions) ∷ bodies_judged (n + 1) ss
+
+-- a return in detail or total calculations counts for row 0
+abbrev pub with_first : Bool → List Bool → List Bool
+with_first b [] = b ∷ []
+with_first b (x ∷ xs) = (b || x) ∷ xs
+
+abbrev pub has_stray_return : Object → Bool
+has_stray_return p = list_any is_return p.detail || list_any is_return p.total
+
+abbrev pub is_off_level : SubroutineRow → Bool
+is_off_level s = not (is_within 1 100 s.level)

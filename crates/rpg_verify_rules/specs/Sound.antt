@@ -1,0 +1,60 @@
+-- What the rules give to whoever runs an accepted program.
+use Rattle.std.specs.Prelude.{◌≡◌, ℕ, ◌<◌, ◌≤◌, true, All, None, Some}
+use Rattle.rpg_effect.specs.Forms.{form_at}
+use Rattle.rpg_effect.specs.Input.{TypeRow, input_fault}
+use Rattle.rpg_effect.specs.LineFaults.{AreRight, line_fault}
+use Rattle.rpg_effect.specs.Right.{IsRightRow}
+use Rattle.rpg_effect.specs.declared.operation.Instruction.{Instruction}
+use Rattle.rpg_effect.specs.declared.operation.Instruction.TheVariants.{Act, Except, Branch, Call, Return}
+use Rattle.rpg_object_program.specs.Constants.{word_at}
+use Rattle.rpg_object_program.specs.Object.{LineRow, Object, file_length}
+use Rattle.rpg_object_program.specs.Sections.{first_place, has_subroutine, instruction_at, is_place, level_of, section_instructions}
+use Rattle.rpg_object_program.specs.declared.section.Place.{Place}
+use Rattle.rpg_object_program.specs.declared.section.Section.{Section}
+use Rattle.rpg_object_program.specs.declared.section.Section.TheVariants.{Subroutine}
+use Rattle.rpg_verify_rules.specs.Indicators.{if_any, is_of_type}
+use Rattle.rpg_verify_rules.specs.LineRules.{is_spaced_on}
+use Rattle.rpg_verify_rules.specs.PlaceRules.{are_asked, are_marked, columns, ends_in_return}
+use Rattle.rpg_verify_rules.specs.TypeRules.{all_measured, is_code_in, is_control_in, is_input_shown, measures}
+
+-- an instruction stands at a place of a section
+abbrev pub IsAt : Object → Place → Instruction ℕ → Type 0
+IsAt p x i = (first_place p x.section ≤ x.number) × (instruction_at p x ≡ Some i)
+
+-- a branch leads to a place of its section, a call to a subroutine that is there and of a higher level, and a return is the section's own
+abbrev pub LeadsWell : Object → Section → Instruction ℕ → Type 0
+LeadsWell p s (Act a) = Unit {0}
+LeadsWell p s Except = Unit {0}
+LeadsWell p s (Branch is_taken_where cs target) = is_place p (record { section = s; number = target }) ≡ true
+LeadsWell p s (Call n) = (has_subroutine p n ≡ true) × (level_of p s < level_of p (Subroutine n))
+LeadsWell p s (Return n) = (has_subroutine p n ≡ true) × (s ≡ Subroutine n)
+
+-- an instruction of a section: nothing is wrong with its operands, whatever the values are, control goes where it may, and it sets and
+-- asks indicators that may be set and asked
+pub record IsSoundInstruction (p : Object) (s : Section) (i : Instruction ℕ) : Type 0 where
+  pub operands : IsRightRow (form_at p.fields) (columns p i)
+  pub control : LeadsWell p s i
+  pub marks : are_marked (columns p i).marks ≡ true
+  pub conditions : are_asked i ≡ true
+
+-- a line: its file is there, its movements are in range, none on the disk file, and nothing is wrong with its fields
+pub record IsSoundLine (p : Object) (l : LineRow) : Type 0 where
+  pub line : line_fault (file_length p l.file) l.spacing ≡ None
+  pub spacing : is_spaced_on l.file l.spacing ≡ true
+  pub fields : AreRight (form_at p.fields) (word_at p) (file_length p l.file) l.fields
+
+-- a record type: its columns are the record's, its levels are as long in each type that has them, and nothing is wrong with its
+-- input fields
+pub record IsSoundType (p : Object) (t : TypeRow ℕ) : Type 0 where
+  pub indicator : if_any is_of_type t.indicator ≡ true
+  pub codes : All (λ c. is_code_in p.record_length c ≡ true) t.codes
+  pub levels : All (λ c. is_control_in p.record_length c ≡ true) t.levels
+  pub joined : all_measured 1 (measures p.types) t.levels ≡ true
+  pub inputs : All (λ f. input_fault (form_at p.fields) p.record_length f ≡ None) t.inputs
+  pub shown : All (λ f. is_input_shown p f ≡ true) t.inputs
+
+pub record IsSound (p : Object) : Type 0 where
+  pub each : (x : Place) (i : Instruction ℕ) → IsAt p x i → IsSoundInstruction p x.section i
+  pub ended : (n : ℕ) → has_subroutine p n ≡ true → ends_in_return (section_instructions p (Subroutine n)) ≡ true
+  pub lines : All (IsSoundLine p) p.lines
+  pub types : All (IsSoundType p) p.types

@@ -1,0 +1,69 @@
+-- The rules of record types.
+use Rattle.std.specs.Prelude.{ℕ, ◌+◌, ◌-◌, Bool, true, not, ◌&&◌, ◌||◌, ◌==◌, nat_le, List, [], ◌∷◌, if◌then◌else◌}
+use Rattle.std.specs.List.{list_all}
+use Rattle.rpg_effect.specs.Forms.{form_at, kind_of}
+use Rattle.rpg_effect.specs.Input.{TypeRow, fits_columns, fits_shows}
+use Rattle.rpg_effect.specs.declared.input.ControlField.{ControlField}
+use Rattle.rpg_effect.specs.declared.input.InputField.{InputField}
+use Rattle.rpg_effect.specs.declared.input.RecordCode.{RecordCode}
+use Rattle.rpg_object_program.specs.Object.{Object}
+use Rattle.rpg_verify_rules.specs.Indicators.{are_settable, if_any, is_of_type, is_within}
+use Rattle.rpg_verify_rules.specs.declared.rule.TypeRule.{TypeRule}
+use Rattle.rpg_verify_rules.specs.declared.rule.TypeRule.TheVariants.{V3, V4, V5, V6, V7}
+
+-- the position is one of the record's
+abbrev pub is_code_in : ℕ → RecordCode → Bool
+is_code_in len c = is_within 1 len c.position
+
+-- its columns are the record's, and not turned around
+abbrev pub is_control_in : ℕ → ControlField → Bool
+is_control_in len c = nat_le 1 c.from && (nat_le c.from c.to && nat_le c.to len)
+
+-- ---- the control fields of a level, joined
+
+-- the columns of a control field of that level; none of another
+abbrev pub columns_at : ℕ → ControlField → ℕ
+columns_at level c = if c.level == level then c.to + 1 - c.from else 0
+
+-- the columns of all of that level; 0 where it has none
+abbrev pub joined_width : ℕ → List ControlField → ℕ
+joined_width level [] = 0
+joined_width level (c ∷ cs) = columns_at level c + joined_width level cs
+
+-- the joined length in the first type that has the level; 0 where none has
+abbrev pub measure : ℕ → List (TypeRow ℕ) → ℕ
+measure level [] = 0
+measure level (t ∷ ts) = if joined_width level t.levels == 0 then measure level ts else joined_width level t.levels
+
+-- the measures of levels 1 to 9
+abbrev pub measures : List (TypeRow ℕ) → List ℕ
+measures ts = measure 1 ts ∷ measure 2 ts ∷ measure 3 ts ∷ measure 4 ts ∷ measure 5 ts ∷ measure 6 ts ∷ measure 7 ts ∷ measure 8 ts ∷ measure 9 ts ∷ []
+
+-- no such level, or as long as the measure, 256 at most
+abbrev pub is_measured : ℕ → ℕ → Bool
+is_measured measure n = n == 0 || (nat_le n 256 && n == measure)
+
+-- all levels from one on are measured
+abbrev pub all_measured : ℕ → List ℕ → List ControlField → Bool
+all_measured level [] cs = true
+all_measured level (m ∷ []) cs = is_measured m (joined_width level cs)
+all_measured level (m ∷ n ∷ ms) cs = is_measured m (joined_width level cs) && all_measured (level + 1) (n ∷ ms) cs
+
+-- ---- input fields
+
+-- columns of the record, as many as a plain field that is there is long
+abbrev pub is_input_in : Object → InputField ℕ → Bool
+is_input_in p f = fits_columns p.record_length f (form_at p.fields f.field)
+
+-- indicators that may be set, of a text the one of blanks alone
+abbrev pub is_input_shown : Object → InputField ℕ → Bool
+is_input_shown p f = are_settable f.shows && fits_shows (kind_of (form_at p.fields f.field)) f.shows
+
+-- ---- whether a type breaks a rule
+
+unfoldable pub type_breaks : TypeRule → Object → TypeRow ℕ → Bool
+type_breaks V3 p t = not (list_all (is_code_in p.record_length) t.codes)
+type_breaks V4 p t = not (if_any is_of_type t.indicator)
+type_breaks V5 p t = not (list_all (is_control_in p.record_length) t.levels && all_measured 1 (measures p.types) t.levels)
+type_breaks V6 p t = not (list_all (is_input_in p) t.inputs)
+type_breaks V7 p t = not (list_all (is_input_shown p) t.inputs)

@@ -1,0 +1,69 @@
+//! Which indicators may stand where.
+
+ghost use Rattle.std.specs.Prelude.{◌≡◌};
+ghost use Rattle.rpg_verify_rules.specs.Indicators as marks;
+
+use rpg_effect::condition::{Condition, Conditions};
+use rpg_effect::operation::Shows;
+
+fn is_settable(n: u8) -> bool
+    ensures { result ≡ marks.is_settable n }
+{
+    (1 <= n && n <= 99) || ((101 <= n && n <= 110) || (112 <= n && n <= 128))
+}
+
+fn is_settable_if_any(indicator: Option<u8>) -> bool
+    ensures { result ≡ marks.if_any marks.is_settable indicator }
+{
+    match indicator {
+        None => true,
+        Some(n) => is_settable(n),
+    }
+}
+
+/// All but L0, 1P and MR.
+pub(crate) fn are_settable(shows: Shows) -> bool
+    ensures { result ≡ marks.are_settable shows }
+{
+    is_settable_if_any(shows.plus)
+        && (is_settable_if_any(shows.minus) && is_settable_if_any(shows.zero))
+}
+
+/// What a record type may turn on.
+pub(crate) fn is_of_type(indicator: Option<u8>) -> bool
+    ensures { result ≡ marks.if_any marks.is_of_type indicator }
+{
+    match indicator {
+        None => true,
+        Some(n) => (1 <= n && n <= 99) || ((101 <= n && n <= 110) || (120 <= n && n <= 128)),
+    }
+}
+
+pub(crate) fn has_shows(shows: Shows) -> bool
+    ensures { result ≡ marks.has_shows shows }
+{
+    shows.plus.is_some() || (shows.minus.is_some() || shows.zero.is_some())
+}
+
+/// MR is asked nowhere.
+pub(crate) fn may_be_asked(condition: &Condition) -> bool
+    ensures { result ≡ marks.may_be_asked condition.now }
+{
+    condition.indicator <= 128
+}
+
+fn is_asked_if_any(condition: Option<Condition>) -> bool
+    ensures { result ≡ marks.if_any marks.may_be_asked condition }
+{
+    match condition {
+        None => true,
+        Some(condition) => may_be_asked(&condition),
+    }
+}
+
+pub(crate) fn all_asked(conditions: Conditions) -> bool
+    ensures { result ≡ marks.all_asked conditions }
+{
+    is_asked_if_any(conditions.first)
+        && (is_asked_if_any(conditions.second) && is_asked_if_any(conditions.third))
+}

@@ -1,0 +1,315 @@
+//! V2 and V8 to V15: output lines.
+
+ghost use Rattle.std.specs.Prelude.{◌≡◌, true, map, Some};
+ghost use Rattle.std.specs.List.{list_all, list_any, position};
+ghost use Rattle.std.specs.Global.{Vec};
+ghost use Rattle.rpg_edit_marks.specs.How.{width_of};
+ghost use Rattle.rpg_effect.specs.Editing as edits;
+ghost use Rattle.rpg_effect.specs.Forms as forms;
+ghost use Rattle.rpg_effect.specs.LineFaults as faults;
+ghost use Rattle.rpg_object_program.specs.Constants.{word_at};
+ghost use Rattle.rpg_object_program.specs.Kept.{IsFieldRow, IsProgram};
+ghost use Rattle.rpg_object_program.specs.Object as objects;
+ghost use Rattle.rpg_object_program.specs.Object.{seen, line_row};
+ghost use Rattle.rpg_verify_rules.specs.Indicators as marks;
+ghost use Rattle.rpg_verify_rules.specs.Least.{first_true};
+ghost use Rattle.rpg_verify_rules.specs.LineRules as words;
+ghost use Rattle.rpg_verify_rules.specs.Rules.{broken};
+ghost use Rattle.rpg_verify_rules.specs.declared.rule.Rule.TheVariants as rule_names;
+
+use crate::indicators::{all_asked, may_be_asked};
+use crate::rule::LineRule;
+use crate::words::edit_word;
+use rpg_edit_marks::{EditCode, Fill};
+use rpg_edit_widths::{How, width};
+use rpg_effect::condition::Condition;
+use rpg_effect::form::{FieldForm, Kind};
+use rpg_effect::line::{Editing, File, LineField, Source, Spacing};
+use rpg_object_program::columns::{has_entry, is_one_entry};
+use rpg_object_program::forms::{
+    decimals_of, form_at, is_index_form, kind_of, length_of, may_write, same_kind,
+};
+use rpg_object_program::row::{Line, Rows};
+
+/// The first line that breaks a rule.
+#[tactic(auto, using(crate::proofs::Lists::position_seen), unfolding(crate::specs::Rules::broken))]
+pub(crate) fn first_line(rule: LineRule, rows: &Rows) -> Option<usize>
+    requires { IsProgram (seen rows.now) }
+    ensures { result ≡ first_true 0 (broken (seen rows.now) (rule_names.Line rule)) }
+{
+    first_by(rule, rows)
+}
+
+fn first_by(rule: LineRule, rows: &Rows) -> Option<usize>
+    requires { IsProgram (seen rows.now) }
+    ensures { result ≡ position (λ l. words.line_breaks rule (seen rows.now) (line_row l)) rows.now.lines.items }
+{
+    rows.lines.iter().position(|l| breaks(rule, rows, l))
+}
+
+#[tactic(auto, unfolding(crate::specs::LineRules::line_breaks))]
+fn breaks(rule: LineRule, rows: &Rows, line: &Line) -> bool
+    requires { IsProgram (seen rows.now) }
+    ensures { result ≡ words.line_breaks rule (seen rows.now) (line_row line.now) }
+{
+    match rule {
+        LineRule::V2 => file_length(rows, line.file) == 0,
+        LineRule::V8 => !is_spaced_on(line.file, line.spacing),
+        LineRule::V9 => !are_alternatives_asked(&line.alternatives),
+        LineRule::V10 => !are_fields_there(rows, &line.fields),
+        LineRule::V11 => !are_fields_edited(rows, &line.fields),
+        LineRule::V12 => lack_words(rows, &line.fields),
+        LineRule::V13 => lack_room(rows, file_length(rows, line.file), &line.fields),
+        LineRule::V14 => !are_blanked_writable(rows, &line.fields),
+        LineRule::V15 => !are_fields_asked(&line.fields),
+    }
+}
+
+fn file_length(rows: &Rows, file: File) -> u16
+    ensures { result ≡ objects.file_length (seen rows.now) file }
+{
+    match file {
+        File::Printer => rows.printer_length,
+        File::Disk => rows.disk_length,
+    }
+}
+
+fn is_spaced_on(file: File, s: Spacing) -> bool
+    ensures { result ≡ words.is_spaced_on file s }
+{
+    match file {
+        File::Printer => {
+            (s.space_before <= 3 && s.space_after <= 3)
+                && (s.skip_before <= 66 && s.skip_after <= 66)
+        }
+        File::Disk => {
+            (s.space_before == 0 && s.space_after == 0) && (s.skip_before == 0 && s.skip_after == 0)
+        }
+    }
+}
+
+// ---- alternatives
+
+fn are_all_asked(conditions: &[Condition]) -> bool
+    ensures { result ≡ list_all marks.may_be_asked conditions.now }
+{
+    conditions.iter().all(|c| may_be_asked(c))
+}
+
+fn are_each_asked(alternatives: &[Vec<Condition>]) -> bool
+    ensures { result ≡ list_all (λ (a : Vec Condition). list_all marks.may_be_asked a.items) alternatives.now }
+{
+    alternatives.iter().all(|a| are_all_asked(a))
+}
+
+fn are_alternatives_asked(alternatives: &[Vec<Condition>]) -> bool
+    ensures { result ≡ list_all (list_all marks.may_be_asked) (map (λ a. a.items) alternatives.now) }
+{
+    are_each_asked(alternatives)
+}
+
+// ---- whether fields are there, and may be blanked
+
+fn is_source_of(source: Source, form: Option<FieldForm>) -> bool
+    ensures { result ≡ faults.fits_source source form }
+{
+    match source {
+        Source::Value => true,
+        Source::Page => is_index_form(form) && length_of(form) == 4,
+    }
+}
+
+fn is_field_there(rows: &Rows, field: &LineField<u16>) -> bool
+    ensures { result ≡ words.is_field_there (seen rows.now) field.now }
+{
+    (has_entry(rows, field.operand) && is_one_entry(rows, field.operand))
+        && is_source_of(field.source, form_at(rows, field.operand.field))
+}
+
+fn are_fields_there(rows: &Rows, fields: &[LineField<u16>]) -> bool
+    ensures { result ≡ list_all (words.is_field_there (seen rows.now)) fields.now }
+{
+    fields.iter().all(|f| is_field_there(rows, f))
+}
+
+fn is_blanked_writable(rows: &Rows, field: &LineField<u16>) -> bool
+    ensures { result ≡ faults.blanks_writable (forms.form_at rows.now.fields.items) (word_at (seen rows.now)) field.now }
+{
+    !field.is_blanked || may_write(form_at(rows, field.operand.field))
+}
+
+fn are_blanked_writable(rows: &Rows, fields: &[LineField<u16>]) -> bool
+    ensures { result ≡ list_all (faults.blanks_writable (forms.form_at rows.now.fields.items) (word_at (seen rows.now))) fields.now }
+{
+    fields.iter().all(|f| is_blanked_writable(rows, f))
+}
+
+fn are_fields_asked(fields: &[LineField<u16>]) -> bool
+    ensures { result ≡ list_all words.is_field_asked fields.now }
+{
+    fields.iter().all(|f| all_asked(f.conditions))
+}
+
+// ---- editing
+
+fn is_blank_fill(fill: Fill) -> bool
+    ensures { result ≡ faults.is_blank_fill fill }
+{
+    match fill {
+        Fill::Blank => true,
+        Fill::Star | Fill::Dollar => false,
+    }
+}
+
+fn fits_code(length: u16, decimals: u8, code: EditCode, fill: Fill) -> bool
+    ensures { result ≡ faults.fits_code length decimals code fill }
+{
+    match code {
+        EditCode::Combination { .. } => true,
+        EditCode::X | EditCode::Z => is_blank_fill(fill),
+        EditCode::Y => length == 6 && (decimals == 0 && is_blank_fill(fill)),
+    }
+}
+
+fn edits_form(form: Option<FieldForm>, editing: Editing<u16>, fill: Fill) -> bool
+    ensures { result ≡ words.edits_form form editing fill }
+{
+    match editing {
+        Editing::Plain => is_blank_fill(fill),
+        Editing::Code(code) => {
+            same_kind(kind_of(form), Kind::Number)
+                && fits_code(length_of(form), decimals_of(form), code, fill)
+        }
+        Editing::Word(_) => same_kind(kind_of(form), Kind::Number) && is_blank_fill(fill),
+    }
+}
+
+fn is_field_edited(rows: &Rows, field: &LineField<u16>) -> bool
+    ensures { result ≡ words.is_field_edited (seen rows.now) field.now }
+{
+    edits_form(
+        form_at(rows, field.operand.field),
+        field.editing,
+        field.fill,
+    )
+}
+
+fn are_fields_edited(rows: &Rows, fields: &[LineField<u16>]) -> bool
+    ensures { result ≡ list_all (words.is_field_edited (seen rows.now)) fields.now }
+{
+    fields.iter().all(|f| is_field_edited(rows, f))
+}
+
+// ---- edit words
+
+/// The digits of a number, 0 where there is no field.
+fn digits_of(rows: &Rows, field: u16) -> u8
+    requires program { IsProgram (seen rows.now) }
+    requires number { forms.same_kind (forms.kind_of (forms.form_at rows.now.fields.items field)) Kind.Number ≡ true }
+    ensures { result ≡ forms.length_of (forms.form_at rows.now.fields.items field) }
+{
+    length_of(form_at(rows, field)) as u8
+}
+
+fn is_field_worded(rows: &Rows, field: &LineField<u16>) -> bool
+    requires program { IsProgram (seen rows.now) }
+    requires edited { words.is_field_edited (seen rows.now) field.now ≡ true }
+    ensures { result ≡ words.is_field_worded (seen rows.now) field.now }
+{
+    match field.editing {
+        Editing::Plain => true,
+        Editing::Code(_) => true,
+        Editing::Word(word) => {
+            edit_word(rows, word, digits_of(rows, field.operand.field)).is_some()
+        }
+    }
+}
+
+fn lacks_word(rows: &Rows, field: &LineField<u16>) -> bool
+    requires { IsProgram (seen rows.now) }
+    ensures { result ≡ words.lacks_word (seen rows.now) field.now }
+{
+    is_field_edited(rows, field) && !is_field_worded(rows, field)
+}
+
+fn lack_words(rows: &Rows, fields: &[LineField<u16>]) -> bool
+    requires { IsProgram (seen rows.now) }
+    ensures { result ≡ list_any (words.lacks_word (seen rows.now)) fields.now }
+{
+    fields.iter().any(|f| lacks_word(rows, f))
+}
+
+// ---- room
+
+/// How a field of `digits` digits is edited.
+fn how_of(rows: &Rows, digits: u8, editing: Editing<u16>, fill: Fill) -> How
+    requires { words.is_word_for (seen rows.now) digits editing ≡ true }
+    ensures { result ≡ edits.how_of (word_at (seen rows.now)) editing fill }
+{
+    match editing {
+        Editing::Plain => How::Plain,
+        Editing::Code(code) => How::Code { code, fill },
+        Editing::Word(word) => match edit_word(rows, word, digits) {
+            Some(word) => How::Word(word),
+            None => unreachable!(),
+        },
+    }
+}
+
+/// The width of a number in a line.
+fn number_width(rows: &Rows, form: FieldForm, editing: Editing<u16>, fill: Fill) -> usize
+    requires row { IsFieldRow form }
+    requires number { form.kind ≡ Kind.Number }
+    requires word { words.is_word_for (seen rows.now) form.length editing ≡ true }
+    ensures { result ≡ width_of form.length form.decimals (edits.how_of (word_at (seen rows.now)) editing fill) }
+{
+    let digits = form.length as u8;
+    width(digits, form.decimals, &how_of(rows, digits, editing, fill))
+}
+
+fn field_width(rows: &Rows, form: FieldForm, editing: Editing<u16>, fill: Fill) -> usize
+    requires row { IsFieldRow form }
+    requires word { words.is_word_for (seen rows.now) form.length editing ≡ true }
+    ensures { result ≡ edits.width_as form.kind (Some form) (edits.how_of (word_at (seen rows.now)) editing fill) }
+{
+    match form.kind {
+        Kind::Number => number_width(rows, form, editing, fill),
+        Kind::Text => usize::from(form.length),
+    }
+}
+
+/// Whether a field of a line of that length begins and ends inside it.
+fn has_room(rows: &Rows, length: u16, field: &LineField<u16>) -> bool
+    requires program { IsProgram (seen rows.now) }
+    requires width { words.has_width (seen rows.now) field.now ≡ true }
+    ensures { result ≡ faults.has_room (forms.form_at rows.now.fields.items) (word_at (seen rows.now)) length field.now }
+{
+    match form_at(rows, field.operand.field) {
+        None => unreachable!(),
+        Some(form) => {
+            field_width(rows, form, field.editing, field.fill) <= usize::from(field.end)
+                && field.end <= length
+        }
+    }
+}
+
+fn has_width(rows: &Rows, field: &LineField<u16>) -> bool
+    requires { IsProgram (seen rows.now) }
+    ensures { result ≡ words.has_width (seen rows.now) field.now }
+{
+    is_field_there(rows, field) && (is_field_edited(rows, field) && is_field_worded(rows, field))
+}
+
+fn lacks_room(rows: &Rows, length: u16, field: &LineField<u16>) -> bool
+    requires { IsProgram (seen rows.now) }
+    ensures { result ≡ words.lacks_room (seen rows.now) length field.now }
+{
+    has_width(rows, field) && !has_room(rows, length, field)
+}
+
+fn lack_room(rows: &Rows, length: u16, fields: &[LineField<u16>]) -> bool
+    requires { IsProgram (seen rows.now) }
+    ensures { result ≡ list_any (words.lacks_room (seen rows.now) length) fields.now }
+{
+    fields.iter().any(|f| lacks_room(rows, length, f))
+}

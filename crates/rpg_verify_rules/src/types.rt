@@ -1,0 +1,189 @@
+//! V3 to V7: record types.
+
+ghost use Rattle.std.specs.Prelude.{◌≡◌, ◌≤◌, map};
+ghost use Rattle.std.specs.List.{list_all, position};
+ghost use Rattle.rpg_effect.specs.Input as inputs;
+ghost use Rattle.rpg_object_program.specs.Object.{seen, type_row};
+ghost use Rattle.rpg_verify_rules.specs.Least.{first_true};
+ghost use Rattle.rpg_verify_rules.specs.Rules.{broken};
+ghost use Rattle.rpg_verify_rules.specs.TypeRules as words;
+ghost use Rattle.rpg_verify_rules.specs.declared.rule.Rule.TheVariants as rule_names;
+
+use crate::indicators::{are_settable, is_of_type};
+use crate::rule::TypeRule;
+use rpg_effect::form::Kind;
+use rpg_effect::input::{ControlField, InputField, RecordCode};
+use rpg_effect::operation::Shows;
+use rpg_object_program::forms::{form_at, is_plain, kind_of};
+use rpg_object_program::row::{RecordType, Rows};
+
+/// The first record type that breaks a rule.
+#[tactic(auto, using(crate::proofs::Lists::position_seen), unfolding(crate::specs::Rules::broken))]
+pub(crate) fn first_type(rule: TypeRule, rows: &Rows) -> Option<usize>
+    ensures { result ≡ first_true 0 (broken (seen rows.now) (rule_names.Type rule)) }
+{
+    let measures = measures(&rows.types);
+    first_by(rule, rows, &measures)
+}
+
+fn first_by(rule: TypeRule, rows: &Rows, measures: &[u128; 9]) -> Option<usize>
+    requires measures { measures.now ≡ words.measures (map type_row rows.now.types.items) }
+    ensures { result ≡ position (λ t. words.type_breaks rule (seen rows.now) (type_row t)) rows.now.types.items }
+{
+    rows.types
+        .iter()
+        .position(|t| breaks(rule, rows, measures, t))
+}
+
+#[tactic(auto, unfolding(crate::specs::TypeRules::type_breaks))]
+fn breaks(rule: TypeRule, rows: &Rows, measures: &[u128; 9], record_type: &RecordType) -> bool
+    requires measures { measures.now ≡ words.measures (map type_row rows.now.types.items) }
+    ensures { result ≡ words.type_breaks rule (seen rows.now) (type_row record_type.now) }
+{
+    match rule {
+        TypeRule::V3 => !are_codes_in(rows.record_length, &record_type.codes),
+        TypeRule::V4 => !is_of_type(record_type.indicator),
+        TypeRule::V5 => {
+            !(are_controls_in(rows.record_length, &record_type.levels)
+                && all_measured(measures, &record_type.levels))
+        }
+        TypeRule::V6 => !are_inputs_in(rows, &record_type.inputs),
+        TypeRule::V7 => !are_inputs_shown(rows, &record_type.inputs),
+    }
+}
+
+/// The columns of a control field of a level; none where they are turned around.
+fn columns_at(level: u8, field: &ControlField) -> u128
+    ensures value { result ≡ words.columns_at level field.now }
+    ensures few { result ≤ 65536 }
+{
+    if field.level == level {
+        (u128::from(field.to) + 1).saturating_sub(u128::from(field.from))
+    } else {
+        0
+    }
+}
+
+/// The columns of all control fields of a level.
+fn joined(level: u8, fields: &[ControlField]) -> u128
+    ensures { result ≡ words.joined_width level fields.now }
+{
+    let mut sum = 0;
+    for field in fields {
+        sum += columns_at(level, field);
+    }
+    sum
+}
+
+/// The joined length of the first type that has the level.
+fn measure(level: u8, types: &[RecordType]) -> u128
+    ensures { result ≡ words.measure level (map type_row types.now) }
+{
+    for record_type in types {
+        let n = joined(level, &record_type.levels);
+        if n != 0 {
+            return n;
+        }
+    }
+    0
+}
+
+fn measures(types: &[RecordType]) -> [u128; 9]
+    ensures { result ≡ words.measures (map type_row types.now) }
+{
+    [
+        measure(1, types),
+        measure(2, types),
+        measure(3, types),
+        measure(4, types),
+        measure(5, types),
+        measure(6, types),
+        measure(7, types),
+        measure(8, types),
+        measure(9, types),
+    ]
+}
+
+fn is_measured(measure: u128, n: u128) -> bool
+    ensures { result ≡ words.is_measured measure n }
+{
+    n == 0 || (n <= 256 && n == measure)
+}
+
+#[tactic(auto, using(crate::proofs::Measures::measured_on, crate::proofs::Measures::not_measured))]
+fn all_measured(measures: &[u128; 9], fields: &[ControlField]) -> bool
+    ensures { result ≡ words.all_measured 1 measures.now fields.now }
+{
+    let mut level = 1;
+    for measure in measures {
+        if !is_measured(*measure, joined(level, fields)) {
+            return false;
+        }
+        level += 1;
+    }
+    true
+}
+
+fn is_code_in(length: u16, code: &RecordCode) -> bool
+    ensures { result ≡ words.is_code_in length code.now }
+{
+    1 <= code.position && code.position <= length
+}
+
+fn are_codes_in(length: u16, codes: &[RecordCode]) -> bool
+    ensures { result ≡ list_all (words.is_code_in length) codes.now }
+{
+    codes.iter().all(|c| is_code_in(length, c))
+}
+
+fn is_control_in(length: u16, field: &ControlField) -> bool
+    ensures { result ≡ words.is_control_in length field.now }
+{
+    1 <= field.from && (field.from <= field.to && field.to <= length)
+}
+
+fn are_controls_in(length: u16, fields: &[ControlField]) -> bool
+    ensures { result ≡ list_all (words.is_control_in length) fields.now }
+{
+    fields.iter().all(|f| is_control_in(length, f))
+}
+
+fn is_input_in(rows: &Rows, field: &InputField<u16>) -> bool
+    ensures { result ≡ words.is_input_in (seen rows.now) field.now }
+{
+    match form_at(rows, field.field) {
+        None => false,
+        Some(form) => {
+            (1 <= field.from && (field.from <= field.to && field.to <= rows.record_length))
+                && (is_plain(form.class) && field.to - field.from + 1 == form.length)
+        }
+    }
+}
+
+fn are_inputs_in(rows: &Rows, fields: &[InputField<u16>]) -> bool
+    ensures { result ≡ list_all (words.is_input_in (seen rows.now)) fields.now }
+{
+    fields.iter().all(|f| is_input_in(rows, f))
+}
+
+/// Of a text only blanks are shown.
+fn fits_shows(kind: Kind, shows: Shows) -> bool
+    ensures { result ≡ inputs.fits_shows kind shows }
+{
+    match kind {
+        Kind::Number => true,
+        Kind::Text => !(shows.plus.is_some() || shows.minus.is_some()),
+    }
+}
+
+fn is_input_shown(rows: &Rows, field: &InputField<u16>) -> bool
+    ensures { result ≡ words.is_input_shown (seen rows.now) field.now }
+{
+    are_settable(field.shows) && fits_shows(kind_of(form_at(rows, field.field)), field.shows)
+}
+
+fn are_inputs_shown(rows: &Rows, fields: &[InputField<u16>]) -> bool
+    ensures { result ≡ list_all (words.is_input_shown (seen rows.now)) fields.now }
+{
+    fields.iter().all(|f| is_input_shown(rows, f))
+}

@@ -1,7 +1,0 @@
-//! The words of the command line, read by clap.
-#![tactic(auto)]
-
-mod command;
-mod request;
-
-pub use request::{CompileWords, Refusal, Request, RunWords, VerifyWords, request_of};
