@@ -81,7 +81,7 @@ module _ (p : Object) (good : AreForms p.fields) where
       Keeps p (moved (form_at p.fields) from to side w b r)
   unfolding moved
   moved_keeps from kinds.Number side w b r h source result may =
-      or_halts p (number_after (form_at p.fields) from side w b (length_of (form_at p.fields r.field)) (number_at w r.field r.position)) 4 w (λ n. Leaves (set_value w r.field r.position (Number n))) (omega arith) (omega arith) h
+      or_halts p (number_after (form_at p.fields) from side w b (length_of (form_at p.fields r.field)) (number_at w r.field r.position)) 4 w (λ n. Leaves (set_value w r.field r.position (Number n))) (omega arith, omega arith, λ is. omega (arith, is)) h
       (λ n is. leaves p _ (number_written p w r.field r.position n h result may
       (after_fits from side w b (length_of (form_at p.fields r.field)) (number_at w r.field r.position) n (length_low p.fields r.field r.position good result) is)))
   moved_keeps from kinds.Text side w b r h source result may =
@@ -152,7 +152,7 @@ module _ (p : Object) (good : AreForms p.fields) where
         (compute_entries p.fields f half (entry a) (entry b) (entry r) s entries).1.1 (result_may p (Compute f half a b r s) right)
     act_keeps (Divide half a b r s) right entries =
         let v : World nat_cmp = record w { remainder = remainder_after (form_at p.fields) half w (entry a) (entry b) (entry r) } in
-        or_halts p (divided (exact (form_at p.fields) w (entry a)) (exact (form_at p.fields) w (entry b))) 1 w (λ n. Leaves (store v (entry r) s (stored_value half (form_at p.fields r.field) n))) (omega arith) (omega arith) h
+        or_halts p (divided (exact (form_at p.fields) w (entry a)) (exact (form_at p.fields) w (entry b))) 1 w (λ n. Leaves (store v (entry r) s (stored_value half (form_at p.fields r.field) n))) (omega arith, omega arith, λ is. omega (arith, is)) h
         (λ n is. stored v half (entry r) s n (same_fields p w v h refl) (divide_entries p.fields half (entry a) (entry b) (entry r) s entries).1.1 (result_may p (Divide half a b r s) right))
     act_keeps (Assign negated half b r s) right entries =
         stored w half (entry r) s (with_decimals (assigned negated (number_at w b.field (entry b).position)) (decimals_of (form_at p.fields b.field))) h
@@ -181,7 +181,7 @@ unfolding operate resolved
 operate_keeps p a w stored_value row h =
     let good = program_forms p stored_value in
     let right : IsRightAction p.fields a = record { storage = row.storage; kinds = row.kinds; positions = row.positions } in
-    or_halts p (resolved (form_at p.fields) w.fields a) 2 w (λ e. act (form_at p.fields) e w) (omega arith) (omega arith) h
+    or_halts p (resolved (form_at p.fields) w.fields a) 2 w (λ e. act (form_at p.fields) e w) (omega arith, omega arith, λ is. omega (arith, is)) h
     (λ e is.
     let found = cond_some (has_entries (form_at p.fields) w.fields a) (with_operands (entry_of (form_at p.fields) w.fields) a) e is in
     subst (λ (x : Action (Entry ℕ)). Keeps p (act (form_at p.fields) x w)) found.1 (act_keeps p good w h a right (entries_right p.fields w.fields a good h.fits right found.0)))

@@ -79,7 +79,7 @@ module _ (p : Object) (good : AreForms p.fields) where
       let value = value_there p.fields (length text) f k good fits refl in
       let go = λ (v : Value). Leaves (taken_in f.field f.shows v w) in
       let done : Keeps p (or_halt (value_read k part) 4 w go) =
-      or_halts p (value_read k part) 4 w go (omega arith) (omega arith) h
+      or_halts p (value_read k part) 4 w go (omega arith, omega arith, λ is. omega (arith, is)) h
       (λ v is. leaves p _ (taken_keeps k f part w v h value (input_may p.fields (length text) f right) long (columns_spelled f text spelled) is)) in
       subst (λ (o : Option Fault). Keeps p (unless_wrong o w (or_halt (value_read k part) 4 w go))) (sym right) done
 

@@ -1,5 +1,6 @@
 pub mod Accepting
 pub mod Acting
+pub mod Buying
 pub mod Coursing
 pub mod Cycling
 pub mod Dating
@@ -11,5 +12,6 @@ pub mod Selecting
 pub mod Starting
 pub mod Stepping
 pub mod Turning
+pub mod Visiting
 pub mod Working
 pub mod Writing

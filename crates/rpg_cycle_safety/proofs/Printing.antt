@@ -25,12 +25,12 @@ use Rattle.rpg_effect.specs.declared.line.Source.{Source}
 use Rattle.rpg_effect.specs.declared.line.Source.TheVariants as sources
 use Rattle.rpg_effect.specs.declared.line.Spacing.{Spacing}
 use Rattle.rpg_cycle_safety.proofs.Writing.{index_may, leaves, number_written, same_fields, text_written, then_keeps}
-use Rattle.rpg_cycle_safety.specs.Holding.{Holds, Keeps}
+use Rattle.rpg_cycle_safety.specs.Holding.{Holds, IsEffectEnd, Keeps}
 use Rattle.rpg_machine_lines.proofs.Fields.{right}
 use Rattle.rpg_machine_lines.proofs.Keeping.{page_kind, page_room, page_small}
 use Rattle.rpg_machine_lines.proofs.Operands.{and_true, entry_there, value_there}
 use Rattle.rpg_machine_lines.specs.Entries.{IsFieldEntry}
-use Rattle.rpg_machine_operations.specs.Good.{IsRightEnd, IsValue}
+use Rattle.rpg_machine_operations.specs.Good.{IsValue}
 use Rattle.rpg_object_program.specs.Constants.{word_at}
 use Rattle.rpg_object_program.specs.Kept.{IsCharacter, IsProgram}
 use Rattle.rpg_object_program.specs.Object.{LineRow, Object, file_length, program_line}
@@ -134,7 +134,7 @@ module _ (p : Object) where
 
   -- how assembling ended, and what holds of the draft, whatever else there is
   record Draws (w : World nat_cmp) (d : Drafted nat_cmp) : Type 0 where
-    pub ending : IsRightEnd d.ending
+    pub ending : IsEffectEnd d.ending
     pub fields : Holds p (record w { fields = d.draft.fields })
     pub blanks : All (MayWrite p) d.draft.to_blank
 
@@ -150,7 +150,7 @@ module _ (p : Object) where
     laid_keeps : (d : Draft nat_cmp) (f : LineField ℕ) (position : Option ℕ) → field_fault forms (word_at p) len f ≡ None → Draws w (drafted GoesOn d) →
         IfSome position (λ n. IsFieldEntry p.fields f.operand.field n) →
         Draws w (laid forms (word_at p) d f position)
-    laid_keeps d f None fault h i = record { ending = (omega arith, omega arith); fields = h.fields; blanks = h.blanks }
+    laid_keeps d f None fault h i = record { ending = (omega arith, omega arith, λ is. omega (arith, is)); fields = h.fields; blanks = h.blanks }
     laid_keeps d f (Some n) fault h i = record {
       ending = tt;
       fields = counts f.source (record w { fields = d.fields }) f.operand.field n h.fields i (right forms (word_at p) len f fault).source;
@@ -170,7 +170,7 @@ module _ (p : Object) where
         where_held true h k = h
         where_held false h k = k
 
-    goes_on : (ending : End) (d : Drafted nat_cmp) (go : Draft nat_cmp → Drafted nat_cmp) → IsRightEnd ending → Draws w d →
+    goes_on : (ending : End) (d : Drafted nat_cmp) (go : Draft nat_cmp → Drafted nat_cmp) → IsEffectEnd ending → Draws w d →
         (Draws w (drafted GoesOn d.draft) → Draws w (go d.draft)) → Draws w (go_on_with ending d go)
     goes_on GoesOn d go right h next = next (record { ending = tt; fields = h.fields; blanks = h.blanks })
     goes_on (Halt k) d go right h next = h
@@ -194,7 +194,7 @@ module _ (p : Object) where
       then_keeps p (printed_line (spaced_before overflow s w) text) (λ v. Leaves (spaced_after overflow s v)) (record { ending = tt; holds = same_fields p w (spaced_before overflow s w) h (before overflow s w) })
       (λ v k. leaves p _ (same_fields p v (spaced_after overflow s v) k (after overflow s v)))
 
-  out_keeps : (overflow : Option ℕ) (l : Line ℕ) (w : World nat_cmp) (ending : End) (d : Draft nat_cmp) → IsRightEnd ending →
+  out_keeps : (overflow : Option ℕ) (l : Line ℕ) (w : World nat_cmp) (ending : End) (d : Draft nat_cmp) → IsEffectEnd ending →
       Draws w (drafted GoesOn d) → Keeps p (put_out (form_at p.fields) (word_at p) overflow l w ending d)
   out_keeps overflow l w GoesOn d right h =
       then_keeps p (put_on overflow l.file l.spacing d.text (record w { fields = d.fields })) (λ v. Leaves (record v { fields = blanked_all d.to_blank v.fields }))

@@ -98,7 +98,7 @@ module _ (p : Object) (orderly : IsOrderly p) where
     output = o;
     runs = run_once n c false (Stop (Halt k) d o) e s;
     named = good.0;
-    values = good.1;
+    values = good.1.values;
     no_cell = λ is. cc;
     spent = let same = (halted p c d k o s).allowance in omega (arith, same);
     bound = halts_low p c d k o safe s (cost p) (most p) orderly.costs;
@@ -142,7 +142,9 @@ module _ (p : Object) (orderly : IsOrderly p) where
 
   put_well : (o : Output) (x : Outcome) → StandsWell p x → StandsWell p (put_before o x)
   put_well o (Next d more) h = h
-  put_well o (Stop e d more) h = h
+  put_well o (Stop GoesOn d more) h = h
+  put_well o (Stop (Halt k) d more) h = h
+  put_well o (Stop (Wrong f) d more) h = absurd h
 
   onward_well : (x : Outcome) (go : Config → Outcome) → StepsWell p x → ((d : Config) → IsSteady p d → StandsWell p (go d)) → StandsWell p (onward x go)
   onward_well (Next d o) go h next = put_well o (go d) (next d h)
@@ -152,7 +154,7 @@ module _ (p : Object) (orderly : IsOrderly p) where
 
   one_more : (n : ℕ) (c : Config) (b : Bool) → ((d : Config) → IsSteady p d → StandsWell p (run p n d)) → is_end p c ≡ b → IsSteady p c →
       StandsWell p (cond b (Stop GoesOn c no_output) (onward (step p c) (run p n)))
-  one_more n c true next e h = (tt, h.values)
+  one_more n c true next e h = (h, e)
   one_more n c false next e h = onward_well (step p c) (run p n) (leads_well p orderly c h e) next
 
   all_the_way : (n : ℕ) (c : Config) → IsSteady p c → StandsWell p (run p n c)

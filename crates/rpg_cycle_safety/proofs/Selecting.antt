@@ -13,6 +13,7 @@ use Rattle.rpg_cycle_records.specs.Earlier.{Left, Selected, control_fields, leve
 use Rattle.rpg_cycle.specs.Ends.{GoesOn, Halt, Wrong}
 use Rattle.rpg_cycle_records.specs.Fitting.{IsControlIn, IsTypeIn}
 use Rattle.rpg_cycle_records.specs.Identifying.{Trial, IsOf, IsOfNone, Misplaced, padded, code_holds, identified, is_character, is_good_record, has_position, trial_weight}
+use Rattle.rpg_cycle_records.specs.Levels.{is_in_record}
 use Rattle.rpg_cycle.specs.Indicators.{is_on, last_record, level_indicators, with_all, with_levels, with_one, with_type}
 use Rattle.rpg_cycle.specs.Phases.{Done, broken_level, compare_levels, done, identify, read_record, select_record, take_type, type_indicator}
 use Rattle.rpg_effect.specs.Ends as effects
@@ -59,6 +60,49 @@ filled_long p text good =
     let blanks : length {A = ℕ} (replicate (p.record_length - length text) 32) ≡ p.record_length - length text = length-replicate (p.record_length - length text) 32 in
     omega (arith, short, long, blanks)
 
+-- ---- what stays
+
+pub charged_still : (weight : ℕ) (c : Config) → Still weight c (charged weight c)
+charged_still weight c = record { fields = refl; place = refl; cells = refl; steps = refl; allowance = refl }
+
+-- but for indicators and steps it is the same
+abbrev pub HasStayed : Config → Done → Type 0
+HasStayed c d = (weight : ℕ) × Still weight c d.leads.config
+
+module _ (p : Object) (left : Left) where
+  compared_stays : (b : Bool) (text : List ℕ) (t weight : ℕ) (c d : Config) → Still weight c d →
+      HasStayed c (cond b (done GoesOn (record { config = with_levels (broken_level p left (record { type = t; text = text })) (charged (length (control_fields p t)) d); selected = Some (record { type = t; text = text }) }))
+      (done (Wrong effects.Storage) (record { config = charged (length (control_fields p t)) d; selected = None })))
+  compared_stays true text t weight c d still =
+      let more = charged (length (control_fields p t)) d in
+      let paid = still_then weight (length (control_fields p t)) c d more still (charged_still (length (control_fields p t)) d) in
+      (weight + length (control_fields p t) + 0, still_then (weight + length (control_fields p t)) 0 c more (with_levels (broken_level p left (record { type = t; text = text })) more) paid (all_still (take (broken_level p left (record { type = t; text = text })) level_indicators) true more))
+  compared_stays false text t weight c d still =
+      (weight + length (control_fields p t), still_then weight (length (control_fields p t)) c d (charged (length (control_fields p t)) d) still (charged_still (length (control_fields p t)) d))
+
+  taken_stays : (text : List ℕ) (t : Trial) (weight : ℕ) (c d : Config) → Still weight c d → HasStayed c (take_type p left text t d)
+  taken_stays text (IsOf t) weight c d still =
+      let e = with_type (type_indicator (slice_get p.types t)) d in
+      compared_stays (list_all (is_in_record (length text)) (control_fields p t)) text t (weight + 0) c e (still_then weight 0 c d e still (type_still (type_indicator (slice_get p.types t)) d))
+  taken_stays text IsOfNone weight c d still = (weight, still)
+  taken_stays text Misplaced weight c d still = (weight, still)
+
+  read_stays : (b : Bool) (text : List ℕ) (c : Config) → HasStayed c (cond b (identify p left (padded p text) c) (done (Halt 7) (record { config = c; selected = None })))
+  read_stays true text c =
+      let weight = trial_weight p.types (padded p text) in
+      taken_stays (padded p text) (identified 0 p.types (padded p text)) weight c (charged weight c) (charged_still weight c)
+  read_stays false text c = (0, all_still [] true c)
+
+  next_stays : (next : Option (List ℕ)) (c : Config) → HasStayed c (read_record p left next c)
+  next_stays None c = (0, last_still_on c)
+  next_stays (Some text) c = read_stays (is_good_record p text) text c
+
+  -- whatever comes of the selection of a record
+  pub selection_stays : (b : Bool) (next : Option (List ℕ)) (c : Config) →
+      HasStayed c (cond b (done GoesOn (record { config = with_all level_indicators true c; selected = None })) (read_record p left next c))
+  selection_stays true next c = (0, all_still level_indicators true c)
+  selection_stays false next c = next_stays next c
+
 -- ---- what comes of it
 
 module _ (p : Object) (orderly : IsOrderly p) (left : Left) (n : ℕ) where
@@ -78,9 +122,6 @@ module _ (p : Object) (orderly : IsOrderly p) (left : Left) (n : ℕ) where
   halts_at k weight c d low high still h few paid =
       let grown = still_reach p weight c d still in
       ends p (its_fields p) (n + types_weight p.types) (Halt k) (record { config = d; selected = None }) (low, high) (λ is. cc) (still_holds p weight c d still h) (omega (arith, grown, few, paid))
-
-  charged_still : (weight : ℕ) (c : Config) → Still weight c (charged weight c)
-  charged_still weight c = record { fields = refl; cells = refl; steps = refl; allowance = refl }
 
   module _ (full : List ℕ) (long : length full ≡ p.record_length) (spelled : All IsCharacter full) (c : Config) (h : Holds p c.world) (none : c.cells ≡ map.empty) (few : reach p c ≤ n) where
     types_there : All (IsTypeIn (length full)) p.types

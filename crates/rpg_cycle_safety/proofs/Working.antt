@@ -7,11 +7,10 @@ use Rattle.rpg_cycle.specs.Phases.{Done, Phase, UnderWay, by_machine, does, done
 use Rattle.rpg_effect.specs.Effect.{Effect}
 use Rattle.rpg_effect.specs.Ends as effects
 use Rattle.rpg_effect.specs.World.{World}
-use Rattle.rpg_cycle_safety.specs.Holding.{Holds, Keeps}
+use Rattle.rpg_cycle_safety.specs.Holding.{Holds, IsEffectEnd, Keeps}
 use Rattle.rpg_machine.specs.Config.{Config, Output, charged, no_output, with_more}
 use Rattle.rpg_machine.specs.Outputs.{ByEffect, inputs_at}
 use Rattle.rpg_machine.specs.Running.{Behaviour}
-use Rattle.rpg_machine_operations.specs.Good.{IsRightEnd}
 use Rattle.rpg_object_program.specs.Kept.{IsCharacter}
 use Rattle.rpg_object_program.specs.Object.{Object}
 use Rattle.rpg_cycle_safety.specs.Coming.{IsCycleEnd}
@@ -171,7 +170,7 @@ module _ (p : Object) where
         };
       }
 
-  right_named : (e : effects.End) → IsRightEnd e → IsCycleEnd (phase_end e)
+  right_named : (e : effects.End) → IsEffectEnd e → IsCycleEnd (phase_end e)
   right_named effects.GoesOn h = tt
   right_named (effects.Halt k) h = (h.0, omega (arith, h.1))
   right_named (effects.Wrong f) h = absurd h

@@ -11,11 +11,11 @@ use Rattle.rpg_effect.specs.declared.form.Class.{Class}
 use Rattle.rpg_effect.specs.declared.form.Class.TheVariants as classes
 use Rattle.rpg_effect.specs.declared.form.FieldForm.{FieldForm}
 use Rattle.rpg_effect.specs.declared.form.Kind.TheVariants as kinds
-use Rattle.rpg_cycle_safety.specs.Holding.{Holds, Keeps}
+use Rattle.rpg_cycle_safety.specs.Holding.{Holds, IsEffectEnd, Keeps}
 use Rattle.rpg_machine_operations.proofs.Entries.{and_true, text_in_form}
 use Rattle.rpg_machine_operations.proofs.Keeping.{fits_current, fits_number, fits_text}
 use Rattle.rpg_machine_operations.proofs.Values.{form_there}
-use Rattle.rpg_machine_operations.specs.Good.{IsRightEnd, IsValue}
+use Rattle.rpg_machine_operations.specs.Good.{IsValue}
 use Rattle.rpg_object_program.specs.Kept.{IsCharacter}
 use Rattle.rpg_object_program.specs.Object.{Object}
 use Rattle.rpg_store.proofs.Fitting.{constants-insert}
@@ -110,15 +110,15 @@ module _ (p : Object) where
   leaves w h = record { ending = tt; holds = h }
 
   -- it halts there
-  pub halts : (k : ℕ) (w : World nat_cmp) → 1 ≤ k → k ≤ 4 → Holds p w → Keeps p (quiet (Halt k) w)
-  halts k w low high h = record { ending = (low, high); holds = h }
+  pub halts : (k : ℕ) (w : World nat_cmp) → IsEffectEnd (Halt k) → Holds p w → Keeps p (quiet (Halt k) w)
+  halts k w named h = record { ending = named; holds = h }
 
-  pub or_halts : {A : Type 0} (o : Option A) (k : ℕ) (w : World nat_cmp) (go : A → Effect nat_cmp) → 1 ≤ k → k ≤ 4 → Holds p w →
+  pub or_halts : {A : Type 0} (o : Option A) (k : ℕ) (w : World nat_cmp) (go : A → Effect nat_cmp) → IsEffectEnd (Halt k) → Holds p w →
       ((x : A) → o ≡ Some x → Keeps p (go x)) → Keeps p (or_halt o k w go)
-  or_halts None k w go low high h next = halts k w low high h
-  or_halts (Some x) k w go low high h next = next x refl
+  or_halts None k w go named h next = halts k w named h
+  or_halts (Some x) k w go named h next = next x refl
 
-  follows : (ending : End) (e : Effect nat_cmp) (go : World nat_cmp → Effect nat_cmp) → IsRightEnd ending → Keeps p e →
+  follows : (ending : End) (e : Effect nat_cmp) (go : World nat_cmp → Effect nat_cmp) → IsEffectEnd ending → Keeps p e →
       ((w : World nat_cmp) → Holds p w → Keeps p (go w)) → Keeps p (go_on ending e go)
   follows GoesOn e go right h next = let more = next e.world h.holds in record { ending = more.ending; holds = more.holds }
   follows (Halt k) e go right h next = h

@@ -1,8 +1,9 @@
 -- What holds of a world all along a run of an accepted program, and what keeps it.
+use Rattle.std.specs.Prelude.{◌≡◌, ◌≤◌}
 use Rattle.std.specs.Ordering.{nat_cmp}
 use Rattle.rpg_effect.specs.Effect.{Effect}
+use Rattle.rpg_effect.specs.Ends.{End, GoesOn, Halt, Wrong}
 use Rattle.rpg_effect.specs.World.{World}
-use Rattle.rpg_machine_operations.specs.Good.{IsRightEnd}
 use Rattle.rpg_object_program.specs.Object.{Object}
 use Rattle.rpg_store.specs.Fits.{Fits, KeepsConstants}
 
@@ -11,7 +12,13 @@ pub record Holds (p : Object) (w : World nat_cmp) : Type 0 where
   pub fits : Fits p.fields w.fields.values w.fields.current
   pub constants : KeepsConstants p w.fields.values
 
--- nothing is wrong: it goes on, or halts with a number that is named for it, and what is to hold of its world holds
+-- nothing is wrong: it goes on, or halts at a zero divisor (1), a bad index (2) or a bad digit (4)
+abbrev pub IsEffectEnd : End → Type 0
+IsEffectEnd GoesOn = Unit {0}
+IsEffectEnd (Halt k) = (1 ≤ k) × (k ≤ 4) × (k ≡ 3 → ⊥)
+IsEffectEnd (Wrong f) = ⊥
+
+-- nothing is wrong, and what is to hold of its world holds
 pub record Keeps (p : Object) (e : Effect nat_cmp) : Type 0 where
-  pub ending : IsRightEnd e.ending
+  pub ending : IsEffectEnd e.ending
   pub holds : Holds p e.world

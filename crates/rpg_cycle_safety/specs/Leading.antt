@@ -1,12 +1,12 @@
 -- What holds of a configuration all along a run of an accepted program, what a step of it may lead to, and what a section's run may come to.
-use Rattle.std.specs.Prelude.{◌≡◌, ◌+◌, ◌*◌, ◌≤◌}
+use Rattle.std.specs.Prelude.{◌≡◌, ◌+◌, ◌*◌, ◌≤◌, true}
 use Rattle.std.specs.FinMap as map
 use Rattle.rpg_effect.specs.Ends.{End, GoesOn, Halt, Wrong}
 use Rattle.rpg_cycle_safety.specs.Holding.{Holds}
 use Rattle.rpg_machine.specs.Chain.{IsSafe}
 use Rattle.rpg_machine.specs.Config.{Config, Output}
 use Rattle.rpg_machine.specs.Potential.{potential}
-use Rattle.rpg_machine.specs.Run.{RunsTo}
+use Rattle.rpg_machine.specs.Run.{RunsTo, is_end}
 use Rattle.rpg_machine.specs.Step.{Outcome, Next, Stop}
 use Rattle.rpg_object_program.specs.Object.{Object}
 use Rattle.rpg_object_program.specs.Sections.{first_place}
@@ -18,23 +18,25 @@ pub record IsSteady (p : Object) (c : Config) : Type 0 where
   pub values : Holds p c.world
   pub control : IsSafe p c
 
--- nothing is wrong: it goes on, or halts with a number that is named for it, 5 where the allowance is spent
+-- nothing is wrong: it goes on, or halts as an effect does, or at a spent allowance (5)
 abbrev pub IsNamedEnd : End → Type 0
 IsNamedEnd GoesOn = Unit {0}
-IsNamedEnd (Halt k) = (1 ≤ k) × (k ≤ 5)
+IsNamedEnd (Halt k) = (1 ≤ k) × (k ≤ 5) × (k ≡ 3 → ⊥)
 IsNamedEnd (Wrong f) = ⊥
 
--- a step goes on at such a configuration, or halts; a section's end is no step
+-- a step goes on or halts, at such a configuration; a section's end is no step
 abbrev pub StepsWell : Object → Outcome → Type 0
 StepsWell p (Next d o) = IsSteady p d
 StepsWell p (Stop GoesOn d o) = ⊥
-StepsWell p (Stop (Halt k) d o) = IsNamedEnd (Halt k) × Holds p d.world
+StepsWell p (Stop (Halt k) d o) = IsNamedEnd (Halt k) × IsSteady p d
 StepsWell p (Stop (Wrong f) d o) = ⊥
 
--- so far as a run has come: at such a configuration, at its end, or at a halt
+-- so far as a run has come: at such a configuration, at one that is its end, or at one where it halted
 abbrev pub StandsWell : Object → Outcome → Type 0
 StandsWell p (Next d o) = IsSteady p d
-StandsWell p (Stop e d o) = IsNamedEnd e × Holds p d.world
+StandsWell p (Stop GoesOn d o) = IsSteady p d × (is_end p d ≡ true)
+StandsWell p (Stop (Halt k) d o) = IsNamedEnd (Halt k) × IsSteady p d
+StandsWell p (Stop (Wrong f) d o) = ⊥
 
 -- What a run of a section comes to: its end or a halt, with values that are what they are to be. At the section's end no subroutine
 -- runs. What it took, and all that is left of the allowance can still buy, are at most the cost of the section's first place and what

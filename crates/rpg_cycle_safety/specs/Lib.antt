@@ -1,3 +1,5 @@
+pub mod Buying
 pub mod Coming
 pub mod Holding
 pub mod Leading
+pub mod Visiting

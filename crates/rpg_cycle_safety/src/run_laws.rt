@@ -15,6 +15,8 @@ ghost use Rattle.rpg_object_program.specs.Kept.{IsProgram};
 ghost use Rattle.rpg_object_program.specs.Object.{Object};
 ghost use Rattle.rpg_verify_rules.specs.Accepted.{IsAccepted};
 ghost use Rattle.rpg_cycle_safety.specs.Coming.{CyclesWell, HasCycle, HasRun, RunsWell};
+ghost use Rattle.rpg_cycle_safety.specs.Leading.{IsSteady};
+ghost use Rattle.rpg_cycle_safety.specs.Visiting.{IsOfRun};
 
 /// There is a cycle from any configuration whose values hold and in which no subroutine runs, whatever was read before and whatever is
 /// next; and no cycle from there is wrong or takes more steps than the program's bound.
@@ -26,8 +28,17 @@ pub fn cycles_keep()
         Cycle p earlier next (begun p c) e d out → CyclesWell p e d }
 {}
 
+/// Two cycles from one configuration, behind the same records and with the same one next, end alike and lead to one configuration, and put
+/// out the same.
+pub fn cycles_are_one()
+    ensures { (p : Object) (earlier : List Selected) (next : Option (List ℕ)) (c : UnderWay) (e f : PhaseEnd) (x y : UnderWay) (a b : Output) →
+        Cycle p earlier next c e x a → Cycle p earlier next c f y b →
+        (e ≡ f) × (x ≡ y) × (a ≡ b) }
+{}
+
 /// There is a run over any records, on any date, from values that hold; and each run from there ends at the end of the job or at a halt, in at
-/// most one cycle more than there are records, none of which took more steps than the program's bound. Nothing in it is wrong.
+/// most one cycle more than there are records, none of which took more steps than the program's bound. Nothing in it is wrong: each
+/// configuration that it comes by is steady, and `steps_keep` says what a step from such a one leads to.
 pub fn runs_keep()
     ensures exists { (p : Object) (text : List ℕ) (date : ℤ) (fields : Fields nat_cmp) (records : List (List ℕ)) → IsProgram p → IsAccepted p →
         date_in text ≡ Some date → Holds p (job_first_world fields) →
@@ -35,4 +46,7 @@ pub fn runs_keep()
     ensures each { (p : Object) (text : List ℕ) (date : ℤ) (fields : Fields nat_cmp) (records : List (List ℕ)) (course : Course) (bytes : Bytes) →
         IsProgram p → IsAccepted p → date_in text ≡ Some date →
         Holds p (job_first_world fields) → IsRun p date fields records course bytes → RunsWell p (length records) course }
+    ensures throughout { (p : Object) (text : List ℕ) (date : ℤ) (fields : Fields nat_cmp) (records : List (List ℕ)) (c : Config) →
+        IsProgram p → IsAccepted p → date_in text ≡ Some date →
+        Holds p (job_first_world fields) → IsOfRun p date fields records c → IsSteady p c }
 {}

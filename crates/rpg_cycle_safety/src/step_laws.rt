@@ -13,6 +13,7 @@ ghost use Rattle.rpg_effect.specs.declared.line.Pass.{Pass};
 ghost use Rattle.rpg_effect.specs.declared.operation.Action.{Action};
 ghost use Rattle.rpg_effect.specs.declared.operation.Instruction.{Instruction};
 ghost use Rattle.rpg_effect.specs.declared.operation.Operand.{Operand};
+ghost use Rattle.rpg_cycle_safety.specs.Buying.{IsGreatestSpend};
 ghost use Rattle.rpg_cycle_safety.specs.Holding.{Holds, Keeps};
 ghost use Rattle.rpg_cycle_safety.specs.Leading.{EndsWell, HasSectionRun, IsSteady, StepsWell, StandsWell, StaysInBound};
 ghost use Rattle.rpg_machine_lines.specs.Outputs.{passage_effect};
@@ -29,6 +30,7 @@ ghost use Rattle.rpg_object_program.specs.declared.section.Place.{Place};
 ghost use Rattle.rpg_object_program.specs.declared.section.Section.{Section};
 ghost use Rattle.rpg_verify_rules.specs.Accepted.{IsAccepted};
 ghost use Rattle.rpg_verify_rules.specs.Sound.{IsAt};
+ghost use Rattle.rpg_verify.specs.Bound.{most};
 ghost use Rattle.rpg_store.specs.First.{first_contents, first_currents};
 
 /// What a program starts with is what its values are to be.
@@ -70,6 +72,11 @@ pub fn steps_keep()
     ensures leads { (p : Object) (c : Config) → IsProgram p → IsAccepted p → IsSteady p c → is_end p c ≡ false → StepsWell p (step p c) }
     ensures bound { (p : Object) (c d : Config) (o : Output) → IsProgram p → IsAccepted p → (before : IsSafe p c) → step p c ≡ Next d o →
         StaysInBound p c d before }
+{}
+
+/// The bound's factor of the allowance is the greatest cost that a spend leads to, and no more.
+pub fn most_is_greatest()
+    ensures { (p : Object) → IsProgram p → IsGreatestSpend p (most p) }
 {}
 
 /// Detail and total calculations have a run, from any configuration whose values hold and in which no subroutine runs. Each run of theirs

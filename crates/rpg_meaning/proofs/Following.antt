@@ -8,12 +8,11 @@ use Rattle.rpg_cycle.specs.Phases.{Done, UnderWay, ◌before◌}
 use Rattle.rpg_effect.specs.Effect.{Effect}
 use Rattle.rpg_effect.specs.Ends as effects
 use Rattle.rpg_effect.specs.World.{World}
-use Rattle.rpg_cycle_safety.specs.Holding.{Holds, Keeps}
+use Rattle.rpg_cycle_safety.specs.Holding.{Holds, IsEffectEnd, Keeps}
 use Rattle.rpg_meaning.specs.Job.{Job, JobState}
 use Rattle.rpg_meaning.specs.Phases.{MeantPhase, by_effect, meant_does, meant_either, meant_passes, meant_unless, ◌andthen◌}
 use Rattle.rpg_machine.specs.Config.{Config, Output}
 use Rattle.rpg_machine.specs.Outputs.{ByEffect}
-use Rattle.rpg_machine_operations.specs.Good.{IsRightEnd}
 use Rattle.rpg_object_program.specs.Object.{Object}
 use Rattle.rpg_cycle_records.specs.Earlier.{Selected}
 use Rattle.rpg_effect_renaming.specs.Naming.{Agree, SameEffect}
@@ -25,7 +24,7 @@ IsFine EndOfJob = Unit {0}
 IsFine (Halt k) = Unit {0}
 IsFine (Wrong f) = ⊥
 
-right_fine : (e : effects.End) → IsRightEnd e → IsFine (phase_end e)
+right_fine : (e : effects.End) → IsEffectEnd e → IsFine (phase_end e)
 right_fine effects.GoesOn h = tt
 right_fine (effects.Halt k) h = tt
 right_fine (effects.Wrong f) h = h
@@ -133,7 +132,7 @@ module _ (p : Object) (job : Job) (number : Key → ℕ) where
           allowance = ap (λ (x : Config). x.allowance) act.leads ∙ same.allowance;
           selected = kept ∙ same.selected;
         };
-        fine = subst IsFine (sym ends) (right_fine last (subst IsRightEnd (sym act.ends) k.ending));
+        fine = subst IsFine (sym ends) (right_fine last (subst IsEffectEnd (sym act.ends) k.ending));
         settled = λ on. record {
           values = subst (Holds p) (sym world) k.holds;
           no_cell = ap (λ (x : Config). x.cells) act.leads ∙ settled.no_cell;

@@ -1,0 +1,70 @@
+-- The configurations that a run comes by: where each cycle starts, where each of its phases leads, and all within its sections.
+use Rattle.std.specs.Prelude.{◌≡◌, ℕ, false, ◌⊎◌, ℤ, List, [], ◌∷◌, Option, None, Some}
+use Rattle.std.specs.Ordering.{nat_cmp}
+use Rattle.rpg_cycle_records.specs.Earlier.{Left, Selected, left_by, with_record}
+use Rattle.rpg_cycle.specs.Ends.{PhaseEnd, GoesOn}
+use Rattle.rpg_cycle.specs.Phases.{Cycle, Phase, UnderWay, begun, detail_lines, end_where_last, fill_fields, halt_where_asked, is_bypassed, output, overflow_lines, section, select_record, set_off, total_time}
+use Rattle.rpg_cycle.specs.Starting.{job_start}
+use Rattle.rpg_effect.specs.World.{Fields}
+use Rattle.rpg_machine.specs.Config.{Config, Output}
+use Rattle.rpg_machine.specs.Run.{at_first, run}
+use Rattle.rpg_machine.specs.Step.{Outcome, Next, Stop}
+use Rattle.rpg_machine.specs.declared.time.OutputTime.TheVariants as times
+use Rattle.rpg_object_program.specs.Object.{Object}
+use Rattle.rpg_object_program.specs.declared.section.Section.{Section}
+use Rattle.rpg_object_program.specs.declared.section.Section.TheVariants as sections
+
+-- the configurations that something comes by, from where it starts
+abbrev pub Way : Type 1
+Way = UnderWay → Config → Type 0
+
+-- where a phase leads, however it ends
+abbrev pub end_of : Phase → Way
+end_of P c x = (e : PhaseEnd) × (d : UnderWay) × (out : Output) × P c e d out × (x ≡ d.config)
+
+-- the configuration of an outcome
+abbrev pub standing : Outcome → Config
+standing (Next c o) = c
+standing (Stop e c o) = c
+
+-- where a section stands after any number of steps
+abbrev pub within : Object → Section → Way
+within p s c x = (n : ℕ) × (x ≡ standing (run p n (at_first p s c.config)))
+
+-- those of a phase, and where it goes on, those of what follows
+abbrev pub along : Phase → Way → Way → Way
+along P V W c x = V c x ⊎ ((m : UnderWay) × (out : Output) × P c GoesOn m out × W m x)
+
+-- where a phase leads, and what follows
+infixr 5 ◌onto◌
+abbrev pub ◌onto◌ : Phase → Way → Way
+P onto W = along P (end_of P) W
+
+-- those of total calculations and total output, unless they are bypassed
+abbrev pub total_way : Object → Left → Way
+total_way p left c x =
+    (is_bypassed p left.any left.control c.config ≡ false)
+    × along (section p sections.Total) (within p sections.Total) (end_of (output p times.Total)) c x
+
+-- those of a cycle behind its start
+abbrev pub phases_way : Object → Left → Option (List ℕ) → Way
+phases_way p left next =
+    detail_lines p
+    onto halt_where_asked
+    onto set_off p
+    onto select_record p left next
+    onto along (total_time p left) (total_way p left) (end_where_last onto overflow_lines p onto fill_fields p onto within p sections.Detail)
+
+-- those of a cycle behind those that selected the earlier records, with the record that is next
+abbrev pub cycle_way : Object → List Selected → Option (List ℕ) → Way
+cycle_way p earlier next c x = (x ≡ c.config) ⊎ phases_way p (left_by p earlier) next c x
+
+-- those of a run from a configuration, behind earlier records (the last first), over the records that are left
+abbrev pub Visits : Object → List Selected → List (List ℕ) → Config → Config → Type 0
+Visits p earlier [] c x = cycle_way p earlier None (begun p c) x
+Visits p earlier (r ∷ rs) c x =
+    along (Cycle p earlier (Some r)) (cycle_way p earlier (Some r)) (λ d y. Visits p (with_record d.selected earlier) rs d.config y) (begun p c) x
+
+-- those of the whole run of a program over records, on a date, with what its fields hold at first
+abbrev pub IsOfRun : Object → ℤ → Fields nat_cmp → List (List ℕ) → Config → Type 0
+IsOfRun p date fields records x = Visits p [] records (job_start p date fields) x
