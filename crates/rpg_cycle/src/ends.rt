@@ -4,14 +4,14 @@ use rpg_effect::halt::Halt;
 use std::alloc::AllocError;
 use thiserror::Error;
 
-/// How a job ended.
+/// How a job ended: all that is told of a job that is over.
 #[derive(Clone, Copy)]
 pub enum JobEnd {
     EndOfJob,
     Halt(Halt),
 }
 
-/// What a cycle led to.
+/// What a cycle led to, as its caller is told of it: `JobEnd` knows only jobs that are over, and a caller asks first whether to go on.
 #[derive(Clone, Copy)]
 pub enum CycleEnd {
     GoesOn,
@@ -21,7 +21,7 @@ pub enum CycleEnd {
     Failed,
 }
 
-/// How far a job is.
+/// How far a job is, as it keeps it between cycles: with its end as one value, which a run hands on as it is.
 #[derive(Clone, Copy)]
 pub enum Progress {
     Going,
@@ -29,7 +29,7 @@ pub enum Progress {
     Failed,
 }
 
-/// Why a phase doesn't go on.
+/// Why a phase doesn't go on: the error that `?` hands up from phase to phase, so that going on isn't among its values.
 #[derive(Clone, Copy)]
 pub enum Stop {
     Ends(JobEnd),
@@ -47,7 +47,7 @@ impl From<AllocError> for Stop {
     }
 }
 
-/// Why a job doesn't start.
+/// Why a job doesn't start. Only its date can be bad, and no cycle can tell of that.
 #[derive(Clone, Copy, Debug, Error)]
 pub enum StartFault {
     #[error("the date is not six digits")]

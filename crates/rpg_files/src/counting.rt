@@ -1,4 +1,4 @@
-//! Readers and writers whose faults are faults_after.
+//! Readers and writers, and how many of their calls failed.
 
 ghost use Rattle.std.specs.Prelude.{◌≡◌, ◌+◌, ◌-◌, ◌^◌, ◌<◌, ◌≤◌, length, IfOk};
 ghost use Rattle.std.specs.Io.KnownBytes.{ReadConsumes, WriteAppends};
