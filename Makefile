@@ -24,9 +24,11 @@ run: $(RPG2)
 test: examples
 	rt ci
 
-# The gate runs the examples as rpg_show_cases has them: these are the files that a person finds in examples/.
+# The gate runs the examples as rpg_show_cases has them: these are the files that a person finds in examples/. And it compares the pages of codes,
+# as `rpg2 explain` prints them, with what docs/MESSAGES.md has.
 examples:
-	@for file in $(filter-out %.cases %.objects %.session,$(wildcard crates/rpg_show_cases/data/*)); do cmp examples/*/$$(basename $$file) $$file || exit 1; done
+	@for file in $(filter-out %.cases %.objects %.session %.md,$(wildcard crates/rpg_show_cases/data/*)); do cmp examples/*/$$(basename $$file) $$file || exit 1; done
+	@cmp docs/MESSAGES.md crates/rpg_show_cases/data/MESSAGES.md
 
 # The example's total over 1,000,000 records, beside the same total made by awk; what decoding and verifying the largest programs takes;
 # what compiling costs; and a sales report beside the same in COBOL.

@@ -1,5 +1,5 @@
 -- The line and the exit status of each answer.
-use Rattle.std.specs.Prelude.{ℕ, List, ◌++◌, codes, decimal}
+use Rattle.std.specs.Prelude.{ℕ, List, [], ◌++◌, codes, decimal}
 use Rattle.rpg_cli_files.specs.SourceCodes.{source_code_text}
 use Rattle.rpg_cli_files.specs.SourceFault.{SourceFault}
 use Rattle.rpg_cli_files.specs.SourceFault.TheVariants as sources
@@ -46,8 +46,8 @@ run_text (runs.Disk sent) = codes "output failed"
 run_text runs.NoMemory = codes "no memory"
 
 abbrev pub file_text : FileFault → List ℕ
-file_text files.Input = codes "input failed"
-file_text files.Output = codes "output failed"
+file_text (files.Input reason) = codes "input failed"
+file_text (files.Output reason) = codes "output failed"
 file_text files.TooLarge = codes "file too large"
 file_text files.NoMemory = codes "no memory"
 
@@ -61,7 +61,9 @@ line_text (answer.Object fault) = object_text fault
 line_text answer.DiskFileWanted = codes "disk file wanted"
 line_text (answer.OverLimit bound) = codes "refused: bound " ++ decimal bound
 line_text (answer.Run fault) = run_text fault
-line_text (answer.File fault) = file_text fault
+line_text (answer.File word fault) = file_text fault
+line_text answer.Explained = []
+line_text answer.NoSuchCode = codes "no such code"
 line_text answer.NoMemory = codes "no memory"
 
 -- ---- statuses
@@ -97,5 +99,7 @@ exit_status (answer.Object fault) = object_status fault
 exit_status answer.DiskFileWanted = 2
 exit_status (answer.OverLimit bound) = 4
 exit_status (answer.Run fault) = run_status fault
-exit_status (answer.File fault) = 1
+exit_status (answer.File word fault) = 1
+exit_status answer.Explained = 0
+exit_status answer.NoSuchCode = 2
 exit_status answer.NoMemory = 1

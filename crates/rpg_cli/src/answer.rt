@@ -5,6 +5,7 @@ ghost use Rattle.rpg_cli.specs.declared.answer.Answer.TheVariants as answers;
 
 use arrayvec::ArrayVec;
 use rpg_cli_files::{FileFault, SourceFault};
+use rpg_cli_words::FileWord;
 use rpg_engine::{ObjectFault, Report, RunFault};
 
 /// How a command ended. What refuses a command is handed up as it is.
@@ -28,9 +29,21 @@ pub enum Answer {
     OverLimit { bound: u64 },
     /// The run gave no report.
     Run(RunFault),
-    /// A file failed.
-    File(FileFault),
+    /// The file that a word names failed.
+    File { word: FileWord, fault: FileFault },
+    /// A code was explained.
+    Explained,
+    /// There is no such code.
+    NoSuchCode,
     NoMemory,
+}
+
+/// Hands up the fault of the file that a word names.
+pub(crate) fn named<T>(word: FileWord, given: Result<T, FileFault>) -> Result<T, Answer> {
+    match given {
+        Ok(value) => Ok(value),
+        Err(fault) => Err(Answer::File { word, fault }),
+    }
 }
 
 /// The line that is printed for an answer, without its line feed, and the exit status.
@@ -69,13 +82,5 @@ impl From<RunFault> for Answer {
 
     fn from(fault: RunFault) -> Answer {
         Answer::Run(fault)
-    }
-}
-
-impl From<FileFault> for Answer {
-    ghost from_gives = { λ fault answer. answer ≡ answers.File fault };
-
-    fn from(fault: FileFault) -> Answer {
-        Answer::File(fault)
     }
 }

@@ -1,12 +1,18 @@
 //! The files of a command.
 
-use crate::answer::Answer;
+use crate::answer::{Answer, named};
+use crate::stop::Stop;
+use crate::telling::tell_object;
 use crate::told::Listener;
 use rpg_cli_files::{
-    compile_to_bytes, file_bytes, flush_device, input_file, new_file, write_bytes,
+    FileIdentity, compile_to_bytes, empty_file, file_bytes, flush_device, identity, identity_at,
+    input_file, output_file, write_bytes,
 };
 use rpg_cli_messages::source_messages;
-use rpg_cli_words::{CheckWords, CompileWords, RunWords, VerifyWords};
+use rpg_cli_show::program_text;
+use rpg_cli_words::{
+    CheckWords, CompileWords, FileWord, RunWords, SameFile, ShowWords, VerifyWords,
+};
 use rpg_engine::{
     ObjectFault, Program, Report, RunFault, Verified, accept, decode_object, execute_program,
     has_disk_file, verify_bytes,
@@ -14,25 +20,76 @@ use rpg_engine::{
 use rpg_faults::{SourceFault, faultless_cards, source_faults};
 use rpg_files::Counted;
 use std::alloc::Global;
+use std::fs::OpenFile;
 use std::io;
 use std::io::{Read, Write};
 use std::rt::Files;
 
+/// A word of the command line, and the regular file that it names, if it names one.
+#[derive(Clone, Copy)]
+struct NamedFile {
+    word: FileWord,
+    identity: Option<FileIdentity>,
+}
+
+impl NamedFile {
+    fn at<R: Files>(rt: &R, word: FileWord, path: &str) -> NamedFile {
+        NamedFile {
+            word,
+            identity: identity_at(rt, path),
+        }
+    }
+
+    fn open<F: OpenFile>(word: FileWord, file: &F) -> NamedFile {
+        NamedFile {
+            word,
+            identity: identity(file),
+        }
+    }
+}
+
+/// Refuses to write a file that another word names too.
+fn refuse_same_file(written: NamedFile, others: &[NamedFile]) -> Result<(), SameFile> {
+    if written.identity.is_none() {
+        return Ok(());
+    }
+    for earlier in others {
+        if earlier.identity == written.identity {
+            return Err(SameFile {
+                earlier: earlier.word,
+                written: written.word,
+            });
+        }
+    }
+    Ok(())
+}
+
+/// Writes a compiled object to its file, unless that is the source.
+fn write_object<R: Files + AllocGlobal>(
+    rt: &R,
+    words: &CompileWords,
+    object: &[u8],
+) -> Result<(), Stop> {
+    let source = NamedFile::at(rt, FileWord::Source, words.source);
+    let written = NamedFile::at(rt, FileWord::Object, words.object);
+    refuse_same_file(written, &[source])?;
+    Ok(named(FileWord::Object, write_bytes(rt, words.object, object))?)
+}
+
 /// Compiles a source to an object file.
 ///
-/// The object file is made, which empties it, once the source is compiled: a source that is refused leaves it as it was, and all its faults
-/// are told.
+/// The object file is written once the source is compiled: a source that is refused leaves it as it was, and all its faults are told.
 pub(crate) fn compile_files<R: Files + AllocGlobal, L: Listener>(
     rt: &R,
     words: &CompileWords,
     listener: &mut L,
-) -> Result<(), Answer> {
-    let source = file_bytes(rt, words.source)?;
+) -> Result<(), Stop> {
+    let source = named(FileWord::Source, file_bytes(rt, words.source))?;
     match compile_to_bytes(rt.alloc(), &source, words.allowance) {
-        Ok(object) => Ok(write_bytes(rt, words.object, &object)?),
+        Ok(object) => write_object(rt, words, &object),
         Err(fault) => {
             tell_faults(rt.alloc(), words.source, &source, listener);
-            Err(fault.into())
+            Err(Stop::from(Answer::from(fault)))
         }
     }
 }
@@ -43,7 +100,7 @@ pub(crate) fn check_file<R: Files + AllocGlobal, L: Listener>(
     words: &CheckWords,
     listener: &mut L,
 ) -> Result<(), Answer> {
-    let source = file_bytes(rt, words.source)?;
+    let source = named(FileWord::Source, file_bytes(rt, words.source))?;
     match first_fault(rt.alloc(), &source) {
         None => Ok(()),
         Some(fault) => {
@@ -69,11 +126,42 @@ fn tell_faults<L: Listener>(alloc: Global, path: &str, source: &[u8], listener: 
 }
 
 /// Verifies an object file: the bound of its program.
-pub(crate) fn verify_file<R: Files + AllocGlobal>(
+pub(crate) fn verify_file<R: Files + AllocGlobal, L: Listener>(
     rt: &R,
     words: &VerifyWords,
+    listener: &mut L,
 ) -> Result<u64, Answer> {
-    let object = file_bytes(rt, words.object)?;
+    let object = named(FileWord::Object, file_bytes(rt, words.object))?;
+    match verify_bytes(rt.alloc(), &object) {
+        Ok(bound) => Ok(bound),
+        Err(fault) => {
+            tell_object(rt.alloc(), words.object, &object, fault, listener);
+            Err(fault.into())
+        }
+    }
+}
+
+/// Shows the program that the bytes of an object file spell, where they spell one.
+fn show_program<L: Listener>(alloc: Global, object: &[u8], listener: &mut L) -> Result<(), Answer> {
+    let program = decode_object(alloc, object)?;
+    match program_text(alloc, program) {
+        Ok(text) => Ok(listener.show(text.as_str())),
+        Err(_) => Err(Answer::NoMemory),
+    }
+}
+
+/// Shows the program of an object file, and answers what `verify_file` does.
+pub(crate) fn show_file<R: Files + AllocGlobal, L: Listener>(
+    rt: &R,
+    words: &ShowWords,
+    listener: &mut L,
+) -> Result<u64, Answer> {
+    let object = named(FileWord::Object, file_bytes(rt, words.object))?;
+    let shown = show_program(rt.alloc(), &object, listener);
+    if let Err(Answer::Object(fault)) = shown {
+        tell_object(rt.alloc(), words.object, &object, fault, listener);
+    }
+    shown?;
     Ok(verify_bytes(rt.alloc(), &object)?)
 }
 
@@ -130,43 +218,113 @@ fn run_over<I: Read + Drop, P: Write + Drop, D: Write + Drop>(
         &mut print,
         &mut disk,
     )?;
-    flush_device(print)?;
-    flush_device(disk)?;
+    named(FileWord::Print, flush_device(print))?;
+    named(FileWord::Disk, flush_device(disk))?;
     Ok(report)
 }
 
-/// Opens the input, makes the printer's file and the disk file, which empties them, and runs the program over them.
+/// The files of a run, open, and those that are written not emptied yet.
+#[derive(Drop)]
+struct RunFiles<F> {
+    input: F,
+    print: F,
+    disk: Option<F>,
+}
+
+/// Opens the input, and then the files that are written.
+fn open_files<R: Files>(
+    rt: &R,
+    words: &RunWords,
+    disk: Option<&str>,
+) -> Result<RunFiles<R::File>, Answer> {
+    Ok(RunFiles {
+        input: named(FileWord::Input, input_file(rt, words.input))?,
+        print: named(FileWord::Print, output_file(rt, words.print))?,
+        disk: match disk {
+            Some(path) => Some(named(FileWord::Disk, output_file(rt, path))?),
+            None => None,
+        },
+    })
+}
+
+/// Refuses to empty a file that another word names too.
+fn keep_files<R: Files>(
+    rt: &R,
+    words: &RunWords,
+    files: &RunFiles<R::File>,
+) -> Result<(), SameFile> {
+    let object = NamedFile::at(rt, FileWord::Object, words.object);
+    let input = NamedFile::open(FileWord::Input, &files.input);
+    let print = NamedFile::open(FileWord::Print, &files.print);
+    refuse_same_file(print, &[object, input])?;
+    match &files.disk {
+        None => Ok(()),
+        Some(disk) => {
+            let disk = NamedFile::open(FileWord::Disk, disk);
+            refuse_same_file(disk, &[object, input, print])
+        }
+    }
+}
+
+/// Opens the files of a run, empties those that are written, and runs the program over them.
 fn run_program<R: Files + AllocGlobal>(
     rt: &R,
     words: &RunWords,
     accepted: Result<Verified, ObjectFault>,
     disk: Option<&str>,
-) -> Result<Report, Answer> {
-    let input = input_file(rt, words.input)?;
-    let print = new_file(rt, words.print)?;
+) -> Result<Report, Stop> {
+    let files = open_files(rt, words, disk)?;
+    keep_files(rt, words, &files)?;
+    let RunFiles { input, print, disk } = files;
+    let alloc = rt.alloc();
+    let print = named(FileWord::Print, empty_file(alloc, print))?;
     match disk {
-        Some(path) => {
-            let disk = new_file(rt, path)?;
-            run_over(rt.alloc(), accepted, words.date, input, print, disk)
+        Some(disk) => {
+            let disk = named(FileWord::Disk, empty_file(alloc, disk))?;
+            Ok(run_over(alloc, accepted, words.date, input, print, disk)?)
         }
-        None => run_over(rt.alloc(), accepted, words.date, input, print, io::sink()),
+        None => Ok(run_over(alloc, accepted, words.date, input, print, io::sink())?),
     }
 }
 
-/// Runs an object program over its files.
+/// The program of a run, accepted or refused, and where its disk file goes.
 ///
-/// The object is read and decoded first, and a disk file that is wanted and not named is told. Then come the other files, and then the
-/// rules. Where the words name a limit, the rules, the date and the limit come before the other files, which are left as they are.
-pub(crate) fn run_files<R: Files + AllocGlobal>(
-    rt: &R,
-    words: &RunWords,
-) -> Result<Report, Answer> {
-    let object = file_bytes(rt, words.object)?;
-    let program = decode_object(rt.alloc(), &object)?;
+/// The object is decoded first, and a disk file that is wanted and not named is told. Where the words name a limit, the rules, the date and
+/// the limit come next, before the other files.
+fn program_of<'a>(
+    alloc: Global,
+    words: &RunWords<'a>,
+    object: &[u8],
+) -> Result<(Result<Verified, ObjectFault>, Option<&'a str>), Answer> {
+    let program = decode_object(alloc, object)?;
     let disk = disk_path(&program, words.disk)?;
-    let accepted = accept(rt.alloc(), program);
+    let accepted = accept(alloc, program);
     if let Some(most) = words.most {
         keeps_limit(&accepted, words.date, most)?;
     }
+    Ok((accepted, disk))
+}
+
+/// Runs the object program of these bytes. Rules and date are told once its files are open, unless the words name a limit.
+fn run_object<R: Files + AllocGlobal>(
+    rt: &R,
+    words: &RunWords,
+    object: &[u8],
+) -> Result<Report, Stop> {
+    let (accepted, disk) = program_of(rt.alloc(), words, object)?;
     run_program(rt, words, accepted, disk)
+}
+
+/// Runs an object program over its files, and tells what is wrong with one that is refused.
+pub(crate) fn run_files<R: Files + AllocGlobal, L: Listener>(
+    rt: &R,
+    words: &RunWords,
+    listener: &mut L,
+) -> Result<Report, Stop> {
+    let object = named(FileWord::Object, file_bytes(rt, words.object))?;
+    let ran = run_object(rt, words, &object);
+    if let Err(Stop::Answer(Answer::Object(fault))) = ran {
+        tell_object(rt.alloc(), words.object, &object, fault, listener);
+    }
+    ran
 }

@@ -2,14 +2,19 @@
 #![tactic(auto)]
 
 mod answer;
+mod explaining;
 mod files;
 mod program;
+mod stop;
+mod telling;
 mod text;
 mod told;
 
 pub use answer::{Answer, Line};
 pub use program::{main_with, run};
-pub use rpg_cli_files::{FileFault, SourceCode, SourceFault, compile_to_bytes};
+pub use rpg_cli_explain::all_pages;
+pub use rpg_cli_files::{FileFault, Reason, SourceCode, SourceFault, compile_to_bytes};
+pub use rpg_cli_words::FileWord;
 pub use rpg_engine::{
     BrokenRule, Code, Halt, Job, JobEnd, ObjectFault, Report, RunFault, execute, run_records,
     runs_are_one, runs_are_short, unneeded_records_are_ignored, verify_bytes,

@@ -3,12 +3,15 @@
 ghost use Rattle.rpg_cli.specs.Saying.{PrintsALine, Says};
 
 use crate::answer::Answer;
-use crate::files::{check_file, compile_files, run_files, verify_file};
+use crate::explaining::explain;
+use crate::files::{check_file, compile_files, run_files, show_file, verify_file};
+use crate::stop::Stop;
+use crate::telling::tell_answer;
 use crate::text::line;
-use crate::told::{Listener, StandardError};
+use crate::told::{Listener, StandardStreams};
 use rpg_cli_files::send_line;
-use rpg_cli_words::{Request, request_of};
-use std::io::Write;
+use rpg_cli_words::{Refusal, Request, refuse_bytes, refuse_same_file, request_of};
+use std::io::{ErrorKind, Write};
 use std::process::ExitCode;
 use std::rt::{Env, Files};
 use std::{env, io};
@@ -17,24 +20,26 @@ fn answer_to<R: Files + AllocGlobal, L: Listener>(
     rt: &R,
     request: &Request,
     listener: &mut L,
-) -> Answer {
+) -> Result<Answer, Stop> {
     match request {
-        Request::Compile(words) => match compile_files(rt, words, listener) {
-            Ok(()) => Answer::Compiled,
-            Err(answer) => answer,
-        },
-        Request::Check(words) => match check_file(rt, words, listener) {
-            Ok(()) => Answer::Faultless,
-            Err(answer) => answer,
-        },
-        Request::Verify(words) => match verify_file(rt, words) {
-            Ok(bound) => Answer::Accepted { bound },
-            Err(answer) => answer,
-        },
-        Request::Run(words) => match run_files(rt, words) {
-            Ok(report) => Answer::from(report),
-            Err(answer) => answer,
-        },
+        Request::Compile(words) => {
+            compile_files(rt, words, listener)?;
+            Ok(Answer::Compiled)
+        }
+        Request::Check(words) => {
+            check_file(rt, words, listener)?;
+            Ok(Answer::Faultless)
+        }
+        Request::Verify(words) => {
+            let bound = verify_file(rt, words, listener)?;
+            Ok(Answer::Accepted { bound })
+        }
+        Request::Show(words) => {
+            let bound = show_file(rt, words, listener)?;
+            Ok(Answer::Accepted { bound })
+        }
+        Request::Run(words) => Ok(Answer::from(run_files(rt, words, listener)?)),
+        Request::Explain(words) => Ok(explain(rt.alloc(), words, listener)),
     }
 }
 
@@ -50,6 +55,17 @@ fn say<W: Write>(out: &mut W, answer: &Answer) -> u8
     }
 }
 
+/// Explains a fault of the command line, or gives the help that was asked for, and answers the exit status.
+fn refuse<R: Print + Eprint + AllocGlobal, W: Write>(rt: &R, refusal: &Refusal, out: &mut W) -> u8
+    ensures { PrintsALine (W.contents out.old) (W.contents out.new) result }
+{
+    if refusal.is_no_memory() {
+        say(out, &Answer::NoMemory)
+    } else {
+        refusal.explain(rt)
+    }
+}
+
 /// Does what the words ask, prints one line to `out`, and answers the exit status. What is told beside the line goes to the listener.
 ///
 /// The first word is the program's name. A fault of the command line prints clap's text on standard error, and help that
@@ -62,15 +78,17 @@ pub fn run<R: Files + Print + Eprint + AllocGlobal, W: Write, L: Listener>(
 ) -> u8
     ensures { PrintsALine (W.contents out.old) (W.contents out.new) result }
 {
-    match request_of(rt.alloc(), words) {
-        Ok(request) => say(out, &answer_to(rt, &request, listener)),
-        Err(refusal) => {
-            if refusal.is_no_memory() {
-                say(out, &Answer::NoMemory)
-            } else {
-                refusal.explain(rt)
-            }
+    let request = match request_of(rt.alloc(), words) {
+        Ok(request) => request,
+        Err(refusal) => return refuse(rt, &refusal, out),
+    };
+    match answer_to(rt, &request, listener) {
+        Ok(answer) | Err(Stop::Answer(answer)) => {
+            let status = say(out, &answer);
+            tell_answer(rt.alloc(), &request, &answer, listener);
+            status
         }
+        Err(Stop::SameFile(same)) => refuse(rt, &refuse_same_file(rt.alloc(), same), out),
     }
 }
 
@@ -79,13 +97,14 @@ fn words<R: Env + AllocGlobal>(rt: &R) -> io::Result<Vec<String>> {
     Ok(words)
 }
 
-/// The whole program.
+/// The whole program. Words that aren't UTF-8 are a fault of the command line.
 pub fn main_with<R: Files + Print + Eprint + Env + AllocGlobal>(rt: &R) -> ExitCode {
     let mut out = io::writer(rt);
-    let mut listener = StandardError::new(rt);
+    let mut listener = StandardStreams::new(rt);
     let status = match words(rt) {
         Ok(words) => run(rt, words.as_slice(), &mut out, &mut listener),
-        Err(_) => say(&mut out, &Answer::NoMemory),
+        Err(error) if error.kind() == ErrorKind::OutOfMemory => say(&mut out, &Answer::NoMemory),
+        Err(_) => refuse(rt, &refuse_bytes(rt.alloc()), &mut out),
     };
     ExitCode::from(status)
 }

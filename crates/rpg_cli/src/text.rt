@@ -119,8 +119,8 @@ fn put_file_fault(text: &mut Text, fault: FileFault)
     ensures { text.new.items ≡ text.old.items ++ answers.file_text fault }
 {
     match fault {
-        FileFault::Input => put(text, b"input failed"),
-        FileFault::Output => put(text, b"output failed"),
+        FileFault::Input(_) => put(text, b"input failed"),
+        FileFault::Output(_) => put(text, b"output failed"),
         FileFault::TooLarge => put(text, b"file too large"),
         FileFault::NoMemory => put(text, b"no memory"),
     }
@@ -150,7 +150,7 @@ fn exit_status(answer: &Answer) -> u8
     ensures { result ≡ answers.exit_status answer.now }
 {
     match *answer {
-        Answer::Compiled | Answer::Faultless | Answer::Accepted { .. } => 0,
+        Answer::Compiled | Answer::Faultless | Answer::Accepted { .. } | Answer::Explained => 0,
         Answer::Ended(report) => match report.ending {
             JobEnd::EndOfJob => 0,
             JobEnd::Halt(_) => 5,
@@ -158,10 +158,10 @@ fn exit_status(answer: &Answer) -> u8
         Answer::Source(SourceFault::At { .. }) => 3,
         Answer::Source(SourceFault::NoMemory) => 1,
         Answer::Object(fault) => object_status(fault),
-        Answer::DiskFileWanted => 2,
+        Answer::DiskFileWanted | Answer::NoSuchCode => 2,
         Answer::OverLimit { .. } => 4,
         Answer::Run(fault) => run_status(fault),
-        Answer::File(_) | Answer::NoMemory => 1,
+        Answer::File { .. } | Answer::NoMemory => 1,
     }
 }
 
@@ -187,7 +187,9 @@ pub fn line(answer: &Answer) -> Line
             put_number(&mut text, bound);
         }
         Answer::Run(fault) => put_run_fault(&mut text, fault),
-        Answer::File(fault) => put_file_fault(&mut text, fault),
+        Answer::File { fault, .. } => put_file_fault(&mut text, fault),
+        Answer::Explained => {}
+        Answer::NoSuchCode => put(&mut text, b"no such code"),
         Answer::NoMemory => put(&mut text, b"no memory"),
     }
     Line {

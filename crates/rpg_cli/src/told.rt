@@ -1,25 +1,32 @@
-//! What is told beside the line of an answer.
+//! What is told and shown beside the line of an answer.
 
-/// Where a person reads what is told: standard error.
+/// Where a person reads what is told, standard error, and what is shown, standard output.
 pub trait Listener {
     /// Tells a text. Nobody hears of a text that can't be told.
     fn tell(&mut self, text: &str);
+
+    /// Shows a text before the line. Nobody hears of a text that can't be shown.
+    fn show(&mut self, text: &str);
 }
 
-/// Standard error of a program.
+/// The standard streams of a program.
 #[derive(Drop)]
-pub(crate) struct StandardError<'a, R> {
+pub(crate) struct StandardStreams<'a, R> {
     rt: &'a R,
 }
 
-impl<'a, R: Eprint> StandardError<'a, R> {
+impl<'a, R: Print + Eprint> StandardStreams<'a, R> {
     pub fn new(rt: &'a R) -> Self {
-        StandardError { rt }
+        StandardStreams { rt }
     }
 }
 
-impl<R: Eprint> Listener for StandardError<'_, R> {
+impl<R: Print + Eprint> Listener for StandardStreams<'_, R> {
     fn tell(&mut self, text: &str) {
         let _told = self.rt.eprint(text);
+    }
+
+    fn show(&mut self, text: &str) {
+        let _shown = self.rt.print(text);
     }
 }

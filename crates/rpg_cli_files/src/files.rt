@@ -2,9 +2,12 @@
 
 ghost use Rattle.std.specs.Prelude.{◌≤◌, length, IfOk};
 
+use crate::reason::Reason;
 use rpg_files::Counted;
-use std::fs;
+use std::alloc::Global;
+use std::fs::{self, File, Metadata, OpenFile};
 use std::io::{BufWriter, Error, ErrorKind, Read, Write};
+use std::os::unix::fs::MetadataExt;
 use std::rt::Files;
 
 /// The most bytes of a source or object file (this profile).
@@ -14,9 +17,9 @@ const MOST_BYTES: usize = 16_777_216;
 #[derive(Clone, Copy)]
 pub enum FileFault {
     /// A file that is read can't be opened or read.
-    Input,
+    Input(Reason),
     /// A file that is written can't be made or written.
-    Output,
+    Output(Reason),
     /// A file that is read whole is longer than 16,777,216 bytes.
     TooLarge,
     NoMemory,
@@ -25,20 +28,49 @@ pub enum FileFault {
 fn input_fault(error: Error) -> FileFault {
     match error.kind() {
         ErrorKind::OutOfMemory => FileFault::NoMemory,
-        _ => FileFault::Input,
+        kind => FileFault::Input(Reason::of(kind)),
     }
 }
 
-fn output_fault(error: Error) -> FileFault {
+pub(crate) fn output_fault(error: Error) -> FileFault {
     match error.kind() {
         ErrorKind::OutOfMemory => FileFault::NoMemory,
-        _ => FileFault::Output,
+        kind => FileFault::Output(Reason::of(kind)),
     }
 }
 
-/// A file that is read.
+/// What a regular file is by whatever name: its device, and its number there.
+#[derive(Clone, Copy, PartialEq, Eq)]
+pub struct FileIdentity {
+    device: u64,
+    number: u64,
+}
+
+/// A file that isn't regular has no identity: writing it loses nothing.
+fn identity_in(about: &Metadata) -> Option<FileIdentity> {
+    about.is_file().then_some(FileIdentity {
+        device: about.dev(),
+        number: about.ino(),
+    })
+}
+
+/// What an open file is, where it's regular.
+pub fn identity<F: OpenFile>(file: &F) -> Option<FileIdentity> {
+    identity_in(&file.metadata().ok()?)
+}
+
+/// What the file is that a path leads to, where there is a regular one.
+pub fn identity_at<R: Files>(rt: &R, path: &str) -> Option<FileIdentity> {
+    identity_in(&fs::metadata(rt, path).ok()?)
+}
+
+/// A file that is read. A folder is none.
 pub fn input_file<R: Files>(rt: &R, path: &str) -> Result<R::File, FileFault> {
-    fs::open(rt, path).map_err(input_fault)
+    let file = fs::open(rt, path).map_err(input_fault)?;
+    if file.metadata().map_err(input_fault)?.is_dir() {
+        return Err(FileFault::Input(Reason::Folder));
+    }
+    Ok(file)
 }
 
 /// The bytes of a source or object file.
@@ -56,24 +88,24 @@ pub fn file_bytes<R: Files + AllocGlobal>(rt: &R, path: &str) -> Result<Vec<u8>,
     Ok(bytes)
 }
 
-/// Makes, or empties, a file of these bytes.
-pub fn write_bytes<R: Files + AllocGlobal>(
-    rt: &R,
-    path: &str,
-    bytes: &[u8],
-) -> Result<(), FileFault> {
-    let mut file = fs::create(rt, path).map_err(output_fault)?;
-    file.write_all(bytes).map_err(output_fault)?;
-    file.flush().map_err(output_fault)
+/// A file that will be written, made where there is none. What it holds stays until `empty_file`.
+pub fn output_file<R: Files>(rt: &R, path: &str) -> Result<R::File, FileFault> {
+    File::options()
+        .write(true)
+        .create(true)
+        .open(rt, path)
+        .map_err(output_fault)
 }
 
-/// A file that is made, or emptied, and is written in large pieces.
-pub fn new_file<R: Files + AllocGlobal>(
-    rt: &R,
-    path: &str,
-) -> Result<BufWriter<R::File>, FileFault> {
-    let file = fs::create(rt, path).map_err(output_fault)?;
-    BufWriter::new(rt.alloc(), file).map_err(output_fault)
+/// Empties a file that will be written, and gives what writes it in large pieces. What isn't a regular file holds nothing.
+pub fn empty_file<F: OpenFile + Write + Drop>(
+    alloc: Global,
+    file: F,
+) -> Result<BufWriter<F>, FileFault> {
+    if identity(&file).is_some() {
+        file.set_len(0).map_err(output_fault)?;
+    }
+    BufWriter::new(alloc, file).map_err(output_fault)
 }
 
 /// Writes out what a writer still holds.

@@ -3,10 +3,17 @@
 #![tactic(auto)]
 
 mod files;
+mod reason;
+mod replacing;
 mod sending;
 mod translation;
 
-pub use files::{FileFault, file_bytes, flush_device, input_file, new_file, write_bytes};
+pub use files::{
+    FileFault, FileIdentity, empty_file, file_bytes, flush_device, identity, identity_at,
+    input_file, output_file,
+};
+pub use reason::Reason;
+pub use replacing::write_bytes;
 pub use rpg_compile::{SourceCode, SourceFault};
 pub use sending::send_line;
 pub use translation::compile_to_bytes;

@@ -11,6 +11,11 @@ fn word<'a>(alloc: Global, name: &'a str, help: &'a str) -> Arg<'a> {
         .help(help)
 }
 
+/// A word that may be left out.
+fn optional_word<'a>(alloc: Global, name: &'a str, help: &'a str) -> Arg<'a> {
+    Arg::new(alloc, name).action(ArgAction::Set).help(help)
+}
+
 /// How many backward branches and calls a cycle may take.
 fn allowance<'a>(alloc: Global) -> Arg<'a> {
     Arg::new(alloc, "allowance")
@@ -40,6 +45,19 @@ fn verify_command<'a>(alloc: Global) -> Result<Command<'a>, AllocError> {
         .about(
             "Tells whether the object program OBJ may be run, and the most steps that a cycle can take",
         )
+        .arg(word(alloc, "OBJ", "The object program"))
+}
+
+fn explain_command<'a>(alloc: Global) -> Result<Command<'a>, AllocError> {
+    Command::new(alloc, "explain")
+        .about("Explains a code, as F16, S5, V21, B5 or halt 4, or all of them")
+        .arg(optional_word(alloc, "CODE", "The code"))?
+        .arg(optional_word(alloc, "N", "The number of a halt"))
+}
+
+fn show_command<'a>(alloc: Global) -> Result<Command<'a>, AllocError> {
+    Command::new(alloc, "show")
+        .about("Shows the object program OBJ: its fields, record types, lines and instructions")
         .arg(word(alloc, "OBJ", "The object program"))
 }
 
@@ -91,9 +109,19 @@ fn with_subcommand<'a>(
     command.subcommand(added?)
 }
 
+/// What each exit status tells, below the commands.
+const STATUSES: &str =
+    "Exit statuses:\n  0  all went well\n  1  a file or a device failed, or memory is wanting\n  2  the words are wrong, or the date, or the disk file is missing\n  3  the source is refused\n  4  the object program is refused\n  5  the job halted";
+
+/// The format of object programs, and what the program is proved with.
+const VERSION: &str =
+    "object programs of version 1, proved with rattle-kit-13b logic dac8208d650f15bf";
+
 fn command_without_words<'a>(alloc: Global) -> Command<'a> {
     Command::new(alloc, "rpg2")
         .about("RPG II")
+        .version(VERSION)
+        .after_help(STATUSES)
         .subcommand_required(true)
         .arg_required_else_help(true)
 }
@@ -102,5 +130,7 @@ pub(crate) fn command<'a>(alloc: Global) -> Result<Command<'a>, AllocError> {
     let command = with_subcommand(command_without_words(alloc), compile_command(alloc))?;
     let command = with_subcommand(command, check_command(alloc))?;
     let command = with_subcommand(command, verify_command(alloc))?;
+    let command = with_subcommand(command, explain_command(alloc))?;
+    let command = with_subcommand(command, show_command(alloc))?;
     with_subcommand(command, run_command(alloc))
 }

@@ -4,4 +4,7 @@
 mod command;
 mod request;
 
-pub use request::{CheckWords, CompileWords, Refusal, Request, RunWords, VerifyWords, request_of};
+pub use request::{
+    CheckWords, CompileWords, ExplainWords, FileWord, Refusal, Request, RunWords, SameFile,
+    ShowWords, VerifyWords, refuse_bytes, refuse_same_file, request_of,
+};

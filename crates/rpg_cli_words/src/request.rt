@@ -5,7 +5,7 @@ ghost use Rattle.std.specs.Prelude.{◌<◌, ◌≤◌};
 use crate::command::command;
 use clap::error::ErrorKind;
 use clap::{ArgMatches, Command, Error};
-use std::alloc::Global;
+use std::alloc::{AllocError, Global};
 
 /// What the words ask for.
 #[derive(Clone, Copy)]
@@ -16,8 +16,12 @@ pub enum Request<'a> {
     Check(CheckWords<'a>),
     /// Verifies an object program.
     Verify(VerifyWords<'a>),
+    /// Shows an object program.
+    Show(ShowWords<'a>),
     /// Runs an object program.
     Run(RunWords<'a>),
+    /// Explains a code.
+    Explain(ExplainWords<'a>),
 }
 
 /// The words of `compile`.
@@ -42,6 +46,12 @@ pub struct VerifyWords<'a> {
     pub object: &'a str,
 }
 
+/// The words of `show`.
+#[derive(Clone, Copy)]
+pub struct ShowWords<'a> {
+    pub object: &'a str,
+}
+
 /// The words of `run`.
 #[derive(Clone, Copy)]
 pub struct RunWords<'a> {
@@ -55,6 +65,83 @@ pub struct RunWords<'a> {
     pub most: Option<u64>,
 }
 
+/// The words of `explain`.
+#[derive(Clone, Copy)]
+pub struct ExplainWords<'a> {
+    /// The code; where the words name none, all are explained.
+    pub code: Option<&'a str>,
+    /// The number of a halt, where it's a word of its own.
+    pub number: Option<&'a str>,
+}
+
+/// A word of the command line that names a file.
+#[derive(Clone, Copy)]
+pub enum FileWord {
+    Source,
+    Object,
+    Input,
+    Print,
+    Disk,
+}
+
+impl FileWord {
+    /// The word as the help has it.
+    pub fn name(self) -> &'static str {
+        match self {
+            FileWord::Source => "SRC",
+            FileWord::Object => "OBJ",
+            FileWord::Input => "INPUT",
+            FileWord::Print => "PRINT",
+            FileWord::Disk => "FILE",
+        }
+    }
+
+    /// The word as clap's texts have it.
+    fn text(self) -> &'static str {
+        match self {
+            FileWord::Source => "<SRC>",
+            FileWord::Object => "<OBJ>",
+            FileWord::Input => "<INPUT>",
+            FileWord::Print => "<PRINT>",
+            FileWord::Disk => "--disk <FILE>",
+        }
+    }
+}
+
+/// Two words that name one file, by whatever names. The second would empty it.
+#[derive(Clone, Copy)]
+pub struct SameFile {
+    pub earlier: FileWord,
+    pub written: FileWord,
+}
+
+impl<'a> Request<'a> {
+    /// The file that a word names, if there is that word.
+    pub fn path(&self, word: FileWord) -> Option<&'a str> {
+        match (self, word) {
+            (Request::Compile(words), FileWord::Source) => Some(words.source),
+            (Request::Compile(words), FileWord::Object) => Some(words.object),
+            (Request::Check(words), FileWord::Source) => Some(words.source),
+            (Request::Verify(words), FileWord::Object) => Some(words.object),
+            (Request::Show(words), FileWord::Object) => Some(words.object),
+            (Request::Run(words), word) => words.path(word),
+            _ => None,
+        }
+    }
+}
+
+impl<'a> RunWords<'a> {
+    fn path(&self, word: FileWord) -> Option<&'a str> {
+        match word {
+            FileWord::Source => None,
+            FileWord::Object => Some(self.object),
+            FileWord::Input => Some(self.input),
+            FileWord::Print => Some(self.print),
+            FileWord::Disk => self.disk,
+        }
+    }
+}
+
 /// Why there is no request: a fault of the command line, help that was asked for, or want of memory.
 #[derive(Drop)]
 pub struct Refusal {
@@ -62,6 +149,15 @@ pub struct Refusal {
 }
 
 impl Refusal {
+    fn of(told: Result<Error, AllocError>) -> Refusal {
+        match told {
+            Ok(error) => Refusal { error },
+            Err(error) => Refusal {
+                error: Error::from(error),
+            },
+        }
+    }
+
     pub fn is_no_memory(&self) -> bool {
         self.error.kind() == ErrorKind::OutOfMemory
     }
@@ -77,6 +173,28 @@ impl Refusal {
             Err(_) => 1,
         }
     }
+}
+
+/// A fault of the command line that clap doesn't see, in clap's form.
+fn fault_of_words(alloc: Global, kind: ErrorKind, message: &str) -> Result<Error, AllocError> {
+    command(alloc)?.error(kind, message)
+}
+
+/// Refuses words of which one isn't UTF-8.
+pub fn refuse_bytes(alloc: Global) -> Refusal {
+    let message = "invalid UTF-8 was detected in one or more arguments";
+    Refusal::of(fault_of_words(alloc, ErrorKind::InvalidValue, message))
+}
+
+fn same_file_error(alloc: Global, same: SameFile) -> Result<Error, AllocError> {
+    let (written, earlier) = (same.written.text(), same.earlier.text());
+    let message = format!(in alloc; "'{written}' is the same file as '{earlier}'")?;
+    fault_of_words(alloc, ErrorKind::ArgumentConflict, message.as_str())
+}
+
+/// Refuses words that name one file twice.
+pub fn refuse_same_file(alloc: Global, same: SameFile) -> Refusal {
+    Refusal::of(same_file_error(alloc, same))
 }
 
 fn compile_words<'a>(given: &ArgMatches<'a>) -> Option<CompileWords<'a>> {
@@ -103,6 +221,12 @@ fn verify_words<'a>(given: &ArgMatches<'a>) -> Option<VerifyWords<'a>> {
     })
 }
 
+fn show_words<'a>(given: &ArgMatches<'a>) -> Option<ShowWords<'a>> {
+    Some(ShowWords {
+        object: given.get_str("OBJ")?,
+    })
+}
+
 fn run_words<'a>(given: &ArgMatches<'a>) -> Option<RunWords<'a>> {
     Some(RunWords {
         object: given.get_str("OBJ")?,
@@ -114,12 +238,21 @@ fn run_words<'a>(given: &ArgMatches<'a>) -> Option<RunWords<'a>> {
     })
 }
 
+fn explain_words<'a>(given: &ArgMatches<'a>) -> ExplainWords<'a> {
+    ExplainWords {
+        code: given.get_str("CODE"),
+        number: given.get_str("N"),
+    }
+}
+
 fn request_in<'a>(matches: &ArgMatches<'a>) -> Option<Request<'a>> {
     match matches.subcommand()? {
         ("compile", given) => compile_words(given).map(Request::Compile),
         ("check", given) => check_words(given).map(Request::Check),
         ("verify", given) => verify_words(given).map(Request::Verify),
+        ("show", given) => show_words(given).map(Request::Show),
         ("run", given) => run_words(given).map(Request::Run),
+        ("explain", given) => Some(Request::Explain(explain_words(given))),
         _ => None,
     }
 }

@@ -1,8 +1,8 @@
 //! The lines and statuses of answers, of which no session gives some.
 
 use rpg_cli::{
-    Answer, BrokenRule, Code, FileFault, Halt, JobEnd, ObjectFault, Report, RunFault, SourceCode,
-    SourceFault, line,
+    Answer, BrokenRule, Code, FileFault, FileWord, Halt, JobEnd, ObjectFault, Reason, Report,
+    RunFault, SourceCode, SourceFault, line,
 };
 use rpg_faults::FaultCode;
 use rpg_sheet::SheetCode;
@@ -75,9 +75,18 @@ const OF_JOBS: [Answer; 3] = [
 const OF_FILES: [Answer; 6] = [
     Answer::Run(RunFault::BadDate),
     Answer::DiskFileWanted,
-    Answer::File(FileFault::Input),
-    Answer::File(FileFault::Output),
-    Answer::File(FileFault::TooLarge),
+    Answer::File {
+        word: FileWord::Input,
+        fault: FileFault::Input(Reason::Missing),
+    },
+    Answer::File {
+        word: FileWord::Print,
+        fault: FileFault::Output(Reason::Full),
+    },
+    Answer::File {
+        word: FileWord::Object,
+        fault: FileFault::TooLarge,
+    },
     Answer::NoMemory,
 ];
 

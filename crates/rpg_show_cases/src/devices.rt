@@ -1,11 +1,13 @@
 //! Readers and writers that give and take little, interrupt, or fail, and runs over them.
 
+ghost use Rattle.std.specs.Prelude.{Some};
+
 use crate::runs::{Given, line_of};
 use rpg_cli::{Answer, Counted, Report, RunFault, execute};
-use rpg_files::fakes::{FullWriter, Interrupting, ShortReader, ShortWriter};
+use rpg_files::fakes::{Interrupting, ShortReader, ShortWriter};
 use rpg_show_lines::{Devices, Outputs};
 use std::alloc::{AllocError, Global};
-use std::io::Write;
+use std::io::{self, Write};
 
 fn reader(devices: Devices, left: &[u8]) -> Interrupting<ShortReader<'_>> {
     Interrupting {
@@ -19,16 +21,56 @@ fn reader(devices: Devices, left: &[u8]) -> Interrupting<ShortReader<'_>> {
     }
 }
 
-/// A writer that fails once so many bytes were taken.
-fn writer(alloc: Global, devices: Devices, until_fault: usize) -> Interrupting<ShortWriter> {
-    Interrupting {
-        device: ShortWriter {
-            written: Vec::new(alloc),
-            most: devices.pieces,
-            until_fault,
+/// A writer that interrupts and fails, or takes nothing and doesn't fail.
+#[derive(Drop)]
+struct CaseWriter {
+    device: Interrupting<ShortWriter>,
+    is_full: bool,
+}
+
+impl Write for CaseWriter {
+    ghost contents = { λ w. Some w.device.device.written.items };
+
+    fn write(&mut self, buf: &[u8]) -> io::Result<usize> {
+        if self.is_full {
+            return Ok(0);
+        }
+        self.device.write(buf)
+    }
+
+    fn flush(&mut self) -> io::Result<()> {
+        self.device.flush()
+    }
+}
+
+/// A writer of pieces.
+fn short_writer(alloc: Global, devices: Devices, until_fault: usize) -> ShortWriter {
+    ShortWriter {
+        written: Vec::new(alloc),
+        most: devices.pieces,
+        until_fault,
+    }
+}
+
+fn print_writer(alloc: Global, devices: Devices) -> CaseWriter {
+    CaseWriter {
+        device: Interrupting {
+            device: short_writer(alloc, devices, devices.print),
+            times: devices.prints,
+            interrupted: 0,
         },
-        times: devices.writes,
-        interrupted: 0,
+        is_full: devices.is_print_full,
+    }
+}
+
+fn disk_writer(alloc: Global, devices: Devices) -> CaseWriter {
+    CaseWriter {
+        device: Interrupting {
+            device: short_writer(alloc, devices, devices.disk),
+            times: devices.stores,
+            interrupted: 0,
+        },
+        is_full: devices.is_disk_full,
     }
 }
 
@@ -48,24 +90,9 @@ fn line_told(alloc: Global, told: Result<Report, RunFault>) -> Result<Vec<u8>, A
     Ok(line)
 }
 
-/// Runs an object over these devices and that print, and hands the print back.
-fn run_onto<P: Write + Drop>(
-    alloc: Global,
-    object: &[u8],
-    given: Given<'_>,
-    devices: Devices,
-    print: P,
-) -> Result<(Outputs, P), AllocError> {
-    let mut input = Counted::new(reader(devices, given.input));
-    let mut print = Counted::new(print);
-    let mut disk = Counted::new(writer(alloc, devices, devices.disk));
-    let told = execute(alloc, object, given.date, &mut input, &mut print, &mut disk);
-    let outputs = Outputs {
-        answer: line_told(alloc, told)?,
-        print: Vec::new(alloc),
-        disk: disk.into_device().device.written,
-    };
-    Ok((outputs, print.into_device()))
+/// What a writer has taken.
+fn taken(writer: Counted<CaseWriter>) -> Vec<u8> {
+    writer.into_device().device.device.written
 }
 
 /// Runs an object over these devices.
@@ -75,14 +102,13 @@ pub fn run_over(
     given: Given<'_>,
     devices: Devices,
 ) -> Result<Outputs, AllocError> {
-    if devices.is_full {
-        let (outputs, _print) = run_onto(alloc, object, given, devices, FullWriter)?;
-        return Ok(outputs);
-    }
-    let print = writer(alloc, devices, devices.print);
-    let (outputs, print) = run_onto(alloc, object, given, devices, print)?;
+    let mut input = Counted::new(reader(devices, given.input));
+    let mut print = Counted::new(print_writer(alloc, devices));
+    let mut disk = Counted::new(disk_writer(alloc, devices));
+    let told = execute(alloc, object, given.date, &mut input, &mut print, &mut disk);
     Ok(Outputs {
-        print: print.device.written,
-        ..outputs
+        answer: line_told(alloc, told)?,
+        print: taken(print),
+        disk: taken(disk),
     })
 }

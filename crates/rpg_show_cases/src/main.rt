@@ -14,6 +14,7 @@ mod object;
 mod objects;
 mod runs;
 mod session;
+mod stage;
 mod sweep;
 mod trial;
 

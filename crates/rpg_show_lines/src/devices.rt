@@ -9,11 +9,13 @@ pub struct Devices {
     pub input: usize,
     pub print: usize,
     pub disk: usize,
-    /// How often each read and each write is interrupted.
+    /// How often each read is interrupted, each write of the print, and each of the disk file.
     pub reads: u32,
-    pub writes: u32,
-    /// Whether the print takes nothing and doesn't fail.
-    pub is_full: bool,
+    pub prints: u32,
+    pub stores: u32,
+    /// Whether the print or the disk file takes nothing and doesn't fail.
+    pub is_print_full: bool,
+    pub is_disk_full: bool,
 }
 
 impl Devices {
@@ -25,8 +27,10 @@ impl Devices {
             print: usize::MAX,
             disk: usize::MAX,
             reads: 0,
-            writes: 0,
-            is_full: false,
+            prints: 0,
+            stores: 0,
+            is_print_full: false,
+            is_disk_full: false,
         }
     }
 
@@ -41,8 +45,13 @@ impl Devices {
             "print" => self.print = count,
             "disk" => self.disk = count,
             "reads" => self.reads = number,
-            "writes" => self.writes = number,
-            "full" => self.is_full = true,
+            "writes" => {
+                self.prints = number;
+                self.stores = number;
+            }
+            "stores" => self.stores = number,
+            "full" if value == "disk" => self.is_disk_full = true,
+            "full" => self.is_print_full = true,
             _ => return false,
         }
         true

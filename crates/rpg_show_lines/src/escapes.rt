@@ -9,12 +9,13 @@ fn escaped(character: u8) -> u8 {
         b'f' => 0x0C,
         b'r' => b'\r',
         b'u' => 0x1F,
+        b'o' => 0xFF,
         _ => character,
     }
 }
 
 /// The bytes of a text: `\n` stands for a line feed, `\f` for a form feed, `\r` for a carriage return, `\u` for the byte below the
-/// blank, and `\` before any other character for that character.
+/// blank, `\o` for the byte ff, and `\` before any other character for that character.
 pub fn unescaped(alloc: Global, text: &str) -> Result<Vec<u8>, AllocError> {
     let mut bytes = Vec::new(alloc);
     let mut is_escaped = false;

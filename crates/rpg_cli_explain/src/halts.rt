@@ -1,0 +1,66 @@
+//! The pages of halts.
+
+use crate::page::{ALONE, Page};
+use rpg_effect::halt::Halt;
+
+const HALT_1: Page = Page {
+    given: ALONE,
+    breaks: "- DIV by a field that is 0",
+    keeps: "- a COMP of the divisor with 0 before, and the DIV under its indicator",
+    advice: "look at the field in factor 2 of each DIV that is done; the line tells the cycle",
+};
+
+const HALT_2: Page = Page {
+    given: ALONE,
+    breaks: "- AR,X where X is 0 or more than the entries of AR, in a calculation or on an output line",
+    keeps: "- an X from 1 to the entries",
+    advice: "see where X is set. On a line it is looked up when the line is put out, which for a\ndetail line is in the cycle behind its record",
+};
+
+const HALT_3: Page = Page {
+    given: ALONE,
+    breaks: "- where all record types have codes, a record that no type's codes fit, as a blank line",
+    keeps: "- a last record type without codes takes every record",
+    advice: "look at the record that is told, or add a record type without codes and without\nlines",
+};
+
+const HALT_4: Page = Page {
+    given: ALONE,
+    breaks: "- in the columns of a number: \"5O0\" (a letter O in the middle), \"-120\", \"1.50\"\n- a MOVE of such a text to a number",
+    keeps: "- \"12 5\" is 1205 and \"35 \" is 350: blanks are zeros\n- the last column may have a letter for the sign: } and J to R are minus 0 to 9, { and A to I\n  plus 0 to 9. So \"50O\" is good too, and is -506",
+    advice: "look at the columns of numbers in the record that is told. A number has no point, no\ncomma and no minus sign: decimals are the input card's, so 1.50 with 2 decimals is 150",
+};
+
+const HALT_5: Page = Page {
+    given: ALONE,
+    breaks: "- a GOTO back to a label before it that is done more than 1,000 times in a cycle",
+    keeps: "- as many backward GOTOs and EXSRs in a cycle as the allowance says",
+    advice: "see what ends the loop, or compile with a greater --allowance, at most 65535",
+};
+
+const HALT_6: Page = Page {
+    given: ALONE,
+    breaks: "- SETON of H1, a resulting indicator H1, a record type that turns on H1",
+    keeps: "- indicators 01 to 99",
+    advice: "the program asked for it: its cards say at which record it turns H1 to H9 on. The\nhalt comes behind the lines of that record",
+};
+
+const HALT_7: Page = Page {
+    given: ALONE,
+    breaks: "- a record that is longer than the record length on the F card\n- a byte that is not one from blank to ~, as a tab, or a letter with an accent",
+    keeps: "- a shorter record: blanks are behind its end\n- a line feed, or carriage return and line feed, behind each record",
+    advice: "look at the record that is told, and convert the file to plain ASCII text",
+};
+
+/// The page of a code.
+pub(crate) fn halt_page(halt: Halt) -> Page {
+    match halt {
+        Halt::ZeroDivisor => HALT_1,
+        Halt::BadIndex => HALT_2,
+        Halt::NoRecordType => HALT_3,
+        Halt::BadDigit => HALT_4,
+        Halt::AllowanceSpent => HALT_5,
+        Halt::IndicatorOn => HALT_6,
+        Halt::BadRecord => HALT_7,
+    }
+}

@@ -1,0 +1,14 @@
+//! The page of each code: what it says, what breaks the rule and what keeps it, what to do, and what stands behind it.
+#![tactic(auto)]
+
+mod bytes;
+mod faults;
+mod halts;
+mod page;
+mod rules;
+mod sheets;
+mod text;
+mod topic;
+
+pub use text::{all_pages, page_text};
+pub use topic::{Topic, topic_of};

@@ -1,0 +1,171 @@
+//! What a page is about.
+
+use crate::bytes::byte_page;
+use crate::faults::fault_page;
+use crate::halts::halt_page;
+use crate::page::Page;
+use crate::rules::rule_page;
+use crate::sheets::sheet_page;
+use rpg_effect::halt::Halt;
+use rpg_faults::FaultCode;
+use rpg_object_format::fault::Code;
+use rpg_sheet::SheetCode;
+use rpg_verify_rules::{LineRule, PlaceRule, Rule, SubroutineRule, TypeRule};
+
+/// A code that is explained.
+#[derive(Clone, Copy)]
+pub enum Topic {
+    Sheet(SheetCode),
+    Fault(FaultCode),
+    Halt(Halt),
+    Rule(Rule),
+    Bytes(Code),
+}
+
+pub(crate) const SHEETS: [SheetCode; 6] = [
+    SheetCode::S1,
+    SheetCode::S2,
+    SheetCode::S3,
+    SheetCode::S4,
+    SheetCode::S5,
+    SheetCode::S6,
+];
+
+pub(crate) const FAULTS: [FaultCode; 18] = [
+    FaultCode::F1,
+    FaultCode::F2,
+    FaultCode::F3,
+    FaultCode::F4,
+    FaultCode::F5,
+    FaultCode::F6,
+    FaultCode::F7,
+    FaultCode::F8,
+    FaultCode::F9,
+    FaultCode::F10,
+    FaultCode::F11,
+    FaultCode::F12,
+    FaultCode::F13,
+    FaultCode::F14,
+    FaultCode::F15,
+    FaultCode::F16,
+    FaultCode::F17,
+    FaultCode::F18,
+];
+
+pub(crate) const HALTS: [Halt; 7] = [
+    Halt::ZeroDivisor,
+    Halt::BadIndex,
+    Halt::NoRecordType,
+    Halt::BadDigit,
+    Halt::AllowanceSpent,
+    Halt::IndicatorOn,
+    Halt::BadRecord,
+];
+
+pub(crate) const RULES: [Rule; 24] = [
+    Rule::Overflow,
+    Rule::Line(LineRule::V2),
+    Rule::Type(TypeRule::V3),
+    Rule::Type(TypeRule::V4),
+    Rule::Type(TypeRule::V5),
+    Rule::Type(TypeRule::V6),
+    Rule::Type(TypeRule::V7),
+    Rule::Line(LineRule::V8),
+    Rule::Line(LineRule::V9),
+    Rule::Line(LineRule::V10),
+    Rule::Line(LineRule::V11),
+    Rule::Line(LineRule::V12),
+    Rule::Line(LineRule::V13),
+    Rule::Line(LineRule::V14),
+    Rule::Line(LineRule::V15),
+    Rule::Place(PlaceRule::V16),
+    Rule::Place(PlaceRule::V17),
+    Rule::Place(PlaceRule::V18),
+    Rule::Place(PlaceRule::V19),
+    Rule::Place(PlaceRule::V20),
+    Rule::Place(PlaceRule::V21),
+    Rule::Place(PlaceRule::V22),
+    Rule::Subroutine(SubroutineRule::V23),
+    Rule::Subroutine(SubroutineRule::V24),
+];
+
+pub(crate) const BYTES: [Code; 7] = [
+    Code::NoObject,
+    Code::Version,
+    Code::CutShort,
+    Code::LeftOver,
+    Code::NotAllowed,
+    Code::Unused,
+    Code::PastLimit,
+];
+
+impl Topic {
+    /// What is wrong, in a sentence.
+    pub fn sentence(self) -> &'static str {
+        match self {
+            Topic::Sheet(code) => code.sentence(),
+            Topic::Fault(code) => code.sentence(),
+            Topic::Halt(halt) => halt.sentence(),
+            Topic::Rule(rule) => rule.sentence(),
+            Topic::Bytes(code) => code.sentence(),
+        }
+    }
+
+    pub(crate) fn page(self) -> Page {
+        match self {
+            Topic::Sheet(code) => sheet_page(code),
+            Topic::Fault(code) => fault_page(code),
+            Topic::Halt(halt) => halt_page(halt),
+            Topic::Rule(rule) => rule_page(rule),
+            Topic::Bytes(code) => byte_page(code),
+        }
+    }
+
+    /// What stands behind it: when it is told, what is left of the work, and the status.
+    pub(crate) const fn behind(self) -> &'static str {
+        match self {
+            Topic::Sheet(_) => {
+                "F codes are told once no card has an S code. Nothing is written; status 3"
+            }
+            Topic::Fault(_) => {
+                "told once no S code is left. The line has the first card and its least code, standard\nerror has all. Nothing is written; status 3"
+            }
+            Topic::Halt(_) => {
+                "the job ends at once, and what was put out before stays; status 5"
+            }
+            Topic::Rule(_) => {
+                "nothing is run. The least rule that a row breaks is told, with the first row that breaks\nit, counted from 0; status 4"
+            }
+            Topic::Bytes(_) => {
+                "nothing is run. The first number that is wrong is told, with the offset of its first byte,\ncounted from 0; the rules, V1 to V24, come behind; status 4"
+            }
+        }
+    }
+}
+
+/// The number behind a family's letters, whatever their case: 16 of `f16` for `F`, 4 of `Halt 4` for `halt`.
+fn number_behind(code: &str, letters: &str) -> Option<usize> {
+    let given = code.get(..letters.len())?;
+    if !given.eq_ignore_ascii_case(letters) {
+        return None;
+    }
+    let digits = code.get(letters.len()..)?;
+    let number: usize = digits.trim().parse().ok()?;
+    number.checked_sub(1)
+}
+
+/// What the code of a person is about, as `F16`, `s5` or `halt 4`.
+pub fn topic_of(code: &str) -> Option<Topic> {
+    if let Some(at) = number_behind(code, "S") {
+        SHEETS.get(at).map(|code| Topic::Sheet(*code))
+    } else if let Some(at) = number_behind(code, "F") {
+        FAULTS.get(at).map(|code| Topic::Fault(*code))
+    } else if let Some(at) = number_behind(code, "V") {
+        RULES.get(at).map(|rule| Topic::Rule(*rule))
+    } else if let Some(at) = number_behind(code, "B") {
+        BYTES.get(at).map(|code| Topic::Bytes(*code))
+    } else {
+        let at = number_behind(code, "halt")?;
+        HALTS.get(at).map(|halt| Topic::Halt(*halt))
+    }
+}

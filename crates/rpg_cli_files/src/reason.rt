@@ -1,0 +1,56 @@
+//! Why a file failed.
+
+use std::io::ErrorKind;
+
+/// Why a file can't be opened, read, made or written, as far as the system tells one from another.
+#[derive(Clone, Copy)]
+pub enum Reason {
+    Missing,
+    NotAllowed,
+    Folder,
+    /// A part of the path is a file.
+    NoFolder,
+    ReadOnly,
+    Full,
+    TooLarge,
+    /// Nobody reads what is written.
+    Closed,
+    Name,
+    /// A folder is no file that can be written, a device isn't there, or another fault.
+    Other,
+}
+
+impl Reason {
+    pub fn of(kind: ErrorKind) -> Self {
+        match kind {
+            ErrorKind::NotFound => Reason::Missing,
+            ErrorKind::PermissionDenied => Reason::NotAllowed,
+            ErrorKind::IsADirectory => Reason::Folder,
+            ErrorKind::NotADirectory => Reason::NoFolder,
+            ErrorKind::ReadOnlyFilesystem => Reason::ReadOnly,
+            ErrorKind::StorageFull | ErrorKind::QuotaExceeded => Reason::Full,
+            ErrorKind::FileTooLarge => Reason::TooLarge,
+            ErrorKind::BrokenPipe => Reason::Closed,
+            ErrorKind::InvalidFilename | ErrorKind::FilesystemLoop | ErrorKind::InvalidInput => {
+                Reason::Name
+            }
+            _ => Reason::Other,
+        }
+    }
+
+    /// The reason in words.
+    pub fn text(self) -> &'static str {
+        match self {
+            Reason::Missing => "no such file or directory",
+            Reason::NotAllowed => "permission denied",
+            Reason::Folder => "is a directory",
+            Reason::NoFolder => "a part of the path is no directory",
+            Reason::ReadOnly => "the file system is read-only",
+            Reason::Full => "no space is left",
+            Reason::TooLarge => "the file would be too large",
+            Reason::Closed => "nobody reads it",
+            Reason::Name => "no file can have that name",
+            Reason::Other => "the system refuses it",
+        }
+    }
+}

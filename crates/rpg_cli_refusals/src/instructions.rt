@@ -1,0 +1,111 @@
+//! Instructions in words, and where they stand.
+
+use rpg_effect::operation::{Action, Instruction, Operand, Operator, Side};
+use rpg_object_program::row::Rows;
+use rpg_object_program::section::Section;
+use std::alloc::{AllocError, Global};
+
+/// A section with its place among all instructions.
+#[derive(Clone, Copy)]
+pub(crate) struct Part<'a> {
+    pub section: Section,
+    pub level: u16,
+    /// The place of its first instruction.
+    pub first: usize,
+    pub code: &'a [Instruction<u16>],
+}
+
+impl Part<'_> {
+    /// The place behind its last instruction.
+    pub fn end(self) -> usize {
+        self.first.saturating_add(self.code.len())
+    }
+
+    /// The instruction at a place, counted through the whole program.
+    pub fn at(self, place: usize) -> Option<Instruction<u16>> {
+        self.code.get(place.checked_sub(self.first)?).copied()
+    }
+}
+
+/// The section that a place is in; the last where it is in none.
+pub(crate) fn part_at(rows: &Rows, place: usize) -> Part<'_> {
+    let mut part = Part {
+        section: Section::Detail,
+        level: 0,
+        first: 0,
+        code: &rows.detail,
+    };
+    if place < part.end() {
+        return part;
+    }
+    part = Part {
+        section: Section::Total,
+        level: 0,
+        first: part.end(),
+        code: &rows.total,
+    };
+    let mut number = 0u16;
+    for subroutine in &rows.subroutines {
+        if place < part.end() {
+            return part;
+        }
+        part = Part {
+            section: Section::Subroutine(number),
+            level: subroutine.level,
+            first: part.end(),
+            code: &subroutine.instructions,
+        };
+        number = number.saturating_add(1);
+    }
+    part
+}
+
+/// The name of a section.
+pub(crate) fn put_section(
+    alloc: Global,
+    out: &mut String,
+    part: Part<'_>,
+) -> Result<(), AllocError> {
+    match part.section {
+        Section::Detail => out.push_str("the detail calculations"),
+        Section::Total => out.push_str("the total calculations"),
+        Section::Subroutine(number) => {
+            let level = part.level;
+            out.push_str(format!(in alloc; "subroutine {number}, of level {level}")?.as_str())
+        }
+    }
+}
+
+fn action_name(action: Action<Operand<u16>>) -> &'static str {
+    match action {
+        Action::Compute { operator, .. } => match operator {
+            Operator::Add => "ADD",
+            Operator::Subtract => "SUB",
+            Operator::Multiply => "MULT",
+        },
+        Action::Divide { .. } => "DIV",
+        Action::Assign { is_negated, .. } => { if is_negated { "Z-SUB" } else { "Z-ADD" } }
+        Action::TakeRemainder { .. } => "MVR",
+        Action::CrossFoot { .. } => "XFOOT",
+        Action::Compare { .. } => "COMP",
+        Action::LookUp { .. } => "LOKUP",
+        Action::Move { side, .. } => match side {
+            Side::Right => "MOVE",
+            Side::Left => "MOVEL",
+        },
+        Action::SetIndicators { is_on, .. } => { if is_on { "SETON" } else { "SETOF" } }
+    }
+}
+
+/// The name of an instruction's operation.
+pub(crate) fn name_of(instruction: Instruction<u16>) -> &'static str {
+    match instruction {
+        Instruction::Act(action) => action_name(action),
+        Instruction::Except => "EXCPT",
+        Instruction::Branch { is_taken_where, .. } => {
+            if is_taken_where { "JUMP" } else { "SKIP" }
+        }
+        Instruction::Call { .. } => "CALL",
+        Instruction::Return { .. } => "RET",
+    }
+}

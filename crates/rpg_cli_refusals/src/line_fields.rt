@@ -1,0 +1,144 @@
+//! V10 to V15: which field of a line breaks a rule, as far as a look at the field alone tells.
+
+use crate::fields::{put_field, put_operand};
+use rpg_effect::condition::{Condition, Conditions};
+use rpg_effect::form::Kind;
+use rpg_effect::line::{Editing, LineField, Source};
+use rpg_effect::operation::Operand;
+use rpg_effect::row::{Shape, Use};
+use rpg_object_program::columns::is_good;
+use rpg_object_program::forms::{
+    form_at, is_index_form, is_text_constant, kind_of, length_of, may_write, same_kind,
+};
+use rpg_object_program::row::Rows;
+use rpg_verify_rules::LineRule;
+use std::alloc::{AllocError, Global};
+
+fn asks_mr(condition: Option<Condition>) -> bool {
+    condition.is_some_and(|condition| condition.indicator == 129)
+}
+
+fn any_asks_mr(conditions: Conditions) -> bool {
+    asks_mr(conditions.first) || asks_mr(conditions.second) || asks_mr(conditions.third)
+}
+
+fn is_there(rows: &Rows, operand: Operand<u16>) -> bool {
+    is_good(
+        rows,
+        Use {
+            operand,
+            kind: Kind::Number,
+            shape: Shape::One,
+        },
+    )
+}
+
+/// Whether a field is a plain number of 4 digits without decimals, as PAGE is.
+fn is_page(rows: &Rows, field: u16) -> bool {
+    let form = form_at(rows, field);
+    is_index_form(form) && length_of(form) == 4
+}
+
+fn is_put_out(rows: &Rows, field: LineField<u16>) -> bool {
+    is_there(rows, field.operand)
+        && match field.source {
+            Source::Value => true,
+            Source::Page => is_page(rows, field.operand.field),
+        }
+}
+
+fn is_number(rows: &Rows, field: u16) -> bool {
+    same_kind(kind_of(form_at(rows, field)), Kind::Number)
+}
+
+/// Whether editing, if there is some, has a number beside it.
+fn is_edited(rows: &Rows, field: LineField<u16>) -> bool {
+    match field.editing {
+        Editing::Plain => true,
+        Editing::Code(_) | Editing::Word(_) => is_number(rows, field.operand.field),
+    }
+}
+
+fn has_word(rows: &Rows, field: LineField<u16>) -> bool {
+    match field.editing {
+        Editing::Plain | Editing::Code(_) => true,
+        Editing::Word(word) => {
+            let form = form_at(rows, word);
+            is_text_constant(form) && length_of(form) <= 24
+        }
+    }
+}
+
+/// Whether a field ends in a line of so many places.
+fn ends_within(field: LineField<u16>, length: u16) -> bool {
+    1 <= field.end && field.end <= length
+}
+
+/// Whether a field that isn't edited has room before its end.
+fn has_room(rows: &Rows, field: LineField<u16>) -> bool {
+    match field.editing {
+        Editing::Plain => length_of(form_at(rows, field.operand.field)) <= field.end,
+        Editing::Code(_) | Editing::Word(_) => true,
+    }
+}
+
+/// Whether a field keeps a rule, as far as is seen here.
+fn keeps(rule: LineRule, rows: &Rows, length: u16, field: LineField<u16>) -> bool {
+    match rule {
+        LineRule::V10 => is_put_out(rows, field),
+        LineRule::V11 => is_edited(rows, field),
+        LineRule::V12 => has_word(rows, field),
+        LineRule::V13 => ends_within(field, length) && has_room(rows, field),
+        LineRule::V14 => !field.is_blanked || may_write(form_at(rows, field.operand.field)),
+        LineRule::V15 => !any_asks_mr(field.conditions),
+        LineRule::V2 | LineRule::V8 | LineRule::V9 => true,
+    }
+}
+
+/// The edit word of a field.
+fn put_word(
+    alloc: Global,
+    out: &mut String,
+    rows: &Rows,
+    editing: Editing<u16>,
+) -> Result<(), AllocError> {
+    match editing {
+        Editing::Plain | Editing::Code(_) => Ok(()),
+        Editing::Word(word) => {
+            out.push_str(", edited by the word in ")?;
+            put_field(alloc, out, rows, word)
+        }
+    }
+}
+
+/// What a field puts out, and where it ends.
+fn put_line_field(
+    alloc: Global,
+    out: &mut String,
+    rows: &Rows,
+    at: usize,
+    field: LineField<u16>,
+) -> Result<(), AllocError> {
+    out.push_str(format!(in alloc; "; its field {at} is ")?.as_str())?;
+    put_operand(alloc, out, rows, field.operand)?;
+    put_word(alloc, out, rows, field.editing)?;
+    let end = field.end;
+    out.push_str(format!(in alloc; ", and ends at place {end}")?.as_str())
+}
+
+/// The first field of a line that breaks a rule, where a look at the field alone tells.
+pub(crate) fn put_fields(
+    alloc: Global,
+    out: &mut String,
+    rows: &Rows,
+    rule: LineRule,
+    length: u16,
+    fields: &[LineField<u16>],
+) -> Result<(), AllocError> {
+    for (at, field) in fields.iter().enumerate() {
+        if !keeps(rule, rows, length, *field) {
+            return put_line_field(alloc, out, rows, at, *field);
+        }
+    }
+    Ok(())
+}

@@ -1,0 +1,207 @@
+//! What stands at an offset of an object program's bytes. The counts before it are taken as they are.
+
+use crate::parts::{
+    alternative_part, field_part, header_part, input_part, instruction_part, level_part,
+    line_field_part, line_part, record_code_part, subroutine_part, type_part,
+};
+
+/// A part of a row of a table.
+#[derive(Clone, Copy)]
+pub(crate) struct Spot {
+    pub part: &'static str,
+    pub table: &'static str,
+    /// The number of the row in its table; the header has none.
+    pub row: Option<usize>,
+}
+
+fn row_spot(part: &'static str, table: &'static str, row: usize) -> Option<Spot> {
+    Some(Spot {
+        part,
+        table,
+        row: Some(row),
+    })
+}
+
+/// The bytes, the offset that is looked for, and how far the tables were gone through.
+#[derive(Clone, Copy)]
+struct Walk<'a> {
+    bytes: &'a [u8],
+    offset: usize,
+    at: usize,
+}
+
+impl Walk<'_> {
+    /// The number of two bytes at a place; 0 where one is missing.
+    fn number(&self, place: usize) -> usize {
+        match (
+            self.bytes.get(place),
+            self.bytes.get(place.saturating_add(1)),
+        ) {
+            (Some(high), Some(low)) => usize::from(*high) * 256 + usize::from(*low),
+            _ => 0,
+        }
+    }
+
+    /// A number of two bytes in the row that begins here.
+    fn ahead(&self, place: usize) -> usize {
+        self.number(self.at.saturating_add(place))
+    }
+
+    /// The place of the offset in the next so many bytes. Where it is behind them they are passed.
+    fn within(&mut self, count: usize) -> Option<usize> {
+        let place = self.offset.checked_sub(self.at)?;
+        if place < count {
+            return Some(place);
+        }
+        self.at = self.at.saturating_add(count);
+        None
+    }
+}
+
+fn in_header(walk: &mut Walk<'_>) -> Option<Spot> {
+    let place = walk.within(32)?;
+    Some(Spot {
+        part: header_part(place),
+        table: "header",
+        row: None,
+    })
+}
+
+fn in_fields(walk: &mut Walk<'_>) -> Option<Spot> {
+    let count = walk.number(18);
+    let place = walk.within(count.saturating_mul(8))?;
+    row_spot(field_part(place % 8), "field", place / 8 + 1)
+}
+
+fn in_values(walk: &mut Walk<'_>) -> Option<Spot> {
+    for field in 0..walk.number(18) {
+        let row = field.saturating_mul(8).saturating_add(32);
+        let length = walk.number(row.saturating_add(2));
+        let entries = walk.number(row.saturating_add(6));
+        if walk.within(length.saturating_mul(entries)).is_some() {
+            return row_spot("a first value", "field", field.saturating_add(1));
+        }
+    }
+    None
+}
+
+fn in_type(walk: &mut Walk<'_>, row: usize) -> Option<Spot> {
+    let table = "record type";
+    let codes = walk.ahead(2);
+    let levels = walk.ahead(4);
+    let inputs = walk.ahead(6);
+    if let Some(place) = walk.within(8) {
+        return row_spot(type_part(place), table, row);
+    }
+    if let Some(place) = walk.within(codes.saturating_mul(4)) {
+        return row_spot(record_code_part(place % 4), table, row);
+    }
+    if let Some(place) = walk.within(levels.saturating_mul(6)) {
+        return row_spot(level_part(place % 6), table, row);
+    }
+    let place = walk.within(inputs.saturating_mul(10))?;
+    row_spot(input_part(place % 10), table, row)
+}
+
+fn in_types(walk: &mut Walk<'_>) -> Option<Spot> {
+    for row in 0..walk.number(20) {
+        if let Some(spot) = in_type(walk, row) {
+            return Some(spot);
+        }
+    }
+    None
+}
+
+fn in_alternatives(walk: &mut Walk<'_>, count: usize, row: usize) -> Option<Spot> {
+    for _ in 0..count {
+        let conditions = walk.ahead(0);
+        if let Some(place) = walk.within(conditions.saturating_mul(2).saturating_add(2)) {
+            return row_spot(alternative_part(place), "line", row);
+        }
+    }
+    None
+}
+
+fn in_line(walk: &mut Walk<'_>, row: usize) -> Option<Spot> {
+    let alternatives = walk.ahead(6);
+    let fields = walk.ahead(8);
+    if let Some(place) = walk.within(12) {
+        return row_spot(line_part(place), "line", row);
+    }
+    if let Some(spot) = in_alternatives(walk, alternatives, row) {
+        return Some(spot);
+    }
+    let place = walk.within(fields.saturating_mul(16))?;
+    row_spot(line_field_part(place % 16), "line", row)
+}
+
+fn in_lines(walk: &mut Walk<'_>) -> Option<Spot> {
+    for row in 0..walk.number(22) {
+        if let Some(spot) = in_line(walk, row) {
+            return Some(spot);
+        }
+    }
+    None
+}
+
+/// The spot in the next so many instructions, of which the first has this number.
+fn in_instructions(walk: &mut Walk<'_>, count: usize, first: usize) -> Option<Spot> {
+    let place = walk.within(count.saturating_mul(20))?;
+    row_spot(
+        instruction_part(place % 20),
+        "instruction",
+        first.saturating_add(place / 20),
+    )
+}
+
+fn in_subroutines(walk: &mut Walk<'_>, before: usize) -> Option<Spot> {
+    let mut first = before;
+    for row in 0..walk.number(28) {
+        let count = walk.ahead(2);
+        if let Some(place) = walk.within(4) {
+            return row_spot(subroutine_part(place), "subroutine", row);
+        }
+        if let Some(spot) = in_instructions(walk, count, first) {
+            return Some(spot);
+        }
+        first = first.saturating_add(count);
+    }
+    None
+}
+
+fn in_calculations(walk: &mut Walk<'_>) -> Option<Spot> {
+    let detail = walk.number(24);
+    let total = walk.number(26);
+    if let Some(spot) = in_instructions(walk, detail, 0) {
+        return Some(spot);
+    }
+    if let Some(spot) = in_instructions(walk, total, detail) {
+        return Some(spot);
+    }
+    in_subroutines(walk, detail.saturating_add(total))
+}
+
+/// What was to stand at an offset; nothing behind the last table.
+pub(crate) fn spot_at(bytes: &[u8], offset: usize) -> Option<Spot> {
+    let mut walk = Walk {
+        bytes,
+        offset,
+        at: 0,
+    };
+    if let Some(spot) = in_header(&mut walk) {
+        return Some(spot);
+    }
+    if let Some(spot) = in_fields(&mut walk) {
+        return Some(spot);
+    }
+    if let Some(spot) = in_values(&mut walk) {
+        return Some(spot);
+    }
+    if let Some(spot) = in_types(&mut walk) {
+        return Some(spot);
+    }
+    if let Some(spot) = in_lines(&mut walk) {
+        return Some(spot);
+    }
+    in_calculations(&mut walk)
+}

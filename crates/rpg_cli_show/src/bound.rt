@@ -1,0 +1,235 @@
+//! The bound of an accepted program, and the path costs that it is made of.
+
+ghost use Rattle.std.specs.Prelude.{◌≡◌, ◌+◌, ◌<◌, ◌≤◌, length};
+ghost use Rattle.rpg_object_program.specs.Kept.{IsProgram};
+ghost use Rattle.rpg_object_program.specs.Object.{seen};
+ghost use Rattle.rpg_object_program.specs.Sections.{first_place, place_behind};
+ghost use Rattle.rpg_object_program.specs.declared.section.Section.TheVariants as sections;
+
+use rpg_effect::line::Time;
+use rpg_object_program::row::{Line, RecordType, Rows};
+use rpg_object_program::section::{Place, Section};
+use rpg_verify::Verified;
+use std::alloc::{AllocError, Global};
+use std::fmt::Write;
+
+/// The path costs of places, as far as they are known.
+#[derive(Drop)]
+pub(crate) struct Costs {
+    places: Vec<u64>,
+}
+
+/// The path cost of a place of detail calculations.
+#[tactic(auto, unfolding(rpg_object_program::specs::Sections::first_place, rpg_object_program::specs::Sections::place_behind))]
+fn detail_cost(verified: &Verified, number: u16) -> u64
+    requires { number < length verified.now.detail }
+{
+    verified.path_cost(Place {
+        section: Section::Detail,
+        number,
+    })
+}
+
+/// The path cost of a place of total calculations.
+#[tactic(auto, unfolding(rpg_object_program::specs::Sections::first_place, rpg_object_program::specs::Sections::place_behind))]
+fn total_cost(verified: &Verified, number: u16) -> u64
+    requires first { length verified.now.detail ≤ number }
+    requires last { number < length verified.now.detail + length verified.now.total }
+{
+    verified.path_cost(Place {
+        section: Section::Total,
+        number,
+    })
+}
+
+/// The path cost of a place of a subroutine.
+fn subroutine_cost(verified: &Verified, subroutine: u16, number: u16) -> u64
+    requires first { first_place verified.now (sections.Subroutine subroutine) ≤ number }
+    requires last { number < place_behind verified.now (sections.Subroutine subroutine) }
+{
+    verified.path_cost(Place {
+        section: Section::Subroutine(subroutine),
+        number,
+    })
+}
+
+fn put_detail(costs: &mut Vec<u64>, verified: &Verified) -> Result<(), AllocError> {
+    for place in 0..verified.program().rows().detail.len() {
+        costs.push(detail_cost(verified, place as u16))?;
+    }
+    Ok(())
+}
+
+fn put_total(costs: &mut Vec<u64>, verified: &Verified) -> Result<(), AllocError> {
+    let rows = verified.program().rows();
+    let first = rows.detail.len();
+    for place in first..first + rows.total.len() {
+        costs.push(total_cost(verified, place as u16))?;
+    }
+    Ok(())
+}
+
+fn put_subroutine(
+    costs: &mut Vec<u64>,
+    verified: &Verified,
+    subroutine: u16,
+    first: usize,
+    count: usize,
+) -> Result<(), AllocError>
+    requires few { first + count ≤ 8192 }
+    requires first { first ≡ first_place verified.now (sections.Subroutine subroutine) }
+    requires end { first + count ≡ place_behind verified.now (sections.Subroutine subroutine) }
+{
+    for place in first..first + count {
+        costs.push(subroutine_cost(verified, subroutine, place as u16))?;
+    }
+    Ok(())
+}
+
+/// Puts the costs of all subroutines, of which the first begins at a place.
+fn put_subroutines(
+    costs: &mut Vec<u64>,
+    verified: &Verified,
+    rows: &Rows,
+    begin: usize,
+) -> Result<(), AllocError>
+    requires same { seen rows.now ≡ verified.now }
+    requires program { IsProgram (seen rows.now) }
+    requires begin { begin ≡ length rows.now.detail.items + length rows.now.total.items }
+{
+    let mut first = begin;
+    let mut number: u16 = 0;
+    for subroutine in &rows.subroutines {
+        let count = subroutine.instructions.len();
+        put_subroutine(costs, verified, number, first, count)?;
+        first += count;
+        number += 1;
+    }
+    Ok(())
+}
+
+impl Costs {
+    /// No costs, as a refused program has.
+    pub fn none(alloc: Global) -> Self {
+        Costs {
+            places: Vec::new(alloc),
+        }
+    }
+
+    /// The costs of the places of an accepted program.
+    pub fn of(alloc: Global, verified: &Verified) -> Result<Self, AllocError> {
+        let mut places = Vec::new(alloc);
+        put_detail(&mut places, verified)?;
+        put_total(&mut places, verified)?;
+        let rows = verified.program().rows();
+        let begin = rows.detail.len() + rows.total.len();
+        put_subroutines(&mut places, verified, rows, begin)?;
+        Ok(Costs { places })
+    }
+
+    /// The cost of a place, or 0.
+    fn at(&self, place: usize) -> u64 {
+        match self.places.get(place) {
+            Some(cost) => *cost,
+            None => 0,
+        }
+    }
+
+    /// The cost of a place as it is written: nothing where it isn't known.
+    pub fn text(&self, alloc: Global, place: usize) -> Result<String, AllocError> {
+        match self.places.get(place) {
+            Some(cost) => format!(in alloc; "{cost}"),
+            None => Ok(String::new(alloc)),
+        }
+    }
+}
+
+/// The weight of a record type: its codes, control fields and input fields.
+fn type_weight(record_type: &RecordType) -> u64 {
+    let codes = record_type.codes.len() as u64;
+    codes
+        .saturating_add(record_type.levels.len() as u64)
+        .saturating_add(record_type.inputs.len() as u64)
+}
+
+fn types_weight(rows: &Rows) -> u64 {
+    let mut sum: u64 = 0;
+    for record_type in &rows.types {
+        sum = sum.saturating_add(type_weight(record_type));
+    }
+    sum
+}
+
+/// The weight of a line that isn't an exception line: one, and one for each of its fields.
+fn line_weight(line: &Line) -> u64 {
+    match line.time {
+        Time::Exception => 0,
+        Time::Heading | Time::Detail | Time::Total => (line.fields.len() as u64).saturating_add(1),
+    }
+}
+
+fn lines_weight(rows: &Rows) -> u64 {
+    let mut sum: u64 = 0;
+    for line in &rows.lines {
+        sum = sum.saturating_add(line_weight(line));
+    }
+    sum
+}
+
+/// The path cost of the first place of a section, 0 of one that has none.
+fn first_cost(costs: &Costs, place: usize, count: usize) -> u64 {
+    if count == 0 { 0 } else { costs.at(place) }
+}
+
+/// Writes the bound and what it is made of.
+pub(crate) fn put_bound(
+    out: &mut String,
+    verified: &Verified,
+    costs: &Costs,
+) -> Result<(), AllocError> {
+    let rows = verified.program().rows();
+    let bound = verified.bound();
+    let types = types_weight(rows);
+    let lines = lines_weight(rows);
+    let detail = first_cost(costs, 0, rows.detail.len());
+    let total = first_cost(costs, rows.detail.len(), rows.total.len());
+    let overflow = match rows.overflow {
+        Some(_) => lines,
+        None => 0,
+    };
+    let spent = bound
+        .saturating_sub(types)
+        .saturating_sub(lines)
+        .saturating_sub(overflow)
+        .saturating_sub(detail)
+        .saturating_sub(total);
+    writeln!(
+        out,
+        "  accepted, bound {bound}: a cycle takes at most so many steps, of these"
+    )?;
+    put_part(
+        out,
+        types,
+        "for codes, control fields and input fields of all record types",
+    )?;
+    put_part(
+        out,
+        lines,
+        "for heading, detail and total lines and their fields",
+    )?;
+    put_part(out, overflow, "for the same at an overflow")?;
+    put_part(
+        out,
+        detail,
+        "for detail calculations, without what is spent",
+    )?;
+    put_part(out, total, "for total calculations, without what is spent")?;
+    put_part(out, spent, "for all that branches back and calls lead to")
+}
+
+fn put_part(out: &mut String, steps: u64, words: &str) -> Result<(), AllocError> {
+    if steps == 0 {
+        return Ok(());
+    }
+    writeln!(out, "    {steps:>14} {words}")
+}

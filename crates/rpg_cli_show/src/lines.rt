@@ -1,0 +1,193 @@
+//! Output lines, with their conditions and their fields.
+
+use crate::refusal::{Table, put_if_broken};
+use rpg_cli_show_fields::{
+    LINE_FIELD, field_text, has_conditions, line_bytes, line_head_bytes, operand_text,
+    put_condition, put_conditions,
+};
+use rpg_edit_marks::{EditCode, Ending, Fill};
+use rpg_effect::condition::Condition;
+use rpg_effect::line::{Editing, File, LineField, Source, Spacing, Time};
+use rpg_object_program::row::{Line, Rows};
+use rpg_verify::BrokenRule;
+use std::alloc::{AllocError, Global};
+use std::fmt::Write;
+
+fn file_word(file: File) -> &'static str {
+    match file {
+        File::Printer => "printer",
+        File::Disk => "disk",
+    }
+}
+
+fn time_word(time: Time) -> &'static str {
+    match time {
+        Time::Heading => "heading",
+        Time::Detail => "detail",
+        Time::Total => "total",
+        Time::Exception => "exception",
+    }
+}
+
+/// Writes a movement of the form, unless it is none.
+fn put_movement(out: &mut String, words: &str, lines: u8, when: &str) -> Result<(), AllocError> {
+    if lines == 0 {
+        return Ok(());
+    }
+    write!(out, ", {words} {lines} {when}")
+}
+
+fn put_spacing(out: &mut String, spacing: Spacing) -> Result<(), AllocError> {
+    put_movement(out, "skip to", spacing.skip_before, "before")?;
+    put_movement(out, "space", spacing.space_before, "before")?;
+    put_movement(out, "skip to", spacing.skip_after, "after")?;
+    put_movement(out, "space", spacing.space_after, "after")
+}
+
+/// Writes conditions that must all hold.
+fn put_alternative(out: &mut String, conditions: &[Condition]) -> Result<(), AllocError> {
+    if conditions.is_empty() {
+        return out.push_str(" always");
+    }
+    for condition in conditions {
+        put_condition(out, *condition)?;
+    }
+    Ok(())
+}
+
+fn put_alternatives(out: &mut String, alternatives: &[Vec<Condition>]) -> Result<(), AllocError> {
+    for (i, conditions) in alternatives.iter().enumerate() {
+        out.push_str(if i == 0 { ", when" } else { ", or" })?;
+        put_alternative(out, conditions)?;
+    }
+    Ok(())
+}
+
+fn put_head(out: &mut String, at: usize, number: usize, line: &Line) -> Result<(), AllocError> {
+    let file = file_word(line.file);
+    let time = time_word(line.time);
+    write!(out, "{at:>6}  line {number}: {file}, {time}")?;
+    put_spacing(out, line.spacing)?;
+    put_alternatives(out, &line.alternatives)?;
+    out.push('\n')
+}
+
+/// The characters of the codes with and without commas and zeros, for an ending.
+fn code_letters(ending: Ending) -> [char; 4] {
+    match ending {
+        Ending::Unsigned => ['1', '2', '3', '4'],
+        Ending::Credit => ['A', 'B', 'C', 'D'],
+        Ending::Minus => ['J', 'K', 'L', 'M'],
+    }
+}
+
+/// The character of an edit code.
+fn code_letter(code: EditCode) -> char {
+    match code {
+        EditCode::Combination {
+            commas,
+            zeros,
+            ending,
+        } => {
+            let [first, second, third, fourth] = code_letters(ending);
+            match (commas, zeros) {
+                (true, true) => first,
+                (true, false) => second,
+                (false, true) => third,
+                (false, false) => fourth,
+            }
+        }
+        EditCode::X => 'X',
+        EditCode::Y => 'Y',
+        EditCode::Z => 'Z',
+    }
+}
+
+fn fill_words(fill: Fill) -> &'static str {
+    match fill {
+        Fill::Blank => "",
+        Fill::Star => " filled with *",
+        Fill::Dollar => " with $ before it",
+    }
+}
+
+fn put_editing(
+    alloc: Global,
+    out: &mut String,
+    rows: &Rows,
+    editing: Editing<u16>,
+    fill: Fill,
+) -> Result<(), AllocError> {
+    match editing {
+        Editing::Plain => Ok(()),
+        Editing::Code(code) => {
+            let letter = code_letter(code);
+            let filled = fill_words(fill);
+            write!(out, " by code {letter}{filled}")
+        }
+        Editing::Word(word) => {
+            let word = field_text(alloc, rows, word)?;
+            write!(out, " by word {word}")
+        }
+    }
+}
+
+fn put_field(
+    alloc: Global,
+    out: &mut String,
+    rows: &Rows,
+    at: usize,
+    field: LineField<u16>,
+) -> Result<(), AllocError> {
+    let end = field.end;
+    let page = match field.source {
+        Source::Value => "",
+        Source::Page => "PAGE, one more in ",
+    };
+    let operand = operand_text(alloc, rows, field.operand)?;
+    write!(out, "{at:>6}    to place {end:<4} {page}{operand}")?;
+    put_editing(alloc, out, rows, field.editing, field.fill)?;
+    if field.is_blanked {
+        out.push_str(", blank after")?;
+    }
+    if has_conditions(field.conditions) {
+        out.push_str(", when")?;
+        put_conditions(out, field.conditions)?;
+    }
+    out.push('\n')
+}
+
+fn put_fields(
+    alloc: Global,
+    out: &mut String,
+    rows: &Rows,
+    begin: usize,
+    fields: &[LineField<u16>],
+) -> Result<(), AllocError> {
+    let mut at = begin;
+    for field in fields {
+        put_field(alloc, out, rows, at, *field)?;
+        at = at.saturating_add(LINE_FIELD);
+    }
+    Ok(())
+}
+
+/// Writes all lines, of which the first begins at a byte.
+pub(crate) fn put_lines(
+    alloc: Global,
+    out: &mut String,
+    rows: &Rows,
+    begin: usize,
+    broken: Option<BrokenRule>,
+) -> Result<(), AllocError> {
+    out.push_str("\n    at  LINES\n")?;
+    let mut at = begin;
+    for (number, line) in rows.lines.iter().enumerate() {
+        put_head(out, at, number, line)?;
+        let fields = at.saturating_add(line_head_bytes(line));
+        put_fields(alloc, out, rows, fields, &line.fields)?;
+        put_if_broken(out, broken, Table::Lines, number)?;
+        at = at.saturating_add(line_bytes(line));
+    }
+    Ok(())
+}

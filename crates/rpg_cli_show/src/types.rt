@@ -1,0 +1,143 @@
+//! Record types, with their codes, control fields and input fields.
+
+use crate::refusal::{Table, put_if_broken};
+use rpg_cli_show_fields::{CODE, INPUT, Indicator, LEVEL, TYPE, put_shown, quoted, type_bytes};
+use rpg_effect::input::{ControlField, InputField, RecordCode};
+use rpg_object_program::row::{RecordType, Rows};
+use rpg_verify::BrokenRule;
+use std::alloc::{AllocError, Global};
+use std::fmt::Write;
+
+/// Which records are of the type, and what it turns on.
+fn put_head(out: &mut String, number: usize, record_type: &RecordType) -> Result<(), AllocError> {
+    write!(out, "type {number}: ")?;
+    if record_type.codes.is_empty() {
+        out.push_str("every record")?;
+    } else {
+        out.push_str("records with these codes")?;
+    }
+    match record_type.indicator {
+        Some(number) => {
+            let indicator = Indicator(number);
+            writeln!(out, ", turns on {indicator}")
+        }
+        None => out.push('\n'),
+    }
+}
+
+fn put_code(
+    alloc: Global,
+    out: &mut String,
+    at: usize,
+    code: RecordCode,
+) -> Result<(), AllocError> {
+    let position = code.position;
+    let is = if code.is_negated { "isn't" } else { "is" };
+    let character = quoted(alloc, &[code.character])?;
+    writeln!(out, "{at:>6}    column {position} {is} {character}")
+}
+
+fn put_level(out: &mut String, at: usize, control: ControlField) -> Result<(), AllocError> {
+    let ControlField {
+        level,
+        is_numeric,
+        from,
+        to,
+    } = control;
+    let digits = if is_numeric {
+        ", by its digits alone"
+    } else {
+        ""
+    };
+    writeln!(
+        out,
+        "{at:>6}    columns {from}-{to} are a control field of L{level}{digits}"
+    )
+}
+
+fn put_input(out: &mut String, at: usize, input: InputField<u16>) -> Result<(), AllocError> {
+    let InputField {
+        from,
+        to,
+        field,
+        shows,
+    } = input;
+    write!(out, "{at:>6}    columns {from}-{to} to #{field}")?;
+    put_shown(out, "plus", shows.plus)?;
+    put_shown(out, "minus", shows.minus)?;
+    put_shown(out, "zero or blank", shows.zero)?;
+    out.push('\n')
+}
+
+fn put_codes(
+    alloc: Global,
+    out: &mut String,
+    begin: usize,
+    codes: &[RecordCode],
+) -> Result<usize, AllocError> {
+    let mut at = begin;
+    for code in codes {
+        put_code(alloc, out, at, *code)?;
+        at = at.saturating_add(CODE);
+    }
+    Ok(at)
+}
+
+fn put_levels(
+    out: &mut String,
+    begin: usize,
+    levels: &[ControlField],
+) -> Result<usize, AllocError> {
+    let mut at = begin;
+    for level in levels {
+        put_level(out, at, *level)?;
+        at = at.saturating_add(LEVEL);
+    }
+    Ok(at)
+}
+
+fn put_inputs(
+    out: &mut String,
+    begin: usize,
+    inputs: &[InputField<u16>],
+) -> Result<(), AllocError> {
+    let mut at = begin;
+    for input in inputs {
+        put_input(out, at, *input)?;
+        at = at.saturating_add(INPUT);
+    }
+    Ok(())
+}
+
+fn put_type(
+    alloc: Global,
+    out: &mut String,
+    at: usize,
+    number: usize,
+    record_type: &RecordType,
+) -> Result<(), AllocError> {
+    write!(out, "{at:>6}  ")?;
+    put_head(out, number, record_type)?;
+    let codes = at.saturating_add(TYPE);
+    let levels = put_codes(alloc, out, codes, &record_type.codes)?;
+    let inputs = put_levels(out, levels, &record_type.levels)?;
+    put_inputs(out, inputs, &record_type.inputs)
+}
+
+/// Writes all record types, of which the first begins at a byte.
+pub(crate) fn put_types(
+    alloc: Global,
+    out: &mut String,
+    rows: &Rows,
+    begin: usize,
+    broken: Option<BrokenRule>,
+) -> Result<(), AllocError> {
+    out.push_str("\n    at  RECORD TYPES\n")?;
+    let mut at = begin;
+    for (number, record_type) in rows.types.iter().enumerate() {
+        put_type(alloc, out, at, number, record_type)?;
+        put_if_broken(out, broken, Table::Types, number)?;
+        at = at.saturating_add(type_bytes(record_type));
+    }
+    Ok(())
+}

@@ -1,0 +1,139 @@
+//! Fields with their forms, their first values, and what uses them.
+
+use crate::layout::{field_place, value_bytes};
+use crate::uses::Uses;
+use crate::values::{is_empty, value_text};
+use rpg_effect::form::{Class, FieldForm, Kind};
+use rpg_effect::value::Value;
+use rpg_object_program::row::Rows;
+use std::alloc::{AllocError, Global};
+use std::fmt::Write;
+
+/// How long the values are: digits and decimals of a number, characters of a text.
+fn kind_text(alloc: Global, form: FieldForm) -> Result<String, AllocError> {
+    let length = form.length;
+    let decimals = form.decimals;
+    match form.kind {
+        Kind::Number => format!(in alloc; "number {length}.{decimals}"),
+        Kind::Text => format!(in alloc; "text {length}"),
+    }
+}
+
+/// A field's form.
+fn form_text(alloc: Global, form: FieldForm) -> Result<String, AllocError> {
+    let kind = kind_text(alloc, form)?;
+    let entries = form.entries;
+    let order = if form.is_ascending { ", ascending" } else { "" };
+    match form.class {
+        Class::Plain => Ok(kind),
+        Class::Date => format!(in alloc; "date {kind}"),
+        Class::Constant => format!(in alloc; "constant {kind}"),
+        Class::Array => format!(in alloc; "array of {entries}: {kind}{order}"),
+        Class::Table => format!(in alloc; "table of {entries}: {kind}{order}"),
+    }
+}
+
+/// Whether entries that aren't all empty are told apart from their field.
+fn are_listed(values: &[Value]) -> bool {
+    values.len() > 1 && !values.iter().all(is_empty)
+}
+
+/// What a field has at the start of a job.
+fn first_text(alloc: Global, form: FieldForm, values: &[Value]) -> Result<String, AllocError> {
+    let Some(first) = values.first() else {
+        return Ok(String::new(alloc));
+    };
+    if matches!(&form.class, Class::Date) {
+        return String::from_str(alloc, "the date of the job");
+    }
+    if are_listed(values) {
+        return String::from_str(alloc, "below");
+    }
+    match first {
+        Value::Text(_) if is_empty(first) => String::from_str(alloc, "blanks"),
+        _ => value_text(alloc, first, form.decimals),
+    }
+}
+
+/// The row of a field before its uses.
+fn field_row(
+    alloc: Global,
+    index: usize,
+    form: FieldForm,
+    values: &[Value],
+) -> Result<String, AllocError> {
+    let at = field_place(index);
+    let number = index.saturating_add(1);
+    let form_words = form_text(alloc, form)?;
+    let first = first_text(alloc, form, values)?;
+    format!(in alloc; "{at:>6}  #{number:<5}{form_words:<32}  {first:<20}")
+}
+
+/// The first values of the field of an index.
+fn values_at(rows: &Rows, index: usize) -> &[Value] {
+    match rows.values.get(index) {
+        Some(values) => values,
+        None => &[],
+    }
+}
+
+/// Writes a row for each field.
+pub fn put_fields(alloc: Global, out: &mut String, rows: &Rows) -> Result<(), AllocError> {
+    let uses = Uses::of(alloc, rows)?;
+    out.push_str("\n    at  FIELD form                              first value           used\n")?;
+    for (index, form) in rows.fields.iter().enumerate() {
+        let mut row = field_row(alloc, index, *form, values_at(rows, index))?;
+        uses.put(&mut row, index)?;
+        writeln!(out, "{}", row.trim_end())?;
+    }
+    Ok(())
+}
+
+/// Writes the entries of a field, each on its line.
+fn put_entries(
+    alloc: Global,
+    out: &mut String,
+    begin: usize,
+    form: FieldForm,
+    values: &[Value],
+) -> Result<(), AllocError> {
+    let mut at = begin;
+    for (i, value) in values.iter().enumerate() {
+        let entry = i.saturating_add(1);
+        let text = value_text(alloc, value, form.decimals)?;
+        writeln!(out, "{at:>6}    {entry:>4}  {text}")?;
+        at = at.saturating_add(usize::from(form.length));
+    }
+    Ok(())
+}
+
+fn put_listed(
+    alloc: Global,
+    out: &mut String,
+    index: usize,
+    at: usize,
+    form: FieldForm,
+    values: &[Value],
+) -> Result<(), AllocError> {
+    if !are_listed(values) {
+        return Ok(());
+    }
+    let number = index.saturating_add(1);
+    writeln!(out, "\n    at  FIRST VALUES OF #{number}")?;
+    put_entries(alloc, out, at, form, values)
+}
+
+/// Writes the first values of arrays and tables that aren't all zero or blank.
+pub fn put_first_values(
+    alloc: Global,
+    out: &mut String,
+    rows: &Rows,
+    begin: usize,
+) -> Result<(), AllocError> {
+    let mut at = begin;
+    for (index, form) in rows.fields.iter().enumerate() {
+        put_listed(alloc, out, index, at, *form, values_at(rows, index))?;
+        at = at.saturating_add(value_bytes(*form));
+    }
+    Ok(())
+}
