@@ -1,10 +1,13 @@
 #!/usr/bin/env bash
 # Compiles, verifies and runs sources with each of its allocations refused in turn: the answer must be `no memory`, status 1. Nothing is
-# written by a compilation, and of a run's print a first part.
+# written by a compilation, and of a run's print a first part. Then jobs, cycle by cycle, by the cases of rpg_show_cases: one that wanted
+# memory has failed from then on. Last a disk that is full, where an object stays that stood there. Both programs are to be built: by `make`
+# and by `rt run` in crates/rpg_show_cases, or named by RPG2 and RPG_SHOW_CASES.
 set -euo pipefail
 
 top=$(cd "$(dirname "$0")/.." && pwd)
 rpg2=${RPG2:-$top/crates/rpg2/out/rpg2}
+cases=${RPG_SHOW_CASES:-$top/crates/rpg_show_cases/out/rpg_show_cases}
 work=$(mktemp -d)
 trap 'rm -rf "$work"' EXIT
 
@@ -189,3 +192,88 @@ for written in print disk; do
         run "$work/stock.obj" "$stock/moves.txt" "$work/print" --date 010576 --disk "$work/disk"
     expected=$stock/balance.expected
 done
+
+# What rpg_show_cases tells of a job, cycle by cycle, with an allocation refused. The case wants `-`, so that it tells all.
+job_told() {
+    { REFUSED=$2 LD_PRELOAD=$work/refuse.so "$cases" "$work/$1.cases" 2> "$work/line" || true; } |
+        sed -n "s/^DIFFERS: $1: \(.*\), and not -$/\1/p"
+}
+
+# Refuses the allocations of a job in turn, until 100 runs are served one after the other. Where a cycle wants memory, each one behind it
+# answers that the job has failed. Where the program of cases itself wants it, nothing is told.
+refuse_job() {
+    local name=$1
+    local refused=0 failed=0 served=0 nth wanted told
+    wanted=$(job_told "$name" 0)
+    if [[ ! "$wanted" =~ "; end of job" ]]; then
+        echo "job of $name: '$wanted'"
+        exit 1
+    fi
+    for ((nth = 1; served < 100; nth++)); do
+        told=$(job_told "$name" "$nth")
+        if [ "$told" = "$wanted" ]; then
+            served=$((served + 1))
+            continue
+        fi
+        served=0
+        refused=$((refused + 1))
+        if [[ "$told" =~ "; no memory"(.*)$ ]]; then
+            failed=$((failed + 1))
+            if [[ ! "${BASH_REMATCH[1]}" =~ ^("; failed"(", steps "[0-9]+)?){2,}$ ]]; then
+                echo "job of $name, allocation $nth refused: '$told'"
+                exit 1
+            fi
+        elif [ -n "$told" ] && [ "$told" != "no memory" ]; then
+            echo "job of $name, allocation $nth refused: '$told'"
+            exit 1
+        fi
+    done
+    if [ "$failed" = 0 ]; then
+        echo "job of $name: no cycle wanted memory"
+        exit 1
+    fi
+    echo "job of $name: $refused allocations refused in turn, $failed of them in a cycle, and then it answered that it has failed"
+}
+
+# A case of a source of this script and its input.
+job_of_source() {
+    {
+        echo "=== $1"
+        echo "--- source"
+        cat "$work/$1.rpg"
+        echo "--- allowance 3"
+        echo "--- input"
+        cat "$work/$1.txt"
+        echo "--- cycles -"
+    } > "$work/$1.cases"
+    refuse_job "$1"
+}
+
+{
+    echo "=== total"
+    echo "--- object"
+    od -An -v -tx1 "$total/total.obj"
+    echo "--- input"
+    cat "$total/amounts.txt"
+    echo "--- cycles -"
+} > "$work/total.cases"
+refuse_job total
+for name in levels loop search; do
+    job_of_source "$name"
+done
+
+# A disk that takes nothing more: the object stays that stood there, and where there was none there is none.
+cp "$work/calls.obj" "$work/full.obj"
+for written in full.obj new.obj; do
+    status=0
+    line=$(trap '' XFSZ; ulimit -f 0; "$rpg2" compile "$work/search.rpg" "$work/$written") || status=$?
+    if [ "$line" != "output failed" ] || [ "$status" != 1 ]; then
+        echo "a full disk: '$line', status $status"
+        exit 1
+    fi
+done
+if ! cmp -s "$work/calls.obj" "$work/full.obj" || [ -n "$(find "$work" -name 'new.obj*' -o -name '*.new')" ]; then
+    echo "a full disk: the object is another"
+    exit 1
+fi
+echo "a full disk: output failed, status 1, and the object that stood there stays"

@@ -1,5 +1,5 @@
 #!/usr/bin/env python3
-"""Writes faultless sources of many cards, which show what compiling costs.
+"""Writes sources of many cards, which show what compiling costs.
 
 usage: bench/sources.py KIND CARDS > SOURCE
     names       input fields with a new name each, and as many output fields that name them
@@ -13,6 +13,14 @@ usage: bench/sources.py KIND CARDS > SOURCE
     entries     calculations over an array by an index; then output fields that put its entries out
     levels      record types of codes, AND cards and control fields of all nine levels; then output fields
     data        tables with alternating ones, and their cards of data; then output fields
+    group       one calculation of as many AN and OR cards as there is room for; then output fields
+    decks       arrays, each with one card of data of its own; then output fields
+    no-files    record types and lines that name files which no card has
+    no-data     arrays whose data are missing
+    no-labels   jumps to labels that no card gives
+    no-ends     subroutines without an end, each in the one before it
+    SHEET-X     cards of the sheet X (H, F, E, I, C, O), or of data (D), as full as they can be, of which only the last can't be read
+The sources with `no-` have a fault on nearly each card, the others up to SHEET-X none.
 CARDS counts all cards of the source. A program has at most 4,000 fields and constants, 1,000 calculations, 100 subroutines, and 200 fields a line.
 """
 
@@ -99,6 +107,74 @@ def levels(cards):
             yield card("I", (44, "%4d" % level), (48, "%4d" % level), (53, "L%d" % level), (59, "L%d" % level))
 
 
+def group(cards):
+    """A calculation under as many conditions as there is room for, by AN and OR in turn."""
+    for number in range(min(cards, CALCULATIONS) - 1):
+        yield card("C", (7, ("OR", "AN")[number % 2] if number else ""), (9, " 01N02 03"))
+    yield card("C", (7, "AN"), (9, " 05"), (18, "COUNT"), (28, "ADD"), (33, "COUNT"), (43, "SUM"), (49, "  7"), (52, "0"))
+
+
+def arrays(cards):
+    """E cards, each of an array that wants a card of data."""
+    for number in range(cards // 4):
+        yield card("E", (27, name(number)), (33, " 10"), (36, "  10"), (40, "  5"), (44, "0"))
+
+
+def decks(cards):
+    """The data of these arrays."""
+    for number in range(cards // 4):
+        yield "**"
+        yield "".join("%05d" % (number + i) for i in range(10))
+
+
+def no_files(cards):
+    """Record types and lines of files that aren't there."""
+    for number in range(cards // 2):
+        yield card("I", (7, name(number)), (15, "AA"), (19, "01"))
+    for number in range(cards - cards // 2):
+        yield card("O", (7, name(number)), (15, "D"), (23, " 01"))
+
+
+def no_data(cards):
+    """Arrays that want data."""
+    for number in range(cards):
+        yield card("E", (27, name(number)), (33, " 10"), (36, "  10"), (40, "  5"), (44, "0"))
+
+
+def no_labels(cards):
+    """Jumps to where no label is."""
+    for number in range(cards):
+        yield card("C", (28, "GOTO"), (33, name(number)))
+
+
+def no_ends(cards):
+    """Subroutines without an end, which are all called."""
+    for number in range(cards // 2):
+        yield card("C", (28, "EXSR"), (33, name(number)))
+    for number in range(cards - cards // 2):
+        yield card("C", (7, "SR"), (18, name(number)), (28, "BEGSR"))
+
+
+FULL = {
+    "H": [(7, "PROGRAM")],
+    "F": [(7, "FILENAME"), (15, "O"), (18, "A"), (19, "F"), (24, "9999"), (33, "OF"), (40, "PRINTER")],
+    "E": [(27, "TABLES"), (33, " 80"), (36, "9999"), (40, "  1"), (44, "0A"), (46, "OTHERS"), (52, "  1"), (56, "0A")],
+    "I": [(44, "1234"), (48, "1248"), (52, "2"), (53, "AMOUNT"), (59, "L1"), (65, "010203")],
+    "C": [(7, "L1"), (9, "N01N02N03"), (18, "ARRAYS,INX"), (28, "ADD"), (33, "-1234567.9"), (43, "RESULT"), (49, " 15"), (52, "9H"), (54, "010203")],
+    "O": [(23, "N01N02N03"), (32, "AMOUNT"), (38, " B1234"), (45, "'  ,   ,   .  - *TEXTS'")],
+}
+
+
+def sheet(form_type, cards):
+    """Full cards of one sheet, or of data, and one with a character that no card has."""
+    full = "8" * 80 if form_type == "D" else card(form_type, *FULL[form_type])
+    if form_type == "D":
+        yield "**"
+    for _ in range(cards - 1 - (form_type == "D")):
+        yield full
+    yield full + "\t"
+
+
 def tables(cards):
     """E cards, each of a table with an alternating one."""
     for number in range(min(100, cards // 12)):
@@ -121,31 +197,54 @@ def output_field(kind, number):
         return card("O", (40, " 120"), (45, "'TEXT %d'" % number))
     if kind == "entries":
         return card("O", (32, "AR,%d" % (number % 999 + 1)), (40, " 120"))
-    if kind in ("labels", "calls", "levels", "data"):
+    if kind in ("labels", "calls", "levels", "data", "decks"):
         return card("O", (32, "COUNT"), (40, " 120"))
     return card("O", (32, name(number) if kind == "names" else "SUM"), (40, " 120"))
 
 
 # What stands between the first input fields and the lines.
-WHOLE = {"labels": labels, "groups": groups, "calls": calls, "entries": entries, "levels": levels}
+WHOLE = {"labels": labels, "groups": groups, "calls": calls, "entries": entries, "levels": levels, "group": group}
+
+# Behind two files, where nearly each card has a fault.
+FAULTY = {"no-files": no_files, "no-data": no_data, "no-labels": no_labels, "no-ends": no_ends}
 
 
 def extension(kind, cards):
     """The E cards of a source."""
     if kind == "entries":
         return [card("E", (27, "AR"), (36, " 999"), (40, "  7"), (44, "0"))]
+    if kind == "decks":
+        return list(arrays(cards))
     return list(tables(cards)) if kind == "data" else []
+
+
+def behind_sheets(kind, cards):
+    """The data of a source."""
+    if kind == "decks":
+        return list(decks(cards))
+    return list(data(cards)) if kind == "data" else []
+
+
+def files():
+    """The input file and the printer."""
+    yield card("F", (7, "INPUT"), (15, "IPE"), (19, "F"), (24, "  80"), (40, "DISK40"))
+    yield card("F", (7, "PRINT"), (15, "O"), (19, "F"), (24, " 132"), (40, "PRINTER"))
 
 
 def source(kind, cards):
     """The lines of a source."""
-    yield card("F", (7, "INPUT"), (15, "IPE"), (19, "F"), (24, "  80"), (40, "DISK40"))
-    yield card("F", (7, "PRINT"), (15, "O"), (19, "F"), (24, " 132"), (40, "PRINTER"))
+    if kind.startswith("SHEET-"):
+        yield from sheet(kind[-1], cards)
+        return
+    yield from files()
+    if kind in FAULTY:
+        yield from FAULTY[kind](cards - 2)
+        return
     before = extension(kind, cards)
     yield from before
     yield card("I", (7, "INPUT"), (15, "AA"), (19, "01"))
     yield card("I", (44, "   1"), (48, "   5"), (52, "0"), (53, "COUNT"))
-    behind = list(data(cards)) if kind == "data" else []
+    behind = behind_sheets(kind, cards)
     left = cards - 4 - len(before) - len(behind)
     if kind == "names":
         fields = (left - left // 2 // FIELDS_OF_A_LINE - left // 2 // FIELDS_OF_A_TYPE) // 2
@@ -159,7 +258,7 @@ def source(kind, cards):
         lines = list(WHOLE[kind](left))
         yield from lines
         left -= len(lines)
-    elif kind not in ("constants", "data"):
+    elif kind not in ("constants", "data", "decks"):
         for number in range(min(left, CALCULATIONS)):
             yield calculation(kind, number)
         left -= CALCULATIONS
