@@ -1,10 +1,10 @@
 -- Sections and subroutines, a group at a time.
-use Rattle.std.proofs.Common.{◌≡◌, Bool, true, false, cond, List, [], ◌∷◌, Option, None, Some, refl, ap, ◌∙◌}
+use Rattle.std.proofs.Common.{◌≡◌, true, false, cond, List, [], ◌∷◌, Option, None, refl, ap, ◌∙◌}
 use Rattle.rpg_cards.specs.Calculations.{calculations}
 use Rattle.rpg_cards.specs.Deeds.{Acts, Begins, Calculation, Deed, Ends, Executes, GoesTo, Marks, Nothing, PutsOut}
 use Rattle.rpg_cards.specs.Keys.{Key, Name}
 use Rattle.rpg_cards.specs.Labels.{is_begsr}
-use Rattle.rpg_cards.specs.Sections.{Subroutine, begun_by, is_subroutine, of_control, subroutines_of, unless_begun, up_to_begin, with_begun}
+use Rattle.rpg_cards.specs.Sections.{begun_by, is_subroutine, of_control, subroutines_of, unless_begun, up_to_begin, with_begun}
 use Rattle.rpg_cards.specs.declared.spec_card.SpecCard.{SpecCard}
 use Rattle.rpg_compile_code.specs.Walk.{belongs, ends_before, part_cards, section_in, subroutines_in}
 use Rattle.rpg_compile_code.specs.declared.part.Part.{Part}

@@ -1,5 +1,5 @@
 -- What the operation of a group becomes.
-use Rattle.std.proofs.Common.{◌≡◌, ℕ, ◌+◌, Bool, true, false, cond, List, [], ◌∷◌, ◌++◌, length, Option, None, Some, refl, sym, ap, ◌∙◌, append-nil, append_assoc}
+use Rattle.std.proofs.Common.{◌≡◌, ℕ, ◌+◌, true, false, cond, List, [], ◌∷◌, ◌++◌, length, Option, Some, refl, sym, ap, ◌∙◌, append-nil, append_assoc}
 use Rattle.std.specs.Option.{option_map}
 use Rattle.rpg_cards.specs.Calculations.{CalculationGroup, awaited_level, calculation_of, last_card}
 use Rattle.rpg_cards.specs.Deeds.{Acts, Begins, Calculation, Deed, Ends, Executes, GoesTo, Marks, Nothing, PutsOut, deed_of, tests}

@@ -1,10 +1,10 @@
 -- The instructions of a source without a fault break none of the rules on operands, results, indicators and tables.
-use Rattle.std.proofs.Common.{◌≡◌, ℕ, ◌≤◌, Bool, true, false, cond, ◌||◌, List, [], ◌∷◌, ◌++◌, Option, None, Some, refl, sym, ap, ◌∙◌, subst}
+use Rattle.std.proofs.Common.{◌≡◌, ℕ, Bool, true, false, cond, ◌||◌, List, [], ◌∷◌, ◌++◌, Option, None, Some, refl, sym, ap, ◌∙◌, subst}
 use Rattle.std.proofs.lemmas.Bool.{or_left, or_parts, or_right}
 use Rattle.std.proofs.lemmas.List.Folds.{list_any-append}
 use Rattle.std.specs.List.{list_any}
 use Rattle.std.specs.Option.{ForSome, option_and_then, option_map_or, option_to_list}
-use Rattle.rpg_cards.specs.Calculations.{CalculationGroup, alone, calculations, card_ending, goes_on, group_with, last_card, open_calculation_group}
+use Rattle.rpg_cards.specs.Calculations.{CalculationGroup, alone, calculations, card_ending, goes_on, last_card, open_calculation_group}
 use Rattle.rpg_cards.specs.Deeds.{Calculation, deed_of}
 use Rattle.rpg_cards.specs.Keys.{Fixed, Key, Named}
 use Rattle.rpg_cards.specs.Plain.{Each}

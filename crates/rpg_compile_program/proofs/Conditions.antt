@@ -1,5 +1,5 @@
 -- Conditions and resulting indicators of C cards that break no rule of cards are those that a program may have.
-use Rattle.std.proofs.Common.{◌≡◌, ◌≢◌, ◌⊎◌, ℕ, ◌≤◌, Bool, true, false, cond, ◌&&◌, ◌||◌, List, [], ◌∷◌, ◌++◌, map, Option, None, Some, refl, inl, inr, arith}
+use Rattle.std.proofs.Common.{◌≡◌, ◌≢◌, ◌⊎◌, ℕ, ◌≤◌, Bool, true, false, cond, ◌&&◌, List, [], ◌∷◌, ◌++◌, map, Option, None, Some, refl, inl, inr, arith}
 use Rattle.std.proofs.lemmas.Bool.{and_from, cases_Bool, eqb-false, le-leb, leb-false, leb-true, or_left, or_parts, or_right}
 use Rattle.std.specs.List.{filter_map}
 use Rattle.std.specs.Option.{ForSome, option_map_or}

@@ -1,28 +1,21 @@
 -- The code of sound sections: where branches, calls and returns lead.
-use Rattle.std.proofs.Common.{◌≡◌, ℕ, zero, suc, ◌+◌, ◌≤◌, ◌<◌, Bool, true, false, cond, ◌&&◌, ◌||◌, not, List, [], ◌∷◌, ◌++◌, length, map, Option, None, Some, slice_get, refl, sym, ap, ◌∙◌, subst, arith, length-append, append_assoc, append-nil}
+use Rattle.std.proofs.Common.{◌≡◌, ℕ, ◌+◌, ◌≤◌, ◌<◌, Bool, true, false, cond, ◌&&◌, ◌||◌, List, [], ◌∷◌, ◌++◌, length, map, Option, None, Some, refl, sym, ap, ◌∙◌, subst, arith}
 use Rattle.std.specs.Prelude.{◌==◌, nat_le, nat_lt, nat_eq}
-use Rattle.std.specs.List.{list_all, list_any}
-use Rattle.std.specs.Cmp.Lexicographic.{pointwise}
-use Rattle.std.proofs.lemmas.Bool.{and_from, eq-eqb, le-leb, lt-ltb, ltb-false, not_from_true, or_from}
+use Rattle.std.proofs.lemmas.Bool.{and_from, eq-eqb, le-leb, lt-ltb, ltb-false}
 use Rattle.rpg_effect.specs.declared.condition.Conditions.{Conditions}
 use Rattle.rpg_effect.specs.declared.operation.Instruction.{Instruction}
 use Rattle.rpg_effect.specs.declared.operation.Instruction.TheVariants as made
-use Rattle.rpg_object_program.specs.Object.{Object, SubroutineRow}
-use Rattle.rpg_object_program.specs.Sections.{first_in, first_place, has_end, is_place, level_in, level_of, place_behind, section_instructions}
+use Rattle.rpg_object_program.specs.Object.{Object}
+use Rattle.rpg_object_program.specs.Sections.{first_place, has_end, is_place, place_behind}
 use Rattle.rpg_object_program.specs.declared.section.Section.{Section}
 use Rattle.rpg_object_program.specs.declared.section.Section.TheVariants as section
-use Rattle.rpg_verify_rules.proofs.Kept.{NoneTrue}
-use Rattle.rpg_verify_rules.specs.PlaceRules.{bodies_judged, calls_higher, ends_in_return, has_stray_return, is_body, is_own, is_return, is_return_if_any, place_breaks, places_judged, judged_behind_detail, section_judged, stays_inside, subroutines_judged, with_first}
-use Rattle.rpg_verify_rules.specs.declared.rule.PlaceRule.{PlaceRule}
-use Rattle.rpg_verify_rules.specs.declared.rule.PlaceRule.TheVariants.{V21, V22}
-use Rattle.rpg_compile_program.proofs.Counts.{LeadsWithin, Within, code_append, code_length, code_within, label_before, label_inside}
-use Rattle.rpg_compile_program.proofs.Each.{each_always, each_append, each_map, each_passes, none_broken, none_in_both, none_passes}
+use Rattle.rpg_verify_rules.specs.PlaceRules.{calls_higher, is_own, is_return, stays_inside}
+use Rattle.rpg_compile_program.proofs.Counts.{Within}
+use Rattle.rpg_compile_program.proofs.Each.{each_always, each_append, each_map}
 use Rattle.rpg_cards.specs.Deeds.{Acts, Begins, Calculation, Deed, Ends, Executes, GoesTo, Marks, Nothing, PutsOut, tests}
 use Rattle.rpg_cards.specs.Keys.{Key, Name}
-use Rattle.rpg_cards.specs.Plain.{Each, HasGoal, IsNoReturn, defines_subroutine, has_label}
-use Rattle.rpg_cards.specs.Sections.{Sections, Subroutine, callee}
-use Rattle.rpg_compile_program.specs.Code.{alternative_code, code_from, group_code, has_instruction, jump, label_place, level_code, section_code, size, sizes, skip_code, step_code, subroutines_code, tests_code, waits}
-use Rattle.rpg_compile_program.specs.Sound.{AreSound, AreSoundBodies, CallsUp, IsSoundBody}
+use Rattle.rpg_cards.specs.Plain.{Each, IsNoReturn}
+use Rattle.rpg_compile_program.specs.Code.{alternative_code, code_from, group_code, has_instruction, level_code, size, skip_code, step_code, tests_code, waits}
 
 -- ---- what an instruction leads to
 

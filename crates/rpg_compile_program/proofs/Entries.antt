@@ -2,7 +2,7 @@
 use Rattle.std.proofs.Common.{◌≡◌, ℕ, Bool, true, false, not, cond, ◌&&◌, ◌||◌, List, Option, None, Some, refl, sym, ap, ◌∙◌, subst}
 use Rattle.std.proofs.lemmas.Bool.{and_from, not-false, not_from_false, or_parts, or_right}
 use Rattle.std.specs.Option.{ForSome, option_and_then, option_map, option_map_or}
-use Rattle.std.specs.Prelude.{nat_le, nat_lt, unwrap_or, ◌^◌}
+use Rattle.std.specs.Prelude.{nat_lt, unwrap_or, ◌^◌}
 use Rattle.rpg_cards.specs.Keys as keys
 use Rattle.rpg_cards.specs.Keys.{Fixed, Key, Named, entry_operand, key_index, nowhere}
 use Rattle.rpg_cards.specs.declared.operations.Column.TheVariants.{Must}
@@ -26,8 +26,8 @@ use Rattle.rpg_effect.specs.declared.row.Shape.{Shape}
 use Rattle.rpg_effect.specs.declared.row.Shape.TheVariants as shape
 use Rattle.rpg_effect.specs.declared.row.Use.{Use}
 use Rattle.rpg_faults_flow.specs.Columns.{misses}
-use Rattle.rpg_faults_operands.specs.Indexes.{bad_entry, bad_index_field, bad_index_of, can_index, is_too_short, misindexed, needs_index, takes_index}
-use Rattle.rpg_faults_operands.specs.Kinds.{has_text, is_text, is_unwritable, is_wrong_class, kinds_differ}
+use Rattle.rpg_faults_operands.specs.Indexes.{bad_index_field, bad_index_of, can_index, is_too_short, misindexed, needs_index, takes_index}
+use Rattle.rpg_faults_operands.specs.Kinds.{has_text, is_unwritable, is_wrong_class, kinds_differ}
 use Rattle.rpg_faults_operands.specs.Names.{is_undefined, name_in, names_nothing}
 use Rattle.rpg_faults_operands.specs.Operands.{card_entry_form, factor_entry, is_field_content, operand_with}
 use Rattle.rpg_sheet_specs.specs.declared.entry.Entry.{Entry}

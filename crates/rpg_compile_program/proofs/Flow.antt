@@ -1,9 +1,9 @@
 -- Targets, calls, returns and levels of the program of a source without a fault.
-use Rattle.std.proofs.Common.{◌≡◌, ℕ, suc, ◌+◌, ◌≤◌, Bool, true, false, cond, ◌||◌, ◌&&◌, List, [], ◌∷◌, ◌++◌, Option, None, Some, refl, sym, ap, ◌∙◌, subst, arith, append_assoc, append-nil}
-use Rattle.std.proofs.lemmas.Bool.{eq-eqb, eqb-false}
+use Rattle.std.proofs.Common.{◌≡◌, ℕ, suc, ◌+◌, ◌≤◌, Bool, true, false, cond, ◌||◌, ◌&&◌, List, [], ◌∷◌, ◌++◌, refl, sym, ap, ◌∙◌, subst, arith, append_assoc, append-nil}
+use Rattle.std.proofs.lemmas.Bool.{eqb-false}
 use Rattle.std.specs.Option.{option_map, option_map_or}
 use Rattle.std.specs.Prelude.{◌==◌}
-use Rattle.rpg_cards.specs.Calculations.{CalculationGroup, calculation_ending, calculation_of, calculations, calculations_before, group_ending}
+use Rattle.rpg_cards.specs.Calculations.{calculation_of, calculations, calculations_before}
 use Rattle.rpg_cards.specs.Deeds.{Calculation}
 use Rattle.rpg_cards.specs.Keys.{Key}
 use Rattle.rpg_cards.specs.Labels.{begins_subroutine, begun_count}
@@ -14,7 +14,7 @@ use Rattle.rpg_compile_program.specs.Levels.{subroutine_level}
 use Rattle.rpg_compile_program.specs.Whole.{IsCodeOf}
 use Rattle.rpg_faults_flow.proofs.Joined.{plain_of_counts}
 use Rattle.rpg_faults_flow.proofs.Walk.{EachSplit, Walk, each_calculation}
-use Rattle.rpg_faults_limits.specs.Limits.{bad_entries, calculation_count, crosses, passes_limit, passes_on_calculations, passes_on_lines, passes_on_types, passes_storage, passes_subroutines}
+use Rattle.rpg_faults_limits.specs.Limits.{bad_entries, calculation_count, crosses, passes_on_calculations, passes_on_lines, passes_on_types, passes_storage, passes_subroutines}
 use Rattle.rpg_verify_rules.proofs.Kept.{NoneTrue}
 use Rattle.rpg_verify_rules.specs.Rules.{broken}
 use Rattle.rpg_verify_rules.specs.declared.rule.PlaceRule.TheVariants.{V21, V22}

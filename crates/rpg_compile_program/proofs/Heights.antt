@@ -1,5 +1,5 @@
 -- Levels of subroutines: 1 to the number of subroutines, and rising with each call where no call comes back.
-use Rattle.std.proofs.Common.{◌≡◌, ◌≢◌, ℕ, zero, suc, ◌+◌, ◌-◌, ◌≤◌, ◌<◌, Bool, true, false, cond, ◌&&◌, ◌||◌, List, [], ◌∷◌, ◌++◌, length, Option, None, Some, take, length-take, refl, sym, ap, ◌∙◌, subst, arith, ◌⊎◌, inl, inr}
+use Rattle.std.proofs.Common.{◌≡◌, ℕ, zero, suc, ◌+◌, ◌-◌, ◌≤◌, ◌<◌, Bool, true, false, cond, ◌||◌, List, [], ◌∷◌, ◌++◌, length, Option, None, Some, take, length-take, refl, sym, ap, ◌∙◌, arith, ◌⊎◌, inl, inr}
 use Rattle.std.specs.Prelude.{◌==◌, max, nat_eq, nat_lt}
 use Rattle.std.proofs.lemmas.Bool.{eq-eqb, eqb-true, ltb-true, ltb-false, or_parts}
 use Rattle.std.specs.List.{AllByRecursion, IsDistinct, list_any}
@@ -8,7 +8,7 @@ use Rattle.rpg_compile_program.proofs.Each.{each_map}
 use Rattle.rpg_compile_program.proofs.Whole.{callee_there}
 use Rattle.rpg_cards.specs.Deeds.{Acts, Begins, Calculation, Deed, Ends, Executes, GoesTo, Marks, Nothing, PutsOut}
 use Rattle.rpg_cards.specs.Keys.{Key, Name}
-use Rattle.rpg_cards.specs.Plain.{Each, IsCallAmong, IsChainAmong, IsFound, NoneComesBack, Pair, call_in, calls_from, calls_in, calls_of, defines_subroutine, with_call}
+use Rattle.rpg_cards.specs.Plain.{Each, IsCallAmong, IsChainAmong, IsFound, NoneComesBack, Pair, call_in, calls_from, calls_in, calls_of, with_call}
 use Rattle.rpg_cards.specs.Sections.{Subroutine, callee}
 use Rattle.rpg_compile_program.specs.Levels.{greatest, level_within, subroutine_level}
 use Rattle.rpg_compile_program.specs.Sound.{CallsUp}

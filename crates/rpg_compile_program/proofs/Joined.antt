@@ -1,18 +1,18 @@
 -- Control levels: what F16 says of the joined lengths of record types, and what the verifier's rule asks of them.
-use Rattle.std.proofs.Common.{◌≡◌, ℕ, zero, suc, ◌+◌, ◌-◌, ◌≤◌, ◌<◌, Bool, true, false, not, cond, ◌||◌, ◌&&◌, List, [], ◌∷◌, ◌++◌, map, filter, Option, None, Some, refl, sym, ap, ◌∙◌, subst, arith}
-use Rattle.std.proofs.lemmas.Bool.{and_from, eq-eqb, eqb-true, le-leb, ltb-false, ne_eqb}
+use Rattle.std.proofs.Common.{◌≡◌, ℕ, ◌+◌, ◌-◌, ◌≤◌, Bool, true, false, not, cond, ◌||◌, ◌&&◌, List, [], ◌∷◌, ◌++◌, map, filter, Option, None, Some, refl, sym, ap, ◌∙◌, arith}
+use Rattle.std.proofs.lemmas.Bool.{and_from, eq-eqb, eqb-true, le-leb, ne_eqb}
 use Rattle.std.proofs.lemmas.List.Sums.{sum_by-cons}
 use Rattle.std.specs.List.{cons_option, filter_map, list_any}
 use Rattle.std.specs.Option.{option_map, option_map_or, option_or}
-use Rattle.std.specs.Prelude.{nat_le, nat_lt, sum_by, ◌==◌}
+use Rattle.std.specs.Prelude.{nat_le, sum_by, ◌==◌}
 use Rattle.rpg_cards.specs.Keys.{Key}
 use Rattle.rpg_cards.specs.Plain.{Each}
 use Rattle.rpg_cards.specs.Groups.{Group}
 use Rattle.rpg_effect.specs.Input.{TypeRow}
 use Rattle.rpg_effect.specs.declared.input.ControlField.{ControlField}
-use Rattle.rpg_faults.specs.Places.{first_length, good_length, has_bad, input_columns, input_fields, is_at_level, joined_length, lengths_differ, level_fields, level_length, levels}
+use Rattle.rpg_faults.specs.Places.{first_length, good_length, has_bad, input_columns, is_at_level, joined_length, lengths_differ, level_length, levels}
 use Rattle.rpg_effect_renaming.specs.Naming.{renamed_type}
-use Rattle.rpg_verify_rules.specs.TypeRules.{all_measured, columns_at, is_measured, measure, measures}
+use Rattle.rpg_verify_rules.specs.TypeRules.{all_measured, is_measured, measure, measures}
 use Rattle.rpg_verify_rules.specs.TypeRules as row
 use Rattle.rpg_sheet_specs.specs.declared.input.InputField.{InputField}
 use Rattle.rpg_sheet_specs.specs.declared.input.InputSpec.{InputSpec}

@@ -1,19 +1,17 @@
 -- The names of a source without a fault: each definition has a form, and a name's key has the form of its first definition.
-use Rattle.std.proofs.Common.{◌≡◌, ℕ, Bool, true, false, not, ◌||◌, List, [], ◌∷◌, ◌++◌, Option, None, Some, refl, ap, ◌∙◌}
+use Rattle.std.proofs.Common.{◌≡◌, ℕ, true, false, ◌||◌, List, [], Option, None, Some, refl, ap}
 use Rattle.std.specs.Option.{option_and_then, option_map_or}
-use Rattle.std.specs.Prelude.{nat_lt, ◌==◌}
+use Rattle.std.specs.Prelude.{◌==◌}
 use Rattle.rpg_cards.specs.Keys.{Named}
-use Rattle.rpg_cards.specs.Cards.{extension_on, input_field_in, input_field_on, input_on, output_field_on}
+use Rattle.rpg_cards.specs.Cards.{extension_on, input_field_in, input_on, output_field_on}
 use Rattle.rpg_cards.specs.Files.{file_by}
-use Rattle.rpg_cards.specs.Groups.{input_role, open_file, output_role}
+use Rattle.rpg_cards.specs.Groups.{open_file, output_role}
 use Rattle.rpg_cards.specs.Names.{form_in, form_of_name}
 use Rattle.rpg_cards.specs.declared.spec_card.SpecCard.{SpecCard}
 use Rattle.rpg_effect.specs.Forms.{has_field}
-use Rattle.rpg_faults_limits.specs.Limits.{bad_entries, bad_entries_of, passes_limit, passes_on_calculations, passes_on_lines, passes_on_types, passes_storage}
+use Rattle.rpg_faults_limits.specs.Limits.{bad_entries, bad_entries_of, passes_on_calculations, passes_on_lines, passes_on_types, passes_storage}
 use Rattle.rpg_faults_operands.specs.Names.{is_undefined}
-use Rattle.rpg_faults.specs.Places.{is_past, joins_badly, misplaces, outside_line, outside_on_input, own_file}
-use Rattle.rpg_sheet_specs.specs.declared.file.FileSpec.{FileSpec}
-use Rattle.rpg_sheet_specs.specs.declared.input.InputField.{InputField}
+use Rattle.rpg_faults.specs.Places.{joins_badly, outside_line, outside_on_input, own_file}
 use Rattle.rpg_sheet_specs.specs.declared.input.InputSpec.{InputSpec}
 use Rattle.rpg_sheet_specs.specs.declared.input.InputSpec.TheVariants as input
 use Rattle.rpg_compile_program.proofs.Definitions.{AreDefined, all_defined, is_turned}

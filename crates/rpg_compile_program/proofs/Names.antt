@@ -1,9 +1,8 @@
 -- The form of a name's key is that of the name's first definition, and a constant of a card has its own.
-use Rattle.std.proofs.Common.{◌≡◌, ℕ, Bool, true, false, not, cond, ◌||◌, List, [], ◌∷◌, ◌++◌, fold, Option, None, Some, refl, sym, ap, ◌∙◌, subst}
+use Rattle.std.proofs.Common.{◌≡◌, ℕ, Bool, true, false, cond, ◌||◌, List, [], ◌∷◌, ◌++◌, Option, None, Some, refl, ap, ◌∙◌}
 use Rattle.std.proofs.lemmas.Cmp.{nat_list_eq_equiv}
 use Rattle.std.specs.Cmp.Lexicographic.{pointwise}
 use Rattle.std.specs.List.{list_any}
-use Rattle.std.specs.Map.{lookup}
 use Rattle.std.specs.Option.{option_or, option_to_list}
 use Rattle.std.specs.Prelude.{is_some, nat_eq}
 use Rattle.rpg_compile_program.proofs.Definitions.{AreDefined, HasForm, IsForm}
@@ -22,7 +21,7 @@ use Rattle.rpg_cards.specs.declared.names.Definition.{Definition}
 use Rattle.rpg_cards.specs.declared.spec_card.SpecCard.{SpecCard}
 use Rattle.rpg_effect.specs.declared.form.FieldForm.{FieldForm}
 use Rattle.rpg_symbols.specs.Fields.{NamedForms, defined_form, given}
-use Rattle.rpg_compile_program.specs.Table.{defined_fields, key_form, table_of, with_definitions, with_form, with_name}
+use Rattle.rpg_compile_program.specs.Table.{key_form, table_of, with_definitions, with_form, with_name}
 
 -- ---- names
 

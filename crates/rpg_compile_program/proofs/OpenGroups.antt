@@ -1,6 +1,6 @@
 -- Groups of cards: what holds of each where it begins, and of each open group, holds of all groups of a source.
 use Rattle.std.proofs.Common.{◌≡◌, ℕ, List, [], ◌∷◌, ◌++◌, Option, None, Some, refl, sym, ap, ◌∙◌, subst, append_assoc, append-nil}
-use Rattle.std.specs.Option.{option_map, option_or, option_to_list}
+use Rattle.std.specs.Option.{option_or}
 use Rattle.rpg_cards.specs.Plain.{Each}
 use Rattle.rpg_cards.proofs.GroupLemmas.{closing, file_behind, file_with, groups-heading, groups_on, groups_on-card, open_group-push}
 use Rattle.rpg_cards.specs.Groups.{Apart, Follower, Group, Heading, Role, followers, following, groups, groups_from, open_group, opening, with_card, with_followers}

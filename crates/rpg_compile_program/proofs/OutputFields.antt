@@ -1,18 +1,18 @@
 -- The field of an output card that breaks no rule of cards is one that breaks no rule of lines, by names.
-use Rattle.std.proofs.Common.{◌≡◌, ℕ, ◌≤◌, Bool, true, false, not, cond, ◌||◌, List, [], ◌∷◌, length, Option, None, Some, refl, sym, ap, ◌∙◌, subst}
-use Rattle.std.proofs.lemmas.Bool.{and_from, and_parts, le-leb, ltb-false, not-false, not_from_false, not_from_true, or_left, or_parts, or_right}
+use Rattle.std.proofs.Common.{◌≡◌, ℕ, ◌≤◌, Bool, true, false, not, cond, ◌||◌, List, [], length, Option, None, Some, refl, sym, ap, ◌∙◌, subst}
+use Rattle.std.proofs.lemmas.Bool.{and_from, and_parts, le-leb, ltb-false, not-false, not_from_false, or_parts, or_right}
 use Rattle.std.specs.Cmp.Lexicographic.{bytes_decides, pointwise}
 use Rattle.std.specs.Option.{option_and_then, option_map, option_map_or}
-use Rattle.std.specs.Prelude.{◌&&◌, codes, is_none, is_some, nat_eq, nat_le, nat_lt, if◌then◌else◌}
+use Rattle.std.specs.Prelude.{◌&&◌, codes, is_none, is_some, nat_eq, nat_lt, if◌then◌else◌}
 use Rattle.rpg_cards.specs.Keys.{Fixed, Key, Named, entry_operand, key_index}
 use Rattle.rpg_cards.specs.declared.operations.Content.TheVariants.{Value}
-use Rattle.rpg_cards.specs.Constants.{constant_form, text_constant}
+use Rattle.rpg_cards.specs.Constants.{constant_form}
 use Rattle.rpg_cards.specs.Names.{form_in, form_of_name}
 use Rattle.rpg_cards.specs.declared.constants.Constant.TheVariants as constant
 use Rattle.rpg_cards.specs.declared.spec_card.SpecCard.{SpecCard}
 use Rattle.rpg_effect.specs.Editing.{how_of, width_as}
-use Rattle.rpg_effect.specs.Forms.{has_field, is_array, is_writable, kind_of, may_write, same_kind}
-use Rattle.rpg_effect.specs.LineFaults.{KeepsFieldRules, fits_editing, fits_source, has_room, is_blank_fill}
+use Rattle.rpg_effect.specs.Forms.{has_field, is_array, is_writable, same_kind}
+use Rattle.rpg_effect.specs.LineFaults.{KeepsFieldRules, fits_editing, fits_source}
 use Rattle.rpg_effect.specs.Rows.{has_entry, has_operand, is_one_entry, is_shaped}
 use Rattle.rpg_effect.specs.declared.form.Class.TheVariants as class
 use Rattle.rpg_effect.specs.declared.form.FieldForm.{FieldForm}
@@ -28,8 +28,7 @@ use Rattle.rpg_edit_marks.specs.declared.code.Fill.TheVariants as fills
 use Rattle.rpg_edit_marks.specs.declared.how.How.{How}
 use Rattle.rpg_edit_marks.specs.declared.how.How.TheVariants as hows
 use Rattle.rpg_faults_operands.specs.Columns.{bad_output_field}
-use Rattle.rpg_faults_operands.specs.Editing as edits
-use Rattle.rpg_faults_operands.specs.Editing.{edits_badly, fill_in, how_by, if_suited, suits, unedited, width, width_by}
+use Rattle.rpg_faults_operands.specs.Editing.{edits_badly, how_by, if_suited, suits, unedited, width, width_by}
 use Rattle.rpg_faults_operands.specs.Indexes.{bad_index_field, bad_index_of, misindexed}
 use Rattle.rpg_faults_operands.specs.Kinds.{wrong_as_output, wrong_in_output}
 use Rattle.rpg_faults_operands.specs.Names.{index_name, is_undefined, name_in, names_nothing}
@@ -41,7 +40,7 @@ use Rattle.rpg_sheet_specs.specs.declared.entry.EntryIndex.TheVariants as writte
 use Rattle.rpg_sheet_specs.specs.declared.indicator.Condition.{Condition}
 use Rattle.rpg_sheet_specs.specs.declared.indicator.Three.{Three}
 use Rattle.rpg_sheet_specs.specs.declared.output.OutputField.{OutputField}
-use Rattle.rpg_compile_program.specs.Lines.{fill_by, line_field_of, names_page, output_fill}
+use Rattle.rpg_compile_program.specs.Lines.{fill_by, line_field_of, names_page}
 
 -- a field that is there has a form
 some_form : (o : Option FieldForm) → has_field o ≡ true → (d : FieldForm) × (o ≡ Some d)

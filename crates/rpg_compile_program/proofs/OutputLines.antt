@@ -1,18 +1,18 @@
 -- The lines of faultless cards break no rule.
-use Rattle.std.proofs.Common.{◌≡◌, ◌≢◌, ℕ, zero, suc, ◌<◌, ◌≤◌, Bool, true, false, not, cond, ◌||◌, List, [], ◌∷◌, ◌++◌, map, Option, None, Some, refl, sym, ap, ◌∙◌, subst, arith, slice_get}
-use Rattle.std.proofs.lemmas.Bool.{and_from, and_left, and_parts, eqb-false, le-leb, leb-true, ltb-false, ne_eqb, not-false, not_from_false, not_from_true, or_from, or_left, or_parts, or_right}
+use Rattle.std.proofs.Common.{◌≡◌, ℕ, zero, suc, ◌≤◌, Bool, true, false, not, cond, ◌||◌, List, [], ◌∷◌, ◌++◌, map, Option, None, Some, refl, sym, ap, ◌∙◌, subst, arith, slice_get}
+use Rattle.std.proofs.lemmas.Bool.{and_from, and_parts, eqb-false, le-leb, ltb-false, ne_eqb, not_from_true, or_from, or_left, or_parts, or_right}
 use Rattle.std.proofs.lemmas.List.Folds.{list_any-append}
-use Rattle.std.specs.List.{cons_option, filter_map, list_all, list_any}
+use Rattle.std.specs.List.{filter_map, list_all, list_any}
 use Rattle.std.specs.Option.{ForSome, option_and_then, option_map, option_map_or, option_or, option_to_list}
 use Rattle.std.specs.Prelude.{◌==◌, ◌&&◌, is_none, is_some, nat_le, nat_lt, unwrap_or}
 use Rattle.rpg_cards.specs.Calculations.{condition_of, in_places, standing}
 use Rattle.rpg_cards.specs.Keys.{Fixed, Key}
 use Rattle.rpg_cards.specs.Plain.{Each}
 use Rattle.rpg_cards.proofs.InsertLemmas.{among}
-use Rattle.rpg_cards.specs.Cards.{calculation_on, file_on, output_field_in, output_field_on, output_on, output_record_in, output_record_on, type_on}
+use Rattle.rpg_cards.specs.Cards.{calculation_on, file_on, output_field_in, output_field_on, output_on, output_record_in, output_record_on}
 use Rattle.rpg_cards.specs.Constants.{constant_form, constants, constants_in, constants_on, factor_constant, is_same, text_constant}
 use Rattle.rpg_cards.specs.Files.{file_by, file_for, file_use, is_output, same_use}
-use Rattle.rpg_cards.specs.Groups.{Apart, Follower, Group, Heading, Role, groups, open_file, open_group, output_card_role, output_role, role_on}
+use Rattle.rpg_cards.specs.Groups.{Follower, Group, Heading, groups, open_file, open_group, output_role}
 use Rattle.rpg_cards.specs.SameConstants.{is_same_equiv}
 use Rattle.rpg_cards.specs.declared.constants.Constant.{Constant}
 use Rattle.rpg_cards.specs.declared.constants.Constant.TheVariants as constant
@@ -23,14 +23,13 @@ use Rattle.rpg_faults_flow.specs.Kept.{KeepsRule}
 use Rattle.rpg_faults_limits.specs.Files.{bad_file, breaks_files, lacks_file, moves, moves_disk, moves_disk_by, is_disk}
 use Rattle.rpg_faults_limits.specs.Indicators.{any_of, bad_in_output, bad_indicator, bad_on, bad_on_output}
 use Rattle.rpg_faults_operands.specs.Columns as columns
-use Rattle.rpg_faults_operands.specs.Editing.{bad_editing, edits_badly, width}
+use Rattle.rpg_faults_operands.specs.Editing.{bad_editing, edits_badly}
 use Rattle.rpg_faults_operands.specs.Indexes.{bad_index, bad_index_of}
 use Rattle.rpg_faults_operands.specs.Kinds.{wrong_in_output, wrong_operand}
 use Rattle.rpg_faults_operands.specs.Names.{lacks_name, names_nothing}
-use Rattle.rpg_faults_operands.specs.Operands.{Operand, operands_ending, operands_listed, operands_on, output_operand, output_operand_on}
-use Rattle.rpg_effect.specs.Editing.{how_of, width_as}
-use Rattle.rpg_effect.specs.Forms.{form_at, has_field, is_text_constant, kind_of, length_of, same_kind}
-use Rattle.rpg_effect.specs.LineFaults.{KeepsFieldRules, blanks_writable, fits_code, fits_editing, fits_word, has_room, is_blank_fill, is_spacing}
+use Rattle.rpg_faults_operands.specs.Operands.{Operand, operands_ending, operands_listed, output_operand, output_operand_on}
+use Rattle.rpg_effect.specs.Forms.{form_at, has_field, length_of}
+use Rattle.rpg_effect.specs.LineFaults.{KeepsFieldRules, blanks_writable, fits_editing}
 use Rattle.rpg_effect.specs.declared.condition.Condition.{Condition}
 use Rattle.rpg_effect.specs.declared.form.FieldForm.{FieldForm}
 use Rattle.rpg_effect.specs.declared.line.Editing.{Editing}
@@ -41,14 +40,12 @@ use Rattle.rpg_effect.specs.declared.line.LineField.{LineField}
 use Rattle.rpg_edit_marks.specs.declared.code.Fill.{Fill}
 use Rattle.rpg_faults.specs.Places.{is_past, outside_line}
 use Rattle.rpg_object_program.specs.Constants.{word_at}
-use Rattle.rpg_object_program.specs.Kept.{IsIndicator}
-use Rattle.rpg_object_program.specs.Object.{LineRow, Object, file_length}
+use Rattle.rpg_object_program.specs.Object.{Object, file_length}
 use Rattle.rpg_effect_renaming.proofs.Lines.{keeps_same}
 use Rattle.rpg_effect_renaming.specs.Naming.{renamed_field}
 use Rattle.rpg_verify_rules.proofs.Kept.{NoneTrue}
 use Rattle.rpg_verify_rules.specs.Indicators.{all_asked, if_any, may_be_asked}
-use Rattle.rpg_verify_rules.specs.LineRules as judged
-use Rattle.rpg_verify_rules.specs.LineRules.{edits_form, is_field_asked, is_field_edited, is_field_there, is_spaced_on, is_unspaced, is_word_for, lacks_room, lacks_word, line_breaks}
+use Rattle.rpg_verify_rules.specs.LineRules.{edits_form, is_field_asked, is_field_edited, is_field_there, is_spaced_on, is_word_for, lacks_room, lacks_word, line_breaks}
 use Rattle.rpg_verify_rules.specs.Rules.{broken}
 use Rattle.rpg_verify_rules.specs.declared.rule.LineRule.{LineRule}
 use Rattle.rpg_verify_rules.specs.declared.rule.LineRule.TheVariants.{V2, V8, V9, V10, V11, V12, V13, V14, V15}
@@ -62,11 +59,11 @@ use Rattle.rpg_compile_program.proofs.Numbers.{numbers_rename}
 use Rattle.rpg_compile_program.proofs.OutputFields as fields
 use Rattle.rpg_compile_program.proofs.OutputFiles as named_files
 use Rattle.rpg_compile_program.proofs.Words.{words_same}
-use Rattle.rpg_compile_program.specs.Lines.{line_alternatives, file_put, is_unmoved, line_field_of, card_line, lines_on, output_fields_in, put_length, output_file, spacing_of, spaces_after}
+use Rattle.rpg_compile_program.specs.Lines.{line_alternatives, file_put, is_unmoved, line_field_of, card_line, output_fields_in, put_length, output_file, spacing_of}
 use Rattle.rpg_compile_program.specs.Lines as words
-use Rattle.rpg_compile_program.specs.Program.{key_numbers, line_rows, numbered_line, program_of}
+use Rattle.rpg_compile_program.specs.Program.{key_numbers, numbered_line, program_of}
 use Rattle.rpg_compile_program.specs.Ranges.{AreCards, InThree, IsCard, IsCondition, IsInRange, IsLine, IsMovement, IsOutput, IsOutputField, IsSkip, IsSpace}
-use Rattle.rpg_compile_program.specs.Table.{key_form, key_number, key_word, table_of}
+use Rattle.rpg_compile_program.specs.Table.{key_form, key_word, table_of}
 use Rattle.rpg_sheet_specs.specs.declared.output.Movement.{Movement}
 use Rattle.rpg_sheet_specs.specs.declared.file.FileSpec.{FileSpec}
 use Rattle.rpg_sheet_specs.specs.declared.indicator.Condition as sheet

@@ -1,5 +1,5 @@
 -- What faultless sources say of sections, in plain words, is what the rules on targets, calls, returns and levels need.
-use Rattle.std.proofs.Common.{◌≡◌, ℕ, zero, suc, ◌+◌, ◌≤◌, ◌<◌, List, [], ◌∷◌, ◌++◌, length, refl, sym, ap, ◌∙◌, subst, arith, ◌⊎◌, inl, inr}
+use Rattle.std.proofs.Common.{ℕ, suc, List, [], ◌∷◌, length, inl, inr}
 use Rattle.rpg_object_program.specs.Object.{Object}
 use Rattle.rpg_verify_rules.proofs.Kept.{NoneTrue}
 use Rattle.rpg_verify_rules.specs.Rules.{broken}
@@ -9,13 +9,11 @@ use Rattle.rpg_verify_rules.specs.declared.rule.SubroutineRule.TheVariants.{V23,
 use Rattle.rpg_compile_program.proofs.Heights.{body_up, is_call_append, levels_are, outside_up}
 use Rattle.rpg_compile_program.specs.Whole.{IsCodeOf}
 use Rattle.rpg_compile_program.proofs.Whole.{calls_kept, levels_kept, returns_kept, targets_kept}
-use Rattle.rpg_cards.specs.Calculations.{calculations}
-use Rattle.rpg_cards.specs.Deeds.{Calculation}
-use Rattle.rpg_cards.specs.Keys.{Key, Name}
-use Rattle.rpg_cards.specs.Plain.{ArePlain, ArePlainBodies, Each, IsCallAmong, IsFound, IsPlainBody, NoneComesBack, calls_from, calls_in, calls_of}
-use Rattle.rpg_cards.specs.Sections.{Sections, Subroutine, sections_of}
+use Rattle.rpg_cards.specs.Keys.{Key}
+use Rattle.rpg_cards.specs.Plain.{ArePlain, ArePlainBodies, IsCallAmong, NoneComesBack, calls_from, calls_in, calls_of}
+use Rattle.rpg_cards.specs.Sections.{Sections, Subroutine}
 use Rattle.rpg_compile_program.specs.Levels.{subroutine_level}
-use Rattle.rpg_compile_program.specs.Sound.{AreSound, AreSoundBodies, IsSoundBody}
+use Rattle.rpg_compile_program.specs.Sound.{AreSound, AreSoundBodies}
 
 module _ (all : List (Subroutine Key)) (none : NoneComesBack (length all) (calls_of all)) where
   bodies_sound : (own : ℕ) (ss : List (Subroutine Key)) → ((a b : ℕ) → IsCallAmong a b (calls_from all own ss) → IsCallAmong a b (calls_of all)) → ArePlainBodies all ss → AreSoundBodies all (subroutine_level all) own ss

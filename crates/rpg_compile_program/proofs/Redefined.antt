@@ -1,9 +1,7 @@
 -- Each definition of a source without a fault has the form that its name has.
-use Rattle.std.proofs.Common.{◌≡◌, ℕ, Bool, true, false, not, cond, ◌||◌, List, [], ◌∷◌, ◌++◌, Option, None, Some, refl, sym, ap, ◌∙◌, subst, append_assoc}
+use Rattle.std.proofs.Common.{◌≡◌, ℕ, Bool, true, false, not, cond, List, [], ◌∷◌, ◌++◌, Option, None, Some, refl, sym, ap, ◌∙◌, subst, append_assoc}
 use Rattle.std.proofs.lemmas.Cmp.{nat_list_eq_equiv}
-use Rattle.std.specs.Cmp.Lexicographic.{pointwise}
 use Rattle.std.specs.Option.{option_map_or}
-use Rattle.std.specs.Prelude.{nat_eq}
 use Rattle.rpg_cards.specs.Keys.{Named}
 use Rattle.rpg_cards.specs.Plain.{Each}
 use Rattle.rpg_cards.proofs.ItemLemmas.{definitions-append}
@@ -13,7 +11,7 @@ use Rattle.rpg_cards.specs.declared.names.Defined.TheVariants.{Bad, Good, Missin
 use Rattle.rpg_cards.specs.declared.names.Definition.{Definition}
 use Rattle.rpg_cards.specs.declared.spec_card.SpecCard.{SpecCard}
 use Rattle.rpg_effect.specs.declared.form.FieldForm.{FieldForm}
-use Rattle.rpg_faults_limits.specs.Names.{redefine, redefines, redefines_as}
+use Rattle.rpg_faults_limits.specs.Names.{redefine, redefines_as}
 use Rattle.rpg_symbols.proofs.Forms.{same_form-equal}
 use Rattle.rpg_symbols.specs.Fields.{defined_form, given, same_form}
 use Rattle.rpg_compile_program.proofs.Definitions.{HasForm, IsForm}

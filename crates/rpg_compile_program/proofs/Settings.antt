@@ -1,7 +1,7 @@
 -- The lengths of the files of a source without a fault.
-use Rattle.std.proofs.Common.{◌≡◌, ℕ, zero, suc, ◌≤◌, Bool, true, false, cond, ◌||◌, ◌&&◌, List, [], ◌∷◌, ◌++◌, Option, None, Some, refl, sym, ap, ◌∙◌, subst, arith}
+use Rattle.std.proofs.Common.{◌≡◌, ℕ, zero, suc, ◌≤◌, Bool, true, false, cond, ◌&&◌, List, [], ◌∷◌, Option, None, Some, refl, sym, ap, ◌∙◌, subst, arith}
 use Rattle.std.proofs.lemmas.Bool.{ne_eqb}
-use Rattle.std.specs.Option.{ForSome, option_and_then, option_map_or}
+use Rattle.std.specs.Option.{option_and_then, option_map_or}
 use Rattle.std.specs.Prelude.{find, is_none, is_some, ◌==◌}
 use Rattle.rpg_cards.specs.Cards.{file_on, output_record_on, type_on}
 use Rattle.rpg_cards.specs.Files.{file_for, file_use, files, is_input, is_output, same_use}
@@ -10,18 +10,15 @@ use Rattle.rpg_cards.specs.declared.files.FileUse.{FileUse}
 use Rattle.rpg_cards.specs.declared.files.FileUse.TheVariants.{Disk, Primary, Printer}
 use Rattle.rpg_cards.specs.declared.spec_card.SpecCard.{SpecCard}
 use Rattle.rpg_faults_limits.specs.Files.{bad_file, lacks_file, longest_in_file}
-use Rattle.rpg_object_program.specs.Kept.{IsOverflowIndicator}
 use Rattle.rpg_verify_rules.proofs.Kept.{NoneTrue}
 use Rattle.rpg_verify_rules.specs.Rules.{broken}
 use Rattle.rpg_verify_rules.specs.declared.rule.Rule.TheVariants as verifier
 use Rattle.rpg_sheet_specs.specs.declared.file.FileSpec.{FileSpec}
-use Rattle.rpg_sheet_specs.specs.declared.spec.Spec.{Spec}
 use Rattle.rpg_sheet_specs.specs.declared.spec.Spec.TheVariants as spec
-use Rattle.rpg_compile_program.proofs.Lists.{Seen, each_card, or_first}
+use Rattle.rpg_compile_program.proofs.Lists.{Seen, or_first}
 use Rattle.rpg_compile_program.proofs.OutputFiles.{IsOwn, found_from}
 use Rattle.rpg_compile_program.specs.Lines.{record_length_of}
 use Rattle.rpg_compile_program.specs.Program.{program_of}
-use Rattle.rpg_compile_program.specs.Ranges.{AreCards, IsInRange}
 use Rattle.rpg_compile_program.specs.Rules.{KeepsCardRules}
 
 find_passes : {X : Type 0} (test : X → Bool) (xs : List X) (x : X) → find test xs ≡ Some x → test x ≡ true

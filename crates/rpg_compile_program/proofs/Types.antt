@@ -1,16 +1,15 @@
 -- No record type of the program of a source without a fault breaks a rule.
-use Rattle.std.proofs.Common.{◌≡◌, ℕ, zero, suc, ◌+◌, ◌-◌, ◌≤◌, Bool, true, false, not, cond, ◌||◌, ◌&&◌, List, [], ◌∷◌, ◌++◌, map, filter, Option, None, Some, refl, sym, ap, ◌∙◌, subst, arith, append_assoc}
+use Rattle.std.proofs.Common.{◌≡◌, ℕ, ◌+◌, ◌-◌, ◌≤◌, Bool, true, false, cond, ◌&&◌, List, [], ◌∷◌, ◌++◌, map, Option, None, Some, refl, sym, ap, ◌∙◌, subst, arith}
 use Rattle.std.proofs.lemmas.Bool.{and_from, eq-eqb, eqb-false, eqb-true, le-leb, ltb-false, not_from_true}
 use Rattle.std.proofs.lemmas.List.Sums.{sum_by-cons}
 use Rattle.std.proofs.lemmas.Option.{same_Some}
-use Rattle.std.specs.List.{cons_option, filter_map, flat_map, list_any}
-use Rattle.std.specs.Option.{ForSome, option_map, option_map_or, option_or}
+use Rattle.std.specs.List.{cons_option, filter_map, flat_map}
+use Rattle.std.specs.Option.{option_map, option_map_or}
 use Rattle.std.specs.Prelude.{nat_le, nat_lt, sum_by, ◌==◌}
 use Rattle.rpg_cards.specs.Deeds.{shows_of}
 use Rattle.rpg_cards.specs.Keys.{Key, Named}
 use Rattle.rpg_cards.specs.Plain.{Each}
-use Rattle.rpg_cards.proofs.GroupLemmas.{file_behind, open_group-push}
-use Rattle.rpg_cards.specs.Cards.{input_field_in, input_on}
+use Rattle.rpg_cards.proofs.GroupLemmas.{open_group-push}
 use Rattle.rpg_cards.specs.Files.{file_by, file_for, file_use, is_input}
 use Rattle.rpg_cards.specs.Groups.{Apart, Follower, Group, Heading, Role, followers, groups, input_role, open_file, open_group, with_card}
 use Rattle.rpg_cards.specs.declared.files.FileUse.{FileUse}
@@ -23,8 +22,8 @@ use Rattle.rpg_effect.specs.declared.input.ControlField.{ControlField}
 use Rattle.rpg_effect.specs.declared.input.InputField as row
 use Rattle.rpg_effect.specs.declared.input.RecordCode as row_code
 use Rattle.rpg_effect.specs.declared.form.FieldForm.{FieldForm}
-use Rattle.rpg_faults_limits.specs.Indicators.{any_of, bad_on_field, cannot_be_set}
-use Rattle.rpg_faults.specs.Places.{first_length, has_other_lengths, input_columns, is_at_level, is_past, joined_length, joins_badly, lengths_differ, level_fields, level_length, levels, open_specs, outside_on_input, outside_record, own_file, passes_length}
+use Rattle.rpg_faults_limits.specs.Indicators.{any_of, cannot_be_set}
+use Rattle.rpg_faults.specs.Places.{first_length, has_other_lengths, input_columns, is_at_level, is_past, joined_length, lengths_differ, level_fields, level_length, levels, open_specs, outside_on_input, outside_record, own_file, passes_length}
 use Rattle.rpg_object_program.specs.Object.{Object}
 use Rattle.rpg_effect_renaming.specs.Naming.{renamed_input, renamed_type}
 use Rattle.rpg_verify_rules.proofs.Kept.{NoneTrue}
@@ -40,18 +39,17 @@ use Rattle.rpg_sheet_specs.specs.declared.input.InputSpec.{InputSpec}
 use Rattle.rpg_sheet_specs.specs.declared.input.InputSpec.TheVariants as input
 use Rattle.rpg_sheet_specs.specs.declared.input.RecordType.{RecordType}
 use Rattle.rpg_sheet_specs.specs.declared.spec.Spec.TheVariants as spec
-use Rattle.rpg_compile_program.proofs.InputTypes.{InFile, IsFieldGood, IsInputGood, IsTypeGood, codes_in, each_type, follower_on, form_of_field, heading_on, marks_type, outside_kept, settable, shown_so}
+use Rattle.rpg_compile_program.proofs.InputTypes.{InFile, IsFieldGood, IsInputGood, codes_in, each_type, follower_on, form_of_field, heading_on, marks_type, outside_kept, settable, shown_so}
 use Rattle.rpg_compile_program.proofs.Joined as levelled
 use Rattle.rpg_compile_program.proofs.Joined.{HasColumns, Joined, all_nine, each_level, first_joined, first_same, measured, same_sum}
-use Rattle.rpg_compile_program.proofs.Lists.{Seen, each_card, front_keeps, or_first, or_second}
+use Rattle.rpg_compile_program.proofs.Lists.{each_card, front_keeps, or_first, or_second}
 use Rattle.rpg_compile_program.proofs.Numbers.{forms_same, standing}
 use Rattle.rpg_compile_program.proofs.OpenGroups.{HasGood, InGroup, IsAmong, each_among, each_good, each_open}
-use Rattle.rpg_compile_program.specs.Data.{kind_by}
 use Rattle.rpg_compile_program.specs.Lines.{record_length_of}
-use Rattle.rpg_compile_program.specs.Program.{key_numbers, program_of, types_of}
+use Rattle.rpg_compile_program.specs.Program.{key_numbers, program_of}
 use Rattle.rpg_compile_program.specs.Ranges.{AreCards}
 use Rattle.rpg_compile_program.specs.Rules.{KeepsCardRules}
-use Rattle.rpg_compile_program.specs.Table.{forms, key_form, table_of}
+use Rattle.rpg_compile_program.specs.Table.{key_form, table_of}
 use Rattle.rpg_compile_program.specs.Types.{and_card_codes, codes_of, control_field, control_field_of, input_fields_in, input_row, type_of}
 
 -- ---- columns

@@ -1,13 +1,12 @@
 -- The code of sound sections breaks none of the rules on targets, calls, returns and levels.
-use Rattle.std.proofs.Common.{◌≡◌, ℕ, zero, suc, ◌+◌, ◌-◌, ◌≤◌, ◌<◌, Bool, true, false, cond, ◌&&◌, ◌||◌, not, List, [], ◌∷◌, ◌++◌, length, map, Option, None, Some, slice_get, refl, sym, ap, ◌∙◌, subst, arith, length-append, append_assoc, append-nil}
-use Rattle.std.specs.Prelude.{◌==◌, nat_le, nat_lt, nat_eq}
+use Rattle.std.proofs.Common.{◌≡◌, ℕ, zero, suc, ◌+◌, ◌-◌, ◌≤◌, ◌<◌, Bool, true, false, cond, ◌||◌, not, List, [], ◌∷◌, ◌++◌, length, map, Option, Some, slice_get, refl, sym, ap, ◌∙◌, subst, arith, length-append}
+use Rattle.std.specs.Prelude.{nat_le}
 use Rattle.std.specs.List.{list_all, list_any}
-use Rattle.std.specs.Cmp.Lexicographic.{pointwise}
-use Rattle.std.proofs.lemmas.Bool.{and_from, eq-eqb, le-leb, lt-ltb, ltb-false, not_from_true, or_from}
+use Rattle.std.proofs.lemmas.Bool.{and_from, le-leb, lt-ltb, not_from_true, or_from}
 use Rattle.rpg_effect.specs.declared.operation.Instruction.{Instruction}
 use Rattle.rpg_effect.specs.declared.operation.Instruction.TheVariants as made
-use Rattle.rpg_object_program.specs.Object.{Object, SubroutineRow}
-use Rattle.rpg_object_program.specs.Sections.{body_of, first_in, first_place, has_end, is_place, level_in, level_of, place_behind, section_instructions}
+use Rattle.rpg_object_program.specs.Object.{Object}
+use Rattle.rpg_object_program.specs.Sections.{body_of, first_in, first_place, has_end, level_in, level_of, place_behind, section_instructions}
 use Rattle.rpg_object_program.specs.declared.section.Section.{Section}
 use Rattle.rpg_object_program.specs.declared.section.Section.TheVariants as section
 use Rattle.rpg_verify_rules.proofs.Kept.{NoneTrue}
@@ -15,14 +14,14 @@ use Rattle.rpg_verify_rules.specs.Indicators.{is_within}
 use Rattle.rpg_verify_rules.specs.PlaceRules.{bodies_judged, calls_higher, ends_in_return, has_stray_return, is_body, is_off_level, is_own, is_return, is_return_if_any, place_breaks, places_judged, judged_behind_detail, section_judged, stays_inside, subroutines_judged, with_first}
 use Rattle.rpg_verify_rules.specs.declared.rule.PlaceRule.{PlaceRule}
 use Rattle.rpg_verify_rules.specs.declared.rule.PlaceRule.TheVariants.{V21, V22}
-use Rattle.rpg_compile_program.proofs.Control.{IsTest, code_each, code_none, code_own, last_return, stays, stays_before}
+use Rattle.rpg_compile_program.proofs.Control.{code_each, code_none, code_own, last_return, stays, stays_before}
 use Rattle.rpg_compile_program.proofs.Counts.{LeadsWithin, Within, code_append, code_length, code_within, label_before, label_inside}
 use Rattle.rpg_compile_program.proofs.Each.{each_always, each_append, each_map, each_passes, none_broken, none_in_both, none_passes}
-use Rattle.rpg_cards.specs.Deeds.{Acts, Begins, Calculation, Deed, Ends, Executes, GoesTo, Marks, Nothing, PutsOut, tests}
+use Rattle.rpg_cards.specs.Deeds.{Acts, Begins, Calculation, Deed, Ends, Executes, GoesTo, Marks, Nothing, PutsOut}
 use Rattle.rpg_cards.specs.Keys.{Key, Name}
-use Rattle.rpg_cards.specs.Plain.{Each, HasGoal, IsNoReturn, defines_subroutine, has_label}
+use Rattle.rpg_cards.specs.Plain.{Each, HasGoal, defines_subroutine}
 use Rattle.rpg_cards.specs.Sections.{Sections, Subroutine, callee}
-use Rattle.rpg_compile_program.specs.Code.{code_from, group_code, has_instruction, label_place, section_code, size, sizes, step_code, subroutines_code, waits}
+use Rattle.rpg_compile_program.specs.Code.{code_from, label_place, section_code, sizes, step_code, subroutines_code, waits}
 use Rattle.rpg_compile_program.specs.Sound.{AreSound, AreSoundBodies, CallsUp, IsSoundBody}
 use Rattle.rpg_compile_program.specs.Whole.{IsCodeOf, called_number}
 use Rattle.rpg_cards.specs.Sections.{is_same_name}

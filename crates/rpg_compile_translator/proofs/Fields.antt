@@ -1,5 +1,5 @@
 -- The fields of a source without a fault are fields of an object program.
-use Rattle.std.proofs.Common.{◌≡◌, ℕ, suc, ◌+◌, ◌-◌, ◌<◌, ◌≤◌, Bool, true, false, cond, leb, List, [], ◌∷◌, ◌++◌, length, map, Option, None, Some, refl, sym, subst, arith}
+use Rattle.std.proofs.Common.{◌≡◌, ℕ, ◌+◌, ◌-◌, ◌≤◌, Bool, true, false, cond, leb, List, [], ◌∷◌, ◌++◌, length, map, Option, None, Some, refl, subst, arith}
 use Rattle.std.proofs.lemmas.Bool.{and_parts, leb-true}
 use Rattle.std.specs.Cmp.Lexicographic.{pointwise}
 use Rattle.std.specs.List.{flat_map, list_any}
@@ -9,9 +9,9 @@ use Rattle.std.specs.Prelude.{All, ◌&&◌, is_none, is_some, nat_eq, nat_le}
 use Rattle.indexmap.specs.IndexSet.{insert_all, insert_key}
 use Rattle.rpg_cards.specs.Keys.{Named}
 use Rattle.rpg_cards.specs.Plain.{Each}
-use Rattle.rpg_cards.specs.Cards.{calculation_on, extension_on, input_field_on, output_field_in}
-use Rattle.rpg_cards.specs.Constants.{IsConstant, constant_form, constant_of, constants, constants_in, constants_on, factor_constant, is_same, text_constant}
-use Rattle.rpg_cards.specs.Names.{definition_by, definition_in, definition_of, definitions, definitions_on, form_with, is_table_name, sized, sized_form, table_class, table_form, tables_on}
+use Rattle.rpg_cards.specs.Cards.{calculation_on, extension_on, input_field_on}
+use Rattle.rpg_cards.specs.Constants.{IsConstant, constant_form, constants, constants_in, constants_on, factor_constant, is_same, text_constant}
+use Rattle.rpg_cards.specs.Names.{definition_by, definition_in, definition_of, definitions, definitions_on, form_with, is_table_name, sized, sized_form, tables_on}
 use Rattle.rpg_cards.specs.declared.constants.Constant.{Constant}
 use Rattle.rpg_cards.specs.declared.constants.Constant.TheVariants as constant
 use Rattle.rpg_cards.specs.declared.names.Definition.{Definition}
@@ -35,7 +35,7 @@ use Rattle.rpg_sheet_specs.specs.declared.spec.Spec.{Spec}
 use Rattle.rpg_sheet_specs.specs.declared.spec.Spec.TheVariants as spec
 use Rattle.rpg_symbols.specs.Fields.{NamedForms, defined_form, given}
 use Rattle.rpg_compile_program.specs.Ranges.{AreCards, IsConstantText, IsFactor, IsInRange}
-use Rattle.rpg_compile_program.specs.Table.{defined_fields, forms, key_form, name_forms, table_of, with_definition, with_definitions, with_form, with_name}
+use Rattle.rpg_compile_program.specs.Table.{defined_fields, forms, key_form, name_forms, table_of, with_definition, with_definitions, with_form}
 
 -- ---- forms
 

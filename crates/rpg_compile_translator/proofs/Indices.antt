@@ -1,24 +1,22 @@
 -- The indices of the output fields of a source without a fault: none, 1 to 9,999, or the number of a field.
-use Rattle.std.proofs.Common.{◌≡◌, ℕ, ◌+◌, ◌≤◌, Bool, true, false, not, ◌||◌, List, ◌∷◌, ◌++◌, length, Option, None, Some, refl, sym, ap, ◌∙◌, subst, arith}
+use Rattle.std.proofs.Common.{◌≡◌, ℕ, ◌≤◌, true, false, not, List, Option, None, Some, refl, ap, ◌∙◌, subst, arith}
 use Rattle.std.proofs.lemmas.Bool.{and_parts, leb-true, not-false}
 use Rattle.std.specs.Option.{option_and_then, option_map, option_map_or, option_to_list}
 use Rattle.std.specs.Prelude.{unwrap_or}
-use Rattle.rpg_cards.specs.Keys.{Key, Named, entry_operand, key_index}
+use Rattle.rpg_cards.specs.Keys.{Key, entry_operand, key_index}
 use Rattle.rpg_cards.specs.Plain.{Each}
 use Rattle.rpg_cards.specs.declared.operations.Content.TheVariants.{Value}
 use Rattle.rpg_cards.specs.Cards.{output_field_in, output_field_on}
 use Rattle.rpg_cards.specs.Groups.{Follower, output_role}
-use Rattle.rpg_cards.specs.Names.{form_in, form_of_name}
 use Rattle.rpg_cards.specs.declared.spec_card.SpecCard.{SpecCard}
 use Rattle.rpg_effect.specs.Forms.{has_field, is_array}
 use Rattle.rpg_effect.specs.declared.form.FieldForm.{FieldForm}
 use Rattle.rpg_effect.specs.declared.operation.Index.TheVariants as index
-use Rattle.rpg_effect.specs.declared.operation.Operand as made
 use Rattle.rpg_compile_layouts.specs.Rows.{field_row}
 use Rattle.rpg_compile_layouts.specs.Within.{HasIndexRow}
 use Rattle.rpg_faults_operands.specs.Indexes.{bad_index_field, bad_index_of, index_form, misindexed}
 use Rattle.rpg_faults_operands.specs.Names.{index_name, is_undefined, names_nothing}
-use Rattle.rpg_faults_operands.specs.Operands.{Operand, card_entry_form, operand_with, operands_ending, operands_listed, output_operand, output_operand_on}
+use Rattle.rpg_faults_operands.specs.Operands.{card_entry_form, operand_with, operands_ending, operands_listed, output_operand, output_operand_on}
 use Rattle.rpg_object_program.specs.Kept.{IsIndexRow}
 use Rattle.rpg_compile_translator.proofs.Fields.{named_kept}
 use Rattle.rpg_compile_translator.proofs.Totals.{names_within, number_within}

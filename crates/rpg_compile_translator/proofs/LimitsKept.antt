@@ -1,5 +1,5 @@
 -- A source without a fault keeps the limits of the object format.
-use Rattle.std.proofs.Common.{ℕ, ◌≤◌, List, length}
+use Rattle.std.proofs.Common.{◌≤◌, List, length}
 use Rattle.rpg_compile_translator.proofs.Kept as accepted
 use Rattle.rpg_cards.specs.declared.spec_card.SpecCard.{SpecCard}
 use Rattle.rpg_faults.specs.Faults.{Faultless}

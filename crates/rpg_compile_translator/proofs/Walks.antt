@@ -1,12 +1,12 @@
 -- No card of a source without a fault passes a limit, so what its cards come to stays within the limits.
-use Rattle.std.proofs.Common.{◌≡◌, ℕ, ◌+◌, ◌≤◌, Bool, false, List, [], ◌∷◌, ◌++◌, length, Option, None, Some, sum_by, cond, subst}
+use Rattle.std.proofs.Common.{◌≡◌, ℕ, ◌+◌, ◌≤◌, Bool, false, List, [], ◌∷◌, Option, Some, sum_by, cond, subst}
 use Rattle.std.proofs.lemmas.List.Elements.{All-cons, All-nil}
 use Rattle.std.proofs.lemmas.List.Sums.{sum_by-cons}
 use Rattle.std.specs.Prelude.{All, count_by}
 use Rattle.rpg_cards.specs.Plain.{Each}
 use Rattle.rpg_cards.specs.Groups.{Group, group_count, input_role, output_role}
 use Rattle.rpg_cards.specs.declared.spec_card.SpecCard.{SpecCard}
-use Rattle.rpg_faults_limits.specs.Limits.{alternative_count, bad_entries, bytes_up_to, calculation_count, code_count, condition_count, crosses, field_count, fields_up_to, in_open, level_count, name_bytes, name_count, of_line, of_type, output_field_count, passes_limit, passes_on_calculations, passes_on_lines, passes_on_types, passes_storage, passes_subroutines}
+use Rattle.rpg_faults_limits.specs.Limits.{alternative_count, bad_entries, bytes_up_to, code_count, condition_count, crosses, field_count, fields_up_to, in_open, level_count, name_bytes, name_count, of_line, of_type, output_field_count, passes_on_calculations, passes_on_lines, passes_on_types, passes_storage}
 use Rattle.rpg_compile_program.proofs.Lists.{Seen, or_first, or_second}
 use Rattle.rpg_compile_program.specs.Rules.{KeepsCardRules}
 

@@ -1,10 +1,7 @@
 -- The date fits the date fields.
-use Rattle.std.proofs.Common.{◌≡◌, ℕ, ◌<◌, ◌+◌, ◌^◌, ℤ, suc, Bool, true, false, cond, List, length, get_or, drop, Option, None, Some, unsigned_abs, refl, sym, ap, ◌∙◌, subst, arith}
-use Rattle.std.proofs.lemmas.List.{drop_more}
+use Rattle.std.proofs.Common.{◌≡◌, ℕ, ◌<◌, ◌+◌, ◌^◌, ℤ, suc, true, List, length, get_or, Option, None, Some, unsigned_abs, refl, sym, ap, ◌∙◌, subst, arith}
 use Rattle.std.proofs.lemmas.Option.{same_Some, slice_get-get_or}
 use Rattle.std.specs.FinMap as map
-use Rattle.rpg_cycle.specs.Dating.{fields_with, with_date}
-use Rattle.rpg_cycle.specs.Starting.{dated}
 use Rattle.rpg_effect.specs.Forms.{form_at, is_date, length_of}
 use Rattle.rpg_effect.specs.Values.{Number, Text, Value}
 use Rattle.rpg_effect.specs.declared.form.Class.{Class}

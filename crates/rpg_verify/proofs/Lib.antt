@@ -1,4 +1,3 @@
-pub mod Joining
 pub mod Left
 pub mod Most
 pub mod PathCosts

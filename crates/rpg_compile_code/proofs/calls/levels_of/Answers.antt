@@ -1,10 +1,9 @@
-use Rattle.std.proofs.Common.{◌≡◌, ◌<◌, ◌≤◌, ℕ, List, length, get_or, sym, ap, ◌∙◌, subst, arith}
-use Rattle.rpg_cards.specs.Plain.{NoneComesBack, Pair, calls_of}
+use Rattle.std.proofs.Common.{◌≡◌, length, get_or, sym, ap, ◌∙◌, subst, arith}
+use Rattle.rpg_cards.specs.Plain.{calls_of}
 use Rattle.rpg_compile_program.proofs.Heights.{callers_below}
 use Rattle.rpg_compile_code.proofs.Called.{callees_below, few_calls, same_calls}
 use Rattle.rpg_compile_code.proofs.Levels.{call_at_place, level_is, not_cyclic}
 use Rattle.rpg_compile_code.proofs.calls.levels_of.Goals as goal
-use Rattle.rpg_compile_code.specs.Called.{numbered_calls_from}
 use Rattle.rpg_compile_code.specs.Numbers.{number_by}
 use Rattle.rpg_compile_code.specs.Walk.{subroutines_in}
 use Rattle.rpg_symbols.specs.Levels.{AreAmong, IsCallLevel, IsCyclic, call_numbered}

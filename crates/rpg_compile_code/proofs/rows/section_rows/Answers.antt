@@ -1,4 +1,4 @@
-use Rattle.std.proofs.Common.{◌≡◌, ◌+◌, ◌<◌, ℕ, List, Option, length, map, sym, ap, ◌∙◌, subst, arith}
+use Rattle.std.proofs.Common.{◌≡◌, ◌+◌, ◌<◌, ℕ, length, ap, ◌∙◌, arith}
 use Rattle.rpg_cards.specs.Calculations.{calculations}
 use Rattle.rpg_cards.specs.Sections.{sections_of}
 use Rattle.rpg_compile_program.specs.Code.{section_code, sizes, subroutines_code}
@@ -8,9 +8,7 @@ use Rattle.rpg_compile_code.proofs.Sizes.{all_sizes}
 use Rattle.rpg_compile_code.proofs.Written.{same_levels}
 use Rattle.rpg_compile_code.proofs.rows.section_rows.Goals as goal
 use Rattle.rpg_compile_code.specs.Called.{level_at}
-use Rattle.rpg_compile_code.specs.Numbers.{body_sizes, number_by}
-use Rattle.rpg_compile_code.specs.Walk.{section_in, subroutines_in}
-use Rattle.rpg_compile_code.specs.declared.part.Part.TheVariants.{Detail, Total}
+use Rattle.rpg_compile_code.specs.Numbers.{number_by}
 use Rattle.rpg_compile_program.specs.Table.{key_number}
 
 pub levels_of-requires-clause-few : goal.levels_of-requires-clause-few

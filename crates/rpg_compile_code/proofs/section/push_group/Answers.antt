@@ -1,9 +1,8 @@
-use Rattle.std.proofs.Common.{◌≡◌, ◌+◌, ◌++◌, ◌∷◌, ◌<◌, [], List, sym, ap, ◌∙◌, subst, append-nil}
+use Rattle.std.proofs.Common.{◌≡◌, ◌+◌, ◌++◌, ◌∷◌, ◌<◌, [], sym, ap, ◌∙◌, subst, append-nil}
 use Rattle.std.proofs.lemmas.Result.{on_ok_weaker}
 use Rattle.rpg_cards.specs.Calculations.{calculation_of, last_card}
 use Rattle.rpg_cards.specs.Deeds.{deed_of}
 use Rattle.rpg_compile_program.specs.Code.{group_code, size, step_code}
-use Rattle.rpg_effect.specs.declared.operation.Instruction.{Instruction}
 use Rattle.rpg_compile_code.proofs.Groups.{size_of_instruction}
 use Rattle.rpg_compile_code.proofs.Steps.{group_of_nothing, group_of_one, has_one}
 use Rattle.rpg_compile_code.proofs.section.push_group.Goals as goal

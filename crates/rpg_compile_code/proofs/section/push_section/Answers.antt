@@ -1,4 +1,4 @@
-use Rattle.std.proofs.Common.{◌≡◌, ◌+◌, ◌++◌, sym, ap, ◌∙◌, arith}
+use Rattle.std.proofs.Common.{◌+◌, ◌++◌, ap, ◌∙◌, arith}
 use Rattle.rpg_cards.specs.Calculations.{calculation_of}
 use Rattle.rpg_compile_program.specs.Code.{code_from, size, sizes}
 use Rattle.rpg_compile_code.proofs.Steps.{none_left, one_more}

@@ -1,4 +1,4 @@
-use Rattle.std.proofs.Common.{rules, ◌≡◌, ◌+◌, ◌++◌, ◌∷◌, ◌<◌, length, take, drop, sym, ap, ◌∙◌, arith, length-drop}
+use Rattle.std.proofs.Common.{rules, ◌≡◌, ◌+◌, ◌∷◌, ◌<◌, length, drop, sym, ap, ◌∙◌, arith, length-drop}
 use Rattle.rpg_compile_code.specs.Tests.{alternatives_in, tests_in}
 use Rattle.rpg_compile_code.proofs.Alternatives.{pushed, split_tests}
 use Rattle.rpg_compile_code.proofs.tests.push_tests.Goals as goal

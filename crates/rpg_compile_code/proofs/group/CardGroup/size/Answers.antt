@@ -1,4 +1,4 @@
-use Rattle.std.proofs.Common.{◌≡◌, ◌<◌, true, false, sym, ap, ◌∙◌, subst, arith}
+use Rattle.std.proofs.Common.{◌≡◌, ◌<◌, true, false, sym, ap, ◌∙◌, subst}
 use Rattle.rpg_cards.specs.Calculations.{calculation_of, last_card}
 use Rattle.rpg_cards.specs.Deeds.{deed_of}
 use Rattle.rpg_compile_program.specs.Code.{has_instruction, size}

@@ -1,4 +1,4 @@
-use Rattle.std.proofs.Common.{ℕ, List, unwrap_or, sym, ap, ◌∙◌}
+use Rattle.std.proofs.Common.{ℕ, List, unwrap_or, ap, ◌∙◌}
 use Rattle.std.specs.Cmp.Lexicographic.{pointwise}
 use Rattle.std.specs.Map.{lookup}
 use Rattle.std.specs.Option.{option_or}

@@ -1,8 +1,8 @@
-use Rattle.std.proofs.Common.{◌≡◌, ◌+◌, ◌++◌, ◌<◌, List, map, length, sym, ap, ◌∙◌, subst, arith}
+use Rattle.std.proofs.Common.{◌<◌, List, map, length, sym, ap, ◌∙◌, subst, arith}
 use Rattle.std.proofs.lemmas.List.{map-append}
 use Rattle.std.proofs.lemmas.List.Elements.{All-push}
 use Rattle.std.specs.Prelude.{All}
-use Rattle.rpg_compile_program.specs.Code.{section_code, sizes}
+use Rattle.rpg_compile_program.specs.Code.{section_code}
 use Rattle.rpg_compile_code.proofs.Written.{no_row_left, one_row_more}
 use Rattle.rpg_compile_code.proofs.rows.Writer.subroutines.Goals as goal
 use Rattle.rpg_compile_code.specs.Called.{level_at}
