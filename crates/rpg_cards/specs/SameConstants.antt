@@ -16,10 +16,10 @@ texts_equal : (s t : List ℕ) → pointwise nat_eq s t ≡ true → s ≡ t
 texts_equal s t e = (bytes_decides s t).0 e
 
 -- a number of its parts
-made : ℤ → ℕ → ℕ → Numeral
-made v l d = record { value = v; length = l; decimals = d }
+with_parts : ℤ → ℕ → ℕ → Numeral
+with_parts v l d = record { value = v; length = l; decimals = d }
 
-numbers_equal : (m n : Numeral) → is_same (Number m) (Number n) ≡ true → made m.value m.length m.decimals ≡ made n.value n.length n.decimals
+numbers_equal : (m n : Numeral) → is_same (Number m) (Number n) ≡ true → with_parts m.value m.length m.decimals ≡ with_parts n.value n.length n.decimals
 numbers_equal m n e =
     let p2 = and_parts _ _ e in
     let p1 = and_parts _ _ p2.0 in
@@ -29,7 +29,7 @@ numbers_equal m n e =
     cc
 
 pub is_same-equal : (x y : Constant) → is_same x y ≡ true → x ≡ y
-unfolding made
+unfolding with_parts
 is_same-equal (Number m) (Number n) e = ap Number (numbers_equal m n e)
 is_same-equal (Text s) (Text t) e = ap Text (texts_equal s t e)
 is_same-equal (Number m) (Text t) e = absurd cc

@@ -9,7 +9,7 @@ use crate::spec_card::SpecCard;
 use arrayvec::ArrayVec;
 use rpg_effect::form::{Class, FieldForm, Kind};
 use rpg_sheet_specs::{CalculationSpec, ExtensionSpec, InputField, InputSpec, Spec, TableSpec};
-use rpg_symbols::Name;
+use rpg_symbols::{Name, number_form};
 
 /// A name that a card defines, with its form: none where its length, decimals or entries are past their limit.
 #[derive(Drop)]
@@ -181,23 +181,10 @@ pub(crate) fn given_form(name: &Name) -> Option<FieldForm>
     ensures { result ≡ fields.defined_form fields.given name.now }
 {
     if name.as_slice() == b"UDATE".as_slice() {
-        Some(given(Class::Date, 6))
+        Some(number_form(Class::Date, 6))
     } else if name.as_slice() == b"PAGE".as_slice() {
-        Some(given(Class::Plain, 4))
+        Some(number_form(Class::Plain, 4))
     } else {
         None
-    }
-}
-
-const fn given(class: Class, length: u16) -> FieldForm
-    ensures { result ≡ fields.number_form class length }
-{
-    FieldForm {
-        kind: Kind::Number,
-        class,
-        length,
-        decimals: 0,
-        is_ascending: false,
-        entries: 1,
     }
 }

@@ -1,8 +1,8 @@
 -- What the program prints.
 use Rattle.std.specs.Prelude.{◌≡◌, ℕ, ◌≤◌, ◌⊎◌, List, Option}
 use Rattle.std.specs.Io.KnownBytes.{Appends, Keeps}
+use Rattle.rpg_text.specs.Lines.{with_line_feed}
 use Rattle.rpg_cli.specs.Answers.{exit_status, line_text}
-use Rattle.rpg_files.specs.Records.{with_line_feed}
 use Rattle.rpg_files.specs.Sending.{AppendsPrefix}
 use Rattle.rpg_cli.specs.declared.answer.Answer.{Answer}
 

@@ -3,8 +3,8 @@
 ghost use Rattle.std.specs.Prelude.{◌<◌, ◌≤◌, length, IfErr, IfOk, OnOk};
 ghost use Rattle.std.specs.Bool.{MatchBool};
 ghost use Rattle.std.specs.Io.KnownBytes.{Appends, WriteAppends};
-ghost use Rattle.rpg_files.specs.Records.{with_line_feed};
 ghost use Rattle.rpg_files.specs.Sending.{AppendsFirst, AppendsPrefix};
+ghost use Rattle.rpg_text.specs.Lines.{with_line_feed};
 
 use rpg_files::{DeviceFault, WriteFault};
 use std::io::{ErrorKind, Write};

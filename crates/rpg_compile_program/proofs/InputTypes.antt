@@ -1,23 +1,20 @@
 -- The record types of a source without a fault break no rule.
-use Rattle.std.proofs.Common.{◌≡◌, ℕ, zero, suc, ◌+◌, ◌-◌, ◌≤◌, Bool, true, false, not, cond, ◌||◌, ◌&&◌, List, [], ◌∷◌, ◌++◌, map, filter, Option, None, Some, refl, sym, ap, ◌∙◌, subst, arith, append_assoc}
-use Rattle.std.proofs.lemmas.Bool.{and_from, eq-eqb, eqb-false, le-leb, leb-false, ltb-false, not_from_true}
+use Rattle.std.proofs.Common.{◌≡◌, ℕ, ◌+◌, ◌-◌, ◌≤◌, Bool, true, false, not, cond, ◌||◌, ◌&&◌, List, [], ◌∷◌, ◌++◌, map, Option, None, Some, refl, sym, ap, ◌∙◌, subst, arith}
+use Rattle.std.proofs.lemmas.Bool.{and_from, eqb-false, le-leb, leb-false, ltb-false}
 use Rattle.std.proofs.lemmas.Option.{same_Some}
-use Rattle.std.specs.List.{cons_option, filter_map, flat_map, list_all, list_any}
-use Rattle.std.specs.Option.{ForSome, option_and_then, option_map, option_map_or, option_or, option_to_list}
-use Rattle.std.specs.Prelude.{is_none, is_some, nat_le, nat_lt, sum_by, ◌==◌}
+use Rattle.std.specs.List.{filter_map}
+use Rattle.std.specs.Option.{ForSome, option_map_or, option_or, option_to_list}
+use Rattle.std.specs.Prelude.{is_none, is_some, nat_le, nat_lt, ◌==◌}
 use Rattle.rpg_cards.specs.Deeds.{shows_of}
-use Rattle.rpg_cards.specs.Keys.{Key, Named}
+use Rattle.rpg_cards.specs.Keys.{Named}
 use Rattle.rpg_cards.specs.Plain.{Each}
-use Rattle.rpg_cards.specs.Cards.{input_field_in, input_field_on, input_on, output_record_on, type_on, file_on}
-use Rattle.rpg_cards.specs.Files.{file_by, file_for, file_use, is_input, is_output}
-use Rattle.rpg_cards.specs.Groups.{Follower, Group, Heading, followers, groups, input_role, open_file, open_group, output_role}
-use Rattle.rpg_cards.specs.Names.{definition_of, definitions_on, field_form, form_with, sized, sized_form}
-use Rattle.rpg_cards.specs.declared.files.FileUse.{FileUse}
-use Rattle.rpg_cards.specs.declared.files.FileUse.TheVariants.{Disk, Primary, Printer}
+use Rattle.rpg_cards.specs.Cards.{input_on, output_record_on, type_on, file_on}
+use Rattle.rpg_cards.specs.Files.{file_by, is_input, is_output}
+use Rattle.rpg_cards.specs.Groups.{Follower, Group, Heading, groups, input_role, open_file, open_group, output_role}
+use Rattle.rpg_cards.specs.Names.{definition_of, definitions_on, field_form, form_with, sized_form}
 use Rattle.rpg_cards.specs.declared.spec_card.SpecCard.{SpecCard}
-use Rattle.rpg_compile_program.proofs.Each.{each_append, each_map, each_passes, each_row, none_broken}
-use Rattle.rpg_effect.specs.Forms.{form_at, is_plain, kind_of, same_kind}
-use Rattle.rpg_effect.specs.Input.{TypeRow, fits_columns, fits_shows}
+use Rattle.rpg_effect.specs.Forms.{is_plain}
+use Rattle.rpg_effect.specs.Input.{fits_shows}
 use Rattle.rpg_effect.specs.declared.form.Class.TheVariants as class
 use Rattle.rpg_effect.specs.declared.form.FieldForm.{FieldForm}
 use Rattle.rpg_effect.specs.declared.form.Kind.{Kind}
@@ -25,17 +22,10 @@ use Rattle.rpg_effect.specs.declared.form.Kind.TheVariants as kind
 use Rattle.rpg_effect.specs.declared.input.RecordCode as row_code
 use Rattle.rpg_faults_limits.specs.Files.{bad_file, lacks_file}
 use Rattle.rpg_faults_limits.specs.Indicators.{any_of, bad_on, bad_on_field, bad_on_input, cannot_be_set, cannot_mark_type}
-use Rattle.rpg_faults.specs.Places.{bad_codes, is_code_outside, is_past, outside_on_input, outside_record, own_file, joins_badly, misplaces, outside_line}
+use Rattle.rpg_faults.specs.Places.{bad_codes, is_code_outside, is_past, outside_on_input, outside_record, own_file, joins_badly}
 use Rattle.rpg_object_program.specs.Kept.{IsIndicator}
-use Rattle.rpg_object_program.specs.Object.{Object}
-use Rattle.rpg_effect_renaming.specs.Naming.{renamed_input, renamed_type}
-use Rattle.rpg_verify_rules.proofs.Kept.{NoneTrue}
 use Rattle.rpg_verify_rules.specs.Indicators.{are_settable, if_any, is_of_type, is_settable, is_within}
-use Rattle.rpg_verify_rules.specs.Rules.{broken}
-use Rattle.rpg_verify_rules.specs.TypeRules.{is_code_in, is_control_in, is_input_in, is_input_shown, type_breaks}
-use Rattle.rpg_verify_rules.specs.declared.rule.Rule.TheVariants as verifier
-use Rattle.rpg_verify_rules.specs.declared.rule.TypeRule.{TypeRule}
-use Rattle.rpg_verify_rules.specs.declared.rule.TypeRule.TheVariants.{V3, V4, V5, V6, V7}
+use Rattle.rpg_verify_rules.specs.TypeRules.{is_code_in}
 use Rattle.rpg_sheet_specs.specs.declared.file.FileSpec.{FileSpec}
 use Rattle.rpg_sheet_specs.specs.declared.indicator.Three.{Three}
 use Rattle.rpg_sheet_specs.specs.declared.input.InputField.{InputField}
@@ -49,18 +39,15 @@ use Rattle.rpg_text.specs.Texts.{is_between}
 use Rattle.rpg_compile_program.proofs.Definitions.{HasForm, IsForm}
 use Rattle.rpg_compile_program.proofs.FiledGroups as filed
 use Rattle.rpg_compile_program.proofs.Known.{input_kept}
-use Rattle.rpg_compile_program.proofs.Lists.{Seen, each_card, or_first, or_second}
-use Rattle.rpg_compile_program.proofs.Numbers.{forms_same, standing}
+use Rattle.rpg_compile_program.proofs.Lists.{or_first, or_second}
 use Rattle.rpg_compile_program.proofs.OutputFiles as named_files
 use Rattle.rpg_compile_program.proofs.Redefined.{HasName, card_defines, card_has_forms, key_defined}
 use Rattle.rpg_compile_program.proofs.Settings.{good_files}
 use Rattle.rpg_compile_program.specs.Data.{kind_by}
-use Rattle.rpg_compile_program.specs.Lines.{record_length_of}
-use Rattle.rpg_compile_program.specs.Program.{key_numbers, program_of, types_of}
-use Rattle.rpg_compile_program.specs.Ranges.{AreCards, InThree, IsCard, IsCode, IsControlLevel, IsInRange, IsInput, IsInputField, IsType}
+use Rattle.rpg_compile_program.specs.Ranges.{AreCards, InThree, IsCard, IsCode, IsInRange, IsInput, IsInputField, IsType}
 use Rattle.rpg_compile_program.specs.Rules.{KeepsCardRules}
-use Rattle.rpg_compile_program.specs.Table.{forms, key_form, key_number, table_of}
-use Rattle.rpg_compile_program.specs.Types.{and_card_codes, codes_of, control_field, control_field_of, input_fields_in, input_row, record_code_of, type_of}
+use Rattle.rpg_compile_program.specs.Table.{key_form, table_of}
+use Rattle.rpg_compile_program.specs.Types.{codes_of, record_code_of}
 
 -- ---- what stands on an input card
 

@@ -3,7 +3,7 @@ use Rattle.std.proofs.Common.{◌≡◌, ℕ, ◌+◌, Bool, true, false, not, �
 use Rattle.std.proofs.lemmas.Bool.{and_from, and_parts, le-leb, ltb-false, not-false, or_parts}
 use Rattle.std.proofs.lemmas.List.Folds.{list_any-append}
 use Rattle.std.specs.List.{list_any}
-use Rattle.std.specs.Option.{ForSome, option_and_then, option_map, option_map_or, option_to_list}
+use Rattle.std.specs.Option.{ForSome, option_and_then, option_len, option_map, option_map_or, option_to_list}
 use Rattle.std.specs.Prelude.{is_some, nat_le, nat_lt, unwrap_or, ◌==◌}
 use Rattle.rpg_cards.specs.Deeds.{deed_by, deed_from, deed_of, first, first_or_result, result, resulting_shows, second, shows_of}
 use Rattle.rpg_cards.specs.Keys as keys
@@ -16,7 +16,7 @@ use Rattle.rpg_cards.specs.declared.operations.OperationColumns.{OperationColumn
 use Rattle.rpg_cards.specs.Names.{form_in, form_of_name}
 use Rattle.rpg_cards.specs.declared.spec_card.SpecCard.{SpecCard}
 use Rattle.rpg_effect.specs.Forms.{entries_of, has_field, is_array, is_table, may_write}
-use Rattle.rpg_effect.specs.Rows.{can_hold, form_of, holds_positions, is_blank_index, row_of}
+use Rattle.rpg_effect.specs.Rows.{can_hold, form_of, holds_positions, row_of}
 use Rattle.rpg_effect.specs.declared.form.FieldForm.{FieldForm}
 use Rattle.rpg_effect.specs.declared.form.Kind.{Kind}
 use Rattle.rpg_effect.specs.declared.form.Kind.TheVariants as kind
@@ -29,13 +29,14 @@ use Rattle.rpg_effect.specs.declared.operation.Side.TheVariants.{Left, Right}
 use Rattle.rpg_effect.specs.declared.row.Shape.{Shape}
 use Rattle.rpg_effect.specs.declared.row.Shape.TheVariants as shape
 use Rattle.rpg_effect.specs.declared.row.Use.{Use}
-use Rattle.rpg_faults_flow.specs.Columns.{bad_last, bad_operation, bad_shown, filled_count, filled_one, misses}
+use Rattle.rpg_faults_flow.specs.Columns.{bad_last, bad_operation, bad_shown, misses}
 use Rattle.rpg_faults_operands.specs.Columns.{bad_search, is_unordered, lacks_sequence}
 use Rattle.rpg_faults_operands.specs.Indexes.{bad_index_of}
 use Rattle.rpg_faults_operands.specs.Kinds.{finds_too_few, has_text, has_wrong_class, is_wrong_class, wrong_by, wrong_in_calculation, wrong_kinds, wrong_result}
 use Rattle.rpg_faults_operands.specs.Names.{is_undefined, names_nothing}
 use Rattle.rpg_faults_operands.specs.Operands as operands
 use Rattle.rpg_faults_operands.specs.Operands.{card_entry_form, factor_entry, factor_form, field_content, is_field_content, no_operands, operand_with, operands_by, operands_listed, operands_of, result_form}
+use Rattle.rpg_sheet_specs.specs.Three.{filled_count}
 use Rattle.rpg_verify_rules.specs.Indicators.{are_settable, has_shows}
 use Rattle.rpg_verify_rules.specs.PlaceRules.{is_form_ascending}
 use Rattle.rpg_sheet_specs.specs.declared.calculation.CalculationSpec.{CalculationSpec}
@@ -64,7 +65,7 @@ in_sequence true false z is e = cc
 some_shown : (t : Three (Option ℕ)) → (filled_count t == 0) ≡ false → has_shows (shows_of t) ≡ true
 some_shown t e = by t.first t.second t.third e
   where
-    by : (a b c : Option ℕ) → (filled_one a + filled_one b + filled_one c == 0) ≡ false → (is_some a || (is_some b || is_some c)) ≡ true
+    by : (a b c : Option ℕ) → (option_len a + option_len b + option_len c == 0) ≡ false → (is_some a || (is_some b || is_some c)) ≡ true
     by None None None e = cc
     by None None (Some z) e = refl
     by None (Some y) c e = refl

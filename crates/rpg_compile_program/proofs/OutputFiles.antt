@@ -5,7 +5,7 @@ use Rattle.std.proofs.lemmas.List.Elements.{filter_map-append}
 use Rattle.std.proofs.lemmas.List.Folds.{find-append}
 use Rattle.std.specs.Cmp.Lexicographic.{pointwise}
 use Rattle.std.specs.List.{cons_option, filter_map}
-use Rattle.std.specs.Option.{option_and_then, option_map_or, option_or}
+use Rattle.std.specs.Option.{option_map_or, option_or}
 use Rattle.std.specs.Prelude.{find, is_some, nat_eq}
 use Rattle.rpg_cards.specs.Cards.{file_on}
 use Rattle.rpg_cards.specs.Files.{file_by, file_for, file_named, file_use, files, same_use}
@@ -14,7 +14,6 @@ use Rattle.rpg_cards.specs.declared.files.FileUse.TheVariants.{Primary, Printer,
 use Rattle.rpg_cards.specs.declared.spec_card.SpecCard.{SpecCard}
 use Rattle.rpg_faults_limits.specs.Files.{bad_file, lacks_file, longest_in_file}
 use Rattle.rpg_sheet_specs.specs.declared.file.FileSpec.{FileSpec}
-use Rattle.rpg_text.specs.Texts.{is_between}
 
 same_use-self : (u : FileUse) → same_use u u ≡ true
 same_use-self Primary = refl

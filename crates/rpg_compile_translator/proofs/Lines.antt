@@ -1,32 +1,28 @@
 -- The lines of a source without a fault have no more alternatives, conditions and fields than an object program may have, and their indices fit.
-use Rattle.std.proofs.Common.{◌≡◌, ℕ, zero, suc, ◌+◌, ◌<◌, ◌≤◌, Bool, true, false, not, cond, List, [], ◌∷◌, ◌++◌, length, length-append, append_assoc, map, take, fold, Option, None, Some, refl, sym, ap, ◌∙◌, subst, arith}
-use Rattle.std.proofs.lemmas.Bool.{and_parts, leb-true, not-false}
+use Rattle.std.proofs.Common.{◌≡◌, ℕ, zero, suc, ◌+◌, ◌<◌, ◌≤◌, Bool, true, false, List, [], ◌∷◌, ◌++◌, length, length-append, append_assoc, map, take, fold, Option, None, Some, refl, sym, ◌∙◌, subst, arith}
+use Rattle.std.proofs.lemmas.Bool.{leb-true}
 use Rattle.std.proofs.lemmas.List.{length-map, take-append-le, take_all}
-use Rattle.std.proofs.lemmas.List.Elements.{All-cons, All-nil}
 use Rattle.std.specs.List.{filter_map}
-use Rattle.std.specs.Option.{option_and_then, option_len, option_map, option_map_or, option_to_list}
-use Rattle.std.specs.Prelude.{All, count_by, nat_le, unwrap_or}
+use Rattle.std.specs.Option.{option_len}
+use Rattle.std.specs.Prelude.{All, count_by, nat_le}
 use Rattle.rpg_cards.specs.Calculations.{condition_of, standing}
 use Rattle.rpg_cards.specs.Keys.{Key}
 use Rattle.rpg_cards.specs.Plain.{Each}
-use Rattle.rpg_cards.specs.declared.operations.Content.TheVariants.{Value}
 use Rattle.rpg_cards.proofs.GroupLemmas.{open_group-push}
-use Rattle.rpg_cards.specs.Cards.{output_field_in, output_field_on}
 use Rattle.rpg_cards.specs.Groups.{Apart, Follower, Group, Heading, Role, group_count, groups, open_group, output_role, with_card, with_followers}
 use Rattle.rpg_cards.specs.declared.spec_card.SpecCard.{SpecCard}
-use Rattle.rpg_compile_program.proofs.Each.{each_map, each_row}
+use Rattle.rpg_compile_program.proofs.Each.{each_row}
 use Rattle.rpg_effect.specs.Lines.{Line}
 use Rattle.rpg_effect.specs.declared.condition.Condition.{Condition}
-use Rattle.rpg_effect.specs.declared.line.LineField.{LineField}
-use Rattle.rpg_compile_layouts.specs.Rows.{field_row, row_in_table, rows_of}
+use Rattle.rpg_compile_layouts.specs.Rows.{row_in_table, rows_of}
 use Rattle.rpg_compile_layouts.specs.Within.{AreFew, HasIndexRow, IsLineWithin}
-use Rattle.rpg_faults_limits.specs.Limits.{alternative_count, condition_count, conditions_with, filled_count, in_open, is_or_line, is_output_field, of_line, output_field_count}
+use Rattle.rpg_faults_limits.specs.Limits.{alternative_count, condition_count, conditions_with, is_or_line, is_output_field, of_line, output_field_count}
+use Rattle.rpg_sheet_specs.specs.Three.{filled_count}
 use Rattle.rpg_compile_translator.proofs.Indices.{HasGoodIndex, good_on_cards}
 use Rattle.rpg_compile_translator.proofs.Walks.{all_of, at_open, one_more, unpassed}
 use Rattle.rpg_effect_renaming.specs.Naming.{renamed_field}
 use Rattle.rpg_sheet_specs.specs.declared.indicator.Condition as sheet
 use Rattle.rpg_sheet_specs.specs.declared.indicator.Three.{Three}
-use Rattle.rpg_sheet_specs.specs.declared.output.OutputField.{OutputField}
 use Rattle.rpg_sheet_specs.specs.declared.output.OutputRecord.{OutputRecord}
 use Rattle.rpg_sheet_specs.specs.declared.output.OutputSpec.{OutputSpec}
 use Rattle.rpg_sheet_specs.specs.declared.output.OutputSpec.TheVariants as output

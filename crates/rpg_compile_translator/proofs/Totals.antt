@@ -1,5 +1,5 @@
 -- The names and constants of a source without a fault are no more, and take no more storage, than an object program may have.
-use Rattle.std.proofs.Common.{◌≡◌, ℕ, ◌+◌, ◌*◌, ◌<◌, ◌≤◌, Bool, true, false, cond, map, List, [], ◌∷◌, ◌++◌, length, length-append, Option, None, Some, refl, sym, ap, ◌∙◌, arith}
+use Rattle.std.proofs.Common.{◌≡◌, ℕ, ◌+◌, ◌≤◌, Bool, true, false, cond, map, List, [], ◌∷◌, ◌++◌, length, length-append, Option, None, Some, refl, sym, ap, ◌∙◌, arith}
 use Rattle.std.proofs.lemmas.Bool.{ltb-true}
 use Rattle.std.proofs.lemmas.List.{length-map, map-append}
 use Rattle.std.proofs.lemmas.List.Sums.{sum_by-cons}
@@ -8,7 +8,7 @@ use Rattle.std.specs.Cmp.Lexicographic.{pointwise}
 use Rattle.std.specs.List.{position_or_len}
 use Rattle.std.specs.Map.{keys_of}
 use Rattle.std.specs.Option.{option_map}
-use Rattle.std.specs.Prelude.{is_some, nat_eq, nat_lt, position, sum_by, unwrap_or}
+use Rattle.std.specs.Prelude.{is_some, nat_eq, nat_lt, sum_by, unwrap_or}
 use Rattle.indexmap.specs.IndexSet.{insert_all, insert_key}
 use Rattle.rpg_cards.specs.Plain.{Each}
 use Rattle.rpg_cards.proofs.IndexLemmas.{known_fields}
@@ -17,11 +17,12 @@ use Rattle.rpg_cards.specs.Names.{defined_field, definitions, names, same_name}
 use Rattle.rpg_cards.specs.declared.constants.Constant.{Constant}
 use Rattle.rpg_cards.specs.declared.names.Definition.{Definition}
 use Rattle.rpg_cards.specs.declared.spec_card.SpecCard.{SpecCard}
+use Rattle.rpg_effect.specs.Forms.{size_of}
 use Rattle.rpg_effect.specs.declared.form.FieldForm.{FieldForm}
 use Rattle.rpg_faults_limits.specs.Limits.{bytes_up_to, constant_bytes, constant_size, definition_bytes, fields_up_to, name_bytes, name_count}
 use Rattle.rpg_object_program.specs.Kept.{storage_of}
 use Rattle.rpg_compile_translator.proofs.Walks.{unpassed}
-use Rattle.rpg_symbols.specs.Fields.{NamedForms, defined_form, given, size_of, storage}
+use Rattle.rpg_symbols.specs.Fields.{NamedForms, defined_form, given, storage}
 use Rattle.rpg_compile_program.proofs.Definitions.{HasForm, IsForm}
 use Rattle.rpg_compile_program.proofs.Known.{defined}
 use Rattle.rpg_compile_program.proofs.Lists.{all_within}

@@ -1,5 +1,5 @@
 -- The record types of a source without a fault have no more codes, levels and fields than an object program may have.
-use Rattle.std.proofs.Common.{◌≡◌, ℕ, ◌+◌, ◌≤◌, Bool, true, false, cond, List, [], ◌∷◌, ◌++◌, length, length-append, map, Option, None, Some, refl, sum_by, arith}
+use Rattle.std.proofs.Common.{◌≡◌, ℕ, ◌+◌, ◌≤◌, cond, List, [], ◌∷◌, ◌++◌, length, length-append, map, Option, None, Some, refl, sum_by, arith}
 use Rattle.std.proofs.lemmas.List.{length-map}
 use Rattle.std.proofs.lemmas.List.Sums.{sum_by-cons}
 use Rattle.std.specs.List.{cons_option, filter_map, flat_map}
@@ -9,7 +9,8 @@ use Rattle.rpg_cards.specs.Groups.{Group, group_count, groups, input_role, open_
 use Rattle.rpg_cards.specs.declared.spec_card.SpecCard.{SpecCard}
 use Rattle.rpg_compile_program.proofs.Each.{each_row}
 use Rattle.rpg_compile_layouts.specs.Within.{IsTypeWithin}
-use Rattle.rpg_faults_limits.specs.Limits.{code_count, codes_on, field_count, filled_count, is_input_field_card, is_level_field, level_count, of_type}
+use Rattle.rpg_faults_limits.specs.Limits.{code_count, codes_on, field_count, is_input_field_card, is_level_field, level_count, of_type}
+use Rattle.rpg_sheet_specs.specs.Three.{filled_count}
 use Rattle.rpg_compile_translator.proofs.Walks.{all_of, at_open, one_more, unpassed}
 use Rattle.rpg_sheet_specs.specs.declared.indicator.Three.{Three}
 use Rattle.rpg_sheet_specs.specs.declared.input.InputSpec.{InputSpec}

@@ -3,7 +3,8 @@ use Rattle.std.proofs.Common.{◌≡◌, ℕ, ◌-◌, Bool, true, false, ◌&&�
 use Rattle.std.proofs.lemmas.Bool.Decides.{nat_tests}
 use Rattle.std.proofs.lemmas.List.Elements.{All-append, All-replicate}
 use Rattle.std.specs.List.{list_all}
-use Rattle.rpg_cycle_records.specs.Identifying.{is_character, is_good_record, padded}
+use Rattle.rpg_text.specs.Texts.{is_character}
+use Rattle.rpg_cycle_records.specs.Identifying.{is_good_record, padded}
 use Rattle.rpg_object_program.specs.Kept.{IsCharacter}
 use Rattle.rpg_object_program.specs.Object.{Object}
 

@@ -4,12 +4,9 @@ use Rattle.std.specs.List.{list_all}
 use Rattle.rpg_effect.specs.Input.{TypeRow}
 use Rattle.rpg_effect.specs.declared.input.RecordCode.{RecordCode}
 use Rattle.rpg_object_program.specs.Object.{Object}
+use Rattle.rpg_text.specs.Texts.{is_character}
 
 -- ---- the record
-
--- a character, 0x20 to 0x7e
-abbrev pub is_character : ℕ → Bool
-is_character b = nat_le 32 b && nat_le b 126
 
 -- a record of characters that is no longer than the program's records
 abbrev pub is_good_record : Object → List ℕ → Bool

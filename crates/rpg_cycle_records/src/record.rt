@@ -1,6 +1,7 @@
 //! The text of a record.
 ghost use Rattle.std.specs.Prelude.{◌≡◌, ◌≤◌, IfOk, length, true};
 ghost use Rattle.std.specs.List.{list_all};
+ghost use Rattle.rpg_text.specs.Texts.{is_character};
 ghost use Rattle.rpg_cycle_records.specs.Identifying as spec;
 
 use crate::program::record_length;
@@ -15,14 +16,14 @@ pub fn is_good(program: &Verified, text: &[u8]) -> bool
 }
 
 fn is_character(byte: u8) -> bool
-    ensures { result ≡ spec.is_character byte }
+    ensures { result ≡ is_character byte }
 {
     0x20 <= byte && byte <= 0x7E
 }
 
 /// Whether all are characters. No byte ends the loop early, so that many are tested at once.
 fn are_characters(text: &[u8]) -> bool
-    ensures { result ≡ list_all spec.is_character text.now }
+    ensures { result ≡ list_all is_character text.now }
 {
     let mut are_all = true;
     for byte in text {

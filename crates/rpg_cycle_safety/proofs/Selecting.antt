@@ -12,13 +12,14 @@ use Rattle.rpg_cycle_records.proofs.Trying.{all_there}
 use Rattle.rpg_cycle_records.specs.Earlier.{Left, Selected, control_fields, levels_of}
 use Rattle.rpg_cycle.specs.Ends.{GoesOn, Halt, Wrong}
 use Rattle.rpg_cycle_records.specs.Fitting.{IsControlIn, IsTypeIn}
-use Rattle.rpg_cycle_records.specs.Identifying.{Trial, IsOf, IsOfNone, Misplaced, padded, code_holds, identified, is_character, is_good_record, has_position, trial_weight}
+use Rattle.rpg_cycle_records.specs.Identifying.{Trial, IsOf, IsOfNone, Misplaced, padded, code_holds, identified, is_good_record, has_position, trial_weight}
 use Rattle.rpg_cycle_records.specs.Levels.{is_in_record}
 use Rattle.rpg_cycle.specs.Indicators.{is_on, last_record, level_indicators, with_all, with_levels, with_one, with_type}
 use Rattle.rpg_cycle.specs.Phases.{Done, broken_level, compare_levels, done, identify, read_record, select_record, take_type, type_indicator}
 use Rattle.rpg_effect.specs.Ends as effects
 use Rattle.rpg_effect.specs.Input.{TypeRow}
 use Rattle.rpg_effect.specs.Weights.{types_weight}
+use Rattle.rpg_text.specs.Texts.{is_character}
 use Rattle.rpg_cycle_safety.specs.Holding.{Holds}
 use Rattle.rpg_machine.specs.Accepted.{IsOrderly}
 use Rattle.rpg_machine.specs.Config.{Config, charged}

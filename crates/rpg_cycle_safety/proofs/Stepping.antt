@@ -4,6 +4,7 @@ use Rattle.std.specs.Ordering.{nat_cmp}
 use Rattle.rpg_effect.specs.Effect.{Effect}
 use Rattle.rpg_effect.specs.Ends.{End, GoesOn, Halt, Wrong}
 use Rattle.rpg_effect.specs.declared.operation.Instruction.{Instruction}
+use Rattle.rpg_object_program.specs.Instructions.{weight}
 use Rattle.rpg_cycle_safety.proofs.Instructing.{instruction_keeps}
 use Rattle.rpg_cycle_safety.specs.Holding.{Holds, IsEffectEnd, Keeps}
 use Rattle.rpg_cycle_safety.specs.Leading.{IsSteady, StepsWell, StaysInBound}
@@ -16,7 +17,7 @@ use Rattle.rpg_machine.specs.Chain.{IsSafe}
 use Rattle.rpg_machine.specs.Config.{Config, Output, charged, here, no_output}
 use Rattle.rpg_machine.specs.Control.{spends}
 use Rattle.rpg_machine.specs.Run.{is_end}
-use Rattle.rpg_machine.specs.Step.{Outcome, Next, Stop, arrived, control_in, destination, effect, outcome_of, step, weight, went}
+use Rattle.rpg_machine.specs.Step.{Outcome, Next, Stop, arrived, control_in, destination, effect, outcome_of, step, went}
 use Rattle.rpg_object_program.specs.Object.{Object}
 use Rattle.rpg_object_program.specs.Sections.{instruction_at}
 use Rattle.rpg_verify.specs.Bound.{cost, most}

@@ -1,10 +1,8 @@
 -- Texts of numbers: a digit in each place, and the sign over the last one.
-use Rattle.std.specs.Prelude.{◌≡◌, ℕ, ◌+◌, ◌-◌, ◌/◌, ◌%◌, ◌<◌, ℤ, unsigned_abs, [], ◌∷◌, ◌++◌, Bool, true, ◌&&◌, ◌||◌, if◌then◌else◌, ◌==◌, nat_le, IsTrue, List, length, map, slice_index, Option, Some, None}
+use Rattle.std.specs.Prelude.{◌≡◌, ℕ, ◌+◌, ◌-◌, ◌/◌, ◌%◌, ◌<◌, ℤ, unsigned_abs, [], ◌∷◌, ◌++◌, Bool, true, ◌&&◌, ◌||◌, if◌then◌else◌, ◌==◌, IsTrue, List, length, map, slice_index, Option, Some, None}
 use Rattle.std.specs.Int.{is_negative}
+use Rattle.rpg_text.specs.Texts.{is_between}
 use Rattle.rpg_decimal_words.specs.Place.{lowest_digits, signed_number}
-
-abbrev pub is_between : ℕ → ℕ → ℕ → Bool
-is_between low high c = nat_le low c && nat_le c high
 
 -- 0 to 9
 abbrev pub is_digit : ℕ → Bool

@@ -1,5 +1,5 @@
 -- F9 of calculation cards: columns that are missing or not allowed (but for the sequence of what LOKUP searches, which wants forms).
-use Rattle.std.specs.Prelude.{ℕ, ◌+◌, ◌==◌, nat_lt, List, Bool, true, false, not, ◌&&◌, ◌||◌, Option, is_some, is_none}
+use Rattle.std.specs.Prelude.{ℕ, ◌==◌, nat_lt, List, Bool, true, false, not, ◌&&◌, ◌||◌, Option, is_some, is_none}
 use Rattle.std.specs.Option.{option_map, option_map_or}
 use Rattle.rpg_cards.specs.Calculations.{CalculationGroup, depends, goes_on, group_end, open_calculation_group}
 use Rattle.rpg_cards.specs.Keys.{plain_name}
@@ -13,6 +13,7 @@ use Rattle.rpg_cards.specs.declared.operations.Shown.TheVariants as shown
 use Rattle.rpg_cards.specs.Cards.{calculation_on}
 use Rattle.rpg_cards.specs.Groups.{joins}
 use Rattle.rpg_cards.specs.declared.spec_card.SpecCard.{SpecCard}
+use Rattle.rpg_sheet_specs.specs.Three.{filled_count}
 use Rattle.rpg_sheet_specs.specs.declared.calculation.CalculationSpec.{CalculationSpec}
 use Rattle.rpg_sheet_specs.specs.declared.calculation.Operation.{Operation}
 use Rattle.rpg_sheet_specs.specs.declared.indicator.Three.{Three}
@@ -37,12 +38,6 @@ abbrev pub misses : Column → Option Factor → Bool
 misses Blank f = is_some f
 misses (May c) f = option_map_or (is_unfit c) f false
 misses (Must c) f = option_map_or (is_unfit c) f true
-
-abbrev pub filled_one : Option ℕ → ℕ
-filled_one o = option_map_or (λ n. 1) o 0
-
-abbrev pub filled_count : Three (Option ℕ) → ℕ
-filled_count t = filled_one t.first + filled_one t.second + filled_one t.third
 
 -- high, low, equal
 abbrev pub bad_shown : Shown → Three (Option ℕ) → Bool

@@ -81,7 +81,7 @@ fn has_more(calculation: &CalculationSpec) -> bool
         || calculation.factor_2.is_some()
         || calculation.result_field.is_some()
         || calculation.length.is_some()
-        || filled(calculation.resulting_indicators) > 0
+        || calculation.resulting_indicators.filled() > 0
 }
 
 fn bad_operation(calculation: &CalculationSpec, operation: Operation) -> bool
@@ -136,19 +136,11 @@ fn bad_shown(shown: Shown, indicators: Three<Option<Indicator>>) -> bool
     ensures { result ≡ spec.bad_shown shown indicators }
 {
     match shown {
-        Shown::Unused => filled(indicators) > 0,
+        Shown::Unused => indicators.filled() > 0,
         Shown::Any => false,
-        Shown::Some => filled(indicators) == 0,
+        Shown::Some => indicators.filled() == 0,
         Shown::Search => {
-            filled(indicators) == 0 || (indicators.first.is_some() && indicators.second.is_some())
+            indicators.filled() == 0 || (indicators.first.is_some() && indicators.second.is_some())
         }
     }
-}
-
-fn filled(indicators: Three<Option<Indicator>>) -> u8
-    ensures { result ≡ spec.filled_count indicators }
-{
-    u8::from(indicators.first.is_some())
-        + u8::from(indicators.second.is_some())
-        + u8::from(indicators.third.is_some())
 }

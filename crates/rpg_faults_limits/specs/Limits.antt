@@ -1,6 +1,6 @@
 -- F6: limits that are passed, at the card with which a count or a sum passes.
 use Rattle.std.specs.Prelude.{ℕ, ◌+◌, ◌==◌, Bool, true, false, not, ◌&&◌, ◌||◌, nat_le, nat_lt, List, [], ◌∷◌, ◌++◌, length, sum_by, count_by, fold, Option, is_some}
-use Rattle.std.specs.Option.{option_len, option_map_or}
+use Rattle.std.specs.Option.{option_map_or}
 use Rattle.rpg_cards.specs.Calculations.{calculation_ending, calculations_before}
 use Rattle.rpg_cards.specs.Labels.{begins_subroutine, begun_count}
 use Rattle.rpg_cards.specs.Cards.{calculation_on, extension_on}
@@ -10,23 +10,20 @@ use Rattle.rpg_cards.specs.Names.{names}
 use Rattle.rpg_cards.specs.declared.constants.Constant.{Constant}
 use Rattle.rpg_cards.specs.declared.names.Definition.{Definition}
 use Rattle.rpg_cards.specs.declared.spec_card.SpecCard.{SpecCard}
+use Rattle.rpg_effect.specs.Forms.{size_of}
+use Rattle.rpg_sheet_specs.specs.Three.{filled_count}
 use Rattle.rpg_sheet_specs.specs.declared.extension.ExtensionSpec.{ExtensionSpec}
-use Rattle.rpg_sheet_specs.specs.declared.indicator.Three.{Three}
 use Rattle.rpg_sheet_specs.specs.declared.input.InputSpec.{InputSpec}
 use Rattle.rpg_sheet_specs.specs.declared.input.InputSpec.TheVariants as input
 use Rattle.rpg_sheet_specs.specs.declared.input.RecordType.{RecordType}
 use Rattle.rpg_sheet_specs.specs.declared.output.OutputRecord.{OutputRecord}
 use Rattle.rpg_sheet_specs.specs.declared.output.OutputSpec.{OutputSpec}
 use Rattle.rpg_sheet_specs.specs.declared.output.OutputSpec.TheVariants as output
-use Rattle.rpg_symbols.specs.Fields.{size_of}
 use Rattle.rpg_text.specs.Texts.{is_between}
 
 -- what the cards come to is within a limit before a card, and past it with the card
 abbrev pub crosses : (List SpecCard → ℕ) → ℕ → List SpecCard → SpecCard → Bool
 crosses measure limit before c = nat_le (measure before) limit && nat_lt limit (measure (before ++ c ∷ []))
-
-abbrev pub filled_count : {X : Type 0} → Three (Option X) → ℕ
-filled_count t = option_len t.first + option_len t.second + option_len t.third
 
 -- a measure of the open group: 0 where there is none
 abbrev pub in_open : {H F : Type 0} → (Group H F → ℕ) → Option (Group H F) → ℕ

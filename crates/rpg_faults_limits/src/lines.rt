@@ -6,7 +6,6 @@ ghost use Rattle.rpg_faults_limits.specs.State.{HasFewOnLine, IsOpenLine};
 ghost use Rattle.rpg_sheet_specs.specs.declared.output.OutputRecord.{OutputRecord};
 ghost use Rattle.rpg_sheet_specs.specs.declared.output.OutputSpec.{OutputSpec};
 
-use crate::filled::filled;
 use rpg_cards::SpecCard;
 use rpg_sheet_specs::OutputSpec;
 
@@ -51,16 +50,16 @@ impl OpenLine {
             OutputSpec::Record(record) => OpenLine {
                 is_open: true,
                 alternatives: 1,
-                conditions: filled(record.conditions),
+                conditions: record.conditions.filled(),
                 fields: 0,
             },
             OutputSpec::And(conditions) if self.is_open => OpenLine {
-                conditions: self.conditions + filled(*conditions),
+                conditions: self.conditions + conditions.filled(),
                 ..self
             },
             OutputSpec::Or(conditions) if self.is_open => OpenLine {
                 alternatives: self.alternatives + 1,
-                conditions: filled(*conditions),
+                conditions: conditions.filled(),
                 ..self
             },
             OutputSpec::Field(_) if self.is_open => OpenLine {

@@ -5,8 +5,8 @@ ghost use Rattle.std.specs.Option.{option_map_or};
 ghost use Rattle.rpg_cards.specs.Constants.{constants_in};
 ghost use Rattle.rpg_cards.specs.Names.{definitions};
 ghost use Rattle.rpg_cards.specs.declared.spec_card.SpecCard.{SpecCard};
+ghost use Rattle.rpg_effect.specs.Forms.{size_of};
 ghost use Rattle.rpg_faults_limits.specs.Totals.{HasConstants, HasNames, SeenBefore};
-ghost use Rattle.rpg_symbols.specs.Fields.{size_of};
 
 use rpg_cards::{Constant, Definition, IndexedCards, SpecCard};
 use rpg_effect::form::FieldForm;
@@ -95,14 +95,8 @@ fn form_bytes(form: Option<FieldForm>) -> u32
 {
     match form {
         None => 0,
-        Some(form) => size(&form),
+        Some(form) => form.size(),
     }
-}
-
-fn size(form: &FieldForm) -> u32
-    ensures { result ≡ size_of form.now }
-{
-    form.length as u32 * form.entries as u32
 }
 
 /// The constants of the cards at the front and of the next card.
@@ -126,5 +120,5 @@ fn with_constant(constants: Totals, source: &IndexedCards, constant: &Constant) 
     ensures { HasConstants (take constants.items (constants_in source.now) ++ constant.now ∷ []) result }
 {
     let is_new = source.is_new_constant(constants.items, constant);
-    constants.with(is_new, size(&constant.form()))
+    constants.with(is_new, constant.form().size())
 }

@@ -6,7 +6,7 @@ ghost use Rattle.rpg_faults_limits.specs.State.{HasFewOnType, IsOpenType};
 ghost use Rattle.rpg_sheet_specs.specs.declared.input.InputSpec.{InputSpec};
 ghost use Rattle.rpg_sheet_specs.specs.declared.input.RecordType.{RecordType};
 
-use crate::filled::{filled, one_if};
+use crate::filled::one_if;
 use rpg_cards::SpecCard;
 use rpg_sheet_specs::InputSpec;
 
@@ -50,12 +50,12 @@ impl OpenType {
         match input {
             InputSpec::Type(record_type) => OpenType {
                 is_open: true,
-                codes: filled(record_type.codes),
+                codes: record_type.codes.filled(),
                 levels: 0,
                 fields: 0,
             },
             InputSpec::And(codes) if self.is_open => OpenType {
-                codes: self.codes + filled(*codes),
+                codes: self.codes + codes.filled(),
                 ..self
             },
             InputSpec::Field(field) if self.is_open => OpenType {

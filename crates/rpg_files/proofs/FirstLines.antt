@@ -5,7 +5,8 @@ use Rattle.std.proofs.lemmas.Bool.{and_from, and_left, and_right, le-leb, ne_eqb
 use Rattle.std.proofs.lemmas.List.{length-take-le, append-nil, drop_all, take_all, take_rest}
 use Rattle.std.proofs.lemmas.List.Folds.{list_all-append}
 use Rattle.std.proofs.Math.Seq.{take-add}
-use Rattle.rpg_files.specs.Records.{records, begins_with_line_feed, is_character, is_good, BeginsBad}
+use Rattle.rpg_text.specs.Texts.{is_character}
+use Rattle.rpg_files.specs.Records.{records, begins_with_line_feed, is_good, BeginsBad}
 use Rattle.rpg_files.specs.FirstLine.{IsFirstRecord, IsIncomplete}
 use Rattle.rpg_files.specs.NextLine.{CanFollow, IsNextRecord}
 use Rattle.rpg_files.proofs.Characters.{line_first, return_first, long_begins_bad, other_begins_bad, whole_first}

@@ -1,7 +1,8 @@
 -- The first line of some bytes, before more of the input is read.
 use Rattle.std.specs.Prelude.{◌≡◌, ℕ, ◌≤◌, ◌⊎◌, true, List, [], ◌∷◌, ◌++◌, length, take, drop}
 use Rattle.std.specs.List.{list_all}
-use Rattle.rpg_files.specs.Records.{records, is_character, is_good, BeginsBad}
+use Rattle.rpg_text.specs.Texts.{is_character}
+use Rattle.rpg_files.specs.Records.{records, is_good, BeginsBad}
 use Rattle.rpg_files.specs.declared.line.FirstLine.{FirstLine}
 use Rattle.rpg_files.specs.declared.line.FirstLine.TheVariants as line
 

@@ -1,6 +1,8 @@
 -- The records of an input.
-use Rattle.std.specs.Prelude.{◌≡◌, ◌==◌, ◌&&◌, ℕ, Bool, true, false, not, nat_le, if◌then◌else◌, List, [], ◌∷◌, ◌++◌, length, map, codes, refl}
+use Rattle.std.specs.Prelude.{◌≡◌, ◌==◌, ◌&&◌, ℕ, Bool, true, false, nat_le, if◌then◌else◌, List, [], ◌∷◌, ◌++◌, length, map, codes, refl}
 use Rattle.std.specs.List.{flat_map, list_all}
+use Rattle.rpg_text.specs.Lines.{is_line, with_line_feed, unless_empty}
+use Rattle.rpg_text.specs.Texts.{is_character}
 
 abbrev pub begins_with_line_feed : List ℕ → Bool
 begins_with_line_feed [] = false
@@ -25,9 +27,6 @@ max_records = 10000000
 
 -- ---- records that a program can take
 
-abbrev pub is_character : ℕ → Bool
-is_character b = nat_le 32 b && nat_le b 126
-
 -- a record of characters that is no longer than the limit
 abbrev pub is_good : ℕ → List ℕ → Bool
 is_good limit r = nat_le (length r) limit && list_all is_character r
@@ -46,17 +45,6 @@ without_return (b ∷ c ∷ bytes) = b ∷ without_return (c ∷ bytes)
 
 -- ---- the same, by lines
 
--- bytes with no line feed among them
-abbrev pub is_line : List ℕ → Bool
-is_line = list_all (λ b. not (b == 10))
-
-abbrev pub with_line_feed : List ℕ → List ℕ
-with_line_feed text = text ++ 10 ∷ []
-
-abbrev pub unless_empty : List ℕ → List (List ℕ)
-unless_empty [] = []
-unless_empty (b ∷ bytes) = (b ∷ bytes) ∷ []
-
 -- Lines, each with its line feed, and then a part without one: the records are the lines without the carriage return at
 -- their end, and that part as it is, where it isn't empty. All bytes are such lines and such a part.
 abbrev pub RecordsAreLines : Type 0
@@ -65,23 +53,23 @@ RecordsAreLines = (lines : List (List ℕ)) (rest : List ℕ) → list_all is_li
 
 -- ---- examples
 
-nothing : records [] ≡ []
-nothing = refl
+no_records : records [] ≡ []
+no_records = refl
 
-two_lines : records (codes "007\n35\n") ≡ codes "007" ∷ codes "35" ∷ []
-two_lines = refl
+two_records : records (codes "007\n35\n") ≡ codes "007" ∷ codes "35" ∷ []
+two_records = refl
 
-without_line_feed_at_the_end : records (codes "007\n35") ≡ codes "007" ∷ codes "35" ∷ []
-without_line_feed_at_the_end = refl
+last_record_without_line_feed : records (codes "007\n35") ≡ codes "007" ∷ codes "35" ∷ []
+last_record_without_line_feed = refl
 
-empty_lines : records (codes "\n\n") ≡ [] ∷ [] ∷ []
-empty_lines = refl
+empty_records : records (codes "\n\n") ≡ [] ∷ [] ∷ []
+empty_records = refl
 
-carriage_return_before_line_feed : records (codes "007\r\n35") ≡ codes "007" ∷ codes "35" ∷ []
-carriage_return_before_line_feed = refl
+record_before_carriage_return : records (codes "007\r\n35") ≡ codes "007" ∷ codes "35" ∷ []
+record_before_carriage_return = refl
 
-two_carriage_returns : records (codes "7\r\r\n") ≡ codes "7\r" ∷ []
-two_carriage_returns = refl
+record_with_carriage_return : records (codes "7\r\r\n") ≡ codes "7\r" ∷ []
+record_with_carriage_return = refl
 
-carriage_return_elsewhere : records (codes "7\r5\r") ≡ codes "7\r5\r" ∷ []
-carriage_return_elsewhere = refl
+record_around_carriage_return : records (codes "7\r5\r") ≡ codes "7\r5\r" ∷ []
+record_around_carriage_return = refl

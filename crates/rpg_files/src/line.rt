@@ -2,8 +2,8 @@
 
 ghost use Rattle.std.specs.Prelude.{◌≡◌, ◌+◌, ◌<◌, ◌≤◌, false, length, slice_index, take, true};
 ghost use Rattle.std.specs.List.{list_all};
+ghost use Rattle.rpg_text.specs.Texts.{is_character};
 ghost use Rattle.rpg_files.specs.FirstLine.{IsFirstLine};
-ghost use Rattle.rpg_files.specs.Records.{is_character};
 
 /// What stands at the front of some bytes.
 #[derive(Clone, Copy)]

@@ -10,4 +10,3 @@ pub mod OneLine
 pub mod Operands
 pub mod Passages
 pub mod Weighing
-pub mod Words

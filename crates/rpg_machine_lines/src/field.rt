@@ -12,7 +12,6 @@ ghost use Rattle.rpg_machine_lines.specs.Right.{IsRightField};
 ghost use Rattle.rpg_object_program.specs.Constants as constants;
 ghost use Rattle.rpg_object_program.specs.Object.{seen};
 
-use crate::reading::word_at;
 use rpg_edit::edit_at_end;
 use rpg_edit_marks::Fill;
 use rpg_edit_widths::{EditWord, How};
@@ -20,6 +19,7 @@ use rpg_effect::form::{FieldForm, Kind};
 use rpg_effect::line::{Editing, LineField, Source};
 use rpg_object_program::forms::{form_at, kind_of};
 use rpg_object_program::row::Rows;
+use rpg_object_program::words::word_at;
 use rpg_store::store::Store;
 
 /// How a number field is edited.

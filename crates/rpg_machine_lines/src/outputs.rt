@@ -3,7 +3,6 @@ ghost use Rattle.std.specs.Prelude.{◌≡◌, IfOk, OnOk};
 ghost use Rattle.rpg_effect.specs.Ends.{end_of};
 ghost use Rattle.rpg_effect.specs.Lines as lines;
 ghost use Rattle.rpg_effect.specs.Put.{IsDone};
-ghost use Rattle.rpg_effect.specs.Showing as showing;
 ghost use Rattle.rpg_machine_lines.specs.Outputs.{detail_effect, exception_effect, output_of, overflow_detail_effect, overflow_effect, total_effect};
 ghost use Rattle.rpg_machine_lines.specs.Ready.{IsOutputReady};
 ghost use Rattle.rpg_machine_lines.specs.Right.{AreRightLines, HasLineRoom};
@@ -16,19 +15,10 @@ use crate::passage::put_lines;
 use rpg_effect::line::Pass;
 use rpg_effect::outcome::End;
 use rpg_object_program::row::Rows;
-use rpg_store::indicators::Indicators;
+use rpg_store::indicators::turn_off;
 use rpg_store::memory::Memory;
 use rpg_store::store::Store;
 use std::alloc::AllocError;
-
-fn turn_off(on: &mut Indicators, indicator: Option<u8>)
-    ensures { on.new ≡ showing.turned_off indicator on.old }
-{
-    match indicator {
-        None => {}
-        Some(n) => on.turn(n, false),
-    }
-}
 
 /// The overflow indicator goes off where an overflow output has been done and no movement since has turned it on.
 fn settle<S: Store + Drop>(memory: &mut Memory<S>, overflow: Option<u8>)

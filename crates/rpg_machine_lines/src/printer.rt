@@ -5,26 +5,16 @@ ghost use Rattle.rpg_effect.specs.Ends.{GoesOn};
 ghost use Rattle.rpg_effect.specs.LineFaults.{is_spacing};
 ghost use Rattle.rpg_effect.specs.Lines as lines;
 ghost use Rattle.rpg_effect.specs.Put.{IsDone};
-ghost use Rattle.rpg_effect.specs.Showing as showing;
 ghost use Rattle.rpg_machine_lines.specs.Outputs.{output_of};
 ghost use Rattle.rpg_machine_lines.specs.Ready.{IsNear};
 ghost use Rattle.rpg_store.specs.Memory.{held_of, world_of};
 
 use crate::bytes::Output;
 use rpg_effect::line::{File, Spacing};
-use rpg_store::indicators::Indicators;
+use rpg_store::indicators::turn_on;
 use rpg_store::memory::Memory;
 use rpg_store::store::Store;
 use std::alloc::AllocError;
-
-fn turn_on(on: &mut Indicators, indicator: Option<u8>)
-    ensures { on.new ≡ showing.turned_on indicator on.old }
-{
-    match indicator {
-        None => {}
-        Some(n) => on.turn(n, true),
-    }
-}
 
 /// The form moves some lines on.
 #[tactic(auto, using(crate::proofs::Moving::moving), unfolding(rpg_effect::specs::Lines::after_movement))]

@@ -1,47 +1,18 @@
-//! What lines read of a program: the words of text constants, and the entries that operands name.
-ghost use Rattle.std.specs.Prelude.{◌≡◌, true, IfSome, Some, map, slice_get};
+//! What lines read of a program: the entries that operands name.
+ghost use Rattle.std.specs.Prelude.{◌≡◌, true, IfSome, Some};
 ghost use Rattle.rpg_effect.specs.Entries as named;
 ghost use Rattle.rpg_effect.specs.Forms as forms;
 ghost use Rattle.rpg_effect.specs.Rows as rules;
-ghost use Rattle.rpg_effect.specs.Values.{characters_of, held};
 ghost use Rattle.rpg_effect.specs.declared.operation.Index.TheVariants as indexes;
 ghost use Rattle.rpg_machine_lines.specs.Entries.{IsFieldEntry};
 ghost use Rattle.rpg_machine_lines.specs.Ready.{HasFields, fields_of};
-ghost use Rattle.rpg_object_program.specs.Constants as constants;
-ghost use Rattle.rpg_object_program.specs.Object.{seen};
 
 use rpg_effect::form::FieldForm;
 use rpg_effect::operation::{Index, Operand};
-use rpg_effect::value::Value;
 use rpg_object_program::forms::{entries_of, is_table_form};
 use rpg_object_program::row::Rows;
 use rpg_store::position::in_range;
 use rpg_store::store::Store;
-
-/// The characters of the first of these values.
-fn first_text(values: &[Value]) -> &[u8]
-    ensures { result.now ≡ characters_of (slice_get (map held values.now) 0) }
-{
-    match values.first() {
-        Some(Value::Text(text)) => text,
-        Some(Value::Number(_)) => &[],
-        None => &[],
-    }
-}
-
-/// The characters of a field that is a text constant. They are read from the program: constants are never written.
-pub fn word_at(rows: &Rows, field: u16) -> &[u8]
-    requires { forms.is_text_constant (forms.form_at rows.now.fields.items field) ≡ true }
-    ensures { result.now ≡ constants.word_at (seen rows.now) field }
-{
-    if field == 0 {
-        return &[];
-    }
-    match rows.values.get(usize::from(field) - 1) {
-        None => &[],
-        Some(values) => first_text(values),
-    }
-}
 
 /// The current entry of a table, of any other field the first.
 fn current_of<S: Store>(rows: &Rows, store: &S, form: Option<FieldForm>, field: u16) -> u16

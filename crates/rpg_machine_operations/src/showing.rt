@@ -3,26 +3,8 @@ ghost use Rattle.std.specs.Prelude.{◌≡◌};
 ghost use Rattle.rpg_effect.specs.Showing as of;
 
 use rpg_effect::operation::Shows;
-use rpg_store::indicators::Indicators;
+use rpg_store::indicators::{Indicators, turn_off, turn_on};
 use std::cmp::Ordering;
-
-fn turn_on(on: &mut Indicators, indicator: Option<u8>)
-    ensures { on.new ≡ of.turned_on indicator on.old }
-{
-    match indicator {
-        None => {}
-        Some(n) => on.turn(n, true),
-    }
-}
-
-fn turn_off(on: &mut Indicators, indicator: Option<u8>)
-    ensures { on.new ≡ of.turned_off indicator on.old }
-{
-    match indicator {
-        None => {}
-        Some(n) => on.turn(n, false),
-    }
-}
 
 /// The indicator for a result that stands so to zero, or a factor 1 that stands so to factor 2.
 fn indicator_for(shows: Shows, order: Ordering) -> Option<u8>

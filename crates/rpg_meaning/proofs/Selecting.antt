@@ -12,6 +12,7 @@ use Rattle.rpg_cycle.specs.Phases as machine
 use Rattle.rpg_cycle.specs.Phases.{Done, UnderWay, done, type_indicator}
 use Rattle.rpg_effect.specs.Ends as effects
 use Rattle.rpg_effect.specs.Input.{TypeRow}
+use Rattle.rpg_text.specs.Texts.{is_character}
 use Rattle.rpg_meaning.proofs.Following.{Alike, Follows, IsFine, IsSettled, Same, Selection, follows_does}
 use Rattle.rpg_meaning.proofs.Steps.{all_turned, on_agrees}
 use Rattle.rpg_meaning.specs.Cycle as cards
@@ -22,7 +23,7 @@ use Rattle.rpg_machine.specs.Config.{Config, charged}
 use Rattle.rpg_object_program.specs.Object.{Object}
 use Rattle.rpg_cycle_records.specs.Earlier as records
 use Rattle.rpg_cycle_records.specs.Earlier.{Selected, control_fields, is_any, left_by, levels_of, or_before}
-use Rattle.rpg_cycle_records.specs.Identifying.{IsOf, IsOfNone, Misplaced, Trial, code_holds, has_position, identified, is_character, is_good_record, padded, trial_weight}
+use Rattle.rpg_cycle_records.specs.Identifying.{IsOf, IsOfNone, Misplaced, Trial, code_holds, has_position, identified, is_good_record, padded, trial_weight}
 use Rattle.rpg_cycle_records.specs.Levels.{differs, highest_broken, is_in_record, level_bytes}
 use Rattle.rpg_effect_renaming.specs.Naming.{Agree, renamed_type}
 use Rattle.rpg_cycle_safety.proofs.Selecting.{selection_works}

@@ -9,11 +9,12 @@ use Rattle.rpg_effect.specs.Input.{TypeRow, record_in}
 use Rattle.rpg_effect.specs.Lines.{detail_output, overflow_output, total_output}
 use Rattle.rpg_effect.specs.declared.input.ControlField.{ControlField}
 use Rattle.rpg_effect.specs.declared.input.InputField.{InputField}
+use Rattle.rpg_text.specs.Texts.{is_character}
 use Rattle.rpg_meaning.specs.Job.{Job, JobState}
 use Rattle.rpg_meaning.specs.Phases.{MeantPhase, any_on_in, by_effect, calculated, is_on_in, meant_does, meant_passes, meant_unless, with_turned, ◌andthen◌}
 use Rattle.rpg_meaning_calculations.specs.Parts.{InDetail, InTotal}
 use Rattle.rpg_cycle_records.specs.Earlier.{Selected, is_any, or_before}
-use Rattle.rpg_cycle_records.specs.Identifying.{code_holds, is_character}
+use Rattle.rpg_cycle_records.specs.Identifying.{code_holds}
 use Rattle.rpg_cycle_records.specs.Levels.{differs, highest_broken, level_bytes}
 
 module _ (job : Job) where

@@ -12,7 +12,8 @@ use Rattle.rpg_machine.specs.Accepted.{IsOrderly}
 use Rattle.rpg_machine.specs.Config.{Config, Output, charged, here, no_output}
 use Rattle.rpg_machine.specs.Control.{control, spends}
 use Rattle.rpg_machine.specs.Laws.{IsRightOutcome}
-use Rattle.rpg_machine.specs.Step.{Next, Stop, arrived, control_in, destination, effect, fault, outcome_of, step, weight, went}
+use Rattle.rpg_machine.specs.Step.{Next, Stop, arrived, control_in, destination, effect, fault, outcome_of, step, went}
+use Rattle.rpg_object_program.specs.Instructions.{weight}
 use Rattle.rpg_meaning_calculations.specs.Agreement.{IsRunnable}
 use Rattle.rpg_machine_operations.proofs.Programs.{program_forms}
 use Rattle.rpg_object_program.specs.Kept.{IsProgram}

@@ -20,8 +20,9 @@ use Rattle.rpg_effect.specs.declared.operation.Operand.{Operand}
 use Rattle.rpg_machine.specs.Accepted.{IsOrderly}
 use Rattle.rpg_machine.specs.Config.{Config, Output, charged, no_output}
 use Rattle.rpg_machine.specs.Control.{branch, control, spends}
-use Rattle.rpg_machine.specs.Step.{Next, Stop, effect, outcome_of, step, weight}
+use Rattle.rpg_machine.specs.Step.{Next, Stop, effect, outcome_of, step}
 use Rattle.rpg_machine.specs.declared.control.Control.TheVariants.{Goes, GoesBack}
+use Rattle.rpg_object_program.specs.Instructions.{weight}
 use Rattle.rpg_meaning_calculations.proofs.Accepted.{fit_after, never_ends}
 use Rattle.rpg_meaning_calculations.proofs.Leads.{HasAt, Reaches, at, has_back, here_is, level_leads, one_step, one_stop, stands, step_of, stop_behind, then_comes}
 use Rattle.rpg_meaning_calculations.proofs.Named.{all_at, lines_named, uses_at}

@@ -17,9 +17,10 @@ use Rattle.rpg_machine.specs.Accepted.{IsOrderly}
 use Rattle.rpg_machine.specs.Config.{Config, Output, charged, here, no_output}
 use Rattle.rpg_machine.specs.Control.{branch, control, spends}
 use Rattle.rpg_machine.specs.Run.{onward, put_before, run}
-use Rattle.rpg_machine.specs.Step.{Outcome, Next, Stop, arrived, control_in, destination, effect, step, weight, went}
+use Rattle.rpg_machine.specs.Step.{Outcome, Next, Stop, arrived, control_in, destination, effect, step, went}
 use Rattle.rpg_machine.specs.declared.control.Control.{Control}
 use Rattle.rpg_machine.specs.declared.control.Control.TheVariants.{Goes, GoesBack}
+use Rattle.rpg_object_program.specs.Instructions.{weight}
 use Rattle.rpg_meaning_calculations.proofs.Accepted.{fit_after, right}
 use Rattle.rpg_meaning_calculations.specs.Agreement.{Comes, IsRunnable}
 use Rattle.rpg_meaning_calculations.specs.Meaning.{all_cards_hold, level_holds}

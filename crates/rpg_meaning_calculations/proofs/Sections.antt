@@ -14,8 +14,9 @@ use Rattle.rpg_machine.specs.Accepted.{IsOrderly}
 use Rattle.rpg_machine.specs.Config.{Config, Output, charged, no_output, with_more}
 use Rattle.rpg_machine.specs.Control.{control}
 use Rattle.rpg_machine.specs.Run.{onward, put_before, run}
-use Rattle.rpg_machine.specs.Step.{Next, Outcome, Stop, arrived, effect, step, weight, went}
+use Rattle.rpg_machine.specs.Step.{Next, Outcome, Stop, arrived, effect, step, went}
 use Rattle.rpg_machine.specs.declared.control.Control.TheVariants.{Calls, Returns}
+use Rattle.rpg_object_program.specs.Instructions.{weight}
 use Rattle.rpg_meaning_calculations.proofs.Accepted.{fit_after, calls_up, returns_own}
 use Rattle.rpg_meaning_calculations.proofs.Follows.{IsReached, calculation_follows, callee_of, own, own_label, passed, reached}
 use Rattle.rpg_meaning_calculations.proofs.Leads.{HasAt, Reaches, at, one_step, one_stop, stays, step_of, stop_behind, then_comes}

@@ -4,10 +4,10 @@ use Rattle.std.proofs.lemmas.Bool.{leb-true, le-leb, and_parts, and_from}
 use Rattle.std.specs.Option.{ForSome}
 use Rattle.rpg_object_format.specs.declared.fault.Code.TheVariants.{NotAllowed, Unused, Version}
 use Rattle.rpg_object_format.specs.Format.{two_bytes, pair, row}
-use Rattle.rpg_object_format.specs.Numbers.{is_between}
 use Rattle.rpg_object_format.proofs.Laws.{IsFormat, IsRule, two_law, pair_law, row_law}
 use Rattle.rpg_object_format.proofs.Rules.{chosen, stands_for, value_is, guarded, number_law, count_law, only_number_law}
 use Rattle.rpg_object_program.specs.Kept.{IsOverflowIndicator}
+use Rattle.rpg_text.specs.Texts.{is_between}
 use Rattle.rpg_object.specs.declared.header.Counts.{Counts}
 use Rattle.rpg_object.specs.declared.header.Header.{Header}
 use Rattle.rpg_object.specs.declared.header.Settings.{Settings}

@@ -1,6 +1,6 @@
 -- The format of fields, 8 bytes each.
 use Rattle.std.specs.Prelude.{ℕ, ◌-◌, ◌*◌, List, [], ◌∷◌, Bool, true, false, ◌&&◌, nat_le, if◌then◌else◌, Result, Ok, Err}
-use Rattle.rpg_effect.specs.Forms.{is_date}
+use Rattle.rpg_effect.specs.Forms.{is_date, size_of}
 use Rattle.rpg_effect.specs.declared.form.Class.{Class}
 use Rattle.rpg_effect.specs.declared.form.Class.TheVariants as classes
 use Rattle.rpg_effect.specs.declared.form.FieldForm.{FieldForm}
@@ -9,8 +9,9 @@ use Rattle.rpg_effect.specs.declared.form.Kind.TheVariants as kinds
 use Rattle.rpg_object_format.specs.declared.fault.Code.{Code}
 use Rattle.rpg_object_format.specs.declared.fault.Code.TheVariants.{NotAllowed, PastLimit}
 use Rattle.rpg_object_format.specs.Format.{Format, byte, two_bytes, pair, row, times_with}
-use Rattle.rpg_object_format.specs.Numbers.{is_between, choice, flag_number, number_where, byte_where}
+use Rattle.rpg_object_format.specs.Numbers.{choice, flag_number, number_where, byte_where}
 use Rattle.rpg_object_program.specs.Kept.{length_limit, may_have_entries}
+use Rattle.rpg_text.specs.Texts.{is_between}
 
 abbrev pub kind_number : Kind → ℕ
 kind_number kinds.Number = 1
@@ -79,7 +80,7 @@ field storage = row
 
 -- a field takes the bytes of its entries from the storage that is left
 abbrev pub storage_after : ℕ → FieldForm → ℕ
-storage_after storage f = storage - f.length * f.entries
+storage_after storage f = storage - size_of f
 
 -- n fields, of 65,535 bytes in all
 unfoldable pub fields : ℕ → Format (List FieldForm)

@@ -1,5 +1,5 @@
 -- The format of first values: those of each field, one for each entry, in as many bytes as the field is long.
-use Rattle.std.specs.Prelude.{◌≡◌, ℕ, ◌≤◌, ℤ, List, [], ◌∷◌, length, take, drop, Bool, nat_lt, if◌then◌else◌, Option, Some, None, Result, Ok, Err}
+use Rattle.std.specs.Prelude.{◌≡◌, ℕ, ◌≤◌, ℤ, List, [], ◌∷◌, length, take, drop, nat_lt, if◌then◌else◌, Option, Some, None, Result, Ok, Err}
 use Rattle.std.specs.List.{list_all}
 use Rattle.std.specs.Str.{bytes_eq}
 use Rattle.rpg_decimal_words.specs.Zoned.{number_in, zoned_text}
@@ -11,8 +11,8 @@ use Rattle.rpg_object_format.specs.declared.fault.Code.{Code}
 use Rattle.rpg_object_format.specs.declared.fault.Code.TheVariants.{NotAllowed}
 use Rattle.rpg_object_format.specs.declared.fault.Fault.{Fault}
 use Rattle.rpg_object_format.specs.Format.{Format, ends_early, ruled, times_with, table}
-use Rattle.rpg_object_format.specs.Numbers.{is_between}
 use Rattle.rpg_object_program.specs.Kept.{IsValueOf}
+use Rattle.rpg_text.specs.Texts.{is_character}
 
 -- the number that a text was read as, where the text is the one that is written for it
 abbrev pub as_written : List ℕ → Option ℤ → Result ℤ Code
@@ -22,9 +22,6 @@ as_written text (Some n) = if bytes_eq text (zoned_text (length text) n) then Ok
 abbrev pub as_value : Result ℤ Code → Result Value Code
 as_value (Ok n) = Ok (Number n)
 as_value (Err c) = Err c
-
-abbrev pub is_character : ℕ → Bool
-is_character c = is_between 32 126 c
 
 -- the value of that kind that a text stands for
 abbrev pub first_value_in : Kind → List ℕ → Result Value Code

@@ -3,7 +3,8 @@ use Rattle.std.specs.Prelude.{ℕ, ◌-◌, ◌==◌, if◌then◌else◌, Optio
 use Rattle.rpg_object_format.specs.declared.fault.Code.{Code}
 use Rattle.rpg_object_format.specs.declared.fault.Code.TheVariants.{NotAllowed, Unused, Version}
 use Rattle.rpg_object_format.specs.Format.{Format, two_bytes, pair, row}
-use Rattle.rpg_object_format.specs.Numbers.{is_between, number_where, count, only_number}
+use Rattle.rpg_object_format.specs.Numbers.{number_where, count, only_number}
+use Rattle.rpg_text.specs.Texts.{is_between}
 use Rattle.rpg_object.specs.declared.header.Counts.{Counts}
 use Rattle.rpg_object.specs.declared.header.Header.{Header}
 use Rattle.rpg_object.specs.declared.header.Settings.{Settings}

@@ -1,20 +1,20 @@
 //! First values of fields, each in as many bytes as its field has digits or characters.
 
 ghost use Rattle.std.specs.Prelude.{◌≡◌, ◌++◌, ◌≤◌, All, length, map, OnOk};
-ghost use Rattle.std.specs.List.{list_all};
 ghost use Rattle.rpg_decimal_words.specs.Zoned.{number_in};
 ghost use Rattle.rpg_effect.specs.declared.form.Kind.TheVariants as kinds;
 ghost use Rattle.rpg_effect.specs.Values.{held};
 ghost use Rattle.rpg_object_format.specs.Reading.{Gives};
 ghost use Rattle.rpg_object_program.specs.Kept.{AreEntriesOf, AreValuesOf, IsValueOf};
 ghost use Rattle.rpg_object.specs.FirstValues as spec;
-ghost use Rattle.rpg_object.specs.FirstValues.{as_written, is_character, read_value, value, value_text, values_format, HasLength};
+ghost use Rattle.rpg_object.specs.FirstValues.{as_written, read_value, value, value_text, values_format, HasLength};
 
 use rpg_decimal::{read_zoned, write_zoned};
 use rpg_effect::form::{FieldForm, Kind};
 use rpg_effect::value::Value;
 use rpg_object_format::fault::{Code, ReadFault};
 use rpg_object_format::number::{ends_early, fault_at};
+use rpg_text::has_only_characters;
 use std::alloc::{AllocError, Global};
 
 /// The most digits that a number has.
@@ -38,12 +38,6 @@ fn number_written(text: &[u8]) -> Result<i64, Code>
     } else {
         Err(Code::NotAllowed)
     }
-}
-
-fn are_characters(text: &[u8]) -> bool
-    ensures { result ≡ list_all is_character text.now }
-{
-    text.iter().all(|c| 32 <= *c && *c <= 126)
 }
 
 /// Reads the number that the first bytes are written for.
@@ -72,7 +66,7 @@ fn text_value_at(alloc: Global, bytes: &[u8], len: u16) -> Result<(Value, &[u8])
         return Err(ends_early());
     }
     let (text, rest) = bytes.split_at(len);
-    if !are_characters(text) {
+    if !has_only_characters(text) {
         return Err(fault_at(bytes, Code::NotAllowed));
     }
     let characters = Vec::from_slice(alloc, text)?;

@@ -1,5 +1,5 @@
 -- What numbers stand for, and the formats of single numbers.
-use Rattle.std.specs.Prelude.{ℕ, ◌/◌, ◌%◌, List, [], ◌∷◌, Bool, true, false, ◌&&◌, ◌==◌, nat_le, if◌then◌else◌, Result, Ok, Err}
+use Rattle.std.specs.Prelude.{ℕ, ◌/◌, ◌%◌, List, [], ◌∷◌, Bool, true, false, ◌==◌, nat_le, if◌then◌else◌, Result, Ok, Err}
 use Rattle.rpg_object_format.specs.declared.fault.Code.{Code}
 use Rattle.rpg_object_format.specs.declared.fault.Code.TheVariants.{NotAllowed, PastLimit}
 use Rattle.rpg_object_format.specs.Format.{Format, byte, two_bytes}
@@ -7,9 +7,6 @@ use Rattle.rpg_object_format.specs.Format.{Format, byte, two_bytes}
 -- the numbers that a test takes
 abbrev pub allowed : (ℕ → Bool) → ℕ → Result ℕ Code
 allowed test n = if test n then Ok n else Err NotAllowed
-
-abbrev pub is_between : ℕ → ℕ → ℕ → Bool
-is_between low high n = nat_le low n && nat_le n high
 
 abbrev pub is_any_number : ℕ → Bool
 is_any_number n = true

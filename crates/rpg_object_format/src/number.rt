@@ -1,8 +1,9 @@
 //! Single numbers, of one byte or of two with the higher byte first: what they are read as, and how they are spelled.
 
 ghost use Rattle.std.specs.Prelude.{◌≡◌, ℕ, ◌/◌, ◌%◌, ◌^◌, ◌<◌, ◌++◌, OnOk};
+ghost use Rattle.rpg_text.specs.Texts.{is_between};
 ghost use Rattle.rpg_object_format.specs.Format.{ends_early, fault_at, keep, read_byte, read_two, spelled_along};
-ghost use Rattle.rpg_object_format.specs.Numbers.{allowed, is_any_number, is_between, flag_number, exactly, two, up_to, flag};
+ghost use Rattle.rpg_object_format.specs.Numbers.{allowed, is_any_number, flag_number, exactly, two, up_to, flag};
 ghost use Rattle.rpg_object_format.specs.Reading.{Gives, GivesByte, GivesTwo};
 
 use crate::fault::{Code, Fault, ReadFault};

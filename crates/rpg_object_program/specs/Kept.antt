@@ -1,7 +1,7 @@
 -- What the rows of an object program keep, in plain words.
-use Rattle.std.specs.Prelude.{◌≡◌, ◌≢◌, ℕ, ◌+◌, ◌*◌, ◌^◌, ◌<◌, ◌≤◌, Bool, false, ◌||◌, List, [], ◌∷◌, length, All, Option, unsigned_abs}
+use Rattle.std.specs.Prelude.{◌≡◌, ◌≢◌, ℕ, ◌+◌, ◌^◌, ◌<◌, ◌≤◌, Bool, false, ◌||◌, List, [], ◌∷◌, length, All, Option, unsigned_abs}
 use Rattle.std.specs.Option.{ForSome}
-use Rattle.rpg_effect.specs.Forms.{is_array, is_table}
+use Rattle.rpg_effect.specs.Forms.{is_array, is_table, size_of}
 use Rattle.rpg_effect.specs.Input.{TypeRow}
 use Rattle.rpg_effect.specs.Values.{Value, Number, Text}
 use Rattle.rpg_effect.specs.declared.condition.Condition.{Condition}
@@ -110,7 +110,7 @@ AreValuesOf (f ∷ fs) (vs ∷ values) = AreEntriesOf f vs × AreValuesOf fs val
 -- the bytes of the entries of all fields
 abbrev pub storage_of : List FieldForm → ℕ
 storage_of [] = 0
-storage_of (f ∷ fs) = f.length * f.entries + storage_of fs
+storage_of (f ∷ fs) = size_of f + storage_of fs
 
 -- ---- record types
 

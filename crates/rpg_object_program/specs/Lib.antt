@@ -1,4 +1,5 @@
 pub mod Constants
+pub mod Instructions
 pub mod Kept
 pub mod Object
 pub mod Sections

@@ -8,5 +8,6 @@ pub mod program;
 pub mod row;
 pub mod section;
 pub mod spans;
+pub mod words;
 
 pub use program::Program;

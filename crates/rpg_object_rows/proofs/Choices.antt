@@ -4,8 +4,9 @@ use Rattle.std.specs.Prelude.{All, ◌⊎◌}
 use Rattle.std.proofs.lemmas.Bool.{and_from, and_parts, le-leb, leb-true}
 use Rattle.rpg_object_format.specs.declared.fault.Code.TheVariants.{NotAllowed, PastLimit}
 use Rattle.rpg_object_format.specs.Format.{AllAlong, Format, keep, table, times_with}
-use Rattle.rpg_object_format.specs.Numbers.{allowed, flag, flag_number, is_between, up_to}
+use Rattle.rpg_object_format.specs.Numbers.{allowed, flag, flag_number, up_to}
 use Rattle.rpg_object_format.proofs.Rules.{chosen, stands_for}
+use Rattle.rpg_text.specs.Texts.{is_between}
 
 pub decided : {A : Type 0} (b : Bool) (x y : A) → ((b ≡ true) × (cond b x y ≡ x)) ⊎ ((b ≡ false) × (cond b x y ≡ y))
 decided true x y = inl (refl, refl)

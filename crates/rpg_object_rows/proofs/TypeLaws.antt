@@ -5,10 +5,10 @@ use Rattle.rpg_effect.specs.declared.input.ControlField.{ControlField}
 use Rattle.rpg_effect.specs.declared.input.InputField.{InputField}
 use Rattle.rpg_effect.specs.declared.input.RecordCode.{RecordCode}
 use Rattle.rpg_object_format.specs.Format.{byte, pair, row, times_with, two_bytes}
-use Rattle.rpg_object_format.specs.Numbers.{is_between}
 use Rattle.rpg_object_format.proofs.Laws.{IsFormat, pair_law, row_law, table_law}
 use Rattle.rpg_object_format.proofs.Rules.{any_number_law, byte_where_law, count_law, yes_or_no_law}
 use Rattle.rpg_object_program.specs.Kept.{IsCodeRow, IsControlRow, IsInputRow, IsTypeRow}
+use Rattle.rpg_text.specs.Texts.{is_between}
 use Rattle.rpg_object_rows.specs.Types.{TypeParts, control_field_format, input_field_format, record_code_format, record_type_format, type_parts}
 use Rattle.rpg_object_rows.proofs.Choices.{all_from_table, between, counted, few, flag_from, table_from_all, within}
 use Rattle.rpg_object_rows.proofs.IndicatorLaws.{indicator_law, shows_law}

@@ -6,7 +6,8 @@ use Rattle.rpg_effect.specs.declared.operation.Shows.{Shows}
 use Rattle.rpg_object_format.specs.declared.fault.Code.{Code}
 use Rattle.rpg_object_format.specs.declared.fault.Code.TheVariants.{NotAllowed}
 use Rattle.rpg_object_format.specs.Format.{Format, byte, pair, row}
-use Rattle.rpg_object_format.specs.Numbers.{is_between, byte_where, yes_or_no}
+use Rattle.rpg_object_format.specs.Numbers.{byte_where, yes_or_no}
+use Rattle.rpg_text.specs.Texts.{is_between}
 use Rattle.rpg_object_rows.specs.Shapes.{counted_rows}
 
 -- ---- indicators

@@ -5,7 +5,8 @@ use Rattle.rpg_effect.specs.declared.input.ControlField.{ControlField}
 use Rattle.rpg_effect.specs.declared.input.InputField.{InputField}
 use Rattle.rpg_effect.specs.declared.input.RecordCode.{RecordCode}
 use Rattle.rpg_object_format.specs.Format.{Format, pair, row, table}
-use Rattle.rpg_object_format.specs.Numbers.{is_between, any_number, byte_where, yes_or_no, count}
+use Rattle.rpg_object_format.specs.Numbers.{any_number, byte_where, yes_or_no, count}
+use Rattle.rpg_text.specs.Texts.{is_between}
 use Rattle.rpg_object_rows.specs.Indicators.{indicator_format, indicator_number, shows_format}
 use Rattle.rpg_object_rows.specs.Shapes.{unused_byte}
 

@@ -1,7 +1,8 @@
 -- What a paper gains by a further line, and by further lines.
 use Rattle.std.proofs.Common.{◌≡◌, option_map, ℕ, List, [], ◌∷◌, ◌++◌, Option, Some, None, refl, sym, ap, ◌∙◌, rules, append_assoc}
 use Rattle.std.proofs.lemmas.List.{append-nil}
-use Rattle.rpg_paper.specs.Paper.{Position, Placed, trimmed, way, bytes_from, last_position_from, paper, last_position}
+use Rattle.rpg_text.specs.Texts.{trimmed}
+use Rattle.rpg_paper.specs.Paper.{Position, Placed, way, bytes_from, last_position_from, paper, last_position}
 use Rattle.rpg_paper.specs.Form.{Standing, StandsAt, HasPrinted, way_of, FormLine, position_after, placed_after, form_bytes}
 
 -- lines behind lines add what they add to the paper that the first ones end

@@ -1,6 +1,6 @@
 -- The printed form: positions, movements and the bytes that a list of placed lines stands for. A page has 66 lines.
-use Rattle.std.specs.Prelude.{◌≡◌, ℕ, ◌+◌, ◌-◌, ◌*◌, ◌≤◌, ◌&&◌, List, [], ◌∷◌, ◌++◌, length, take, replicate, Option, Some, None, if◌then◌else◌, nat_lt, nat_le, ◌==◌, Bool}
-use Rattle.std.specs.List.{suffix_len}
+use Rattle.std.specs.Prelude.{◌≡◌, ℕ, ◌+◌, ◌-◌, ◌*◌, ◌≤◌, ◌&&◌, List, [], ◌∷◌, ◌++◌, replicate, Option, Some, None, if◌then◌else◌, nat_lt, nat_le, ◌==◌, Bool}
+use Rattle.rpg_text.specs.Texts.{trimmed}
 
 -- a line of a page, both counted from 1
 pub record Position : Type 0 where
@@ -45,10 +45,6 @@ travel from to = if to.page == from.page then replicate (to.line - from.line) 10
 abbrev pub way : Option Position → Position → List ℕ
 way None to = travel top_of_paper to
 way (Some from) to = if (to.page == from.page) && (to.line == from.line) then 13 ∷ [] else travel from to
-
--- without the blanks at the end
-abbrev pub trimmed : List ℕ → List ℕ
-trimmed text = take (length text - suffix_len (λ c. c == 32) text) text
 
 -- what lines add to a paper whose line placed last is known
 abbrev pub bytes_from : Option Position → List Placed → List ℕ

@@ -1,10 +1,12 @@
 //! The printed form: where the paper stands, and the bytes that bring it to a line.
 
 ghost use Rattle.std.specs.Prelude.{◌≡◌, ℕ, ◌+◌, ◌<◌, ◌≤◌, ◌↔◌, List, [], ◌∷◌, ◌++◌, take, vec_len, Option, Some, None, IsTrue, OnOk, OnErr};
-ghost use Rattle.rpg_paper.specs.Paper.{Position, Placed, TurnsOverflowOn, turns_overflow_on, top_of_paper, spaced, skipped, trimmed, bytes_from};
+ghost use Rattle.rpg_text.specs.Texts.{trimmed};
+ghost use Rattle.rpg_paper.specs.Paper.{Position, Placed, TurnsOverflowOn, turns_overflow_on, top_of_paper, spaced, skipped, bytes_from};
 ghost use Rattle.rpg_paper.specs.Form.{StandsAt, HasPrinted, at_first_line, here_of, form_after_space, form_after_skip, after_line, way_of};
 
-use crate::paper::{append_times, trim_end};
+use crate::paper::append_times;
+use rpg_text::trimmed;
 use std::alloc::AllocError;
 use std::error::Error;
 use std::fmt;
@@ -164,7 +166,7 @@ impl Form {
         ensures err { OnErr result (take (vec_len out.old) out.new.items ≡ out.old.items) }
     {
         self.append_way(out)?;
-        out.extend_from_slice(trim_end(text))
+        out.extend_from_slice(trimmed(text))
     }
 
     fn append_way(&self, out: &mut Vec<u8>) -> Result<(), AllocError>

@@ -1,20 +1,8 @@
 //! Parts of what is sent to the printer.
 
-ghost use Rattle.std.specs.Prelude.{◌≡◌, ℕ, ◌+◌, ◌++◌, take, vec_len, replicate, OnOk, OnErr};
-ghost use Rattle.rpg_paper.specs.Paper.{trimmed};
+ghost use Rattle.std.specs.Prelude.{◌≡◌, ◌++◌, take, vec_len, replicate, OnOk, OnErr};
 
 use std::alloc::AllocError;
-
-/// The text without the blanks at its end.
-pub(crate) fn trim_end(text: &[u8]) -> &[u8]
-    ensures { result.now ≡ trimmed text.now }
-{
-    let mut end = text.len();
-    while end > 0 && text[end - 1] == b' ' {
-        end -= 1;
-    }
-    &text[..end]
-}
 
 /// Appends `times` copies of a byte.
 pub(crate) fn append_times(out: &mut Vec<u8>, byte: u8, times: u16) -> Result<(), AllocError>

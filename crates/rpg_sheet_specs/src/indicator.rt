@@ -62,3 +62,18 @@ impl<T: Copy> Clone for Three<T> {
         Ok(*self)
     }
 }
+
+impl<T: Copy> Three<Option<T>> {
+    ghost use Rattle.std.specs.Prelude.{◌≡◌, ◌≤◌};
+    ghost use Rattle.rpg_sheet_specs.specs.Three.{filled_count};
+
+    /// How many are there.
+    pub fn filled(self) -> u64
+        ensures value { result ≡ filled_count self }
+        ensures few { result ≤ 3 }
+    {
+        u64::from(self.first.is_some())
+            + u64::from(self.second.is_some())
+            + u64::from(self.third.is_some())
+    }
+}

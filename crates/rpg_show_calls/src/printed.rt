@@ -2,7 +2,8 @@
 ghost use Rattle.std.specs.Prelude.{◌≡◌, ◌++◌, ◌<◌, ◌≤◌, IfOk, OnOk};
 ghost use Rattle.std.specs.Bool.{OnTrue};
 ghost use Rattle.rpg_paper.specs.Form.{after_line, form_after_skip, form_after_space, here_of, way_of};
-ghost use Rattle.rpg_paper.specs.Paper.{trimmed, turns_overflow_on};
+ghost use Rattle.rpg_paper.specs.Paper.{turns_overflow_on};
+ghost use Rattle.rpg_text.specs.Texts.{trimmed};
 
 use rpg_paper::Form;
 use rpg_show_lines::{Line, unescaped};

@@ -9,7 +9,6 @@ mod command;
 mod cycles;
 mod damage;
 mod devices;
-mod hex;
 mod object;
 mod objects;
 mod runs;

@@ -1,6 +1,6 @@
 //! A case: an object, and what is changed of it.
 
-use crate::hex::push_hex;
+use rpg_show_lines::push_hex;
 use std::alloc::{AllocError, Global};
 
 /// What the next lines are.

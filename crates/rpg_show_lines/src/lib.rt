@@ -26,5 +26,5 @@ pub use number::Number;
 pub use outcome::{Outputs, Told, Wanted, write_report};
 pub use records::records_of;
 pub use report::Report;
-pub use spelling::{hex_of, text_of};
+pub use spelling::{hex_of, push_hex, text_of};
 pub use tally::Tally;

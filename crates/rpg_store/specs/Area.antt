@@ -1,6 +1,7 @@
 -- An area of bytes that has the entries of all fields in parts of it.
 use Rattle.std.specs.Prelude.{◌≡◌, ◌≢◌, ℕ, zero, suc, ◌+◌, ◌-◌, ◌*◌, ◌≤◌, ◌⊎◌, List, [], ◌∷◌, ◌++◌, take, drop, length, replicate, slice_get, Option, None, Some}
 use Rattle.rpg_decimal_words.specs.Zoned.{spelled_number}
+use Rattle.rpg_effect.specs.Forms.{size_of}
 use Rattle.rpg_effect.specs.Values.{Value, Number, Text}
 use Rattle.rpg_effect.specs.declared.form.FieldForm.{FieldForm}
 use Rattle.rpg_effect.specs.declared.form.Kind.{Kind}
@@ -73,9 +74,6 @@ number_bytes kinds.Text n = 0
 abbrev pub text_bytes : Kind → ℕ → ℕ
 text_bytes kinds.Number n = 0
 text_bytes kinds.Text n = n
-
-abbrev pub size_of : FieldForm → ℕ
-size_of f = f.length * f.entries
 
 -- the bytes of all numbers, and of all texts
 abbrev pub all_number_bytes : List FieldForm → ℕ

@@ -1,6 +1,7 @@
 //! The indicators that are on.
 ghost use Rattle.std.specs.Prelude.{◌≡◌, if◌then◌else◌};
 ghost use Rattle.std.specs.FinSet as set;
+ghost use Rattle.rpg_effect.specs.Showing as showing;
 
 use std::marker::Model;
 
@@ -41,5 +42,25 @@ impl Indicators {
             number) }
     {
         self.on[number as usize] = is_on;
+    }
+}
+
+/// Turns an indicator on, if there is one.
+pub fn turn_on(on: &mut Indicators, indicator: Option<u8>)
+    ensures { on.new ≡ showing.turned_on indicator on.old }
+{
+    match indicator {
+        None => {}
+        Some(n) => on.turn(n, true),
+    }
+}
+
+/// Turns an indicator off, if there is one.
+pub fn turn_off(on: &mut Indicators, indicator: Option<u8>)
+    ensures { on.new ≡ showing.turned_off indicator on.old }
+{
+    match indicator {
+        None => {}
+        Some(n) => on.turn(n, false),
     }
 }

@@ -1,10 +1,11 @@
 -- Names in the order of their first definitions.
 use denote.Enum.Bare.{sameb}
 use mathlib.Core.Bool.{beq}
-use Rattle.std.specs.Prelude.{◌≡◌, ◌≢◌, ℕ, ◌+◌, ◌*◌, ◌≤◌, ◌<◌, ◌&&◌, ◌==◌, Bool, List, [], ◌∷◌, ◌++◌, length, false, Option, None, Some, sum_by, position, nat_eq, codes}
+use Rattle.std.specs.Prelude.{◌≡◌, ◌≢◌, ℕ, ◌+◌, ◌≤◌, ◌<◌, ◌&&◌, ◌==◌, Bool, List, [], ◌∷◌, ◌++◌, length, false, Option, None, Some, sum_by, position, nat_eq, codes}
 use Rattle.std.specs.Option.{option_map}
 use Rattle.std.specs.Map.{lookup, keys_of}
 use Rattle.std.specs.Cmp.Lexicographic.{pointwise}
+use Rattle.rpg_effect.specs.Forms.{size_of}
 use Rattle.rpg_effect.specs.contracts.form.Class as classes
 use Rattle.rpg_effect.specs.contracts.form.Kind as kinds
 use Rattle.rpg_effect.specs.declared.form.FieldForm.{FieldForm}
@@ -39,10 +40,6 @@ abbrev pub same_form : FieldForm → FieldForm → Bool
 same_form f g =
     sameb kinds.the_type f.kind g.kind && sameb classes.the_type f.class g.class && f.length == g.length && f.decimals == g.decimals
     && beq f.is_ascending g.is_ascending && f.entries == g.entries
-
--- the bytes that a field takes
-abbrev pub size_of : FieldForm → ℕ
-size_of form = form.length * form.entries
 
 abbrev pub storage : NamedForms → ℕ
 storage fields = sum_by (λ (f : List ℕ × FieldForm). size_of f.1) fields

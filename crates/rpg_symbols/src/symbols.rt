@@ -2,7 +2,7 @@
 
 ghost use Rattle.std.specs.Prelude.{◌≡◌, ◌≢◌, ◌-◌, ◌≤◌, ◌⊎◌, None, Some, length, slice_get, option_map, IfOk, IfErr, OnErr};
 ghost use Rattle.std.specs.Bool.{OnTrue, OnFalse};
-ghost use Rattle.rpg_symbols.specs.Fields.{defined_form, given, number_form, number_of_name, same_form, size_of, IsKnown, IsAdded, Refuses};
+ghost use Rattle.rpg_symbols.specs.Fields.{defined_form, given, number_form, number_of_name, same_form, IsKnown, IsAdded, Refuses};
 ghost use Rattle.rpg_symbols.specs.declared.symbols.DefineFault.TheVariants.{NoMemory};
 
 use indexmap::IndexMap;
@@ -65,8 +65,8 @@ impl Symbols {
         ensures fault { IfErr result (λ fault. fault ≡ NoMemory) }
     {
         let mut fields = IndexMap::new(alloc);
-        fields.insert(Word::new(b"UDATE"), number(Class::Date, 6))?;
-        fields.insert(Word::new(b"PAGE"), number(Class::Plain, 4))?;
+        fields.insert(Word::new(b"UDATE"), number_form(Class::Date, 6))?;
+        fields.insert(Word::new(b"PAGE"), number_form(Class::Plain, 4))?;
         Ok(Symbols { fields, bytes: 10 })
     }
 
@@ -115,7 +115,7 @@ impl Symbols {
         ensures err { IfErr result (λ fault. Refuses fault self.old name form) }
         ensures unchanged { OnErr result (self.new ≡ self.old) }
     {
-        let size = size(&form);
+        let size = form.size();
         if self.fields.len() >= FIELDS || self.bytes as u64 + size as u64 > STORAGE {
             return Err(DefineFault::Full);
         }
@@ -125,15 +125,8 @@ impl Symbols {
     }
 }
 
-/// The bytes that a field of this form takes.
-fn size(form: &FieldForm) -> u32
-    ensures { result ≡ size_of form.now }
-{
-    form.length as u32 * form.entries as u32
-}
-
 /// A number of these digits, without decimals.
-const fn number(class: Class, length: u16) -> FieldForm
+pub const fn number_form(class: Class, length: u16) -> FieldForm
     ensures { result ≡ number_form class length }
 {
     FieldForm {

@@ -25,8 +25,8 @@ LinesEndAtLineFeeds = (parts : List (List ℕ)) (rest : List ℕ) → list_all i
 
 -- ---- examples
 
-nothing : lines [] ≡ []
-nothing = refl
+no_lines : lines [] ≡ []
+no_lines = refl
 
 two_lines : lines (codes "007\n35\n") ≡ codes "007" ∷ codes "35" ∷ []
 two_lines = refl

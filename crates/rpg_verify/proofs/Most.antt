@@ -5,6 +5,7 @@ use Rattle.std.proofs.lemmas.Bool.{le-leb}
 use Rattle.rpg_effect.specs.declared.condition.Conditions.{Conditions}
 use Rattle.rpg_effect.specs.declared.operation.Instruction.{Instruction}
 use Rattle.rpg_effect.specs.declared.operation.Instruction.TheVariants.{Branch}
+use Rattle.rpg_object_program.specs.Instructions.{weight}
 use Rattle.rpg_object_program.specs.Kept.{IsProgram}
 use Rattle.rpg_object_program.specs.Object.{Object, SubroutineRow}
 use Rattle.rpg_object_program.specs.Sections.{body_of, first_in, first_place, instruction_at, section_instructions}
@@ -18,7 +19,6 @@ use Rattle.rpg_verify.proofs.Sizes.{bound_few}
 use Rattle.rpg_verify.specs.Bound.{back_cost, cost, cost_in, costs_at, most, most_at, most_back, most_called, most_in, stretch}
 use Rattle.rpg_verify.specs.Greatest.{AreGreatest}
 use Rattle.rpg_verify.specs.Paths.{IsCost}
-use Rattle.rpg_verify.specs.Weighing.{weight}
 
 pub greatest_at : (p : Object) (x : Place) → first_place p x.section ≤ x.number → IsCost (weight p) (stretch p x.section) x.number (cost p x)
 greatest_at p x low = subst (IsCost (weight p) (stretch p x.section) x.number) (sym (cost_there p x low)) (costs_are (weight p) (first_place p x.section) (section_instructions p x.section) x.number low)

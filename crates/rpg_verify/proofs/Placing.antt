@@ -4,6 +4,7 @@ use Rattle.std.specs.Prelude.{nat_le, slice_index}
 use Rattle.std.proofs.lemmas.Bool.{le-leb}
 use Rattle.std.proofs.lemmas.List.{get_or_append_left, get_or-append_right}
 use Rattle.rpg_effect.specs.declared.operation.Instruction.{Instruction}
+use Rattle.rpg_object_program.specs.Instructions.{weight}
 use Rattle.rpg_object_program.specs.Object.{Object, SubroutineRow}
 use Rattle.rpg_object_program.specs.Sections.{body_of, first_in, first_place, instructions_in, place_behind, places_of, section_instructions}
 use Rattle.rpg_object_program.specs.declared.section.Place.{Place}
@@ -11,7 +12,6 @@ use Rattle.rpg_object_program.specs.declared.section.Section.{Section}
 use Rattle.rpg_object_program.specs.declared.section.Section.TheVariants.{Detail, Total, Subroutine}
 use Rattle.rpg_verify.specs.Bound.{cost, costs, costs_at, costs_in, main_costs}
 use Rattle.rpg_verify.specs.Paths.{costs_from}
-use Rattle.rpg_verify.specs.Weighing.{weight}
 
 -- a cost for each place
 pub length_costs : (w : Instruction ℕ → ℕ) (first : ℕ) (code : List (Instruction ℕ)) → length (costs_from w first code) ≡ length code

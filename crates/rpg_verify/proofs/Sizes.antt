@@ -13,12 +13,13 @@ use Rattle.rpg_effect.specs.declared.operation.Instruction.{Instruction}
 use Rattle.rpg_effect.specs.declared.operation.Instruction.TheVariants.{Act, Except, Branch, Call, Return}
 use Rattle.rpg_effect.specs.declared.operation.Operand.{Operand}
 use Rattle.rpg_effect.specs.declared.row.Use.{Use}
+use Rattle.rpg_object_program.specs.Instructions.{weight}
 use Rattle.rpg_object_program.specs.Kept.{IsFieldRow, IsLineRow, IsProgram, IsTypeRow}
 use Rattle.rpg_object_program.specs.Object.{LineRow, Object, SubroutineRow, lines_of, program_line}
 use Rattle.rpg_object_program.specs.Sections.{instructions_in}
 use Rattle.rpg_verify.specs.Bound.{back_cost, bound, cost_in, costs_at, most, most_at, most_back, most_in, once}
 use Rattle.rpg_verify.specs.Paths.{cost_onward, with_cost, costs_from}
-use Rattle.rpg_verify.specs.Weighing.{all_outputs_weight, weight}
+use Rattle.rpg_verify.specs.Weighing.{all_outputs_weight}
 
 -- ---- all of a list
 

@@ -3,12 +3,13 @@ use Rattle.std.specs.Prelude.{ℕ, ◌+◌, ◌-◌, ◌*◌, List, [], ◌∷�
 use Rattle.rpg_effect.specs.Weights.{types_weight}
 use Rattle.rpg_effect.specs.declared.operation.Instruction.{Instruction}
 use Rattle.rpg_effect.specs.declared.operation.Instruction.TheVariants.{Branch}
+use Rattle.rpg_object_program.specs.Instructions.{weight}
 use Rattle.rpg_object_program.specs.Object.{Object, SubroutineRow}
 use Rattle.rpg_object_program.specs.Sections.{first_place, section_instructions}
 use Rattle.rpg_object_program.specs.declared.section.Place.{Place}
 use Rattle.rpg_object_program.specs.declared.section.Section.{Section}
 use Rattle.rpg_verify.specs.Paths.{Stretch, costs_from}
-use Rattle.rpg_verify.specs.Weighing.{all_outputs_weight, weight}
+use Rattle.rpg_verify.specs.Weighing.{all_outputs_weight}
 
 -- a section of a program as it lies
 abbrev pub stretch : Object → Section → Stretch

@@ -2,6 +2,7 @@
 use Rattle.std.specs.Prelude.{ℕ, Bool, ◌<◌, ◌≤◌, ◌^◌}
 use Rattle.rpg_effect.specs.declared.condition.Conditions.{Conditions}
 use Rattle.rpg_effect.specs.declared.operation.Instruction.TheVariants.{Branch}
+use Rattle.rpg_object_program.specs.Instructions.{weight}
 use Rattle.rpg_object_program.specs.Object.{Object}
 use Rattle.rpg_object_program.specs.Sections.{first_place}
 use Rattle.rpg_object_program.specs.declared.section.Place.{Place}
@@ -9,7 +10,6 @@ use Rattle.rpg_object_program.specs.declared.section.Section.TheVariants.{Subrou
 use Rattle.rpg_verify_rules.specs.Sound.{IsAt}
 use Rattle.rpg_verify.specs.Bound.{bound, cost, most, stretch}
 use Rattle.rpg_verify.specs.Paths.{IsCost}
-use Rattle.rpg_verify.specs.Weighing.{weight}
 
 -- Each place from its section's first on has the greatest sum of weights along a forward path from it, and `most` is no less than the
 -- costs that a spend leads to: those of the targets of branches to a place not later than their own, and of first places of

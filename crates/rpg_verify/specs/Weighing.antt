@@ -1,13 +1,7 @@
--- What instructions, types and lines of a program weigh.
+-- What all output lines of a program weigh.
 use Rattle.std.specs.Prelude.{ℕ, ◌+◌, is_some, if◌then◌else◌}
-use Rattle.rpg_effect.specs.Forms.{form_at}
-use Rattle.rpg_effect.specs.Weights.{exceptions_weight, instruction_weight, overflow_weight}
-use Rattle.rpg_effect.specs.declared.operation.Instruction.{Instruction}
+use Rattle.rpg_effect.specs.Weights.{overflow_weight}
 use Rattle.rpg_object_program.specs.Object.{Object, lines_of}
-
--- an instruction of a program
-abbrev pub weight : Object → Instruction ℕ → ℕ
-weight p i = instruction_weight (form_at p.fields) (exceptions_weight (lines_of p)) i
 
 -- the H, D and T lines, once more where the program has an overflow indicator
 abbrev pub all_outputs_weight : Object → ℕ

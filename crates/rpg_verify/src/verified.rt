@@ -1,6 +1,7 @@
 //! Programs that may be run.
 
 ghost use Rattle.std.specs.Prelude.{◌≡◌, ◌<◌, ◌≤◌, ◌^◌, IfErr, IfOk};
+ghost use Rattle.rpg_object_program.specs.Instructions.{weight};
 ghost use Rattle.rpg_object_program.specs.Kept.{IsProgram};
 ghost use Rattle.rpg_object_program.specs.Sections.{first_place, place_behind};
 ghost use Rattle.rpg_verify_rules.specs.Accepted.{IsAccepted};
@@ -9,7 +10,6 @@ ghost use Rattle.rpg_verify.specs.Bound as words;
 ghost use Rattle.rpg_verify.specs.Greatest.{AreGreatest};
 ghost use Rattle.rpg_verify.specs.Paths.{IsCost};
 ghost use Rattle.rpg_verify.specs.Verified.{IsRefusal};
-ghost use Rattle.rpg_verify.specs.Weighing.{weight};
 
 use crate::bound::{Measured, measure};
 use rpg_object_program::Program;

@@ -1,65 +1,6 @@
--- What a program's fields keep, by their numbers; the characters of text constants.
-use Rattle.std.proofs.Common.{◌≡◌, ℕ, zero, suc, ◌≤◌, Bool, true, false, List, [], map, length, All, Option, None, Some, slice_get, if◌then◌else◌, refl, sym, ap, ◌∙◌, subst, arith}
-use Rattle.std.proofs.lemmas.Bool.{ltb-false, ltb-true}
-use Rattle.std.proofs.lemmas.Option.{get_or_from_slice_get, slice_get-get_or, slice_get-map, slice_get_past, slice_get_within}
-use Rattle.std.specs.Global.{Vec}
-use Rattle.std.specs.Option.{option_map}
-use Rattle.std.specs.Prelude.{get_or, nat_lt}
-use Rattle.rpg_effect.specs.Forms.{form_at, is_text_constant, kind_of, length_of, same_kind}
-use Rattle.rpg_effect.specs.Values.{Value, characters_of, held}
-use Rattle.rpg_effect.specs.declared.value.Value as entry
-use Rattle.rpg_effect.specs.declared.form.FieldForm.{FieldForm}
-use Rattle.rpg_effect.specs.declared.form.Kind.{Kind}
-use Rattle.rpg_effect.specs.declared.form.Kind.TheVariants as kinds
-use Rattle.rpg_object_program.specs.Constants.{first_value, values_at, word_at}
-use Rattle.rpg_object_program.specs.Kept.{IsFieldRow, length_limit}
-use Rattle.rpg_object_program.specs.Object.{Object}
+-- What holds of each value holds of the one at a place.
+use Rattle.std.proofs.Common.{◌≡◌, ℕ, List, All, Some, slice_get, subst}
+use Rattle.std.proofs.lemmas.Option.{get_or_from_slice_get, slice_get_within}
 
--- what holds of each holds of the one at a place
 pub one_of_all : {X : Type 0} (P : X → Type 0) (xs : List X) (k : ℕ) (x : X) → All P xs → slice_get xs k ≡ Some x → P x
 one_of_all P xs k x h e = subst P (get_or_from_slice_get xs k x x e) (h k x (slice_get_within xs k x e))
-
--- the row of a field that is there
-pub row_at : (fields : List FieldForm) (n : ℕ) (f : FieldForm) → All IsFieldRow fields → form_at fields n ≡ Some f → IsFieldRow f
-row_at fields zero f h e = cc
-row_at fields (suc n) f h e = one_of_all IsFieldRow fields n f h e
-
-few : (k : Kind) (n : ℕ) → n ≤ length_limit k → same_kind k kinds.Number ≡ true → n ≤ 15
-few kinds.Number n h s = h
-few kinds.Text n h s = cc
-
-few_if_any : (o : Option FieldForm) → ((f : FieldForm) → o ≡ Some f → IsFieldRow f) → same_kind (kind_of o) kinds.Number ≡ true → length_of o ≤ 15
-few_if_any None h s = omega arith
-few_if_any (Some f) h s = few f.kind f.length (h f refl).longest s
-
--- the word of a text constant
-pub word_is : (p : Object) (k : ℕ) → is_text_constant (form_at p.fields k) ≡ true → word_at p k ≡ characters_of (first_value (values_at p.values k))
-unfolding word_at
-word_is p k h = by_test (is_text_constant (form_at p.fields k)) h
-  where
-    by_test : (b : Bool) → b ≡ true → (if b then characters_of (first_value (values_at p.values k)) else []) ≡ characters_of (first_value (values_at p.values k))
-    by_test true e = refl
-    by_test false e = cc
-
-pub found_at : {X : Type 0} (xs : List X) (k : ℕ) (x : X) → true ≡ nat_lt k (length xs) → x ≡ get_or xs k x → slice_get xs k ≡ Some x
-found_at xs k x t e = slice_get-get_or xs k x (ltb-true k (length xs) (sym t)) ∙ ap Some (sym e)
-
-pub missing_at : {X : Type 0} (xs : List X) (k : ℕ) → false ≡ nat_lt k (length xs) → slice_get xs k ≡ None
-missing_at xs k t = slice_get_past xs k (ltb-false k (length xs) (sym t))
-
-abbrev pub seen_values : List (Vec entry.Value) → List (List Value)
-seen_values all = map (λ vs. map held vs.items) all
-
-seen_at : (all : List (Vec entry.Value)) (k : ℕ) (o : Option (Vec entry.Value)) → slice_get all k ≡ o → slice_get (seen_values all) k ≡ option_map (λ vs. map held vs.items) o
-seen_at all k o e = slice_get-map (λ (vs : Vec entry.Value). map held vs.items) all k ∙ ap (option_map (λ (vs : Vec entry.Value). map held vs.items)) e
-
--- the characters of the first of its values
-pub word_found : (p : Object) (all : List (Vec entry.Value)) → p.values ≡ seen_values all → (n k : ℕ) (v : Vec entry.Value) → n ≡ suc k → is_text_constant (form_at p.fields n) ≡ true → slice_get all k ≡ Some v →
-    characters_of (slice_get (map held v.items) 0) ≡ word_at p n
-word_found p all same n k v e h at =
-    sym (word_is p n h ∙ ap (λ m. characters_of (first_value (values_at p.values m))) e ∙ ap (λ vs. characters_of (first_value (slice_get vs k))) same ∙ ap (λ o. characters_of (first_value o)) (seen_at all k (Some v) at))
-
--- none, where it has no values
-pub word_missing : (p : Object) (all : List (Vec entry.Value)) → p.values ≡ seen_values all → (n k : ℕ) → n ≡ suc k → is_text_constant (form_at p.fields n) ≡ true → slice_get all k ≡ None → [] ≡ word_at p n
-word_missing p all same n k e h at =
-    sym (word_is p n h ∙ ap (λ m. characters_of (first_value (values_at p.values m))) e ∙ ap (λ vs. characters_of (first_value (slice_get vs k))) same ∙ ap (λ o. characters_of (first_value o)) (seen_at all k None at))

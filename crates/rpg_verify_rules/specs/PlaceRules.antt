@@ -3,7 +3,6 @@ use Rattle.std.specs.Prelude.{ℕ, ◌+◌, ◌-◌, Bool, true, false, not, ◌
 use Rattle.std.specs.List.{list_all, list_any}
 use Rattle.rpg_effect.specs.Control.{has_conditions}
 use Rattle.rpg_effect.specs.Forms.{form_at}
-use Rattle.rpg_effect.specs.Instructions.{columns_of}
 use Rattle.rpg_effect.specs.Rows.{all_of, all_used, has_kind, holds_positions, is_current_table, is_good_operand, is_two_sided, is_writable_use}
 use Rattle.rpg_effect.specs.declared.form.FieldForm.{FieldForm}
 use Rattle.rpg_effect.specs.declared.operation.Instruction.{Instruction}
@@ -13,6 +12,7 @@ use Rattle.rpg_effect.specs.declared.row.Marks.{Marks}
 use Rattle.rpg_effect.specs.declared.row.Marks.TheVariants.{Unmarked, Shown, Wanted, Sought}
 use Rattle.rpg_effect.specs.declared.row.Row.{Row}
 use Rattle.rpg_effect.specs.declared.row.Use.{Use}
+use Rattle.rpg_object_program.specs.Instructions.{columns}
 use Rattle.rpg_object_program.specs.Object.{Object, SubroutineRow}
 use Rattle.rpg_object_program.specs.Sections.{is_place, level_of, section_instructions}
 use Rattle.rpg_object_program.specs.declared.section.Section.{Section}
@@ -20,10 +20,6 @@ use Rattle.rpg_object_program.specs.declared.section.Section.TheVariants.{Detail
 use Rattle.rpg_verify_rules.specs.Indicators.{all_asked, are_settable, has_shows, is_within}
 use Rattle.rpg_verify_rules.specs.declared.rule.PlaceRule.{PlaceRule}
 use Rattle.rpg_verify_rules.specs.declared.rule.PlaceRule.TheVariants.{V16, V17, V18, V19, V20, V21, V22}
-
--- what stands in the columns of an instruction
-abbrev pub columns : Object → Instruction ℕ → Row (Operand ℕ)
-columns p i = columns_of (form_at p.fields) i
 
 -- ---- indicators
 

@@ -7,6 +7,7 @@ use Rattle.rpg_effect.specs.Right.{IsRightRow}
 use Rattle.rpg_effect.specs.declared.operation.Instruction.{Instruction}
 use Rattle.rpg_effect.specs.declared.operation.Instruction.TheVariants.{Act, Except, Branch, Call, Return}
 use Rattle.rpg_object_program.specs.Constants.{word_at}
+use Rattle.rpg_object_program.specs.Instructions.{columns}
 use Rattle.rpg_object_program.specs.Object.{LineRow, Object, file_length}
 use Rattle.rpg_object_program.specs.Sections.{first_place, has_subroutine, instruction_at, is_place, level_of, section_instructions}
 use Rattle.rpg_object_program.specs.declared.section.Place.{Place}
@@ -14,7 +15,7 @@ use Rattle.rpg_object_program.specs.declared.section.Section.{Section}
 use Rattle.rpg_object_program.specs.declared.section.Section.TheVariants.{Subroutine}
 use Rattle.rpg_verify_rules.specs.Indicators.{if_any, is_of_type}
 use Rattle.rpg_verify_rules.specs.LineRules.{is_spaced_on}
-use Rattle.rpg_verify_rules.specs.PlaceRules.{are_asked, are_marked, columns, ends_in_return}
+use Rattle.rpg_verify_rules.specs.PlaceRules.{are_asked, are_marked, ends_in_return}
 use Rattle.rpg_verify_rules.specs.TypeRules.{all_measured, is_code_in, is_control_in, is_input_shown, measures}
 
 -- an instruction stands at a place of a section

@@ -1,41 +1,15 @@
 //! Edit words, which are the first values of text constants.
 
-ghost use Rattle.std.specs.Prelude.{◌≡◌, true, ◌&&◌, map, is_some, slice_get, IfSome};
+ghost use Rattle.std.specs.Prelude.{◌≡◌, ◌&&◌, is_some, IfSome};
 ghost use Rattle.rpg_effect.specs.Forms as forms;
 ghost use Rattle.rpg_effect.specs.LineFaults.{fits_word};
-ghost use Rattle.rpg_effect.specs.Values.{characters_of, held};
 ghost use Rattle.rpg_object_program.specs.Constants as constants;
 ghost use Rattle.rpg_object_program.specs.Object.{seen};
 
 use rpg_edit_widths::EditWord;
-use rpg_effect::value::Value;
 use rpg_object_program::forms::{form_at, is_text_constant};
 use rpg_object_program::row::Rows;
-
-/// The characters of the first of these values.
-fn first_text(values: &[Value]) -> &[u8]
-    ensures { result.now ≡ characters_of (slice_get (map held values.now) 0) }
-{
-    match values.first() {
-        Some(Value::Text(text)) => text,
-        Some(Value::Number(_)) => &[],
-        None => &[],
-    }
-}
-
-/// The characters of a field that is a text constant.
-fn word_at(rows: &Rows, field: u16) -> &[u8]
-    requires { forms.is_text_constant (forms.form_at rows.now.fields.items field) ≡ true }
-    ensures { result.now ≡ constants.word_at (seen rows.now) field }
-{
-    if field == 0 {
-        return &[];
-    }
-    match rows.values.get(usize::from(field) - 1) {
-        None => &[],
-        Some(values) => first_text(values),
-    }
-}
+use rpg_object_program::words::word_at;
 
 /// The word, where it has 1 to 24 characters and fits a number of so many digits.
 fn fitting(word: &[u8], digits: u8) -> Option<EditWord>

@@ -1,8 +1,8 @@
 use Rattle.std.proofs.Common.{◌≡◌, ◌+◌, ◌-◌, ◌≤◌, true, length, take, if◌then◌else◌}
 use Rattle.std.specs.List.{list_all}
+use Rattle.rpg_text.specs.Texts.{is_character}
 use Rattle.rpg_files.specs.Counting.{device_of, faults_of}
 use Rattle.rpg_files.specs.Reads.{Reads}
-use Rattle.rpg_files.specs.Records.{is_character}
 use Rattle.rpg_files.specs.Buffers.{capacity_of, left_in}
 use Rattle.rpg_files.proofs.input.read_line.Given as goal
 

@@ -1,8 +1,8 @@
 use Rattle.std.proofs.Common.{◌++◌, Some, refl, ap, ◌∙◌, nat_cmp}
 use Rattle.rpg_paper.specs.Form.{Standing, here_of, way_of}
-use Rattle.rpg_paper.specs.Paper.{trimmed}
 use Rattle.rpg_effect.proofs.Printing.{form_of, from_line, print_done}
 use Rattle.rpg_effect.specs.World.{World}
+use Rattle.rpg_text.specs.Texts.{trimmed}
 use Rattle.rpg_machine_lines.specs.Outputs.{output_of}
 use Rattle.rpg_store.specs.Memory.{held_of, world_of}
 use Rattle.rpg_machine_lines.proofs.printer.print_line.Goals as goal

@@ -1,8 +1,8 @@
 use Rattle.std.proofs.Common.{◌≡◌, ◌-◌, map, slice_get, None, Some, refl, sym, ap, ◌∙◌, arith}
 use Rattle.rpg_effect.specs.Values.{characters_of, held}
 use Rattle.rpg_object_program.specs.Object.{seen}
-use Rattle.rpg_verify_rules.proofs.Values.{found_at, missing_at, word_found, word_missing}
-use Rattle.rpg_verify_rules.proofs.words.word_at.Goals as goal
+use Rattle.rpg_object_program.proofs.TextConstants.{found_at, missing_at, word_found, word_missing}
+use Rattle.rpg_object_program.proofs.words.word_at.Goals as goal
 
 pub returns-in-None : goal.returns-in-None
 returns-in-None c =
