@@ -6,11 +6,8 @@ ghost use Rattle.std.specs.Io.KnownBytes.{Appends, WriteAppends};
 ghost use Rattle.rpg_files.specs.Sending.{AppendsFirst, AppendsPrefix};
 ghost use Rattle.rpg_text.specs.Lines.{with_line_feed};
 
-use rpg_files::{DeviceFault, WriteFault};
+use rpg_files::{DeviceFault, WriteFault, most_tries};
 use std::io::{ErrorKind, Write};
-
-/// A write that is interrupted this many times running has failed.
-const TRIES: u32 = 1_000;
 
 /// Writes some bytes of `buf`, at least one where there is one: a write of 0 bytes is a fault.
 fn write_some<W: Write>(writer: &mut W, buf: &[u8]) -> Result<usize, DeviceFault>
@@ -18,7 +15,7 @@ fn write_some<W: Write>(writer: &mut W, buf: &[u8]) -> Result<usize, DeviceFault
     ensures some { IfOk result (λ n. 0 < length buf.now → 0 < n) }
     ensures bytes { WriteAppends (W.contents writer.old) (W.contents writer.new) result buf.now }
 {
-    for _ in 0..TRIES {
+    for _ in 0..most_tries() {
         match writer.write(buf) {
             Ok(0) if !buf.is_empty() => break,
             Ok(n) => return Ok(n),

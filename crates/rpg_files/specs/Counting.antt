@@ -14,3 +14,7 @@ faults_of c = c.faults
 abbrev pub faults_after : {X E : Type 0} → ℕ → Result X E → ℕ
 faults_after n (Ok x) = n
 faults_after n (Err e) = n + 1
+
+-- how often a device is asked for one read or one write: once, and again where it was interrupted, 999 times running
+abbrev pub max_tries : ℕ
+max_tries = 1000

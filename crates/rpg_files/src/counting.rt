@@ -2,12 +2,16 @@
 
 ghost use Rattle.std.specs.Prelude.{◌≡◌, ◌+◌, ◌-◌, ◌^◌, ◌<◌, ◌≤◌, length, IfOk};
 ghost use Rattle.std.specs.Io.KnownBytes.{ReadConsumes, WriteAppends};
-ghost use Rattle.rpg_files.specs.Counting.{faults_after, device_of, faults_of};
+ghost use Rattle.rpg_files.specs.Counting.{faults_after, device_of, faults_of, max_tries};
 
 use std::io::{ErrorKind, Read, Write};
 
-/// A read or a write that is interrupted this many times running has failed.
-const TRIES: u32 = 1_000;
+/// How often a device is asked for one read or one write. Where it was interrupted each time, the read or the write has failed.
+pub fn most_tries() -> u32
+    ensures { result ≡ max_tries }
+{
+    1_000
+}
 
 /// The device failed.
 #[derive(Clone, Copy)]
@@ -51,7 +55,7 @@ impl<R: Read> Counted<R> {
         ensures bytes { ReadConsumes (R.remaining (device_of self.old)) (R.remaining (device_of self.new)) result buf.new }
         ensures faults { faults_of self.new ≡ faults_after (faults_of self.old) result }
     {
-        for _ in 0..TRIES {
+        for _ in 0..most_tries() {
             match self.device.read(buf) {
                 Ok(n) => return Ok(n),
                 Err(error) => {
@@ -75,7 +79,7 @@ impl<W: Write> Counted<W> {
         ensures bytes { WriteAppends (W.contents (device_of self.old)) (W.contents (device_of self.new)) result buf.now }
         ensures faults { faults_of self.new ≡ faults_after (faults_of self.old) result }
     {
-        for _ in 0..TRIES {
+        for _ in 0..most_tries() {
             match self.device.write(buf) {
                 Ok(0) if !buf.is_empty() => break,
                 Ok(n) => return Ok(n),
