@@ -1,10 +1,9 @@
 //! The text of a record.
 ghost use Rattle.std.specs.Prelude.{◌≡◌, ◌≤◌, IfOk, length, true};
-ghost use Rattle.std.specs.List.{list_all};
-ghost use Rattle.rpg_text.specs.Texts.{is_character};
 ghost use Rattle.rpg_cycle_records.specs.Identifying as spec;
 
 use crate::program::record_length;
+use rpg_text::has_only_characters;
 use rpg_verify::Verified;
 use std::alloc::AllocError;
 
@@ -12,24 +11,7 @@ use std::alloc::AllocError;
 pub fn is_good(program: &Verified, text: &[u8]) -> bool
     ensures { result ≡ spec.is_good_record program.now text.now }
 {
-    text.len() <= record_length(program) && are_characters(text)
-}
-
-fn is_character(byte: u8) -> bool
-    ensures { result ≡ is_character byte }
-{
-    0x20 <= byte && byte <= 0x7E
-}
-
-/// Whether all are characters. No byte ends the loop early, so that many are tested at once.
-fn are_characters(text: &[u8]) -> bool
-    ensures { result ≡ list_all is_character text.now }
-{
-    let mut are_all = true;
-    for byte in text {
-        are_all = is_character(*byte) & are_all;
-    }
-    are_all
+    text.len() <= record_length(program) && has_only_characters(text)
 }
 
 /// The record, filled with blanks to the length of the program's records, in the place of another. It takes memory only where the

@@ -93,6 +93,12 @@ joined xs a n first behind =
     let all_behind : list_all is_character (take n (drop a xs)) ≡ true = rw (take_rest xs a) at behind in
     rw (take-add a n xs, list_all-append is_character (take a xs) (take n (drop a xs))) (and_from _ _ first all_behind)
 
+-- the same of a slice behind them
+pub joined_slice : (xs : List ℕ) (a n : ℕ) → list_all is_character (take a xs) ≡ true → list_all is_character (take (a + n - a) (drop a xs)) ≡ true → list_all is_character (take (a + n) xs) ≡ true
+joined_slice xs a n first behind =
+    let count : a + n - a ≡ n = omega arith in
+    rw (take-add a n xs, list_all-append is_character (take a xs) (take n (drop a xs))) (and_from _ _ first (ap (λ k. list_all is_character (take k (drop a xs))) (sym count) ∙ behind))
+
 -- ---- at the end of the input
 
 pub whole_at_end : (limit : ℕ) (xs : List ℕ) (n : ℕ) → IsIncomplete limit xs n → n ≡ length xs → 0 < length xs → IsNextRecord limit xs true (length xs) (length xs)

@@ -5,6 +5,8 @@ ghost use Rattle.std.specs.List.{list_all};
 ghost use Rattle.rpg_text.specs.Texts.{is_character};
 ghost use Rattle.rpg_files.specs.FirstLine.{IsFirstLine};
 
+use rpg_text::{has_only_characters, is_character};
+
 /// What stands at the front of some bytes.
 #[derive(Clone, Copy)]
 pub(crate) enum FirstLine {
@@ -17,24 +19,29 @@ pub(crate) enum FirstLine {
     Incomplete { scanned: usize },
 }
 
-fn is_character(b: u8) -> bool
-    ensures { result ≡ is_character b }
-{
-    0x20 <= b && b <= 0x7E
-}
-
 /// How many bytes are characters before the first that is none.
 fn characters(bytes: &[u8]) -> usize
     ensures within { result ≤ length bytes.now }
     ensures all { list_all is_character (take result bytes.now) ≡ true }
     ensures other { result < length bytes.now → is_character (slice_index bytes.now result) ≡ false }
 {
-    for (i, b) in bytes.iter().enumerate() {
-        if !is_character(*b) {
-            return i;
-        }
+    let mut at = characters_by_sixteen(bytes);
+    while at < bytes.len() && is_character(bytes[at]) {
+        at += 1;
     }
-    bytes.len()
+    at
+}
+
+/// As many characters as stand before the first sixteen bytes that aren't all characters.
+fn characters_by_sixteen(bytes: &[u8]) -> usize
+    ensures within { result ≤ length bytes.now }
+    ensures all { list_all is_character (take result bytes.now) ≡ true }
+{
+    let mut at = 0;
+    while bytes.len() - at >= 16 && has_only_characters(&bytes[at..at + 16]) {
+        at += 16;
+    }
+    at
 }
 
 /// What the byte that is no character makes of the characters before it.

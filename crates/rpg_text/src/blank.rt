@@ -1,7 +1,10 @@
 //! Blanks.
 
-ghost use Rattle.std.specs.Prelude.{◌≡◌};
-ghost use Rattle.rpg_text.specs.Texts.{all_blank, trimmed};
+ghost use Rattle.std.specs.Prelude.{◌≡◌, ◌+◌, ◌-◌, ◌≤◌, length, take};
+ghost use Rattle.std.specs.List.{suffix_len};
+ghost use Rattle.rpg_text.specs.Texts.{all_blank, is_blank, trimmed};
+
+const EIGHT_BLANKS: &[u8] = b"        ";
 
 /// Whether a text has nothing but blanks.
 pub fn is_blank(text: &[u8]) -> bool
@@ -14,9 +17,21 @@ pub fn is_blank(text: &[u8]) -> bool
 pub fn trimmed(text: &[u8]) -> &[u8]
     ensures { result.now ≡ trimmed text.now }
 {
-    let mut end = text.len();
+    let mut end = end_by_eight(text);
     while end > 0 && text[end - 1] == b' ' {
         end -= 1;
     }
     &text[..end]
+}
+
+/// Where what is left ends once blanks are cut off eight by eight.
+fn end_by_eight(text: &[u8]) -> usize
+    ensures within { result ≤ length text.now }
+    ensures behind { suffix_len is_blank text.now ≡ length text.now - result + suffix_len is_blank (take result text.now) }
+{
+    let mut end = text.len();
+    while end >= 8 && &text[end - 8..end] == EIGHT_BLANKS {
+        end -= 8;
+    }
+    end
 }

@@ -4,9 +4,22 @@ ghost use Rattle.std.specs.Prelude.{◌≡◌};
 ghost use Rattle.std.specs.List.{list_all};
 ghost use Rattle.rpg_text.specs.Texts.{is_character};
 
-/// Whether each byte of a text is a character.
+/// Whether a byte is a character: 0x20 to 0x7E.
+#[inline(always)]
+pub fn is_character(byte: u8) -> bool
+    ensures { result ≡ is_character byte }
+{
+    b' ' <= byte && byte <= b'~'
+}
+
+/// Whether each byte of a text is a character. No byte ends the loop early, so that many are tested at once.
+#[inline(always)]
 pub fn has_only_characters(text: &[u8]) -> bool
     ensures { result ≡ list_all is_character text.now }
 {
-    text.iter().all(|c| (b' '..=b'~').contains(c))
+    let mut are_all = true;
+    for byte in text {
+        are_all = is_character(*byte) & are_all;
+    }
+    are_all
 }
