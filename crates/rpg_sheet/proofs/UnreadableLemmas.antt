@@ -63,8 +63,10 @@ few_if_good earlier line h = by (nat_le 2000 (length earlier)) refl
 
 pub first_is : (earlier more : List (List ℕ)) → length earlier ≤ 2000 → fault_behind earlier more ≡ option_map refusal_of (slice_get (unreadable_behind earlier more) 0)
 first_is earlier [] few = refl
-first_is earlier (line ∷ more) few = rw (few_lines (length earlier) few) (by (line_code earlier line) refl)
+first_is earlier (line ∷ more) few = rw (few_lines (length earlier) few) (by (line_code earlier line) refl (λ fewer. first_is (earlier ++ line ∷ []) more fewer))
   where
-    by : (code : Option SheetCode) → line_code earlier line ≡ code → fault_behind earlier (line ∷ more) ≡ option_map refusal_of (slice_get (unreadable_at earlier line ++ unreadable_behind (earlier ++ line ∷ []) more) 0)
-    by (Some code) e = rw e refl
-    by None e = rw e (first_is (earlier ++ line ∷ []) more (let f = few_if_good earlier line e in omega (arith, length-append earlier (line ∷ []))))
+    by : (code : Option SheetCode) → line_code earlier line ≡ code
+        → (length (earlier ++ line ∷ []) ≤ 2000 → fault_behind (earlier ++ line ∷ []) more ≡ option_map refusal_of (slice_get (unreadable_behind (earlier ++ line ∷ []) more) 0))
+        → fault_behind earlier (line ∷ more) ≡ option_map refusal_of (slice_get (unreadable_at earlier line ++ unreadable_behind (earlier ++ line ∷ []) more) 0)
+    by (Some code) e later = rw e refl
+    by None e later = rw e (later (let f = few_if_good earlier line e in omega (arith, length-append earlier (line ∷ []))))
