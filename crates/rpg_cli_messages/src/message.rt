@@ -47,8 +47,8 @@ fn columns_of(line: &[u8], fault: CardFault) -> Option<ColumnFault> {
             .and_then(|place| u8::try_from(place).ok())
             .map(|place| column(place.saturating_add(1))),
         SourceCode::Sheet(SheetCode::S3 | SheetCode::S4) => Some(column(6)),
-        SourceCode::Sheet(SheetCode::S5) => fault.columns,
-        SourceCode::Sheet(SheetCode::S6) | SourceCode::Fault(_) => None,
+        SourceCode::Sheet(SheetCode::S5) | SourceCode::Fault(_) => fault.columns,
+        SourceCode::Sheet(SheetCode::S6) => None,
     }
 }
 
@@ -202,21 +202,29 @@ fn put_count(
     faults: &[CardFault],
 ) -> Result<(), AllocError> {
     let count = faults.len();
-    put_shown(out, path.as_bytes())?;
-    let unread = faults
+    let are_unread = faults
         .iter()
         .any(|fault| matches!(fault.code, SourceCode::Sheet(_)));
-    if unread {
-        return out.push_str(": this card can't be read; other faults are told once it can\n");
-    }
-    let words = if count == 1 {
-        format!(in alloc; ": 1 fault")?
-    } else {
-        format!(in alloc; ": {count} faults")?
+    put_shown(out, path.as_bytes())?;
+    let words = match (are_unread, count) {
+        (true, 1) => format!(in alloc; ": this card can't be read")?,
+        (true, _) => format!(in alloc; ": {count} cards can't be read")?,
+        (false, 1) => format!(in alloc; ": 1 fault")?,
+        (false, _) => format!(in alloc; ": {count} faults")?,
     };
     out.push_str(words.as_str())?;
     if count > MOST_TOLD {
         out.push_str(format!(in alloc; ", of which {MOST_TOLD} are told")?.as_str())?;
     }
+    out.push_str(untold(are_unread, count))?;
     out.push('\n')
+}
+
+/// Other faults hang on what the cards mean.
+fn untold(are_unread: bool, count: usize) -> &'static str {
+    match (are_unread, count) {
+        (true, 1) => "; other faults are told once it can",
+        (true, _) => "; other faults are told once they can",
+        (false, _) => "",
+    }
 }

@@ -5,3 +5,4 @@ pub mod LeastLemmas
 pub mod LevelLemmas
 pub mod Numbering
 pub mod TypeLemmas
+mod ToldLemmas

@@ -7,9 +7,11 @@ pub mod Every
 pub mod EverySource
 pub mod Faults
 pub mod Lengths
+pub mod Marks
 pub mod Places
 pub mod Rules
 pub mod Seen
 pub mod Source
 pub mod SourceCodes
 pub mod State
+pub mod Told

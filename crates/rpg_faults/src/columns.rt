@@ -41,7 +41,11 @@ pub fn misplaces(
 }
 
 /// The record length of the file of an I card: that of the open type, or the one that a type card names.
-fn own_length(source: &IndexedCards, file: Option<GroupFile>, input: &InputSpec) -> Option<u16>
+pub(crate) fn own_length(
+    source: &IndexedCards,
+    file: Option<GroupFile>,
+    input: &InputSpec,
+) -> Option<u16>
     ensures { (before : List SpecCard) → file ≡ option_map group_file (file_by (open_file input_role before) source.now) → result ≡ option_map (λ f. f.record_length) (file_by (rules.own_file before input.now) source.now) }
 {
     match input {
@@ -77,7 +81,7 @@ fn bad_codes(length: Option<u16>, codes: &Three<Option<RecordCode>>) -> bool
         || is_outside(length, codes.third)
 }
 
-fn is_outside(length: Option<u16>, code: Option<RecordCode>) -> bool
+pub(crate) fn is_outside(length: Option<u16>, code: Option<RecordCode>) -> bool
     ensures { (file : Option FileSpec) → length ≡ option_map (λ f. f.record_length) file → result ≡ rules.is_code_outside file code }
 {
     match code {
@@ -86,7 +90,7 @@ fn is_outside(length: Option<u16>, code: Option<RecordCode>) -> bool
     }
 }
 
-fn outside_record(length: Option<u16>, field: &InputField) -> bool
+pub(crate) fn outside_record(length: Option<u16>, field: &InputField) -> bool
     ensures { (file : Option FileSpec) → length ≡ option_map (λ f. f.record_length) file → result ≡ rules.outside_record file field.now }
 {
     field.from == 0 || field.to == 0 || field.to < field.from || is_past(length, field.to)

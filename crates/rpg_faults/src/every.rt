@@ -2,26 +2,27 @@
 
 ghost use Rattle.std.specs.Prelude.{◌≡◌, [], ◌++◌, ◌∷◌, ◌≤◌, length, IfOk, OnOk};
 ghost use Rattle.rpg_cards.specs.Cards.{Numbered};
-ghost use Rattle.rpg_faults.specs.Every as every;
 ghost use Rattle.rpg_faults.specs.Seen.{AreCardsSeen};
+ghost use Rattle.rpg_faults.specs.Told as told;
 
 use crate::Places;
 use crate::breach::breaks;
 use crate::code::FaultCode;
-use crate::fault::Fault;
 use crate::least::codes;
+use crate::marks::fault_columns;
 use crate::seen::Seen;
+use crate::source_fault::{CardFault, SourceCode};
 use rpg_cards::{IndexedCards, SpecCard};
 use rpg_faults_flow::Labels;
 use rpg_faults_limits::lacks_input;
 use std::alloc::{AllocError, Global};
 
-/// All faults by card, then by code, found in one pass over the cards. There are none exactly where `first_fault` finds none. An error is for want of
-/// memory.
-pub fn all_faults(alloc: Global, cards: &[SpecCard]) -> Result<Vec<Fault>, AllocError>
+/// All faults by card, then by code, each with the columns that it speaks of, found in one pass over the cards. There are none exactly where
+/// `first_fault` finds none. An error is for want of memory.
+pub fn all_faults(alloc: Global, cards: &[SpecCard]) -> Result<Vec<CardFault>, AllocError>
     requires numbered { Numbered 1 cards.now }
     requires few { length cards.now ≤ 2000 }
-    ensures { IfOk result (λ faults. every.AreAllFaults cards.now faults.items) }
+    ensures { IfOk result (λ faults. told.AreFaultsOf cards.now faults.items) }
 {
     let source = IndexedCards::new(alloc, cards)?;
     let labels = Labels::new(alloc, cards)?;
@@ -32,13 +33,14 @@ pub fn all_faults(alloc: Global, cards: &[SpecCard]) -> Result<Vec<Fault>, Alloc
 }
 
 /// Appends what the source as a whole breaks.
-fn put_fault_of_whole(faults: &mut Vec<Fault>, source: &IndexedCards) -> Result<(), AllocError>
-    ensures { OnOk result (faults.new.items ≡ faults.old.items ++ every.faults_of_whole source.now) }
+fn put_fault_of_whole(faults: &mut Vec<CardFault>, source: &IndexedCards) -> Result<(), AllocError>
+    ensures { OnOk result (faults.new.items ≡ faults.old.items ++ told.told_of_whole source.now) }
 {
     if lacks_input(source) {
-        faults.push(Fault {
+        faults.push(CardFault {
             card: 0,
-            code: FaultCode::F7,
+            code: SourceCode::Fault(FaultCode::F7),
+            columns: None,
         })?;
     }
     Ok(())
@@ -46,13 +48,13 @@ fn put_fault_of_whole(faults: &mut Vec<Fault>, source: &IndexedCards) -> Result<
 
 /// Appends what the cards break, card by card.
 fn put_faults(
-    faults: &mut Vec<Fault>,
+    faults: &mut Vec<CardFault>,
     source: &IndexedCards,
     labels: &Labels,
 ) -> Result<(), AllocError>
     requires labels { labels.now ≡ source.now }
     requires few { length source.now ≤ 2000 }
-    ensures { OnOk result (faults.new.items ≡ faults.old.items ++ every.faults_from [] source.now) }
+    ensures { OnOk result (faults.new.items ≡ faults.old.items ++ told.told_from [] source.now) }
 {
     let places = Places::nothing(source);
     let mut seen = Seen::nothing(source, places);
@@ -67,7 +69,7 @@ fn put_faults(
 
 /// Appends what a card breaks, code by code.
 fn put_faults_on(
-    faults: &mut Vec<Fault>,
+    faults: &mut Vec<CardFault>,
     source: &IndexedCards,
     labels: &Labels,
     seen: &Seen,
@@ -76,13 +78,14 @@ fn put_faults_on(
 ) -> Result<(), AllocError>
     requires labels { labels.now ≡ source.now }
     requires seen { AreCardsSeen source.now (card.now ∷ after.now) seen.now }
-    ensures { OnOk result (faults.new.items ≡ faults.old.items ++ every.faults_on seen.now.before.now card.now after.now) }
+    ensures { OnOk result (faults.new.items ≡ faults.old.items ++ told.told_on seen.now.before.now card.now after.now) }
 {
     for code in codes() {
         if breaks(code, source, labels, seen, card, after) {
-            faults.push(Fault {
+            faults.push(CardFault {
                 card: card.number,
-                code,
+                code: SourceCode::Fault(code),
+                columns: fault_columns(code, source, labels, seen, card, after),
             })?;
         }
     }

@@ -15,6 +15,7 @@ mod every_source;
 mod fault;
 mod least;
 mod lengths;
+mod marks;
 mod seen;
 mod source;
 mod source_fault;

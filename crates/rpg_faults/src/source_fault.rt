@@ -46,7 +46,7 @@ pub struct CardFault {
     /// Cards are numbered from 1. Card 0 is the source as a whole.
     pub card: u16,
     pub code: SourceCode,
-    /// The columns of the least bad value, with S5 alone.
+    /// The columns that the code speaks of. None where the card as a whole is meant, and with the codes of sheets but for S5.
     pub columns: Option<ColumnFault>,
 }
 

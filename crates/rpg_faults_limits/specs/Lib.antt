@@ -1,6 +1,7 @@
 pub mod Files
 pub mod Indicators
 pub mod Limits
+pub mod Marks
 pub mod Names
 pub mod Order
 pub mod State

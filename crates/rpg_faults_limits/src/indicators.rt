@@ -82,7 +82,7 @@ fn cannot_be_set(shown: Three<Option<Indicator>>) -> bool
     is_never_set(shown.first) || is_never_set(shown.second) || is_never_set(shown.third)
 }
 
-fn is_never_set(indicator: Option<Indicator>) -> bool
+pub(crate) fn is_never_set(indicator: Option<Indicator>) -> bool
     ensures { result ≡ option_map_or indicators.cannot_be_set indicator false }
 {
     match indicator {
@@ -92,7 +92,7 @@ fn is_never_set(indicator: Option<Indicator>) -> bool
 }
 
 /// Calculations ask for all but 1P and MR.
-fn is_bad_in_calculation(source: &IndexedCards, condition: Option<Condition>) -> bool
+pub(crate) fn is_bad_in_calculation(source: &IndexedCards, condition: Option<Condition>) -> bool
     ensures { result ≡ option_map_or (indicators.bad_in_calculation source.now) condition false }
 {
     match condition {
@@ -104,7 +104,7 @@ fn is_bad_in_calculation(source: &IndexedCards, condition: Option<Condition>) ->
 }
 
 /// Output asks for all but MR.
-fn is_bad_in_output(source: &IndexedCards, condition: Option<Condition>) -> bool
+pub(crate) fn is_bad_in_output(source: &IndexedCards, condition: Option<Condition>) -> bool
     ensures { result ≡ option_map_or (indicators.bad_in_output source.now) condition false }
 {
     match condition {

@@ -4,9 +4,11 @@
 mod calculations;
 mod files;
 mod filled;
+mod indicator_marks;
 mod indicators;
 mod limits;
 mod lines;
+mod marks;
 mod names;
 mod order;
 mod state;
@@ -15,8 +17,12 @@ mod totals;
 mod types;
 
 pub use files::{breaks_files, lacks_input, moves_disk};
+pub use indicator_marks::indicator_columns;
 pub use indicators::bad_indicator;
 pub use limits::passes_limit;
+pub use marks::{
+    file_columns, limit_columns, movement_columns, redefined_columns, size_columns, stray_columns,
+};
 pub use names::{bad_size, redefines};
 pub use order::strays;
 pub use state::Limits;

@@ -149,7 +149,7 @@ fn passes_storage(
         )
 }
 
-fn has_bad_entries(card: &SpecCard) -> bool
+pub(crate) fn has_bad_entries(card: &SpecCard) -> bool
     ensures { result ≡ rules.bad_entries card.now }
 {
     match card.extension() {

@@ -45,7 +45,7 @@ fn are_other(source: &IndexedCards, place: usize, items: &[Definition]) -> bool
     false
 }
 
-fn is_other(source: &IndexedCards, place: usize, definition: &Definition) -> bool
+pub(crate) fn is_other(source: &IndexedCards, place: usize, definition: &Definition) -> bool
     ensures { result ≡ names.redefines_as (take place (definitions source.now)) definition.now }
 {
     let Some(form) = definition.form else {
@@ -84,7 +84,7 @@ fn is_bad_extension(extension: &ExtensionSpec) -> bool
         }
 }
 
-fn is_bad_table(table: &TableSpec) -> bool
+pub(crate) fn is_bad_table(table: &TableSpec) -> bool
     ensures { result ≡ names.bad_size_of_table table.now }
 {
     sized_form(table.length, table.decimals).is_none()

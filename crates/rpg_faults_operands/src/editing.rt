@@ -105,7 +105,7 @@ fn fitting_how(form: FieldForm, field: &OutputField) -> Option<How>
 }
 
 /// Of a field without a form only the fill is known.
-fn lacks_fill(field: &OutputField) -> bool
+pub(crate) fn lacks_fill(field: &OutputField) -> bool
     ensures { result ≡ editing.unedited None field.now }
 {
     let Some(code) = field.code else {

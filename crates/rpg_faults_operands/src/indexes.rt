@@ -23,7 +23,7 @@ pub fn bad_index(source: &IndexedCards, card: &SpecCard, after: &[SpecCard]) -> 
         || is_badly_indexed(source, &output_operand(card))
 }
 
-fn is_badly_indexed(source: &IndexedCards, operand: &Option<Operand>) -> bool
+pub(crate) fn is_badly_indexed(source: &IndexedCards, operand: &Option<Operand>) -> bool
     ensures { result ≡ option_map_or (indexes.bad_index_of source.now) operand.now false }
 {
     let Some(operand) = operand else {

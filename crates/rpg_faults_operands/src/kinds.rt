@@ -73,7 +73,7 @@ fn are_wrong(
         || is_wrong_result(result_content, factor_2, result_field)
 }
 
-fn has_wrong_class(content: Option<Content>, form: Option<FieldForm>) -> bool
+pub(crate) fn has_wrong_class(content: Option<Content>, form: Option<FieldForm>) -> bool
     ensures { result ≡ words.has_wrong_class content form }
 {
     let Some(content) = content else {
@@ -96,7 +96,7 @@ fn is_wrong_class(content: Content, form: FieldForm) -> bool
     }
 }
 
-fn are_wrong_kinds(
+pub(crate) fn are_wrong_kinds(
     kinds: Kinds,
     factor_1: Option<FieldForm>,
     factor_2: Option<FieldForm>,

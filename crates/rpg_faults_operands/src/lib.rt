@@ -6,6 +6,7 @@ mod editing;
 mod forms;
 mod indexes;
 mod kinds;
+mod marks;
 mod names;
 mod operands;
 
@@ -13,4 +14,5 @@ pub use columns::bad_columns;
 pub use editing::{bad_editing, width};
 pub use indexes::bad_index;
 pub use kinds::wrong_operand;
+pub use marks::{editing_columns, missing_columns, unknown_name, wrong_columns, wrong_index};
 pub use names::lacks_name;

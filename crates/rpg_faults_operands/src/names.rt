@@ -21,7 +21,7 @@ pub fn lacks_name(source: &IndexedCards, card: &SpecCard, after: &[SpecCard]) ->
         || names_nothing(source, &output_operand(card))
 }
 
-fn names_nothing(source: &IndexedCards, operand: &Option<Operand>) -> bool
+pub(crate) fn names_nothing(source: &IndexedCards, operand: &Option<Operand>) -> bool
     ensures { result ≡ option_map_or (names.names_nothing source.now) operand.now false }
 {
     let Some(operand) = operand else {

@@ -2,3 +2,4 @@ mod CardLaws
 mod Laws
 mod Padding
 mod SheetLemmas
+pub mod UnreadableLemmas

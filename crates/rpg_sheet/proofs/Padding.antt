@@ -2,7 +2,7 @@
 use Rattle.std.proofs.Common.{◌≡◌, ℕ, zero, suc, ◌-◌, ◌≤◌, ◌++◌, true, List, length, take, refl, arith, length-append}
 use Rattle.std.specs.Prelude.{IsTrue, replicate}
 use Rattle.std.specs.List.{list_all}
-use Rattle.std.proofs.lemmas.List.{length-replicate, take_all}
+use Rattle.std.proofs.lemmas.List.{length-replicate, length-take-le, take-take, take_all}
 use Rattle.std.proofs.lemmas.List.Folds.{list_all-append}
 use Rattle.rpg_text.specs.Texts.{is_character}
 
@@ -20,3 +20,11 @@ length-padded line n short least most = omega (arith, length-append line (replic
 
 pub padded_characters : (line : List ℕ) (n : ℕ) → IsTrue (list_all is_character line) → IsTrue (list_all is_character (line ++ replicate n 32))
 padded_characters line n h = rw (list_all-append is_character line (replicate n 32), h, blank_characters n) refl
+
+-- of a line that is longer only its columns count
+pub shortened : (n : ℕ) (line : List ℕ) → n ≤ length line → take n (take n line) ++ replicate (n - length (take n line)) 32 ≡ take n line ++ replicate (n - length line) 32
+shortened n line long =
+    let same : length (take n line) ≡ n = length-take-le n line long in
+    let none : n - length (take n line) ≡ 0 = omega arith in
+    let none_either : n - length line ≡ 0 = omega arith in
+    rw (none, none_either, take-take n n line (omega arith)) refl

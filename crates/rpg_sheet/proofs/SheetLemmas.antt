@@ -18,7 +18,7 @@ use Rattle.rpg_sheet.specs.Sheet.{comes_after, is_data_behind, line_code, fault_
 use Rattle.rpg_sheet.specs.Seen.{AreLinesSeen, form_code, sheet_code, code_seen}
 
 -- which of six tests is the first that passes
-abbrev first_code : Bool → Bool → Bool → Bool → Bool → Bool → Option SheetCode
+abbrev pub first_code : Bool → Bool → Bool → Bool → Bool → Bool → Option SheetCode
 first_code a b c d e f = if a then Some S1 else if b then Some S2 else if c then Some S3 else if d then Some S4 else if e then Some S5 else if f then Some S6 else None
 
 abbrev judged : (FormType → Bool) → (FormType → Bool) → Option FormType → Option SheetCode

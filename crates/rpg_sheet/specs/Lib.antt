@@ -2,6 +2,7 @@ pub mod Codes
 pub mod Readable
 pub mod Seen
 pub mod Sheet
+pub mod Unreadable
 pub use Rattle.rpg_sheet.specs.Readable
 pub use Rattle.rpg_sheet_specs.specs.Cards
 pub use Rattle.rpg_sheet_specs.specs.Columns

@@ -5,6 +5,7 @@ ghost use Rattle.std.specs.List.{list_all};
 ghost use Rattle.rpg_sheet_specs.specs.Columns.{cols, is_filled, fault_if_some};
 ghost use Rattle.rpg_text.specs.Texts.{is_character};
 
+use crate::line::padded;
 use arrayvec::ArrayVec;
 use rpg_sheet_specs::ColumnFault;
 use std::marker::Model;
@@ -34,14 +35,9 @@ impl Card {
         requires characters { IsTrue (list_all is_character line.now) }
         ensures { result ≡ take 80 line.now ++ replicate (80 - length line.now) 32 }
     {
-        let mut characters = ArrayVec::new();
-        for c in line {
-            characters.push(*c);
+        Card {
+            characters: padded(line),
         }
-        for _ in line.len()..80 {
-            characters.push(b' ');
-        }
-        Card { characters }
     }
 
     pub fn as_slice(&self) -> &[u8]

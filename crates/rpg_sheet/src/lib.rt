@@ -7,21 +7,26 @@ mod card;
 mod columns;
 mod extension;
 mod file;
+mod first;
 mod form;
 mod header;
 mod input;
+mod line;
 mod output;
 mod sheet;
 mod source;
 mod spec;
+mod unreadable;
 
 pub use card::Card;
+pub use first::refusal_tells_the_first;
 pub use rpg_sheet_specs::{
-    CalculationSpec, ColumnFault, Condition, ControlLevel, DataCard, DataSpec, Device, EditCode,
-    Entry, EntryIndex, ExtensionSpec, Factor, FileRole, FileSpec, FormType, HeaderSpec, Indicator,
-    InputField, InputSpec, LineTime, Literal, Movement, NumericLiteral, Operation, OutputField,
-    OutputRecord, OutputSpec, RecordCode, RecordType, Spec, TableSpec, TextLiteral, Three, Within,
-    Word,
+    CalculationSpec, ColumnFault, Condition, ControlLevel, DataCard, DataSpec, Device,
+    EditCode, Entry, EntryIndex, ExtensionSpec, Factor, FileRole, FileSpec, FormType, HeaderSpec,
+    Indicator, InputField, InputSpec, LineTime, Literal, Movement, NumericLiteral, Operation,
+    OutputField, OutputRecord, OutputSpec, RecordCode, RecordType, Spec, TableSpec, TextLiteral,
+    Three, Within, Word,
 };
 pub use sheet::{Cards, SheetCode, SheetFault};
 pub use source::cards;
+pub use unreadable::{UnreadableCard, unreadable_cards};

@@ -1,12 +1,13 @@
 //! From the bytes of a source to what its cards stand for.
 
-ghost use Rattle.std.specs.Prelude.{◌≡◌, ℕ, ◌<◌, ◌||◌, None, Some, map, nat_lt, OnOk, IfOk, IfErr};
+ghost use Rattle.std.specs.Prelude.{◌≡◌, ℕ, ◌<◌, ◌||◌, length, None, Some, map, nat_lt, OnOk, IfOk, IfErr};
 ghost use Rattle.rpg_sheet.specs.Seen as seen;
 ghost use Rattle.rpg_sheet.specs.Sheet as sheets;
 ghost use Rattle.rpg_sheet_specs.specs.Cards.{card_of};
 ghost use Rattle.rpg_sheet_specs.specs.Specs.{spec_of, specs_of};
 
 use crate::Card;
+use crate::form::sheet;
 use crate::sheet::{CardFault, Cards, SheetCode, SheetFault, place, read};
 use rpg_sheet_specs::Spec;
 use rpg_text::{first_line, has_only_characters};
@@ -16,7 +17,7 @@ use std::alloc::Global;
 const COLUMNS: usize = 80;
 
 /// How many cards a source has at most.
-const CARDS: usize = 2000;
+pub(crate) const CARDS: usize = 2000;
 
 /// What the cards of a source stand for, or the first card that has a fault, with its least code. Behind the card `/*` nothing is read.
 /// `NoMemory` is answered where a growth was refused, in place of any fault behind it.
@@ -54,7 +55,7 @@ pub fn cards(alloc: Global, text: &[u8]) -> Result<Cards, SheetFault>
 }
 
 /// The card of a line that comes behind `count` others and what it stands for, or what is wrong with it.
-fn checked(
+pub(crate) fn checked(
     count: usize,
     latest: u8,
     behind: bool,
@@ -84,7 +85,15 @@ fn checked(
 fn latest_after(latest: u8, card: &Card) -> u8
     ensures { (n : ℕ) → nat_lt n result ≡ (nat_lt n latest || sheets.comes_after n card.now) }
 {
-    match card.sheet(false) {
+    latest_with(latest, card.as_slice())
+}
+
+/// The place of the latest sheet, with these 80 columns of any bytes.
+pub(crate) fn latest_with(latest: u8, card: &[u8]) -> u8
+    requires { length card.now ≡ 80 }
+    ensures { (n : ℕ) → nat_lt n result ≡ (nat_lt n latest || sheets.comes_after n card.now) }
+{
+    match sheet(card, false) {
         Some(sheet) => latest.max(place(sheet)),
         None => latest,
     }

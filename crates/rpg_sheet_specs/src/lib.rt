@@ -3,6 +3,7 @@
 
 mod calculation;
 mod column;
+mod column_range;
 mod data;
 mod entry;
 mod extension;
@@ -19,6 +20,7 @@ mod word;
 
 pub use calculation::{CalculationSpec, ControlLevel, Operation};
 pub use column::ColumnFault;
+pub use column_range::ColumnRange;
 pub use data::{DataCard, DataSpec};
 pub use entry::{Entry, EntryIndex};
 pub use extension::{ExtensionSpec, TableSpec};

@@ -1,11 +1,10 @@
 use Rattle.std.proofs.Common.{◌≡◌, ◌++◌, drop, map}
 use Rattle.std.specs.Prelude.{filter}
-use Rattle.rpg_faults.specs.Every.{faults_on}
-use Rattle.rpg_faults.specs.Faults.{fault_on}
 use Rattle.rpg_faults.specs.Rules.{rule}
+use Rattle.rpg_faults.specs.Told.{told_by, told_on}
 use Rattle.rpg_faults.proofs.every.put_faults_on.Given as goal
 
 abbrev pub invariant-loop-code : goal.invariant-loop-code
 invariant-loop-code l =
-    l.faults.items ++ map (fault_on l.card) (filter (λ code. rule code l.seen.before.now l.card l.after) (drop l.code-index l.code-items))
-    ≡ l.initial.faults.items ++ faults_on l.seen.before.now l.card l.after
+    l.faults.items ++ map (told_by l.seen.before.now l.card l.after) (filter (λ code. rule code l.seen.before.now l.card l.after) (drop l.code-index l.code-items))
+    ≡ l.initial.faults.items ++ told_on l.seen.before.now l.card l.after

@@ -1,0 +1,47 @@
+-- Faults of cards as they are told of a source, with the columns that they speak of.
+use Rattle.std.specs.Prelude.{◌≡◌, ◌==◌, List, [], ◌∷◌, ◌++◌, Option, None, map, filter, if◌then◌else◌}
+use Rattle.rpg_cards.specs.declared.spec_card.SpecCard.{SpecCard}
+use Rattle.rpg_faults.specs.Every.{AreAllFaults}
+use Rattle.rpg_faults.specs.Faults.{codes}
+use Rattle.rpg_faults.specs.Marks.{fault_columns}
+use Rattle.rpg_faults.specs.Rules.{rule}
+use Rattle.rpg_faults.specs.declared.code.FaultCode.{FaultCode}
+use Rattle.rpg_faults.specs.declared.code.FaultCode.TheVariants.{F7}
+use Rattle.rpg_faults.specs.declared.fault.Fault.{Fault}
+use Rattle.rpg_faults.specs.declared.source_fault.CardFault.{CardFault}
+use Rattle.rpg_faults.specs.declared.source_fault.SourceCode.TheVariants as source_codes
+use Rattle.rpg_faults_limits.specs.Files.{lacks_input}
+use Rattle.rpg_sheet_specs.specs.declared.column.ColumnFault.{ColumnFault}
+
+-- what a fault's code speaks of on the card with its number
+abbrev pub columns_in : List SpecCard → List SpecCard → Fault → Option ColumnFault
+columns_in before [] f = None
+columns_in before (c ∷ after) f = if c.number == f.card then fault_columns f.code before c after else columns_in (before ++ c ∷ []) after f
+
+abbrev pub told_of : List SpecCard → Fault → CardFault
+told_of cards f = record { card = f.card; code = source_codes.Fault f.code; columns = columns_in [] cards f }
+
+-- just the faults of these cards, each once, in the order of cards and codes
+abbrev pub AreFaultsOf : List SpecCard → List CardFault → Type 0
+AreFaultsOf cards told = (faults : List Fault) × AreAllFaults cards faults × (told ≡ map (told_of cards) faults)
+
+-- ---- how they are found: what the source as a whole breaks, then card by card, code by code
+
+abbrev pub told_by : List SpecCard → SpecCard → List SpecCard → FaultCode → CardFault
+told_by before c after code = record { card = c.number; code = source_codes.Fault code; columns = fault_columns code before c after }
+
+abbrev pub told_on : List SpecCard → SpecCard → List SpecCard → List CardFault
+told_on before c after = map (told_by before c after) (filter (λ code. rule code before c after) codes)
+
+abbrev pub told_from : List SpecCard → List SpecCard → List CardFault
+told_from before [] = []
+told_from before (c ∷ after) = told_on before c after ++ told_from (before ++ c ∷ []) after
+
+abbrev pub of_whole : CardFault
+of_whole = record { card = 0; code = source_codes.Fault F7; columns = None }
+
+abbrev pub told_of_whole : List SpecCard → List CardFault
+told_of_whole cards = if lacks_input cards then of_whole ∷ [] else []
+
+abbrev pub told_faults : List SpecCard → List CardFault
+told_faults cards = told_of_whole cards ++ told_from [] cards

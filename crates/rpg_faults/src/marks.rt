@@ -1,0 +1,159 @@
+//! Which columns of a card a fault speaks of.
+
+ghost use Rattle.std.specs.Prelude.{◌≡◌, ◌∷◌, ◌++◌, Option};
+ghost use Rattle.std.specs.Option.{option_map};
+ghost use Rattle.rpg_cards.specs.Sheets.{AreSheets};
+ghost use Rattle.rpg_faults.specs.Marks as marks;
+ghost use Rattle.rpg_faults.specs.Seen.{AreCardsSeen};
+ghost use Rattle.rpg_sheet_specs.specs.declared.file.FileSpec.{FileSpec};
+
+use crate::code::FaultCode;
+use crate::columns::{is_outside, outside_record, own_length};
+use crate::seen::Seen;
+use rpg_cards::{IndexedCards, Sheets, SpecCard};
+use rpg_faults_flow::Labels;
+use rpg_sheet_specs::{ColumnFault, ColumnRange, InputField, InputSpec, RecordCode, Three};
+
+/// The columns that a fault of a card speaks of: none where the card as a whole is meant.
+pub(crate) fn fault_columns(
+    code: FaultCode,
+    source: &IndexedCards,
+    labels: &Labels,
+    seen: &Seen,
+    card: &SpecCard,
+    after: &[SpecCard],
+) -> Option<ColumnFault>
+    requires labels { labels.now ≡ source.now }
+    requires seen { AreCardsSeen source.now (card.now ∷ after.now) seen.now }
+    ensures { result ≡ marks.fault_columns code seen.now.before.now card.now after.now }
+{
+    Some(fault_range(code, source, labels, seen, card, after)?.columns())
+}
+
+#[tactic(auto, unfolding(crate::specs::Marks::fault_range))]
+fn fault_range(
+    code: FaultCode,
+    source: &IndexedCards,
+    labels: &Labels,
+    seen: &Seen,
+    card: &SpecCard,
+    after: &[SpecCard],
+) -> Option<ColumnRange>
+    requires labels { labels.now ≡ source.now }
+    requires seen { AreCardsSeen source.now (card.now ∷ after.now) seen.now }
+    ensures { result ≡ marks.fault_range code seen.now.before.now card.now after.now }
+{
+    let before = seen.before;
+    match code {
+        FaultCode::F1 => Some(rpg_faults_operands::unknown_name(source, card, after)),
+        FaultCode::F2 => {
+            rpg_faults_limits::redefined_columns(source, &seen.limits, before, card, after)
+        }
+        FaultCode::F3 => rpg_faults_limits::size_columns(card),
+        FaultCode::F4 => rpg_faults_operands::wrong_columns(source, card, after),
+        FaultCode::F5 => Some(rpg_faults_operands::wrong_index(source, card, after)),
+        FaultCode::F6 => rpg_faults_limits::limit_columns(card),
+        FaultCode::F7 => rpg_faults_limits::file_columns(before, card),
+        FaultCode::F8 => rpg_faults_limits::indicator_columns(source, card),
+        FaultCode::F9 => missing_columns(source, seen, card, after),
+        FaultCode::F10 | FaultCode::F13 | FaultCode::F14 => Some(rpg_faults_flow::target_range()),
+        FaultCode::F11 => Some(rpg_faults_flow::twice_range(
+            source, labels, &seen.flow, before, card, after,
+        )),
+        FaultCode::F12 => order_columns(card),
+        FaultCode::F15 => rpg_faults_flow::rounding_columns(card, after),
+        FaultCode::F16 => place_columns(source, &seen.sheets, before, card),
+        FaultCode::F17 => rpg_faults_operands::editing_columns(card),
+        FaultCode::F18 => deck_columns(card),
+    }
+}
+
+/// F9: of the calculation, of its operands, or of a line.
+fn missing_columns(
+    source: &IndexedCards,
+    seen: &Seen,
+    card: &SpecCard,
+    after: &[SpecCard],
+) -> Option<ColumnRange>
+    requires { AreCardsSeen source.now (card.now ∷ after.now) seen.now }
+    ensures { result ≡ marks.missing_columns seen.now.before.now card.now after.now }
+{
+    if rpg_faults_flow::bad_columns(&seen.flow, seen.before, card, after) {
+        rpg_faults_flow::calculation_columns(card, after)
+    } else if rpg_faults_operands::bad_columns(source, card, after) {
+        rpg_faults_operands::missing_columns(card, after)
+    } else {
+        rpg_faults_limits::movement_columns(card)
+    }
+}
+
+/// F12: of a calculation, or of another card.
+fn order_columns(card: &SpecCard) -> Option<ColumnRange>
+    ensures { result ≡ marks.order_columns card.now }
+{
+    match rpg_faults_flow::order_columns(card) {
+        Some(range) => Some(range),
+        None => rpg_faults_limits::stray_columns(card),
+    }
+}
+
+/// F16: the first code that is outside, the column of a field that is wrong or its level, or the end of an output field.
+fn place_columns(
+    source: &IndexedCards,
+    sheets: &Sheets,
+    before: &[SpecCard],
+    card: &SpecCard,
+) -> Option<ColumnRange>
+    requires { AreSheets source.now before.now sheets.now }
+    ensures { result ≡ marks.place_columns source.now before.now card.now }
+{
+    let Some(input) = card.input() else {
+        card.output_field()?;
+        return Some(ColumnRange::EndPosition);
+    };
+    place_on_input(own_length(source, sheets.types.file, input), input)
+}
+
+fn place_on_input(length: Option<u16>, input: &InputSpec) -> Option<ColumnRange>
+    ensures { (file : Option FileSpec) → length ≡ option_map (λ f. f.record_length) file → result ≡ marks.place_on_input file input.now }
+{
+    match input {
+        InputSpec::Type(record_type) => code_columns(length, &record_type.codes),
+        InputSpec::And(codes) => code_columns(length, codes),
+        InputSpec::Field(field) => Some(field_range(length, field)),
+    }
+}
+
+fn code_columns(length: Option<u16>, codes: &Three<Option<RecordCode>>) -> Option<ColumnRange>
+    ensures { (file : Option FileSpec) → length ≡ option_map (λ f. f.record_length) file → result ≡ marks.code_columns file codes.now }
+{
+    if is_outside(length, codes.first) {
+        Some(ColumnRange::FirstCode)
+    } else if is_outside(length, codes.second) {
+        Some(ColumnRange::SecondCode)
+    } else if is_outside(length, codes.third) {
+        Some(ColumnRange::ThirdCode)
+    } else {
+        None
+    }
+}
+
+fn field_range(length: Option<u16>, field: &InputField) -> ColumnRange
+    ensures { (file : Option FileSpec) → length ≡ option_map (λ f. f.record_length) file → result ≡ marks.field_range file field.now }
+{
+    if field.from == 0 {
+        ColumnRange::FirstColumn
+    } else if outside_record(length, field) {
+        ColumnRange::LastColumn
+    } else {
+        ColumnRange::InputLevel
+    }
+}
+
+/// F18: the entries per card, which ask for data.
+fn deck_columns(card: &SpecCard) -> Option<ColumnRange>
+    ensures { result ≡ marks.deck_columns card.now }
+{
+    card.extension()?;
+    Some(ColumnRange::EntriesPerCard)
+}

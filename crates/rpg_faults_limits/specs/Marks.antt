@@ -1,0 +1,172 @@
+-- Which columns of a card the faults of names, limits, files, indicators and order speak of.
+use Rattle.std.specs.Prelude.{ℕ, List, Bool, false, slice_get, Option, None, Some, is_some, if◌then◌else◌}
+use Rattle.std.specs.Option.{option_map, option_map_or, option_or}
+use Rattle.rpg_cards.specs.Cards.{output_record_on}
+use Rattle.rpg_cards.specs.Files.{file_for, file_named, file_use}
+use Rattle.rpg_cards.specs.Names.{definitions, definitions_on, sized_form}
+use Rattle.rpg_cards.specs.declared.files.FileUse.{FileUse}
+use Rattle.rpg_cards.specs.declared.files.FileUse.TheVariants.{Primary, Printer, Disk}
+use Rattle.rpg_cards.specs.declared.spec_card.SpecCard.{SpecCard}
+use Rattle.rpg_faults_limits.specs.Indicators.{bad_in_calculation, bad_in_output, cannot_be_set}
+use Rattle.rpg_faults_limits.specs.Limits.{bad_entries}
+use Rattle.rpg_faults_limits.specs.Names.{bad_size_of_table, redefines_as}
+use Rattle.rpg_sheet_specs.specs.declared.calculation.CalculationSpec.{CalculationSpec}
+use Rattle.rpg_sheet_specs.specs.declared.column_range.ColumnRange.{ColumnRange}
+use Rattle.rpg_sheet_specs.specs.declared.column_range.ColumnRange.TheVariants as range
+use Rattle.rpg_sheet_specs.specs.declared.extension.ExtensionSpec.{ExtensionSpec}
+use Rattle.rpg_sheet_specs.specs.declared.extension.TableSpec.{TableSpec}
+use Rattle.rpg_sheet_specs.specs.declared.file.FileSpec.{FileSpec}
+use Rattle.rpg_sheet_specs.specs.declared.indicator.Condition.{Condition}
+use Rattle.rpg_sheet_specs.specs.declared.indicator.Three.{Three}
+use Rattle.rpg_sheet_specs.specs.declared.input.InputField.{InputField}
+use Rattle.rpg_sheet_specs.specs.declared.input.InputSpec.{InputSpec}
+use Rattle.rpg_sheet_specs.specs.declared.input.InputSpec.TheVariants as input
+use Rattle.rpg_sheet_specs.specs.declared.output.Movement.{Movement}
+use Rattle.rpg_sheet_specs.specs.declared.output.OutputSpec.{OutputSpec}
+use Rattle.rpg_sheet_specs.specs.declared.output.OutputSpec.TheVariants as output
+use Rattle.rpg_sheet_specs.specs.declared.spec.Spec.{Spec}
+use Rattle.rpg_sheet_specs.specs.declared.spec.Spec.TheVariants as spec
+
+-- ---- F2: the name that is defined again; of an E card the first of two, where it is
+
+abbrev pub name_columns : Spec → Option ColumnRange
+name_columns (spec.Header h) = None
+name_columns (spec.File f) = None
+name_columns (spec.Extension e) = Some range.TableName
+name_columns (spec.Input i) = Some range.InputName
+name_columns (spec.Calculation k) = Some range.ResultName
+name_columns (spec.Output o) = None
+name_columns (spec.Data d) = None
+
+abbrev pub redefines_first : List SpecCard → SpecCard → Bool
+redefines_first before c = option_map_or (redefines_as (definitions before)) (slice_get (definitions_on c.spec) 0) false
+
+abbrev pub redefined_columns : List SpecCard → SpecCard → Option ColumnRange
+redefined_columns before c = if redefines_first before c then name_columns c.spec else Some range.AlternatingName
+
+-- ---- F3: the decimals, where the length would do without them; else the length
+
+abbrev pub size_range : ColumnRange → ColumnRange → ℕ → Option ℕ → ColumnRange
+size_range length decimals len d = if is_some (sized_form len (option_map (λ n. 0) d)) then decimals else length
+
+abbrev pub size_of_tables : ExtensionSpec → ColumnRange
+size_of_tables e =
+    if bad_size_of_table e.table then size_range range.EntryLength range.EntryDecimals e.table.length e.table.decimals
+    else option_map_or (λ (t : TableSpec). size_range range.AlternatingLength range.AlternatingDecimals t.length t.decimals) e.alternating range.AlternatingLength
+
+-- decimals without a length
+abbrev pub size_of_result : CalculationSpec → ColumnRange
+size_of_result k = option_map_or (λ len. size_range range.ResultLength range.ResultDecimals len k.decimals) k.length range.ResultDecimals
+
+abbrev pub size_columns : Spec → Option ColumnRange
+size_columns (spec.Header h) = None
+size_columns (spec.File f) = None
+size_columns (spec.Extension e) = Some (size_of_tables e)
+size_columns (spec.Input i) = Some range.LastColumn
+size_columns (spec.Calculation k) = Some (size_of_result k)
+size_columns (spec.Output o) = None
+size_columns (spec.Data d) = None
+
+-- ---- F6: the entries of a table; of all other limits the card as a whole is one too many
+
+abbrev pub limit_columns : SpecCard → Option ColumnRange
+limit_columns c = if bad_entries c then Some range.Entries else None
+
+-- ---- F7: of an F card the name, what makes it a second one of its use, or the record length
+
+abbrev pub use_range : FileUse → ColumnRange
+use_range Primary = range.FileType
+use_range Printer = range.Device
+use_range Disk = range.Device
+
+abbrev pub file_range : List SpecCard → FileSpec → ColumnRange
+file_range before f =
+    if is_some (file_named f.name before) then range.FileName
+    else if is_some (file_for (file_use f) before) then use_range (file_use f)
+    else range.RecordLength
+
+abbrev pub file_columns : List SpecCard → Spec → Option ColumnRange
+file_columns before (spec.Header h) = None
+file_columns before (spec.File f) = Some (file_range before f)
+file_columns before (spec.Extension e) = None
+file_columns before (spec.Input i) = Some range.TypeFile
+file_columns before (spec.Calculation k) = None
+file_columns before (spec.Output o) = Some range.LineFile
+file_columns before (spec.Data d) = None
+
+-- ---- F8: the first indicator that isn't allowed
+
+abbrev pub first_of : {X : Type 0} → (X → Bool) → ColumnRange → ColumnRange → ColumnRange → Three (Option X) → Option ColumnRange
+first_of test a b c t =
+    if option_map_or test t.first false then Some a
+    else if option_map_or test t.second false then Some b
+    else if option_map_or test t.third false then Some c
+    else None
+
+abbrev pub first_condition : (Condition → Bool) → Three (Option Condition) → Option ColumnRange
+first_condition test t = first_of test range.FirstCondition range.SecondCondition range.ThirdCondition t
+
+abbrev pub first_result : Three (Option ℕ) → Option ColumnRange
+first_result t = first_of cannot_be_set range.ResultPlus range.ResultMinus range.ResultZero t
+
+abbrev pub first_line_condition : List SpecCard → Three (Option Condition) → Option ColumnRange
+first_line_condition cards t = first_of (bad_in_output cards) range.FirstLineCondition range.SecondLineCondition range.ThirdLineCondition t
+
+-- that of a text field is for plus or minus
+abbrev pub text_indicator : InputField → ColumnRange
+text_indicator f = if is_some f.indicators.first then range.InputPlus else range.InputMinus
+
+abbrev pub indicator_on_field : InputField → Option ColumnRange
+indicator_on_field f = option_or (first_of cannot_be_set range.InputPlus range.InputMinus range.InputZero f.indicators) (Some (text_indicator f))
+
+abbrev pub indicator_on_input : InputSpec → Option ColumnRange
+indicator_on_input (input.Type t) = Some range.TypeIndicator
+indicator_on_input (input.And codes) = None
+indicator_on_input (input.Field f) = indicator_on_field f
+
+abbrev pub indicator_on_calculation : List SpecCard → CalculationSpec → Option ColumnRange
+indicator_on_calculation cards k =
+    option_or (first_condition (bad_in_calculation cards) k.conditions) (first_result k.resulting_indicators)
+
+abbrev pub line_conditions_on : OutputSpec → Three (Option Condition)
+line_conditions_on (output.Record r) = r.conditions
+line_conditions_on (output.And t) = t
+line_conditions_on (output.Or t) = t
+line_conditions_on (output.Field f) = f.conditions
+
+abbrev pub indicator_columns : List SpecCard → Spec → Option ColumnRange
+indicator_columns cards (spec.Header h) = None
+indicator_columns cards (spec.File f) = None
+indicator_columns cards (spec.Extension e) = None
+indicator_columns cards (spec.Input i) = indicator_on_input i
+indicator_columns cards (spec.Calculation k) = indicator_on_calculation cards k
+indicator_columns cards (spec.Output o) = first_line_condition cards (line_conditions_on o)
+indicator_columns cards (spec.Data d) = None
+
+-- ---- F9 of lines: the first space or skip
+
+abbrev pub first_movement : Movement → ColumnRange
+first_movement m =
+    if is_some m.space_before then range.SpaceBefore
+    else if is_some m.space_after then range.SpaceAfter
+    else if is_some m.skip_before then range.SkipBefore
+    else range.SkipAfter
+
+abbrev pub movement_columns : SpecCard → Option ColumnRange
+movement_columns c = option_map (λ r. first_movement r.movement) (output_record_on c.spec)
+
+-- ---- F12 of I and O cards: the name of a field that belongs to nothing; else the card as a whole
+
+abbrev pub stray_columns : Spec → Option ColumnRange
+stray_columns (spec.Header h) = None
+stray_columns (spec.File f) = None
+stray_columns (spec.Extension e) = None
+stray_columns (spec.Input (input.Type t)) = None
+stray_columns (spec.Input (input.And codes)) = None
+stray_columns (spec.Input (input.Field f)) = Some range.InputName
+stray_columns (spec.Calculation k) = None
+stray_columns (spec.Output (output.Record r)) = None
+stray_columns (spec.Output (output.And t)) = None
+stray_columns (spec.Output (output.Or t)) = None
+stray_columns (spec.Output (output.Field f)) = Some range.OutputName
+stray_columns (spec.Data d) = None

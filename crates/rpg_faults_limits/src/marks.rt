@@ -1,0 +1,229 @@
+//! Which columns of a card the faults of names, limits, files and order speak of.
+
+ghost use Rattle.std.specs.Prelude.{◌≡◌, ◌∷◌, ◌++◌, ◌≤◌, length};
+ghost use Rattle.rpg_cards.specs.Names.{definitions};
+ghost use Rattle.rpg_faults_limits.specs.Marks as marks;
+ghost use Rattle.rpg_faults_limits.specs.Names as names;
+ghost use Rattle.rpg_faults_limits.specs.State.{AreLimits};
+
+use crate::limits::has_bad_entries;
+use crate::names::{is_bad_table, is_other};
+use crate::state::Limits;
+use rpg_cards::{
+    Definition, FileUse, IndexedCards, SpecCard, file_for, file_named, sized_form, use_of,
+};
+use rpg_sheet_specs::{
+    CalculationSpec, ColumnRange, ExtensionSpec, FileSpec, InputSpec, Movement, OutputSpec, Spec,
+};
+
+/// F2: the name that is defined again.
+pub fn redefined_columns(
+    source: &IndexedCards,
+    limits: &Limits,
+    before: &[SpecCard],
+    card: &SpecCard,
+    after: &[SpecCard],
+) -> Option<ColumnRange>
+    requires split { source.now ≡ before.now ++ card.now ∷ after.now }
+    requires few { length source.now ≤ 2000 }
+    requires limits { AreLimits source.now before.now (card.now ∷ after.now) limits.now }
+    ensures { result ≡ marks.redefined_columns before.now card.now }
+{
+    if redefines_first(source, limits, before, card, after) {
+        name_columns(card)
+    } else {
+        Some(ColumnRange::AlternatingName)
+    }
+}
+
+/// Whether the first name that a card defines has another form before.
+fn redefines_first(
+    source: &IndexedCards,
+    limits: &Limits,
+    before: &[SpecCard],
+    card: &SpecCard,
+    after: &[SpecCard],
+) -> bool
+    requires split { source.now ≡ before.now ++ card.now ∷ after.now }
+    requires few { length source.now ≤ 2000 }
+    requires limits { AreLimits source.now before.now (card.now ∷ after.now) limits.now }
+    ensures { result ≡ marks.redefines_first before.now card.now }
+{
+    match card.definitions().as_slice().first() {
+        None => false,
+        Some(definition) => is_other_here(source, limits, before, card, after, definition),
+    }
+}
+
+/// Whether a definition has another form than its name by the cards before.
+fn is_other_here(
+    source: &IndexedCards,
+    limits: &Limits,
+    before: &[SpecCard],
+    card: &SpecCard,
+    after: &[SpecCard],
+    definition: &Definition,
+) -> bool
+    requires split { source.now ≡ before.now ++ card.now ∷ after.now }
+    requires few { length source.now ≤ 2000 }
+    requires limits { AreLimits source.now before.now (card.now ∷ after.now) limits.now }
+    ensures { result ≡ names.redefines_as (definitions before.now) definition.now }
+{
+    is_other(source, limits.storage.names.items, definition)
+}
+
+/// Where a card defines its first name.
+fn name_columns(card: &SpecCard) -> Option<ColumnRange>
+    ensures { result ≡ marks.name_columns card.now.spec }
+{
+    match &card.spec {
+        Spec::Extension(_) => Some(ColumnRange::TableName),
+        Spec::Input(_) => Some(ColumnRange::InputName),
+        Spec::Calculation(_) => Some(ColumnRange::ResultName),
+        Spec::Header(_) | Spec::File(_) | Spec::Output(_) | Spec::Data(_) => None,
+    }
+}
+
+/// F3: the length or the decimals.
+pub fn size_columns(card: &SpecCard) -> Option<ColumnRange>
+    ensures { result ≡ marks.size_columns card.now.spec }
+{
+    match &card.spec {
+        Spec::Extension(extension) => Some(size_of_tables(extension)),
+        Spec::Input(_) => Some(ColumnRange::LastColumn),
+        Spec::Calculation(calculation) => Some(size_of_result(calculation)),
+        Spec::Header(_) | Spec::File(_) | Spec::Output(_) | Spec::Data(_) => None,
+    }
+}
+
+/// The decimals, where the length would do without them; else the length.
+fn size_range(
+    length: ColumnRange,
+    decimals: ColumnRange,
+    len: u16,
+    places: Option<u8>,
+) -> ColumnRange
+    ensures { result ≡ marks.size_range length decimals len places }
+{
+    let without = match places {
+        None => None,
+        Some(_) => Some(0),
+    };
+    if sized_form(len, without).is_some() {
+        decimals
+    } else {
+        length
+    }
+}
+
+fn size_of_tables(extension: &ExtensionSpec) -> ColumnRange
+    ensures { result ≡ marks.size_of_tables extension.now }
+{
+    if is_bad_table(&extension.table) {
+        return size_range(
+            ColumnRange::EntryLength,
+            ColumnRange::EntryDecimals,
+            extension.table.length,
+            extension.table.decimals,
+        );
+    }
+    match &extension.alternating {
+        None => ColumnRange::AlternatingLength,
+        Some(table) => size_range(
+            ColumnRange::AlternatingLength,
+            ColumnRange::AlternatingDecimals,
+            table.length,
+            table.decimals,
+        ),
+    }
+}
+
+fn size_of_result(calculation: &CalculationSpec) -> ColumnRange
+    ensures { result ≡ marks.size_of_result calculation.now }
+{
+    match calculation.length {
+        None => ColumnRange::ResultDecimals,
+        Some(length) => size_range(
+            ColumnRange::ResultLength,
+            ColumnRange::ResultDecimals,
+            length,
+            calculation.decimals,
+        ),
+    }
+}
+
+/// F6: the entries of a table; else the card as a whole is one too many.
+pub fn limit_columns(card: &SpecCard) -> Option<ColumnRange>
+    ensures { result ≡ marks.limit_columns card.now }
+{
+    if has_bad_entries(card) {
+        Some(ColumnRange::Entries)
+    } else {
+        None
+    }
+}
+
+/// F7: the name of a file, what makes it a second one of its use, or the record length.
+pub fn file_columns(before: &[SpecCard], card: &SpecCard) -> Option<ColumnRange>
+    ensures { result ≡ marks.file_columns before.now card.now.spec }
+{
+    match &card.spec {
+        Spec::File(file) => Some(file_range(before, file)),
+        Spec::Input(_) => Some(ColumnRange::TypeFile),
+        Spec::Output(_) => Some(ColumnRange::LineFile),
+        Spec::Header(_) | Spec::Extension(_) | Spec::Calculation(_) | Spec::Data(_) => None,
+    }
+}
+
+fn file_range(before: &[SpecCard], file: &FileSpec) -> ColumnRange
+    ensures { result ≡ marks.file_range before.now file.now }
+{
+    if file_named(&file.name, before).is_some() {
+        ColumnRange::FileName
+    } else if file_for(use_of(file), before).is_some() {
+        use_range(use_of(file))
+    } else {
+        ColumnRange::RecordLength
+    }
+}
+
+fn use_range(serves_as: FileUse) -> ColumnRange
+    ensures { result ≡ marks.use_range serves_as }
+{
+    match serves_as {
+        FileUse::Primary => ColumnRange::FileType,
+        FileUse::Printer | FileUse::Disk => ColumnRange::Device,
+    }
+}
+
+/// F9 of lines: the first space or skip.
+pub fn movement_columns(card: &SpecCard) -> Option<ColumnRange>
+    ensures { result ≡ marks.movement_columns card.now }
+{
+    Some(first_movement(&card.line()?.movement))
+}
+
+fn first_movement(movement: &Movement) -> ColumnRange
+    ensures { result ≡ marks.first_movement movement.now }
+{
+    if movement.space_before.is_some() {
+        ColumnRange::SpaceBefore
+    } else if movement.space_after.is_some() {
+        ColumnRange::SpaceAfter
+    } else if movement.skip_before.is_some() {
+        ColumnRange::SkipBefore
+    } else {
+        ColumnRange::SkipAfter
+    }
+}
+
+/// F12 of I and O cards: the name of a field that belongs to nothing.
+pub fn stray_columns(card: &SpecCard) -> Option<ColumnRange>
+    ensures { result ≡ marks.stray_columns card.now.spec }
+{
+    match &card.spec {
+        Spec::Input(InputSpec::Field(_)) => Some(ColumnRange::InputName),
+        Spec::Output(OutputSpec::Field(_)) => Some(ColumnRange::OutputName),
+        _ => None,
+    }
+}

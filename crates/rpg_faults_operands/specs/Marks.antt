@@ -1,0 +1,77 @@
+-- Which columns of a card the faults of its operands speak of.
+use Rattle.std.specs.Prelude.{List, Bool, false, not, ◌&&◌, ◌||◌, Option, None, Some, is_some, if◌then◌else◌}
+use Rattle.std.specs.Option.{option_and_then, option_map, option_map_or}
+use Rattle.rpg_cards.specs.Calculations.{card_ending}
+use Rattle.rpg_cards.specs.Cards.{output_field_on}
+use Rattle.rpg_cards.specs.Operations.{card_columns}
+use Rattle.rpg_cards.specs.declared.operations.OperationColumns.{OperationColumns}
+use Rattle.rpg_cards.specs.declared.spec_card.SpecCard.{SpecCard}
+use Rattle.rpg_effect.specs.declared.form.FieldForm.{FieldForm}
+use Rattle.rpg_faults_operands.specs.Editing.{unedited}
+use Rattle.rpg_faults_operands.specs.Indexes.{bad_index_of}
+use Rattle.rpg_faults_operands.specs.Kinds.{has_wrong_class, is_text, wrong_kinds}
+use Rattle.rpg_faults_operands.specs.Names.{names_nothing}
+use Rattle.rpg_faults_operands.specs.Operands.{Operand, factor_form, field_content, operands_ending, output_form}
+use Rattle.rpg_sheet_specs.specs.declared.calculation.CalculationSpec.{CalculationSpec}
+use Rattle.rpg_sheet_specs.specs.declared.column_range.ColumnRange.{ColumnRange}
+use Rattle.rpg_sheet_specs.specs.declared.column_range.ColumnRange.TheVariants as range
+use Rattle.rpg_sheet_specs.specs.declared.output.OutputField.{OutputField}
+
+-- ---- F1, F5: the first operand that breaks the rule
+
+abbrev pub passes : (Operand → Bool) → Option Operand → Bool
+passes test o = option_map_or test o false
+
+abbrev pub first_operand : (Operand → Bool) → SpecCard → List SpecCard → ColumnRange
+first_operand test c after =
+    if passes test (operands_ending c after).first then range.FirstFactor
+    else if passes test (operands_ending c after).second then range.SecondFactor
+    else if passes test (operands_ending c after).third then range.ResultName
+    else range.OutputName
+
+abbrev pub unknown_name : List SpecCard → SpecCard → List SpecCard → ColumnRange
+unknown_name cards c after = first_operand (names_nothing cards) c after
+
+abbrev pub wrong_index : List SpecCard → SpecCard → List SpecCard → ColumnRange
+wrong_index cards c after = first_operand (bad_index_of cards) c after
+
+-- ---- F4: the first factor that is wrong by itself, or beside the one before it; else the result field
+
+abbrev pub wrong_among : OperationColumns → Option FieldForm → Option FieldForm → ColumnRange
+wrong_among t f g =
+    if has_wrong_class (field_content t.factor_1) f || wrong_kinds t.kinds f None None then range.FirstFactor
+    else if has_wrong_class (field_content t.factor_2) g || wrong_kinds t.kinds f g None then range.SecondFactor
+    else range.ResultName
+
+abbrev pub wrong_on_calculation : List SpecCard → CalculationSpec → Option ColumnRange
+wrong_on_calculation cards k =
+    option_map (λ o. wrong_among (card_columns o) (factor_form cards (card_columns o).factor_1 k.factor_1) (factor_form cards (card_columns o).factor_2 k.factor_2)) k.operation
+
+-- what edits a text, or else blank after
+abbrev pub wrong_beside : OutputField → FieldForm → ColumnRange
+wrong_beside f form = if is_text form && is_some f.code then range.OutputCode else if is_text form && is_some f.text then range.OutputText else range.BlankAfter
+
+abbrev pub wrong_on_output : List SpecCard → OutputField → Option ColumnRange
+wrong_on_output cards f = option_map (wrong_beside f) (output_form cards f)
+
+abbrev pub wrong_columns : List SpecCard → SpecCard → List SpecCard → Option ColumnRange
+wrong_columns cards c after = option_map_or (wrong_on_calculation cards) (card_ending c after) (option_and_then (wrong_on_output cards) (output_field_on c.spec))
+
+-- ---- F9: high or low of a search; what stands beside no field, or the field that is missing
+
+abbrev pub unordered_search : CalculationSpec → ColumnRange
+unordered_search k = if is_some k.resulting_indicators.first then range.ResultPlus else range.ResultMinus
+
+abbrev pub beside_no_field : OutputField → ColumnRange
+beside_no_field f = if is_some f.code then range.OutputCode else if f.blank_after then range.BlankAfter else range.OutputName
+
+abbrev pub missing_columns : SpecCard → List SpecCard → Option ColumnRange
+missing_columns c after = option_map_or (λ k. Some (unordered_search k)) (card_ending c after) (option_map beside_no_field (output_field_on c.spec))
+
+-- ---- F17: the code where it may have the fill beside it, else the fill or the word
+
+abbrev pub editing_range : OutputField → ColumnRange
+editing_range f = if is_some f.code && not (unedited None f) then range.OutputCode else range.OutputText
+
+abbrev pub editing_columns : SpecCard → Option ColumnRange
+editing_columns c = option_map editing_range (output_field_on c.spec)

@@ -1,0 +1,72 @@
+-- The lines with a fault in turn are all unreadable cards, the least one first.
+use Rattle.std.proofs.Common.{◌≡◌, ℕ, ◌+◌, ◌<◌, ◌≤◌, Bool, true, false, List, [], ◌∷◌, ◌++◌, length, Option, Some, None, refl, sym, ap, ◌∙◌, append-nil, arith, length-append}
+use Rattle.std.specs.Prelude.{if◌then◌else◌, nat_lt, nat_le, slice_get}
+use Rattle.std.specs.Option.{option_map}
+use Rattle.std.specs.Str.Lines.{lines}
+use Rattle.std.proofs.lemmas.Bool.{both_ways}
+use Rattle.std.proofs.lemmas.Grind.{common_steps}
+use Rattle.rpg_sheet.specs.declared.sheet.SheetCode.{SheetCode}
+use Rattle.rpg_sheet.specs.declared.unreadable.UnreadableCard.{UnreadableCard}
+use Rattle.rpg_sheet_specs.specs.Cards.{card_of, ends_source}
+use Rattle.rpg_sheet.specs.Seen.{AreLinesSeen, code_seen}
+use Rattle.rpg_sheet.specs.Sheet.{fault_behind, fault_columns, line_code, source}
+use Rattle.rpg_sheet.specs.Unreadable.{refusal_of, unreadable_at, unreadable_behind}
+use Rattle.rpg_sheet.proofs.SheetLemmas.{code_is_seen, first_code, source_ends}
+
+few_lines : (n : ℕ) → n ≤ 2000 → nat_lt 2000 n ≡ false
+few_lines n h = grind (arith, common_steps)
+
+many_lines : (n : ℕ) → 2000 < n → nat_lt 2000 n ≡ true
+many_lines n h = grind (arith, common_steps)
+
+-- a line more
+pub behind_more : (earlier more : List (List ℕ)) (line : List ℕ) → length earlier ≤ 2000
+    → unreadable_behind earlier (line ∷ more) ≡ unreadable_at earlier line ++ unreadable_behind (earlier ++ line ∷ []) more
+behind_more earlier more line h = rw (few_lines (length earlier) h) refl
+
+-- no line more
+pub behind_many : (earlier more : List (List ℕ)) → 2000 < length earlier → unreadable_behind earlier more ≡ []
+behind_many earlier [] h = refl
+behind_many earlier (line ∷ more) h = rw (many_lines (length earlier) h) refl
+
+pub behind_last : (earlier : List (List ℕ)) (line : List ℕ) → length earlier ≤ 2000 → unreadable_behind earlier (line ∷ []) ≡ unreadable_at earlier line
+behind_last earlier line h = rw (few_lines (length earlier) h) (append-nil (unreadable_at earlier line))
+
+-- a line without a fault, and one with a fault
+pub at_good : (earlier : List (List ℕ)) (count latest : ℕ) (behind : Bool) (line : List ℕ) → AreLinesSeen earlier count latest behind → code_seen count latest behind line ≡ None → unreadable_at earlier line ≡ []
+at_good earlier count latest behind line seen good = rw (sym (code_is_seen earlier count latest behind line seen) ∙ good) refl
+
+pub at_bad : (earlier : List (List ℕ)) (count latest : ℕ) (behind : Bool) (line : List ℕ) (code : SheetCode) → AreLinesSeen earlier count latest behind → code_seen count latest behind line ≡ Some code
+    → unreadable_at earlier line ≡ record { card = count + 1; code = code; columns = fault_columns behind (card_of line) code } ∷ []
+at_bad earlier count latest behind line code seen bad = rw (sym (code_is_seen earlier count latest behind line seen) ∙ bad, seen.count_is, seen.behind_is) refl
+
+pub cut_short : (found all : List UnreadableCard) (earlier more : List (List ℕ)) (count : ℕ) → found ++ unreadable_behind earlier more ≡ all → count ≡ length earlier → 2000 < count → found ≡ all
+cut_short found all earlier more count so_far same many = sym (append-nil found) ∙ ap (λ cards. found ++ cards) (sym (behind_many earlier more (omega arith))) ∙ so_far
+
+-- ---- the least one
+
+-- card 2,001 has a fault
+never_good : (a b c d e : Bool) → first_code a b c d e true ≡ None → ⊥
+never_good true b c d e h = absurd cc
+never_good false true c d e h = absurd cc
+never_good false false true d e h = absurd cc
+never_good false false false true e h = absurd cc
+never_good false false false false true h = absurd cc
+never_good false false false false false h = absurd cc
+
+few_if_good : (earlier : List (List ℕ)) (line : List ℕ) → line_code earlier line ≡ None → length earlier < 2000
+few_if_good earlier line h = by (nat_le 2000 (length earlier)) refl
+  where
+    by : (b : Bool) → nat_le 2000 (length earlier) ≡ b → length earlier < 2000
+    by true e = absurd (never_good _ _ _ _ _ (rw e at h))
+    by false e = grind (arith, common_steps)
+
+pub first_is : (earlier more : List (List ℕ)) → length earlier ≤ 2000 → fault_behind earlier more ≡ option_map refusal_of (slice_get (unreadable_behind earlier more) 0)
+first_is earlier [] few = refl
+first_is earlier (line ∷ more) few = rw (few_lines (length earlier) few) (by (line_code earlier line) refl (λ fewer. first_is (earlier ++ line ∷ []) more fewer))
+  where
+    by : (code : Option SheetCode) → line_code earlier line ≡ code
+        → (length (earlier ++ line ∷ []) ≤ 2000 → fault_behind (earlier ++ line ∷ []) more ≡ option_map refusal_of (slice_get (unreadable_behind (earlier ++ line ∷ []) more) 0))
+        → fault_behind earlier (line ∷ more) ≡ option_map refusal_of (slice_get (unreadable_at earlier line ++ unreadable_behind (earlier ++ line ∷ []) more) 0)
+    by (Some code) e later = rw e refl
+    by None e later = rw e (later (let f = few_if_good earlier line e in omega (arith, length-append earlier (line ∷ []))))

@@ -1,0 +1,6 @@
+use Rattle.std.proofs.Common.{List, ℕ}
+use Rattle.rpg_sheet.proofs.SheetLemmas.{seen-push}
+use Rattle.rpg_sheet.proofs.unreadable.Earlier.with.Goals as goal
+
+pub returns : goal.returns
+returns c lines line is seen = rw (c.begins_data.ensures, is) (seen-push lines c.args.self.count c.args.self.latest c.latest_with.result c.args.self.behind line seen (rw is at c.latest_with.ensures))

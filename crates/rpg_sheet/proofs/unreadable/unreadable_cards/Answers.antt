@@ -1,0 +1,9 @@
+use Rattle.std.proofs.Common.{arith}
+use Rattle.rpg_sheet.specs.Sheet.{source}
+use Rattle.rpg_sheet.proofs.UnreadableLemmas.{cut_short}
+use Rattle.rpg_sheet.proofs.unreadable.unreadable_cards.Goals as goal
+
+pub returns-then-earlier-gt-LAST : goal.returns-then-earlier-gt-LAST
+returns-then-earlier-gt-LAST c =
+    let kept = c.loop-rest.invariant in
+    cut_short c.loop-rest.found.items _ kept.done (source c.loop-rest.rest.now) c.loop-rest.earlier.count kept.so_far kept.seen.count_is (omega arith)
