@@ -1,7 +1,8 @@
 //! Pages as text.
 
 use crate::page::Page;
-use crate::topic::{BYTES, FAULTS, HALTS, RULES, SHEETS, Topic};
+use crate::topic::{BYTES, FAULTS, HALTS, SHEETS, Topic};
+use rpg_verify_rules::RULES;
 use std::alloc::{AllocError, Global};
 
 /// What stands before all pages.

@@ -10,7 +10,7 @@ use rpg_effect::halt::Halt;
 use rpg_faults::FaultCode;
 use rpg_object_format::fault::Code;
 use rpg_sheet::SheetCode;
-use rpg_verify_rules::{LineRule, PlaceRule, Rule, SubroutineRule, TypeRule};
+use rpg_verify_rules::{RULES, Rule};
 
 /// A code that is explained.
 #[derive(Clone, Copy)]
@@ -60,33 +60,6 @@ pub(crate) const HALTS: [Halt; 7] = [
     Halt::AllowanceSpent,
     Halt::IndicatorOn,
     Halt::BadRecord,
-];
-
-pub(crate) const RULES: [Rule; 24] = [
-    Rule::Overflow,
-    Rule::Line(LineRule::V2),
-    Rule::Type(TypeRule::V3),
-    Rule::Type(TypeRule::V4),
-    Rule::Type(TypeRule::V5),
-    Rule::Type(TypeRule::V6),
-    Rule::Type(TypeRule::V7),
-    Rule::Line(LineRule::V8),
-    Rule::Line(LineRule::V9),
-    Rule::Line(LineRule::V10),
-    Rule::Line(LineRule::V11),
-    Rule::Line(LineRule::V12),
-    Rule::Line(LineRule::V13),
-    Rule::Line(LineRule::V14),
-    Rule::Line(LineRule::V15),
-    Rule::Place(PlaceRule::V16),
-    Rule::Place(PlaceRule::V17),
-    Rule::Place(PlaceRule::V18),
-    Rule::Place(PlaceRule::V19),
-    Rule::Place(PlaceRule::V20),
-    Rule::Place(PlaceRule::V21),
-    Rule::Place(PlaceRule::V22),
-    Rule::Subroutine(SubroutineRule::V23),
-    Rule::Subroutine(SubroutineRule::V24),
 ];
 
 pub(crate) const BYTES: [Code; 7] = [

@@ -1,6 +1,6 @@
 //! Instructions in words, and where they stand.
 
-use rpg_effect::operation::{Action, Instruction, Operand, Operator, Side};
+use rpg_effect::operation::Instruction;
 use rpg_object_program::row::Rows;
 use rpg_object_program::section::Section;
 use std::alloc::{AllocError, Global};
@@ -76,36 +76,3 @@ pub(crate) fn put_section(
     }
 }
 
-fn action_name(action: Action<Operand<u16>>) -> &'static str {
-    match action {
-        Action::Compute { operator, .. } => match operator {
-            Operator::Add => "ADD",
-            Operator::Subtract => "SUB",
-            Operator::Multiply => "MULT",
-        },
-        Action::Divide { .. } => "DIV",
-        Action::Assign { is_negated, .. } => { if is_negated { "Z-SUB" } else { "Z-ADD" } }
-        Action::TakeRemainder { .. } => "MVR",
-        Action::CrossFoot { .. } => "XFOOT",
-        Action::Compare { .. } => "COMP",
-        Action::LookUp { .. } => "LOKUP",
-        Action::Move { side, .. } => match side {
-            Side::Right => "MOVE",
-            Side::Left => "MOVEL",
-        },
-        Action::SetIndicators { is_on, .. } => { if is_on { "SETON" } else { "SETOF" } }
-    }
-}
-
-/// The name of an instruction's operation.
-pub(crate) fn name_of(instruction: Instruction<u16>) -> &'static str {
-    match instruction {
-        Instruction::Act(action) => action_name(action),
-        Instruction::Except => "EXCPT",
-        Instruction::Branch { is_taken_where, .. } => {
-            if is_taken_where { "JUMP" } else { "SKIP" }
-        }
-        Instruction::Call { .. } => "CALL",
-        Instruction::Return { .. } => "RET",
-    }
-}

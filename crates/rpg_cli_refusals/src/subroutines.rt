@@ -1,6 +1,5 @@
 //! V23 and V24: what stands in a subroutine.
 
-use crate::instructions::name_of;
 use rpg_effect::operation::Instruction;
 use rpg_object_program::row::{Rows, Subroutine};
 use std::alloc::{AllocError, Global};
@@ -33,7 +32,7 @@ fn put_last(alloc: Global, out: &mut String, subroutine: &Subroutine) -> Result<
         None => out.push_str(", without instructions"),
         Some(last) => {
             let count = subroutine.instructions.len();
-            let name = name_of(*last);
+            let name = last.name();
             out.push_str(format!(in alloc;
                 ", of {count} instructions, the last {name}"
             )?.as_str())?;

@@ -7,35 +7,13 @@ use rpg_cli_show_fields::{
     put_shown,
 };
 use rpg_effect::condition::Conditions;
-use rpg_effect::operation::{Action, Instruction, Operand, Operator, Shows, Side};
+use rpg_effect::operation::{Action, Instruction, Operand, Shows};
 use rpg_effect::row::Use;
 use rpg_object_program::columns::row_of;
 use rpg_object_program::row::Rows;
 use rpg_verify::BrokenRule;
 use std::alloc::{AllocError, Global};
 use std::fmt::Write;
-
-/// The name of an operation.
-fn operation_word(action: Action<Operand<u16>>) -> &'static str {
-    match action {
-        Action::Compute { operator, .. } => match operator {
-            Operator::Add => "ADD",
-            Operator::Subtract => "SUB",
-            Operator::Multiply => "MULT",
-        },
-        Action::Divide { .. } => "DIV",
-        Action::Assign { is_negated, .. } => { if is_negated { "Z-SUB" } else { "Z-ADD" } }
-        Action::TakeRemainder { .. } => "MVR",
-        Action::CrossFoot { .. } => "XFOOT",
-        Action::Compare { .. } => "COMP",
-        Action::LookUp { .. } => "LOKUP",
-        Action::Move { side, .. } => match side {
-            Side::Right => "MOVE",
-            Side::Left => "MOVEL",
-        },
-        Action::SetIndicators { is_on, .. } => { if is_on { "SETON" } else { "SETOF" } }
-    }
-}
 
 fn is_half_adjusted(action: Action<Operand<u16>>) -> bool {
     match action {
@@ -117,7 +95,7 @@ fn put_action(
     let factor1 = used_text(alloc, rows, row.factor1)?;
     let factor2 = used_text(alloc, rows, row.factor2)?;
     let result = used_text(alloc, rows, row.result)?;
-    let word = operation_word(action);
+    let word = action.name();
     let half = if is_half_adjusted(action) { "H" } else { "" };
     write!(
         out,

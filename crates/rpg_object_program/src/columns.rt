@@ -1,6 +1,6 @@
 //! The table of operations: what stands in the columns of each, and what is asked of it.
 
-ghost use Rattle.std.specs.Prelude.{◌≡◌, ◌≤◌, ◌^◌, nat_lt};
+ghost use Rattle.std.specs.Prelude.{◌≡◌, ◌≤◌};
 ghost use Rattle.rpg_effect.specs.Forms as forms;
 ghost use Rattle.rpg_effect.specs.Instructions as instructions;
 ghost use Rattle.rpg_effect.specs.Rows as words;
@@ -10,7 +10,7 @@ use crate::forms::{
     may_write, same_kind,
 };
 use crate::row::Rows;
-use rpg_effect::form::{FieldForm, Kind};
+use rpg_effect::form::{FieldForm, Kind, fits_digits};
 use rpg_effect::operation::{Action, Index, Instruction, Operand};
 use rpg_effect::row::{Marks, Row, Shape, Use};
 
@@ -293,21 +293,6 @@ pub fn is_current_table(rows: &Rows, used: Use<Operand<u16>>) -> bool
     match used.shape {
         Shape::Table => is_table_form(form_at(rows, used.operand.field)),
         Shape::One | Shape::Whole | Shape::Searched => true,
-    }
-}
-
-/// Whether a number of so many digits may be as large. Five digits hold any number of two bytes.
-#[tactic(auto, using(crate::proofs::Digits::five_digits))]
-fn fits_digits(n: u16, digits: u16) -> bool
-    ensures { result ≡ nat_lt n (10 ^ digits) }
-{
-    match digits {
-        0 => n < 1,
-        1 => n < 10,
-        2 => n < 100,
-        3 => n < 1000,
-        4 => n < 10000,
-        _ => true,
     }
 }
 

@@ -16,7 +16,7 @@ use crate::types::first_type;
 use rpg_object_program::row::Rows;
 
 /// All rules in the order of their numbers.
-const RULES: [Rule; 24] = [
+pub const RULES: [Rule; 24] = [
     Rule::Overflow,
     Rule::Line(LineRule::V2),
     Rule::Type(TypeRule::V3),

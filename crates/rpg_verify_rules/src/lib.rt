@@ -11,5 +11,5 @@ mod subroutines;
 mod types;
 mod words;
 
-pub use least::first_broken;
+pub use least::{RULES, first_broken};
 pub use rule::{BrokenRule, LineRule, PlaceRule, Rule, SubroutineRule, TypeRule};
