@@ -1,5 +1,5 @@
 //! Control levels.
-ghost use Rattle.std.specs.Prelude.{◌≡◌, ◌∷◌, [], ◌++◌, ◌+◌, ◌-◌, ◌≤◌, ◌<◌, IfOk, OnOk, length, slice_range, Some, None, true, option_map, if◌then◌else◌};
+ghost use Rattle.std.specs.Prelude.{◌≡◌, ◌∷◌, [], ◌++◌, ◌+◌, ◌-◌, ◌≤◌, ◌<◌, IfOk, OnOk, ℕ, length, slice_range, Some, None, true, false, option_map, if◌then◌else◌};
 ghost use Rattle.std.specs.List.{All};
 ghost use Rattle.rpg_cycle_records.specs.Fitting.{IsControlIn};
 ghost use Rattle.rpg_cycle_records.specs.Earlier.{or_before};
@@ -182,6 +182,19 @@ fn higher(is_broken: bool, level: usize, lower: usize) -> usize
     if is_broken { level } else { lower }
 }
 
+/// The highest level that a control field is of, 0 where there is none.
+fn highest_level(fields: &[ControlField]) -> u8
+    ensures { (k : ℕ) → result < k → spec.has_level fields.now k ≡ false }
+{
+    let mut highest = 0;
+    for field in fields {
+        if field.level > highest {
+            highest = field.level;
+        }
+    }
+    highest
+}
+
 /// Compares the levels of a record, which is filled to its length, with the last bytes, L1 first, and keeps the record's. Answers the
 /// highest level that differs, 1 to 9, 0 for none. It takes memory only where the room of a level's bytes is too small; on an error
 /// some levels may be kept and others not.
@@ -196,11 +209,8 @@ pub fn compare(
     ensures low { IfOk result (λ n. n ≤ 9) }
     ensures kept { OnOk result (seen_levels levels.new ≡ renewed fields.now text.now 9 (seen_levels levels.old)) }
 {
-    if fields.is_empty() {
-        return Ok(0);
-    }
     let mut broken = 0;
-    for i in 0..9 {
+    for i in 0..usize::from(highest_level(fields).min(9)) {
         let is_broken = renew_if_there(&mut levels[i], fields, text, i as u8 + 1)?;
         broken = higher(is_broken, i + 1, broken);
     }

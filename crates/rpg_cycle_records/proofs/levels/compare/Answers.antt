@@ -1,7 +1,7 @@
-use Rattle.std.proofs.Common.{◌<◌, ◌∙◌, length, arith}
+use Rattle.std.proofs.Common.{◌<◌, ◌∙◌, length, sym, arith}
 use Rattle.std.proofs.lemmas.List.{length-set}
 use Rattle.rpg_cycle_records.specs.Keeping.{seen_levels}
-use Rattle.rpg_cycle_records.proofs.Joining.{kept_more, broken_more, still_low}
+use Rattle.rpg_cycle_records.proofs.Joining.{broken_stays, kept_more, broken_more, renewed_stays, still_low}
 use Rattle.rpg_cycle_records.proofs.levels.compare.Goals as goal
 
 pub loop-i-preserved : goal.loop-i-preserved
@@ -15,3 +15,21 @@ loop-i-preserved c =
           c.loop-i.invariant.kept c.in_ok-is_broken.ensures.kept;
       nine = length-set c.loop-i.levels c.loop-i.i c.renew_if_there.new.last ∙ c.loop-i.invariant.nine;
     }
+
+pub returns-clause-kept : goal.returns-clause-kept
+returns-clause-kept c =
+    let last = c.min.ensures in
+    let end = c.from-i-end.ensures in
+    let none = c.highest_level.ensures in
+    c.loop-i.invariant.kept
+    ∙ sym (renewed_stays c.args.fields.now c.args.text.now (seen_levels c.args.levels.now) 9 c.loop-i.i (omega (arith, c.loop-i-test.false, c.loop-i.auto.i-end, last, end))
+        (λ k more most. none k (omega (arith, c.loop-i-test.false, c.loop-i.auto.i-end, last, end, more, most))))
+
+pub returns-clause-broken : goal.returns-clause-broken
+returns-clause-broken c =
+    let last = c.min.ensures in
+    let end = c.from-i-end.ensures in
+    let none = c.highest_level.ensures in
+    c.loop-i.invariant.broken
+    ∙ sym (broken_stays c.args.fields.now c.args.text.now (seen_levels c.args.levels.now) 9 c.loop-i.i (omega (arith, c.loop-i-test.false, c.loop-i.auto.i-end, last, end))
+        (λ k more most. none k (omega (arith, c.loop-i-test.false, c.loop-i.auto.i-end, last, end, more, most))))
