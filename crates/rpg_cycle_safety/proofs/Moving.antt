@@ -1,5 +1,5 @@
 -- Where the form stands, and how far the way to a line is.
-use Rattle.std.proofs.Common.{◌≡◌, ℕ, ◌+◌, ◌-◌, ◌≤◌, Bool, true, false, ◌&&◌, cond, eqb, leb, leb-true, List, [], ◌∷◌, ◌++◌, length, replicate, Option, None, Some, refl, arith, length-append, nat_cmp}
+use Rattle.std.proofs.Common.{◌≡◌, ℕ, ◌+◌, ◌-◌, ◌≤◌, Bool, true, false, ◌&&◌, cond, eqb, leb, leb-true, [], ◌∷◌, ◌++◌, length, replicate, Option, None, Some, refl, arith, length-append, nat_cmp}
 use Rattle.std.proofs.lemmas.List.{length-replicate}
 use Rattle.rpg_effect.specs.Ends.{Fault}
 use Rattle.rpg_effect.specs.LineFaults.{is_spacing, line_fault}
