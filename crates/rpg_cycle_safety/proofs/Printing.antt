@@ -86,7 +86,7 @@ module _ (overflow : Option ℕ) where
 -- ---- entries that are written
 
 -- an entry that may be written
-record MayWrite (p : Object) (e : ℕ × ℕ) : Type 0 where
+pub record MayWrite (p : Object) (e : ℕ × ℕ) : Type 0 where
   pub entry : IsFieldEntry p.fields e.0 e.1
   pub may : may_write (form_at p.fields e.0) ≡ true
 
@@ -133,7 +133,7 @@ module _ (p : Object) where
   -- ---- a line that is being assembled
 
   -- how assembling ended, and what holds of the draft, whatever else there is
-  record Draws (w : World nat_cmp) (d : Drafted nat_cmp) : Type 0 where
+  pub record Draws (w : World nat_cmp) (d : Drafted nat_cmp) : Type 0 where
     pub ending : IsEffectEnd d.ending
     pub fields : Holds p (record w { fields = d.draft.fields })
     pub blanks : All (MayWrite p) d.draft.to_blank
@@ -147,7 +147,7 @@ module _ (p : Object) where
     abbrev forms : ℕ → Option FieldForm
     forms field = form_at p.fields field
 
-    laid_keeps : (d : Draft nat_cmp) (f : LineField ℕ) (position : Option ℕ) → field_fault forms (word_at p) len f ≡ None → Draws w (drafted GoesOn d) →
+    pub laid_keeps : (d : Draft nat_cmp) (f : LineField ℕ) (position : Option ℕ) → field_fault forms (word_at p) len f ≡ None → Draws w (drafted GoesOn d) →
         IfSome position (λ n. IsFieldEntry p.fields f.operand.field n) →
         Draws w (laid forms (word_at p) d f position)
     laid_keeps d f None fault h i = record { ending = (omega arith, omega arith, λ is. omega (arith, is)); fields = h.fields; blanks = h.blanks }
@@ -157,7 +157,7 @@ module _ (p : Object) where
       blanks = remembers f.is_blanked (f.operand.field, n) d.to_blank h.blanks i (blank_may f.is_blanked (is_page f.source) _ (field_may forms (word_at p) len f fault));
     }
 
-    field_keeps : (d : Draft nat_cmp) (f : LineField ℕ) → field_fault forms (word_at p) len f ≡ None → Draws w (drafted GoesOn d) →
+    pub field_keeps : (d : Draft nat_cmp) (f : LineField ℕ) → field_fault forms (word_at p) len f ≡ None → Draws w (drafted GoesOn d) →
         Draws w (with_field forms (word_at p) w.on len d f)
     unfolding with_field
     field_keeps d f fault h =
@@ -217,7 +217,7 @@ module _ (p : Object) where
     asked_keeps true e w k h = k
     asked_keeps false e w k h = leaves p w h
 
-    one_keeps : (pass : Pass) (l : LineRow) (w : World nat_cmp) → IsSoundLine p l → Holds p w →
+    pub one_keeps : (pass : Pass) (l : LineRow) (w : World nat_cmp) → IsSoundLine p l → Holds p w →
         Keeps p (one_out (form_at p.fields) (word_at p) overflow pass (program_line p l) w)
     unfolding one_out
     one_keeps pass l w sound h =

@@ -64,7 +64,7 @@ filled_long p text good =
 -- ---- what stays
 
 pub charged_still : (weight : ℕ) (c : Config) → Still weight c (charged weight c)
-charged_still weight c = record { fields = refl; place = refl; cells = refl; steps = refl; allowance = refl }
+charged_still weight c = record { fields = refl; form = refl; place = refl; cells = refl; steps = refl; allowance = refl }
 
 -- but for indicators and steps it is the same
 abbrev pub HasStayed : Config → Done → Type 0

@@ -10,23 +10,24 @@ use Rattle.rpg_object_program.specs.Object.{Object}
 use Rattle.rpg_cycle_safety.proofs.Working.{reach}
 use Rattle.rpg_verify.specs.Bound.{most}
 
--- the same but for indicators, the form and so many steps more
+-- the same but for indicators and so many steps more
 pub record Still (n : ℕ) (c d : Config) : Type 0 where
   pub fields : d.world.fields ≡ c.world.fields
+  pub form : d.world.here ≡ c.world.here
   pub place : here d ≡ here c
   pub cells : d.cells ≡ c.cells
   pub steps : d.steps ≡ c.steps + n
   pub allowance : d.allowance ≡ c.allowance
 
 one_still : (n : ℕ) (on : Bool) (c : Config) → Still 0 c (with_one n on c)
-one_still n on c = record { fields = refl; place = refl; cells = refl; steps = omega arith; allowance = refl }
+one_still n on c = record { fields = refl; form = refl; place = refl; cells = refl; steps = omega arith; allowance = refl }
 
 itself : (c : Config) → Still 0 c c
-itself c = record { fields = refl; place = refl; cells = refl; steps = omega arith; allowance = refl }
+itself c = record { fields = refl; form = refl; place = refl; cells = refl; steps = omega arith; allowance = refl }
 
 -- so many steps, and so many more
 pub still_then : (n m : ℕ) (c d e : Config) → Still n c d → Still m d e → Still (n + m) c e
-still_then n m c d e h k = let one = h.steps in let two = k.steps in record { fields = k.fields ∙ h.fields; place = k.place ∙ h.place; cells = k.cells ∙ h.cells; steps = omega (arith, one, two); allowance = k.allowance ∙ h.allowance }
+still_then n m c d e h k = let one = h.steps in let two = k.steps in record { fields = k.fields ∙ h.fields; form = k.form ∙ h.form; place = k.place ∙ h.place; cells = k.cells ∙ h.cells; steps = omega (arith, one, two); allowance = k.allowance ∙ h.allowance }
 
 pub all_still : (ns : List ℕ) (on : Bool) (c : Config) → Still 0 c (with_all ns on c)
 all_still [] on c = itself c

@@ -1,5 +1,5 @@
 -- Each configuration that a run comes by is steady.
-use Rattle.std.proofs.Common.{◌≡◌, ℕ, Bool, true, false, ◌⊎◌, inl, inr, List, [], ◌∷◌, Option, None, Some, All, length, refl, sym, ap, ◌∙◌, subst, cond, arith, nat_cmp, ℤ, unsigned_abs, ◌<◌, ◌^◌}
+use Rattle.std.proofs.Common.{◌≡◌, ℕ, Bool, true, false, inl, inr, List, [], ◌∷◌, Option, None, Some, All, length, refl, sym, ap, ◌∙◌, subst, cond, arith, nat_cmp, ℤ, unsigned_abs, ◌<◌, ◌^◌}
 use Rattle.std.specs.FinMap as map
 use Rattle.rpg_cycle_records.specs.Earlier.{Left, Selected, left_by, with_record}
 use Rattle.rpg_cycle.specs.Ends.{PhaseEnd, GoesOn, EndOfJob, Halt, Wrong, phase_end}
@@ -16,7 +16,7 @@ use Rattle.rpg_cycle_safety.proofs.Dating.{start_holds}
 use Rattle.rpg_cycle_safety.proofs.Filling.{record_keeps}
 use Rattle.rpg_cycle_safety.proofs.Instructing.{output_keeps}
 use Rattle.rpg_cycle_safety.proofs.Running.{stands_well}
-use Rattle.rpg_cycle_safety.proofs.Selecting.{HasStayed, selection_stays, selection_works}
+use Rattle.rpg_cycle_safety.proofs.Selecting.{selection_stays, selection_works}
 use Rattle.rpg_cycle_safety.proofs.Turning.{Still, off_still, still_holds}
 use Rattle.rpg_cycle_safety.proofs.Working.{IsTaken, Ready, nothing, reach}
 use Rattle.rpg_cycle_safety.specs.Holding.{Holds, Keeps}
@@ -28,7 +28,7 @@ use Rattle.rpg_machine.proofs.Starting.{first_is_place}
 use Rattle.rpg_machine.specs.Accepted.{IsOrderly}
 use Rattle.rpg_machine.specs.Config.{Config, Output, charged, here}
 use Rattle.rpg_machine.specs.Outputs.{ByEffect, inputs_at, output_effect, output_weight}
-use Rattle.rpg_machine.specs.Run.{RunsTo, at_first, is_end, run}
+use Rattle.rpg_machine.specs.Run.{at_first, run}
 use Rattle.rpg_machine.specs.Step.{Outcome, Next, Stop}
 use Rattle.rpg_machine.specs.declared.time.OutputTime.{OutputTime}
 use Rattle.rpg_machine.specs.declared.time.OutputTime.TheVariants as times

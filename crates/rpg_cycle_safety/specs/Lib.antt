@@ -2,4 +2,5 @@ pub mod Buying
 pub mod Coming
 pub mod Holding
 pub mod Leading
+pub mod Measuring
 pub mod Visiting

@@ -1,21 +1,30 @@
 //! Laws of cycles and of whole runs. The functions do nothing: each is called for its contract alone.
-ghost use Rattle.std.specs.Prelude.{◌≡◌, ℕ, ℤ, List, Option, Some, length};
+ghost use Rattle.std.specs.Prelude.{◌≡◌, ℕ, ◌+◌, ◌*◌, ◌≤◌, ℤ, true, List, Option, Some, length};
 ghost use Rattle.std.specs.FinMap as map;
 ghost use Rattle.std.specs.Ordering.{nat_cmp};
 ghost use Rattle.rpg_cycle_records.specs.Earlier.{Selected};
 ghost use Rattle.rpg_cycle.specs.Ends.{PhaseEnd};
+ghost use Rattle.rpg_cycle.specs.Job.{AtWork, DoesCycle};
 ghost use Rattle.rpg_cycle.specs.Phases.{Cycle, UnderWay, begun};
 ghost use Rattle.rpg_cycle.specs.Runs.{Course, IsRun};
 ghost use Rattle.rpg_cycle.specs.Starting.{date_in, job_first_world};
+ghost use Rattle.rpg_effect.specs.Ends.{End};
 ghost use Rattle.rpg_effect.specs.Put.{Bytes};
 ghost use Rattle.rpg_effect.specs.World.{Fields};
 ghost use Rattle.rpg_cycle_safety.specs.Holding.{Holds};
 ghost use Rattle.rpg_machine.specs.Config.{Config, Output};
+ghost use Rattle.rpg_machine.specs.Run.{RunsTo};
+ghost use Rattle.rpg_machine.specs.Running.{config_on, no_bytes};
 ghost use Rattle.rpg_object_program.specs.Kept.{IsProgram};
 ghost use Rattle.rpg_object_program.specs.Object.{Object};
+ghost use Rattle.rpg_object_program.specs.Sections.{has_end};
+ghost use Rattle.rpg_object_program.specs.declared.section.Section.{Section};
+ghost use Rattle.rpg_paper.specs.Paper.{Position};
 ghost use Rattle.rpg_verify_rules.specs.Accepted.{IsAccepted};
+ghost use Rattle.rpg_verify.specs.Bound.{bound};
 ghost use Rattle.rpg_cycle_safety.specs.Coming.{CyclesWell, HasCycle, HasRun, RunsWell};
 ghost use Rattle.rpg_cycle_safety.specs.Leading.{IsSteady};
+ghost use Rattle.rpg_cycle_safety.specs.Measuring.{IsNear, IsPutInRun, PaysForOutput, StaysInOutput, bytes_of_step, pending};
 ghost use Rattle.rpg_cycle_safety.specs.Visiting.{IsOfRun};
 
 /// There is a cycle from any configuration whose values hold and in which no subroutine runs, whatever was read before and whatever is
@@ -49,4 +58,25 @@ pub fn runs_keep()
     ensures throughout { (p : Object) (text : List ℕ) (date : ℤ) (fields : Fields nat_cmp) (records : List (List ℕ)) (c : Config) →
         IsProgram p → IsAccepted p → date_in text ≡ Some date →
         Holds p (job_first_world fields) → IsOfRun p date fields records c → IsSteady p c }
+{}
+
+/// What a cycle puts out, for the printer and for the disk together, is at most 10,000 bytes for each step of the program's bound; and so it
+/// is in each cycle of a run, which starts with the form near the line placed last. So much memory takes the output of a cycle that is
+/// kept until the cycle ends: a job from which all was taken before a cycle holds no more behind it, but for the line feed that ends the
+/// job's last line. It is so because whatever puts something out takes steps: a section pays for what it puts out, and leaves the
+/// form near the line placed last.
+pub fn outputs_stay_in_bound()
+    ensures section { (p : Object) (section : Section) (previous : Option Position) (c : Config) (e : End) (d : Config) (out : Output) →
+        IsProgram p → IsAccepted p → has_end section ≡ true → c.cells ≡ map.empty → Holds p c.world → IsNear previous c.world.here →
+        RunsTo p section c e d out → PaysForOutput previous c d out }
+    ensures cycle { (p : Object) (earlier : List Selected) (next : Option (List ℕ)) (previous : Option Position) (c : Config) (e : PhaseEnd) (d : UnderWay)
+        (out : Output) → IsProgram p → IsAccepted p → Holds p c.world → c.cells ≡ map.empty → IsNear previous c.world.here →
+        Cycle p earlier next (begun p c) e d out → PaysForOutput previous (begun p c).config d.config out × StaysInOutput p previous out }
+    ensures run { (p : Object) (text : List ℕ) (date : ℤ) (fields : Fields nat_cmp) (records : List (List ℕ)) (last : Option Position) (out : Output) →
+        IsProgram p → IsAccepted p → date_in text ≡ Some date → Holds p (job_first_world fields) →
+        IsPutInRun p date fields records last out → StaysInOutput p last out }
+    ensures job { (old new : AtWork) (earlier : List Selected) (previous : Option Position) (next : Option (List ℕ)) (e : PhaseEnd) →
+        IsProgram old.program → IsAccepted old.program → Holds old.program old.config.world → old.config.cells ≡ map.empty →
+        IsNear previous (config_on previous old.config).world.here → old.output ≡ no_bytes →
+        DoesCycle old earlier previous next e new → pending new ≤ bound old.program * bytes_of_step + 1 }
 {}

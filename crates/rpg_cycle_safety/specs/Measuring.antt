@@ -1,0 +1,61 @@
+-- How many bytes a cycle of a run puts out, for the printer and for the disk together.
+use Rattle.std.specs.Prelude.{◌≡◌, ℕ, ◌+◌, ◌*◌, ◌≤◌, ◌⊎◌, ℤ, List, [], ◌∷◌, Option, None, Some, length}
+use Rattle.std.specs.Ordering.{nat_cmp}
+use Rattle.rpg_cycle_records.specs.Earlier.{Selected, with_record}
+use Rattle.rpg_cycle.specs.Ends.{PhaseEnd, GoesOn}
+use Rattle.rpg_cycle.specs.Job.{AtWork}
+use Rattle.rpg_cycle.specs.Phases.{Cycle, UnderWay, begun}
+use Rattle.rpg_cycle.specs.Starting.{job_start}
+use Rattle.rpg_effect.specs.Put.{disk_bytes}
+use Rattle.rpg_effect.specs.World.{Fields}
+use Rattle.rpg_machine.specs.Config.{Config, Output}
+use Rattle.rpg_object_program.specs.Object.{Object}
+use Rattle.rpg_paper.specs.Form.{page_or_1}
+use Rattle.rpg_paper.specs.Paper.{Position, bytes_from, last_position_from}
+use Rattle.rpg_verify.specs.Bound.{bound}
+
+-- the bytes of an output behind the line placed last: those of the printer and those of the disk
+abbrev pub size : Option Position → Output → ℕ
+size previous out = length (bytes_from previous out.lines) + length (disk_bytes out.records)
+
+-- what one step may put out: a record of the disk has up to 9,999 characters, and a line feed
+abbrev pub bytes_of_step : ℕ
+bytes_of_step = 10000
+
+-- the form stands on one of 66 lines, on the page of the line placed last or on one of the two behind it
+pub record IsNear (previous : Option Position) (here : Position) : Type 0 where
+  pub line : here.line ≤ 66
+  pub page : here.page ≤ page_or_1 previous + 2
+
+-- on the way from one configuration to another no more was put out than the steps between them may put out, and the form stands near
+-- the line that was placed last
+pub record PaysForOutput (previous : Option Position) (c d : Config) (out : Output) : Type 0 where
+  pub few : size previous out + c.steps * bytes_of_step ≤ d.steps * bytes_of_step
+  pub near : IsNear (last_position_from previous out.lines) d.world.here
+
+-- no more was put out than the steps of the bound may put out
+pub record StaysInOutput (p : Object) (previous : Option Position) (out : Output) : Type 0 where
+  pub few : size previous out ≤ bound p * bytes_of_step
+
+-- the bytes that a job holds until they are taken
+abbrev pub pending : AtWork → ℕ
+pending j = length j.output.print + length j.output.disk
+
+-- ---- the cycles of a run
+
+-- a cycle with the record that is next put this out, behind the line placed last
+abbrev pub IsOfCycle : Object → List Selected → Option (List ℕ) → Option Position → Config → Option Position → Output → Type 0
+IsOfCycle p earlier next previous c last out =
+    (last ≡ previous) × (e : PhaseEnd) × (d : UnderWay) × Cycle p earlier next (begun p c) e d out
+
+-- this cycle, or one of those behind it, over the records that are left
+abbrev pub IsOfCycles : Object → List Selected → List (List ℕ) → Option Position → Config → Option Position → Output → Type 0
+IsOfCycles p earlier [] previous c last out = IsOfCycle p earlier None previous c last out
+IsOfCycles p earlier (r ∷ rs) previous c last out =
+    IsOfCycle p earlier (Some r) previous c last out
+    ⊎ ((d : UnderWay) × (first : Output) × Cycle p earlier (Some r) (begun p c) GoesOn d first
+    × IsOfCycles p (with_record d.selected earlier) rs (last_position_from previous first.lines) d.config last out)
+
+-- what a cycle of the whole run of a program over records puts out, and the line placed last before it
+abbrev pub IsPutInRun : Object → ℤ → Fields nat_cmp → List (List ℕ) → Option Position → Output → Type 0
+IsPutInRun p date fields records last out = IsOfCycles p [] records None (job_start p date fields) last out
