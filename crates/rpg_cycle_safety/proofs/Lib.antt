@@ -19,6 +19,7 @@ pub mod Selecting
 pub mod Sizing
 pub mod Starting
 pub mod Stepping
+pub mod Totalling
 pub mod Turning
 pub mod Visiting
 pub mod Widths

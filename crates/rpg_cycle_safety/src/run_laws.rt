@@ -60,11 +60,11 @@ pub fn runs_keep()
         Holds p (job_first_world fields) → IsOfRun p date fields records c → IsSteady p c }
 {}
 
-/// What a cycle puts out, for the printer and for the disk together, is at most 10,000 bytes for each step of the program's bound; and so it
-/// is in each cycle of a run, which starts with the form near the line placed last. So much memory takes the output of a cycle that is
-/// kept until the cycle ends: a job from which all was taken before a cycle holds no more behind it, but for the line feed that ends the
-/// job's last line. It is so because whatever puts something out takes steps: a section pays for what it puts out, and leaves the
-/// form near the line placed last.
+/// What a cycle puts out, for the printer and for the disk together, is at most 10,000 bytes for each step of the program's bound, from any
+/// configuration whose values hold, in which no subroutine runs and the form stands near the line placed last (`cycle`); and so it is
+/// in each cycle of a run (`run`). Whatever puts something out takes the steps that pay for it, as `section` says of calculations. A
+/// job from which all was taken before a cycle holds no more behind it, but for the line feed that ends the job's last line (`job`),
+/// and all that a run puts out is at most so much for each of its cycles, with that line feed (`whole`).
 pub fn outputs_stay_in_bound()
     ensures section { (p : Object) (section : Section) (previous : Option Position) (c : Config) (e : End) (d : Config) (out : Output) →
         IsProgram p → IsAccepted p → has_end section ≡ true → c.cells ≡ map.empty → Holds p c.world → IsNear previous c.world.here →
@@ -79,4 +79,8 @@ pub fn outputs_stay_in_bound()
         IsProgram old.program → IsAccepted old.program → Holds old.program old.config.world → old.config.cells ≡ map.empty →
         IsNear previous (config_on previous old.config).world.here → old.output ≡ no_bytes →
         DoesCycle old earlier previous next e new → pending new ≤ bound old.program * bytes_of_step + 1 }
+    ensures whole { (p : Object) (text : List ℕ) (date : ℤ) (fields : Fields nat_cmp) (records : List (List ℕ)) (course : Course) (bytes : Bytes) →
+        IsProgram p → IsAccepted p → date_in text ≡ Some date → Holds p (job_first_world fields) →
+        IsRun p date fields records course bytes →
+        length bytes.print + length bytes.disk ≤ course.cycles * (bound p * bytes_of_step) + 1 }
 {}

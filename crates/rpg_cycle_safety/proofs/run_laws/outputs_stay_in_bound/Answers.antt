@@ -3,6 +3,7 @@ use Rattle.rpg_cycle_safety.proofs.Costing.{section_paid}
 use Rattle.rpg_cycle_safety.proofs.Dating.{date_small}
 use Rattle.rpg_cycle_safety.proofs.Measuring.{cycle_in_output, cycle_pays, run_in_output}
 use Rattle.rpg_cycle_safety.proofs.Pending.{job_in_output}
+use Rattle.rpg_cycle_safety.proofs.Totalling.{whole_few}
 use Rattle.rpg_cycle_safety.proofs.run_laws.outputs_stay_in_bound.Goals as goal
 
 pub returns-clause-section : goal.returns-clause-section
@@ -21,3 +22,7 @@ returns-clause-run g = λ p text date fields records last out kept accepted is h
 pub returns-clause-job : goal.returns-clause-job
 returns-clause-job g = λ old new earlier previous next e kept accepted h none near empty cycle.
     job_in_output old new earlier previous next e (accepted_orderly old.program kept accepted) h none near empty cycle
+
+pub returns-clause-whole : goal.returns-clause-whole
+returns-clause-whole g = λ p text date fields records course bytes kept accepted is h run.
+    whole_few p (accepted_orderly p kept accepted) date fields records course bytes (date_small text date is) h run

@@ -1,0 +1,75 @@
+-- What all cycles of a run put out together.
+use Rattle.std.proofs.Common.{◌≡◌, ℕ, ◌+◌, ◌*◌, ◌≤◌, ◌<◌, ◌^◌, ℤ, unsigned_abs, List, [], ◌∷◌, length, Option, None, Some, refl, sym, ap, ◌∙◌, subst, arith, length-append, nat_cmp}
+use Rattle.std.specs.FinMap as map
+use Rattle.rpg_cycle_records.specs.Earlier.{Selected, with_record}
+use Rattle.rpg_cycle.specs.Ends.{PhaseEnd, GoesOn, EndOfJob, Halt, Wrong}
+use Rattle.rpg_cycle.specs.Phases.{UnderWay}
+use Rattle.rpg_cycle.specs.Runs.{Course, IsRun, Runs, ends_or, last_cycle, last_feed, with_cycle}
+use Rattle.rpg_cycle.specs.Starting.{job_first_world, job_start}
+use Rattle.rpg_effect.specs.Put.{Bytes, disk_bytes}
+use Rattle.rpg_effect.specs.World.{Fields}
+use Rattle.rpg_cycle_safety.proofs.Cycling.{cycles_well}
+use Rattle.rpg_cycle_safety.proofs.Dating.{start_holds}
+use Rattle.rpg_cycle_safety.proofs.Measuring.{cycle_in_output, cycle_pays}
+use Rattle.rpg_cycle_safety.proofs.Sizing.{bytes_both}
+use Rattle.rpg_cycle_safety.specs.Holding.{Holds}
+use Rattle.rpg_cycle_safety.specs.Measuring.{IsNear, StaysInOutput, bytes_of_step, size}
+use Rattle.rpg_machine.specs.Accepted.{IsOrderly}
+use Rattle.rpg_machine.specs.Config.{Config, Output, with_more}
+use Rattle.rpg_object_program.specs.Object.{Object}
+use Rattle.rpg_paper.specs.Paper.{Placed, Position, last_position_from, paper}
+use Rattle.rpg_verify.specs.Bound.{bound}
+
+one_more : (whole one others n k : ℕ) → whole ≡ one + others → one ≤ k → others ≤ n * k → whole ≤ (1 + n) * k
+one_more whole one others n k is few rest = omega (arith, is, few, rest)
+
+only_one : (one k : ℕ) → one ≤ k → one ≤ 1 * k
+only_one one k few = omega (arith, few)
+
+feed_short : (lines : List Placed) → length (last_feed lines) ≤ 1
+feed_short [] = omega arith
+feed_short (x ∷ xs) = omega arith
+
+module _ (p : Object) (orderly : IsOrderly p) where
+  -- at most so much for each cycle
+  abbrev IsFew : Option Position → Course → Type 0
+  IsFew previous course = size previous course.output ≤ course.cycles * (bound p * bytes_of_step)
+
+  last_few : (previous : Option Position) (e : PhaseEnd) (d : UnderWay) (out : Output) (course : Course) → StaysInOutput p previous out → course ≡ last_cycle e d.config out → IsFew previous course
+  last_few previous e d out course stays is = subst (λ (x : Course). IsFew previous x) (sym is) (only_one (size previous out) (bound p * bytes_of_step) stays.few)
+
+  rest_few : (previous : Option Position) (d : UnderWay) (out : Output) (course rest : Course) → StaysInOutput p previous out → IsFew (last_position_from previous out.lines) rest →
+      course ≡ with_cycle d.config out rest → IsFew previous course
+  rest_few previous d out course rest stays few is =
+      let both = bytes_both previous out.lines rest.output.lines out.records rest.output.records in
+      subst (λ (x : Course). IsFew previous x) (sym is)
+      (one_more (size previous (with_more out rest.output)) (size previous out) (size (last_position_from previous out.lines) rest.output) rest.cycles (bound p * bytes_of_step) both stays.few few)
+
+  ended_few : (e : PhaseEnd) (previous : Option Position) (d : UnderWay) (out : Output) (Rest : UnderWay → Course → Type 0) (course : Course) → StaysInOutput p previous out →
+      (e ≡ GoesOn → (rest : Course) → Rest d rest → IsFew (last_position_from previous out.lines) rest) → ends_or e d out Rest course → IsFew previous course
+  ended_few GoesOn previous d out Rest course stays next (rest, runs, is) = rest_few previous d out course rest stays (next refl rest runs) is
+  ended_few EndOfJob previous d out Rest course stays next is = last_few previous EndOfJob d out course stays is
+  ended_few (Halt k) previous d out Rest course stays next is = last_few previous (Halt k) d out course stays is
+  ended_few (Wrong f) previous d out Rest course stays next is = last_few previous (Wrong f) d out course stays is
+
+  runs_few : (records : List (List ℕ)) (earlier : List Selected) (previous : Option Position) (c : Config) (course : Course) → Holds p c.world → c.cells ≡ map.empty →
+      IsNear previous c.world.here → Runs p earlier records c course → IsFew previous course
+  runs_few [] earlier previous c course h none near (e, d, out, cycle, ends) =
+      ended_few e previous d out (λ d rest. ⊥) course (cycle_in_output p orderly earlier None previous c e d out h none near cycle) (λ goes rest never. absurd never) ends
+  runs_few (r ∷ rs) earlier previous c course h none near (e, d, out, cycle, ends) =
+      let well = cycles_well p orderly earlier (Some r) c e d out h none cycle in
+      let pays = cycle_pays p orderly earlier (Some r) previous c e d out h none near cycle in
+      ended_few e previous d out (λ d rest. Runs p (with_record d.selected earlier) rs d.config rest) course (cycle_in_output p orderly earlier (Some r) previous c e d out h none near cycle)
+      (λ goes rest runs. runs_few rs (with_record d.selected earlier) (last_position_from previous out.lines) d.config rest well.values (well.no_cell goes) pays.near runs) ends
+
+  -- a whole run, with the line feed behind its last line
+  pub whole_few : (date : ℤ) (fields : Fields nat_cmp) (records : List (List ℕ)) (course : Course) (bytes : Bytes) → unsigned_abs date < 10 ^ 6 → Holds p (job_first_world fields) →
+      IsRun p date fields records course bytes → length bytes.print + length bytes.disk ≤ course.cycles * (bound p * bytes_of_step) + 1
+  whole_few date fields records course bytes small h run =
+      let few : size None course.output ≤ course.cycles * (bound p * bytes_of_step) =
+      runs_few records [] None (job_start p date fields) course (start_holds p orderly.program date small fields h) refl (record { line = omega arith; page = omega arith }) run.runs in
+      let short = feed_short course.output.lines in
+      let print : length bytes.print ≡ length (paper course.output.lines) + length (last_feed course.output.lines) =
+      ap (λ (l : List ℕ). length l) run.print ∙ length-append (paper course.output.lines) (last_feed course.output.lines) in
+      let disk : length bytes.disk ≡ length (disk_bytes course.output.records) = ap (λ (l : List ℕ). length l) run.disk in
+      omega (arith, few, short, print, disk)
