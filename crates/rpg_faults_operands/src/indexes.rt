@@ -1,6 +1,6 @@
 //! F5: an index that is missing or not allowed, a literal out of range, or a field that can't be an index.
 
-ghost use Rattle.std.specs.Prelude.{◌≡◌, ◌^◌, false, nat_lt};
+ghost use Rattle.std.specs.Prelude.{◌≡◌, false};
 ghost use Rattle.std.specs.Option.{option_map_or};
 ghost use Rattle.rpg_faults_operands.specs.Indexes as indexes;
 
@@ -8,7 +8,7 @@ use crate::forms::{can_index, is_array};
 use crate::names::index_name;
 use crate::operands::{Operand, entry_form, form_in, operands_ending, output_operand};
 use rpg_cards::{Content, IndexedCards, SpecCard};
-use rpg_effect::form::FieldForm;
+use rpg_effect::form::{FieldForm, fits_digits};
 use rpg_sheet_specs::{Entry, EntryIndex};
 
 /// F5: an index that is missing or not allowed, a literal out of range, or a field that can't be an index.
@@ -121,21 +121,6 @@ fn is_searched(content: Content) -> bool
         | Content::Table
         | Content::Label
         | Content::Subroutine => false,
-    }
-}
-
-/// Whether a number of so many digits may be as large. Five digits hold any number of two bytes.
-#[tactic(auto, using(crate::proofs::Digits::five_digits))]
-fn fits_digits(n: u16, digits: u16) -> bool
-    ensures { result ≡ nat_lt n (10 ^ digits) }
-{
-    match digits {
-        0 => n < 1,
-        1 => n < 10,
-        2 => n < 100,
-        3 => n < 1000,
-        4 => n < 10000,
-        _ => true,
     }
 }
 
