@@ -59,7 +59,7 @@ fn may_depend(last: &CalculationSpec) -> bool
     }
 }
 
-fn bad_by_end(goes_on: bool, calculation: &CalculationSpec) -> bool
+pub(crate) fn bad_by_end(goes_on: bool, calculation: &CalculationSpec) -> bool
     ensures { result ≡ spec.bad_by_end goes_on calculation.now }
 {
     if goes_on {
@@ -95,7 +95,7 @@ fn bad_operation(calculation: &CalculationSpec, operation: Operation) -> bool
 }
 
 /// Whether a factor is missing or not allowed.
-fn misses(column: Column, factor: &Option<Factor>) -> bool
+pub(crate) fn misses(column: Column, factor: &Option<Factor>) -> bool
     ensures { result ≡ spec.misses column factor.now }
 {
     match (column, factor) {
@@ -109,7 +109,7 @@ fn misses(column: Column, factor: &Option<Factor>) -> bool
 }
 
 /// Whether a result field is missing or not allowed.
-fn misses_result(column: Column, entry: &Option<Entry>) -> bool
+pub(crate) fn misses_result(column: Column, entry: &Option<Entry>) -> bool
     ensures { result ≡ spec.misses column (option_map factor.Entry entry.now) }
 {
     match (column, entry) {

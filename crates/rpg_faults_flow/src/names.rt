@@ -31,7 +31,7 @@ pub fn names_twice(
 }
 
 /// Whether a label or a subroutine has a name that is given before, or that is a field's by then.
-fn gives_again(
+pub(crate) fn gives_again(
     source: &IndexedCards,
     labels: &Labels,
     flow: &Flow,

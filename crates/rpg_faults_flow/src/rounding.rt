@@ -25,7 +25,7 @@ pub fn bad_rounding(flow: &Flow, before: &[SpecCard], card: &SpecCard, after: &[
         || (is_remainder(last) && (joins(calculation) || !flow.is_behind_division))
 }
 
-fn may_half_adjust(calculation: &CalculationSpec) -> bool
+pub(crate) fn may_half_adjust(calculation: &CalculationSpec) -> bool
     ensures { result ≡ rounding.operation_passes rounding.may_half_adjust calculation.now }
 {
     match calculation.operation {

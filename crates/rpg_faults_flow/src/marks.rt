@@ -1,0 +1,187 @@
+//! Which columns of a calculation card the faults of control speak of.
+
+ghost use Rattle.std.specs.Prelude.{◌≡◌, ◌∷◌, ◌++◌, ◌&&◌, not, false, if◌then◌else◌};
+ghost use Rattle.std.specs.Option.{option_map_or};
+ghost use Rattle.rpg_cards.specs.Calculations.{card_ending};
+ghost use Rattle.rpg_faults_flow.specs.Marks as marks;
+ghost use Rattle.rpg_faults_flow.specs.Rounding as rounding;
+ghost use Rattle.rpg_faults_flow.specs.Seen.{IsFlow};
+ghost use Rattle.rpg_sheet_specs.specs.declared.column_range.ColumnRange.TheVariants as range;
+
+use crate::columns::{bad_by_end, misses, misses_result};
+use crate::flow::Flow;
+use crate::groups::is_bracket;
+use crate::labels::Labels;
+use crate::names::gives_again;
+use crate::rounding::may_half_adjust;
+use rpg_cards::{IndexedCards, SpecCard, columns, goes_on, last_card};
+use rpg_sheet_specs::{CalculationSpec, ColumnRange, Condition, Indicator, Operation, Three};
+
+/// F9 of a calculation: what is missing or not allowed.
+pub fn calculation_columns(card: &SpecCard, after: &[SpecCard]) -> Option<ColumnRange>
+    ensures { result ≡ marks.calculation_columns card.now after.now }
+{
+    Some(calculation_range(goes_on(after), card.calculation()?))
+}
+
+fn calculation_range(goes_on: bool, calculation: &CalculationSpec) -> ColumnRange
+    ensures { result ≡ marks.calculation_range goes_on calculation.now }
+{
+    if calculation.length.is_some() && calculation.result_field.is_none() {
+        ColumnRange::ResultLength
+    } else if bad_by_end(goes_on, calculation) {
+        end_range(goes_on, calculation)
+    } else {
+        condition_range(calculation.conditions)
+    }
+}
+
+fn end_range(goes_on: bool, calculation: &CalculationSpec) -> ColumnRange
+    ensures { result ≡ marks.end_range goes_on calculation.now }
+{
+    if goes_on {
+        further_range(calculation)
+    } else {
+        match calculation.operation {
+            None => ColumnRange::Operation,
+            Some(operation) => operation_range(calculation, operation),
+        }
+    }
+}
+
+/// What a card before the last has beside its conditions.
+fn further_range(calculation: &CalculationSpec) -> ColumnRange
+    ensures { result ≡ marks.further_range calculation.now }
+{
+    if calculation.factor_1.is_some() {
+        ColumnRange::FirstFactor
+    } else if calculation.operation.is_some() {
+        ColumnRange::Operation
+    } else if calculation.factor_2.is_some() {
+        ColumnRange::SecondFactor
+    } else if calculation.result_field.is_some() {
+        ColumnRange::ResultName
+    } else {
+        shown_range(calculation.resulting_indicators)
+    }
+}
+
+fn operation_range(calculation: &CalculationSpec, operation: Operation) -> ColumnRange
+    ensures { result ≡ marks.operation_range calculation.now operation }
+{
+    let columns = columns(operation);
+    if misses(columns.factor_1, &calculation.factor_1) {
+        ColumnRange::FirstFactor
+    } else if misses(columns.factor_2, &calculation.factor_2) {
+        ColumnRange::SecondFactor
+    } else if misses_result(columns.result_field, &calculation.result_field) {
+        ColumnRange::ResultName
+    } else {
+        shown_range(calculation.resulting_indicators)
+    }
+}
+
+/// The first resulting indicator, or where they are missing.
+fn shown_range(indicators: Three<Option<Indicator>>) -> ColumnRange
+    ensures { result ≡ marks.shown_range indicators }
+{
+    if indicators.first.is_some() {
+        ColumnRange::ResultPlus
+    } else if indicators.second.is_some() {
+        ColumnRange::ResultMinus
+    } else if indicators.third.is_some() {
+        ColumnRange::ResultZero
+    } else {
+        ColumnRange::ResultingIndicators
+    }
+}
+
+/// The first condition, or where they are missing.
+fn condition_range(conditions: Three<Option<Condition>>) -> ColumnRange
+    ensures { result ≡ marks.condition_range conditions }
+{
+    if conditions.first.is_some() {
+        ColumnRange::FirstCondition
+    } else if conditions.second.is_some() {
+        ColumnRange::SecondCondition
+    } else if conditions.third.is_some() {
+        ColumnRange::ThirdCondition
+    } else {
+        ColumnRange::Conditions
+    }
+}
+
+/// F10, F13, F14: the label or the subroutine that it goes to.
+pub fn target_range() -> ColumnRange
+    ensures { result ≡ marks.target_range }
+{
+    ColumnRange::SecondFactor
+}
+
+/// F11: the name of the label or the subroutine, or of the field.
+pub fn twice_range(
+    source: &IndexedCards,
+    labels: &Labels,
+    flow: &Flow,
+    before: &[SpecCard],
+    card: &SpecCard,
+    after: &[SpecCard],
+) -> ColumnRange
+    requires split { source.now ≡ before.now ++ card.now ∷ after.now }
+    requires labels { labels.now ≡ source.now }
+    requires flow { IsFlow before.now (card.now ∷ after.now) flow.now }
+    ensures { result ≡ marks.twice_range before.now card.now after.now }
+{
+    if gives_again(source, labels, flow, before, card, after) {
+        ColumnRange::FirstFactor
+    } else {
+        ColumnRange::ResultName
+    }
+}
+
+/// F12 of a calculation: BEGSR or ENDSR, else columns 7 and 8.
+pub fn order_columns(card: &SpecCard) -> Option<ColumnRange>
+    ensures { result ≡ marks.order_columns card.now }
+{
+    Some(order_range(card.calculation()?))
+}
+
+fn order_range(calculation: &CalculationSpec) -> ColumnRange
+    ensures { result ≡ marks.order_range calculation.now }
+{
+    if is_bracket(calculation) {
+        ColumnRange::Operation
+    } else {
+        ColumnRange::ControlLevel
+    }
+}
+
+/// F15: H, or the operation that lacks a division before it.
+pub fn rounding_columns(card: &SpecCard, after: &[SpecCard]) -> Option<ColumnRange>
+    ensures { result ≡ marks.rounding_columns card.now after.now }
+{
+    Some(rounding_range(
+        is_rounded(card, after),
+        card.calculation()?,
+    ))
+}
+
+fn rounding_range(is_rounded: bool, calculation: &CalculationSpec) -> ColumnRange
+    ensures { result ≡ if calculation.now.half_adjust && not is_rounded then range.HalfAdjust else range.Operation }
+{
+    if calculation.half_adjust && !is_rounded {
+        ColumnRange::HalfAdjust
+    } else {
+        ColumnRange::Operation
+    }
+}
+
+/// Whether a card is the last of a calculation whose operation may round.
+fn is_rounded(card: &SpecCard, after: &[SpecCard]) -> bool
+    ensures { result ≡ option_map_or (rounding.operation_passes rounding.may_half_adjust) (card_ending card.now after.now) false }
+{
+    match last_card(card, after) {
+        None => false,
+        Some(last) => may_half_adjust(last),
+    }
+}
