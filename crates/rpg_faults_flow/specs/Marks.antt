@@ -1,5 +1,5 @@
 -- Which columns of a calculation card the faults of control speak of.
-use Rattle.std.specs.Prelude.{ℕ, List, ◌∷◌, ◌++◌, Bool, true, false, ◌&&◌, Option, is_some, is_none, if◌then◌else◌}
+use Rattle.std.specs.Prelude.{ℕ, List, Bool, true, false, ◌&&◌, Option, is_some, is_none, if◌then◌else◌}
 use Rattle.std.specs.Option.{option_map, option_map_or}
 use Rattle.rpg_cards.specs.Calculations.{calculation_ending, card_ending, goes_on}
 use Rattle.rpg_cards.specs.Cards.{calculation_on}

@@ -1,12 +1,11 @@
 //! Which columns of a calculation card the faults of control speak of.
 
-ghost use Rattle.std.specs.Prelude.{◌≡◌, ◌∷◌, ◌++◌, ◌&&◌, not, false, if◌then◌else◌};
+ghost use Rattle.std.specs.Prelude.{◌≡◌, ◌∷◌, ◌++◌, false};
 ghost use Rattle.std.specs.Option.{option_map_or};
 ghost use Rattle.rpg_cards.specs.Calculations.{card_ending};
 ghost use Rattle.rpg_faults_flow.specs.Marks as marks;
 ghost use Rattle.rpg_faults_flow.specs.Rounding as rounding;
 ghost use Rattle.rpg_faults_flow.specs.Seen.{IsFlow};
-ghost use Rattle.rpg_sheet_specs.specs.declared.column_range.ColumnRange.TheVariants as range;
 
 use crate::columns::{bad_by_end, misses, misses_result};
 use crate::flow::Flow;
@@ -160,19 +159,10 @@ fn order_range(calculation: &CalculationSpec) -> ColumnRange
 pub fn rounding_columns(card: &SpecCard, after: &[SpecCard]) -> Option<ColumnRange>
     ensures { result ≡ marks.rounding_columns card.now after.now }
 {
-    Some(rounding_range(
-        is_rounded(card, after),
-        card.calculation()?,
-    ))
-}
-
-fn rounding_range(is_rounded: bool, calculation: &CalculationSpec) -> ColumnRange
-    ensures { result ≡ if calculation.now.half_adjust && not is_rounded then range.HalfAdjust else range.Operation }
-{
-    if calculation.half_adjust && !is_rounded {
-        ColumnRange::HalfAdjust
+    if card.calculation()?.half_adjust && !is_rounded(card, after) {
+        Some(ColumnRange::HalfAdjust)
     } else {
-        ColumnRange::Operation
+        Some(ColumnRange::Operation)
     }
 }
 
