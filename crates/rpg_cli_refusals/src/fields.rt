@@ -1,5 +1,6 @@
 //! Fields and indicators in words.
 
+use crate::counted::put_count;
 use rpg_effect::condition::Conditions;
 use rpg_effect::form::{Class, FieldForm, Kind};
 use rpg_effect::operation::{Index, Operand, Shows};
@@ -61,36 +62,56 @@ pub(crate) fn asked(conditions: Conditions) -> Shows {
 }
 
 fn put_class(alloc: Global, out: &mut String, form: FieldForm) -> Result<(), AllocError> {
-    let FieldForm { entries, .. } = form;
     match form.class {
-        Class::Plain => out.push_str("a "),
-        Class::Constant => out.push_str("a constant, a "),
-        Class::Date => out.push_str("the date, a "),
-        Class::Array => {
-            out.push_str(format!(in alloc; "an array of {entries} entries, each a ")?.as_str())
-        }
-        Class::Table => {
-            out.push_str(format!(in alloc; "a table of {entries} entries, each a ")?.as_str())
-        }
+        Class::Plain => return out.push_str("a "),
+        Class::Constant => return out.push_str("a constant, a "),
+        Class::Date => return out.push_str("the date, a "),
+        Class::Array => out.push_str("an array of ")?,
+        Class::Table => out.push_str("a table of ")?,
+    }
+    put_count(alloc, out, usize::from(form.entries), "entry", "entries")?;
+    out.push_str(", each a ")
+}
+
+/// How many digits of a number are decimals.
+fn put_decimals(
+    alloc: Global,
+    out: &mut String,
+    length: u16,
+    decimals: u8,
+) -> Result<(), AllocError> {
+    match (length, decimals) {
+        (_, 0) => Ok(()),
+        (1, _) => out.push_str(", a decimal"),
+        (_, 1) => out.push_str(", 1 of them a decimal"),
+        _ => out.push_str(format!(in alloc; ", {decimals} of them decimals")?.as_str()),
     }
 }
 
 /// What a field is: its class, its kind and its length.
 fn put_form(alloc: Global, out: &mut String, form: FieldForm) -> Result<(), AllocError> {
     put_class(alloc, out, form)?;
-    let FieldForm {
-        length,
-        decimals,
-        ..
-    } = form;
-    let text = match form.kind {
-        Kind::Text => format!(in alloc; "text of {length} characters")?,
-        Kind::Number if decimals == 0 => format!(in alloc; "number of {length} digits")?,
-        Kind::Number => format!(in alloc;
-            "number of {length} digits, {decimals} of them decimals"
-        )?,
-    };
-    out.push_str(text.as_str())
+    let length = usize::from(form.length);
+    match form.kind {
+        Kind::Text => {
+            out.push_str("text of ")?;
+            put_count(alloc, out, length, "character", "characters")
+        }
+        Kind::Number => {
+            out.push_str("number of ")?;
+            put_count(alloc, out, length, "digit", "digits")?;
+            put_decimals(alloc, out, form.length, form.decimals)
+        }
+    }
+}
+
+/// The numbers that fields have.
+fn put_numbers(alloc: Global, out: &mut String, rows: &Rows) -> Result<(), AllocError> {
+    match rows.fields.len() {
+        0 => out.push_str("and there are no fields"),
+        1 => out.push_str("and the only field is 1"),
+        count => out.push_str(format!(in alloc; "and fields are 1 to {count}")?.as_str()),
+    }
 }
 
 /// A field by its number, and what it is.
@@ -103,10 +124,7 @@ pub(crate) fn put_field(
     out.push_str(format!(in alloc; "field {field}, ")?.as_str())?;
     match form_at(rows, field) {
         Some(form) => put_form(alloc, out, form),
-        None => {
-            let count = rows.fields.len();
-            out.push_str(format!(in alloc; "and fields are 1 to {count}")?.as_str())
-        }
+        None => put_numbers(alloc, out, rows),
     }
 }
 

@@ -2,6 +2,7 @@
 #![tactic(auto)]
 
 mod bytes;
+mod counted;
 mod fields;
 mod halts;
 mod instructions;

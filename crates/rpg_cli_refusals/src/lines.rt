@@ -1,5 +1,6 @@
 //! V2 and V8 to V15: what stands in an output line.
 
+use crate::counted::put_count;
 use crate::line_fields::put_fields;
 use rpg_effect::condition::Condition;
 use rpg_effect::line::{File, Spacing, Time};
@@ -72,7 +73,8 @@ pub(crate) fn put_line(
     out.push_str(time_name(line.time))?;
     out.push(' ')?;
     out.push_str(file_name(line.file))?;
-    out.push_str(format!(in alloc; ", of {length} places")?.as_str())?;
+    out.push_str(", of ")?;
+    put_count(alloc, out, usize::from(length), "place", "places")?;
     match rule {
         LineRule::V2 => Ok(()),
         LineRule::V8 => put_spacing(alloc, out, line.spacing),

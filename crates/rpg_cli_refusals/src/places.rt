@@ -136,6 +136,15 @@ fn put_target(
     )?.as_str())
 }
 
+/// How many subroutines there are.
+fn put_subroutines(alloc: Global, out: &mut String, rows: &Rows) -> Result<(), AllocError> {
+    match rows.subroutines.len() {
+        0 => out.push_str("; there is none"),
+        1 => out.push_str("; the only one is subroutine 0"),
+        count => out.push_str(format!(in alloc; "; there are {count}, counted from 0")?.as_str()),
+    }
+}
+
 /// What a call calls.
 fn put_called(
     alloc: Global,
@@ -146,19 +155,14 @@ fn put_called(
     let Instruction::Call { subroutine } = instruction else {
         return Ok(());
     };
-    let text = match rows.subroutines.get(usize::from(subroutine)) {
+    out.push_str(format!(in alloc; "; it calls subroutine {subroutine}")?.as_str())?;
+    match rows.subroutines.get(usize::from(subroutine)) {
         Some(called) => {
             let level = called.level;
-            format!(in alloc; "; it calls subroutine {subroutine}, of level {level}")?
+            out.push_str(format!(in alloc; ", of level {level}")?.as_str())
         }
-        None => {
-            let count = rows.subroutines.len();
-            format!(in alloc;
-                "; it calls subroutine {subroutine}; there are {count}, counted from 0"
-            )?
-        }
-    };
-    out.push_str(text.as_str())
+        None => put_subroutines(alloc, out, rows),
+    }
 }
 
 /// Which instruction it is.

@@ -1,20 +1,20 @@
 //! What stands at an offset of an object program's bytes. The counts before it are taken as they are.
 
 use crate::parts::{
-    alternative_part, field_part, header_part, input_part, instruction_part, level_part,
+    RowPart, alternative_part, field_part, header_part, input_part, instruction_part, level_part,
     line_field_part, line_part, record_code_part, subroutine_part, type_part,
 };
 
 /// A part of a row of a table.
 #[derive(Clone, Copy)]
 pub(crate) struct Spot {
-    pub part: &'static str,
+    pub part: RowPart,
     pub table: &'static str,
     /// The number of the row in its table; the header has none.
     pub row: Option<usize>,
 }
 
-fn row_spot(part: &'static str, table: &'static str, row: usize) -> Option<Spot> {
+fn row_spot(part: RowPart, table: &'static str, row: usize) -> Option<Spot> {
     Some(Spot {
         part,
         table,
@@ -79,7 +79,11 @@ fn in_values(walk: &mut Walk<'_>) -> Option<Spot> {
         let length = walk.number(row.saturating_add(2));
         let entries = walk.number(row.saturating_add(6));
         if walk.within(length.saturating_mul(entries)).is_some() {
-            return row_spot("a first value", "field", field.saturating_add(1));
+            let value = RowPart {
+                name: "a first value",
+                bytes: length,
+            };
+            return row_spot(value, "field", field.saturating_add(1));
         }
     }
     None

@@ -1,5 +1,6 @@
 //! V23 and V24: what stands in a subroutine.
 
+use crate::counted::put_count;
 use rpg_effect::operation::Instruction;
 use rpg_object_program::row::{Rows, Subroutine};
 use std::alloc::{AllocError, Global};
@@ -32,10 +33,10 @@ fn put_last(alloc: Global, out: &mut String, subroutine: &Subroutine) -> Result<
         None => out.push_str(", without instructions"),
         Some(last) => {
             let count = subroutine.instructions.len();
-            let name = last.name();
-            out.push_str(format!(in alloc;
-                ", of {count} instructions, the last {name}"
-            )?.as_str())?;
+            out.push_str(", of ")?;
+            put_count(alloc, out, count, "instruction", "instructions")?;
+            out.push_str(", the last ")?;
+            out.push_str(last.name())?;
             match *last {
                 Instruction::Return { subroutine } => {
                     out.push_str(format!(in alloc; " of subroutine {subroutine}")?.as_str())

@@ -43,10 +43,10 @@ found low front (x ∷ xs) c after k h =
 -- no card has number 0
 none_of_whole : (low : ℕ) (front cards : List SpecCard) (f : Fault) → Numbered (low + 1) cards → f.card ≡ 0 → columns_in front cards f ≡ None
 none_of_whole low front [] f h e = refl
-none_of_whole low front (c ∷ cs) f h e = rw (e, not_0 c.number h.0) (none_of_whole c.number (front ++ c ∷ []) cs f h.1 e)
+none_of_whole low front (c ∷ cs) f h e = rw (not_its c.number f.card h.0 e) (none_of_whole c.number (front ++ c ∷ []) cs f h.1 e)
   where
-    not_0 : (n : ℕ) → low + 1 ≤ n → (n == 0) ≡ false
-    not_0 n up = grind (arith, common_steps)
+    not_its : (n card : ℕ) → low + 1 ≤ n → card ≡ 0 → (n == card) ≡ false
+    not_its n card up none = grind (arith, common_steps)
 
 -- ---- card by card
 

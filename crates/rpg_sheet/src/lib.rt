@@ -21,7 +21,7 @@ mod unreadable;
 pub use card::Card;
 pub use first::refusal_tells_the_first;
 pub use rpg_sheet_specs::{
-    CalculationSpec, ColumnFault, Condition, ControlLevel, DataCard, DataSpec, Device,
+    CalculationSpec, ColumnFault, ColumnRange, Condition, ControlLevel, DataCard, DataSpec, Device,
     EditCode, Entry, EntryIndex, ExtensionSpec, Factor, FileRole, FileSpec, FormType, HeaderSpec,
     Indicator, InputField, InputSpec, LineTime, Literal, Movement, NumericLiteral, Operation,
     OutputField, OutputRecord, OutputSpec, RecordCode, RecordType, Spec, TableSpec, TextLiteral,
