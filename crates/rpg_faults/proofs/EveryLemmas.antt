@@ -1,9 +1,9 @@
 -- The faults of the cards in turn, code by code, are all faults, in their order.
-use Rattle.std.proofs.Common.{◌≡◌, ℕ, ◌+◌, ◌<◌, ◌≤◌, ◌⊎◌, inl, inr, suc, zero, Bool, true, false, List, [], ◌∷◌, ◌++◌, length, refl, sym, ap, ap₂, ◌∙◌, arith}
+use Rattle.std.proofs.Common.{◌≡◌, ℕ, ◌+◌, ◌⊎◌, inl, inr, suc, zero, Bool, true, false, List, [], ◌∷◌, ◌++◌, refl, sym, ap, ap₂, ◌∙◌, arith}
 use Rattle.std.proofs.lemmas.Bool.{and_parts, both_ways, cond_both, ltb-true}
 use Rattle.std.proofs.lemmas.List.Elements.{Contains-get_or}
 use Rattle.std.proofs.lemmas.List.Kept.{AllPairs-cons}
-use Rattle.std.specs.Prelude.{⊤, ◌&&◌, ◌↔◌, All, AllPairs, Contains, cond, filter, get_or, map, nat_lt}
+use Rattle.std.specs.Prelude.{⊤, ◌&&◌, AllPairs, Contains, filter, get_or, map, nat_lt}
 use Rattle.std.specs.List.{list_all}
 use Rattle.rpg_cards.specs.Cards.{Numbered}
 use Rattle.rpg_cards.specs.declared.spec_card.SpecCard.{SpecCard}

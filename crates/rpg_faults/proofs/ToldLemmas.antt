@@ -1,9 +1,9 @@
 -- What is told card by card is told of all faults, each with the columns of its card.
-use Rattle.std.proofs.Common.{◌≡◌, ℕ, ◌+◌, ◌≤◌, Bool, true, false, List, [], ◌∷◌, ◌++◌, Option, None, refl, sym, ap, ap₂, subst, ◌∙◌, arith, append_assoc, append-nil}
+use Rattle.std.proofs.Common.{◌≡◌, ℕ, ◌+◌, ◌≤◌, true, false, List, [], ◌∷◌, ◌++◌, Option, None, refl, sym, ap, ap₂, subst, ◌∙◌, arith, append_assoc, append-nil}
 use Rattle.std.proofs.lemmas.Bool.{cond_both}
 use Rattle.std.proofs.lemmas.Grind.{common_steps}
 use Rattle.std.proofs.lemmas.List.{map-append}
-use Rattle.std.specs.Prelude.{◌==◌, cond, filter, map}
+use Rattle.std.specs.Prelude.{◌==◌, filter, map}
 use Rattle.rpg_cards.specs.Cards.{Numbered}
 use Rattle.rpg_cards.specs.declared.spec_card.SpecCard.{SpecCard}
 use Rattle.rpg_faults.proofs.EveryLemmas.{every}
@@ -11,7 +11,7 @@ use Rattle.rpg_faults.specs.Every.{all_faults, faults_from, faults_on}
 use Rattle.rpg_faults.specs.Faults.{codes, fault_on}
 use Rattle.rpg_faults.specs.Marks.{fault_columns}
 use Rattle.rpg_faults.specs.Rules.{rule}
-use Rattle.rpg_faults.specs.Told.{AreFaultsOf, columns_in, told_by, told_faults, told_from, told_of, told_on}
+use Rattle.rpg_faults.specs.Told.{AreFaultsOf, columns_in, told_by, told_faults, told_from, told_of}
 use Rattle.rpg_faults.specs.declared.code.FaultCode.{FaultCode}
 use Rattle.rpg_faults.specs.declared.code.FaultCode.TheVariants.{F7}
 use Rattle.rpg_faults.specs.declared.fault.Fault.{Fault}

@@ -1,4 +1,4 @@
-use Rattle.std.proofs.Common.{◌≡◌, ◌+◌, ◌∷◌, ◌∙◌, length, take, refl, ap}
+use Rattle.std.proofs.Common.{◌+◌, ◌∷◌, ◌∙◌, length, take, refl, ap}
 use Rattle.std.proofs.Math.Seq.{take-append-add}
 use Rattle.rpg_faults.proofs.seen.with_card.Goals as goal
 

@@ -1,4 +1,4 @@
-use Rattle.std.proofs.Common.{◌≡◌, ◌++◌, ◌∷◌, [], ◌∙◌, sym, ap, subst, append_assoc}
+use Rattle.std.proofs.Common.{◌++◌, ◌∷◌, [], ◌∙◌, sym, ap, subst, append_assoc}
 use Rattle.rpg_cards.specs.Sheets.{AreSheets}
 use Rattle.rpg_faults_flow.specs.Seen.{IsFlow}
 use Rattle.rpg_faults_limits.specs.State.{AreLimits}
