@@ -259,18 +259,22 @@ fn run_program<R: Files + AllocGlobal>(
     let (alloc, date) = (rt.alloc(), words.date.as_bytes());
     let mut input = Counted::new(input);
     let mut print = Counted::new(named(FileWord::Print, empty_file(alloc, print))?);
-    match disk {
+    let disk = match disk {
+        Some(disk) => Some(named(FileWord::Disk, empty_file(alloc, disk))?),
+        None => None,
+    };
+    let program = accepted.map_err(Answer::Object)?;
+    let ran = match disk {
         Some(disk) => {
-            let mut disk = Counted::new(named(FileWord::Disk, empty_file(alloc, disk))?);
-            let program = accepted.map_err(Answer::Object)?;
-            Ok(run_over(alloc, &program, date, &mut input, &mut print, &mut disk)?)
+            let mut disk = Counted::new(disk);
+            run_over(alloc, &program, date, &mut input, &mut print, &mut disk)
         }
         None => {
-            let mut disk = Counted::new(io::sink());
-            let program = accepted.map_err(Answer::Object)?;
-            Ok(run_over(alloc, &program, date, &mut input, &mut print, &mut disk)?)
+            let mut nowhere = Counted::new(io::sink());
+            run_over(alloc, &program, date, &mut input, &mut print, &mut nowhere)
         }
-    }
+    };
+    Ok(ran?)
 }
 
 /// The program of a run, accepted or refused, and where its disk file goes.
