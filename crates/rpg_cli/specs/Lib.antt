@@ -1,3 +1,5 @@
 -- The lines and statuses of answers, and what the program prints.
 pub mod Answers
+pub mod Judging
+pub mod Running
 pub mod Saying

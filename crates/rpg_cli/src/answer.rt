@@ -1,6 +1,7 @@
 //! What the program answers to a command.
 
 ghost use Rattle.std.specs.Prelude.{◌≡◌};
+ghost use Rattle.rpg_cli.specs.Running.{named_fault};
 ghost use Rattle.rpg_cli.specs.declared.answer.Answer.TheVariants as answers;
 
 use arrayvec::ArrayVec;
@@ -39,7 +40,9 @@ pub enum Answer {
 }
 
 /// Hands up the fault of the file that a word names.
-pub(crate) fn named<T>(word: FileWord, given: Result<T, FileFault>) -> Result<T, Answer> {
+pub(crate) fn named<T>(word: FileWord, given: Result<T, FileFault>) -> Result<T, Answer>
+    ensures { result ≡ named_fault word given }
+{
     match given {
         Ok(value) => Ok(value),
         Err(fault) => Err(Answer::File { word, fault }),

@@ -1,12 +1,19 @@
 //! The files of a command.
 
+ghost use Rattle.std.specs.Prelude.{◌≤◌, IfErr, IfOk, IfSome, OnOk};
+ghost use Rattle.rpg_cli.specs.Judging.{BreaksLimit};
+ghost use Rattle.rpg_engine.specs.Bound.{bound};
+ghost use Rattle.rpg_engine.specs.Objects.{HasObjectFault, SpellsProgram};
+
 use crate::answer::{Answer, named};
+use crate::judging::{compiled, verified};
+use crate::running::run_over;
 use crate::stop::Stop;
 use crate::telling::tell_object;
 use crate::told::Listener;
 use rpg_cli_files::{
-    FileIdentity, compile_to_bytes, empty_file, file_bytes, flush_device, identity, identity_at,
-    input_file, output_file, write_bytes,
+    FileIdentity, empty_file, file_bytes, identity, identity_at, input_file, output_file,
+    write_bytes,
 };
 use rpg_cli_messages::source_messages;
 use rpg_cli_show::program_text;
@@ -14,15 +21,13 @@ use rpg_cli_words::{
     CheckWords, CompileWords, FileWord, RunWords, SameFile, ShowWords, VerifyWords,
 };
 use rpg_engine::{
-    ObjectFault, Program, Report, RunFault, Verified, accept, decode_object, execute_program,
-    has_disk_file, verify_bytes,
+    ObjectFault, Program, Report, RunFault, Verified, accept, decode_object, has_disk_file,
 };
 use rpg_faults::{SourceFault, faultless_cards, source_faults};
 use rpg_files::Counted;
 use std::alloc::Global;
 use std::fs::OpenFile;
 use std::io;
-use std::io::{Read, Write};
 use std::rt::Files;
 
 /// A word of the command line, and the regular file that it names, if it names one.
@@ -85,11 +90,11 @@ pub(crate) fn compile_files<R: Files + AllocGlobal, L: Listener>(
     listener: &mut L,
 ) -> Result<(), Stop> {
     let source = named(FileWord::Source, file_bytes(rt, words.source))?;
-    match compile_to_bytes(rt.alloc(), &source, words.allowance) {
+    match compiled(rt.alloc(), &source, words.allowance) {
         Ok(object) => write_object(rt, words, &object),
-        Err(fault) => {
+        Err(answer) => {
             tell_faults(rt.alloc(), words.source, &source, listener);
-            Err(Stop::from(Answer::from(fault)))
+            Err(answer.into())
         }
     }
 }
@@ -132,13 +137,11 @@ pub(crate) fn verify_file<R: Files + AllocGlobal, L: Listener>(
     listener: &mut L,
 ) -> Result<u64, Answer> {
     let object = named(FileWord::Object, file_bytes(rt, words.object))?;
-    match verify_bytes(rt.alloc(), &object) {
-        Ok(bound) => Ok(bound),
-        Err(fault) => {
-            tell_object(rt.alloc(), words.object, &object, fault, listener);
-            Err(fault.into())
-        }
+    let bound = verified(rt.alloc(), &object);
+    if let Err(Answer::Object(fault)) = bound {
+        tell_object(rt.alloc(), words.object, &object, fault, listener);
     }
+    bound
 }
 
 /// Shows the program that the bytes of an object file spell, where they spell one.
@@ -162,7 +165,7 @@ pub(crate) fn show_file<R: Files + AllocGlobal, L: Listener>(
         tell_object(rt.alloc(), words.object, &object, fault, listener);
     }
     shown?;
-    Ok(verify_bytes(rt.alloc(), &object)?)
+    verified(rt.alloc(), &object)
 }
 
 /// Where the records of a disk file go, if the program has one. A path that isn't wanted is left.
@@ -186,7 +189,10 @@ fn keeps_limit(
     accepted: &Result<Verified, ObjectFault>,
     date: &str,
     most: u64,
-) -> Result<(), Answer> {
+) -> Result<(), Answer>
+    ensures kept { OnOk result (IfOk accepted.now (λ program. bound program ≤ most)) }
+    ensures refused { IfErr result (λ answer. BreaksLimit answer accepted.now most) }
+{
     match accepted {
         Err(fault) => Err(Answer::Object(*fault)),
         Ok(_) if !is_date(date) => Err(Answer::Run(RunFault::BadDate)),
@@ -195,32 +201,6 @@ fn keeps_limit(
         }),
         Ok(_) => Ok(()),
     }
-}
-
-/// Runs a program over an input, if it was accepted, and writes out what the writers still hold.
-fn run_over<I: Read + Drop, P: Write + Drop, D: Write + Drop>(
-    alloc: Global,
-    accepted: Result<Verified, ObjectFault>,
-    date: &str,
-    input: I,
-    print: P,
-    disk: D,
-) -> Result<Report, Answer> {
-    let mut input = Counted::new(input);
-    let mut print = Counted::new(print);
-    let mut disk = Counted::new(disk);
-    let program = accepted?;
-    let report = execute_program(
-        alloc,
-        &program,
-        date.as_bytes(),
-        &mut input,
-        &mut print,
-        &mut disk,
-    )?;
-    named(FileWord::Print, flush_device(print))?;
-    named(FileWord::Disk, flush_device(disk))?;
-    Ok(report)
 }
 
 /// The files of a run, open, and those that are written not emptied yet.
@@ -266,7 +246,7 @@ fn keep_files<R: Files>(
     }
 }
 
-/// Opens the files of a run, empties those that are written, and runs the program over them.
+/// Opens the files of a run, empties those that are written, and runs the program over them, if it was accepted.
 fn run_program<R: Files + AllocGlobal>(
     rt: &R,
     words: &RunWords,
@@ -276,15 +256,25 @@ fn run_program<R: Files + AllocGlobal>(
     let files = open_files(rt, words, disk)?;
     keep_files(rt, words, &files)?;
     let RunFiles { input, print, disk } = files;
-    let alloc = rt.alloc();
-    let print = named(FileWord::Print, empty_file(alloc, print))?;
-    match disk {
+    let (alloc, date) = (rt.alloc(), words.date.as_bytes());
+    let mut input = Counted::new(input);
+    let mut print = Counted::new(named(FileWord::Print, empty_file(alloc, print))?);
+    let disk = match disk {
+        Some(disk) => Some(named(FileWord::Disk, empty_file(alloc, disk))?),
+        None => None,
+    };
+    let program = accepted.map_err(Answer::Object)?;
+    let ran = match disk {
         Some(disk) => {
-            let disk = named(FileWord::Disk, empty_file(alloc, disk))?;
-            Ok(run_over(alloc, accepted, words.date, input, print, disk)?)
+            let mut disk = Counted::new(disk);
+            run_over(alloc, &program, date, &mut input, &mut print, &mut disk)
         }
-        None => Ok(run_over(alloc, accepted, words.date, input, print, io::sink())?),
-    }
+        None => {
+            let mut nowhere = Counted::new(io::sink());
+            run_over(alloc, &program, date, &mut input, &mut print, &mut nowhere)
+        }
+    };
+    Ok(ran?)
 }
 
 /// The program of a run, accepted or refused, and where its disk file goes.
@@ -295,7 +285,11 @@ fn program_of<'a>(
     alloc: Global,
     words: &RunWords<'a>,
     object: &[u8],
-) -> Result<(Result<Verified, ObjectFault>, Option<&'a str>), Answer> {
+) -> Result<(Result<Verified, ObjectFault>, Option<&'a str>), Answer>
+    ensures spelled { IfOk result (λ told. IfOk told.0 (λ program. SpellsProgram object.now program)) }
+    ensures refused { IfOk result (λ told. IfErr told.0 (λ fault. HasObjectFault fault object.now)) }
+    ensures limit { IfOk result (λ told. IfSome words.now.most (λ most. IfOk told.0 (λ program. bound program ≤ most))) }
+{
     let program = decode_object(alloc, object)?;
     let disk = disk_path(&program, words.disk)?;
     let accepted = accept(alloc, program);

@@ -4,7 +4,9 @@
 mod answer;
 mod explaining;
 mod files;
+mod judging;
 mod program;
+mod running;
 mod stop;
 mod telling;
 mod text;

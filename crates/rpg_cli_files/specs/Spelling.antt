@@ -1,6 +1,7 @@
 -- What the bytes of an object program are.
-use Rattle.std.specs.Prelude.{◌≡◌, ℕ, List}
-use Rattle.rpg_object.specs.Program.{spelling}
+use Rattle.std.specs.Prelude.{◌≡◌, ℕ, List, Ok}
+use Rattle.rpg_compile.specs.Compile.{Compiles}
+use Rattle.rpg_object.specs.Program.{reading, spelling}
 use Rattle.rpg_object_program.specs.Kept.{IsProgram}
 use Rattle.rpg_object_program.specs.Object.{Object}
 
@@ -8,3 +9,7 @@ use Rattle.rpg_object_program.specs.Object.{Object}
 pub record IsSpelled (p : Object) (bytes : List ℕ) : Type 0 where
   pub program : IsProgram p
   pub spelled : bytes ≡ spelling p
+
+-- They are those of the program that a source stands for, which keeps all rules; and what is read in them is that very program.
+abbrev pub CompilesTo : List ℕ → ℕ → List ℕ → Type 0
+CompilesTo text allowance bytes = (p : Object) × Compiles text allowance p × IsSpelled p bytes × (reading bytes ≡ Ok p)

@@ -1,6 +1,8 @@
 //! Whole files by their paths.
 
-ghost use Rattle.std.specs.Prelude.{◌≤◌, length, IfOk};
+ghost use Rattle.std.specs.Prelude.{◌≡◌, ◌-◌, ◌^◌, ◌<◌, ◌≤◌, length, IfOk};
+ghost use Rattle.std.specs.Io.KnownBytes.{Keeps};
+ghost use Rattle.rpg_files.specs.Counting.{device_of, faults_after, faults_of};
 
 use crate::reason::Reason;
 use rpg_files::Counted;
@@ -109,6 +111,13 @@ pub fn empty_file<F: OpenFile + Write + Drop>(
 }
 
 /// Writes out what a writer still holds.
-pub fn flush_device<W: Write + Drop>(writer: Counted<W>) -> Result<(), FileFault> {
-    writer.into_device().flush().map_err(output_fault)
+pub fn flush_device<W: Write>(writer: &mut Counted<W>) -> Result<(), FileFault>
+    requires { faults_of writer.old < 2 ^ 64 - 1 }
+    ensures bytes { Keeps (W.contents (device_of writer.old)) (W.contents (device_of writer.new)) }
+    ensures faults { faults_of writer.new ≡ faults_after (faults_of writer.old) result }
+{
+    match writer.flush() {
+        Ok(()) => Ok(()),
+        Err(error) => Err(output_fault(error)),
+    }
 }

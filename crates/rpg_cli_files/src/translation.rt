@@ -1,10 +1,8 @@
 //! A source to the bytes of its object program.
 
-ghost use Rattle.std.specs.Prelude.{◌≡◌, ◌<◌, None, Ok, IfErr, IfOk};
-ghost use Rattle.rpg_cli_files.specs.Spelling.{IsSpelled};
-ghost use Rattle.rpg_compile.specs.Compile.{Compiles};
-ghost use Rattle.rpg_object.specs.Program.{first_fault, reading};
-ghost use Rattle.rpg_object_program.specs.Object.{Object};
+ghost use Rattle.std.specs.Prelude.{◌≡◌, ◌<◌, None, IfErr, IfOk};
+ghost use Rattle.rpg_cli_files.specs.Spelling.{CompilesTo};
+ghost use Rattle.rpg_object.specs.Program.{first_fault};
 ghost use Rattle.rpg_faults.specs.Source.{IsSourceRefusal};
 
 use rpg_compile::{SourceFault, compile};
@@ -16,7 +14,7 @@ use std::alloc::Global;
 pub fn compile_to_bytes(alloc: Global, text: &[u8], allowance: u16) -> Result<Vec<u8>, SourceFault>
     requires { 0 < allowance }
     // The program keeps all rules, and what is read in the bytes is that very program.
-    ensures ok { IfOk result (λ bytes. (p : Object) × Compiles text.now allowance p × IsSpelled p bytes.items × (reading bytes.items ≡ Ok p)) }
+    ensures ok { IfOk result (λ bytes. CompilesTo text.now allowance bytes.items) }
     ensures refused { IfErr result (λ fault. IsSourceRefusal fault text.now) }
     ensures faultless { IfOk result (λ bytes. first_fault bytes.items ≡ None) }
 {

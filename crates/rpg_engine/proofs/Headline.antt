@@ -17,7 +17,7 @@ use Rattle.rpg_engine.specs.declared.fault.RunFault.{RunFault}
 use Rattle.rpg_engine.specs.declared.report.Report.{Report}
 
 -- what holds of each input that begins so
-of_each : (given left : Option (List ℕ)) (Fact Other : List ℕ → Type 0) → ((input : List ℕ) → Fact input → Other input) → OfInput given left Fact → OfInput given left Other
+pub of_each : (given left : Option (List ℕ)) (Fact Other : List ℕ → Type 0) → ((input : List ℕ) → Fact input → Other input) → OfInput given left Fact → OfInput given left Other
 of_each given left Fact Other each h = record { read = h.read; ended = h.ended; consumed = h.consumed; at_end = h.at_end; fact = λ more can. each (h.read ++ more) (h.fact more can) }
 
 module _ (p : Object) (date : List ℕ) (day : ℤ) (kept : IsProgram p) (accepted : IsAccepted p) (dated : date_in date ≡ Some day) where

@@ -2,6 +2,7 @@
 pub mod Bytes
 pub mod Courses
 pub mod Determined
+pub mod Flushing
 pub mod Headline
 pub mod Passing
 pub mod Refusing

@@ -6,7 +6,10 @@ pub mod Objects
 pub mod Refusing
 pub mod Reporting
 pub mod Streaming
+pub use Rattle.rpg_cycle.specs.Starting
 pub use Rattle.rpg_cycle.specs.declared.ends.JobEnd
 pub use Rattle.rpg_effect.specs.Halts
 pub use Rattle.rpg_object_format.specs.CodeTexts
+pub use Rattle.rpg_object_program.specs.Object
+pub use Rattle.rpg_verify.specs.Bound
 pub use Rattle.rpg_verify_rules.specs.Rules

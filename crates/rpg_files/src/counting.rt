@@ -1,9 +1,10 @@
 //! Readers and writers, and how many of their calls failed.
 
 ghost use Rattle.std.specs.Prelude.{◌≡◌, ◌+◌, ◌-◌, ◌^◌, ◌<◌, ◌≤◌, length, IfOk};
-ghost use Rattle.std.specs.Io.KnownBytes.{ReadConsumes, WriteAppends};
+ghost use Rattle.std.specs.Io.KnownBytes.{Keeps, ReadConsumes, WriteAppends};
 ghost use Rattle.rpg_files.specs.Counting.{faults_after, device_of, faults_of, max_tries};
 
+use std::io;
 use std::io::{ErrorKind, Read, Write};
 
 /// How often a device is asked for one read or one write. Where it was interrupted each time, the read or the write has failed.
@@ -92,5 +93,18 @@ impl<W: Write> Counted<W> {
         }
         self.faults += 1;
         Err(DeviceFault)
+    }
+
+    /// Writes out what the writer still holds. The error is the writer's own.
+    pub fn flush(&mut self) -> io::Result<()>
+        requires { faults_of self.old < 2 ^ 64 - 1 }
+        ensures bytes { Keeps (W.contents (device_of self.old)) (W.contents (device_of self.new)) }
+        ensures faults { faults_of self.new ≡ faults_after (faults_of self.old) result }
+    {
+        let flushed = self.device.flush();
+        if flushed.is_err() {
+            self.faults += 1;
+        }
+        flushed
     }
 }

@@ -1,0 +1,39 @@
+-- What is told of a run whose writers are flushed behind it.
+use Rattle.std.specs.Prelude.{◌≡◌, ℕ, ◌+◌, List, Option, Result, Ok, Err}
+use Rattle.rpg_cli_files.specs.declared.files.FileFault.{FileFault}
+use Rattle.rpg_cli_words.specs.declared.request.FileWord.{FileWord}
+use Rattle.rpg_cli_words.specs.declared.request.FileWord.TheVariants as words
+use Rattle.rpg_engine.specs.Faults.{Counts, FaultsAre}
+use Rattle.rpg_engine.specs.declared.fault.RunFault.{RunFault}
+use Rattle.rpg_engine.specs.declared.report.Report.{Report}
+use Rattle.rpg_cli.specs.declared.answer.Answer.{Answer}
+use Rattle.rpg_cli.specs.declared.answer.Answer.TheVariants as answers
+
+-- the fault of the file that a word names
+abbrev pub named_fault : {T : Type 0} → FileWord → Result T FileFault → Result T Answer
+named_fault word (Ok x) = Ok x
+named_fault word (Err fault) = Err (answers.File word fault)
+
+-- A fault of the run is told as it is. That of a file is a flush behind a run that gave a report; nothing else is told.
+abbrev pub TellsFault : (Result Report RunFault → Type 0) → Answer → Type 0
+TellsFault Came (answers.Run fault) = Came (Err fault)
+TellsFault Came (answers.File word fault) = (report : Report) × Came (Ok report)
+TellsFault Came e = ⊥
+
+-- what the run came to is told: its report, or its fault
+abbrev pub TellsRun : (Result Report RunFault → Type 0) → Result Report Answer → Type 0
+TellsRun Came (Ok report) = Came (Ok report)
+TellsRun Came (Err e) = TellsFault Came e
+
+-- the flush of a writer failed, and no other call of it
+abbrev pub FlushFaults : FileWord → Counts → Counts → Type 0
+FlushFaults words.Print old new = new ≡ record old { print = old.print + 1 }
+FlushFaults words.Disk old new = new ≡ record old { disk = old.disk + 1 }
+FlushFaults word old new = ⊥
+
+-- A fault of the run is told as the counts are, and that of a file exactly where that writer's count rose by one.
+abbrev pub TellsFaults : Result Report Answer → Option (List ℕ) → Option (List ℕ) → Counts → Counts → Type 0
+TellsFaults (Ok report) given left old new = FaultsAre {X = Report} (Ok report) given left old new
+TellsFaults (Err (answers.Run fault)) given left old new = FaultsAre {X = Report} (Err fault) given left old new
+TellsFaults (Err (answers.File word fault)) given left old new = FlushFaults word old new
+TellsFaults (Err e) given left old new = ⊥
