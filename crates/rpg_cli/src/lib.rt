@@ -4,6 +4,7 @@
 mod answer;
 mod explaining;
 mod files;
+mod listing;
 mod program;
 mod stop;
 mod telling;

@@ -5,6 +5,7 @@ ghost use Rattle.rpg_cli.specs.Saying.{PrintsALine, Says};
 use crate::answer::Answer;
 use crate::explaining::explain;
 use crate::files::{check_file, compile_files, run_files, show_file, verify_file};
+use crate::listing::list_file;
 use crate::stop::Stop;
 use crate::telling::tell_answer;
 use crate::text::line;
@@ -28,6 +29,10 @@ fn answer_to<R: Files + AllocGlobal, L: Listener>(
         }
         Request::Check(words) => {
             check_file(rt, words, listener)?;
+            Ok(Answer::Faultless)
+        }
+        Request::List(words) => {
+            list_file(rt, words, listener)?;
             Ok(Answer::Faultless)
         }
         Request::Verify(words) => {
