@@ -2,6 +2,7 @@
 #![tactic(auto)]
 
 mod answer;
+mod decks;
 mod explaining;
 mod files;
 mod listing;

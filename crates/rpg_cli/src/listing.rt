@@ -5,7 +5,7 @@ use crate::told::Listener;
 use rpg_cli_files::file_bytes;
 use rpg_cli_list::source_listing;
 use rpg_cli_words::{FileWord, ListWords};
-use rpg_faults::faultless_cards;
+use rpg_faults::{SourceFault, faultless_cards};
 use std::alloc::Global;
 use std::rt::Files;
 
@@ -21,14 +21,20 @@ fn show_listing<L: Listener>(
     }
 }
 
-/// Shows the listing of a source, with or without faults, and answers the least fault.
+/// Shows the listing of a source, with or without faults, and answers the least fault. Where memory is wanting nothing is shown.
 pub(crate) fn list_file<R: Files + AllocGlobal, L: Listener>(
     rt: &R,
     words: &ListWords,
     listener: &mut L,
 ) -> Result<(), Answer> {
     let source = named(FileWord::Source, file_bytes(rt, words.source))?;
+    let fault = faultless_cards(rt.alloc(), &source).err();
+    if let Some(SourceFault::NoMemory) = fault {
+        return Err(Answer::NoMemory);
+    }
     show_listing(rt.alloc(), words.source, &source, listener)?;
-    faultless_cards(rt.alloc(), &source)?;
-    Ok(())
+    match fault {
+        None => Ok(()),
+        Some(fault) => Err(fault.into()),
+    }
 }

@@ -3,6 +3,7 @@
 ghost use Rattle.rpg_cli.specs.Saying.{PrintsALine, Says};
 
 use crate::answer::Answer;
+use crate::decks::cards_file;
 use crate::explaining::explain;
 use crate::files::{check_file, compile_files, run_files, show_file, verify_file};
 use crate::listing::list_file;
@@ -34,6 +35,10 @@ fn answer_to<R: Files + AllocGlobal, L: Listener>(
         Request::List(words) => {
             list_file(rt, words, listener)?;
             Ok(Answer::Faultless)
+        }
+        Request::Cards(words) => {
+            cards_file(rt, words, listener)?;
+            Ok(Answer::Deck)
         }
         Request::Verify(words) => {
             let bound = verify_file(rt, words, listener)?;

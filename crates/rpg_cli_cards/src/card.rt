@@ -40,12 +40,15 @@ impl Columns {
 
     /// Puts a character in a column, which is counted from 1.
     fn put(&mut self, column: usize, character: u8) -> Result<(), LineFault> {
+        if character == b' ' {
+            return Ok(());
+        }
         match self.characters.get_mut(column.saturating_sub(1)) {
-            None if character == b' ' => Ok(()),
             None => Err(LineFault::TooLong),
-            Some(_) if character == b' ' => Ok(()),
-            Some(there) if *there != b' ' => Err(LineFault::FilledTwice),
             Some(there) => {
+                if *there != b' ' {
+                    return Err(LineFault::FilledTwice);
+                }
                 *there = character;
                 Ok(())
             }

@@ -30,9 +30,7 @@ impl LineFault {
                 "behind its first character, the form type, a line has a blank, and then COLUMN=TEXT for each text"
             }
             LineFault::NoColumn => "a text has no column: it is written COLUMN=TEXT, as 32=TOT",
-            LineFault::BadColumn => {
-                "a column is 1 to 80 and not 6, which has the form type"
-            }
+            LineFault::BadColumn => { "a column is 1 to 80 and not 6, which has the form type" }
             LineFault::TooLong => "a text goes past column 80",
             LineFault::FilledTwice => "a column is filled twice",
             LineFault::TooMany => "a source has at most 2,000 cards",

@@ -1,7 +1,11 @@
 //! The items of a line of shorthand, each a column and a text.
 
+ghost use Rattle.std.specs.Prelude.{◌≤◌, IfSome};
+
 /// The value of a digit.
-fn digit(character: u8) -> Option<u8> {
+fn digit(character: u8) -> Option<u8>
+    ensures { IfSome result (λ value. value ≤ 9) }
+{
     match character {
         b'0'..=b'9' => Some(character - b'0'),
         _ => None,

@@ -10,9 +10,9 @@ fn begins_with(line: &[u8], mark: [u8; 2]) -> bool {
 }
 
 pub(crate) fn begins_data(line: &[u8]) -> bool {
-    begins_with(line, *b"**")
+    begins_with(line, [b'*', b'*'])
 }
 
 pub(crate) fn ends_source(line: &[u8]) -> bool {
-    begins_with(line, *b"/*")
+    begins_with(line, [b'/', b'*'])
 }

@@ -18,22 +18,53 @@ const COLUMNS: usize = 80;
 /// The place of the form type, the first being 0.
 const FORM_TYPE: usize = 5;
 
-/// Where the writer of a card stands: whether an item is open, and whether a text between apostrophes is.
+/// What the writer of a card stands in.
+#[derive(Clone, Copy)]
+enum Within {
+    Columns,
+    /// A text between apostrophes.
+    Text,
+    Comment,
+}
+
+/// Where the writer of a card stands, and whether an item is open there.
 #[derive(Clone, Copy)]
 struct Open {
     item: bool,
-    text: bool,
+    within: Within,
 }
 
-/// Whether a blank is in no item: in a text it is, unless what follows would be taken for an item.
+impl Within {
+    /// What a card begins with.
+    fn of(line: &[u8]) -> Self {
+        match line.get(FORM_TYPE.saturating_add(1)) {
+            Some(b'*') => Within::Comment,
+            _ => Within::Columns,
+        }
+    }
+
+    fn behind(self, character: u8) -> Self {
+        match (self, character) {
+            (Within::Columns, b'\'') => Within::Text,
+            (Within::Text, b'\'') => Within::Columns,
+            _ => self,
+        }
+    }
+
+    fn is_columns(self) -> bool {
+        matches!(self, Within::Columns)
+    }
+}
+
+/// Whether a blank is in no item. In a text or a comment it is, unless what follows would be taken for an item.
 fn ends_item(open: Open, behind: &[u8]) -> bool {
-    !open.item || !open.text || column_at(behind).is_some()
+    !open.item || open.within.is_columns() || column_at(behind).is_some()
 }
 
 /// Whether a character begins an item.
 fn begins_item(open: Open, line: &[u8], place: usize) -> bool {
     let column = place.saturating_add(1);
-    !open.item || place == FORM_TYPE.saturating_add(1) || (!open.text && begins_range(line, column))
+    !open.item || (open.within.is_columns() && begins_range(line, column))
 }
 
 /// Writes a character of a card, and answers what is open behind it.
@@ -58,7 +89,7 @@ fn put_character(
     out.push(char::from(character))?;
     Ok(Open {
         item: true,
-        text: open.text != (character == b'\''),
+        within: open.within.behind(character),
     })
 }
 
@@ -72,7 +103,7 @@ fn put_shorthand(out: &mut String, line: &[u8]) -> Result<(), AllocError> {
     out.push(char::from(form))?;
     let mut open = Open {
         item: false,
-        text: text.get(FORM_TYPE.saturating_add(1)).copied() == Some(b'*'),
+        within: Within::of(text),
     };
     for (place, character) in text.iter().enumerate() {
         open = put_character(out, open, text, place, *character)?;

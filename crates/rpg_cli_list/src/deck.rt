@@ -132,12 +132,7 @@ impl<'a> Deck<'a> {
         Ok(deck)
     }
 
-    fn take(
-        &mut self,
-        reader: &mut Reader,
-        number: u16,
-        line: &'a [u8],
-    ) -> Result<(), AllocError> {
+    fn take(&mut self, reader: &mut Reader, number: u16, line: &'a [u8]) -> Result<(), AllocError> {
         self.lines.push(line)?;
         match reader.read(number, line) {
             Ok(None) => {}

@@ -93,8 +93,11 @@ fn put_head(
 ) -> Result<(), AllocError> {
     let time = time_word(time_of(record.time));
     write!(out, "  line, card {card}: {time}")?;
-    if file.is_some_and(|file| matches!(&file.serves_as, FileUse::Printer)) {
-        put_spacing(out, spacing_of(record.movement))?;
+    match file {
+        Some(file) if file.serves_as == FileUse::Printer => {
+            put_spacing(out, spacing_of(record.movement))?;
+        }
+        _ => {}
     }
     put_when(out, ", when", record.conditions)?;
     for card in cards {

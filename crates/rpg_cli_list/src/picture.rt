@@ -68,7 +68,7 @@ fn number_picture(
     let places = width(length, decimals, &how);
     let mut text = vec![in alloc; b' '; places]?;
     let nines = fit(sign_of(&how), length);
-    edit_at_end(nines, length, decimals, &how, &mut text);
+    edit_at_end(nines, length, decimals, &how, text.as_mut_slice());
     Ok(Some(text))
 }
 

@@ -116,8 +116,9 @@ fn put_field(
     field: &InputField,
 ) -> Result<(), AllocError> {
     let name = name_text(alloc, field.name.as_slice())?;
-    let InputField { from, to, .. } = field;
-    let length = length_text(alloc, *from, *to)?;
+    let from = field.from;
+    let to = field.to;
+    let length = length_text(alloc, from, to)?;
     let decimals = match field.decimals {
         Some(decimals) => format!(in alloc; "{decimals}")?,
         None => String::new(alloc),

@@ -163,21 +163,27 @@ impl Indicators {
         condition: Option<Condition>,
     ) -> Result<(), AllocError> {
         match condition {
-            Some(Condition { negated, indicator }) => self.asked(indicator.number(), Asking {
-                card,
-                is_negated: negated,
-            }),
+            Some(Condition { negated, indicator }) => self.asked(
+                indicator.number(),
+                Asking {
+                    card,
+                    is_negated: negated,
+                },
+            ),
             None => Ok(()),
         }
     }
 
     /// Writes rows for each indicator that a card names.
     pub fn put(&self, alloc: Global, out: &mut String) -> Result<(), AllocError> {
+        if !self.uses.iter().any(|uses| uses.are_some()) {
+            return Ok(());
+        }
         out.push_str(
             "\nINDICATORS\n      turned on by                              asked on (N: where it's off)\n",
         )?;
         for (number, uses) in self.uses.iter().enumerate() {
-            if !uses.turned.is_empty() || !uses.asked.is_empty() {
+            if uses.are_some() {
                 uses.put(alloc, out, number)?;
             }
         }
@@ -186,6 +192,10 @@ impl Indicators {
 }
 
 impl IndicatorUses {
+    fn are_some(&self) -> bool {
+        !self.turned.is_empty() || !self.asked.is_empty()
+    }
+
     /// Who turns it on or off, a text each.
     fn turned_texts(&self, alloc: Global, number: usize) -> Result<Vec<String>, AllocError> {
         let mut texts = Vec::new(alloc);
@@ -202,7 +212,7 @@ impl IndicatorUses {
 
     fn put(&self, alloc: Global, out: &mut String, number: usize) -> Result<(), AllocError> {
         let turned = self.turned_texts(alloc, number)?;
-        let lines = self.asked.len().div_ceil(ON_A_LINE).max(turned.len());
+        let lines = (self.asked.len().saturating_add(ON_A_LINE - 1) / ON_A_LINE).max(turned.len());
         for line in 0..lines {
             let name = name_text(alloc, number, line)?;
             let by = turned.get(line).map_or("", |text| text.as_str());

@@ -57,11 +57,13 @@ impl Labels {
             is_subroutine,
         } = named;
         let alloc = self.alloc;
-        Ok(self.labels.entry(name)?.or_insert(LabelUses {
-            is_subroutine,
-            given: Numbers::new(alloc),
-            wanted: Numbers::new(alloc),
-        }))
+        Ok(
+            self.labels.entry(name)?.or_insert(LabelUses {
+                is_subroutine,
+                given: Numbers::new(alloc),
+                wanted: Numbers::new(alloc),
+            }),
+        )
     }
 
     /// Writes a row for each label and subroutine.

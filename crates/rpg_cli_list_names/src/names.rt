@@ -25,6 +25,7 @@ enum By {
 /// The cards that name a field, and the field's number in an object program, which the first of those that define it gives.
 #[derive(Drop)]
 struct NameUses {
+    name: Word<6>,
     field: Option<u16>,
     defined: Numbers,
     set: Numbers,
@@ -32,8 +33,9 @@ struct NameUses {
 }
 
 impl NameUses {
-    fn new(alloc: Global) -> Self {
+    fn new(alloc: Global, name: &Word<6>) -> Self {
         NameUses {
+            name: Word::new(name.as_slice()),
             field: None,
             defined: Numbers::new(alloc),
             set: Numbers::new(alloc),
@@ -49,7 +51,8 @@ impl NameUses {
         }
     }
 
-    fn put(&self, alloc: Global, out: &mut String, name: &str, form: &str) -> Result<(), AllocError> {
+    fn put(&self, alloc: Global, out: &mut String, form: &str) -> Result<(), AllocError> {
+        let name = name_text(alloc, self.name.as_slice())?;
         let field = field_text(alloc, self.field)?;
         let defined = self.defined.text(alloc)?;
         let set = self.set.text(alloc)?;
@@ -101,21 +104,21 @@ fn takes_field(column: Column) -> bool {
 }
 
 /// The field in a factor, if one stands there.
-fn entry_in(operation: Option<Operation>, is_first: bool, factor: &Option<Factor>) -> Option<&Entry> {
-    if let Some(operation) = operation {
-        let columns = columns(operation);
-        let column = if is_first {
-            columns.factor_1
-        } else {
-            columns.factor_2
-        };
-        if !takes_field(column) {
-            return None;
-        }
-    }
+fn entry_in(column: Column, factor: &Option<Factor>) -> Option<&Entry> {
     match factor {
-        Some(Factor::Entry(entry)) => Some(entry),
-        Some(Factor::Literal(_)) | None => None,
+        Some(Factor::Entry(entry)) if takes_field(column) => Some(entry),
+        Some(_) | None => None,
+    }
+}
+
+/// The columns of factor 1 and factor 2; of a card without an operation these are for fields.
+fn factor_columns(operation: Option<Operation>) -> (Column, Column) {
+    match operation {
+        Some(operation) => {
+            let columns = columns(operation);
+            (columns.factor_1, columns.factor_2)
+        }
+        None => (Column::Blank, Column::Blank),
     }
 }
 
@@ -139,16 +142,17 @@ impl Names {
         self.fields
     }
 
-    fn make(&mut self, key: NameKey) -> Result<(), AllocError> {
+    /// Makes a place for a name, if it has none, and answers its key.
+    fn key_for(&mut self, name: &Word<6>) -> Result<NameKey, AllocError> {
+        let key = key_of(name.as_slice());
         if !self.names.contains_key(&key) {
-            self.names.insert(key, NameUses::new(self.alloc))?;
+            self.names.insert(key, NameUses::new(self.alloc, name))?;
         }
-        Ok(())
+        Ok(key)
     }
 
     fn note(&mut self, name: &Word<6>, card: u16, by: By) -> Result<(), AllocError> {
-        let key = key_of(name.as_slice());
-        self.make(key)?;
+        let key = self.key_for(name)?;
         match self.names.get_mut(&key) {
             Some(uses) => uses.note(card, by),
             None => Ok(()),
@@ -157,8 +161,7 @@ impl Names {
 
     /// Gives a name the next number, unless it has one.
     fn define(&mut self, name: &Word<6>) -> Result<(), AllocError> {
-        let key = key_of(name.as_slice());
-        self.make(key)?;
+        let key = self.key_for(name)?;
         if let Some(uses) = self.names.get_mut(&key) {
             if uses.field.is_none() {
                 self.fields = self.fields.saturating_add(1);
@@ -187,9 +190,9 @@ impl Names {
         card: u16,
         calculation: &CalculationSpec,
     ) -> Result<(), AllocError> {
-        let operation = calculation.operation;
-        self.note_entry(card, entry_in(operation, true, &calculation.factor_1), By::Using)?;
-        self.note_entry(card, entry_in(operation, false, &calculation.factor_2), By::Using)?;
+        let (first, second) = factor_columns(calculation.operation);
+        self.note_entry(card, entry_in(first, &calculation.factor_1), By::Using)?;
+        self.note_entry(card, entry_in(second, &calculation.factor_2), By::Using)?;
         let by = if calculation.length.is_some() {
             By::Defining
         } else {
@@ -218,15 +221,18 @@ impl Names {
     }
 
     /// Writes a row for each name.
-    pub fn put(&self, alloc: Global, out: &mut String, source: &IndexedCards) -> Result<(), AllocError> {
+    pub fn put(
+        &self,
+        alloc: Global,
+        out: &mut String,
+        source: &IndexedCards,
+    ) -> Result<(), AllocError> {
         out.push_str(
             "\nNAMES\n  name    field  form                      defined on  set on      used on\n",
         )?;
-        for (key, uses) in &self.names {
-            let text = name_text(alloc, key)?;
-            let name = Word::new(rpg_text::trimmed(key));
-            let form = defined_text(alloc, source.form_of_name(&name))?;
-            uses.put(alloc, out, text.as_str().trim_end(), form.as_str())?;
+        for (_, uses) in &self.names {
+            let form = defined_text(alloc, source.form_of_name(&uses.name))?;
+            uses.put(alloc, out, form.as_str())?;
         }
         Ok(())
     }

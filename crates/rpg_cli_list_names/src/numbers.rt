@@ -6,6 +6,13 @@ use std::fmt::Write;
 /// How many numbers stand on a line of the listing.
 const ON_A_LINE: usize = 12;
 
+fn put_blanks(out: &mut String, count: usize) -> Result<(), AllocError> {
+    for _ in 0..count {
+        out.push(' ')?;
+    }
+    Ok(())
+}
+
 /// Numbers of cards, each once, in their order.
 #[derive(Drop)]
 pub(crate) struct Numbers {
@@ -27,10 +34,6 @@ impl Numbers {
         Ok(self.list.push(number)?)
     }
 
-    pub fn is_empty(&self) -> bool {
-        self.list.is_empty()
-    }
-
     /// The numbers with blanks between them, or a dash where there is none.
     pub fn text(&self, alloc: Global) -> Result<String, AllocError> {
         let mut out = String::new(alloc);
@@ -50,7 +53,8 @@ impl Numbers {
     pub fn put(&self, out: &mut String, margin: usize) -> Result<(), AllocError> {
         for (i, number) in self.list.iter().enumerate() {
             if i > 0 && i % ON_A_LINE == 0 {
-                write!(out, "\n{:margin$}", "")?;
+                out.push('\n')?;
+                put_blanks(out, margin)?;
             } else if i > 0 {
                 out.push(' ')?;
             }

@@ -28,7 +28,11 @@ pub fn put_note(
         put_mark(out, margin, columns)?;
     }
     let code = fault.code.text();
-    put_times(out, ' ', margin.saturating_sub(code.as_str().len().saturating_add(1)))?;
+    put_times(
+        out,
+        ' ',
+        margin.saturating_sub(code.as_str().len().saturating_add(1)),
+    )?;
     out.push_str(code.as_str())?;
     out.push(' ')?;
     put_sentence(alloc, out, line, fault)?;

@@ -1,6 +1,6 @@
 //! The commands of `rpg2`, as clap knows them.
 
-use crate::listing::list_command;
+use crate::listing::{cards_command, list_command};
 use clap::{Arg, ArgAction, Command, value_parser};
 use std::alloc::{AllocError, Global};
 
@@ -131,6 +131,7 @@ pub(crate) fn command<'a>(alloc: Global) -> Result<Command<'a>, AllocError> {
     let command = with_subcommand(command_without_words(alloc), compile_command(alloc))?;
     let command = with_subcommand(command, check_command(alloc))?;
     let command = with_subcommand(command, list_command(alloc))?;
+    let command = with_subcommand(command, cards_command(alloc))?;
     let command = with_subcommand(command, verify_command(alloc))?;
     let command = with_subcommand(command, explain_command(alloc))?;
     let command = with_subcommand(command, show_command(alloc))?;

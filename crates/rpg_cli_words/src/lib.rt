@@ -5,7 +5,7 @@ mod command;
 mod listing;
 mod request;
 
-pub use listing::ListWords;
+pub use listing::{CardsWanted, CardsWords, ListWords};
 pub use request::{
     CheckWords, CompileWords, ExplainWords, FileWord, Refusal, Request, RunWords, SameFile,
     ShowWords, VerifyWords, refuse_bytes, refuse_same_file, request_of,
