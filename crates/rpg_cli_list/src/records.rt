@@ -57,7 +57,7 @@ fn put_head(
     }
 }
 
-fn has_codes(codes: Three<Option<RecordCode>>) -> bool {
+fn has_codes(codes: &Three<Option<RecordCode>>) -> bool {
     codes.first.is_some() || codes.second.is_some() || codes.third.is_some()
 }
 
@@ -66,14 +66,14 @@ fn put_all_codes(
     alloc: Global,
     out: &mut String,
     card: u16,
-    codes: Three<Option<RecordCode>>,
+    codes: &Three<Option<RecordCode>>,
     behind: &[SpecCard],
 ) -> Result<(), AllocError> {
     put_codes(alloc, out, card, codes)?;
     let mut is_any = !has_codes(codes);
     for card in behind {
         if let Some(InputSpec::And(codes)) = card.input() {
-            put_codes(alloc, out, card.number, *codes)?;
+            put_codes(alloc, out, card.number, codes)?;
             is_any = false;
         }
     }
@@ -87,7 +87,7 @@ fn put_codes(
     alloc: Global,
     out: &mut String,
     card: u16,
-    codes: Three<Option<RecordCode>>,
+    codes: &Three<Option<RecordCode>>,
 ) -> Result<(), AllocError> {
     put_code(alloc, out, card, codes.first)?;
     put_code(alloc, out, card, codes.second)?;
@@ -186,7 +186,7 @@ fn put_type(
     behind: &[SpecCard],
 ) -> Result<(), AllocError> {
     put_head(alloc, out, card, record_type)?;
-    put_all_codes(alloc, out, card, record_type.codes, behind)?;
+    put_all_codes(alloc, out, card, &record_type.codes, behind)?;
     if !behind.iter().any(|card| card.input_field().is_some()) {
         return Ok(());
     }
