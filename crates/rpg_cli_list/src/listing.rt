@@ -47,19 +47,67 @@ fn put_unread(out: &mut String, cards: usize) -> Result<(), AllocError> {
     out.push_str("the tables are of the others; other faults are told once all can be read\n")
 }
 
+fn put_constants(
+    alloc: Global,
+    out: &mut String,
+    cards: &[SpecCard],
+    fields: u16,
+) -> Result<(), AllocError> {
+    let constants = Constants::of(alloc, cards)?;
+    constants.put(alloc, out, fields)
+}
+
+/// Writes the fields: names, and constants behind them.
+fn put_fields(alloc: Global, out: &mut String, source: &IndexedCards) -> Result<(), AllocError> {
+    let names = Names::of(alloc, source.as_slice())?;
+    names.put(alloc, out, source)?;
+    put_constants(alloc, out, source.as_slice(), names.count())
+}
+
+fn put_labels(alloc: Global, out: &mut String, cards: &[SpecCard]) -> Result<(), AllocError> {
+    let labels = Labels::of(alloc, cards)?;
+    labels.put(alloc, out)
+}
+
+fn put_indicators(alloc: Global, out: &mut String, cards: &[SpecCard]) -> Result<(), AllocError> {
+    let indicators = Indicators::of(alloc, cards)?;
+    indicators.put(alloc, out)
+}
+
 /// Writes what the cards describe and name.
-fn put_contents(alloc: Global, out: &mut String, cards: &[SpecCard]) -> Result<(), AllocError> {
-    let source = IndexedCards::new(alloc, cards)?;
-    let files = FileIndex::of(alloc, cards)?;
-    let names = Names::of(alloc, cards)?;
+fn put_contents(
+    alloc: Global,
+    out: &mut String,
+    files: &FileIndex,
+    source: &IndexedCards,
+) -> Result<(), AllocError> {
+    let cards = source.as_slice();
     files.put(alloc, out)?;
     put_tables(alloc, out, cards)?;
-    put_records(alloc, out, &files, cards)?;
-    names.put(alloc, out, &source)?;
-    Constants::of(alloc, cards)?.put(alloc, out, names.count())?;
-    Labels::of(alloc, cards)?.put(alloc, out)?;
-    Indicators::of(alloc, cards)?.put(alloc, out)?;
-    put_lines(alloc, out, &files, &source)
+    put_records(alloc, out, files, cards)?;
+    put_fields(alloc, out, source)?;
+    put_labels(alloc, out, cards)?;
+    put_indicators(alloc, out, cards)?;
+    put_lines(alloc, out, files, source)
+}
+
+fn put_indexed(alloc: Global, out: &mut String, cards: &[SpecCard]) -> Result<(), AllocError> {
+    let source = IndexedCards::new(alloc, cards)?;
+    let files = FileIndex::of(alloc, cards)?;
+    put_contents(alloc, out, &files, &source)
+}
+
+fn deck_text(
+    alloc: Global,
+    path: &str,
+    deck: &Deck,
+    faults: &[CardFault],
+) -> Result<String, AllocError> {
+    let mut out = String::new(alloc);
+    put_head(&mut out, path, deck, faults)?;
+    put_cards(alloc, &mut out, deck, faults)?;
+    put_indexed(alloc, &mut out, &deck.cards)?;
+    Ok(out)
 }
 
 /// All of a source that a person wants to read, whether it has faults or not: its cards, each with its faults; its files, tables, record types with their
@@ -68,9 +116,5 @@ fn put_contents(alloc: Global, out: &mut String, cards: &[SpecCard]) -> Result<(
 pub fn source_listing(alloc: Global, path: &str, source: &[u8]) -> Result<String, AllocError> {
     let deck = Deck::read(alloc, source)?;
     let faults = deck.faults(alloc, source)?;
-    let mut out = String::new(alloc);
-    put_head(&mut out, path, &deck, &faults)?;
-    put_cards(alloc, &mut out, &deck, &faults)?;
-    put_contents(alloc, &mut out, &deck.cards)?;
-    Ok(out)
+    deck_text(alloc, path, &deck, &faults)
 }
