@@ -1,5 +1,5 @@
 #!/usr/bin/env bash
-# Compiles, verifies and runs sources with each of its allocations refused in turn: the answer must be `no memory`, status 1. Nothing is
+# Compiles, lists, verifies and runs sources with each of its allocations refused in turn: the answer must be `no memory`, status 1. Nothing is
 # written by a compilation, and of a run's print a first part. Then jobs, cycle by cycle, by the cases of rpg_show_cases: one that wanted
 # memory has failed from then on. Last a disk that is full, where an object stays that stood there. Both programs are to be built: by `make`
 # and by `rt run` in crates/rpg_show_cases, or named by RPG2 and RPG_SHOW_CASES.
@@ -184,6 +184,12 @@ refuse run "end of job, cycles 2, steps 17 of 18" "$work/print" "$work/loop.expe
     run "$work/loop.obj" "$work/loop.txt" "$work/print" --date 010576
 refuse run "end of job, cycles 5, steps 9 of 9" "$work/print" "$work/search.expected" \
     run "$work/search.obj" "$work/search.txt" "$work/print" --date 010576
+
+# A listing, cards of shorthand, and shorthand of cards, each whole or not there.
+"$rpg2" cards --short "$work/search.rpg" > "$work/search.short"
+refuse list "$("$rpg2" list "$work/search.rpg")" "$work/unwritten" "" list "$work/search.rpg"
+refuse cards "$("$rpg2" cards "$work/search.short")" "$work/unwritten" "" cards "$work/search.short"
+refuse cards "$("$rpg2" cards --short "$work/search.rpg")" "$work/unwritten" "" cards --short "$work/search.rpg"
 
 # An object program that writes a disk file and prints behind it.
 expected=$stock/stock.expected

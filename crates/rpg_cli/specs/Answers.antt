@@ -63,6 +63,8 @@ line_text (answer.OverLimit bound) = codes "refused: bound " ++ decimal bound
 line_text (answer.Run fault) = run_text fault
 line_text (answer.File word fault) = file_text fault
 line_text answer.Explained = []
+line_text answer.Deck = codes "/*"
+line_text (answer.NoCard line) = codes "line " ++ decimal line ++ codes ": no card"
 line_text answer.NoSuchCode = codes "no such code"
 line_text answer.NoMemory = codes "no memory"
 
@@ -101,5 +103,7 @@ exit_status (answer.OverLimit bound) = 4
 exit_status (answer.Run fault) = run_status fault
 exit_status (answer.File word fault) = 1
 exit_status answer.Explained = 0
+exit_status answer.Deck = 0
+exit_status (answer.NoCard line) = 3
 exit_status answer.NoSuchCode = 2
 exit_status answer.NoMemory = 1

@@ -34,6 +34,10 @@ pub enum Answer {
     File { word: FileWord, fault: FileFault },
     /// A code was explained.
     Explained,
+    /// Cards were made of shorthand, or shorthand of cards.
+    Deck,
+    /// A line of shorthand is no card.
+    NoCard { line: u16 },
     /// There is no such code.
     NoSuchCode,
     NoMemory,

@@ -2,9 +2,11 @@
 #![tactic(auto)]
 
 mod answer;
+mod decks;
 mod explaining;
 mod files;
 mod judging;
+mod listing;
 mod program;
 mod running;
 mod stop;

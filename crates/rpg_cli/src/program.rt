@@ -3,8 +3,10 @@
 ghost use Rattle.rpg_cli.specs.Saying.{PrintsALine, Says};
 
 use crate::answer::Answer;
+use crate::decks::cards_file;
 use crate::explaining::explain;
 use crate::files::{check_file, compile_files, run_files, show_file, verify_file};
+use crate::listing::list_file;
 use crate::stop::Stop;
 use crate::telling::tell_answer;
 use crate::text::line;
@@ -29,6 +31,14 @@ fn answer_to<R: Files + AllocGlobal, L: Listener>(
         Request::Check(words) => {
             check_file(rt, words, listener)?;
             Ok(Answer::Faultless)
+        }
+        Request::List(words) => {
+            list_file(rt, words, listener)?;
+            Ok(Answer::Faultless)
+        }
+        Request::Cards(words) => {
+            cards_file(rt, words, listener)?;
+            Ok(Answer::Deck)
         }
         Request::Verify(words) => {
             let bound = verify_file(rt, words, listener)?;

@@ -150,12 +150,16 @@ fn exit_status(answer: &Answer) -> u8
     ensures { result ≡ answers.exit_status answer.now }
 {
     match *answer {
-        Answer::Compiled | Answer::Faultless | Answer::Accepted { .. } | Answer::Explained => 0,
+        Answer::Compiled
+        | Answer::Faultless
+        | Answer::Accepted { .. }
+        | Answer::Explained
+        | Answer::Deck => 0,
         Answer::Ended(report) => match report.ending {
             JobEnd::EndOfJob => 0,
             JobEnd::Halt(_) => 5,
         },
-        Answer::Source(SourceFault::At { .. }) => 3,
+        Answer::Source(SourceFault::At { .. }) | Answer::NoCard { .. } => 3,
         Answer::Source(SourceFault::NoMemory) => 1,
         Answer::Object(fault) => object_status(fault),
         Answer::DiskFileWanted | Answer::NoSuchCode => 2,
@@ -189,6 +193,12 @@ pub fn line(answer: &Answer) -> Line
         Answer::Run(fault) => put_run_fault(&mut text, fault),
         Answer::File { fault, .. } => put_file_fault(&mut text, fault),
         Answer::Explained => {}
+        Answer::Deck => put(&mut text, b"/*"),
+        Answer::NoCard { line } => {
+            put(&mut text, b"line ");
+            put_number(&mut text, u64::from(line));
+            put(&mut text, b": no card");
+        }
         Answer::NoSuchCode => put(&mut text, b"no such code"),
         Answer::NoMemory => put(&mut text, b"no memory"),
     }

@@ -1,10 +1,15 @@
 //! What a person is told of a refused source beside its one line: each fault with its place, a sentence, the card and a mark under its columns.
 #![tactic(auto)]
 
+mod begins;
 mod card;
 mod message;
+mod note;
 mod picture;
 mod range;
 mod sheets;
 
+pub use begins::begins_range;
 pub use message::source_messages;
+pub use note::put_note;
+pub use picture::{put_first, put_shown};

@@ -40,7 +40,7 @@ fn line_of(source: &[u8], card: u16) -> &[u8] {
 }
 
 /// The columns that a fault is about, where its code says which.
-fn columns_of(line: &[u8], fault: CardFault) -> Option<ColumnFault> {
+pub(crate) fn columns_of(line: &[u8], fault: CardFault) -> Option<ColumnFault> {
     match fault.code {
         SourceCode::Sheet(SheetCode::S1) => Some(column(81)),
         SourceCode::Sheet(SheetCode::S2) => first_bad(line)
@@ -105,7 +105,7 @@ fn put_place(
 }
 
 /// What is wrong.
-fn put_sentence(
+pub(crate) fn put_sentence(
     alloc: Global,
     out: &mut String,
     line: &[u8],

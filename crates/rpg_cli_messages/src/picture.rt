@@ -15,7 +15,7 @@ fn shown(byte: u8) -> char {
 }
 
 /// Shows foreign text.
-pub(crate) fn put_shown(out: &mut String, text: &[u8]) -> Result<(), AllocError> {
+pub fn put_shown(out: &mut String, text: &[u8]) -> Result<(), AllocError> {
     for byte in text {
         out.push(shown(*byte))?;
     }
@@ -23,14 +23,14 @@ pub(crate) fn put_shown(out: &mut String, text: &[u8]) -> Result<(), AllocError>
 }
 
 /// Shows the columns of a card, and the first one past them.
-fn put_first(out: &mut String, line: &[u8]) -> Result<(), AllocError> {
+pub fn put_first(out: &mut String, line: &[u8]) -> Result<(), AllocError> {
     for byte in line.iter().take(COLUMNS + 1) {
         out.push(shown(*byte))?;
     }
     Ok(())
 }
 
-fn put_times(out: &mut String, character: char, count: usize) -> Result<(), AllocError> {
+pub(crate) fn put_times(out: &mut String, character: char, count: usize) -> Result<(), AllocError> {
     for _ in 0..count {
         out.push(character)?;
     }

@@ -30,3 +30,10 @@ pub(crate) fn range_of(ranges: &[Range], columns: ColumnFault) -> Option<Range> 
     }
     None
 }
+
+/// Whether one of these ranges begins in a column.
+pub(crate) fn any_begins(ranges: &[Range], column: usize) -> bool {
+    ranges
+        .iter()
+        .any(|range| usize::from(range.first) == column)
+}

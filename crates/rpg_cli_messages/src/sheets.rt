@@ -1,7 +1,7 @@
 //! The ranges of the sheets, in the order of their columns. What stands in no range is blank.
 
 use crate::card::CardKind;
-use crate::range::{Range, named, range_of};
+use crate::range::{Range, any_begins, named, range_of};
 use rpg_sheet::ColumnFault;
 
 const NAME: &str =
@@ -214,5 +214,22 @@ pub(crate) fn range_at(kind: CardKind, columns: ColumnFault) -> Option<Range> {
         CardKind::Line => range_of(&line_ranges(), columns),
         CardKind::LineConditions => range_of(&line_conditions_ranges(), columns),
         CardKind::OutputField => range_of(&output_field_ranges(), columns),
+    }
+}
+
+/// Whether a range of a card begins in a column.
+pub(crate) fn begins_at(kind: CardKind, column: usize) -> bool {
+    match kind {
+        CardKind::Header | CardKind::Unknown => false,
+        CardKind::File => any_begins(&file_ranges(), column),
+        CardKind::Extension => any_begins(&extension_ranges(), column),
+        CardKind::ExtensionAlone => any_begins(&extension_alone_ranges(), column),
+        CardKind::RecordType => any_begins(&record_type_ranges(), column),
+        CardKind::RecordCodes => any_begins(&record_codes_ranges(), column),
+        CardKind::InputField => any_begins(&input_field_ranges(), column),
+        CardKind::Calculation => any_begins(&calculation_ranges(), column),
+        CardKind::Line => any_begins(&line_ranges(), column),
+        CardKind::LineConditions => any_begins(&line_conditions_ranges(), column),
+        CardKind::OutputField => any_begins(&output_field_ranges(), column),
     }
 }

@@ -2,12 +2,12 @@
 
 use crate::refusal::{Table, put_if_broken};
 use rpg_cli_show_fields::{
-    LINE_FIELD, field_text, has_conditions, line_bytes, line_head_bytes, operand_text,
-    put_condition, put_conditions,
+    LINE_FIELD, code_letter, field_text, fill_words, has_conditions, line_bytes, line_head_bytes,
+    operand_text, put_condition, put_conditions, put_spacing, time_word,
 };
-use rpg_edit_marks::{EditCode, Ending, Fill};
+use rpg_edit_marks::Fill;
 use rpg_effect::condition::Condition;
-use rpg_effect::line::{Editing, File, LineField, Source, Spacing, Time};
+use rpg_effect::line::{Editing, File, LineField, Source};
 use rpg_object_program::row::{Line, Rows};
 use rpg_verify::BrokenRule;
 use std::alloc::{AllocError, Global};
@@ -18,30 +18,6 @@ fn file_word(file: File) -> &'static str {
         File::Printer => "printer",
         File::Disk => "disk",
     }
-}
-
-fn time_word(time: Time) -> &'static str {
-    match time {
-        Time::Heading => "heading",
-        Time::Detail => "detail",
-        Time::Total => "total",
-        Time::Exception => "exception",
-    }
-}
-
-/// Writes a movement of the form, unless it is none.
-fn put_movement(out: &mut String, words: &str, lines: u8, when: &str) -> Result<(), AllocError> {
-    if lines == 0 {
-        return Ok(());
-    }
-    write!(out, ", {words} {lines} {when}")
-}
-
-fn put_spacing(out: &mut String, spacing: Spacing) -> Result<(), AllocError> {
-    put_movement(out, "skip to", spacing.skip_before, "before")?;
-    put_movement(out, "space", spacing.space_before, "before")?;
-    put_movement(out, "skip to", spacing.skip_after, "after")?;
-    put_movement(out, "space", spacing.space_after, "after")
 }
 
 /// Writes conditions that must all hold.
@@ -70,45 +46,6 @@ fn put_head(out: &mut String, at: usize, number: usize, line: &Line) -> Result<(
     put_spacing(out, line.spacing)?;
     put_alternatives(out, &line.alternatives)?;
     out.push('\n')
-}
-
-/// The characters of the codes with and without commas and zeros, for an ending.
-fn code_letters(ending: Ending) -> [char; 4] {
-    match ending {
-        Ending::Unsigned => ['1', '2', '3', '4'],
-        Ending::Credit => ['A', 'B', 'C', 'D'],
-        Ending::Minus => ['J', 'K', 'L', 'M'],
-    }
-}
-
-/// The character of an edit code.
-fn code_letter(code: EditCode) -> char {
-    match code {
-        EditCode::Combination {
-            commas,
-            zeros,
-            ending,
-        } => {
-            let [first, second, third, fourth] = code_letters(ending);
-            match (commas, zeros) {
-                (true, true) => first,
-                (true, false) => second,
-                (false, true) => third,
-                (false, false) => fourth,
-            }
-        }
-        EditCode::X => 'X',
-        EditCode::Y => 'Y',
-        EditCode::Z => 'Z',
-    }
-}
-
-fn fill_words(fill: Fill) -> &'static str {
-    match fill {
-        Fill::Blank => "",
-        Fill::Star => " filled with *",
-        Fill::Dollar => " with $ before it",
-    }
 }
 
 fn put_editing(

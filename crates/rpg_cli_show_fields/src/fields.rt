@@ -20,7 +20,7 @@ fn kind_text(alloc: Global, form: FieldForm) -> Result<String, AllocError> {
 }
 
 /// A field's form.
-fn form_text(alloc: Global, form: FieldForm) -> Result<String, AllocError> {
+pub fn form_text(alloc: Global, form: FieldForm) -> Result<String, AllocError> {
     let kind = kind_text(alloc, form)?;
     let entries = form.entries;
     let order = if form.is_ascending { ", ascending" } else { "" };

@@ -1,10 +1,11 @@
 //! The commands of `rpg2`, as clap knows them.
 
+use crate::listing::{cards_command, list_command};
 use clap::{Arg, ArgAction, Command, value_parser};
 use std::alloc::{AllocError, Global};
 
 /// A word that has to be there.
-fn word<'a>(alloc: Global, name: &'a str, help: &'a str) -> Arg<'a> {
+pub(crate) fn word<'a>(alloc: Global, name: &'a str, help: &'a str) -> Arg<'a> {
     Arg::new(alloc, name)
         .required(true)
         .action(ArgAction::Set)
@@ -129,6 +130,8 @@ fn command_without_words<'a>(alloc: Global) -> Command<'a> {
 pub(crate) fn command<'a>(alloc: Global) -> Result<Command<'a>, AllocError> {
     let command = with_subcommand(command_without_words(alloc), compile_command(alloc))?;
     let command = with_subcommand(command, check_command(alloc))?;
+    let command = with_subcommand(command, list_command(alloc))?;
+    let command = with_subcommand(command, cards_command(alloc))?;
     let command = with_subcommand(command, verify_command(alloc))?;
     let command = with_subcommand(command, explain_command(alloc))?;
     let command = with_subcommand(command, show_command(alloc))?;

@@ -3,6 +3,7 @@
 ghost use Rattle.std.specs.Prelude.{◌<◌, ◌≤◌};
 
 use crate::command::command;
+use crate::listing::{CardsWords, ListWords, cards_words, list_words};
 use clap::error::ErrorKind;
 use clap::{ArgMatches, Command, Error};
 use std::alloc::{AllocError, Global};
@@ -14,6 +15,10 @@ pub enum Request<'a> {
     Compile(CompileWords<'a>),
     /// Tells all faults of a source.
     Check(CheckWords<'a>),
+    /// Lists a source.
+    List(ListWords<'a>),
+    /// Makes cards of shorthand, or shorthand of cards.
+    Cards(CardsWords<'a>),
     /// Verifies an object program.
     Verify(VerifyWords<'a>),
     /// Shows an object program.
@@ -122,6 +127,8 @@ impl<'a> Request<'a> {
             (Request::Compile(words), FileWord::Source) => Some(words.source),
             (Request::Compile(words), FileWord::Object) => Some(words.object),
             (Request::Check(words), FileWord::Source) => Some(words.source),
+            (Request::List(words), FileWord::Source) => Some(words.source),
+            (Request::Cards(words), FileWord::Source) => Some(words.source),
             (Request::Verify(words), FileWord::Object) => Some(words.object),
             (Request::Show(words), FileWord::Object) => Some(words.object),
             (Request::Run(words), word) => words.path(word),
@@ -249,6 +256,8 @@ fn request_in<'a>(matches: &ArgMatches<'a>) -> Option<Request<'a>> {
     match matches.subcommand()? {
         ("compile", given) => compile_words(given).map(Request::Compile),
         ("check", given) => check_words(given).map(Request::Check),
+        ("list", given) => list_words(given).map(Request::List),
+        ("cards", given) => cards_words(given).map(Request::Cards),
         ("verify", given) => verify_words(given).map(Request::Verify),
         ("show", given) => show_words(given).map(Request::Show),
         ("run", given) => run_words(given).map(Request::Run),

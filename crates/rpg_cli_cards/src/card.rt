@@ -1,0 +1,87 @@
+//! The columns of a card that is being filled.
+
+use crate::fault::LineFault;
+use crate::items::{column_at, cut, without_blanks};
+use rpg_text::{is_blank, trimmed};
+
+/// The column of the form type.
+const FORM_TYPE: u8 = 6;
+
+/// How many items a line has at most, one for each column.
+const MOST_ITEMS: usize = 80;
+
+/// A card under construction.
+#[derive(Clone, Copy)]
+pub(crate) struct Columns {
+    characters: [u8; 80],
+}
+
+impl Columns {
+    /// The card that a line of shorthand stands for.
+    pub fn of(line: &[u8]) -> Result<Self, LineFault> {
+        let mut columns = Columns {
+            characters: [b' '; 80],
+        };
+        match line {
+            [] => {}
+            [form] => columns.put(usize::from(FORM_TYPE), *form)?,
+            [form, b' ', items @ ..] => {
+                columns.put(usize::from(FORM_TYPE), *form)?;
+                columns.put_items(without_blanks(items))?;
+            }
+            _ => return Err(LineFault::NoBlank),
+        }
+        Ok(columns)
+    }
+
+    pub fn as_slice(&self) -> &[u8] {
+        trimmed(&self.characters)
+    }
+
+    /// Puts a character in a column, which is counted from 1.
+    fn put(&mut self, column: usize, character: u8) -> Result<(), LineFault> {
+        if character == b' ' {
+            return Ok(());
+        }
+        match self.characters.get_mut(column.saturating_sub(1)) {
+            None => Err(LineFault::TooLong),
+            Some(there) => {
+                if *there != b' ' {
+                    return Err(LineFault::FilledTwice);
+                }
+                *there = character;
+                Ok(())
+            }
+        }
+    }
+
+    fn put_text(&mut self, column: u8, text: &[u8]) -> Result<(), LineFault> {
+        if column == 0 || column == FORM_TYPE || column > 80 {
+            return Err(LineFault::BadColumn);
+        }
+        for (i, character) in text.iter().enumerate() {
+            self.put(usize::from(column).saturating_add(i), *character)?;
+        }
+        Ok(())
+    }
+
+    fn put_items(&mut self, items: &[u8]) -> Result<(), LineFault> {
+        let mut rest = items;
+        for _ in 0..MOST_ITEMS {
+            if is_blank(rest) {
+                return Ok(());
+            }
+            let Some((column, behind)) = column_at(rest) else {
+                return Err(LineFault::NoColumn);
+            };
+            let (text, behind) = cut(behind);
+            self.put_text(column, text)?;
+            rest = behind;
+        }
+        if is_blank(rest) {
+            Ok(())
+        } else {
+            Err(LineFault::FilledTwice)
+        }
+    }
+}

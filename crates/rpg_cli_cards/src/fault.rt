@@ -1,0 +1,53 @@
+//! What is wrong with shorthand.
+
+use std::alloc::AllocError;
+
+/// What is wrong with a line of shorthand.
+#[derive(Clone, Copy, PartialEq, Eq)]
+pub enum LineFault {
+    /// A byte is no character.
+    NoCharacter,
+    /// There is no blank behind the form type.
+    NoBlank,
+    /// A text stands in no column.
+    NoColumn,
+    /// There is no such column, or it is the form type's.
+    BadColumn,
+    /// A text goes past column 80.
+    TooLong,
+    /// A column is filled twice.
+    FilledTwice,
+    /// It is line 2,001.
+    TooMany,
+}
+
+impl LineFault {
+    /// What is wrong, as a person reads it.
+    pub const fn sentence(self) -> &'static str {
+        match self {
+            LineFault::NoCharacter => "a byte is no character: these are blank to ~",
+            LineFault::NoBlank => {
+                "behind its first character, the form type, a line has a blank, and then COLUMN=TEXT for each text"
+            }
+            LineFault::NoColumn => "a text has no column: it is written COLUMN=TEXT, as 32=TOT",
+            LineFault::BadColumn => { "a column is 1 to 80 and not 6, which has the form type" }
+            LineFault::TooLong => "a text goes past column 80",
+            LineFault::FilledTwice => "a column is filled twice",
+            LineFault::TooMany => "a source has at most 2,000 cards",
+        }
+    }
+}
+
+/// Why shorthand is no deck of cards.
+#[derive(Clone, Copy, PartialEq, Eq)]
+pub enum ShorthandFault {
+    /// Lines are numbered from 1.
+    At { line: u16, fault: LineFault },
+    NoMemory,
+}
+
+impl From<AllocError> for ShorthandFault {
+    fn from(_: AllocError) -> Self {
+        ShorthandFault::NoMemory
+    }
+}

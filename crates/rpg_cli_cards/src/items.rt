@@ -1,0 +1,42 @@
+//! The items of a line of shorthand, each a column and a text.
+
+ghost use Rattle.std.specs.Prelude.{◌≤◌, IfSome};
+
+/// The value of a digit.
+fn digit(character: u8) -> Option<u8>
+    ensures { IfSome result (λ value. value ≤ 9) }
+{
+    match character {
+        b'0'..=b'9' => Some(character - b'0'),
+        _ => None,
+    }
+}
+
+/// A column of one or two digits with its sign of equality, and what stands behind.
+pub(crate) fn column_at(text: &[u8]) -> Option<(u8, &[u8])> {
+    match text {
+        [ones, b'=', behind @ ..] => Some((digit(*ones)?, behind)),
+        [tens, ones, b'=', behind @ ..] => Some((digit(*tens)? * 10 + digit(*ones)?, behind)),
+        _ => None,
+    }
+}
+
+/// The text of an item, and what stands behind it from the next item on.
+pub(crate) fn cut(text: &[u8]) -> (&[u8], &[u8]) {
+    for (place, character) in text.iter().enumerate() {
+        let behind = text.get(place.saturating_add(1)..).unwrap_or(&[]);
+        if *character == b' ' && column_at(behind).is_some() {
+            return (text.get(..place).unwrap_or(text), behind);
+        }
+    }
+    (text, &[])
+}
+
+/// A text without the blanks in front of it.
+pub(crate) fn without_blanks(text: &[u8]) -> &[u8] {
+    let blanks = text
+        .iter()
+        .take_while(|character| **character == b' ')
+        .count();
+    text.get(blanks..).unwrap_or(&[])
+}

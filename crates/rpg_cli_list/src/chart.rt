@@ -1,0 +1,62 @@
+//! A line or a record as it is drawn below a ruler.
+
+use crate::words::put_ruler;
+use std::alloc::{AllocError, Global};
+
+/// The most places that are drawn: a printed line has no more.
+pub(crate) const MOST_DRAWN: u16 = 132;
+
+/// How many blanks stand before the first place.
+const MARGIN: &str = "          ";
+
+/// The places of a line, or the columns of a record.
+#[derive(Drop)]
+pub(crate) struct Chart {
+    places: Vec<u8>,
+}
+
+/// The places that a text takes which ends at one of them, the first being 1: none where it would begin before.
+pub(crate) fn first_place(width: usize, end: u16) -> Option<usize> {
+    usize::from(end)
+        .checked_sub(width)
+        .map(|before| before.saturating_add(1))
+}
+
+impl Chart {
+    /// So many places, and what stands where nothing is drawn.
+    pub fn new(alloc: Global, length: u16, empty: u8) -> Result<Self, AllocError> {
+        let places = usize::from(length.min(MOST_DRAWN));
+        Ok(Chart {
+            places: vec![in alloc; empty; places]?,
+        })
+    }
+
+    /// Draws one character over the places from a first one to a last.
+    pub fn fill(&mut self, first: u16, last: u16, character: u8) {
+        let before = usize::from(first).saturating_sub(1);
+        let count = usize::from(last).saturating_sub(before);
+        for place in self.places.iter_mut().skip(before).take(count) {
+            *place = character;
+        }
+    }
+
+    /// Draws a text over what stands there.
+    pub fn draw(&mut self, first: usize, text: &[u8]) {
+        let before = first.saturating_sub(1);
+        for (place, character) in self.places.iter_mut().skip(before).zip(text) {
+            *place = *character;
+        }
+    }
+
+    pub fn put(&self, out: &mut String) -> Result<(), AllocError> {
+        out.push_str(MARGIN)?;
+        put_ruler(out, self.places.len())?;
+        out.push('\n')?;
+        let text = rpg_text::trimmed(&self.places);
+        if !text.is_empty() {
+            out.push_str(MARGIN)?;
+            rpg_cli_messages::put_shown(out, text)?;
+        }
+        out.push('\n')
+    }
+}

@@ -1,0 +1,110 @@
+//! The files of a source.
+
+use indexmap::IndexMap;
+use rpg_cards::{FileUse, SpecCard, use_of};
+use rpg_cli_list_names::name_text;
+use rpg_cli_show_fields::Indicator;
+use rpg_sheet_specs::{FileSpec, Word};
+use std::alloc::{AllocError, Global};
+use std::fmt::Write;
+
+/// What the first F card of a file says of it.
+#[derive(Clone, Copy)]
+pub(crate) struct DescribedFile {
+    pub card: u16,
+    pub serves_as: FileUse,
+    pub record_length: u16,
+    pub overflow: Option<u8>,
+}
+
+/// The files by their names.
+#[derive(Drop)]
+pub(crate) struct FileIndex {
+    files: IndexMap<Word<8>, DescribedFile>,
+}
+
+fn described(card: u16, file: &FileSpec) -> DescribedFile {
+    DescribedFile {
+        card,
+        serves_as: use_of(file),
+        record_length: file.record_length,
+        overflow: file.overflow.map(|indicator| indicator.number()),
+    }
+}
+
+fn use_word(serves_as: FileUse) -> &'static str {
+    match serves_as {
+        FileUse::Primary => "input",
+        FileUse::Printer => "printer",
+        FileUse::Disk => "disk",
+    }
+}
+
+/// What a record of a file is made of.
+pub(crate) fn length_words(serves_as: FileUse) -> &'static str {
+    match serves_as {
+        FileUse::Primary | FileUse::Disk => "columns",
+        FileUse::Printer => "places",
+    }
+}
+
+impl FileIndex {
+    pub fn of(alloc: Global, cards: &[SpecCard]) -> Result<Self, AllocError> {
+        let mut files = FileIndex {
+            files: IndexMap::new(alloc),
+        };
+        for card in cards {
+            if let Some(file) = card.file() {
+                files.note(card.number, file)?;
+            }
+        }
+        Ok(files)
+    }
+
+    fn note(&mut self, card: u16, file: &FileSpec) -> Result<(), AllocError> {
+        let name = Word::new(file.name.as_slice());
+        if self.files.contains_key(&name) {
+            return Ok(());
+        }
+        self.files.insert(name, described(card, file))?;
+        Ok(())
+    }
+
+    /// What is said of the file of a name.
+    pub fn named(&self, name: &Word<8>) -> Option<DescribedFile> {
+        self.files.get(name).copied()
+    }
+
+    /// Writes a row for each file.
+    pub fn put(&self, alloc: Global, out: &mut String) -> Result<(), AllocError> {
+        if self.files.is_empty() {
+            return Ok(());
+        }
+        out.push_str("\nFILES\n")?;
+        for (name, file) in &self.files {
+            let text = name_text(alloc, name.as_slice())?;
+            put_file(out, text.as_str(), *file)?;
+        }
+        Ok(())
+    }
+}
+
+fn put_file(out: &mut String, name: &str, file: DescribedFile) -> Result<(), AllocError> {
+    let DescribedFile {
+        card,
+        serves_as,
+        record_length,
+        overflow,
+    } = file;
+    let serves = use_word(serves_as);
+    let words = length_words(serves_as);
+    write!(
+        out,
+        "  {name:<8}  {serves:<8}  {record_length:>4} {words}  card {card}"
+    )?;
+    if let Some(number) = overflow {
+        let indicator = Indicator(number);
+        write!(out, ", turns on {indicator} where a page is full")?;
+    }
+    out.push('\n')
+}

@@ -1,0 +1,15 @@
+//! A source as a person reads it: `rpg2 list`.
+#![tactic(auto)]
+
+mod cards;
+mod chart;
+mod deck;
+mod files;
+mod lines;
+mod listing;
+mod picture;
+mod records;
+mod tables;
+mod words;
+
+pub use listing::source_listing;

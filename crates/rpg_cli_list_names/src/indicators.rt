@@ -1,0 +1,250 @@
+//! The indicators of a source: who turns them on and off, and who asks for them.
+
+use crate::turning::{By, Outcome, Turning, machine_words};
+use rpg_cards::{SpecCard, level};
+use rpg_cli_show_fields::Indicator;
+use rpg_sheet_specs::{
+    CalculationSpec, Condition, FileSpec, InputField, InputSpec, OutputSpec, Spec, Three,
+};
+use std::alloc::{AllocError, Global};
+use std::fmt::Write;
+
+/// One more than the greatest number of an indicator.
+const BEHIND: usize = 130;
+
+/// How many cards that ask stand on a line.
+const ON_A_LINE: usize = 8;
+
+/// A card that asks for an indicator.
+#[derive(Clone, Copy, PartialEq, Eq)]
+struct Asking {
+    card: u16,
+    is_negated: bool,
+}
+
+/// Who turns an indicator on or off, and who asks for it.
+#[derive(Drop)]
+struct IndicatorUses {
+    turned: Vec<Turning>,
+    asked: Vec<Asking>,
+}
+
+/// All indicators by their numbers.
+#[derive(Drop)]
+pub struct Indicators {
+    uses: Vec<IndicatorUses>,
+}
+
+fn unused(alloc: Global) -> Result<Indicators, AllocError> {
+    let mut uses = Vec::with_capacity(alloc, BEHIND)?;
+    for _ in 0..BEHIND {
+        uses.push(IndicatorUses {
+            turned: Vec::new(alloc),
+            asked: Vec::new(alloc),
+        })?;
+    }
+    Ok(Indicators { uses })
+}
+
+impl Indicators {
+    pub fn of(alloc: Global, cards: &[SpecCard]) -> Result<Self, AllocError> {
+        let mut indicators = unused(alloc)?;
+        for card in cards {
+            indicators.note_card(card)?;
+        }
+        Ok(indicators)
+    }
+
+    fn turned(&mut self, number: u8, card: u16, by: By) -> Result<(), AllocError> {
+        match self.uses.get_mut(usize::from(number)) {
+            Some(uses) => Ok(uses.turned.push(Turning { by, card })?),
+            None => Ok(()),
+        }
+    }
+
+    fn asked(&mut self, number: u8, asking: Asking) -> Result<(), AllocError> {
+        let Some(uses) = self.uses.get_mut(usize::from(number)) else {
+            return Ok(());
+        };
+        if uses.asked.last().copied() == Some(asking) {
+            return Ok(());
+        }
+        Ok(uses.asked.push(asking)?)
+    }
+
+    fn note_card(&mut self, card: &SpecCard) -> Result<(), AllocError> {
+        match &card.spec {
+            Spec::File(file) => self.note_file(card.number, file),
+            Spec::Input(input) => self.note_input(card.number, input),
+            Spec::Calculation(calculation) => self.note_calculation(card.number, calculation),
+            Spec::Output(output) => self.note_output(card.number, output),
+            Spec::Header(_) | Spec::Extension(_) | Spec::Data(_) => Ok(()),
+        }
+    }
+
+    fn note_file(&mut self, card: u16, file: &FileSpec) -> Result<(), AllocError> {
+        match file.overflow {
+            Some(indicator) => self.turned(indicator.number(), card, By::FullPage),
+            None => Ok(()),
+        }
+    }
+
+    fn note_input(&mut self, card: u16, input: &InputSpec) -> Result<(), AllocError> {
+        match input {
+            InputSpec::Type(record_type) => {
+                self.note_turned(card, record_type.indicator, By::RecordType)
+            }
+            InputSpec::And(_) => Ok(()),
+            InputSpec::Field(field) => self.note_field(card, field),
+        }
+    }
+
+    fn note_turned(
+        &mut self,
+        card: u16,
+        indicator: Option<rpg_sheet_specs::Indicator>,
+        by: By,
+    ) -> Result<(), AllocError> {
+        match indicator {
+            Some(indicator) => self.turned(indicator.number(), card, by),
+            None => Ok(()),
+        }
+    }
+
+    fn note_field(&mut self, card: u16, field: &InputField) -> Result<(), AllocError> {
+        if let Some(level) = field.level {
+            self.turned(level.number().saturating_add(100), card, By::ControlField)?;
+        }
+        let shown = field.indicators;
+        self.note_turned(card, shown.first, By::Field(Outcome::Plus))?;
+        self.note_turned(card, shown.second, By::Field(Outcome::Minus))?;
+        self.note_turned(card, shown.third, By::Field(Outcome::Zero))
+    }
+
+    fn note_calculation(
+        &mut self,
+        card: u16,
+        calculation: &CalculationSpec,
+    ) -> Result<(), AllocError> {
+        if let Some(number) = level(calculation.control_level) {
+            let is_negated = false;
+            self.asked(number, Asking { card, is_negated })?;
+        }
+        self.note_conditions(card, calculation.conditions)?;
+        let operation = calculation.operation;
+        let shown = calculation.resulting_indicators;
+        self.note_turned(card, shown.first, By::Result(operation, Outcome::Plus))?;
+        self.note_turned(card, shown.second, By::Result(operation, Outcome::Minus))?;
+        self.note_turned(card, shown.third, By::Result(operation, Outcome::Zero))
+    }
+
+    fn note_output(&mut self, card: u16, output: &OutputSpec) -> Result<(), AllocError> {
+        let conditions = match output {
+            OutputSpec::Record(record) => record.conditions,
+            OutputSpec::And(conditions) | OutputSpec::Or(conditions) => *conditions,
+            OutputSpec::Field(field) => field.conditions,
+        };
+        self.note_conditions(card, conditions)
+    }
+
+    fn note_conditions(
+        &mut self,
+        card: u16,
+        conditions: Three<Option<Condition>>,
+    ) -> Result<(), AllocError> {
+        self.note_condition(card, conditions.first)?;
+        self.note_condition(card, conditions.second)?;
+        self.note_condition(card, conditions.third)
+    }
+
+    fn note_condition(
+        &mut self,
+        card: u16,
+        condition: Option<Condition>,
+    ) -> Result<(), AllocError> {
+        match condition {
+            Some(Condition { negated, indicator }) => self.asked(
+                indicator.number(),
+                Asking {
+                    card,
+                    is_negated: negated,
+                },
+            ),
+            None => Ok(()),
+        }
+    }
+
+    /// Writes rows for each indicator that a card names.
+    pub fn put(&self, alloc: Global, out: &mut String) -> Result<(), AllocError> {
+        if !self.uses.iter().any(|uses| uses.are_some()) {
+            return Ok(());
+        }
+        out.push_str(
+            "\nINDICATORS\n      turned on by                              asked on (N: where it's off)\n",
+        )?;
+        for (number, uses) in self.uses.iter().enumerate() {
+            if uses.are_some() {
+                uses.put(alloc, out, number)?;
+            }
+        }
+        Ok(())
+    }
+}
+
+impl IndicatorUses {
+    fn are_some(&self) -> bool {
+        !self.turned.is_empty() || !self.asked.is_empty()
+    }
+
+    /// Who turns it on or off, a text each.
+    fn turned_texts(&self, alloc: Global, number: usize) -> Result<Vec<String>, AllocError> {
+        let mut texts = Vec::new(alloc);
+        for turning in &self.turned {
+            texts.push(turning.text(alloc)?)?;
+        }
+        match machine_words(number) {
+            Some(words) => texts.push(String::from_str(alloc, words)?)?,
+            None if texts.is_empty() => texts.push(String::from_str(alloc, "nothing")?)?,
+            None => {}
+        }
+        Ok(texts)
+    }
+
+    fn put(&self, alloc: Global, out: &mut String, number: usize) -> Result<(), AllocError> {
+        let turned = self.turned_texts(alloc, number)?;
+        let lines = (self.asked.len().saturating_add(ON_A_LINE - 1) / ON_A_LINE).max(turned.len());
+        for line in 0..lines {
+            let name = name_text(alloc, number, line)?;
+            let by = turned.get(line).map_or("", |text| text.as_str());
+            let mut row = format!(in alloc; "  {name:<2}  {by:<40}  ")?;
+            put_asked(&mut row, line, &self.asked)?;
+            writeln!(out, "{}", row.trim_end())?;
+        }
+        Ok(())
+    }
+}
+
+/// The name of an indicator on the first of its lines.
+fn name_text(alloc: Global, number: usize, line: usize) -> Result<String, AllocError> {
+    match u8::try_from(number) {
+        Ok(number) if line == 0 => {
+            let indicator = Indicator(number);
+            format!(in alloc; "{indicator}")
+        }
+        _ => Ok(String::new(alloc)),
+    }
+}
+
+/// Writes the cards that ask on a line.
+fn put_asked(out: &mut String, line: usize, asked: &[Asking]) -> Result<(), AllocError> {
+    if line == 0 && asked.is_empty() {
+        return out.push_str("nothing");
+    }
+    let before = line.saturating_mul(ON_A_LINE);
+    for asking in asked.iter().skip(before).take(ON_A_LINE) {
+        let Asking { card, is_negated } = *asking;
+        let off = if is_negated { "N" } else { "" };
+        write!(out, "{card}{off} ")?;
+    }
+    Ok(())
+}

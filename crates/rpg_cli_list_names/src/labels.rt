@@ -1,0 +1,89 @@
+//! Labels and subroutines.
+
+use crate::numbers::Numbers;
+use crate::words::name_text;
+use indexmap::IndexMap;
+use rpg_cards::{Named, SpecCard, gives, wants};
+use rpg_sheet_specs::Word;
+use std::alloc::{AllocError, Global};
+use std::fmt::Write;
+
+/// The cards that give a name, and those that go there.
+#[derive(Drop)]
+struct LabelUses {
+    is_subroutine: bool,
+    given: Numbers,
+    wanted: Numbers,
+}
+
+/// Labels and subroutines by their names, in the order of the cards that first have them.
+#[derive(Drop)]
+pub struct Labels {
+    alloc: Global,
+    labels: IndexMap<Word<6>, LabelUses>,
+}
+
+/// How many columns stand before the cards that go to a label.
+const WANTED: usize = 34;
+
+impl Labels {
+    pub fn of(alloc: Global, cards: &[SpecCard]) -> Result<Self, AllocError> {
+        let mut labels = Labels {
+            alloc,
+            labels: IndexMap::new(alloc),
+        };
+        for card in cards {
+            labels.note_card(card)?;
+        }
+        Ok(labels)
+    }
+
+    fn note_card(&mut self, card: &SpecCard) -> Result<(), AllocError> {
+        let Some(calculation) = card.calculation() else {
+            return Ok(());
+        };
+        if let Some(named) = gives(calculation) {
+            self.uses_of(named)?.given.note(card.number)?;
+        }
+        if let Some(named) = wants(calculation) {
+            self.uses_of(named)?.wanted.note(card.number)?;
+        }
+        Ok(())
+    }
+
+    fn uses_of(&mut self, named: Named) -> Result<&mut LabelUses, AllocError> {
+        let Named {
+            name,
+            is_subroutine,
+        } = named;
+        let alloc = self.alloc;
+        Ok(
+            self.labels.entry(name)?.or_insert(LabelUses {
+                is_subroutine,
+                given: Numbers::new(alloc),
+                wanted: Numbers::new(alloc),
+            }),
+        )
+    }
+
+    /// Writes a row for each label and subroutine.
+    pub fn put(&self, alloc: Global, out: &mut String) -> Result<(), AllocError> {
+        if self.labels.is_empty() {
+            return Ok(());
+        }
+        out.push_str("\nLABELS AND SUBROUTINES\n  name    is          given on    gone to from\n")?;
+        for (name, uses) in &self.labels {
+            let name = name_text(alloc, name.as_slice())?;
+            let is = if uses.is_subroutine {
+                "subroutine"
+            } else {
+                "label"
+            };
+            let given = uses.given.text(alloc)?;
+            write!(out, "  {name:<6}  {is:<10}  {given:<10}  ")?;
+            uses.wanted.put(out, WANTED)?;
+            out.push('\n')?;
+        }
+        Ok(())
+    }
+}

@@ -1,0 +1,17 @@
+//! What a source names: its fields, constants, labels and indicators, each with the cards that have it.
+#![tactic(auto)]
+
+mod constants;
+mod indicators;
+mod labels;
+mod names;
+mod numbers;
+mod operations;
+mod turning;
+mod words;
+
+pub use constants::Constants;
+pub use indicators::Indicators;
+pub use labels::Labels;
+pub use names::Names;
+pub use words::name_text;
