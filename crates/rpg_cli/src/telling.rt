@@ -4,7 +4,7 @@
 use crate::answer::Answer;
 use crate::told::Listener;
 use rpg_cli_files::FileFault;
-use rpg_cli_refusals::{bytes_message, halt_message, put_shown, rule_message};
+use rpg_cli_refusals::{HaltedCycle, bytes_message, halt_message, put_shown, rule_message};
 use rpg_cli_words::{FileWord, Request};
 use rpg_engine::{JobEnd, ObjectFault, Report, RunFault, decode_object};
 use std::alloc::{AllocError, Global};
@@ -68,25 +68,9 @@ fn put_run_fault(
     }
 }
 
-fn put_report(
-    alloc: Global,
-    out: &mut String,
-    request: &Request,
-    report: Report,
-) -> Result<(), AllocError> {
-    match (report.ending, request.path(FileWord::Input)) {
-        (JobEnd::Halt(halt), Some(path)) => {
-            let message = halt_message(alloc, path, halt, report.cycles)?;
-            out.push_str(message.as_str())
-        }
-        _ => Ok(()),
-    }
-}
-
 fn answer_message(alloc: Global, request: &Request, answer: &Answer) -> Result<String, AllocError> {
     let mut out = String::new(alloc);
     match *answer {
-        Answer::Ended(report) => put_report(alloc, &mut out, request, report)?,
         Answer::File { word, fault } => put_file_fault(&mut out, request, word, fault)?,
         Answer::Run(fault) => put_run_fault(alloc, &mut out, request, fault)?,
         _ => {}
@@ -94,7 +78,7 @@ fn answer_message(alloc: Global, request: &Request, answer: &Answer) -> Result<S
     Ok(out)
 }
 
-/// Tells which file failed and why, and where a job halted.
+/// Tells which file failed and why.
 pub(crate) fn tell_answer<L: Listener>(
     alloc: Global,
     request: &Request,
@@ -133,6 +117,38 @@ pub(crate) fn tell_object<L: Listener>(
     listener: &mut L,
 ) {
     if let Ok(message) = object_message(alloc, path, object, fault) {
+        listener.tell(message.as_str());
+    }
+}
+
+fn report_message(
+    alloc: Global,
+    path: &str,
+    object: &[u8],
+    report: Report,
+) -> Result<String, AllocError> {
+    match (report.ending, decode_object(alloc, object)) {
+        (JobEnd::Halt(halt), Ok(program)) => {
+            let halted = HaltedCycle {
+                halt,
+                cycles: report.cycles,
+                place: report.place,
+            };
+            halt_message(alloc, path, &program, halted)
+        }
+        _ => Ok(String::new(alloc)),
+    }
+}
+
+/// Tells where a job of the program that these bytes spell halted over the records of a file, if it did.
+pub(crate) fn tell_halt<L: Listener>(
+    alloc: Global,
+    path: &str,
+    object: &[u8],
+    report: Report,
+    listener: &mut L,
+) {
+    if let Ok(message) = report_message(alloc, path, object, report) {
         listener.tell(message.as_str());
     }
 }

@@ -16,6 +16,6 @@ mod subroutines;
 mod types;
 
 pub use bytes::bytes_message;
-pub use halts::halt_message;
+pub use halts::{HaltedCycle, halt_message};
 pub use rules::rule_message;
 pub use shown::put_shown;
