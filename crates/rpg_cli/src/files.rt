@@ -324,7 +324,7 @@ pub(crate) fn run_files<R: Files + AllocGlobal, L: Listener>(
     let object = named(FileWord::Object, file_bytes(rt, words.object))?;
     let ran = run_object(rt, words, &object);
     match ran {
-        Ok(report) => tell_halt(rt.alloc(), words.input, &object, report, listener),
+        Ok(report) => tell_halt(rt, words.input, &object, report, listener),
         Err(Stop::Answer(Answer::Object(fault))) => {
             tell_object(rt.alloc(), words.object, &object, fault, listener);
         }

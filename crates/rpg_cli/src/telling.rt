@@ -3,11 +3,14 @@
 
 use crate::answer::Answer;
 use crate::told::Listener;
-use rpg_cli_files::FileFault;
-use rpg_cli_refusals::{HaltedCycle, bytes_message, halt_message, put_shown, rule_message};
+use rpg_cli_files::{FileFault, identity_at, input_file};
+use rpg_cli_halts::{HaltedCycle, halt_message};
+use rpg_cli_refusals::{bytes_message, put_shown, rule_message};
 use rpg_cli_words::{FileWord, Request};
-use rpg_engine::{JobEnd, ObjectFault, Report, RunFault, decode_object};
+use rpg_engine::{JobEnd, ObjectFault, Report, RunFault, Verified, accept, decode_object};
 use std::alloc::{AllocError, Global};
+use std::io::{BufRead, BufReader};
+use std::rt::Files;
 
 /// A file by its path and its word, and why it failed.
 fn put_file(
@@ -121,34 +124,69 @@ pub(crate) fn tell_object<L: Listener>(
     }
 }
 
-fn report_message(
-    alloc: Global,
-    path: &str,
-    object: &[u8],
-    report: Report,
-) -> Result<String, AllocError> {
-    match (report.ending, decode_object(alloc, object)) {
-        (JobEnd::Halt(halt), Ok(program)) => {
-            let halted = HaltedCycle {
-                halt,
-                cycles: report.cycles,
-                place: report.place,
-            };
-            halt_message(alloc, path, &program, halted)
+/// The text of a record of a regular file, the first being 1, where it can be read once more.
+fn record_line<R: Files + AllocGlobal>(rt: &R, path: &str, number: u64) -> Option<String> {
+    identity_at(rt, path)?;
+    let file = input_file(rt, path).ok()?;
+    let reader = BufReader::new(rt.alloc(), file).ok()?;
+    let mut at = 0u64;
+    for line in reader.lines(rt.alloc()) {
+        let line = line.ok()?;
+        at = at.saturating_add(1);
+        if at == number {
+            return Some(line);
         }
-        _ => Ok(String::new(alloc)),
+    }
+    None
+}
+
+fn halted_message<R: Files + AllocGlobal>(
+    rt: &R,
+    path: &str,
+    program: &Verified,
+    halted: HaltedCycle,
+) -> Result<String, AllocError> {
+    let line = match halted.record() {
+        Some(record) if halted.is_of_columns() => record_line(rt, path, record),
+        _ => None,
+    };
+    let record = line.as_ref().map(|line| line.as_bytes());
+    halt_message(rt.alloc(), path, program, halted, record)
+}
+
+/// The halt of a report, if its job halted.
+fn halt_of(report: Report) -> Option<HaltedCycle> {
+    match report.ending {
+        JobEnd::EndOfJob => None,
+        JobEnd::Halt(halt) => Some(HaltedCycle {
+            halt,
+            cycles: report.cycles,
+            place: report.place,
+        }),
     }
 }
 
-/// Tells where a job of the program that these bytes spell halted over the records of a file, if it did.
-pub(crate) fn tell_halt<L: Listener>(
-    alloc: Global,
+/// The accepted program that the bytes of an object file spell.
+fn program_of(alloc: Global, object: &[u8]) -> Option<Verified> {
+    let program = decode_object(alloc, object).ok()?;
+    accept(alloc, program).ok()
+}
+
+/// Tells where a job halted, if it did: over the records of a file, by the program that these bytes spell.
+pub(crate) fn tell_halt<R: Files + AllocGlobal, L: Listener>(
+    rt: &R,
     path: &str,
     object: &[u8],
     report: Report,
     listener: &mut L,
 ) {
-    if let Ok(message) = report_message(alloc, path, object, report) {
+    let Some(halted) = halt_of(report) else {
+        return;
+    };
+    let Some(program) = program_of(rt.alloc(), object) else {
+        return;
+    };
+    if let Ok(message) = halted_message(rt, path, &program, halted) {
         listener.tell(message.as_str());
     }
 }

@@ -61,7 +61,7 @@ pub(crate) fn part_at(rows: &Rows, place: usize) -> Part<'_> {
 }
 
 /// The name of a section.
-fn put_section(
+pub(crate) fn put_section(
     alloc: Global,
     out: &mut String,
     part: Part<'_>,
@@ -108,18 +108,4 @@ pub(crate) fn name_of(instruction: Instruction<u16>) -> &'static str {
         Instruction::Call { .. } => "CALL",
         Instruction::Return { .. } => "RET",
     }
-}
-
-/// Which instruction it is.
-pub(crate) fn put_place(
-    alloc: Global,
-    out: &mut String,
-    part: Part<'_>,
-    place: usize,
-    instruction: Instruction<u16>,
-) -> Result<(), AllocError> {
-    out.push_str("the ")?;
-    out.push_str(name_of(instruction))?;
-    out.push_str(format!(in alloc; " at place {place} of ")?.as_str())?;
-    put_section(alloc, out, part)
 }

@@ -1,7 +1,7 @@
 //! V16 to V22: what stands in an instruction.
 
 use crate::fields::{asked, put_operand, put_shows};
-use crate::instructions::{Part, part_at, put_place};
+use crate::instructions::{Part, name_of, part_at, put_section};
 use rpg_effect::operation::{Instruction, Operand, Shows};
 use rpg_effect::row::{Marks, Row, Use};
 use rpg_object_program::columns::{columns_of, has_kind, is_good, is_writable_use};
@@ -159,6 +159,34 @@ fn put_called(
         }
     };
     out.push_str(text.as_str())
+}
+
+/// Which instruction it is.
+fn put_place(
+    alloc: Global,
+    out: &mut String,
+    part: Part<'_>,
+    place: usize,
+    instruction: Instruction<u16>,
+) -> Result<(), AllocError> {
+    out.push_str("the ")?;
+    out.push_str(name_of(instruction))?;
+    out.push_str(format!(in alloc; " at place {place} of ")?.as_str())?;
+    put_section(alloc, out, part)
+}
+
+/// Which instruction stands at a place, counted through the whole program.
+pub fn put_instruction_at(
+    alloc: Global,
+    out: &mut String,
+    rows: &Rows,
+    place: usize,
+) -> Result<(), AllocError> {
+    let part = part_at(rows, place);
+    match part.at(place) {
+        Some(instruction) => put_place(alloc, out, part, place, instruction),
+        None => Ok(()),
+    }
 }
 
 /// Which instruction breaks a rule of V16 to V22, and what stands in it.
