@@ -20,8 +20,10 @@ pub(crate) struct BadColumns {
 impl BadColumns {
     /// The columns of a record.
     pub fn of(self, text: &[u8]) -> &[u8] {
-        text.get(self.from.saturating_sub(1)..self.to)
-            .unwrap_or_default()
+        match text.get(self.from.saturating_sub(1)..self.to) {
+            Some(part) => part,
+            None => &[],
+        }
     }
 }
 

@@ -1,11 +1,11 @@
 -- Where a phase, a cycle and a run stand when they end.
-use Rattle.std.proofs.Common.{◌≡◌, ◌+◌, ℕ, ℤ, Bool, true, false, cond, ◌&&◌, ◌||◌, eqb, eq-eqb, List, [], ◌∷◌, length, slice_get, take, Option, None, Some, is_none, refl, sym, ap, ◌∙◌, subst, inl, inr, arith}
+use Rattle.std.proofs.Common.{◌≡◌, ◌+◌, ℕ, ℤ, Bool, true, false, cond, ◌&&◌, eqb, eq-eqb, List, [], ◌∷◌, length, slice_get, take, Option, None, Some, refl, sym, ap, ◌∙◌, subst, inl, inr, arith}
 use Rattle.std.specs.List.{list_all}
 use Rattle.std.specs.Ordering.{nat_cmp}
 use Rattle.rpg_cycle.specs.Ends.{PhaseEnd, GoesOn, EndOfJob, Halt, Wrong, phase_end}
-use Rattle.rpg_cycle.specs.Indicators.{any_on, first_page, halt_indicators, is_on, last_record, level_indicators, with_all, with_levels, with_one, with_type, without_type, without_types}
-use Rattle.rpg_cycle.specs.Phases.{Cycle, CycleOn, Done, Phase, UnderWay, all_off, begun, broken_level, by_machine, compare_levels, detail_calculations, detail_lines, does, done, either, end_where_last, fill_fields, fill_from, from_there, halt_where_asked, has_no_overflow, identify, is_bypassed, output, overflow_lines, passes, read_record, section, select_record, set_off, take_type, total_time, type_indicator, unless, ◌before◌}
-use Rattle.rpg_cycle.specs.Runs.{Course, IsRun, Runs, ends_or}
+use Rattle.rpg_cycle.specs.Indicators.{is_on, last_record, level_indicators, with_all, with_levels, with_one, with_type, without_type, without_types}
+use Rattle.rpg_cycle.specs.Phases.{CycleOn, Done, Phase, UnderWay, all_off, begun, broken_level, by_machine, does, done, either, fill_from, from_there, identify, output, passes, read_record, section, take_type, type_indicator, unless, ◌before◌}
+use Rattle.rpg_cycle.specs.Runs.{Course, Runs, ends_or}
 use Rattle.rpg_cycle.specs.Standing.{RunsStandRight, StandsRight}
 use Rattle.rpg_cycle.specs.Starting.{job_start}
 use Rattle.rpg_cycle_records.specs.Earlier.{Left, Selected, control_fields, left_by, with_record}
@@ -19,7 +19,7 @@ use Rattle.rpg_machine.proofs.Standing.{sections_stand_right}
 use Rattle.rpg_machine.specs.Config.{Config, Output, charged, here}
 use Rattle.rpg_machine.specs.Laws as machines
 use Rattle.rpg_machine.specs.Outputs.{ByEffect}
-use Rattle.rpg_machine.specs.Run.{RunsTo, running_place}
+use Rattle.rpg_machine.specs.Run.{running_place}
 use Rattle.rpg_machine.specs.declared.time.OutputTime.{OutputTime}
 use Rattle.rpg_machine.specs.declared.time.OutputTime.TheVariants as times
 use Rattle.rpg_object_program.specs.Object.{Object}
@@ -68,7 +68,7 @@ off_stays p c =
 
 -- ---- phases
 
-place_at : Object → Section → ℕ → Option Place
+abbrev place_at : Object → Section → ℕ → Option Place
 place_at p s n = cond (has_end s && eqb n (place_behind p s)) None (Some (record { section = s; number = n }))
 
 module _ (p : Object) where
