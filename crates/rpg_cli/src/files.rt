@@ -9,7 +9,7 @@ use crate::answer::{Answer, named};
 use crate::judging::{compiled, verified};
 use crate::running::run_over;
 use crate::stop::Stop;
-use crate::telling::tell_object;
+use crate::telling::{tell_halt, tell_object};
 use crate::told::Listener;
 use rpg_cli_files::{
     FileIdentity, empty_file, file_bytes, identity, identity_at, input_file, output_file,
@@ -309,7 +309,7 @@ fn run_object<R: Files + AllocGlobal>(
     run_program(rt, words, accepted, disk)
 }
 
-/// Runs an object program over its files, and tells what is wrong with one that is refused.
+/// Runs an object program over its files, and tells what is wrong with one that is refused, and where its job halted.
 pub(crate) fn run_files<R: Files + AllocGlobal, L: Listener>(
     rt: &R,
     words: &RunWords,
@@ -317,8 +317,12 @@ pub(crate) fn run_files<R: Files + AllocGlobal, L: Listener>(
 ) -> Result<Report, Stop> {
     let object = named(FileWord::Object, file_bytes(rt, words.object))?;
     let ran = run_object(rt, words, &object);
-    if let Err(Stop::Answer(Answer::Object(fault))) = ran {
-        tell_object(rt.alloc(), words.object, &object, fault, listener);
+    match ran {
+        Ok(report) => tell_halt(rt, words.input, &object, report, listener),
+        Err(Stop::Answer(Answer::Object(fault))) => {
+            tell_object(rt.alloc(), words.object, &object, fault, listener);
+        }
+        Err(_) => {}
     }
     ran
 }

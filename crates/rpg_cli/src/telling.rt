@@ -3,11 +3,14 @@
 
 use crate::answer::Answer;
 use crate::told::Listener;
-use rpg_cli_files::FileFault;
-use rpg_cli_refusals::{bytes_message, halt_message, put_shown, rule_message};
+use rpg_cli_files::{FileFault, identity_at, input_file};
+use rpg_cli_halts::{HaltedCycle, halt_message};
+use rpg_cli_refusals::{bytes_message, put_shown, rule_message};
 use rpg_cli_words::{FileWord, Request};
-use rpg_engine::{JobEnd, ObjectFault, Report, RunFault, decode_object};
+use rpg_engine::{JobEnd, ObjectFault, Report, RunFault, Verified, accept, decode_object};
 use std::alloc::{AllocError, Global};
+use std::io::{BufRead, BufReader};
+use std::rt::Files;
 
 /// A file by its path and its word, and why it failed.
 fn put_file(
@@ -68,25 +71,9 @@ fn put_run_fault(
     }
 }
 
-fn put_report(
-    alloc: Global,
-    out: &mut String,
-    request: &Request,
-    report: Report,
-) -> Result<(), AllocError> {
-    match (report.ending, request.path(FileWord::Input)) {
-        (JobEnd::Halt(halt), Some(path)) => {
-            let message = halt_message(alloc, path, halt, report.cycles)?;
-            out.push_str(message.as_str())
-        }
-        _ => Ok(()),
-    }
-}
-
 fn answer_message(alloc: Global, request: &Request, answer: &Answer) -> Result<String, AllocError> {
     let mut out = String::new(alloc);
     match *answer {
-        Answer::Ended(report) => put_report(alloc, &mut out, request, report)?,
         Answer::File { word, fault } => put_file_fault(&mut out, request, word, fault)?,
         Answer::Run(fault) => put_run_fault(alloc, &mut out, request, fault)?,
         _ => {}
@@ -94,7 +81,7 @@ fn answer_message(alloc: Global, request: &Request, answer: &Answer) -> Result<S
     Ok(out)
 }
 
-/// Tells which file failed and why, and where a job halted.
+/// Tells which file failed and why.
 pub(crate) fn tell_answer<L: Listener>(
     alloc: Global,
     request: &Request,
@@ -133,6 +120,73 @@ pub(crate) fn tell_object<L: Listener>(
     listener: &mut L,
 ) {
     if let Ok(message) = object_message(alloc, path, object, fault) {
+        listener.tell(message.as_str());
+    }
+}
+
+/// The text of a record of a regular file, the first being 1, where it can be read once more.
+fn record_line<R: Files + AllocGlobal>(rt: &R, path: &str, number: u64) -> Option<String> {
+    identity_at(rt, path)?;
+    let file = input_file(rt, path).ok()?;
+    let reader = BufReader::new(rt.alloc(), file).ok()?;
+    let mut at = 0u64;
+    for line in reader.lines(rt.alloc()) {
+        let line = line.ok()?;
+        at = at.saturating_add(1);
+        if at == number {
+            return Some(line);
+        }
+    }
+    None
+}
+
+fn halted_message<R: Files + AllocGlobal>(
+    rt: &R,
+    path: &str,
+    program: &Verified,
+    halted: HaltedCycle,
+) -> Result<String, AllocError> {
+    let line = match halted.record() {
+        Some(record) if halted.is_of_columns() => record_line(rt, path, record),
+        _ => None,
+    };
+    let record = line.as_ref().map(|line| line.as_bytes());
+    halt_message(rt.alloc(), path, program, halted, record)
+}
+
+/// The halt of a report, if its job halted.
+fn halt_of(report: Report) -> Option<HaltedCycle> {
+    match report.ending {
+        JobEnd::EndOfJob => None,
+        JobEnd::Halt(halt) => Some(HaltedCycle {
+            halt,
+            cycles: report.cycles,
+            place: report.place,
+        }),
+    }
+}
+
+/// The accepted program that the bytes of an object file spell.
+fn program_of(alloc: Global, object: &[u8]) -> Option<Verified> {
+    let program = decode_object(alloc, object).ok()?;
+    accept(alloc, program).ok()
+}
+
+/// Tells where a job halted, if it did: over the records of a file, by the program that these bytes spell.
+pub(crate) fn tell_halt<R: Files + AllocGlobal, L: Listener>(
+    rt: &R,
+    path: &str,
+    object: &[u8],
+    report: Report,
+    listener: &mut L,
+) {
+    let Some(halted) = halt_of(report) else {
+        return;
+    };
+    let Some(program) = program_of(rt.alloc(), object) else {
+        return;
+    };
+    if let Ok(message) = halted_message(rt, path, &program, halted) {
         listener.tell(message.as_str());
     }
 }

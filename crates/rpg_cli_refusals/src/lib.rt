@@ -1,10 +1,9 @@
-//! What a person is told beside the line of an answer: of a halt, of bytes that are no object program, and of a program that breaks a rule.
+//! What a person is told beside the line of an answer: of bytes that are no object program, and of a program that breaks a rule.
 #![tactic(auto)]
 
 mod bytes;
 mod counted;
 mod fields;
-mod halts;
 mod instructions;
 mod line_fields;
 mod lines;
@@ -17,6 +16,6 @@ mod subroutines;
 mod types;
 
 pub use bytes::bytes_message;
-pub use halts::halt_message;
+pub use places::put_instruction_at;
 pub use rules::rule_message;
 pub use shown::put_shown;

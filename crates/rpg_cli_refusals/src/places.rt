@@ -179,6 +179,20 @@ fn put_place(
     put_section(alloc, out, part)
 }
 
+/// Which instruction stands at a place, counted through the whole program.
+pub fn put_instruction_at(
+    alloc: Global,
+    out: &mut String,
+    rows: &Rows,
+    place: usize,
+) -> Result<(), AllocError> {
+    let part = part_at(rows, place);
+    match part.at(place) {
+        Some(instruction) => put_place(alloc, out, part, place, instruction),
+        None => Ok(()),
+    }
+}
+
 /// Which instruction breaks a rule of V16 to V22, and what stands in it.
 pub(crate) fn put_instruction(
     alloc: Global,

@@ -40,7 +40,13 @@ was_ended (Wrong f) x h = cc
 
 -- a course with cycles before it
 abbrev pub behind : ℕ → ℕ → Output → Course → Course
-behind cycles most out course = record { ending = course.ending; cycles = cycles + course.cycles; most = max most course.most; output = with_more out course.output }
+behind cycles most out course = record {
+  ending = course.ending;
+  cycles = cycles + course.cycles;
+  most = max most course.most;
+  output = with_more out course.output;
+  there = course.there;
+}
 
 -- so many cycles were done from the old job to the new one, over the records up to those that are left
 pub record IsUnderWay (old : AtWork) (records : List (List ℕ)) (new : AtWork) (rest : List (List ℕ)) (cycles most : ℕ) : Type 0 where
@@ -52,12 +58,12 @@ pub record IsUnderWay (old : AtWork) (records : List (List ℕ)) (new : AtWork) 
   pub bytes : new.output ≡ with_output None out.lines out.records old.output
   pub runs : (course : Course) → Runs new.program earlier rest (config_on (last_position_from None out.lines) new.config) course → Runs old.program [] records (config_on None old.config) (behind cycles most out course)
 
-same_course : (e : PhaseEnd) (a b c d : ℕ) (x y : Output) → a ≡ b → c ≡ d → x ≡ y →
-    (let u : Course = record { ending = e; cycles = a; most = c; output = x } in u) ≡ (let v : Course = record { ending = e; cycles = b; most = d; output = y } in v)
-same_course e a b c d x y h g k =
-    ap (λ n. let u : Course = record { ending = e; cycles = n; most = c; output = x } in u) h
-    ∙ ap (λ n. let u : Course = record { ending = e; cycles = b; most = n; output = x } in u) g
-    ∙ ap (λ o. let u : Course = record { ending = e; cycles = b; most = d; output = o } in u) k
+-- the same ending and the same last cycle
+abbrev course_with : PhaseEnd → ℕ → ℕ → Output → UnderWay → Course
+course_with e cycles most out there = record { ending = e; cycles = cycles; most = most; output = out; there = there }
+
+same_course : (e : PhaseEnd) (t : UnderWay) (a b c d : ℕ) (x y : Output) → a ≡ b → c ≡ d → x ≡ y → course_with e a c x t ≡ course_with e b d y t
+same_course e t a b c d x y h g k = ap (λ n. course_with e n c x t) h ∙ ap (λ n. course_with e b n x t) g ∙ ap (λ o. course_with e b d o t) k
 
 outputs_are : (x y : Output) → x.lines ≡ y.lines → x.records ≡ y.records → x ≡ y
 outputs_are x y h g = ap (λ l. let o : Output = record { lines = l; records = x.records } in o) h ∙ ap (λ r. let o : Output = record { lines = y.lines; records = r } in o) g
@@ -75,7 +81,7 @@ begins old records h top = record {
   last = top;
   bytes = output_none None old.output;
   runs = λ course r. subst (λ c. Runs old.program [] records (config_on None old.config) c)
-      (same_course course.ending course.cycles (0 + course.cycles) course.most (max 0 course.most) course.output (with_more no_output course.output) (omega arith) (omega arith) (outputs_are _ _ refl refl)) r;
+      (same_course course.ending course.there course.cycles (0 + course.cycles) course.most (max 0 course.most) course.output (with_more no_output course.output) (omega arith) (omega arith) (outputs_are _ _ refl refl)) r;
 }
 
 feed_gone : (feed : List ℕ) (b : Bytes) → feed ≡ [] → with_feed feed b ≡ b
@@ -102,7 +108,7 @@ more_done old mid new records rest text cycles most greater u d g =
           subst (λ (c : Config). Runs mid.program next rest c course) (ap (λ (q : Option Position). config_on q new.config) ends ∙ sym d.config)
           (subst (λ (p : Object). Runs p next rest (config_on (last_position_from None (u.out.lines ++ d.out.lines)) new.config) course) d.program h) in
           subst (λ c. Runs old.program [] records (config_on None old.config) c)
-          (same_course course.ending (cycles + (1 + course.cycles)) (cycles + 1 + course.cycles) (max most (max d.there.config.steps course.most)) (max greater course.most)
+          (same_course course.ending course.there (cycles + (1 + course.cycles)) (cycles + 1 + course.cycles) (max most (max d.there.config.steps course.most)) (max greater course.most)
           (with_more u.out (with_more d.out course.output)) (with_more (with_more u.out d.out) course.output) (omega arith) (omega (arith, g, ap (λ (c : Config). c.steps) d.config)) (with_more_assoc u.out d.out course.output))
           (u.runs (with_cycle d.there.config d.out course) (GoesOn, d.there, d.out, d.cycle, (course, left, refl)));
     }
@@ -117,7 +123,7 @@ one_more old mid new records rest text cycles most greater u h s g =
 
 -- ---- the end of a course
 
-ends_here : (e : JobEnd) (d : UnderWay) (out : Output) (Rest : UnderWay → Course → Type 0) → ends_or (job_end e) d out Rest (last_cycle (job_end e) d.config out)
+ends_here : (e : JobEnd) (d : UnderWay) (out : Output) (Rest : UnderWay → Course → Type 0) → ends_or (job_end e) d out Rest (last_cycle (job_end e) d out)
 ends_here jobs.EndOfJob d out Rest = refl
 ends_here (jobs.Halt k) d out Rest = refl
 
@@ -136,7 +142,7 @@ feed_ended (jobs.Halt k) last = refl
 -- the job's last cycle
 ends_by : (old mid new : AtWork) (records rest : List (List ℕ)) (now : Option (List ℕ)) (cycles most : ℕ) (e : JobEnd) (s : Summary) → (u : IsUnderWay old records mid rest cycles most) →
     (d : DoesCycle mid u.earlier (last_position_from None u.out.lines) now (job_end e) new) →
-    Runs mid.program u.earlier rest (config_on (last_position_from None u.out.lines) mid.config) (last_cycle (job_end e) d.there.config d.out) →
+    Runs mid.program u.earlier rest (config_on (last_position_from None u.out.lines) mid.config) (last_cycle (job_end e) d.there d.out) →
     s ≡ record { ending = e; cycles = cycles + 1; most = max most new.config.steps } → RunsRecords old records s new
 ends_by old mid new records rest now cycles most e s u d last is =
     let all = with_more u.out d.out in
@@ -146,9 +152,10 @@ ends_by old mid new records rest now cycles most e s u d last is =
     feed_ended e new.last ∙ ap feed_behind (d.last ∙ ap line_of (sym ends)) ∙ feed_last all.lines in
     subst (λ (x : Summary). RunsRecords old records x new) (sym is) (record {
       out = all;
+      there = d.there;
       runs = subst (λ c. Runs old.program [] records (config_on None old.config) c)
-          (same_course (job_end e) (cycles + 1) (cycles + 1) (max most d.there.config.steps) (max most new.config.steps) all all refl (ap (λ (c : Config). max most c.steps) d.config) refl)
-          (u.runs (last_cycle (job_end e) d.there.config d.out) last);
+          (same_course (job_end e) d.there (cycles + 1) (cycles + 1) (max most d.there.config.steps) (max most new.config.steps) all all refl (ap (λ (c : Config). max most c.steps) d.config) refl)
+          (u.runs (last_cycle (job_end e) d.there d.out) last);
       print = ap (λ (b : Bytes). b.print) (d.bytes ∙ ap (with_feed (feed_at (stage_at (job_end e)) new.last)) bytes)
           ∙ ap (λ f. (old.output.print ++ paper all.lines) ++ f) feed ∙ append_assoc old.output.print (paper all.lines) (last_feed all.lines);
       disk = ap (λ (b : Bytes). b.disk) (d.bytes ∙ ap (with_feed (feed_at (stage_at (job_end e)) new.last)) bytes);

@@ -9,5 +9,6 @@ pub mod OneRun
 pub mod Others
 pub mod Selecting
 pub mod Spending
+pub mod Standing
 pub mod Turning
 pub mod Unneeded

@@ -10,4 +10,5 @@ pub mod Runs
 pub mod Selecting
 pub mod Spending
 pub mod Stages
+pub mod Standing
 pub mod Starting

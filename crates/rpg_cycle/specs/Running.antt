@@ -2,6 +2,7 @@
 use Rattle.std.specs.Prelude.{◌≡◌, ℕ, ℤ, List, [], ◌++◌, None, Some, map}
 use Rattle.std.specs.Global.{Vec}
 use Rattle.rpg_cycle.specs.Job.{AtWork, first_fields}
+use Rattle.rpg_cycle.specs.Phases.{UnderWay}
 use Rattle.rpg_cycle.specs.Runs.{Course, IsRun, Runs, printed, stored}
 use Rattle.rpg_cycle.specs.Stages.{job_end}
 use Rattle.rpg_cycle.specs.Starting.{date_in}
@@ -16,14 +17,15 @@ use Rattle.rpg_object_program.specs.Object.{Object}
 abbrev pub texts : List (Vec ℕ) → List (List ℕ)
 texts = map (λ (v : Vec ℕ). v.items)
 
--- the course of a run that put this out
-abbrev pub course_of : Summary → Output → Course
-course_of s out = record { ending = job_end s.ending; cycles = s.cycles; most = s.most; output = out }
+-- the course of a run that put this out and led there
+abbrev pub course_of : Summary → Output → UnderWay → Course
+course_of s out there = record { ending = job_end s.ending; cycles = s.cycles; most = s.most; output = out; there = there }
 
 -- a job before its first cycle ran over records to its end
 pub record RunsRecords (old : AtWork) (records : List (List ℕ)) (s : Summary) (new : AtWork) : Type 0 where
   pub out : Output
-  pub runs : Runs old.program [] records (config_on None old.config) (course_of s out)
+  pub there : UnderWay
+  pub runs : Runs old.program [] records (config_on None old.config) (course_of s out there)
   pub print : new.output.print ≡ old.output.print ++ printed out
   pub disk : new.output.disk ≡ old.output.disk ++ stored out
 
@@ -39,4 +41,5 @@ pub record RunsWhole (p : Object) (date : List ℕ) (records : List (List ℕ)) 
   pub number : ℤ
   pub spelled : date_in date ≡ Some number
   pub out : Output
-  pub run : IsRun p number (first_fields p) records (course_of (summary_of r) out) (run_output r)
+  pub there : UnderWay
+  pub run : IsRun p number (first_fields p) records (course_of (summary_of r) out there) (run_output r)

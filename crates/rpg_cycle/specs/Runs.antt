@@ -11,27 +11,34 @@ use Rattle.rpg_effect.specs.World.{Fields}
 use Rattle.rpg_machine.specs.Config.{Config, Output, with_more}
 use Rattle.rpg_object_program.specs.Object.{Object}
 
--- how a run ended, in how many cycles, the most steps that one of them took, and what was put out
+-- how a run ended, in how many cycles, the most steps that one of them took, what was put out, and what the last cycle led to
 pub record Course : Type 0 where
   pub ending : PhaseEnd
   pub cycles : ℕ
   pub most : ℕ
   pub output : Output
+  pub there : UnderWay
 
 -- the course of a run whose last cycle this is
-abbrev pub last_cycle : PhaseEnd → Config → Output → Course
-last_cycle e c out = record { ending = e; cycles = 1; most = c.steps; output = out }
+abbrev pub last_cycle : PhaseEnd → UnderWay → Output → Course
+last_cycle e d out = record { ending = e; cycles = 1; most = d.config.steps; output = out; there = d }
 
 -- the course of the rest with this cycle before it
 abbrev pub with_cycle : Config → Output → Course → Course
-with_cycle c out rest = record { ending = rest.ending; cycles = 1 + rest.cycles; most = max c.steps rest.most; output = with_more out rest.output }
+with_cycle c out rest = record {
+  ending = rest.ending;
+  cycles = 1 + rest.cycles;
+  most = max c.steps rest.most;
+  output = with_more out rest.output;
+  there = rest.there;
+}
 
 -- a cycle ended the job, or the rest follows
 abbrev pub ends_or : PhaseEnd → UnderWay → Output → (UnderWay → Course → Type 0) → Course → Type 0
 ends_or GoesOn d out Rest course = (rest : Course) × Rest d rest × (course ≡ with_cycle d.config out rest)
-ends_or EndOfJob d out Rest course = course ≡ last_cycle EndOfJob d.config out
-ends_or (Halt k) d out Rest course = course ≡ last_cycle (Halt k) d.config out
-ends_or (Wrong f) d out Rest course = course ≡ last_cycle (Wrong f) d.config out
+ends_or EndOfJob d out Rest course = course ≡ last_cycle EndOfJob d out
+ends_or (Halt k) d out Rest course = course ≡ last_cycle (Halt k) d out
+ends_or (Wrong f) d out Rest course = course ≡ last_cycle (Wrong f) d out
 
 -- a run from a configuration, behind earlier records (the last first), over the records that are left
 abbrev pub Runs : Object → List Selected → List (List ℕ) → Config → Course → Type 0

@@ -35,12 +35,12 @@ job_first_world fields = record {
   has_turned_on = false;
 }
 
--- a job's configuration before its first cycle, over these values and current entries
+-- a job's configuration before its first cycle, over these values and current entries: behind detail calculations, as before every other
 abbrev pub job_start : Object → ℤ → Fields nat_cmp → Config
 job_start p date fields = record {
   world = job_first_world (dated date 1 p.fields fields);
   section = Detail;
-  place = 0;
+  place = length p.detail;
   cells = map.empty;
   allowance = p.allowance;
   steps = 0;

@@ -6,8 +6,10 @@ use crate::cycle::run_cycle;
 use crate::date::{Date, put_date};
 use crate::ends::{CycleEnd, JobEnd, Progress, StartFault, Stop};
 use crate::indicators::{LAST_RECORD, is_halt_asked};
+use crate::program::is_end;
 use rpg_cycle_records::Kept;
 use rpg_machine::{Machine, Output};
+use rpg_object_program::section::Place;
 use rpg_store::{FlatStore, Store, first_values_fit};
 use rpg_verify::Verified;
 use std::alloc::{AllocError, Global};
@@ -87,6 +89,7 @@ impl<'a, S: Store + Drop> Job<'a, S> {
     ghost use Rattle.rpg_cycle.specs.Job as of;
     ghost use Rattle.rpg_cycle.specs.Stages.{Failed, is_going, told};
     ghost use Rattle.rpg_cycle.specs.Starting.{date_in};
+    ghost use Rattle.rpg_machine.specs.Run.{running_place};
     ghost use Rattle.rpg_store.specs.Fits.{Fits};
     ghost use Rattle.rpg_verify.specs.Bound.{bound};
 
@@ -191,6 +194,18 @@ impl<'a, S: Store + Drop> Job<'a, S> {
         ensures { result ≡ self.now.config.steps }
     {
         self.machine.steps()
+    }
+
+    /// The place of the instruction that runs: behind a halt, of the one that halted. None where no instruction runs.
+    pub fn running_place(&self) -> Option<Place>
+        ensures { result ≡ running_place self.now.program self.now.config }
+    {
+        let place = self.machine.place();
+        if is_end(self.program, place) {
+            None
+        } else {
+            Some(place)
+        }
     }
 
     /// What was put out since it was taken last.

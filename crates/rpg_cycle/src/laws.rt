@@ -4,6 +4,7 @@ ghost use Rattle.std.specs.Ordering.{nat_cmp};
 ghost use Rattle.rpg_cycle.specs.Runs.{Course, IsRun, Runs};
 ghost use Rattle.rpg_cycle.specs.Ends.{PhaseEnd};
 ghost use Rattle.rpg_cycle.specs.Phases.{Cycle, UnderWay, begun, needs_record};
+ghost use Rattle.rpg_cycle.specs.Standing.{RunsStandRight};
 ghost use Rattle.rpg_cycle_records.specs.Earlier.{Selected};
 ghost use Rattle.rpg_effect.specs.Put.{Bytes};
 ghost use Rattle.rpg_effect.specs.World.{Fields};
@@ -22,6 +23,11 @@ pub fn runs_are_one()
 #[tactic(auto, using(crate::proofs::Ending::few_cycles))]
 pub fn runs_are_short()
     ensures { (p : Object) (earlier : List Selected) (records : List (List ℕ)) (c : Config) (course : Course) → Runs p earlier records c course → course.cycles ≤ length records + 1 }
+{}
+
+/// Where a job halts it stands at the instruction that halted it, or, where no instruction did, at the end of calculations.
+pub fn runs_stand_right()
+    ensures { RunsStandRight }
 {}
 
 /// Where no record is needed, since LR or one of H1 to H9 is on, a cycle is the same whatever record is next, or none.

@@ -14,7 +14,7 @@ mod selection;
 
 pub use ends::{CycleEnd, JobEnd, StartFault};
 pub use jobs::Job;
-pub use laws::{runs_are_one, runs_are_short, unneeded_records_are_ignored};
+pub use laws::{runs_are_one, runs_are_short, runs_stand_right, unneeded_records_are_ignored};
 pub use rpg_effect::halt::Halt;
 pub use rpg_machine::Output;
 pub use runs::{Run, run_records};

@@ -1,13 +1,15 @@
 //! What the cycle reads of a program.
-ghost use Rattle.std.specs.Prelude.{◌≡◌, ◌≤◌, ◌<◌, ◌^◌, All, length, slice_get};
+ghost use Rattle.std.specs.Prelude.{◌≡◌, ◌≤◌, ◌<◌, ◌^◌, ◌&&◌, ◌==◌, All, length, slice_get};
 ghost use Rattle.std.specs.Option.{ForSome};
 ghost use Rattle.rpg_cycle.specs.Phases as phases;
 ghost use Rattle.rpg_cycle.specs.Spending.{cycle_weight};
 ghost use Rattle.rpg_object_program.specs.Kept.{IsFieldRow, IsIndicator};
+ghost use Rattle.rpg_object_program.specs.Sections.{has_end, place_behind};
 ghost use Rattle.rpg_verify.specs.Bound as words;
 
 use rpg_cycle_records::{rows_of, type_at};
 use rpg_effect::form::FieldForm;
+use rpg_object_program::section::{Place, Section};
 use rpg_verify::Verified;
 
 /// The indicator of a type.
@@ -34,6 +36,20 @@ pub(crate) fn overflow_of(program: &Verified) -> Option<u8>
     ensures right { ForSome result IsIndicator }
 {
     rows_of(program).overflow
+}
+
+/// Whether a place is the end of detail or total calculations.
+#[tactic(auto, unfolding(rpg_object_program::specs::Sections::place_behind, rpg_object_program::specs::Sections::first_place))]
+pub(crate) fn is_end(program: &Verified, place: Place) -> bool
+    ensures { result ≡ (has_end place.section && place.number == place_behind program.now place.section) }
+{
+    let rows = rows_of(program);
+    let number = usize::from(place.number);
+    match place.section {
+        Section::Detail => number == rows.detail.len(),
+        Section::Total => number == rows.detail.len() + rows.total.len(),
+        Section::Subroutine(_) => false,
+    }
 }
 
 /// What all phases weigh together is within the program's bound.

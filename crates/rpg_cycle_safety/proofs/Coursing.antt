@@ -31,8 +31,8 @@ module _ (p : Object) (orderly : IsOrderly p) where
   at_file : (earlier : List Selected) (c : Config) (e : PhaseEnd) (d : UnderWay) (out : Output) → Cycle p earlier None (begun p c) e d out →
       CyclesWell p e d → HasCourse p earlier [] c
   at_file earlier c GoesOn d out cycle well = absurd (never_on p (left_by p earlier) c d out cycle)
-  at_file earlier c EndOfJob d out cycle well = record { course = last_cycle EndOfJob d.config out; runs = (EndOfJob, d, out, cycle, refl); ending = tt; few = well.few }
-  at_file earlier c (Halt k) d out cycle well = record { course = last_cycle (Halt k) d.config out; runs = (Halt k, d, out, cycle, refl); ending = well.ending; few = well.few }
+  at_file earlier c EndOfJob d out cycle well = record { course = last_cycle EndOfJob d out; runs = (EndOfJob, d, out, cycle, refl); ending = tt; few = well.few }
+  at_file earlier c (Halt k) d out cycle well = record { course = last_cycle (Halt k) d out; runs = (Halt k, d, out, cycle, refl); ending = well.ending; few = well.few }
   at_file earlier c (Wrong f) d out cycle well = absurd well.ending
 
   -- the rest runs from wherever a cycle leads
@@ -47,8 +47,8 @@ module _ (p : Object) (orderly : IsOrderly p) where
       let one = well.few in
       let others = rest.few in
       record { course = with_cycle d.config out rest.course; runs = (GoesOn, d, out, cycle, (rest.course, rest.runs, refl)); ending = rest.ending; few = omega (arith, one, others) }
-  at_record rs next earlier r c EndOfJob d out cycle well = record { course = last_cycle EndOfJob d.config out; runs = (EndOfJob, d, out, cycle, refl); ending = tt; few = well.few }
-  at_record rs next earlier r c (Halt k) d out cycle well = record { course = last_cycle (Halt k) d.config out; runs = (Halt k, d, out, cycle, refl); ending = well.ending; few = well.few }
+  at_record rs next earlier r c EndOfJob d out cycle well = record { course = last_cycle EndOfJob d out; runs = (EndOfJob, d, out, cycle, refl); ending = tt; few = well.few }
+  at_record rs next earlier r c (Halt k) d out cycle well = record { course = last_cycle (Halt k) d out; runs = (Halt k, d, out, cycle, refl); ending = well.ending; few = well.few }
   at_record rs next earlier r c (Wrong f) d out cycle well = absurd well.ending
 
   courses : (records : List (List ℕ)) → RestRuns records

@@ -1,5 +1,5 @@
 -- Each configuration that a run comes by is steady.
-use Rattle.std.proofs.Common.{◌≡◌, ℕ, Bool, true, false, inl, inr, List, [], ◌∷◌, Option, None, Some, All, length, refl, sym, ap, ◌∙◌, subst, cond, arith, nat_cmp, ℤ, unsigned_abs, ◌<◌, ◌^◌}
+use Rattle.std.proofs.Common.{◌≡◌, ℕ, ◌+◌, Bool, true, false, ◌&&◌, ◌||◌, eqb, nat_le, nat_lt, le-leb, eq-eqb, ◌⊎◌, inl, inr, List, [], ◌∷◌, Option, None, Some, All, length, refl, sym, ap, ◌∙◌, subst, cond, arith, nat_cmp, ℤ, unsigned_abs, ◌<◌, ◌^◌}
 use Rattle.std.specs.FinMap as map
 use Rattle.rpg_cycle_records.specs.Earlier.{Left, Selected, left_by, with_record}
 use Rattle.rpg_cycle.specs.Ends.{PhaseEnd, GoesOn, EndOfJob, Halt, Wrong, phase_end}
@@ -24,7 +24,6 @@ use Rattle.rpg_cycle_safety.specs.Leading.{IsSteady, StandsWell}
 use Rattle.rpg_cycle_safety.specs.Visiting.{IsOfRun, Visits, Way, along, cycle_way, end_of, phases_way, standing, total_way, within, ◌onto◌}
 use Rattle.rpg_machine.proofs.Ranges.{and_true}
 use Rattle.rpg_machine.proofs.Safe.{none_set}
-use Rattle.rpg_machine.proofs.Starting.{first_is_place}
 use Rattle.rpg_machine.specs.Accepted.{IsOrderly}
 use Rattle.rpg_machine.specs.Config.{Config, Output, charged, here}
 use Rattle.rpg_machine.specs.Outputs.{ByEffect, inputs_at, output_effect, output_weight}
@@ -33,7 +32,7 @@ use Rattle.rpg_machine.specs.Step.{Outcome, Next, Stop}
 use Rattle.rpg_machine.specs.declared.time.OutputTime.{OutputTime}
 use Rattle.rpg_machine.specs.declared.time.OutputTime.TheVariants as times
 use Rattle.rpg_object_program.specs.Object.{Object}
-use Rattle.rpg_object_program.specs.Sections.{first_place, has_end, is_place}
+use Rattle.rpg_object_program.specs.Sections.{first_place, has_end, is_place, place_behind}
 use Rattle.rpg_object_program.specs.declared.section.Place.{Place}
 use Rattle.rpg_object_program.specs.declared.section.Section.{Section}
 use Rattle.rpg_object_program.specs.declared.section.Section.TheVariants as sections
@@ -294,13 +293,17 @@ module _ (p : Object) (orderly : IsOrderly p) where
       along_safe (Cycle p earlier (Some t)) (cycle_way p earlier (Some t)) (λ d y. Visits p (with_record d.selected earlier) ts d.config y) (cycle_safe (left_by p earlier) (Some t))
       (way_safe earlier (Some t)) (λ d y k v. visits_safe ts (with_record d.selected earlier) d.config y (again d k) v) (begun p c) x r h
 
-  first_detail : is_place p (record { section = sections.Detail; number = 0 }) ≡ true
-  unfolding first_place
-  first_detail = first_is_place p sections.Detail refl
+  at_end : (n e : ℕ) → n ≡ e → (b : Bool) → nat_lt n e ≡ b → (nat_le 0 n && (nat_lt n e || (true && eqb n e))) ≡ true
+  at_end n e same true t = rw (le-leb 0 n (omega arith), t)
+  at_end n e same false t = rw (le-leb 0 n (omega arith), t, eq-eqb n e same)
+
+  behind_detail : is_place p (record { section = sections.Detail; number = length p.detail }) ≡ true
+  unfolding is_place place_behind first_place
+  behind_detail = at_end (length p.detail) (0 + length p.detail) (omega arith) _ refl
 
   -- every configuration of a run
   pub visited_steady : (date : ℤ) (fields : Fields nat_cmp) (records : List (List ℕ)) (x : Config) → unsigned_abs date < 10 ^ 6 → Holds p (job_first_world fields) →
       IsOfRun p date fields records x → IsSteady p x
   visited_steady date fields records x small h =
       visits_safe records [] (job_start p date fields) x
-      (record { values = start_holds p orderly.program date small fields h; ended = refl; place = first_detail; no_cell = refl; taken = tt })
+      (record { values = start_holds p orderly.program date small fields h; ended = refl; place = behind_detail; no_cell = refl; taken = tt })

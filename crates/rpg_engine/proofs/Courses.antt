@@ -13,14 +13,20 @@ use Rattle.rpg_engine.proofs.Passing.{never_on}
 
 -- a course with cycles before it
 abbrev pub behind : ℕ → ℕ → Output → Course → Course
-behind cycles most out course = record { ending = course.ending; cycles = cycles + course.cycles; most = max most course.most; output = with_more out course.output }
+behind cycles most out course = record {
+  ending = course.ending;
+  cycles = cycles + course.cycles;
+  most = max most course.most;
+  output = with_more out course.output;
+  there = course.there;
+}
 
-pub same_course : (e : PhaseEnd) (a b c d : ℕ) (x y : Output) → a ≡ b → c ≡ d → x ≡ y →
-    (let s : Course = record { ending = e; cycles = a; most = c; output = x } in s) ≡ (let s : Course = record { ending = e; cycles = b; most = d; output = y } in s)
-same_course e a b c d x y h g k =
-    ap (λ n. let s : Course = record { ending = e; cycles = n; most = c; output = x } in s) h
-    ∙ ap (λ n. let s : Course = record { ending = e; cycles = b; most = n; output = x } in s) g
-    ∙ ap (λ o. let s : Course = record { ending = e; cycles = b; most = d; output = o } in s) k
+-- the same ending and the same last cycle
+abbrev course_with : PhaseEnd → ℕ → ℕ → Output → UnderWay → Course
+course_with e cycles most out there = record { ending = e; cycles = cycles; most = most; output = out; there = there }
+
+same_course : (e : PhaseEnd) (t : UnderWay) (a b c d : ℕ) (x y : Output) → a ≡ b → c ≡ d → x ≡ y → course_with e a c x t ≡ course_with e b d y t
+same_course e t a b c d x y h g k = ap (λ n. course_with e n c x t) h ∙ ap (λ n. course_with e b n x t) g ∙ ap (λ o. course_with e b d o t) k
 
 pub same_output : (a b : List Placed) (c d : List (List ℕ)) → a ≡ b → c ≡ d → (let o : Output = record { lines = a; records = c } in o) ≡ (let o : Output = record { lines = b; records = d } in o)
 same_output a b c d h g = ap (λ x. let o : Output = record { lines = x; records = c } in o) h ∙ ap (λ x. let o : Output = record { lines = b; records = x } in o) g
@@ -32,13 +38,13 @@ pub more_none : (a : Output) → with_more a no_output ≡ a
 more_none a = same_output (a.lines ++ []) a.lines (a.records ++ []) a.records (append-nil a.lines) (append-nil a.records)
 
 none_before : (course : Course) → behind 0 0 no_output course ≡ course
-none_before course = same_course course.ending (0 + course.cycles) course.cycles (max 0 course.most) course.most course.output course.output (omega arith) (omega arith) refl
+none_before course = same_course course.ending course.there (0 + course.cycles) course.cycles (max 0 course.most) course.most course.output course.output (omega arith) (omega arith) refl
 
 -- one more cycle before the rest
 one_behind : (cycles most greater : ℕ) (c : Config) (out more : Output) (course : Course) → greater ≡ max most c.steps
     → behind cycles most out (with_cycle c more course) ≡ behind (cycles + 1) greater (with_more out more) course
 one_behind cycles most greater c out more course g =
-    same_course course.ending (cycles + (1 + course.cycles)) (cycles + 1 + course.cycles) (max most (max c.steps course.most)) (max greater course.most)
+    same_course course.ending course.there (cycles + (1 + course.cycles)) (cycles + 1 + course.cycles) (max most (max c.steps course.most)) (max greater course.most)
     (with_more out (with_more more course.output)) (with_more (with_more out more) course.output) (omega arith) (omega (arith, g)) (more_assoc out more course.output)
 
 -- ---- a run under way
@@ -108,22 +114,22 @@ IsLast EndOfJob = Unit {0}
 IsLast (Halt k) = Unit {0}
 IsLast (Wrong f) = Unit {0}
 
-ends_here : (e : PhaseEnd) (d : UnderWay) (o : Output) (Rest : UnderWay → Course → Type 0) → IsLast e → ends_or e d o Rest (last_cycle e d.config o)
+ends_here : (e : PhaseEnd) (d : UnderWay) (o : Output) (Rest : UnderWay → Course → Type 0) → IsLast e → ends_or e d o Rest (last_cycle e d o)
 ends_here GoesOn d o Rest last = absurd last
 ends_here EndOfJob d o Rest last = refl
 ends_here (Halt k) d o Rest last = refl
 ends_here (Wrong f) d o Rest last = refl
 
 ends_runs : (p : Object) (earlier : List Selected) (now : Config) (rest after : List (List ℕ)) (e : PhaseEnd) (d : UnderWay) (o : Output) → HeadCycle p earlier now e d o rest after → IsLast e
-    → Runs p earlier rest now (last_cycle e d.config o)
+    → Runs p earlier rest now (last_cycle e d o)
 ends_runs p earlier now [] after e d o head last = (e, d, o, head, ends_here e d o _ last)
 ends_runs p earlier now (r ∷ rs) after e d o head last = (e, d, o, head.0, ends_here e d o _ last)
 
 -- the whole run
 pub ends : (p : Object) (start : Config) (all : List (List ℕ)) (earlier : List Selected) (now : Config) (rest after : List (List ℕ)) (cycles most : ℕ) (out : Output) (e : PhaseEnd) (d : UnderWay) (o : Output)
     → IsUnderWay p start all earlier now rest cycles most out → HeadCycle p earlier now e d o rest after → IsLast e
-    → Runs p [] all start (behind cycles most out (last_cycle e d.config o))
-ends p start all earlier now rest after cycles most out e d o u head last = u.forth (last_cycle e d.config o) (ends_runs p earlier now rest after e d o head last)
+    → Runs p [] all start (behind cycles most out (last_cycle e d o))
+ends p start all earlier now rest after cycles most out e d o u head last = u.forth (last_cycle e d o) (ends_runs p earlier now rest after e d o head last)
 
 -- ---- what each run puts out
 

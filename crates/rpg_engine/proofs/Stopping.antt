@@ -18,7 +18,10 @@ use Rattle.rpg_files.specs.Sending.{AppendsFirst, AppendsPrefix}
 use Rattle.rpg_files.specs.declared.reader.ReadFault.TheVariants as fault
 use Rattle.rpg_files.specs.declared.reader.RecordReader.{RecordReader}
 use Rattle.rpg_machine.specs.Config.{Config, Output, with_more}
+use Rattle.rpg_machine.specs.Run.{running_place}
 use Rattle.rpg_machine.specs.Running.{config_on}
+use Rattle.rpg_object_program.specs.Object.{Object}
+use Rattle.rpg_object_program.specs.declared.section.Place.{Place}
 use Rattle.rpg_verify.specs.Bound.{bound}
 use Rattle.rpg_engine.specs.Faults.{Counts, FaultsAre}
 use Rattle.rpg_engine.specs.Inputs.{HasTooMany, OfInput}
@@ -42,12 +45,12 @@ start_is first day is = ap (λ (j : AtWork). config_on None j.config) is
 -- ---- a report
 
 pub stream_reports : {R : Type 0} (remaining : R → Option (List ℕ)) (first job mid : AtWork) (given : Option (List ℕ)) (reader reader' : RecordReader R) (cycles most greater : ℕ)
-    (print print' print'' disk disk' disk'' : Option (List ℕ)) (gone_print gone_disk most_steps : ℕ) (j : JobEnd)
+    (print print' print'' disk disk' disk'' : Option (List ℕ)) (gone_print gone_disk most_steps : ℕ) (j : JobEnd) (place : Option Place)
     → Streams remaining first given job reader cycles most print print' disk disk' gone_print gone_disk → TakesCycle remaining job reader mid reader'
     → mid.stage ≡ ended_stage (Some j) → greater ≡ max most mid.config.steps → Appends print' print'' mid.output.print → Appends disk' disk'' mid.output.disk
-    → most_steps ≡ bound first.program → greater ≤ most_steps → (day : ℤ) → IsStart first day
-    → OfInput given (remaining (device_of (reader_of reader'))) (Reports first.program day (record { ending = j; cycles = cycles + 1; most = greater; bound = most_steps }) print print'' disk disk'')
-stream_reports remaining first job mid given reader reader' cycles most greater print print' print'' disk disk' disk'' gone_print gone_disk most_steps j s takes stage most_is sent_print sent_disk bounded few day is =
+    → most_steps ≡ bound first.program → greater ≤ most_steps → place ≡ running_place mid.program mid.config → (day : ℤ) → IsStart first day
+    → OfInput given (remaining (device_of (reader_of reader'))) (Reports first.program day (record { ending = j; cycles = cycles + 1; most = greater; bound = most_steps; place = place }) print print'' disk disk'')
+stream_reports remaining first job mid given reader reader' cycles most greater print print' print'' disk disk' disk'' gone_print gone_disk most_steps j place s takes stage most_is sent_print sent_disk bounded few stands day is =
     let took = takes.does s.earlier s.left (last_position s.out.lines) s.last in
     let e = took.0 in
     let t = took.1 in
@@ -55,7 +58,7 @@ stream_reports remaining first job mid given reader reader' cycles most greater 
     let steps = stream_steps remaining first job mid given reader reader' cycles most print print' disk disk' gone_print gone_disk e s t in
     let ended : e ≡ job_end j = was_ended e j (sym does.stage ∙ stage) in
     let last : IsLast e = subst IsLast (sym ended) (is_last j) in
-    let course = behind cycles most s.out (last_cycle e does.there.config does.out) in
+    let course = behind cycles most s.out (last_cycle e does.there does.out) in
     let put = output_is job mid s.earlier s.out t.next e does s.empty in
     let to_print : paper s.out.lines ++ mid.output.print ≡ printed (with_more s.out does.out) = ap (λ (b : Bytes). paper s.out.lines ++ b.print) put ∙ print_ends e s.out does.out last in
     let to_disk : disk_bytes s.out.records ++ mid.output.disk ≡ stored (with_more s.out does.out) = ap (λ (b : Bytes). disk_bytes s.out.records ++ b.disk) put ∙ disk_goes_on e s.out does.out in
@@ -78,6 +81,7 @@ stream_reports remaining first job mid given reader reader' cycles most greater 
         cycles = refl;
         most = most_is ∙ ap (max most) (sym (steps_are job mid s.earlier s.out t.next e does));
         bound = bounded;
+        place = stands ∙ ap (λ (p : Object). running_place p mid.config) (does.program ∙ s.program) ∙ ap (running_place first.program) (sym does.config);
         few = few;
         printed = subst (λ (bytes : List ℕ). Appends print print'' bytes) to_print (Appends-trans print print' print'' (paper s.out.lines) mid.output.print s.sent_print sent_print);
         stored = subst (λ (bytes : List ℕ). Appends disk disk'' bytes) to_disk (Appends-trans disk disk' disk'' (disk_bytes s.out.records) mid.output.disk s.sent_disk sent_disk);

@@ -8,6 +8,7 @@ use Rattle.rpg_cycle_safety.specs.Coming.{HasRun, IsJobEnd}
 use Rattle.rpg_effect.specs.Put.{Bytes}
 use Rattle.rpg_files.specs.Records.{records}
 use Rattle.rpg_files.specs.Sending.{AppendsFirst, AppendsPrefix}
+use Rattle.rpg_machine.specs.Run.{running_place}
 use Rattle.rpg_object_program.specs.Object.{Object}
 use Rattle.rpg_verify.specs.Bound.{bound}
 use Rattle.rpg_engine.specs.declared.fault.RunFault.{RunFault}
@@ -18,7 +19,7 @@ use Rattle.rpg_engine.specs.declared.report.Report.{Report}
 abbrev pub IsRunOver : Object → ℤ → List ℕ → Course → Bytes → Type 0
 IsRunOver p day input course bytes = IsRun p day (first_fields p) (records input) course bytes
 
--- the report is that of the run over the input's records, and each writer has all of its bytes
+-- the report is that of the run over the input's records, with the place where the run stood at its end, and each writer has all of its bytes
 pub record Reports (p : Object) (day : ℤ) (report : Report) (print print' disk disk' : Option (List ℕ)) (input : List ℕ) : Type 0 where
   pub course : Course
   pub bytes : Bytes
@@ -27,6 +28,7 @@ pub record Reports (p : Object) (day : ℤ) (report : Report) (print print' disk
   pub cycles : report.cycles ≡ course.cycles
   pub most : report.most ≡ course.most
   pub bound : report.bound ≡ bound p
+  pub place : report.place ≡ running_place p course.there.config
   pub few : report.most ≤ report.bound
   pub printed : Appends print print' bytes.print
   pub stored : Appends disk disk' bytes.disk

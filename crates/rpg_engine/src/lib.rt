@@ -15,8 +15,10 @@ pub use fault::RunFault;
 pub use object::{ObjectFault, accept, decode_object, has_disk_file, verify_bytes};
 pub use report::Report;
 pub use rpg_cycle::{
-    Halt, Job, JobEnd, run_records, runs_are_one, runs_are_short, unneeded_records_are_ignored,
+    Halt, Job, JobEnd, run_records, runs_are_one, runs_are_short, runs_stand_right,
+    unneeded_records_are_ignored,
 };
 pub use rpg_object::Code;
 pub use rpg_object_program::Program;
+pub use rpg_object_program::section::{Place, Section};
 pub use rpg_verify::{BrokenRule, Rule, Verified};

@@ -64,6 +64,7 @@ pub(crate) fn run<S: Store + Drop, R: Read, W1: Write, W2: Write>(
                 cycles,
                 most,
                 bound,
+                place: job.running_place(),
             });
         }
     }

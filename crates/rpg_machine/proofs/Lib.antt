@@ -19,6 +19,7 @@ pub mod Readiness
 pub mod Records
 pub mod Runs
 pub mod Safe
+pub mod Standing
 pub mod Starting
 pub mod Steps
 pub mod Work

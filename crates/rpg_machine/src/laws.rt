@@ -1,5 +1,5 @@
 //! Laws of the definitions.
-ghost use Rattle.rpg_machine.specs.Laws.{NoStepIsWrong, RunsAreOne};
+ghost use Rattle.rpg_machine.specs.Laws.{NoStepIsWrong, RunsAreOne, SectionsStandRight};
 
 use crate::accepted::accepted_is_orderly;
 use rpg_verify::Verified;
@@ -7,6 +7,11 @@ use rpg_verify::Verified;
 /// A section has one run from a configuration.
 pub fn runs_are_one()
     ensures { RunsAreOne }
+{}
+
+/// A section that goes on leads to its end, and one that halts stands at the instruction that halted.
+pub fn sections_stand_right()
+    ensures { SectionsStandRight }
 {}
 
 /// Nothing is ever wrong in an accepted program.

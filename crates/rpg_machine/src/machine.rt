@@ -3,6 +3,7 @@ ghost use Rattle.std.specs.Prelude.{◌≡◌, ◌≤◌, length, IfOk};
 ghost use Rattle.rpg_machine.specs.Running as of;
 ghost use Rattle.rpg_machine_lines.specs.Right.{HasLineRoom};
 ghost use Rattle.rpg_machine.specs.State.{running_of};
+ghost use Rattle.rpg_object_program.specs.Kept.{IsProgram};
 ghost use Rattle.rpg_object_program.specs.Object.{seen};
 ghost use Rattle.std.specs.FinSet as set;
 ghost use Rattle.std.specs.Prelude.{[], ◌∷◌};
@@ -18,7 +19,7 @@ use rpg_decimal::{Rest, Scale};
 use rpg_effect::outcome::End;
 use rpg_machine_lines::{Entries, Output};
 use rpg_object_program::row::Rows;
-use rpg_object_program::section::Section;
+use rpg_object_program::section::{Place, Section};
 use rpg_paper::Form;
 use rpg_store::indicators::Indicators;
 use rpg_store::memory::Memory;
@@ -78,12 +79,13 @@ fn line_room(alloc: Global, rows: &Rows) -> Result<Vec<u8>, AllocError>
     Ok(text)
 }
 
-/// What a program starts with, over the values in a store.
+/// What a program starts with, over the values in a store: behind detail calculations, as it is before every cycle.
 fn first_state<S: Store + Drop>(
     alloc: Global,
     rows: &Rows,
     store: S,
 ) -> Result<State<S>, AllocError>
+    requires { IsProgram (seen rows.now) }
     ensures start { IfOk result (λ s. running_of S.contents S.currents (seen rows.now) s ≡
         of.started (seen rows.now) (record { values = S.contents store; current = S.currents store })) }
     ensures room { IfOk result (λ s. HasLineRoom (seen rows.now) s.writer.text.items) }
@@ -111,7 +113,7 @@ fn first_state<S: Store + Drop>(
             to_blank: Entries::new(),
         },
         section: Section::Detail,
-        place: 0,
+        place: rows.detail.len() as u16,
         cells: Cells::new(),
         allowance: rows.allowance,
         steps: 0,
@@ -122,6 +124,7 @@ impl<'a, S: Store + Drop> Machine<'a, S> {
     ghost use Rattle.std.specs.Prelude.{◌≡◌, ◌<◌, ◌≤◌, ◌^◌, All, length, true, IfOk, OnOk};
     ghost use Rattle.std.specs.FinSet as set;
     ghost use Rattle.rpg_effect.specs.Ends.{end_of};
+    ghost use Rattle.rpg_machine.specs.Config.{here};
     ghost use Rattle.rpg_machine.specs.Outputs.{FillsFields, PutsOut};
     ghost use Rattle.rpg_machine.specs.Potential.{PaysForSection};
     ghost use Rattle.rpg_machine.specs.Ready.{IsReady};
@@ -203,6 +206,16 @@ impl<'a, S: Store + Drop> Machine<'a, S> {
         ensures { result ≡ self.now.config.steps }
     {
         self.state.steps
+    }
+
+    /// Where the calculations stand: at the instruction that runs, or behind the last one.
+    pub fn place(&self) -> Place
+        ensures { result ≡ here self.now.config }
+    {
+        Place {
+            section: self.state.section,
+            number: self.state.place,
+        }
     }
 
     /// Adds to the steps.

@@ -57,18 +57,21 @@ const OF_JOBS: [Answer; 3] = [
         cycles: 4,
         most: 3,
         bound: 3,
+        place: None,
     }),
     Answer::Ended(Report {
         ending: JobEnd::Halt(Halt::AllowanceSpent),
         cycles: 1,
         most: 4,
         bound: 5,
+        place: None,
     }),
     Answer::Ended(Report {
         ending: JobEnd::Halt(Halt::BadRecord),
         cycles: u64::MAX,
         most: u64::MAX,
         bound: u64::MAX,
+        place: None,
     }),
 ];
 

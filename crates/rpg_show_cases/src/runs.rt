@@ -105,6 +105,7 @@ fn run_listed_records(
                 cycles: run.cycles,
                 most: run.most,
                 bound: program.bound(),
+                place: None,
             };
             outputs_of(alloc, report, run.output)
         }
@@ -168,6 +169,7 @@ fn run_out<S: Store + Drop>(
                 cycles: (turn as u64).saturating_add(1),
                 most,
                 bound,
+                place: job.running_place(),
             };
             return outputs_of(alloc, report, job.take_output());
         }

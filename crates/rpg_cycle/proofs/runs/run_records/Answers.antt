@@ -19,9 +19,10 @@ ran_whole p date j k records s r starts ran same print disk = record {
   number = starts.number;
   spelled = starts.spelled;
   out = ran.out;
+  there = ran.there;
   run = record {
-    runs = subst (λ (x : AtWork). Runs x.program [] records (config_on None x.config) (course_of (summary_of r) ran.out)) starts.job
-        (subst (λ (x : Summary). Runs j.program [] records (config_on None j.config) (course_of x ran.out)) (sym same) ran.runs);
+    runs = subst (λ (x : AtWork). Runs x.program [] records (config_on None x.config) (course_of (summary_of r) ran.out ran.there)) starts.job
+        (subst (λ (x : Summary). Runs j.program [] records (config_on None j.config) (course_of x ran.out ran.there)) (sym same) ran.runs);
     print = print ∙ ran.print ∙ ap (λ (x : AtWork). x.output.print ++ printed ran.out) starts.job;
     disk = disk ∙ ran.disk ∙ ap (λ (x : AtWork). x.output.disk ++ stored ran.out) starts.job;
   };

@@ -2,6 +2,7 @@ use Rattle.std.proofs.Common.{◌∙◌, sym, ap, max, arith, refl}
 use Rattle.std.proofs.lemmas.Result.{err_from_is_err_and}
 use Rattle.rpg_cycle.specs.Job.{AtWork}
 use Rattle.rpg_cycle.specs.Stages.{is_going}
+use Rattle.rpg_machine.specs.Run.{running_place}
 use Rattle.rpg_paper.specs.Paper.{last_position}
 use Rattle.rpg_engine.specs.Streaming.{ended_stage}
 use Rattle.rpg_engine.specs.declared.report.Report.{Report}
@@ -59,9 +60,10 @@ returns-in-Some-clause-report g c =
     let few = stays_bounded g.R.Read.remaining c.args.job.now c.cycles.job c.next_cycle.new.job _ c.cycles.records c.next_cycle.new.records c.cycles.cycles c.cycles.most _ _ _ _ c.cycles.sent.print c.cycles.sent.disk
     streams c.in_ok-ended.ensures.cycle c.cycles.invariant.bounded c.in_ok-ended.ensures.bound in
     let most = c.max-most.ensures ∙ ap (max c.cycles.most) c.steps.ensures in
-    stream_reports g.R.Read.remaining c.args.job.now c.cycles.job c.next_cycle.new.job _ c.cycles.records c.next_cycle.new.records c.cycles.cycles c.cycles.most c.max-most.result _ _ _ _ _ _ c.cycles.sent.print c.cycles.sent.disk c.args.bound c.in-Some.ending
+    stream_reports g.R.Read.remaining c.args.job.now c.cycles.job c.next_cycle.new.job _ c.cycles.records c.next_cycle.new.records c.cycles.cycles c.cycles.most c.max-most.result _ _ _ _ _ _ c.cycles.sent.print c.cycles.sent.disk c.args.bound c.in-Some.ending c.running_place.result
     streams c.in_ok-ended.ensures.cycle (c.in_ok-ended.ensures.told ∙ ap ended_stage c.in-Some.is) most
     (rw c.output.ensures.print at c.in_ok-send_output.ensures.printed) (rw c.output.ensures.disk at c.in_ok-send_output.ensures.stored) c.requires.bound (omega (arith, few, most, c.requires.bound))
+    (c.running_place.ensures ∙ ap (λ (j : AtWork). running_place j.program j.config) c.clear_output.ensures)
 
 pub cycles-preserved : goal.cycles-preserved
 cycles-preserved g c =

@@ -1,0 +1,25 @@
+-- Where a job stands when a cycle ends, and when a run does.
+use Rattle.std.specs.Prelude.{◌≡◌, ℕ, ℤ, ◌⊎◌, List, None}
+use Rattle.std.specs.Ordering.{nat_cmp}
+use Rattle.rpg_cycle.specs.Ends.{PhaseEnd, GoesOn, EndOfJob, Halt, Wrong}
+use Rattle.rpg_cycle.specs.Runs.{Course, IsRun}
+use Rattle.rpg_effect.specs.Put.{Bytes}
+use Rattle.rpg_effect.specs.World.{Fields}
+use Rattle.rpg_machine.specs.Config.{Config}
+use Rattle.rpg_machine.specs.Laws.{HaltedThere}
+use Rattle.rpg_machine.specs.Run.{running_place}
+use Rattle.rpg_object_program.specs.Object.{Object}
+
+-- At the end of calculations; and where it halted, there, or at the instruction whose step halted. So where a job that halted stands at
+-- an instruction, that one halted it, and where it stands at none, no instruction did.
+abbrev pub StandsRight : Object → PhaseEnd → Config → Type 0
+StandsRight p GoesOn d = running_place p d ≡ None
+StandsRight p EndOfJob d = running_place p d ≡ None
+StandsRight p (Halt k) d = (running_place p d ≡ None) ⊎ HaltedThere p k d
+StandsRight p (Wrong f) d = Unit {0}
+
+-- so does each run
+abbrev pub RunsStandRight : Type 0
+RunsStandRight =
+    (p : Object) (date : ℤ) (fields : Fields nat_cmp) (records : List (List ℕ)) (course : Course) (bytes : Bytes)
+    → IsRun p date fields records course bytes → StandsRight p course.ending course.there.config
