@@ -35,7 +35,7 @@ module _ (p : Object) (orderly : IsOrderly p) where
   abbrev IsFew : Option Position → Course → Type 0
   IsFew previous course = size previous course.output ≤ course.cycles * (bound p * bytes_of_step)
 
-  last_few : (previous : Option Position) (e : PhaseEnd) (d : UnderWay) (out : Output) (course : Course) → StaysInOutput p previous out → course ≡ last_cycle e d.config out → IsFew previous course
+  last_few : (previous : Option Position) (e : PhaseEnd) (d : UnderWay) (out : Output) (course : Course) → StaysInOutput p previous out → course ≡ last_cycle e d out → IsFew previous course
   last_few previous e d out course stays is = subst (λ (x : Course). IsFew previous x) (sym is) (only_one (size previous out) (bound p * bytes_of_step) stays.few)
 
   rest_few : (previous : Option Position) (d : UnderWay) (out : Output) (course rest : Course) → StaysInOutput p previous out → IsFew (last_position_from previous out.lines) rest →
