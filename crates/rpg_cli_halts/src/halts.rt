@@ -19,10 +19,7 @@ pub struct HaltedCycle {
 impl HaltedCycle {
     /// Whether a record's columns were no number, when its fields were filled.
     pub fn is_of_columns(self) -> bool {
-        matches!(
-            (self.halt, self.place),
-            (Halt::BadDigit, None)
-        )
+        matches!((self.halt, self.place), (Halt::BadDigit, None))
     }
 
     /// The record that the halt is about, where it is known. Each cycle before has taken one; the fields of a record are filled, and detail

@@ -75,4 +75,3 @@ pub(crate) fn put_section(
         }
     }
 }
-

@@ -19,6 +19,7 @@ module _ (p : Object) (report : Report) (print print' print'' disk disk' disk'' 
     cycles = r.cycles;
     most = r.most;
     bound = r.bound;
+    place = r.place;
     few = r.few;
     printed = Appends-kept print print' print'' r.bytes.print r.printed kept;
     stored = Appends-kept disk disk' disk'' r.bytes.disk r.stored stays;
