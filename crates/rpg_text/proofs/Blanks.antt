@@ -13,7 +13,7 @@ eight_blanks = 32 ∷ 32 ∷ 32 ∷ 32 ∷ 32 ∷ 32 ∷ 32 ∷ 32 ∷ []
 behind_eight : (front : List ℕ) → suffix_len is_blank (front ++ eight_blanks) ≡ 8 + suffix_len is_blank front
 behind_eight front =
     let counted : suffix_len is_blank (front ++ eight_blanks) ≡ 1 + (1 + (1 + (1 + (1 + (1 + (1 + (1 + suffix_len is_blank front))))))) =
-            ap (prefix_len is_blank) (reverse-append front eight_blanks) in
+    ap (prefix_len is_blank) (reverse-append front eight_blanks) in
     omega (arith, counted)
 
 pub eight_more : (end : ℕ) (text : List ℕ) → 8 ≤ end → take (end - (end - 8)) (drop (end - 8) text) ≡ eight_blanks

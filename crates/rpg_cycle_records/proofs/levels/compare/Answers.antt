@@ -23,7 +23,7 @@ returns-clause-kept c =
     let none = c.highest_level.ensures in
     c.loop-i.invariant.kept
     ∙ sym (renewed_stays c.args.fields.now c.args.text.now (seen_levels c.args.levels.now) 9 c.loop-i.i (omega (arith, c.loop-i-test.false, c.loop-i.auto.i-end, last, end))
-        (λ k more most. none k (omega (arith, c.loop-i-test.false, c.loop-i.auto.i-end, last, end, more, most))))
+    (λ k more most. none k (omega (arith, c.loop-i-test.false, c.loop-i.auto.i-end, last, end, more, most))))
 
 pub returns-clause-broken : goal.returns-clause-broken
 returns-clause-broken c =
@@ -32,4 +32,4 @@ returns-clause-broken c =
     let none = c.highest_level.ensures in
     c.loop-i.invariant.broken
     ∙ sym (broken_stays c.args.fields.now c.args.text.now (seen_levels c.args.levels.now) 9 c.loop-i.i (omega (arith, c.loop-i-test.false, c.loop-i.auto.i-end, last, end))
-        (λ k more most. none k (omega (arith, c.loop-i-test.false, c.loop-i.auto.i-end, last, end, more, most))))
+    (λ k more most. none k (omega (arith, c.loop-i-test.false, c.loop-i.auto.i-end, last, end, more, most))))
