@@ -38,7 +38,7 @@ bench: $(RPG2)
 	bench/compile.sh
 	bench/sales.sh
 
-# Only what is proved is built: docs/GATE.md says how long that takes. A program that is newer than all it is made of is left as it is.
+# Only what is proved is built: docs/develop/GATE.md says how long that takes. A program that is newer than all it is made of is left as it is.
 $(RPG2): FORCE
 	@build/rpg2.sh
 
