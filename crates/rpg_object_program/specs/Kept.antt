@@ -13,6 +13,7 @@ use Rattle.rpg_effect.specs.declared.form.Kind.{Kind}
 use Rattle.rpg_effect.specs.declared.form.Kind.TheVariants as kinds
 use Rattle.rpg_effect.specs.declared.input.ControlField.{ControlField}
 use Rattle.rpg_effect.specs.declared.input.InputField.{InputField}
+use Rattle.rpg_effect.specs.declared.input.InputFile.TheVariants.{Primary}
 use Rattle.rpg_effect.specs.declared.input.RecordCode.{RecordCode}
 use Rattle.rpg_effect.specs.declared.line.Editing.{Editing}
 use Rattle.rpg_effect.specs.declared.line.Editing.TheVariants as editings
@@ -28,6 +29,7 @@ use Rattle.rpg_effect.specs.declared.operation.Operand.{Operand}
 use Rattle.rpg_effect.specs.declared.operation.Shows.{Shows}
 use Rattle.rpg_object_program.specs.Object.{LineRow, Object, SubroutineRow}
 use Rattle.rpg_object_program.specs.Sections.{places_of}
+use Rattle.rpg_object_program.specs.declared.row.Version.TheVariants as versions
 
 -- ---- numbers of the format
 
@@ -138,6 +140,8 @@ pub record IsTypeRow (t : TypeRow ℕ) : Type 0 where
   pub levels : All IsControlRow t.levels
   pub few_inputs : length t.inputs ≤ 500
   pub inputs : All IsInputRow t.inputs
+  pub few_matches : length t.matches ≤ 9
+  pub matches : All IsControlRow t.matches
 
 -- ---- operands and conditions
 
@@ -228,12 +232,23 @@ pub record IsSubroutineRow (s : SubroutineRow) : Type 0 where
 
 -- ---- programs
 
+-- a record type of the primary file, without match fields
+pub record IsPlainType (t : TypeRow ℕ) : Type 0 where
+  pub file : t.file ≡ Primary
+  pub matches : t.matches ≡ []
+
+-- what version 1 spells: no secondary file and no match fields
+pub record IsPlain (p : Object) : Type 0 where
+  pub secondary : p.secondary_length ≡ 0
+  pub types : All IsPlainType p.types
+
 -- limits, tables, and values for each field
 pub record IsProgram (p : Object) : Type 0 where
   pub lowest_allowance : 1 ≤ p.allowance
   pub highest_allowance : p.allowance ≤ 65535
   pub shortest_record : 1 ≤ p.record_length
   pub longest_record : p.record_length ≤ 9999
+  pub longest_secondary : p.secondary_length ≤ 9999
   pub widest_line : p.printer_length ≤ 132
   pub longest_disk_record : p.disk_length ≤ 9999
   pub overflow : ForSome p.overflow IsOverflowIndicator
@@ -250,3 +265,6 @@ pub record IsProgram (p : Object) : Type 0 where
   pub few_subroutines : length p.subroutines ≤ 100
   pub subroutines : All IsSubroutineRow p.subroutines
   pub few_instructions : places_of p ≤ 8192
+  pub plain : p.version ≡ versions.One → IsPlain p
+  -- as yet
+  pub first_version : p.version ≡ versions.One

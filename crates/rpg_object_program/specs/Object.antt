@@ -5,6 +5,8 @@ use Rattle.rpg_effect.specs.Lines as lines
 use Rattle.rpg_effect.specs.Values.{Value, held}
 use Rattle.rpg_effect.specs.declared.condition.Condition.{Condition}
 use Rattle.rpg_effect.specs.declared.form.FieldForm.{FieldForm}
+use Rattle.rpg_effect.specs.declared.input.InputFile.{InputFile}
+use Rattle.rpg_effect.specs.declared.input.InputFile.TheVariants.{Primary, Secondary}
 use Rattle.rpg_effect.specs.declared.line.File.{File}
 use Rattle.rpg_effect.specs.declared.line.File.TheVariants as files
 use Rattle.rpg_effect.specs.declared.line.LineField.{LineField}
@@ -15,6 +17,7 @@ use Rattle.rpg_object_program.specs.declared.row.Line.{Line}
 use Rattle.rpg_object_program.specs.declared.row.RecordType.{RecordType}
 use Rattle.rpg_object_program.specs.declared.row.Rows.{Rows}
 use Rattle.rpg_object_program.specs.declared.row.Subroutine.{Subroutine}
+use Rattle.rpg_object_program.specs.declared.row.Version.{Version}
 
 -- an output line, as its row has it
 pub record LineRow : Type 0 where
@@ -31,8 +34,10 @@ pub record SubroutineRow : Type 0 where
 
 -- an object program
 pub record Object : Type 0 where
+  pub version : Version
   pub allowance : ℕ
   pub record_length : ℕ
+  pub secondary_length : ℕ
   pub printer_length : ℕ
   pub disk_length : ℕ
   pub overflow : Option ℕ
@@ -45,7 +50,7 @@ pub record Object : Type 0 where
   pub subroutines : List SubroutineRow
 
 abbrev pub type_row : RecordType → TypeRow ℕ
-type_row t = record { indicator = t.indicator; codes = t.codes.items; levels = t.levels.items; inputs = t.inputs.items }
+type_row t = record { file = t.file; indicator = t.indicator; codes = t.codes.items; levels = t.levels.items; inputs = t.inputs.items; matches = t.matches.items }
 
 abbrev pub line_row : Line → LineRow
 line_row l = record { file = l.file; time = l.time; spacing = l.spacing; alternatives = map (λ a. a.items) l.alternatives.items; fields = l.fields.items }
@@ -56,8 +61,10 @@ subroutine_row s = record { level = s.level; instructions = s.instructions.items
 -- the program that these rows make
 abbrev pub seen : Rows → Object
 seen r = record {
+  version = r.version;
   allowance = r.allowance;
   record_length = r.record_length;
+  secondary_length = r.secondary_length;
   printer_length = r.printer_length;
   disk_length = r.disk_length;
   overflow = r.overflow;
@@ -69,6 +76,13 @@ seen r = record {
   total = r.total.items;
   subroutines = map subroutine_row r.subroutines.items;
 }
+
+-- ---- input files
+
+-- the length of a file's records, 0 where there is no such file
+abbrev pub input_length : Object → InputFile → ℕ
+input_length p Primary = p.record_length
+input_length p Secondary = p.secondary_length
 
 -- ---- lines as output knows them
 
