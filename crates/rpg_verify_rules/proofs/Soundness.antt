@@ -21,7 +21,7 @@ use Rattle.rpg_effect.specs.declared.line.Spacing.{Spacing}
 use Rattle.rpg_effect.specs.declared.operation.Instruction.{Instruction}
 use Rattle.rpg_effect.specs.declared.operation.Instruction.TheVariants.{Act, Except, Branch, Call, Return}
 use Rattle.rpg_object_program.specs.Constants.{word_at}
-use Rattle.rpg_object_program.specs.Object.{LineRow, Object, SubroutineRow, file_length}
+use Rattle.rpg_object_program.specs.Object.{LineRow, Object, SubroutineRow, file_length, input_length}
 use Rattle.rpg_object_program.specs.Sections.{body_of, first_place, has_subroutine, instruction_at, level_in, section_instructions}
 use Rattle.rpg_object_program.specs.declared.section.Place.{Place}
 use Rattle.rpg_object_program.specs.declared.section.Section.{Section}
@@ -198,9 +198,9 @@ line_sound p l g =
 
 -- ---- record types
 
-no_input_fault : (p : Object) (f : InputField ℕ) → is_input_in p f ≡ true → fits_shows (kind_of (form_at p.fields f.field)) f.shows ≡ true → input_fault (form_at p.fields) p.record_length f ≡ None
+no_input_fault : (p : Object) (len : ℕ) (f : InputField ℕ) → is_input_in p len f ≡ true → fits_shows (kind_of (form_at p.fields f.field)) f.shows ≡ true → input_fault (form_at p.fields) len f ≡ None
 unfolding input_fault
-no_input_fault p f h g = by_tests (is_input_in p f) (fits_shows (kind_of (form_at p.fields f.field)) f.shows) _ _ h g
+no_input_fault p len f h g = by_tests (is_input_in p len f) (fits_shows (kind_of (form_at p.fields f.field)) f.shows) _ _ h g
   where
     by_tests : (a b : Bool) (s k : Fault) → a ≡ true → b ≡ true → cond (not a) (Some s) (cond (not b) (Some k) None) ≡ None
     by_tests true true s k h g = refl
@@ -210,15 +210,16 @@ no_input_fault p f h g = by_tests (is_input_in p f) (fits_shows (kind_of (form_a
 type_sound : (p : Object) (t : TypeRow ℕ) → ((r : TypeRule) → type_breaks r p t ≡ false) → IsSoundType p t
 unfolding type_breaks
 type_sound p t g =
+    let len = input_length p t.file in
     let fields = and_parts _ _ (not-false _ (g V5)) in
     let shown_at = all_at (is_input_shown p) t.inputs (not-false _ (g V7)) in
     record {
       indicator = not-false _ (g V4);
-      codes = all_by (λ c. is_code_in p.record_length c ≡ true) t.codes (all_at (is_code_in p.record_length) t.codes (not-false _ (g V3)));
-      levels = all_by (λ c. is_control_in p.record_length c ≡ true) t.levels (all_at (is_control_in p.record_length) t.levels fields.0);
+      codes = all_by (λ c. is_code_in len c ≡ true) t.codes (all_at (is_code_in len) t.codes (not-false _ (g V3)));
+      levels = all_by (λ c. is_control_in len c ≡ true) t.levels (all_at (is_control_in len) t.levels fields.0);
       joined = fields.1;
-      inputs = all_by (λ f. input_fault (form_at p.fields) p.record_length f ≡ None) t.inputs
-          (λ k f e. no_input_fault p f (all_at (is_input_in p) t.inputs (not-false _ (g V6)) k f e) (and_parts _ _ (shown_at k f e)).1);
+      inputs = all_by (λ f. input_fault (form_at p.fields) len f ≡ None) t.inputs
+          (λ k f e. no_input_fault p len f (all_at (is_input_in p len) t.inputs (not-false _ (g V6)) k f e) (and_parts _ _ (shown_at k f e)).1);
       shown = all_by (λ f. is_input_shown p f ≡ true) t.inputs shown_at;
     }
 

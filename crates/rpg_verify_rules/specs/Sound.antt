@@ -8,7 +8,7 @@ use Rattle.rpg_effect.specs.declared.operation.Instruction.{Instruction}
 use Rattle.rpg_effect.specs.declared.operation.Instruction.TheVariants.{Act, Except, Branch, Call, Return}
 use Rattle.rpg_object_program.specs.Constants.{word_at}
 use Rattle.rpg_object_program.specs.Instructions.{columns}
-use Rattle.rpg_object_program.specs.Object.{LineRow, Object, file_length}
+use Rattle.rpg_object_program.specs.Object.{LineRow, Object, file_length, input_length}
 use Rattle.rpg_object_program.specs.Sections.{first_place, has_subroutine, instruction_at, is_place, level_of, section_instructions}
 use Rattle.rpg_object_program.specs.declared.section.Place.{Place}
 use Rattle.rpg_object_program.specs.declared.section.Section.{Section}
@@ -44,14 +44,14 @@ pub record IsSoundLine (p : Object) (l : LineRow) : Type 0 where
   pub spacing : is_spaced_on l.file l.spacing ≡ true
   pub fields : AreRight (form_at p.fields) (word_at p) (file_length p l.file) l.fields
 
--- a record type: its columns are the record's, its levels are as long in each type that has them, and nothing is wrong with its
+-- a record type: its columns are those of its file's records, its levels are as long in each type that has them, and nothing is wrong with its
 -- input fields
 pub record IsSoundType (p : Object) (t : TypeRow ℕ) : Type 0 where
   pub indicator : if_any is_of_type t.indicator ≡ true
-  pub codes : All (λ c. is_code_in p.record_length c ≡ true) t.codes
-  pub levels : All (λ c. is_control_in p.record_length c ≡ true) t.levels
+  pub codes : All (λ c. is_code_in (input_length p t.file) c ≡ true) t.codes
+  pub levels : All (λ c. is_control_in (input_length p t.file) c ≡ true) t.levels
   pub joined : all_measured 1 (measures p.types) t.levels ≡ true
-  pub inputs : All (λ f. input_fault (form_at p.fields) p.record_length f ≡ None) t.inputs
+  pub inputs : All (λ f. input_fault (form_at p.fields) (input_length p t.file) f ≡ None) t.inputs
   pub shown : All (λ f. is_input_shown p f ≡ true) t.inputs
 
 pub record IsSound (p : Object) : Type 0 where

@@ -6,16 +6,16 @@ use Rattle.rpg_effect.specs.Input.{TypeRow, fits_columns, fits_shows}
 use Rattle.rpg_effect.specs.declared.input.ControlField.{ControlField}
 use Rattle.rpg_effect.specs.declared.input.InputField.{InputField}
 use Rattle.rpg_effect.specs.declared.input.RecordCode.{RecordCode}
-use Rattle.rpg_object_program.specs.Object.{Object}
+use Rattle.rpg_object_program.specs.Object.{Object, input_length}
 use Rattle.rpg_verify_rules.specs.Indicators.{are_settable, if_any, is_of_type, is_within}
 use Rattle.rpg_verify_rules.specs.declared.rule.TypeRule.{TypeRule}
 use Rattle.rpg_verify_rules.specs.declared.rule.TypeRule.TheVariants.{V3, V4, V5, V6, V7}
 
--- the position is one of the record's
+-- the position is one of a record of that length
 abbrev pub is_code_in : ℕ → RecordCode → Bool
 is_code_in len c = is_within 1 len c.position
 
--- its columns are the record's, and not turned around
+-- its columns are those of a record of that length, and not turned around
 abbrev pub is_control_in : ℕ → ControlField → Bool
 is_control_in len c = nat_le 1 c.from && (nat_le c.from c.to && nat_le c.to len)
 
@@ -51,19 +51,19 @@ all_measured level (m ∷ n ∷ ms) cs = is_measured m (joined_width level cs) &
 
 -- ---- input fields
 
--- columns of the record, as many as a plain field that is there is long
-abbrev pub is_input_in : Object → InputField ℕ → Bool
-is_input_in p f = fits_columns p.record_length f (form_at p.fields f.field)
+-- columns of a record of that length, as many as a plain field that is there is long
+abbrev pub is_input_in : Object → ℕ → InputField ℕ → Bool
+is_input_in p len f = fits_columns len f (form_at p.fields f.field)
 
 -- indicators that may be set, of a text the one of blanks alone
 abbrev pub is_input_shown : Object → InputField ℕ → Bool
 is_input_shown p f = are_settable f.shows && fits_shows (kind_of (form_at p.fields f.field)) f.shows
 
--- ---- whether a type breaks a rule
+-- ---- whether a type breaks a rule; its records have the length of those of its file
 
 unfoldable pub type_breaks : TypeRule → Object → TypeRow ℕ → Bool
-type_breaks V3 p t = not (list_all (is_code_in p.record_length) t.codes)
+type_breaks V3 p t = not (list_all (is_code_in (input_length p t.file)) t.codes)
 type_breaks V4 p t = not (if_any is_of_type t.indicator)
-type_breaks V5 p t = not (list_all (is_control_in p.record_length) t.levels && all_measured 1 (measures p.types) t.levels)
-type_breaks V6 p t = not (list_all (is_input_in p) t.inputs)
+type_breaks V5 p t = not (list_all (is_control_in (input_length p t.file)) t.levels && all_measured 1 (measures p.types) t.levels)
+type_breaks V6 p t = not (list_all (is_input_in p (input_length p t.file)) t.inputs)
 type_breaks V7 p t = not (list_all (is_input_shown p) t.inputs)

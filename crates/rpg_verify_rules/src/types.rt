@@ -3,7 +3,7 @@
 ghost use Rattle.std.specs.Prelude.{◌≡◌, ◌≤◌, map};
 ghost use Rattle.std.specs.List.{list_all, position};
 ghost use Rattle.rpg_effect.specs.Input as inputs;
-ghost use Rattle.rpg_object_program.specs.Object.{seen, type_row};
+ghost use Rattle.rpg_object_program.specs.Object.{input_length as length_of, seen, type_row};
 ghost use Rattle.rpg_verify_rules.specs.Least.{first_true};
 ghost use Rattle.rpg_verify_rules.specs.Rules.{broken};
 ghost use Rattle.rpg_verify_rules.specs.TypeRules as words;
@@ -12,7 +12,7 @@ ghost use Rattle.rpg_verify_rules.specs.declared.rule.Rule.TheVariants as rule_n
 use crate::indicators::{are_settable, is_of_type};
 use crate::rule::TypeRule;
 use rpg_effect::form::Kind;
-use rpg_effect::input::{ControlField, InputField, RecordCode};
+use rpg_effect::input::{ControlField, InputField, InputFile, RecordCode};
 use rpg_effect::operation::Shows;
 use rpg_object_program::forms::{form_at, is_plain, kind_of};
 use rpg_object_program::row::{RecordType, Rows};
@@ -40,15 +40,26 @@ fn breaks(rule: TypeRule, rows: &Rows, measures: &[u128; 9], record_type: &Recor
     requires measures { measures.now ≡ words.measures (map type_row rows.now.types.items) }
     ensures { result ≡ words.type_breaks rule (seen rows.now) (type_row record_type.now) }
 {
+    let length = input_length(rows, record_type.file);
     match rule {
-        TypeRule::V3 => !are_codes_in(rows.record_length, &record_type.codes),
+        TypeRule::V3 => !are_codes_in(length, &record_type.codes),
         TypeRule::V4 => !is_of_type(record_type.indicator),
         TypeRule::V5 => {
-            !(are_controls_in(rows.record_length, &record_type.levels)
+            !(are_controls_in(length, &record_type.levels)
                 && all_measured(measures, &record_type.levels))
         }
-        TypeRule::V6 => !are_inputs_in(rows, &record_type.inputs),
+        TypeRule::V6 => !are_inputs_in(rows, length, &record_type.inputs),
         TypeRule::V7 => !are_inputs_shown(rows, &record_type.inputs),
+    }
+}
+
+/// The length of a file's records, 0 where there is no such file.
+fn input_length(rows: &Rows, file: InputFile) -> u16
+    ensures { result ≡ length_of (seen rows.now) file }
+{
+    match file {
+        InputFile::Primary => rows.record_length,
+        InputFile::Secondary => rows.secondary_length,
     }
 }
 
@@ -148,22 +159,22 @@ fn are_controls_in(length: u16, fields: &[ControlField]) -> bool
     fields.iter().all(|f| is_control_in(length, f))
 }
 
-fn is_input_in(rows: &Rows, field: &InputField<u16>) -> bool
-    ensures { result ≡ words.is_input_in (seen rows.now) field.now }
+fn is_input_in(rows: &Rows, length: u16, field: &InputField<u16>) -> bool
+    ensures { result ≡ words.is_input_in (seen rows.now) length field.now }
 {
     match form_at(rows, field.field) {
         None => false,
         Some(form) => {
-            (1 <= field.from && (field.from <= field.to && field.to <= rows.record_length))
+            (1 <= field.from && (field.from <= field.to && field.to <= length))
                 && (is_plain(form.class) && field.to - field.from + 1 == form.length)
         }
     }
 }
 
-fn are_inputs_in(rows: &Rows, fields: &[InputField<u16>]) -> bool
-    ensures { result ≡ list_all (words.is_input_in (seen rows.now)) fields.now }
+fn are_inputs_in(rows: &Rows, length: u16, fields: &[InputField<u16>]) -> bool
+    ensures { result ≡ list_all (words.is_input_in (seen rows.now) length) fields.now }
 {
-    fields.iter().all(|f| is_input_in(rows, f))
+    fields.iter().all(|f| is_input_in(rows, length, f))
 }
 
 /// Of a text only blanks are shown.
