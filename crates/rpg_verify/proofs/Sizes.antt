@@ -48,7 +48,7 @@ lines_few p meant (l ∷ ls) h = by_time (meant l.time) (lines_few p meant ls (o
     by_time true r w = omega (arith, r, w)
     by_time false r w = omega (arith, r)
 
-pub types_few : (ts : List (TypeRow ℕ)) → All IsTypeRow ts → types_weight ts ≤ 700 * length ts
+pub types_few : (ts : List (TypeRow ℕ)) → All IsTypeRow ts → types_weight ts ≤ 709 * length ts
 types_few [] h = omega arith
 types_few (t ∷ ts) h =
     let r = types_few ts (others_all IsTypeRow t ts h) in
@@ -56,7 +56,8 @@ types_few (t ∷ ts) h =
     let a = w.few_codes in
     let b = w.few_levels in
     let c = w.few_inputs in
-    omega (arith, r, a, b, c)
+    let d = w.few_matches in
+    omega (arith, r, a, b, c, d)
 
 abbrev pub heaviest : ℕ
 heaviest = 211000
@@ -180,7 +181,7 @@ output_few p h = by_test (is_some p.overflow) (others_few p h)
     by_test true l = omega (arith, l)
     by_test false l = omega (arith, l)
 
-pub types_light : (p : Object) → IsProgram p → types_weight p.types ≤ 140000
+pub types_light : (p : Object) → IsProgram p → types_weight p.types ≤ 141800
 types_light p h = let t = types_few p.types h.types in let n = h.few_types in omega (arith, t, n)
 
 pub once_few : (p : Object) → IsProgram p → once p ≤ 3457024000

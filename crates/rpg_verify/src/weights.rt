@@ -125,12 +125,13 @@ pub(crate) fn output_weight(rows: &Rows, lines: LineWeights) -> u64
 
 // ---- record types
 
-/// Codes, control fields and input fields weigh one each.
+/// Codes, control fields, input fields and match fields weigh one each.
 fn type_weight(record_type: &RecordType) -> u64
-    requires { words.type_weight (type_row record_type.now) ≤ 140000 }
+    requires { words.type_weight (type_row record_type.now) ≤ 141800 }
     ensures { result ≡ words.type_weight (type_row record_type.now) }
 {
-    (record_type.codes.len() + record_type.levels.len() + record_type.inputs.len()) as u64
+    let columns = record_type.codes.len() + record_type.levels.len() + record_type.inputs.len();
+    (columns + record_type.matches.len()) as u64
 }
 
 pub(crate) fn types_weight(rows: &Rows) -> u64
