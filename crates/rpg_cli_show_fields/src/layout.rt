@@ -1,16 +1,15 @@
 //! Where the tables of an object program begin in its bytes, counted from 0.
 
 use rpg_effect::form::FieldForm;
-use rpg_object_program::row::{Line, RecordType, Rows, Subroutine};
+use rpg_object_program::row::{Line, RecordType, Rows, Subroutine, Version};
 
 const HEADER: usize = 32;
 
 const FIELD: usize = 8;
 
-pub const TYPE: usize = 8;
-
 pub const CODE: usize = 4;
 
+/// A control field or a match field.
 pub const LEVEL: usize = 6;
 
 pub const INPUT: usize = 10;
@@ -37,10 +36,20 @@ pub fn value_bytes(form: FieldForm) -> usize {
     rows_of(usize::from(form.length), usize::from(form.entries))
 }
 
-pub fn type_bytes(record_type: &RecordType) -> usize {
-    TYPE.saturating_add(rows_of(record_type.codes.len(), CODE))
+/// The bytes of a type before its codes. Match fields are counted in version 2 alone.
+pub fn type_head_bytes(version: Version) -> usize {
+    match version {
+        Version::One => 8,
+        Version::Two => 10,
+    }
+}
+
+pub fn type_bytes(version: Version, record_type: &RecordType) -> usize {
+    type_head_bytes(version)
+        .saturating_add(rows_of(record_type.codes.len(), CODE))
         .saturating_add(rows_of(record_type.levels.len(), LEVEL))
         .saturating_add(rows_of(record_type.inputs.len(), INPUT))
+        .saturating_add(rows_of(record_type.matches.len(), LEVEL))
 }
 
 /// The bytes of a line before its fields: its row and its alternatives.
@@ -85,7 +94,7 @@ fn values_end(rows: &Rows, begin: usize) -> usize {
 fn types_end(rows: &Rows, begin: usize) -> usize {
     let mut at = begin;
     for record_type in &rows.types {
-        at = at.saturating_add(type_bytes(record_type));
+        at = at.saturating_add(type_bytes(rows.version, record_type));
     }
     at
 }

@@ -13,8 +13,8 @@ mod words;
 pub use editing::{code_letter, fill_words};
 pub use fields::{form_text, put_fields, put_first_values};
 pub use layout::{
-    CODE, INPUT, INSTRUCTION, LEVEL, LINE_FIELD, Layout, SUBROUTINE, TYPE, line_bytes,
-    line_head_bytes, type_bytes,
+    CODE, INPUT, INSTRUCTION, LEVEL, LINE_FIELD, Layout, SUBROUTINE, line_bytes, line_head_bytes,
+    type_bytes, type_head_bytes,
 };
 pub use operands::{field_text, operand_text};
 pub use spacing::{put_spacing, time_word};

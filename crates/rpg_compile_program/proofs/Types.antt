@@ -24,7 +24,7 @@ use Rattle.rpg_effect.specs.declared.input.RecordCode as row_code
 use Rattle.rpg_effect.specs.declared.form.FieldForm.{FieldForm}
 use Rattle.rpg_faults_limits.specs.Indicators.{any_of, cannot_be_set}
 use Rattle.rpg_faults.specs.Places.{first_length, has_other_lengths, input_columns, is_at_level, is_past, joined_length, lengths_differ, level_fields, level_length, levels, open_specs, outside_on_input, outside_record, own_file, passes_length}
-use Rattle.rpg_object_program.specs.Object.{Object}
+use Rattle.rpg_object_program.specs.Object.{Object, input_length}
 use Rattle.rpg_effect_renaming.specs.Naming.{renamed_input, renamed_type}
 use Rattle.rpg_verify_rules.proofs.Kept.{NoneTrue}
 use Rattle.rpg_verify_rules.specs.Rules.{broken}
@@ -246,8 +246,11 @@ module _ (cards : List SpecCard) (rules : KeepsCardRules cards) (ranges : AreCar
         by Printer e = cc
         by Disk e = cc
 
-    -- its file is the one that records are read from
-    record_is : (g : Group RecordType InputSpec) (h : InFile cards rules ranges g) → h.0.0.record_length ≡ p.record_length
+    -- the length of its file's records
+    abbrev length_at : Group RecordType InputSpec → ℕ
+    length_at g = input_length p (row_type g).file
+
+    record_is : (g : Group RecordType InputSpec) (h : InFile cards rules ranges g) → h.0.0.record_length ≡ length_at g
     unfolding program_of
     record_is g h = sym (ap record_length_of (subst (λ u. file_for u cards ≡ Some h.0.0) (primary h.0.0 h.0.2) h.0.3.only))
 
@@ -264,28 +267,28 @@ module _ (cards : List SpecCard) (rules : KeepsCardRules cards) (ranges : AreCar
       file_is = h.filed.0.1
 
       -- V3
-      codes_right : Each (λ c. is_code_in p.record_length c ≡ true) (row_type g).codes
+      codes_right : Each (λ c. is_code_in (length_at g) c ≡ true) (row_type g).codes
       codes_right =
-          each_append (λ c. is_code_in p.record_length c ≡ true) (codes_of g.heading.codes) (flat_map and_card_codes g.followers)
-          (codes_in p.record_length (file_by g.file cards) h.filed.0.0 file_is (record_is g h.filed) g.heading.codes h.filed.1.0.codes)
-          (each_code (IsInputGood cards rules ranges g.file) (λ c. is_code_in p.record_length c ≡ true) more g.followers h.filed.1.1)
+          each_append (λ c. is_code_in (length_at g) c ≡ true) (codes_of g.heading.codes) (flat_map and_card_codes g.followers)
+          (codes_in (length_at g) (file_by g.file cards) h.filed.0.0 file_is (record_is g h.filed) g.heading.codes h.filed.1.0.codes)
+          (each_code (IsInputGood cards rules ranges g.file) (λ c. is_code_in (length_at g) c ≡ true) more g.followers h.filed.1.1)
         where
-          more : (i : InputSpec) → IsInputGood cards rules ranges g.file i → Each (λ c. is_code_in p.record_length c ≡ true) (and_card_codes i)
+          more : (i : InputSpec) → IsInputGood cards rules ranges g.file i → Each (λ c. is_code_in (length_at g) c ≡ true) (and_card_codes i)
           more (input.Type t) x = tt
-          more (input.And cs) x = codes_in p.record_length (file_by g.file cards) h.filed.0.0 file_is (record_is g h.filed) cs x.codes
+          more (input.And cs) x = codes_in (length_at g) (file_by g.file cards) h.filed.0.0 file_is (record_is g h.filed) cs x.codes
           more (input.Field f) x = tt
 
       fields_good : Each (IsFieldGood cards rules ranges g.file) (input_fields_in g.followers)
       fields_good = each_field (IsInputGood cards rules ranges g.file) (IsFieldGood cards rules ranges g.file) (λ f x. x) g.followers h.filed.1.1
 
-      within : (f : InputField) → IsFieldGood cards rules ranges g.file f → f.to ≤ p.record_length
+      within : (f : InputField) → IsFieldGood cards rules ranges g.file f → f.to ≤ length_at g
       within f x = subst (λ n. f.to ≤ n) (record_is g h.filed) (inside (file_by g.file cards) h.filed.0.0 f file_is x.outside)
 
       -- V5
-      control_right : (f : InputField) (l : ℕ) → IsFieldGood cards rules ranges g.file f → is_control_in p.record_length (control_field f l) ≡ true
+      control_right : (f : InputField) (l : ℕ) → IsFieldGood cards rules ranges g.file f → is_control_in (length_at g) (control_field f l) ≡ true
       control_right f l x =
           let c = in_columns (file_by g.file cards) f x.outside in
-          and_from _ _ (le-leb 1 f.from c.first) (and_from _ _ (le-leb f.from f.to c.order) (le-leb f.to p.record_length (within f x)))
+          and_from _ _ (le-leb 1 f.from c.first) (and_from _ _ (le-leb f.from f.to c.order) (le-leb f.to (length_at g) (within f x)))
 
       level_right : (level : ℕ) → Alike h.alike.front g level → is_measured (measure level p.types) (rule.joined_width level (row_type g).levels) ≡ true
       level_right level same =
@@ -300,12 +303,12 @@ module _ (cards : List SpecCard) (rules : KeepsCardRules cards) (ranges : AreCar
       levels_right = all_nine p.types (row_type g).levels (each_map (Alike h.alike.front g) (λ level. is_measured (measure level p.types) (rule.joined_width level (row_type g).levels) ≡ true) levels level_right h.alike.holds.1)
 
       -- V6
-      input_right : (f : InputField) → IsFieldGood cards rules ranges g.file f → is_input_in p (renamed_input (key_numbers cards) (input_row f)) ≡ true
+      input_right : (f : InputField) → IsFieldGood cards rules ranges g.file f → is_input_in p (length_at g) (renamed_input (key_numbers cards) (input_row f)) ≡ true
       input_right f x =
           let c = in_columns (file_by g.file cards) f x.outside in
           let form = form_of_field f x.form x.is in
-          ap (fits_columns p.record_length (renamed_input (key_numbers cards) (input_row f))) (form_is f x.form x.known)
-          ∙ and_from _ _ (and_from _ _ (le-leb 1 f.from c.first) (and_from _ _ (le-leb f.from f.to c.order) (le-leb f.to p.record_length (within f x))))
+          ap (fits_columns (length_at g) (renamed_input (key_numbers cards) (input_row f))) (form_is f x.form x.known)
+          ∙ and_from _ _ (and_from _ _ (le-leb 1 f.from c.first) (and_from _ _ (le-leb f.from f.to c.order) (le-leb f.to (length_at g) (within f x))))
           (and_from _ _ form.plain (eq-eqb (f.to + 1 - f.from) x.form.length (sym form.long)))
 
       -- V7
@@ -322,12 +325,12 @@ module _ (cards : List SpecCard) (rules : KeepsCardRules cards) (ranges : AreCar
 
       type_right : (r : TypeRule) → type_breaks r p (row_type g) ≡ false
       unfolding type_breaks
-      type_right V3 = not_from_true _ (each_passes (is_code_in p.record_length) (row_type g).codes codes_right)
+      type_right V3 = not_from_true _ (each_passes (is_code_in (length_at g)) (row_type g).codes codes_right)
       type_right V4 = not_from_true _ (marks_type g.heading.indicator h.filed.1.0.indicator h.filed.1.0.range.indicator)
       type_right V5 =
-          not_from_true _ (and_from _ _ (each_passes (is_control_in p.record_length) (row_type g).levels
-          (each_level_field (IsFieldGood cards rules ranges g.file) (λ c. is_control_in p.record_length c ≡ true) control_right (input_fields_in g.followers) fields_good)) levels_right)
-      type_right V6 = not_from_true _ (each_passes (is_input_in p) (row_type g).inputs (inputs_each (λ f. is_input_in p f ≡ true) input_right))
+          not_from_true _ (and_from _ _ (each_passes (is_control_in (length_at g)) (row_type g).levels
+          (each_level_field (IsFieldGood cards rules ranges g.file) (λ c. is_control_in (length_at g) c ≡ true) control_right (input_fields_in g.followers) fields_good)) levels_right)
+      type_right V6 = not_from_true _ (each_passes (is_input_in p (length_at g)) (row_type g).inputs (inputs_each (λ f. is_input_in p (length_at g) f ≡ true) input_right))
       type_right V7 = not_from_true _ (each_passes (is_input_shown p) (row_type g).inputs (inputs_each (λ f. is_input_shown p f ≡ true) shown_right))
 
     rows_right : (r : TypeRule) (gs : List (Group RecordType InputSpec)) → Each IsKnown gs → Each (λ t. type_breaks r p t ≡ false) (map (renamed_type (key_numbers cards)) (map type_of gs))

@@ -12,6 +12,7 @@ use Rattle.rpg_compile_program.specs.Whole.{detail_code, subroutine_rows, total_
 use Rattle.rpg_effect.specs.Input.{TypeRow}
 use Rattle.rpg_effect.specs.Lines.{Line}
 use Rattle.rpg_object_program.specs.Object.{LineRow, Object}
+use Rattle.rpg_object_program.specs.declared.row.Version.TheVariants as versions
 use Rattle.rpg_effect_renaming.specs.Naming.{renamed_line, renamed_type}
 use Rattle.rpg_compile_program.specs.Data.{values_of}
 use Rattle.rpg_compile_program.specs.Lines.{lines_on, record_length_of}
@@ -38,10 +39,13 @@ line_rows cards = map (numbered_line cards) (lines_on cards)
 abbrev pub sections : List SpecCard → Sections Key
 sections cards = sections_of (calculations cards)
 
+-- of version 1: its records are those of the primary file alone
 unfoldable pub program_of : List SpecCard → ℕ → Object
 program_of cards allowance = record {
+  version = versions.One;
   allowance = allowance;
   record_length = record_length_of (file_for uses.Primary cards);
+  secondary_length = 0;
   printer_length = record_length_of (file_for uses.Printer cards);
   disk_length = record_length_of (file_for uses.Disk cards);
   overflow = option_and_then (λ f. f.overflow) (file_for uses.Printer cards);

@@ -10,6 +10,7 @@ use Rattle.rpg_cards.specs.declared.spec_card.SpecCard.{SpecCard}
 use Rattle.rpg_effect.specs.Input.{TypeRow}
 use Rattle.rpg_effect.specs.declared.input.ControlField.{ControlField}
 use Rattle.rpg_effect.specs.declared.input.InputField as row
+use Rattle.rpg_effect.specs.declared.input.InputFile.TheVariants.{Primary}
 use Rattle.rpg_effect.specs.declared.input.RecordCode as row_code
 use Rattle.rpg_sheet_specs.specs.declared.indicator.Three.{Three}
 use Rattle.rpg_sheet_specs.specs.declared.input.InputField.{InputField}
@@ -50,12 +51,15 @@ input_row f = record { from = f.from; to = f.to; field = Named f.name; shows = s
 abbrev pub input_fields_in : List InputSpec → List InputField
 input_fields_in cards = filter_map input_field_in cards
 
+-- of the primary file, and without match fields
 abbrev pub type_of : Group RecordType InputSpec → TypeRow Key
 type_of g = record {
+  file = Primary;
   indicator = g.heading.indicator;
   codes = codes_of g.heading.codes ++ flat_map and_card_codes g.followers;
   levels = filter_map control_field_of (input_fields_in g.followers);
   inputs = map input_row (input_fields_in g.followers);
+  matches = [];
 }
 
 abbrev pub types_on : List SpecCard → List (TypeRow Key)

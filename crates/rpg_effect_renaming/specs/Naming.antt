@@ -69,7 +69,7 @@ abbrev pub renamed_input : {K L : Type 0} → (K → L) → InputField K → Inp
 renamed_input at f = record { from = f.from; to = f.to; field = at f.field; shows = f.shows }
 
 abbrev pub renamed_type : {K L : Type 0} → (K → L) → TypeRow K → TypeRow L
-renamed_type at t = record { indicator = t.indicator; codes = t.codes; levels = t.levels; inputs = map (renamed_input at) t.inputs }
+renamed_type at t = record { file = t.file; indicator = t.indicator; codes = t.codes; levels = t.levels; inputs = map (renamed_input at) t.inputs; matches = t.matches }
 
 -- ---- what has a form by the old names
 

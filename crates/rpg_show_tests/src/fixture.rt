@@ -6,7 +6,7 @@ ghost use Rattle.rpg_object_program.specs.Kept.{AreEntriesOf, AreValuesOf, IsFie
 use rpg_effect::form::{Class, FieldForm, Kind};
 use rpg_effect::value::Value;
 use rpg_object_program::Program;
-use rpg_object_program::row::Rows;
+use rpg_object_program::row::{Rows, Version};
 use std::alloc::{AllocError, Global};
 
 /// A number of 15 digits, a text of 256, an array of three numbers of 2 digits, and a table of two texts of 1.
@@ -85,8 +85,10 @@ pub fn program(alloc: Global) -> Result<Program, AllocError> {
     let fields = forms(alloc)?;
     let values = all_values(alloc, &fields)?;
     Ok(Program::build(Rows {
+        version: Version::One,
         allowance: 1,
         record_length: 1,
+        secondary_length: 0,
         printer_length: 0,
         disk_length: 0,
         overflow: None,
