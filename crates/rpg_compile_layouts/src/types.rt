@@ -13,7 +13,7 @@ use crate::FieldTable;
 use crate::codes::codes_of;
 use crate::levels::levels_of;
 use rpg_cards::{SpecCard, number_of, shows_of};
-use rpg_effect::input::InputField;
+use rpg_effect::input::{InputField, InputFile};
 use rpg_effect::operation::Shows;
 use rpg_object_program::row::RecordType;
 use rpg_sheet_specs::InputSpec;
@@ -53,10 +53,12 @@ fn type_of(
     ensures kept { IfOk result (λ t. IsTypeRow (type_row t)) }
 {
     Ok(RecordType {
+        file: InputFile::Primary,
         indicator: number_of(record_type.indicator),
         codes: codes_of(alloc, record_type.codes, behind)?,
         levels: levels_of(alloc, behind)?,
         inputs: inputs_of(alloc, table, behind)?,
+        matches: Vec::new(alloc),
     })
 }
 
