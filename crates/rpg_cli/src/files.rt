@@ -93,7 +93,7 @@ pub(crate) fn compile_files<R: Files + AllocGlobal, L: Listener>(
     match compiled(rt.alloc(), &source, words.allowance) {
         Ok(object) => write_object(rt, words, &object),
         Err(answer) => {
-            tell_faults(rt.alloc(), words.source, &source, listener);
+            tell_faults(rt.alloc(), words.source, &source, words.faults, listener);
             Err(answer.into())
         }
     }
@@ -109,7 +109,7 @@ pub(crate) fn check_file<R: Files + AllocGlobal, L: Listener>(
     match first_fault(rt.alloc(), &source) {
         None => Ok(()),
         Some(fault) => {
-            tell_faults(rt.alloc(), words.source, &source, listener);
+            tell_faults(rt.alloc(), words.source, &source, words.faults, listener);
             Err(fault.into())
         }
     }
@@ -121,11 +121,11 @@ fn first_fault(alloc: Global, source: &[u8]) -> Option<SourceFault> {
 }
 
 /// Tells the faults of a source. Where there is no memory for the messages the line alone says what is wrong.
-fn tell_faults<L: Listener>(alloc: Global, path: &str, source: &[u8], listener: &mut L) {
+fn tell_faults<L: Listener>(alloc: Global, path: &str, source: &[u8], most: u16, listener: &mut L) {
     let Ok(faults) = source_faults(alloc, source) else {
         return;
     };
-    if let Ok(messages) = source_messages(alloc, path, source, &faults) {
+    if let Ok(messages) = source_messages(alloc, path, source, &faults, most) {
         listener.tell(messages.as_str());
     }
 }

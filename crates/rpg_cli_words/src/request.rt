@@ -36,6 +36,8 @@ pub struct CompileWords<'a> {
     pub object: &'a str,
     /// How many backward branches and calls a cycle may take.
     pub allowance: u16,
+    /// How many faults are told one by one, at most.
+    pub faults: u16,
     ghost positive: { 0 < allowance },
 }
 
@@ -43,6 +45,8 @@ pub struct CompileWords<'a> {
 #[derive(Clone, Copy)]
 pub struct CheckWords<'a> {
     pub source: &'a str,
+    /// How many faults are told one by one, at most.
+    pub faults: u16,
 }
 
 /// The words of `verify`.
@@ -213,12 +217,14 @@ fn compile_words<'a>(given: &ArgMatches<'a>) -> Option<CompileWords<'a>> {
         source: given.get_str("SRC")?,
         object: given.get_str("OBJ")?,
         allowance,
+        faults: given.get_one::<u16>("faults")?,
     })
 }
 
 fn check_words<'a>(given: &ArgMatches<'a>) -> Option<CheckWords<'a>> {
     Some(CheckWords {
         source: given.get_str("SRC")?,
+        faults: given.get_one::<u16>("faults")?,
     })
 }
 
