@@ -103,8 +103,12 @@ fn run_with_files<'a>(alloc: Global) -> Result<Command<'a>, AllocError> {
     Command::new(alloc, "run")
         .about("Runs the object program OBJ over the records of INPUT, and prints to PRINT")
         .arg(word(alloc, "OBJ", "The object program"))?
-        .arg(word(alloc, "INPUT", "The records"))?
-        .arg(word(alloc, "PRINT", "Where the printed lines go"))
+        .arg(word(alloc, "INPUT", "The records; - is standard input"))?
+        .arg(word(
+            alloc,
+            "PRINT",
+            "Where the printed lines go; - is standard output, and the line of the answer is on standard error then",
+        ))
 }
 
 fn run_command<'a>(alloc: Global) -> Result<Command<'a>, AllocError> {

@@ -65,7 +65,9 @@ pub struct ShowWords<'a> {
 #[derive(Clone, Copy)]
 pub struct RunWords<'a> {
     pub object: &'a str,
+    /// The records, by a file or `-`.
     pub input: &'a str,
+    /// Where the printed lines go, a file or `-`.
     pub print: &'a str,
     pub date: &'a str,
     /// Where the records of a disk file go, if the words tell it.
@@ -141,7 +143,20 @@ impl<'a> Request<'a> {
     }
 }
 
+/// What stands for standard input or output in place of a file.
+const STANDARD: &str = "-";
+
 impl<'a> RunWords<'a> {
+    /// The file of records; none where they come from standard input.
+    pub fn input_file(&self) -> Option<&'a str> {
+        (self.input != STANDARD).then_some(self.input)
+    }
+
+    /// Where the printed lines go; none where that is standard output.
+    pub fn print_file(&self) -> Option<&'a str> {
+        (self.print != STANDARD).then_some(self.print)
+    }
+
     fn path(&self, word: FileWord) -> Option<&'a str> {
         match word {
             FileWord::Source => None,
