@@ -18,6 +18,7 @@ use rpg_cli_files::{
 };
 use rpg_cli_messages::source_messages;
 use rpg_cli_show::program_text;
+use rpg_cli_warnings::warning_messages;
 use rpg_cli_words::{
     CheckWords, CompileWords, FileWord, RunWords, SameFile, ShowWords, VerifyWords,
 };
@@ -105,7 +106,11 @@ pub(crate) fn compile_files<R: Files + AllocGlobal, L: Listener>(
 ) -> Result<(), Stop> {
     let source = named(FileWord::Source, file_bytes(rt, words.source))?;
     match compiled(rt.alloc(), &source, words.allowance) {
-        Ok(object) => write_object(rt, words, &object),
+        Ok(object) => {
+            write_object(rt, words, &object)?;
+            tell_warnings(rt.alloc(), words.source, &source, words.faults, listener);
+            Ok(())
+        }
         Err(answer) => {
             tell_faults(rt.alloc(), words.source, &source, words.faults, listener);
             Err(answer.into())
@@ -121,7 +126,10 @@ pub(crate) fn check_file<R: Files + AllocGlobal, L: Listener>(
 ) -> Result<(), Answer> {
     let source = named(FileWord::Source, file_bytes(rt, words.source))?;
     match first_fault(rt.alloc(), &source) {
-        None => Ok(()),
+        None => {
+            tell_warnings(rt.alloc(), words.source, &source, words.faults, listener);
+            Ok(())
+        }
         Some(fault) => {
             tell_faults(rt.alloc(), words.source, &source, words.faults, listener);
             Err(fault.into())
@@ -132,6 +140,19 @@ pub(crate) fn check_file<R: Files + AllocGlobal, L: Listener>(
 /// The least fault of a source.
 fn first_fault(alloc: Global, source: &[u8]) -> Option<SourceFault> {
     faultless_cards(alloc, source).err()
+}
+
+/// Tells what a source without a fault is warned of. Where there is no memory for the messages nothing is told.
+fn tell_warnings<L: Listener>(
+    alloc: Global,
+    path: &str,
+    source: &[u8],
+    most: u16,
+    listener: &mut L,
+) {
+    if let Ok(messages) = warning_messages(alloc, path, source, most) {
+        listener.tell(messages.as_str());
+    }
 }
 
 /// Tells the faults of a source. Where there is no memory for the messages the line alone says what is wrong.

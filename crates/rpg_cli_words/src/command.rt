@@ -34,7 +34,7 @@ fn faults<'a>(alloc: Global) -> Arg<'a> {
         .value_name("N")
         .value_parser(value_parser!(u16))
         .default_value("20")
-        .help("How many faults are told one by one, at most")
+        .help("How many faults, or warnings, are told one by one, at most")
 }
 
 fn compile_command<'a>(alloc: Global) -> Result<Command<'a>, AllocError> {

@@ -36,7 +36,7 @@ pub struct CompileWords<'a> {
     pub object: &'a str,
     /// How many backward branches and calls a cycle may take.
     pub allowance: u16,
-    /// How many faults are told one by one, at most.
+    /// How many faults, or warnings, are told one by one, at most.
     pub faults: u16,
     ghost positive: { 0 < allowance },
 }
@@ -45,7 +45,7 @@ pub struct CompileWords<'a> {
 #[derive(Clone, Copy)]
 pub struct CheckWords<'a> {
     pub source: &'a str,
-    /// How many faults are told one by one, at most.
+    /// How many faults, or warnings, are told one by one, at most.
     pub faults: u16,
 }
 
