@@ -9,6 +9,7 @@ use crate::answer::{Answer, named};
 use crate::judging::{compiled, verified};
 use crate::running::run_over;
 use crate::stop::Stop;
+use crate::streams::{lines, records};
 use crate::telling::{tell_halt, tell_object};
 use crate::told::Listener;
 use rpg_cli_files::{
@@ -17,6 +18,7 @@ use rpg_cli_files::{
 };
 use rpg_cli_messages::source_messages;
 use rpg_cli_show::program_text;
+use rpg_cli_warnings::warning_messages;
 use rpg_cli_words::{
     CheckWords, CompileWords, FileWord, RunWords, SameFile, ShowWords, VerifyWords,
 };
@@ -49,6 +51,19 @@ impl NamedFile {
         NamedFile {
             word,
             identity: identity(file),
+        }
+    }
+
+    /// An open file, or the one that a standard stream was led to, which the system has by this path.
+    fn of_stream<R: Files>(
+        rt: &R,
+        word: FileWord,
+        file: Option<&R::File>,
+        path: &str,
+    ) -> NamedFile {
+        match file {
+            Some(file) => NamedFile::open(word, file),
+            None => NamedFile::at(rt, word, path),
         }
     }
 }
@@ -91,9 +106,13 @@ pub(crate) fn compile_files<R: Files + AllocGlobal, L: Listener>(
 ) -> Result<(), Stop> {
     let source = named(FileWord::Source, file_bytes(rt, words.source))?;
     match compiled(rt.alloc(), &source, words.allowance) {
-        Ok(object) => write_object(rt, words, &object),
+        Ok(object) => {
+            write_object(rt, words, &object)?;
+            tell_warnings(rt.alloc(), words.source, &source, words.faults, listener);
+            Ok(())
+        }
         Err(answer) => {
-            tell_faults(rt.alloc(), words.source, &source, listener);
+            tell_faults(rt.alloc(), words.source, &source, words.faults, listener);
             Err(answer.into())
         }
     }
@@ -107,9 +126,12 @@ pub(crate) fn check_file<R: Files + AllocGlobal, L: Listener>(
 ) -> Result<(), Answer> {
     let source = named(FileWord::Source, file_bytes(rt, words.source))?;
     match first_fault(rt.alloc(), &source) {
-        None => Ok(()),
+        None => {
+            tell_warnings(rt.alloc(), words.source, &source, words.faults, listener);
+            Ok(())
+        }
         Some(fault) => {
-            tell_faults(rt.alloc(), words.source, &source, listener);
+            tell_faults(rt.alloc(), words.source, &source, words.faults, listener);
             Err(fault.into())
         }
     }
@@ -120,12 +142,25 @@ fn first_fault(alloc: Global, source: &[u8]) -> Option<SourceFault> {
     faultless_cards(alloc, source).err()
 }
 
+/// Tells what a source without a fault is warned of. Where there is no memory for the messages nothing is told.
+fn tell_warnings<L: Listener>(
+    alloc: Global,
+    path: &str,
+    source: &[u8],
+    most: u16,
+    listener: &mut L,
+) {
+    if let Ok(messages) = warning_messages(alloc, path, source, most) {
+        listener.tell(messages.as_str());
+    }
+}
+
 /// Tells the faults of a source. Where there is no memory for the messages the line alone says what is wrong.
-fn tell_faults<L: Listener>(alloc: Global, path: &str, source: &[u8], listener: &mut L) {
+fn tell_faults<L: Listener>(alloc: Global, path: &str, source: &[u8], most: u16, listener: &mut L) {
     let Ok(faults) = source_faults(alloc, source) else {
         return;
     };
-    if let Ok(messages) = source_messages(alloc, path, source, &faults) {
+    if let Ok(messages) = source_messages(alloc, path, source, &faults, most) {
         listener.tell(messages.as_str());
     }
 }
@@ -203,11 +238,11 @@ fn keeps_limit(
     }
 }
 
-/// The files of a run, open, and those that are written not emptied yet.
+/// The files of a run, open, and those that are written not emptied yet. Where there is no input or no print it's a standard stream.
 #[derive(Drop)]
 struct RunFiles<F> {
-    input: F,
-    print: F,
+    input: Option<F>,
+    print: Option<F>,
     disk: Option<F>,
 }
 
@@ -218,13 +253,25 @@ fn open_files<R: Files>(
     disk: Option<&str>,
 ) -> Result<RunFiles<R::File>, Answer> {
     Ok(RunFiles {
-        input: named(FileWord::Input, input_file(rt, words.input))?,
-        print: named(FileWord::Print, output_file(rt, words.print))?,
-        disk: match disk {
-            Some(path) => Some(named(FileWord::Disk, output_file(rt, path))?),
+        input: match words.input_file() {
+            Some(path) => Some(named(FileWord::Input, input_file(rt, path))?),
             None => None,
         },
+        print: written_file(rt, FileWord::Print, words.print_file())?,
+        disk: written_file(rt, FileWord::Disk, disk)?,
     })
+}
+
+/// Opens a file that will be written, if the words name one.
+fn written_file<R: Files>(
+    rt: &R,
+    word: FileWord,
+    path: Option<&str>,
+) -> Result<Option<R::File>, Answer> {
+    match path {
+        Some(path) => Ok(Some(named(word, output_file(rt, path))?)),
+        None => Ok(None),
+    }
 }
 
 /// Refuses to empty a file that another word names too.
@@ -234,8 +281,8 @@ fn keep_files<R: Files>(
     files: &RunFiles<R::File>,
 ) -> Result<(), SameFile> {
     let object = NamedFile::at(rt, FileWord::Object, words.object);
-    let input = NamedFile::open(FileWord::Input, &files.input);
-    let print = NamedFile::open(FileWord::Print, &files.print);
+    let input = NamedFile::of_stream(rt, FileWord::Input, files.input.as_ref(), "/dev/stdin");
+    let print = NamedFile::of_stream(rt, FileWord::Print, files.print.as_ref(), "/dev/stdout");
     refuse_same_file(print, &[object, input])?;
     match &files.disk {
         None => Ok(()),
@@ -247,7 +294,7 @@ fn keep_files<R: Files>(
 }
 
 /// Opens the files of a run, empties those that are written, and runs the program over them, if it was accepted.
-fn run_program<R: Files + AllocGlobal>(
+fn run_program<R: Files + Input + Print + AllocGlobal>(
     rt: &R,
     words: &RunWords,
     accepted: Result<Verified, ObjectFault>,
@@ -257,8 +304,8 @@ fn run_program<R: Files + AllocGlobal>(
     keep_files(rt, words, &files)?;
     let RunFiles { input, print, disk } = files;
     let (alloc, date) = (rt.alloc(), words.date.as_bytes());
-    let mut input = Counted::new(input);
-    let mut print = Counted::new(named(FileWord::Print, empty_file(alloc, print))?);
+    let mut input = Counted::new(records(rt, input));
+    let mut print = Counted::new(named(FileWord::Print, lines(rt, print))?);
     let disk = match disk {
         Some(disk) => Some(named(FileWord::Disk, empty_file(alloc, disk))?),
         None => None,
@@ -300,7 +347,7 @@ fn program_of<'a>(
 }
 
 /// Runs the object program of these bytes. Rules and date are told once its files are open, unless the words name a limit.
-fn run_object<R: Files + AllocGlobal>(
+fn run_object<R: Files + Input + Print + AllocGlobal>(
     rt: &R,
     words: &RunWords,
     object: &[u8],
@@ -310,7 +357,7 @@ fn run_object<R: Files + AllocGlobal>(
 }
 
 /// Runs an object program over its files, and tells what is wrong with one that is refused, and where its job halted.
-pub(crate) fn run_files<R: Files + AllocGlobal, L: Listener>(
+pub(crate) fn run_files<R: Files + Input + Print + AllocGlobal, L: Listener>(
     rt: &R,
     words: &RunWords,
     listener: &mut L,
@@ -318,7 +365,7 @@ pub(crate) fn run_files<R: Files + AllocGlobal, L: Listener>(
     let object = named(FileWord::Object, file_bytes(rt, words.object))?;
     let ran = run_object(rt, words, &object);
     match ran {
-        Ok(report) => tell_halt(rt, words.input, &object, report, listener),
+        Ok(report) => tell_halt(rt, words, &object, report, listener),
         Err(Stop::Answer(Answer::Object(fault))) => {
             tell_object(rt.alloc(), words.object, &object, fault, listener);
         }

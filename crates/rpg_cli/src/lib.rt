@@ -10,6 +10,7 @@ mod listing;
 mod program;
 mod running;
 mod stop;
+mod streams;
 mod telling;
 mod text;
 mod told;

@@ -10,7 +10,7 @@ use crate::listing::list_file;
 use crate::stop::Stop;
 use crate::telling::tell_answer;
 use crate::text::line;
-use crate::told::{Listener, StandardStreams};
+use crate::told::{Listener, StandardError, StandardStreams};
 use rpg_cli_files::send_line;
 use rpg_cli_words::{Refusal, Request, refuse_bytes, refuse_same_file, request_of};
 use std::io::{ErrorKind, Write};
@@ -18,7 +18,7 @@ use std::process::ExitCode;
 use std::rt::{Env, Files};
 use std::{env, io};
 
-fn answer_to<R: Files + AllocGlobal, L: Listener>(
+fn answer_to<R: Files + Input + Print + AllocGlobal, L: Listener>(
     rt: &R,
     request: &Request,
     listener: &mut L,
@@ -80,7 +80,7 @@ fn refuse<R: Print + Eprint + AllocGlobal, W: Write>(rt: &R, refusal: &Refusal, 
 ///
 /// The first word is the program's name. A fault of the command line prints clap's text on standard error, and help that
 /// was asked for goes to standard output, in place of the line.
-pub fn run<R: Files + Print + Eprint + AllocGlobal, W: Write, L: Listener>(
+pub fn run<R: Files + Input + Print + Eprint + AllocGlobal, W: Write, L: Listener>(
     rt: &R,
     words: &[String],
     out: &mut W,
@@ -88,14 +88,25 @@ pub fn run<R: Files + Print + Eprint + AllocGlobal, W: Write, L: Listener>(
 ) -> u8
     ensures { PrintsALine (W.contents out.old) (W.contents out.new) result }
 {
-    let request = match request_of(rt.alloc(), words) {
-        Ok(request) => request,
-        Err(refusal) => return refuse(rt, &refusal, out),
-    };
-    match answer_to(rt, &request, listener) {
+    match request_of(rt.alloc(), words) {
+        Ok(request) => obey(rt, &request, out, listener),
+        Err(refusal) => refuse(rt, &refusal, out),
+    }
+}
+
+/// Does what is asked, prints one line to `out`, and answers the exit status.
+fn obey<R: Files + Input + Print + Eprint + AllocGlobal, W: Write, L: Listener>(
+    rt: &R,
+    request: &Request,
+    out: &mut W,
+    listener: &mut L,
+) -> u8
+    ensures { PrintsALine (W.contents out.old) (W.contents out.new) result }
+{
+    match answer_to(rt, request, listener) {
         Ok(answer) | Err(Stop::Answer(answer)) => {
             let status = say(out, &answer);
-            tell_answer(rt.alloc(), &request, &answer, listener);
+            tell_answer(rt.alloc(), request, &answer, listener);
             status
         }
         Err(Stop::SameFile(same)) => refuse(rt, &refuse_same_file(rt.alloc(), same), out),
@@ -107,12 +118,33 @@ fn words<R: Env + AllocGlobal>(rt: &R) -> io::Result<Vec<String>> {
     Ok(words)
 }
 
-/// The whole program. Words that aren't UTF-8 are a fault of the command line.
-pub fn main_with<R: Files + Print + Eprint + Env + AllocGlobal>(rt: &R) -> ExitCode {
+/// Whether the printed lines of a run go to standard output.
+fn prints_to_standard_output(request: &Request) -> bool {
+    match request {
+        Request::Run(words) => words.print_file().is_none(),
+        _ => false,
+    }
+}
+
+/// Does what the words ask over the standard streams, and answers the exit status. The line goes to standard output, or to standard error
+/// where the printed lines of a run go there.
+fn run_on_streams<R: Files + Input + Print + Eprint + AllocGlobal>(rt: &R, words: &[String]) -> u8 {
     let mut out = io::writer(rt);
     let mut listener = StandardStreams::new(rt);
+    match request_of(rt.alloc(), words) {
+        Err(refusal) => refuse(rt, &refusal, &mut out),
+        Ok(request) if prints_to_standard_output(&request) => {
+            obey(rt, &request, &mut StandardError::new(rt), &mut listener)
+        }
+        Ok(request) => obey(rt, &request, &mut out, &mut listener),
+    }
+}
+
+/// The whole program. Words that aren't UTF-8 are a fault of the command line.
+pub fn main_with<R: Files + Input + Print + Eprint + Env + AllocGlobal>(rt: &R) -> ExitCode {
+    let mut out = io::writer(rt);
     let status = match words(rt) {
-        Ok(words) => run(rt, words.as_slice(), &mut out, &mut listener),
+        Ok(words) => run_on_streams(rt, words.as_slice()),
         Err(error) if error.kind() == ErrorKind::OutOfMemory => say(&mut out, &Answer::NoMemory),
         Err(_) => refuse(rt, &refuse_bytes(rt.alloc()), &mut out),
     };

@@ -6,7 +6,7 @@ use crate::told::Listener;
 use rpg_cli_files::{FileFault, identity_at, input_file};
 use rpg_cli_halts::{HaltedCycle, halt_message};
 use rpg_cli_refusals::{bytes_message, put_shown, rule_message};
-use rpg_cli_words::{FileWord, Request};
+use rpg_cli_words::{FileWord, Request, RunWords};
 use rpg_engine::{JobEnd, ObjectFault, Report, RunFault, Verified, accept, decode_object};
 use std::alloc::{AllocError, Global};
 use std::io::{BufRead, BufReader};
@@ -124,8 +124,9 @@ pub(crate) fn tell_object<L: Listener>(
     }
 }
 
-/// The text of a record of a regular file, the first being 1, where it can be read once more.
-fn record_line<R: Files + AllocGlobal>(rt: &R, path: &str, number: u64) -> Option<String> {
+/// The text of a record of a regular file, the first being 1, where it can be read once more. Standard input can't.
+fn record_line<R: Files + AllocGlobal>(rt: &R, words: &RunWords, number: u64) -> Option<String> {
+    let path = words.input_file()?;
     identity_at(rt, path)?;
     let file = input_file(rt, path).ok()?;
     let reader = BufReader::new(rt.alloc(), file).ok()?;
@@ -142,16 +143,16 @@ fn record_line<R: Files + AllocGlobal>(rt: &R, path: &str, number: u64) -> Optio
 
 fn halted_message<R: Files + AllocGlobal>(
     rt: &R,
-    path: &str,
+    words: &RunWords,
     program: &Verified,
     halted: HaltedCycle,
 ) -> Result<String, AllocError> {
     let line = match halted.record() {
-        Some(record) if halted.is_of_columns() => record_line(rt, path, record),
+        Some(record) if halted.is_of_columns() => record_line(rt, words, record),
         _ => None,
     };
     let record = line.as_ref().map(|line| line.as_bytes());
-    halt_message(rt.alloc(), path, program, halted, record)
+    halt_message(rt.alloc(), words.input, program, halted, record)
 }
 
 /// The halt of a report, if its job halted.
@@ -172,10 +173,10 @@ fn program_of(alloc: Global, object: &[u8]) -> Option<Verified> {
     accept(alloc, program).ok()
 }
 
-/// Tells where a job halted, if it did: over the records of a file, by the program that these bytes spell.
+/// Tells where a job halted, if it did: over the records that the words name, by the program that these bytes spell.
 pub(crate) fn tell_halt<R: Files + AllocGlobal, L: Listener>(
     rt: &R,
-    path: &str,
+    words: &RunWords,
     object: &[u8],
     report: Report,
     listener: &mut L,
@@ -186,7 +187,7 @@ pub(crate) fn tell_halt<R: Files + AllocGlobal, L: Listener>(
     let Some(program) = program_of(rt.alloc(), object) else {
         return;
     };
-    if let Ok(message) = halted_message(rt, path, &program, halted) {
+    if let Ok(message) = halted_message(rt, words, &program, halted) {
         listener.tell(message.as_str());
     }
 }

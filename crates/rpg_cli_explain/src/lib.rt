@@ -9,6 +9,7 @@ mod rules;
 mod sheets;
 mod text;
 mod topic;
+mod warnings;
 
 pub use text::{all_pages, page_text};
 pub use topic::{Topic, topic_of};

@@ -1,7 +1,7 @@
 //! Pages as text.
 
 use crate::page::Page;
-use crate::topic::{BYTES, FAULTS, HALTS, SHEETS, Topic};
+use crate::topic::{BYTES, FAULTS, HALTS, SHEETS, Topic, WARNINGS};
 use rpg_verify_rules::RULES;
 use std::alloc::{AllocError, Global};
 
@@ -13,6 +13,7 @@ fn put_code(alloc: Global, out: &mut String, topic: Topic) -> Result<(), AllocEr
     match topic {
         Topic::Sheet(code) => out.push_str(code.text().as_str()),
         Topic::Fault(code) => out.push_str(code.text().as_str()),
+        Topic::Warning(code) => out.push_str(code.text()),
         Topic::Halt(halt) => {
             let number = halt.number();
             out.push_str(format!(in alloc; "halt {number}")?.as_str())
@@ -87,6 +88,14 @@ fn put_faults(alloc: Global, out: &mut String) -> Result<(), AllocError> {
     Ok(())
 }
 
+fn put_warnings(alloc: Global, out: &mut String) -> Result<(), AllocError> {
+    for code in WARNINGS {
+        out.push_str("\n")?;
+        put_page(alloc, out, Topic::Warning(code))?;
+    }
+    Ok(())
+}
+
 fn put_halts(alloc: Global, out: &mut String) -> Result<(), AllocError> {
     for halt in HALTS {
         out.push_str("\n")?;
@@ -116,6 +125,7 @@ pub fn all_pages(alloc: Global) -> Result<String, AllocError> {
     let mut out = String::from_str(alloc, TITLE)?;
     put_sources(alloc, &mut out)?;
     put_faults(alloc, &mut out)?;
+    put_warnings(alloc, &mut out)?;
     put_halts(alloc, &mut out)?;
     put_rules(alloc, &mut out)?;
     put_bytes(alloc, &mut out)?;

@@ -6,6 +6,8 @@ use crate::halts::halt_page;
 use crate::page::Page;
 use crate::rules::rule_page;
 use crate::sheets::sheet_page;
+use crate::warnings::warning_page;
+use rpg_cli_warnings::WarningCode;
 use rpg_effect::halt::Halt;
 use rpg_faults::FaultCode;
 use rpg_object_format::fault::Code;
@@ -17,6 +19,7 @@ use rpg_verify_rules::{RULES, Rule};
 pub enum Topic {
     Sheet(SheetCode),
     Fault(FaultCode),
+    Warning(WarningCode),
     Halt(Halt),
     Rule(Rule),
     Bytes(Code),
@@ -52,6 +55,13 @@ pub(crate) const FAULTS: [FaultCode; 18] = [
     FaultCode::F18,
 ];
 
+pub(crate) const WARNINGS: [WarningCode; 4] = [
+    WarningCode::W1,
+    WarningCode::W2,
+    WarningCode::W3,
+    WarningCode::W4,
+];
+
 pub(crate) const HALTS: [Halt; 7] = [
     Halt::ZeroDivisor,
     Halt::BadIndex,
@@ -78,6 +88,7 @@ impl Topic {
         match self {
             Topic::Sheet(code) => code.sentence(),
             Topic::Fault(code) => code.sentence(),
+            Topic::Warning(code) => code.sentence(),
             Topic::Halt(halt) => halt.sentence(),
             Topic::Rule(rule) => rule.sentence(),
             Topic::Bytes(code) => code.sentence(),
@@ -88,6 +99,7 @@ impl Topic {
         match self {
             Topic::Sheet(code) => sheet_page(code),
             Topic::Fault(code) => fault_page(code),
+            Topic::Warning(code) => warning_page(code),
             Topic::Halt(halt) => halt_page(halt),
             Topic::Rule(rule) => rule_page(rule),
             Topic::Bytes(code) => byte_page(code),
@@ -102,6 +114,9 @@ impl Topic {
             }
             Topic::Fault(_) => {
                 "told once no S code is left. The line has the first card and its least code, standard\nerror has all. Nothing is written; status 3"
+            }
+            Topic::Warning(_) => {
+                "told on standard error of a source without a fault. The object program is written, and the\nline is as without it; status 0"
             }
             Topic::Halt(_) => {
                 "the job ends at once, and what was put out before stays; status 5"
@@ -133,6 +148,8 @@ pub fn topic_of(code: &str) -> Option<Topic> {
         SHEETS.get(at).map(|code| Topic::Sheet(*code))
     } else if let Some(at) = number_behind(code, "F") {
         FAULTS.get(at).map(|code| Topic::Fault(*code))
+    } else if let Some(at) = number_behind(code, "W") {
+        WARNINGS.get(at).map(|code| Topic::Warning(*code))
     } else if let Some(at) = number_behind(code, "V") {
         RULES.get(at).map(|rule| Topic::Rule(*rule))
     } else if let Some(at) = number_behind(code, "B") {

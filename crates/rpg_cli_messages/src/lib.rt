@@ -3,6 +3,7 @@
 
 mod begins;
 mod card;
+mod card_lines;
 mod message;
 mod note;
 mod picture;
@@ -10,6 +11,7 @@ mod range;
 mod sheets;
 
 pub use begins::begins_range;
-pub use message::source_messages;
+pub use card_lines::CardLines;
+pub use message::{Remark, put_remark, put_told, source_messages};
 pub use note::put_note;
 pub use picture::{put_first, put_shown};

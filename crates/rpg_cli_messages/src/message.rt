@@ -1,42 +1,30 @@
 //! The messages of a refused source.
 
 use crate::card::CardKind;
+use crate::card_lines::CardLines;
 use crate::picture::{put_picture, put_shown};
 use crate::sheets::range_at;
 use rpg_faults::{CardFault, SourceCode};
 use rpg_sheet::{ColumnFault, SheetCode};
 use std::alloc::{AllocError, Global};
 
-/// The most faults that are told one by one.
-const MOST_TOLD: usize = 20;
-
-/// What is told of the faults of a source, which `path` names: for each a line `PATH:CARD:COLUMN: CODE: SENTENCE`, the card and a mark, 20 at
-/// most; and how many there are.
+/// What is told of the faults of a source, which `path` names: for each a line `PATH:CARD:COLUMN: CODE: SENTENCE`, the card and a mark, `most` of
+/// them at most; and how many there are.
 pub fn source_messages(
     alloc: Global,
     path: &str,
     source: &[u8],
     faults: &[CardFault],
+    most: u16,
 ) -> Result<String, AllocError> {
     let mut out = String::new(alloc);
-    for fault in faults.iter().take(MOST_TOLD) {
-        put_message(alloc, &mut out, path, line_of(source, fault.card), *fault)?;
+    let mut lines = CardLines::of(source);
+    for fault in faults.iter().take(usize::from(most)) {
+        let line = lines.line_of(fault.card);
+        put_message(alloc, &mut out, path, line, *fault)?;
     }
-    put_count(alloc, &mut out, path, faults)?;
+    put_count(alloc, &mut out, path, faults, most)?;
     Ok(out)
-}
-
-/// The line of a card. Card 0 has none, and shows the first.
-fn line_of(source: &[u8], card: u16) -> &[u8] {
-    let mut rest = source;
-    let mut line: &[u8] = &[];
-    for _ in 0..card {
-        if rest.is_empty() {
-            return &[];
-        }
-        (line, rest) = rpg_text::first_line(rest);
-    }
-    line
 }
 
 /// The columns that a fault is about, where its code says which.
@@ -74,7 +62,8 @@ fn put_message(
     fault: CardFault,
 ) -> Result<(), AllocError> {
     let columns = columns_of(line, fault);
-    put_place(alloc, out, path, fault, columns)?;
+    let code = fault.code.text();
+    put_place(alloc, out, path, fault.card, columns, code.as_str())?;
     put_sentence(alloc, out, line, fault)?;
     out.push('\n')?;
     if fault.card == 0 {
@@ -83,15 +72,39 @@ fn put_message(
     put_picture(alloc, out, fault.card, line, columns)
 }
 
+/// What is remarked of columns of a card, by its code.
+#[derive(Clone, Copy)]
+pub struct Remark<'a> {
+    pub card: u16,
+    pub columns: ColumnFault,
+    pub code: &'a str,
+    pub sentence: &'a str,
+}
+
+/// Writes a remark as a fault is told: a line `PATH:CARD:COLUMN: CODE: SENTENCE`, the card, which has that line in the source, and a mark.
+pub fn put_remark(
+    alloc: Global,
+    out: &mut String,
+    path: &str,
+    line: &[u8],
+    remark: Remark<'_>,
+) -> Result<(), AllocError> {
+    let columns = Some(remark.columns);
+    put_place(alloc, out, path, remark.card, columns, remark.code)?;
+    out.push_str(remark.sentence)?;
+    out.push('\n')?;
+    put_picture(alloc, out, remark.card, line, columns)
+}
+
 /// Where a fault is, and its code.
 fn put_place(
     alloc: Global,
     out: &mut String,
     path: &str,
-    fault: CardFault,
+    card: u16,
     columns: Option<ColumnFault>,
+    code: &str,
 ) -> Result<(), AllocError> {
-    let card = fault.card;
     put_shown(out, path.as_bytes())?;
     if card > 0 {
         out.push_str(format!(in alloc; ":{card}")?.as_str())?;
@@ -100,7 +113,7 @@ fn put_place(
         out.push_str(format!(in alloc; ":{column}")?.as_str())?;
     }
     out.push_str(": ")?;
-    out.push_str(fault.code.text().as_str())?;
+    out.push_str(code)?;
     out.push_str(": ")
 }
 
@@ -200,6 +213,7 @@ fn put_count(
     out: &mut String,
     path: &str,
     faults: &[CardFault],
+    most: u16,
 ) -> Result<(), AllocError> {
     let count = faults.len();
     let are_unread = faults
@@ -213,11 +227,20 @@ fn put_count(
         (false, _) => format!(in alloc; ": {count} faults")?,
     };
     out.push_str(words.as_str())?;
-    if count > MOST_TOLD {
-        out.push_str(format!(in alloc; ", of which {MOST_TOLD} are told")?.as_str())?;
+    if count > usize::from(most) {
+        put_told(alloc, out, most)?;
     }
     out.push_str(untold(are_unread, count))?;
     out.push('\n')
+}
+
+/// How many of those that were counted are told one by one.
+pub fn put_told(alloc: Global, out: &mut String, most: u16) -> Result<(), AllocError> {
+    match most {
+        0 => out.push_str(", of which none is told"),
+        1 => out.push_str(", of which 1 is told"),
+        _ => out.push_str(format!(in alloc; ", of which {most} are told")?.as_str()),
+    }
 }
 
 /// Other faults hang on what the cards mean.

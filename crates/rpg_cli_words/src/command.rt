@@ -27,18 +27,30 @@ fn allowance<'a>(alloc: Global) -> Arg<'a> {
         .help("How many backward branches and calls a cycle may take")
 }
 
+/// How many faults of a source are told one by one.
+fn faults<'a>(alloc: Global) -> Arg<'a> {
+    Arg::new(alloc, "faults")
+        .long("faults")
+        .value_name("N")
+        .value_parser(value_parser!(u16))
+        .default_value("20")
+        .help("How many faults, or warnings, are told one by one, at most")
+}
+
 fn compile_command<'a>(alloc: Global) -> Result<Command<'a>, AllocError> {
     Command::new(alloc, "compile")
         .about("Compiles the source SRC to the object program OBJ")
         .arg(word(alloc, "SRC", "The source, a card a line"))?
         .arg(word(alloc, "OBJ", "Where the object program goes"))?
-        .arg(allowance(alloc))
+        .arg(allowance(alloc))?
+        .arg(faults(alloc))
 }
 
 fn check_command<'a>(alloc: Global) -> Result<Command<'a>, AllocError> {
     Command::new(alloc, "check")
         .about("Tells all faults of the source SRC on standard error, and writes nothing")
-        .arg(word(alloc, "SRC", "The source, a card a line"))
+        .arg(word(alloc, "SRC", "The source, a card a line"))?
+        .arg(faults(alloc))
 }
 
 fn verify_command<'a>(alloc: Global) -> Result<Command<'a>, AllocError> {
@@ -91,8 +103,12 @@ fn run_with_files<'a>(alloc: Global) -> Result<Command<'a>, AllocError> {
     Command::new(alloc, "run")
         .about("Runs the object program OBJ over the records of INPUT, and prints to PRINT")
         .arg(word(alloc, "OBJ", "The object program"))?
-        .arg(word(alloc, "INPUT", "The records"))?
-        .arg(word(alloc, "PRINT", "Where the printed lines go"))
+        .arg(word(alloc, "INPUT", "The records; - is standard input"))?
+        .arg(word(
+            alloc,
+            "PRINT",
+            "Where the printed lines go; - is standard output, and the line of the answer is on standard error then",
+        ))
 }
 
 fn run_command<'a>(alloc: Global) -> Result<Command<'a>, AllocError> {

@@ -36,6 +36,8 @@ pub struct CompileWords<'a> {
     pub object: &'a str,
     /// How many backward branches and calls a cycle may take.
     pub allowance: u16,
+    /// How many faults, or warnings, are told one by one, at most.
+    pub faults: u16,
     ghost positive: { 0 < allowance },
 }
 
@@ -43,6 +45,8 @@ pub struct CompileWords<'a> {
 #[derive(Clone, Copy)]
 pub struct CheckWords<'a> {
     pub source: &'a str,
+    /// How many faults, or warnings, are told one by one, at most.
+    pub faults: u16,
 }
 
 /// The words of `verify`.
@@ -61,7 +65,9 @@ pub struct ShowWords<'a> {
 #[derive(Clone, Copy)]
 pub struct RunWords<'a> {
     pub object: &'a str,
+    /// The records, by a file or `-`.
     pub input: &'a str,
+    /// Where the printed lines go, a file or `-`.
     pub print: &'a str,
     pub date: &'a str,
     /// Where the records of a disk file go, if the words tell it.
@@ -137,7 +143,20 @@ impl<'a> Request<'a> {
     }
 }
 
+/// What stands for standard input or output in place of a file.
+const STANDARD: &str = "-";
+
 impl<'a> RunWords<'a> {
+    /// The file of records; none where they come from standard input.
+    pub fn input_file(&self) -> Option<&'a str> {
+        (self.input != STANDARD).then_some(self.input)
+    }
+
+    /// Where the printed lines go; none where that is standard output.
+    pub fn print_file(&self) -> Option<&'a str> {
+        (self.print != STANDARD).then_some(self.print)
+    }
+
     fn path(&self, word: FileWord) -> Option<&'a str> {
         match word {
             FileWord::Source => None,
@@ -213,12 +232,14 @@ fn compile_words<'a>(given: &ArgMatches<'a>) -> Option<CompileWords<'a>> {
         source: given.get_str("SRC")?,
         object: given.get_str("OBJ")?,
         allowance,
+        faults: given.get_one::<u16>("faults")?,
     })
 }
 
 fn check_words<'a>(given: &ArgMatches<'a>) -> Option<CheckWords<'a>> {
     Some(CheckWords {
         source: given.get_str("SRC")?,
+        faults: given.get_one::<u16>("faults")?,
     })
 }
 

@@ -36,7 +36,7 @@ impl<R: Print> Listener for Shown<'_, R> {
 }
 
 /// Gives the words to `rpg2`, and prints its line and a status that isn't 0.
-fn say<R: Files + Print + Eprint + AllocGlobal>(rt: &R, command: &str) -> io::Result<()> {
+fn say<R: Files + Input + Print + Eprint + AllocGlobal>(rt: &R, command: &str) -> io::Result<()> {
     let words = words(rt.alloc(), command)?;
     let status = run(rt, &words, &mut io::writer(rt), &mut Shown { rt });
     if status != 0 {
@@ -46,14 +46,21 @@ fn say<R: Files + Print + Eprint + AllocGlobal>(rt: &R, command: &str) -> io::Re
 }
 
 /// Gives the words to `rpg2` where its line can't be written, and prints the status.
-fn say_unheard<R: Files + Print + Eprint + AllocGlobal>(rt: &R, command: &str) -> io::Result<()> {
+fn say_unheard<R: Files + Input + Print + Eprint + AllocGlobal>(
+    rt: &R,
+    command: &str,
+) -> io::Result<()> {
     let words = words(rt.alloc(), command)?;
     let status = run(rt, &words, &mut FullWriter, &mut Shown { rt });
     println!(rt; "status {status}")
 }
 
 /// Runs the whole program with these words over files that take so many bytes, and prints what it tells on either side, and its status.
-fn stage<R: Files + Print + AllocGlobal>(rt: &R, room: usize, command: &str) -> io::Result<()> {
+fn stage<R: Files + Input + Print + AllocGlobal>(
+    rt: &R,
+    room: usize,
+    command: &str,
+) -> io::Result<()> {
     let mut words = Vec::new(rt.alloc());
     for word in command.split_whitespace() {
         words.push(unescaped(rt.alloc(), word)?)?;
@@ -68,7 +75,7 @@ fn stage<R: Files + Print + AllocGlobal>(rt: &R, room: usize, command: &str) -> 
 }
 
 /// `full ROOM rpg2 WORDS`: the disk is full once a file has taken so many bytes.
-fn stage_full<R: Files + Print + AllocGlobal>(rt: &R, mut rest: &str) -> io::Result<()> {
+fn stage_full<R: Files + Input + Print + AllocGlobal>(rt: &R, mut rest: &str) -> io::Result<()> {
     let room = number(&mut rest);
     stage(rt, room, rest)
 }
@@ -160,7 +167,10 @@ fn spell_again<R: Files + AllocGlobal>(rt: &R, mut rest: &str) -> io::Result<()>
 }
 
 /// Prints the command, does it, and prints what comes of it.
-pub fn obey<R: Files + Print + Eprint + AllocGlobal>(rt: &R, command: &str) -> io::Result<()> {
+pub fn obey<R: Files + Input + Print + Eprint + AllocGlobal>(
+    rt: &R,
+    command: &str,
+) -> io::Result<()> {
     println!(rt; "$ {command}")?;
     let (verb, rest) = command.split_once(' ').unwrap_or((command, ""));
     match verb {

@@ -38,7 +38,10 @@ fn write_lines<R: Files + AllocGlobal>(
 }
 
 /// Obeys the commands of a session, each once the lines before it are written.
-pub fn play<R: Files + Print + Eprint + AllocGlobal>(rt: &R, session: &str) -> io::Result<()> {
+pub fn play<R: Files + Input + Print + Eprint + AllocGlobal>(
+    rt: &R,
+    session: &str,
+) -> io::Result<()> {
     let mut behind = Lines::Prose;
     let mut lines = Vec::new(rt.alloc());
     for line in session.lines() {

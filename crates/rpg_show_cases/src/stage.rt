@@ -4,7 +4,7 @@ use std::alloc::{Allocator, Global};
 use std::env::FillError;
 use std::fmt::Display;
 use std::fs::{Metadata, OpenFile, OpenOptions, Permissions};
-use std::io::{self, ErrorKind, Read, Seek, SeekFrom, Write};
+use std::io::{self, ErrorKind, Lines, Read, Seek, SeekFrom, Write};
 use std::rt::{Env, Files};
 
 /// The words that the program is given, which need not be text, and how many bytes each file takes that it writes.
@@ -51,6 +51,22 @@ impl<R: Print> Eprint for Stage<'_, R> {
 
     fn eprintln<D: Display + Drop>(&self, value: D) -> io::Result<()> {
         self.rt.println(value)
+    }
+}
+
+impl<R: Input> Input for Stage<'_, R> {
+    type Reader = R::Reader;
+
+    fn read_line<A: Allocator + Clone>(&self, buf: &mut String<A>) -> io::Result<usize> {
+        self.rt.read_line(buf)
+    }
+
+    fn lines<A: Allocator>(&self, alloc: A) -> Lines<R::Reader, A> {
+        self.rt.lines(alloc)
+    }
+
+    fn reader(&self) -> R::Reader {
+        self.rt.reader()
     }
 }
 

@@ -1,0 +1,81 @@
+-- W4: which results have fewer digits before their point than what they are made of.
+use Rattle.std.specs.Prelude.{ℕ, ◌-◌, List, Bool, false, ◌||◌, ◌==◌, nat_le, nat_lt, Option, None, Some, if◌then◌else◌}
+use Rattle.std.specs.Option.{option_and_then, option_map, option_map_or}
+use Rattle.rpg_cards.specs.Cards.{calculation_on}
+use Rattle.rpg_cards.specs.Constants.{form_of_factor}
+use Rattle.rpg_cards.specs.Names.{form_of_name}
+use Rattle.rpg_cards.specs.declared.names.Defined.{Defined}
+use Rattle.rpg_cards.specs.declared.names.Defined.TheVariants as defined
+use Rattle.rpg_cards.specs.declared.spec_card.SpecCard.{SpecCard}
+use Rattle.rpg_effect.specs.declared.form.FieldForm.{FieldForm}
+use Rattle.rpg_effect.specs.declared.form.Kind.{Kind}
+use Rattle.rpg_effect.specs.declared.form.Kind.TheVariants as of_field
+use Rattle.rpg_sheet_specs.specs.declared.calculation.CalculationSpec.{CalculationSpec}
+use Rattle.rpg_sheet_specs.specs.declared.calculation.Operation.{Operation}
+use Rattle.rpg_sheet_specs.specs.declared.calculation.Operation.TheVariants as operation
+use Rattle.rpg_sheet_specs.specs.declared.column.ColumnFault.{ColumnFault}
+use Rattle.rpg_sheet_specs.specs.declared.entry.Entry.{Entry}
+use Rattle.rpg_sheet_specs.specs.declared.literal.Factor.{Factor}
+use Rattle.rpg_cli_warnings.specs.declared.warning.Warning.{Warning}
+use Rattle.rpg_cli_warnings.specs.declared.warning.WarningKind.{WarningKind}
+use Rattle.rpg_cli_warnings.specs.declared.warning.WarningKind.TheVariants as kind
+
+abbrev pub digits_by : Kind → FieldForm → Option ℕ
+digits_by of_field.Number f = Some (f.length - f.decimals)
+digits_by of_field.Text f = None
+
+-- the digits of a number before its point
+abbrev pub whole_digits : FieldForm → Option ℕ
+whole_digits f = digits_by f.kind f
+
+abbrev pub digits_of : Defined → Option ℕ
+digits_of (defined.Good f) = whole_digits f
+digits_of defined.Missing = None
+digits_of defined.Bad = None
+
+abbrev pub factor_digits : List SpecCard → Option Factor → Option ℕ
+factor_digits cards f = option_and_then (λ x. digits_of (form_of_factor x cards)) f
+
+abbrev pub result_digits : List SpecCard → Option Entry → Option ℕ
+result_digits cards r = option_and_then (λ (e : Entry). digits_of (form_of_name e.name cards)) r
+
+abbrev pub greatest : Option ℕ → Option ℕ → Option ℕ
+greatest (Some a) (Some b) = Some (if nat_le a b then b else a)
+greatest (Some a) None = Some a
+greatest None b = b
+
+-- a product with a fraction is mostly the shorter
+abbrev pub is_fraction : Option ℕ → Bool
+is_fraction n = option_map_or (λ x. x == 0) n false
+
+abbrev pub product_digits : Option ℕ → Option ℕ → Option ℕ
+product_digits a b = if is_fraction a || is_fraction b then None else greatest a b
+
+abbrev pub wanted_by : Option Operation → Option ℕ → Option ℕ → Option ℕ
+wanted_by (Some operation.Add) a b = greatest a b
+wanted_by (Some operation.Subtract) a b = greatest a b
+wanted_by (Some operation.ZeroAdd) a b = greatest a b
+wanted_by (Some operation.ZeroSubtract) a b = greatest a b
+wanted_by (Some operation.Multiply) a b = product_digits a b
+wanted_by o a b = None
+
+-- the digits of the longest factor
+abbrev pub wanted_digits : List SpecCard → CalculationSpec → Option ℕ
+wanted_digits cards k = wanted_by k.operation (factor_digits cards k.factor_1) (factor_digits cards k.factor_2)
+
+abbrev pub shorter : Option ℕ → Option ℕ → Option WarningKind
+shorter (Some f) (Some r) = if nat_lt r f then Some (kind.Shorter r f) else None
+shorter (Some f) None = None
+shorter None r = None
+
+abbrev pub result_columns : ColumnFault
+result_columns = record { column = 43; last = 48 }
+
+abbrev pub warned_of : SpecCard → WarningKind → Warning
+warned_of c k = record { card = c.number; columns = result_columns; kind = k }
+
+abbrev pub shorter_by : List SpecCard → CalculationSpec → Option WarningKind
+shorter_by cards k = shorter (wanted_digits cards k) (result_digits cards k.result_field)
+
+abbrev pub shorter_on : List SpecCard → SpecCard → Option Warning
+shorter_on cards c = option_map (warned_of c) (option_and_then (shorter_by cards) (calculation_on c.spec))

@@ -1,0 +1,144 @@
+-- W1 and W2: which indicators are warned of, and at which card.
+use Rattle.std.specs.Prelude.{ℕ, ◌+◌, List, [], ◌∷◌, ◌++◌, Bool, true, false, not, ◌&&◌, ◌||◌, ◌==◌, nat_le, suc, zero, Option, None, Some, is_some, find, if◌then◌else◌}
+use Rattle.std.specs.List.{list_any}
+use Rattle.std.specs.Option.{option_map, option_map_or, option_to_list}
+use Rattle.rpg_cards.specs.declared.spec_card.SpecCard.{SpecCard}
+use Rattle.rpg_sheet_specs.specs.declared.calculation.CalculationSpec.{CalculationSpec}
+use Rattle.rpg_sheet_specs.specs.declared.calculation.Operation.{Operation}
+use Rattle.rpg_sheet_specs.specs.declared.calculation.Operation.TheVariants as operation
+use Rattle.rpg_sheet_specs.specs.declared.column.ColumnFault.{ColumnFault}
+use Rattle.rpg_sheet_specs.specs.declared.indicator.Condition.{Condition}
+use Rattle.rpg_sheet_specs.specs.declared.indicator.Three.{Three}
+use Rattle.rpg_sheet_specs.specs.declared.input.InputSpec.{InputSpec}
+use Rattle.rpg_sheet_specs.specs.declared.input.InputSpec.TheVariants as input
+use Rattle.rpg_sheet_specs.specs.declared.output.OutputSpec.{OutputSpec}
+use Rattle.rpg_sheet_specs.specs.declared.output.OutputSpec.TheVariants as output
+use Rattle.rpg_sheet_specs.specs.declared.spec.Spec.{Spec}
+use Rattle.rpg_sheet_specs.specs.declared.spec.Spec.TheVariants as spec
+use Rattle.rpg_cli_warnings.specs.declared.warning.Warning.{Warning}
+use Rattle.rpg_cli_warnings.specs.declared.warning.WarningKind.{WarningKind}
+use Rattle.rpg_cli_warnings.specs.declared.warning.WarningKind.TheVariants as kind
+
+-- ---- asking
+
+abbrev pub output_conditions : OutputSpec → Three (Option Condition)
+output_conditions (output.Record r) = r.conditions
+output_conditions (output.And t) = t
+output_conditions (output.Or t) = t
+output_conditions (output.Field f) = f.conditions
+
+abbrev pub conditions_on : Spec → Option (Three (Option Condition))
+conditions_on (spec.Header h) = None
+conditions_on (spec.File f) = None
+conditions_on (spec.Extension e) = None
+conditions_on (spec.Input i) = None
+conditions_on (spec.Calculation k) = Some k.conditions
+conditions_on (spec.Output o) = Some (output_conditions o)
+conditions_on (spec.Data d) = None
+
+-- the first of a card's nine columns of conditions
+abbrev pub conditions_begin : Spec → ℕ
+conditions_begin (spec.Calculation k) = 9
+conditions_begin s = 23
+
+abbrev pub is_of : ℕ → Option Condition → Bool
+is_of n c = option_map_or (λ x. x.indicator == n) c false
+
+abbrev pub any_asks : ℕ → Three (Option Condition) → Bool
+any_asks n t = is_of n t.first || is_of n t.second || is_of n t.third
+
+abbrev pub asks : ℕ → SpecCard → Bool
+asks n c = option_map_or (any_asks n) (conditions_on c.spec) false
+
+-- the place of the first of three that is so, of which each takes so many columns
+abbrev pub place_of : {X : Type 0} → (X → Bool) → ℕ → Three X → ℕ
+place_of test size t = if test t.first then 0 else if test t.second then size else size + size
+
+abbrev pub columns_from : ℕ → ℕ → ColumnFault
+columns_from column more = record { column = column; last = column + more }
+
+abbrev pub asked_columns : ℕ → SpecCard → ColumnFault
+asked_columns n c = columns_from (conditions_begin c.spec + option_map_or (place_of (is_of n) 3) (conditions_on c.spec) 6) 2
+
+-- ---- turning on
+
+abbrev pub is_number : ℕ → Option ℕ → Bool
+is_number n i = option_map_or (λ x. x == n) i false
+
+abbrev pub any_is : ℕ → Three (Option ℕ) → Bool
+any_is n t = is_number n t.first || is_number n t.second || is_number n t.third
+
+abbrev pub input_turns_on : ℕ → InputSpec → Bool
+input_turns_on n (input.Type t) = is_number n t.indicator
+input_turns_on n (input.And codes) = false
+input_turns_on n (input.Field f) = any_is n f.indicators
+
+-- SETOF turns off
+abbrev pub turns_off : Option Operation → Bool
+turns_off (Some operation.SetOff) = true
+turns_off o = false
+
+abbrev pub result_turns_on : ℕ → CalculationSpec → Bool
+result_turns_on n k = not (turns_off k.operation) && any_is n k.resulting_indicators
+
+abbrev pub spec_turns_on : ℕ → Spec → Bool
+spec_turns_on n (spec.Header h) = false
+spec_turns_on n (spec.File f) = is_number n f.overflow
+spec_turns_on n (spec.Extension e) = false
+spec_turns_on n (spec.Input i) = input_turns_on n i
+spec_turns_on n (spec.Calculation k) = result_turns_on n k
+spec_turns_on n (spec.Output o) = false
+spec_turns_on n (spec.Data d) = false
+
+abbrev pub turns_on : ℕ → SpecCard → Bool
+turns_on n c = spec_turns_on n c.spec
+
+-- ---- turning on for others to ask
+
+-- a search has to have an indicator
+abbrev pub is_silent : Option Operation → Bool
+is_silent (Some operation.SetOff) = true
+is_silent (Some operation.LookUp) = true
+is_silent o = false
+
+abbrev pub shown_on : Spec → Option (Three (Option ℕ))
+shown_on (spec.Input (input.Field f)) = Some f.indicators
+shown_on (spec.Calculation k) = if is_silent k.operation then None else Some k.resulting_indicators
+shown_on s = None
+
+abbrev pub shows : ℕ → SpecCard → Bool
+shows n c = option_map_or (any_is n) (shown_on c.spec) false
+
+abbrev pub results_begin : Spec → ℕ
+results_begin (spec.Calculation k) = 54
+results_begin s = 65
+
+abbrev pub shown_columns : ℕ → SpecCard → ColumnFault
+shown_columns n c = columns_from (results_begin c.spec + option_map_or (place_of (is_number n) 2) (shown_on c.spec) 4) 1
+
+-- ---- the warnings
+
+-- the machine turns on L0 to L9, LR, 1P and MR
+abbrev pub is_of_cards : ℕ → Bool
+is_of_cards n = nat_le n 99 || (nat_le 112 n && nat_le n 128)
+
+abbrev pub never_on_at : ℕ → SpecCard → Warning
+never_on_at n c = record { card = c.number; columns = asked_columns n c; kind = kind.NeverOn n }
+
+-- asked and never turned on: at the first card that asks
+abbrev pub never_on : ℕ → List SpecCard → Option Warning
+never_on n cards = if is_of_cards n && not (list_any (turns_on n) cards) then option_map (never_on_at n) (find (asks n) cards) else None
+
+abbrev pub never_asked_at : ℕ → SpecCard → Warning
+never_asked_at n c = record { card = c.number; columns = shown_columns n c; kind = kind.NeverAsked n }
+
+-- turned on for others to ask, and never asked: at the first card that turns it on
+abbrev pub never_asked : ℕ → List SpecCard → Option Warning
+never_asked n cards = if nat_le n 99 && not (is_some (find (asks n) cards)) then option_map (never_asked_at n) (find (shows n) cards) else None
+
+abbrev pub listed : Option Warning → List Warning
+listed w = option_to_list w
+
+abbrev pub warnings_up_to : ℕ → List SpecCard → List Warning
+warnings_up_to zero cards = []
+warnings_up_to (suc n) cards = warnings_up_to n cards ++ listed (never_on (suc n) cards) ++ listed (never_asked (suc n) cards)

@@ -1,0 +1,5 @@
+-- What a source is warned of, as definitions.
+pub mod Digits
+pub mod Indicators
+pub mod Overlaps
+pub mod Warnings

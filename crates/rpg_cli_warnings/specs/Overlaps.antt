@@ -1,0 +1,68 @@
+-- W3: which fields of a line lie over each other.
+use Rattle.std.specs.Prelude.{ℕ, ◌+◌, ◌-◌, List, [], ◌∷◌, ◌++◌, Bool, ◌&&◌, nat_le, Option, None, Some, is_none, is_some, find, if◌then◌else◌}
+use Rattle.std.specs.Option.{option_and_then, option_map}
+use Rattle.rpg_cards.specs.Cards.{output_field_on, output_record_on}
+use Rattle.rpg_cards.specs.declared.spec_card.SpecCard.{SpecCard}
+use Rattle.rpg_faults_operands.specs.Editing.{width}
+use Rattle.rpg_sheet_specs.specs.declared.column.ColumnFault.{ColumnFault}
+use Rattle.rpg_sheet_specs.specs.declared.output.OutputField.{OutputField}
+use Rattle.rpg_cli_warnings.specs.declared.overlaps.Placed.{Placed}
+use Rattle.rpg_cli_warnings.specs.declared.warning.Warning.{Warning}
+use Rattle.rpg_cli_warnings.specs.declared.warning.WarningKind.TheVariants as kind
+
+-- a field with conditions may stand where another does
+abbrev pub is_always_out : OutputField → Bool
+is_always_out f = is_none f.conditions.first && is_none f.conditions.second && is_none f.conditions.third
+
+abbrev pub placed_with : SpecCard → OutputField → ℕ → Placed
+placed_with c f w = record { card = c.number; first = (f.end + 1) - w; last = f.end }
+
+abbrev pub placed_by : List SpecCard → SpecCard → OutputField → Option Placed
+placed_by cards c f = if is_always_out f then option_map (placed_with c f) (width cards f) else None
+
+-- the places that a card's field has in each line
+abbrev pub placed_on : List SpecCard → SpecCard → Option Placed
+placed_on cards c = option_and_then (placed_by cards c) (output_field_on c.spec)
+
+abbrev pub meet : Placed → Placed → Bool
+meet a b = nat_le a.first b.last && nat_le b.first a.last
+
+abbrev pub end_columns : ColumnFault
+end_columns = record { column = 40; last = 43 }
+
+abbrev pub warning_over : Placed → Placed → Warning
+warning_over field below = record { card = field.card; columns = end_columns; kind = kind.Overlap field.first field.last below.card }
+
+abbrev pub warned_over : Placed → Option Placed → List Warning
+warned_over field None = []
+warned_over field (Some below) = warning_over field below ∷ []
+
+-- a field that lies over one of these
+abbrev pub warned : List Placed → Placed → List Warning
+warned placed field = warned_over field (find (meet field) placed)
+
+abbrev pub noted_beside : List Placed → Placed → Option Placed → List Placed
+noted_beside placed field None = placed ++ field ∷ []
+noted_beside placed field (Some below) = placed
+
+-- these fields, and one more that lies over none of them
+abbrev pub noted : List Placed → Placed → List Placed
+noted placed field = noted_beside placed field (find (meet field) placed)
+
+-- a line begins with no field
+abbrev pub at_card : SpecCard → List Placed → List Placed
+at_card c placed = if is_some (output_record_on c.spec) then [] else placed
+
+abbrev pub warned_on : List Placed → Option Placed → List Warning
+warned_on placed None = []
+warned_on placed (Some field) = warned placed field
+
+abbrev pub noted_on : List Placed → Option Placed → List Placed
+noted_on placed None = placed
+noted_on placed (Some field) = noted placed field
+
+-- the fields over each other on these cards, where these fields stand on the line so far
+abbrev pub overlaps_from : List SpecCard → List Placed → List SpecCard → List Warning
+overlaps_from source placed [] = []
+overlaps_from source placed (c ∷ cards) =
+    warned_on (at_card c placed) (placed_on source c) ++ overlaps_from source (noted_on (at_card c placed) (placed_on source c)) cards

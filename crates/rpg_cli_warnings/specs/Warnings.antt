@@ -1,0 +1,22 @@
+-- What a source without a fault is warned of.
+use Rattle.std.specs.Prelude.{List, [], ◌++◌}
+use Rattle.std.specs.List.{filter_map}
+use Rattle.rpg_cards.specs.declared.spec_card.SpecCard.{SpecCard}
+use Rattle.rpg_cli_warnings.specs.Digits.{shorter_on}
+use Rattle.rpg_cli_warnings.specs.Indicators.{warnings_up_to}
+use Rattle.rpg_cli_warnings.specs.Overlaps.{overlaps_from}
+use Rattle.rpg_cli_warnings.specs.declared.warning.Warning.{Warning}
+use Rattle.rpg_cli_warnings.specs.declared.warning.WarningCode.{WarningCode}
+use Rattle.rpg_cli_warnings.specs.declared.warning.WarningCode.TheVariants.{W1, W2, W3, W4}
+use Rattle.rpg_cli_warnings.specs.declared.warning.WarningKind.{WarningKind}
+use Rattle.rpg_cli_warnings.specs.declared.warning.WarningKind.TheVariants as kind
+
+abbrev pub code : WarningKind → WarningCode
+code (kind.NeverOn n) = W1
+code (kind.NeverAsked n) = W2
+code (kind.Overlap first last card) = W3
+code (kind.Shorter r f) = W4
+
+-- of all 129 indicators, of fields over each other, of results that are too short
+abbrev pub warnings_of : List SpecCard → List Warning
+warnings_of cards = warnings_up_to 129 cards ++ overlaps_from cards [] cards ++ filter_map (shorter_on cards) cards

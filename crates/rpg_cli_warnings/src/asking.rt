@@ -1,0 +1,87 @@
+//! The indicators that cards ask for.
+
+ghost use Rattle.std.specs.Prelude.{◌≡◌, ◌≤◌, option_copied, find};
+ghost use Rattle.rpg_cli_warnings.specs.Indicators as indicators;
+
+use rpg_cards::SpecCard;
+use rpg_sheet_specs::{ColumnFault, Condition, OutputSpec, Spec, Three};
+
+/// The conditions of a card.
+fn conditions_on(card: &SpecCard) -> Option<Three<Option<Condition>>>
+    ensures { result ≡ indicators.conditions_on card.now.spec }
+{
+    match &card.spec {
+        Spec::Calculation(calculation) => Some(calculation.conditions),
+        Spec::Output(output) => Some(match output {
+            OutputSpec::Record(record) => record.conditions,
+            OutputSpec::And(conditions) | OutputSpec::Or(conditions) => *conditions,
+            OutputSpec::Field(field) => field.conditions,
+        }),
+        Spec::Header(_) | Spec::File(_) | Spec::Extension(_) | Spec::Input(_) | Spec::Data(_) => {
+            None
+        }
+    }
+}
+
+/// The first column of a card's conditions.
+fn conditions_begin(card: &SpecCard) -> u8
+    ensures value { result ≡ indicators.conditions_begin card.now.spec }
+    ensures within { result ≤ 23 }
+{
+    match &card.spec {
+        Spec::Calculation(_) => 9,
+        _ => 23,
+    }
+}
+
+fn names(condition: Option<Condition>, indicator: u8) -> bool
+    ensures { result ≡ indicators.is_of indicator condition }
+{
+    match condition {
+        None => false,
+        Some(condition) => condition.indicator.number() == indicator,
+    }
+}
+
+/// Whether a card asks for an indicator, on or off.
+pub(crate) fn asks(card: &SpecCard, indicator: u8) -> bool
+    ensures { result ≡ indicators.asks indicator card.now }
+{
+    match conditions_on(card) {
+        None => false,
+        Some(conditions) => {
+            names(conditions.first, indicator)
+                || names(conditions.second, indicator)
+                || names(conditions.third, indicator)
+        }
+    }
+}
+
+/// Where a card asks for an indicator first.
+pub(crate) fn asked_columns(card: &SpecCard, indicator: u8) -> ColumnFault
+    ensures { result ≡ indicators.asked_columns indicator card.now }
+{
+    let begin = conditions_begin(card);
+    let place = match conditions_on(card) {
+        Some(conditions) if names(conditions.first, indicator) => 0,
+        Some(conditions) if names(conditions.second, indicator) => 3,
+        _ => 6,
+    };
+    let column = begin + place;
+    ColumnFault {
+        column,
+        last: column + 2,
+    }
+}
+
+/// The first card that asks for an indicator.
+pub(crate) fn first_asking(cards: &[SpecCard], indicator: u8) -> Option<&SpecCard>
+    ensures { option_copied result ≡ find (indicators.asks indicator) cards.now }
+{
+    for card in cards {
+        if asks(card, indicator) {
+            return Some(card);
+        }
+    }
+    None
+}

@@ -1,0 +1,137 @@
+//! W4: results that have fewer digits before their point than what they are made of.
+
+ghost use Rattle.std.specs.Prelude.{◌≡◌, ◌++◌, OnOk};
+ghost use Rattle.std.specs.List.{filter_map};
+ghost use Rattle.rpg_cli_warnings.specs.Digits as digits;
+
+use crate::warning::{Warning, WarningKind};
+use rpg_cards::{Defined, IndexedCards, SpecCard};
+use rpg_effect::form::{FieldForm, Kind};
+use rpg_sheet_specs::{CalculationSpec, ColumnFault, Entry, Factor, Operation};
+use std::alloc::AllocError;
+
+/// The columns of a result field.
+const RESULT: ColumnFault = ColumnFault {
+    column: 43,
+    last: 48,
+};
+
+/// How many digits a number has before its point.
+fn whole_digits(form: FieldForm) -> Option<u16>
+    ensures { result ≡ digits.whole_digits form }
+{
+    match form.kind {
+        Kind::Number => Some(form.length.saturating_sub(u16::from(form.decimals))),
+        Kind::Text => None,
+    }
+}
+
+fn digits_of(defined: Defined) -> Option<u16>
+    ensures { result ≡ digits.digits_of defined }
+{
+    match defined {
+        Defined::Good(form) => whole_digits(form),
+        Defined::Missing | Defined::Bad => None,
+    }
+}
+
+fn factor_digits(source: &IndexedCards, factor: &Option<Factor>) -> Option<u16>
+    ensures { result ≡ digits.factor_digits source.now factor.now }
+{
+    match factor {
+        None => None,
+        Some(factor) => digits_of(source.form_of_factor(factor)),
+    }
+}
+
+fn result_digits(source: &IndexedCards, result_field: &Option<Entry>) -> Option<u16>
+    ensures { result ≡ digits.result_digits source.now result_field.now }
+{
+    match result_field {
+        None => None,
+        Some(entry) => digits_of(source.form_of_name(&entry.name)),
+    }
+}
+
+fn greatest(a: Option<u16>, b: Option<u16>) -> Option<u16>
+    ensures { result ≡ digits.greatest a b }
+{
+    match (a, b) {
+        (Some(a), Some(b)) => Some(if a <= b { b } else { a }),
+        (Some(a), None) => Some(a),
+        (None, b) => b,
+    }
+}
+
+fn is_fraction(whole: Option<u16>) -> bool
+    ensures { result ≡ digits.is_fraction whole }
+{
+    match whole {
+        None => false,
+        Some(whole) => whole == 0,
+    }
+}
+
+/// How many digits the longer factor of a product has before its point: none where one of them is a fraction.
+fn product_digits(a: Option<u16>, b: Option<u16>) -> Option<u16>
+    ensures { result ≡ digits.product_digits a b }
+{
+    if is_fraction(a) || is_fraction(b) {
+        None
+    } else {
+        greatest(a, b)
+    }
+}
+
+/// How many digits a result should have before its point.
+fn wanted_digits(source: &IndexedCards, calculation: &CalculationSpec) -> Option<u16>
+    ensures { result ≡ digits.wanted_digits source.now calculation.now }
+{
+    let a = factor_digits(source, &calculation.factor_1);
+    let b = factor_digits(source, &calculation.factor_2);
+    match calculation.operation {
+        Some(Operation::Add | Operation::Subtract | Operation::ZeroAdd | Operation::ZeroSubtract) =>
+            greatest(a, b),
+        Some(Operation::Multiply) => product_digits(a, b),
+        _ => None,
+    }
+}
+
+fn shorter(wanted: Option<u16>, result_field: Option<u16>) -> Option<WarningKind>
+    ensures { result ≡ digits.shorter wanted result_field }
+{
+    match (wanted, result_field) {
+        (Some(factor), Some(result)) if result < factor => {
+            Some(WarningKind::Shorter { result, factor })
+        }
+        _ => None,
+    }
+}
+
+fn shorter_on(source: &IndexedCards, card: &SpecCard) -> Option<Warning>
+    ensures { result ≡ digits.shorter_on source.now card.now }
+{
+    let calculation = card.calculation()?;
+    let wanted = wanted_digits(source, calculation);
+    let kind = shorter(wanted, result_digits(source, &calculation.result_field))?;
+    Some(Warning {
+        card: card.number,
+        columns: RESULT,
+        kind,
+    })
+}
+
+/// Appends the warnings of results that are too short, in the order of their cards.
+pub(crate) fn put_shorter(
+    warnings: &mut Vec<Warning>,
+    source: &IndexedCards,
+) -> Result<(), AllocError>
+    ensures { OnOk result (warnings.new.items ≡ warnings.old.items ++ filter_map (digits.shorter_on source.now) source.now) }
+{
+    for card in source.as_slice() {
+        if let Some(warning) = shorter_on(source, card) {
+            warnings.push(warning)?;
+        }
+    }
+    Ok(())
+}

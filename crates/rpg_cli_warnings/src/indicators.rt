@@ -1,0 +1,77 @@
+//! W1 and W2: indicators that are asked and never turned on, or turned on and never asked.
+
+ghost use Rattle.std.specs.Prelude.{◌≡◌, ◌++◌, ◌≤◌, OnOk};
+ghost use Rattle.rpg_cli_warnings.specs.Indicators as indicators;
+
+use crate::asking::{asked_columns, first_asking};
+use crate::turning::{any_turns_on, first_showing, shown_columns};
+use crate::warning::{Warning, WarningKind};
+use rpg_cards::SpecCard;
+use std::alloc::AllocError;
+
+/// Whether nothing but a card turns an indicator on: 01 to 99, OA to OG, OV, and H1 to H9.
+fn is_of_cards(indicator: u8) -> bool
+    ensures { result ≡ indicators.is_of_cards indicator }
+{
+    indicator <= 99 || (112 <= indicator && indicator <= 128)
+}
+
+/// An indicator that is asked and never turned on, told at the first card that asks.
+fn never_on(cards: &[SpecCard], indicator: u8) -> Option<Warning>
+    ensures { result ≡ indicators.never_on indicator cards.now }
+{
+    if !is_of_cards(indicator) || any_turns_on(cards, indicator) {
+        return None;
+    }
+    match first_asking(cards, indicator) {
+        None => None,
+        Some(card) => Some(Warning {
+            card: card.number,
+            columns: asked_columns(card, indicator),
+            kind: WarningKind::NeverOn { indicator },
+        }),
+    }
+}
+
+/// An indicator from 01 to 99 that is turned on for others to ask, and never asked, told at the first card that turns it on.
+fn never_asked(cards: &[SpecCard], indicator: u8) -> Option<Warning>
+    ensures { result ≡ indicators.never_asked indicator cards.now }
+{
+    if indicator > 99 || first_asking(cards, indicator).is_some() {
+        return None;
+    }
+    match first_showing(cards, indicator) {
+        None => None,
+        Some(card) => Some(Warning {
+            card: card.number,
+            columns: shown_columns(card, indicator),
+            kind: WarningKind::NeverAsked { indicator },
+        }),
+    }
+}
+
+/// Appends a warning, if there is one.
+pub(crate) fn put(warnings: &mut Vec<Warning>, warning: Option<Warning>) -> Result<(), AllocError>
+    ensures { OnOk result (warnings.new.items ≡ warnings.old.items ++ indicators.listed warning) }
+{
+    if let Some(warning) = warning {
+        warnings.push(warning)?;
+    }
+    Ok(())
+}
+
+/// Appends the warnings of all indicators, in the order of their numbers.
+pub(crate) fn put_indicators(
+    warnings: &mut Vec<Warning>,
+    cards: &[SpecCard],
+) -> Result<(), AllocError>
+    ensures { OnOk result (warnings.new.items ≡ warnings.old.items ++ indicators.warnings_up_to 129 cards.now) }
+{
+    let mut last = 0u8;
+    while last < 129 {
+        last += 1;
+        put(warnings, never_on(cards, last))?;
+        put(warnings, never_asked(cards, last))?;
+    }
+    Ok(())
+}

@@ -1,0 +1,16 @@
+//! What a source without a fault is warned of: indicators that are asked and never turned on, or turned on and never asked, fields of a line over each other,
+//! and results that are shorter than what they are made of.
+#![tactic(auto)]
+
+mod asking;
+mod digits;
+mod indicators;
+mod messages;
+mod overlaps;
+mod turning;
+mod warning;
+mod warnings;
+
+pub use messages::warning_messages;
+pub use warning::{Warning, WarningCode, WarningKind};
+pub use warnings::source_warnings;

@@ -1,0 +1,110 @@
+//! W3: fields of a line over each other.
+
+ghost use Rattle.std.specs.Prelude.{◌≡◌, ◌++◌, OnOk, find};
+ghost use Rattle.rpg_cli_warnings.specs.Overlaps as overlaps;
+
+use crate::warning::{Warning, WarningKind};
+use rpg_cards::{IndexedCards, SpecCard};
+use rpg_faults_operands::width;
+use rpg_sheet_specs::{ColumnFault, OutputField};
+use std::alloc::AllocError;
+
+/// The columns of an end position.
+const END: ColumnFault = ColumnFault {
+    column: 40,
+    last: 43,
+};
+
+/// The places of a line that a card's field takes, from 1.
+#[derive(Clone, Copy)]
+pub struct Placed {
+    pub card: u16,
+    pub first: usize,
+    pub last: usize,
+}
+
+/// Whether a field is put out with each line: one with conditions may stand where another does.
+fn is_always_out(field: &OutputField) -> bool
+    ensures { result ≡ overlaps.is_always_out field.now }
+{
+    let conditions = field.conditions;
+    conditions.first.is_none() && conditions.second.is_none() && conditions.third.is_none()
+}
+
+fn placed_on(source: &IndexedCards, card: &SpecCard) -> Option<Placed>
+    ensures { result ≡ overlaps.placed_on source.now card.now }
+{
+    let field = card.output_field()?;
+    if !is_always_out(field) {
+        return None;
+    }
+    let width = width(source, field)?;
+    let last = usize::from(field.end);
+    Some(Placed {
+        card: card.number,
+        first: (last + 1).saturating_sub(width),
+        last,
+    })
+}
+
+fn meet(a: &Placed, b: &Placed) -> bool
+    ensures { result ≡ overlaps.meet a.now b.now }
+{
+    a.first <= b.last && b.first <= a.last
+}
+
+/// The first of these fields that has a place of another.
+fn first_below(placed: &[Placed], field: &Placed) -> Option<Placed>
+    ensures { result ≡ find (overlaps.meet field.now) placed.now }
+{
+    for below in placed {
+        if meet(field, below) {
+            return Some(*below);
+        }
+    }
+    None
+}
+
+/// Appends a warning where a field lies over another of its line, else notes the field's places.
+fn note(
+    warnings: &mut Vec<Warning>,
+    placed: &mut Vec<Placed>,
+    field: Placed,
+) -> Result<(), AllocError>
+    ensures warnings { OnOk result (warnings.new.items ≡ warnings.old.items ++ overlaps.warned placed.old.items field) }
+    ensures placed { OnOk result (placed.new.items ≡ overlaps.noted placed.old.items field) }
+{
+    match first_below(placed, &field) {
+        Some(below) => warnings.push(Warning {
+            card: field.card,
+            columns: END,
+            kind: WarningKind::Overlap {
+                first: field.first,
+                last: field.last,
+                card: below.card,
+            },
+        })?,
+        None => placed.push(field)?,
+    }
+    Ok(())
+}
+
+/// Appends the warnings of all lines, in the order of their cards. Fields that are noted lie beside each other, so there are no more of them than
+/// a line has places.
+pub(crate) fn put_overlaps(
+    warnings: &mut Vec<Warning>,
+    placed: &mut Vec<Placed>,
+    source: &IndexedCards,
+) -> Result<(), AllocError>
+    ensures { OnOk result (warnings.new.items ≡ warnings.old.items ++ overlaps.overlaps_from source.now placed.old.items source.now) }
+{
+    for card in source.as_slice() {
+        if card.line().is_some() {
+            placed.clear();
+        }
+        if let Some(field) = placed_on(source, card) {
+            note(warnings, placed, field)?;
+        }
+    }
+    Ok(())
+}

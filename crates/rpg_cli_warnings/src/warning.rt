@@ -1,0 +1,81 @@
+//! Warnings, and what they say.
+
+ghost use Rattle.std.specs.Prelude.{◌≡◌};
+ghost use Rattle.rpg_cli_warnings.specs.Warnings as warnings;
+
+use rpg_sheet_specs::ColumnFault;
+
+/// What a source is warned of.
+#[derive(Clone, Copy, PartialEq, Eq)]
+pub enum WarningCode {
+    W1,
+    W2,
+    W3,
+    W4,
+}
+
+impl WarningCode {
+    pub const fn text(self) -> &'static str {
+        match self {
+            WarningCode::W1 => "W1",
+            WarningCode::W2 => "W2",
+            WarningCode::W3 => "W3",
+            WarningCode::W4 => "W4",
+        }
+    }
+
+    /// What may be wrong, as a person reads it.
+    pub const fn sentence(self) -> &'static str {
+        match self {
+            WarningCode::W1 => "an indicator is asked for, and nothing turns it on",
+            WarningCode::W2 => "an indicator is turned on, and no card asks for it",
+            WarningCode::W3 => "a field lies over another of the same line",
+            WarningCode::W4 => "a result has fewer digits before its point than a factor",
+        }
+    }
+}
+
+/// Why a card is warned of.
+#[derive(Clone, Copy)]
+pub enum WarningKind {
+    /// It asks for an indicator that nothing turns on.
+    NeverOn {
+        indicator: u8,
+    },
+    /// It turns on an indicator that no card asks for.
+    NeverAsked {
+        indicator: u8,
+    },
+    /// Its field has these places of the line, of which another card's field has some.
+    Overlap {
+        first: usize,
+        last: usize,
+        card: u16,
+    },
+    /// Its result has so many digits before the point, and a factor more.
+    Shorter {
+        result: u16,
+        factor: u16,
+    },
+}
+
+impl WarningKind {
+    pub const fn code(self) -> WarningCode
+        ensures { result ≡ warnings.code self }
+    {
+        match self {
+            WarningKind::NeverOn { .. } => WarningCode::W1,
+            WarningKind::NeverAsked { .. } => WarningCode::W2,
+            WarningKind::Overlap { .. } => WarningCode::W3,
+            WarningKind::Shorter { .. } => WarningCode::W4,
+        }
+    }
+}
+
+/// A warning at columns of a card.
+#[derive(Clone, Copy)]
+pub struct Warning {
+    pub card: u16,
+    pub columns: ColumnFault,
+    pub kind: WarningKind,
+}
