@@ -7,7 +7,7 @@ ghost use Rattle.rpg_object_program.specs.Sections.{first_place, place_behind};
 ghost use Rattle.rpg_object_program.specs.declared.section.Section.TheVariants as sections;
 
 use rpg_effect::line::Time;
-use rpg_object_program::row::{Line, RecordType, Rows};
+use rpg_object_program::row::{Line, RecordType, Rows, Version};
 use rpg_object_program::section::{Place, Section};
 use rpg_verify::Verified;
 use std::alloc::{AllocError, Global};
@@ -144,12 +144,13 @@ impl Costs {
     }
 }
 
-/// The weight of a record type: its codes, control fields and input fields.
+/// The weight of a record type: its codes, control fields, input fields and match fields.
 fn type_weight(record_type: &RecordType) -> u64 {
     let codes = record_type.codes.len() as u64;
     codes
         .saturating_add(record_type.levels.len() as u64)
         .saturating_add(record_type.inputs.len() as u64)
+        .saturating_add(record_type.matches.len() as u64)
 }
 
 fn types_weight(rows: &Rows) -> u64 {
@@ -181,6 +182,16 @@ fn first_cost(costs: &Costs, place: usize, count: usize) -> u64 {
     if count == 0 { 0 } else { costs.at(place) }
 }
 
+/// What the steps for record types are for.
+fn types_words(version: Version) -> &'static str {
+    match version {
+        Version::One => "for codes, control fields and input fields of all record types",
+        Version::Two => {
+            "for codes, control fields, input fields and match fields of all record types"
+        }
+    }
+}
+
 /// Writes the bound and what it is made of.
 pub(crate) fn put_bound(
     out: &mut String,
@@ -207,11 +218,7 @@ pub(crate) fn put_bound(
         out,
         "  accepted, bound {bound}: a cycle takes at most so many steps, of these"
     )?;
-    put_part(
-        out,
-        types,
-        "for codes, control fields and input fields of all record types",
-    )?;
+    put_part(out, types, types_words(rows.version))?;
     put_part(
         out,
         lines,

@@ -2,10 +2,26 @@
 
 use crate::refusal::{Table, put_if_broken};
 use rpg_cli_show_fields::{Indicator, Layout};
-use rpg_object_program::row::Rows;
+use rpg_object_program::row::{Rows, Version};
 use rpg_verify::BrokenRule;
 use std::alloc::AllocError;
 use std::fmt::Write;
+
+fn version_number(version: Version) -> u8 {
+    match version {
+        Version::One => 1,
+        Version::Two => 2,
+    }
+}
+
+fn put_input(out: &mut String, rows: &Rows) -> Result<(), AllocError> {
+    let record = rows.record_length;
+    write!(out, "  input    records of {record} columns")?;
+    match rows.secondary_length {
+        0 => out.push('\n'),
+        secondary => writeln!(out, ", of the secondary file {secondary}"),
+    }
+}
 
 fn put_printer(out: &mut String, rows: &Rows) -> Result<(), AllocError> {
     let length = rows.printer_length;
@@ -57,10 +73,10 @@ pub(crate) fn put_header(
     broken: Option<BrokenRule>,
 ) -> Result<(), AllocError> {
     let bytes = layout.end;
-    let record = rows.record_length;
+    let version = version_number(rows.version);
     let allowance = rows.allowance;
-    writeln!(out, "object program, version 1, {bytes} bytes")?;
-    writeln!(out, "  input    records of {record} columns")?;
+    writeln!(out, "object program, version {version}, {bytes} bytes")?;
+    put_input(out, rows)?;
     put_printer(out, rows)?;
     put_if_broken(out, broken, Table::Header, 0)?;
     put_disk(out, rows)?;

@@ -1,9 +1,11 @@
-//! Record types, with their codes, control fields and input fields.
+//! Record types, with their codes, control fields, input fields and match fields.
 
 use crate::refusal::{Table, put_if_broken};
-use rpg_cli_show_fields::{CODE, INPUT, Indicator, LEVEL, TYPE, put_shown, quoted, type_bytes};
-use rpg_effect::input::{ControlField, InputField, RecordCode};
-use rpg_object_program::row::{RecordType, Rows};
+use rpg_cli_show_fields::{
+    CODE, INPUT, Indicator, LEVEL, put_shown, quoted, type_bytes, type_head_bytes,
+};
+use rpg_effect::input::{ControlField, InputField, InputFile, RecordCode};
+use rpg_object_program::row::{RecordType, Rows, Version};
 use rpg_verify::BrokenRule;
 use std::alloc::{AllocError, Global};
 use std::fmt::Write;
@@ -11,10 +13,14 @@ use std::fmt::Write;
 /// Which records are of the type, and what it turns on.
 fn put_head(out: &mut String, number: usize, record_type: &RecordType) -> Result<(), AllocError> {
     write!(out, "type {number}: ")?;
+    let of_file = match record_type.file {
+        InputFile::Primary => "",
+        InputFile::Secondary => " of the secondary file",
+    };
     if record_type.codes.is_empty() {
-        out.push_str("every record")?;
+        write!(out, "every record{of_file}")?;
     } else {
-        out.push_str("records with these codes")?;
+        write!(out, "records{of_file} with these codes")?;
     }
     match record_type.indicator {
         Some(number) => {
@@ -37,13 +43,29 @@ fn put_code(
     writeln!(out, "{at:>6}    column {position} {is} {character}")
 }
 
-fn put_level(out: &mut String, at: usize, control: ControlField) -> Result<(), AllocError> {
+/// What columns are a part of, with the letter of its levels.
+#[derive(Clone, Copy)]
+enum Joined {
+    Control,
+    Match,
+}
+
+fn put_level(
+    out: &mut String,
+    at: usize,
+    joined: Joined,
+    field: ControlField,
+) -> Result<(), AllocError> {
     let ControlField {
         level,
         is_numeric,
         from,
         to,
-    } = control;
+    } = field;
+    let part = match joined {
+        Joined::Control => "control field of L",
+        Joined::Match => "match field of M",
+    };
     let digits = if is_numeric {
         ", by its digits alone"
     } else {
@@ -51,7 +73,7 @@ fn put_level(out: &mut String, at: usize, control: ControlField) -> Result<(), A
     };
     writeln!(
         out,
-        "{at:>6}    columns {from}-{to} are a control field of L{level}{digits}"
+        "{at:>6}    columns {from}-{to} are a {part}{level}{digits}"
     )
 }
 
@@ -86,11 +108,12 @@ fn put_codes(
 fn put_levels(
     out: &mut String,
     begin: usize,
-    levels: &[ControlField],
+    joined: Joined,
+    fields: &[ControlField],
 ) -> Result<usize, AllocError> {
     let mut at = begin;
-    for level in levels {
-        put_level(out, at, *level)?;
+    for field in fields {
+        put_level(out, at, joined, *field)?;
         at = at.saturating_add(LEVEL);
     }
     Ok(at)
@@ -100,28 +123,31 @@ fn put_inputs(
     out: &mut String,
     begin: usize,
     inputs: &[InputField<u16>],
-) -> Result<(), AllocError> {
+) -> Result<usize, AllocError> {
     let mut at = begin;
     for input in inputs {
         put_input(out, at, *input)?;
         at = at.saturating_add(INPUT);
     }
-    Ok(())
+    Ok(at)
 }
 
 fn put_type(
     alloc: Global,
     out: &mut String,
     at: usize,
+    version: Version,
     number: usize,
     record_type: &RecordType,
 ) -> Result<(), AllocError> {
     write!(out, "{at:>6}  ")?;
     put_head(out, number, record_type)?;
-    let codes = at.saturating_add(TYPE);
+    let codes = at.saturating_add(type_head_bytes(version));
     let levels = put_codes(alloc, out, codes, &record_type.codes)?;
-    let inputs = put_levels(out, levels, &record_type.levels)?;
-    put_inputs(out, inputs, &record_type.inputs)
+    let inputs = put_levels(out, levels, Joined::Control, &record_type.levels)?;
+    let matches = put_inputs(out, inputs, &record_type.inputs)?;
+    put_levels(out, matches, Joined::Match, &record_type.matches)?;
+    Ok(())
 }
 
 /// Writes all record types, of which the first begins at a byte.
@@ -135,9 +161,9 @@ pub(crate) fn put_types(
     out.push_str("\n    at  RECORD TYPES\n")?;
     let mut at = begin;
     for (number, record_type) in rows.types.iter().enumerate() {
-        put_type(alloc, out, at, number, record_type)?;
+        put_type(alloc, out, at, rows.version, number, record_type)?;
         put_if_broken(out, broken, Table::Types, number)?;
-        at = at.saturating_add(type_bytes(record_type));
+        at = at.saturating_add(type_bytes(rows.version, record_type));
     }
     Ok(())
 }

@@ -9,12 +9,14 @@ use Rattle.rpg_effect.specs.Input.{TypeRow, record_in}
 use Rattle.rpg_effect.specs.Lines.{detail_output, overflow_output, total_output}
 use Rattle.rpg_effect.specs.declared.input.ControlField.{ControlField}
 use Rattle.rpg_effect.specs.declared.input.InputField.{InputField}
+use Rattle.rpg_effect.specs.declared.input.InputFile.{InputFile}
+use Rattle.rpg_effect.specs.declared.input.InputFile.TheVariants.{Primary}
 use Rattle.rpg_text.specs.Texts.{is_character}
 use Rattle.rpg_meaning.specs.Job.{Job, JobState}
 use Rattle.rpg_meaning.specs.Phases.{MeantPhase, any_on_in, by_effect, calculated, is_on_in, meant_does, meant_passes, meant_unless, with_turned, ◌andthen◌}
 use Rattle.rpg_meaning_calculations.specs.Parts.{InDetail, InTotal}
 use Rattle.rpg_cycle_records.specs.Earlier.{Selected, is_any, or_before}
-use Rattle.rpg_cycle_records.specs.Identifying.{code_holds}
+use Rattle.rpg_cycle_records.specs.Identifying.{code_holds, same_file}
 use Rattle.rpg_cycle_records.specs.Levels.{differs, highest_broken, level_bytes}
 
 module _ (job : Job) where
@@ -70,10 +72,10 @@ module _ (job : Job) where
   abbrev pub meant_padded : List ℕ → List ℕ
   meant_padded text = text ++ replicate (job.record_length - length text) 32
 
-  -- the first type all of whose codes hold; the first of these has that number
-  abbrev pub type_of_text : List ℕ → ℕ → List (TypeRow Key) → Option ℕ
-  type_of_text text n [] = None
-  type_of_text text n (t ∷ ts) = if list_all (code_holds text) t.codes then Some n else type_of_text text (n + 1) ts
+  -- the first type of that file all of whose codes hold; the first of these has that number
+  abbrev pub type_of_text : InputFile → List ℕ → ℕ → List (TypeRow Key) → Option ℕ
+  type_of_text f text n [] = None
+  type_of_text f text n (t ∷ ts) = if same_file t.file f && list_all (code_holds text) t.codes then Some n else type_of_text f text (n + 1) ts
 
   -- its indicator goes on, and so do L1 to the highest level that it breaks
   abbrev pub with_selected : List Selected → Selected → JobState → JobState
@@ -87,7 +89,7 @@ module _ (job : Job) where
   -- a bad record is halt 7; where there is none LR and L1 to L9 go on
   abbrev pub read : List Selected → Option (List ℕ) → JobState → PhaseEnd × JobState
   read earlier None s = (GoesOn, with_turned (last_record ∷ level_indicators) true s)
-  read earlier (Some text) s = if is_good_text text then type_taken earlier (meant_padded text) (type_of_text (meant_padded text) 0 job.types) s else (Halt 7, s)
+  read earlier (Some text) s = if is_good_text text then type_taken earlier (meant_padded text) (type_of_text Primary (meant_padded text) 0 job.types) s else (Halt 7, s)
 
   -- where LR is on no record is read, and L1 to L9 go on
   abbrev pub meant_select_record : List Selected → Option (List ℕ) → MeantPhase
