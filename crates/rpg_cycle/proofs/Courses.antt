@@ -7,6 +7,7 @@ use Rattle.rpg_effect.proofs.Putting.{end_from-lines}
 use Rattle.rpg_effect.specs.Put.{Bytes, line_of, with_output}
 use Rattle.rpg_cycle.proofs.Composing.{output_both, output_none}
 use Rattle.rpg_cycle.proofs.Ending.{never_on}
+use Rattle.rpg_cycle.proofs.JobCycles.{cycles_behind}
 use Rattle.rpg_cycle_records.specs.Earlier.{Selected, left_by, with_record}
 use Rattle.rpg_cycle.specs.Ends.{PhaseEnd, GoesOn, EndOfJob, Halt, Wrong}
 use Rattle.rpg_cycle.specs.Job.{AtWork, Cycles, DoesCycle, feed_at, with_feed}
@@ -117,7 +118,7 @@ more_done old mid new records rest text cycles most greater u d g =
 pub one_more : (old mid new : AtWork) (records rest : List (List ℕ)) (text : List ℕ) (cycles most greater : ℕ) → IsUnderWay old records mid (text ∷ rest) cycles most →
     Cycles mid (Some text) new → Going ≡ new.stage → greater ≡ max most new.config.steps → IsUnderWay old records new rest (cycles + 1) greater
 one_more old mid new records rest text cycles most greater u h s g =
-    let d = h u.earlier u.left (last_position_from None u.out.lines) u.last in
+    let d = cycles_behind mid new (Some text) h u.earlier u.left (last_position_from None u.out.lines) u.last in
     more_done old mid new records rest text cycles most greater u
     (subst (λ (e : PhaseEnd). DoesCycle mid u.earlier (last_position_from None u.out.lines) (Some text) e new) (went d.0 (sym d.1.stage ∙ sym s)) d.1) g
 
@@ -166,7 +167,7 @@ pub ends_at_record : (old mid new : AtWork) (records rest : List (List ℕ)) (te
     Cycles mid (Some text) new → Ended (job_end e) ≡ new.stage → s ≡ record { ending = e; cycles = cycles + 1; most = max most new.config.steps } → RunsRecords old records s new
 ends_at_record old mid new records rest text cycles most e s u h g is =
     let q = last_position_from None u.out.lines in
-    let x = h u.earlier u.left q u.last in
+    let x = cycles_behind mid new (Some text) h u.earlier u.left q u.last in
     let d : DoesCycle mid u.earlier q (Some text) (job_end e) new = subst (λ (y : PhaseEnd). DoesCycle mid u.earlier q (Some text) y new) (was_ended x.0 (job_end e) (sym x.1.stage ∙ sym g)) x.1 in
     ends_by old mid new records (text ∷ rest) (Some text) cycles most e s u d (job_end e, d.there, d.out, d.cycle, ends_here e d.there d.out _) is
 
@@ -175,7 +176,7 @@ pub ends_at_file : (old mid new : AtWork) (records : List (List ℕ)) (cycles mo
     Cycles mid None new → Ended (job_end e) ≡ new.stage → s ≡ record { ending = e; cycles = cycles + 1; most = max most new.config.steps } → RunsRecords old records s new
 ends_at_file old mid new records cycles most e s u h g is =
     let q = last_position_from None u.out.lines in
-    let x = h u.earlier u.left q u.last in
+    let x = cycles_behind mid new None h u.earlier u.left q u.last in
     let d : DoesCycle mid u.earlier q None (job_end e) new = subst (λ (y : PhaseEnd). DoesCycle mid u.earlier q None y new) (was_ended x.0 (job_end e) (sym x.1.stage ∙ sym g)) x.1 in
     ends_by old mid new records [] None cycles most e s u d (job_end e, d.there, d.out, d.cycle, ends_here e d.there d.out _) is
 
@@ -183,7 +184,7 @@ ends_at_file old mid new records cycles most e s u h g is =
 pub never_going : (old mid new : AtWork) (records : List (List ℕ)) (cycles most : ℕ) → IsUnderWay old records mid [] cycles most → Cycles mid None new → Going ≡ new.stage → ⊥
 never_going old mid new records cycles most u h s =
     let q = last_position_from None u.out.lines in
-    let x = h u.earlier u.left q u.last in
+    let x = cycles_behind mid new None h u.earlier u.left q u.last in
     let d : DoesCycle mid u.earlier q None GoesOn new = subst (λ (y : PhaseEnd). DoesCycle mid u.earlier q None y new) (went x.0 (sym x.1.stage ∙ sym s)) x.1 in
     never_on mid.program (left_by mid.program u.earlier) (config_on q mid.config) d.there d.out d.cycle
 
@@ -191,7 +192,7 @@ never_going old mid new records cycles most u h s =
 pub still_low : (old mid new : AtWork) (records rest : List (List ℕ)) (now : Option (List ℕ)) (cycles most : ℕ) → IsUnderWay old records mid rest cycles most → Cycles mid now new → new.config.steps ≤ bound new.program →
     new.config.steps ≤ bound old.program
 still_low old mid new records rest now cycles most u h few =
-    subst (λ (p : Object). new.config.steps ≤ bound p) ((h u.earlier u.left (last_position_from None u.out.lines) u.last).1.program ∙ u.program) few
+    subst (λ (p : Object). new.config.steps ≤ bound p) ((h.does (last_position_from None u.out.lines) u.last).1.program ∙ u.program) few
 
 -- ---- the records that are left
 

@@ -5,7 +5,7 @@ use Rattle.rpg_effect.specs.Put.{Bytes, line_of, with_output}
 use Rattle.rpg_cycle.specs.Doing.{Does, under_way}
 use Rattle.rpg_cycle_records.specs.Earlier.{Left, Selected, left_by, with_record}
 use Rattle.rpg_cycle.specs.Ends.{GoesOn, PhaseEnd}
-use Rattle.rpg_cycle.specs.Job.{AtWork, DoesCycle, feed_at, with_feed}
+use Rattle.rpg_cycle.specs.Job.{AtWork, Cycles, DoesCycle, IsLeft, feed_at, with_feed}
 use Rattle.rpg_cycle_records.specs.Keeping.{noted, renewed_by, selected_as}
 use Rattle.rpg_cycle.specs.Phases.{Cycle, CycleOn, UnderWay, begun}
 use Rattle.rpg_cycle.specs.Stages.{Ended, Going, Stage, job_end, stage_at}
@@ -23,6 +23,39 @@ job p m left stage = record { program = p; config = m.config; last = m.last; out
 pub leaves : (p : Object) (earlier : List Selected) (t : Option ℕ) (text : List ℕ) → noted p t (renewed_by p t text (left_by p earlier)) ≡ left_by p (with_record (selected_as t text) earlier)
 leaves p earlier None text = refl
 leaves p earlier (Some t) text = refl
+
+-- records that leave the same leave the same with one more
+same_with : (p : Object) (s : Option Selected) (a b : List Selected) → left_by p a ≡ left_by p b → left_by p (with_record s a) ≡ left_by p (with_record s b)
+same_with p None a b h = h
+same_with p (Some s) a b h = sym (leaves p a (Some s.type) s.text) ∙ ap (λ (l : Left). noted p (Some s.type) (renewed_by p (Some s.type) s.text l)) h ∙ leaves p b (Some s.type) s.text
+
+-- a cycle is the same behind all records that leave the same
+pub does_behind : (old new : AtWork) (a b : List Selected) (previous : Option Position) (next : Option (List ℕ)) (e : PhaseEnd) → left_by old.program a ≡ left_by old.program b → DoesCycle old a previous next e new → DoesCycle old b previous next e new
+does_behind old new a b previous next e same d = record {
+  stage = d.stage;
+  program = d.program;
+  there = d.there;
+  out = d.out;
+  cycle = subst (λ (l : Left). CycleOn old.program l next (begun old.program (config_on previous old.config)) e d.there d.out) same d.cycle;
+  config = d.config;
+  left = λ on. d.left on ∙ same_with old.program d.there.selected a b same;
+  last = d.last;
+  bytes = d.bytes;
+}
+
+-- behind all that leave what the job keeps
+pub cycles_behind : (old new : AtWork) (next : Option (List ℕ)) → Cycles old next new → (earlier : List Selected) → old.left ≡ left_by old.program earlier →
+    (previous : Option Position) → old.last ≡ line_of previous → (e : PhaseEnd) × DoesCycle old earlier previous next e new
+cycles_behind old new next c earlier is previous placed =
+    let d = c.does previous placed in
+    (d.0, does_behind old new c.behind.earlier earlier previous next d.0 (sym c.behind.leave ∙ is) d.1)
+
+-- a record that was selected is one more of those that left what is kept
+pub one_more_left : (p : Object) (t : Option ℕ) (text : List ℕ) (left now : Left) → IsLeft p left → now ≡ noted p t (renewed_by p t text left) → IsLeft p now
+one_more_left p t text left now h is = record {
+  earlier = with_record (selected_as t text) h.earlier;
+  leave = is ∙ ap (λ (l : Left). noted p t (renewed_by p t text l)) h.leave ∙ leaves p h.earlier t text;
+}
 
 -- the cycle that a machine did, behind the records that left this
 cycle_of : (p : Object) (earlier : List Selected) (previous : Option Position) (next : Option (List ℕ)) (m b : Running) (left : Left) (e : PhaseEnd) (s : Option Selected) (out : Output) (d : UnderWay) →

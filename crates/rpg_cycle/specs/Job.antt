@@ -1,5 +1,5 @@
 -- What a job is to its callers. Of the lines before it remembers only which was placed last, as the machine does.
-use Rattle.std.specs.Prelude.{◌≡◌, ℕ, ℤ, ◌++◌, ◌≤◌, Bool, true, false, ◌&&◌, List, [], Option, None, Some, length}
+use Rattle.std.specs.Prelude.{◌≡◌, ℕ, ℤ, ◌++◌, ◌≤◌, Bool, true, false, ◌&&◌, List, [], Option, None, Some}
 use Rattle.std.specs.Ordering.{nat_cmp}
 use Rattle.rpg_paper.specs.Paper.{Position, last_position_from}
 use Rattle.rpg_effect.specs.Put.{Bytes, line_of, with_output}
@@ -53,6 +53,11 @@ first_fields p = record { values = first_contents p; current = first_currents p 
 
 -- ---- a cycle
 
+-- earlier records, the last of them first, left this
+pub record IsLeft (p : Object) (left : Left) : Type 0 where
+  pub earlier : List Selected
+  pub leave : left ≡ left_by p earlier
+
 -- where the job ends, so does the last line
 abbrev pub feed_at : Stage → Option ℕ → List ℕ
 feed_at Going last = []
@@ -75,11 +80,10 @@ pub record DoesCycle (old : AtWork) (earlier : List Selected) (previous : Option
   pub last : new.last ≡ line_of (last_position_from previous out.lines)
   pub bytes : new.output ≡ with_feed (feed_at (stage_at e) new.last) (with_output previous out.lines out.records old.output)
 
--- what a cycle did, whatever the earlier records were that left what the job keeps, and whatever was placed before
-abbrev pub Cycles : AtWork → Option (List ℕ) → AtWork → Type 0
-Cycles old next new =
-    (earlier : List Selected) → old.left ≡ left_by old.program earlier → (previous : Option Position) → old.last ≡ line_of previous
-    → (e : PhaseEnd) × DoesCycle old earlier previous next e new
+-- A cycle behind the earlier records that left what the job keeps, whatever was placed before. It is the same behind all that leave this.
+pub record Cycles (old : AtWork) (next : Option (List ℕ)) (new : AtWork) : Type 0 where
+  pub behind : IsLeft old.program old.left
+  pub does : (previous : Option Position) → old.last ≡ line_of previous → (e : PhaseEnd) × DoesCycle old behind.earlier previous next e new
 
 -- the next cycle takes a record: the job goes on, and neither LR nor one of H1 to H9 is on
 abbrev pub job_needs_record : AtWork → Bool
@@ -95,9 +99,9 @@ job_taken j = record j { output = no_bytes }
 
 -- ---- what a job keeps
 
--- while it goes on its machine runs its program and is ready, and there are nine levels; the steps are in their bound
+-- while it goes on its machine runs its program and is ready, and earlier records left what is kept of them; the steps are in their bound
 pub record IsAtWork (p : Object) (machine : Running) (stage : Stage) (left : Left) : Type 0 where
   pub program : is_going stage ≡ true → machine.program ≡ p
   pub ready : is_going stage ≡ true → IsReady machine
-  pub levels : is_going stage ≡ true → length left.bytes ≡ 9
+  pub behind : is_going stage ≡ true → IsLeft p left
   pub few : has_failed stage ≡ false → machine.config.steps ≤ bound p

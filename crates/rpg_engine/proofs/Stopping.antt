@@ -32,7 +32,7 @@ use Rattle.rpg_engine.specs.declared.fault.RunFault.TheVariants as faults
 use Rattle.rpg_engine.proofs.Bytes.{BeginsWith, disk_goes_on, front_sent, part_sent, print_ends, printed_begins, printed_so_far, stored_begins, stored_so_far}
 use Rattle.rpg_engine.proofs.Courses.{GoesOnWith, IsLast, behind, begins_with, ends}
 use Rattle.rpg_engine.proofs.Streams.{Streams, is_last, output_is, reads_on, steps_are, stream_steps, was_ended}
-use Rattle.rpg_engine.proofs.Taking.{stands_still, told_of}
+use Rattle.rpg_engine.proofs.Taking.{stands_still, takes_behind, told_of}
 
 -- ---- the start
 
@@ -51,7 +51,7 @@ pub stream_reports : {R : Type 0} (remaining : R → Option (List ℕ)) (first j
     → most_steps ≡ bound first.program → greater ≤ most_steps → place ≡ running_place mid.program mid.config → (day : ℤ) → IsStart first day
     → OfInput given (remaining (device_of (reader_of reader'))) (Reports first.program day (record { ending = j; cycles = cycles + 1; most = greater; bound = most_steps; place = place }) print print'' disk disk'')
 stream_reports remaining first job mid given reader reader' cycles most greater print print' print'' disk disk' disk'' gone_print gone_disk most_steps j place s takes stage most_is sent_print sent_disk bounded few stands day is =
-    let took = takes.does s.earlier s.left (last_position s.out.lines) s.last in
+    let took = takes_behind remaining job mid reader reader' takes s.earlier s.left (last_position s.out.lines) s.last in
     let e = took.0 in
     let t = took.1 in
     let does = t.does in
@@ -200,7 +200,7 @@ pub stopped_sending : {R : Type 0} (remaining : R → Option (List ℕ)) (first 
     → SendsSome fault gone_print gone_disk print' print'' disk' disk'' mid.output.print mid.output.disk
     → (day : ℤ) → IsStart first day → OfInput given (remaining (device_of (reader_of reader'))) (SendsFirstParts first.program day fault print print'' disk disk'')
 stopped_sending remaining first job mid given reader reader' cycles most print print' print'' disk disk' disk'' gone_print gone_disk fault s takes some day is =
-    let took = takes.does s.earlier s.left (last_position s.out.lines) s.last in
+    let took = takes_behind remaining job mid reader reader' takes s.earlier s.left (last_position s.out.lines) s.last in
     let e = took.0 in
     let t = took.1 in
     let does = t.does in

@@ -24,6 +24,7 @@ use Rattle.rpg_verify.specs.Bound.{bound}
 use Rattle.rpg_engine.specs.Streaming.{HeadCycle, TakesCycle, TakesNext, ended_stage}
 use Rattle.rpg_engine.proofs.Bytes.{disk_goes_on, print_goes_on, put_by}
 use Rattle.rpg_engine.proofs.Courses.{IsLast, IsUnderWay, begins, one_more}
+use Rattle.rpg_engine.proofs.Taking.{takes_behind}
 
 -- ---- how a cycle ended, by the stage that it led to
 
@@ -182,10 +183,10 @@ pub record HasGoneOn {R : Type 0} (job mid : AtWork) (reader reader' : RecordRea
   pub count : count_of reader' ≡ count_of reader + 1
   pub still : is_record (answer_of reader') ≡ true
 
-pub has_gone_on : {R : Type 0} (remaining : R → Option (List ℕ)) (job mid : AtWork) (reader reader' : RecordReader R) (earlier : List Selected) (previous : Option Position)
-    → job.left ≡ left_by job.program earlier → job.last ≡ line_of previous → TakesCycle remaining job reader mid reader' → mid.stage ≡ ended_stage None → HasGoneOn job mid reader reader'
-has_gone_on remaining job mid reader reader' earlier previous left last takes stage =
-    let took = takes.does earlier left previous last in
+pub has_gone_on : {R : Type 0} (remaining : R → Option (List ℕ)) (job mid : AtWork) (reader reader' : RecordReader R) (previous : Option Position)
+    → job.last ≡ line_of previous → TakesCycle remaining job reader mid reader' → mid.stage ≡ ended_stage None → HasGoneOn job mid reader reader'
+has_gone_on remaining job mid reader reader' previous last takes stage =
+    let took = takes.does previous last in
     let on : took.0 ≡ GoesOn = went took.0 (sym took.1.does.stage ∙ stage) in
     record { program = took.1.does.program; limit = took.1.limit; few = took.1.few on; count = took.1.count on; still = took.1.still on }
 
@@ -196,7 +197,7 @@ pub stream_on : {R : Type 0} (remaining : R → Option (List ℕ)) (first job mi
     → gone_print' ≡ gone_print + length mid.output.print → gone_disk' ≡ gone_disk + length mid.output.disk
     → Streams remaining first given (job_taken mid) reader' (cycles + 1) greater print print'' disk disk'' gone_print' gone_disk'
 stream_on remaining first job mid given reader reader' cycles most greater print print' print'' disk disk' disk'' gone_print gone_disk gone_print' gone_disk' s takes stage most_is sent_print sent_disk print_more disk_more =
-    let took = takes.does s.earlier s.left (last_position s.out.lines) s.last in
+    let took = takes_behind remaining job mid reader reader' takes s.earlier s.left (last_position s.out.lines) s.last in
     stream_goes_on remaining first job mid given reader reader' cycles most greater print print' print'' disk disk' disk'' gone_print gone_disk gone_print' gone_disk' took.0 s took.1
     (went took.0 (sym took.1.does.stage ∙ stage)) most_is sent_print sent_disk print_more disk_more
 
@@ -205,6 +206,6 @@ pub stays_bounded : {R : Type 0} (remaining : R → Option (List ℕ)) (first jo
     → Streams remaining first given job reader cycles most print print' disk disk' gone_print gone_disk → TakesCycle remaining job reader mid reader'
     → most ≤ bound first.program → mid.config.steps ≤ bound mid.program → max most mid.config.steps ≤ bound first.program
 stays_bounded remaining first job mid given reader reader' cycles most print print' disk disk' gone_print gone_disk s takes before now =
-    let took = takes.does s.earlier s.left (last_position s.out.lines) s.last in
+    let took = takes.does (last_position s.out.lines) s.last in
     let same : bound mid.program ≡ bound first.program = ap bound (took.1.does.program ∙ s.program) in
     omega (arith, same)

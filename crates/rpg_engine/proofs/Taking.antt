@@ -1,24 +1,27 @@
 -- A cycle with what a reader of records found.
-use Rattle.std.proofs.Common.{◌≡◌, ℕ, false, List, [], ◌∷◌, ◌++◌, Option, Some, None, Result, Ok, Err, IfOk, OnOk, refl, sym, ap, subst}
+use Rattle.std.proofs.Common.{◌≡◌, ℕ, false, List, [], ◌∷◌, ◌++◌, Option, Some, None, Result, Ok, Err, IfOk, OnOk, refl, sym, ap, ◌∙◌, subst}
 use Rattle.std.proofs.KnownBytes.{Consumes-nil}
 use Rattle.std.proofs.lemmas.Bool.{and_right}
-use Rattle.rpg_cycle_records.specs.Earlier.{Selected, left_by}
+use Rattle.rpg_cycle_records.specs.Earlier.{Left, Selected, left_by, with_record}
 use Rattle.rpg_cycle.specs.Ends.{GoesOn, PhaseEnd}
 use Rattle.rpg_cycle_records.specs.Identifying.{is_good_record}
+use Rattle.rpg_cycle_records.specs.Keeping.{renewed_by, noted}
 use Rattle.rpg_effect.specs.declared.input.InputFile.TheVariants.{Primary}
 use Rattle.rpg_cycle.specs.Job.{AtWork, Cycles}
-use Rattle.rpg_cycle.specs.Phases.{Cycle, UnderWay, begun, needs_record}
+use Rattle.rpg_cycle.specs.Phases.{Cycle, CycleOn, UnderWay, begun, needs_record}
+use Rattle.rpg_effect.specs.Put.{line_of}
 use Rattle.rpg_paper.specs.Paper.{Position}
 use Rattle.rpg_files.specs.Reading.{Advances, GivesNext, Input, ReadsNext, answer_of, count_of, input_of, is_record, limit_of, record_of}
 use Rattle.rpg_files.specs.Records.{records}
 use Rattle.rpg_files.specs.declared.reader.Next.TheVariants as next
 use Rattle.rpg_files.specs.declared.reader.RecordReader.{RecordReader}
-use Rattle.rpg_machine.specs.Config.{Output}
+use Rattle.rpg_machine.specs.Config.{Config, Output}
 use Rattle.rpg_machine.specs.Running.{config_on}
 use Rattle.rpg_object_program.specs.Kept.{IsProgram}
 use Rattle.rpg_object_program.specs.Object.{Object}
-use Rattle.rpg_engine.specs.Streaming.{HeadCycle, TakesCycle}
+use Rattle.rpg_engine.specs.Streaming.{HeadCycle, TakesCycle, TakesNext}
 use Rattle.rpg_engine.proofs.Passing.{bad_are_one, bad_stops, never_on}
+use Rattle.rpg_cycle.proofs.JobCycles.{leaves}
 use Rattle.rpg_cycle.proofs.Unneeded.{unneeded}
 
 pub on_ok : {X E : Type 0} (r : Result X E) (P : X → Type 0) (Q : Type 0) → ((x : X) → P x → Q) → IfOk r P → OnOk r Q
@@ -65,8 +68,10 @@ not_bad job earlier previous r e d out bad cycle on =
 pub takes_record : {R : Type 0} (remaining : R → Option (List ℕ)) (job job' : AtWork) (old new : RecordReader R) → ReadsNext remaining old (Ok next.Record) new → answer_of new ≡ Ok next.Record
     → Cycles job (Some (record_of new)) job' → TakesCycle remaining job old job' new
 takes_record remaining job job' old new reads answer cycles = record {
-  does = λ earlier left previous last.
-      let went = cycles earlier left previous last in
+  behind = cycles.behind;
+  does = λ previous last.
+      let earlier = cycles.behind.earlier in
+      let went = cycles.does previous last in
       let does = went.1 in (
         went.0,
         record {
@@ -95,8 +100,10 @@ ends_with : {R : Type 0} (remaining : R → Option (List ℕ)) (job job' : AtWor
     → ((earlier : List Selected) (previous : Option Position) (e : PhaseEnd) (d : UnderWay) (out : Output) → Does job earlier previous with_next e d out → EndsWith remaining job old earlier previous e d out new)
     → TakesCycle remaining job old job' new
 ends_with remaining job job' old new with_next limit cycles ends = record {
-  does = λ earlier left previous last.
-      let went = cycles earlier left previous last in
+  behind = cycles.behind;
+  does = λ previous last.
+      let earlier = cycles.behind.earlier in
+      let went = cycles.does previous last in
       let does = went.1 in
       let is = ends earlier previous went.0 does.there does.out does.cycle in (
         went.0,
@@ -159,4 +166,48 @@ takes_no_record remaining job job' reader program needs cycles = ends_with remai
     with_any earlier previous e d out (r ∷ rs) cycle = (
       unneeded job.program earlier (config_on previous job.config) None (Some r) e d out program needs cycle,
       λ on. absurd (not_at_end job earlier previous e d out cycle on),
+    )
+
+-- ---- behind all records that leave what the job keeps
+
+left_with : (p : Object) (s : Option Selected) (a b : List Selected) → left_by p a ≡ left_by p b → left_by p (with_record s a) ≡ left_by p (with_record s b)
+left_with p None a b h = h
+left_with p (Some s) a b h = sym (leaves p a (Some s.type) s.text) ∙ ap (λ (l : Left). noted p (Some s.type) (renewed_by p (Some s.type) s.text l)) h ∙ leaves p b (Some s.type) s.text
+
+head_behind : (p : Object) (a b : List Selected) (c : Config) (e : PhaseEnd) (d : UnderWay) (out : Output) (rs after : List (List ℕ)) → left_by p a ≡ left_by p b
+    → HeadCycle p a c e d out rs after → HeadCycle p b c e d out rs after
+head_behind p a b c e d out [] after same h = subst (λ (l : Left). CycleOn p l None (begun p c) e d out) same h
+head_behind p a b c e d out (r ∷ rs) after same h = (subst (λ (l : Left). CycleOn p l (Some r) (begun p c) e d out) same h.0, h.1)
+
+pub takes_behind : {R : Type 0} (remaining : R → Option (List ℕ)) (job job' : AtWork) (reader reader' : RecordReader R) → TakesCycle remaining job reader job' reader'
+    → (earlier : List Selected) → job.left ≡ left_by job.program earlier → (previous : Option Position) → job.last ≡ line_of previous
+    → (e : PhaseEnd) × TakesNext remaining earlier previous job reader e job' reader'
+takes_behind remaining job job' reader reader' takes earlier is previous placed =
+    let some = takes.behind.earlier in
+    let same : left_by job.program some ≡ left_by job.program earlier = sym takes.behind.leave ∙ is in
+    let went = takes.does previous placed in
+    let does = went.1.does in (
+      went.0,
+      record {
+        next = went.1.next;
+        does = record {
+          stage = does.stage;
+          program = does.program;
+          there = does.there;
+          out = does.out;
+          cycle = subst (λ (l : Left). CycleOn job.program l went.1.next (begun job.program (config_on previous job.config)) went.0 does.there does.out) same does.cycle;
+          config = does.config;
+          left = λ on. does.left on ∙ left_with job.program does.there.selected some earlier same;
+          last = does.last;
+          bytes = does.bytes;
+        };
+        input = told_of (input_of remaining reader) (input_of remaining reader')
+            (λ x y. HeadCycle job.program some (config_on previous job.config) went.0 does.there does.out (records x) (records y))
+            (λ x y. HeadCycle job.program earlier (config_on previous job.config) went.0 does.there does.out (records x) (records y))
+            (λ x y. head_behind job.program some earlier (config_on previous job.config) went.0 does.there does.out (records x) (records y) same) went.1.input;
+        limit = went.1.limit;
+        few = went.1.few;
+        count = went.1.count;
+        still = went.1.still;
+      },
     )

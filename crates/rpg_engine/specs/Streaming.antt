@@ -1,9 +1,9 @@
 -- What is done with an input a cycle at a time, and what is sent of a cycle's output.
 use Rattle.std.specs.Prelude.{◌≡◌, ℕ, ◌+◌, ◌<◌, ◌⊎◌, true, List, [], ◌∷◌, Option, None, Some, Result, Ok, Err}
 use Rattle.std.specs.Io.KnownBytes.{Appends}
-use Rattle.rpg_cycle_records.specs.Earlier.{Selected, left_by}
+use Rattle.rpg_cycle_records.specs.Earlier.{Selected}
 use Rattle.rpg_cycle.specs.Ends.{GoesOn, PhaseEnd}
-use Rattle.rpg_cycle.specs.Job.{AtWork, DoesCycle}
+use Rattle.rpg_cycle.specs.Job.{AtWork, DoesCycle, IsLeft}
 use Rattle.rpg_cycle.specs.Phases.{Cycle, UnderWay, begun}
 use Rattle.rpg_cycle.specs.Stages.{Ended, Going, Stage, job_end}
 use Rattle.rpg_cycle.specs.declared.ends.JobEnd.{JobEnd}
@@ -46,11 +46,11 @@ pub record TakesNext {R : Type 0} (remaining : R → Option (List ℕ)) (earlier
   pub count : e ≡ GoesOn → count_of reader' ≡ count_of reader + 1
   pub still : e ≡ GoesOn → is_record (answer_of reader') ≡ true
 
--- the same, whatever the earlier records were and whatever was placed before
+-- the same behind the earlier records that left what the job keeps, whatever was placed before
 pub record TakesCycle {R : Type 0} (remaining : R → Option (List ℕ)) (job : AtWork) (reader : RecordReader R) (job' : AtWork)
     (reader' : RecordReader R) : Type 0 where
-  pub does : (earlier : List Selected) → job.left ≡ left_by job.program earlier → (previous : Option Position) → job.last ≡ line_of previous
-      → (e : PhaseEnd) × TakesNext remaining earlier previous job reader e job' reader'
+  pub behind : IsLeft job.program job.left
+  pub does : (previous : Option Position) → job.last ≡ line_of previous → (e : PhaseEnd) × TakesNext remaining behind.earlier previous job reader e job' reader'
 
 -- no cycle was done: the reader failed, or memory ran out, before or after it was asked
 abbrev pub TakesNone : {R : Type 0} → (R → Option (List ℕ)) → RecordReader R → RunFault → RecordReader R → Type 0

@@ -72,7 +72,7 @@ cycles-preserved g c =
     let most = c.max-most.ensures ∙ ap (max c.cycles.most) c.steps.ensures in
     let few = stays_bounded g.R.Read.remaining c.args.job.now c.cycles.job c.next_cycle.new.job _ c.cycles.records c.next_cycle.new.records c.cycles.cycles c.cycles.most _ _ _ _ c.cycles.sent.print c.cycles.sent.disk
     streams c.in_ok-ended.ensures.cycle c.cycles.invariant.bounded c.in_ok-ended.ensures.bound in
-    let on = has_gone_on g.R.Read.remaining c.cycles.job c.next_cycle.new.job c.cycles.records c.next_cycle.new.records streams.earlier (last_position streams.out.lines) streams.left streams.last c.in_ok-ended.ensures.cycle stage in
+    let on = has_gone_on g.R.Read.remaining c.cycles.job c.next_cycle.new.job c.cycles.records c.next_cycle.new.records (last_position streams.out.lines) streams.last c.in_ok-ended.ensures.cycle stage in
     record {
       streams = rw c.clear_output.ensures (stream_on g.R.Read.remaining c.args.job.now c.cycles.job c.next_cycle.new.job _ c.cycles.records c.next_cycle.new.records c.cycles.cycles c.cycles.most c.max-most.result
           _ _ _ _ _ _ c.cycles.sent.print c.cycles.sent.disk c.send_output.new.sent.print c.send_output.new.sent.disk
@@ -97,7 +97,7 @@ pub cycles-smaller : goal.cycles-smaller
 cycles-smaller g c =
     let streams = c.cycles.invariant.streams in
     let stage = c.in_ok-ended.ensures.told ∙ ap ended_stage c.in_default.is in
-    let on = has_gone_on g.R.Read.remaining c.cycles.job c.next_cycle.new.job c.cycles.records c.next_cycle.new.records streams.earlier (last_position streams.out.lines) streams.left streams.last c.in_ok-ended.ensures.cycle stage in
+    let on = has_gone_on g.R.Read.remaining c.cycles.job c.next_cycle.new.job c.cycles.records c.next_cycle.new.records (last_position streams.out.lines) streams.last c.in_ok-ended.ensures.cycle stage in
     omega (arith, on.count, on.few)
 
 pub returns-in_err-ended-clause-only : goal.returns-in_err-ended-clause-only
