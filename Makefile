@@ -30,13 +30,12 @@ examples:
 	@for file in $(filter-out %.cases %.objects %.session %.md,$(wildcard crates/rpg_show_cases/data/*)); do cmp examples/*/$$(basename $$file) $$file || exit 1; done
 	@cmp docs/MESSAGES.md crates/rpg_show_cases/data/MESSAGES.md
 
-# The example's total over 1,000,000 records, beside the same total made by awk; what decoding and verifying the largest programs takes;
-# what compiling costs; and a sales report beside the same in COBOL.
+# The example's total over 1,000,000 records beside awk's and a sales report beside COBOL's; what decoding and verifying the largest programs
+# takes; and what compiling costs.
 bench: $(RPG2)
-	bench/run.sh
+	bench/running.py
 	bench/verify.py
 	bench/compile.sh
-	bench/sales.sh
 
 # Only what is proved is built: docs/develop/GATE.md says how long that takes. A program that is newer than all it is made of is left as it is.
 $(RPG2): FORCE

@@ -1,7 +1,9 @@
 -- Numbers written from the last mark to the first.
-use Rattle.std.specs.Prelude.{◌≡◌, ℕ, ◌+◌, Bool, List, [], ◌∷◌, ◌++◌, length, take, drop}
+use Rattle.std.specs.Prelude.{◌≡◌, ℕ, zero, suc, ◌+◌, ◌<◌, Bool, false, true, List, [], ◌∷◌, ◌++◌, length, take, drop}
 use Rattle.rpg_edit_marks.specs.declared.mark.Mark.{Mark}
+use Rattle.rpg_edit_marks.specs.declared.mark.Mark.TheVariants.{Digit, Insert, Always, Sign}
 use Rattle.rpg_edit.specs.declared.suppression.Pass.{Pass}
+use Rattle.rpg_edit_marks.specs.Code.{comma_marks}
 use Rattle.rpg_edit_marks.specs.Edited.{places, character}
 
 -- the characters at marks that k more digits follow
@@ -19,3 +21,20 @@ pub record Writes (marks : List Mark) (old : Pass) (before : List ℕ) (new : Pa
   pub after : new.after ≡ old.after + places marks
   pub number : new.number ≡ old.number
   pub suppression : new.suppression ≡ old.suppression
+
+-- digits, and characters between them, which show the fill in front of a number
+abbrev pub is_suppressed : Mark → Bool
+is_suppressed Digit = true
+is_suppressed (Insert c) = true
+is_suppressed (Always c) = false
+is_suppressed (Sign c) = false
+
+-- nothing is left of the number, and more digits are written than always show
+pub record IsUsedUp (p : Pass) : Type 0 where
+  pub rest : p.rest ≡ 0
+  pub kept : p.suppression.kept < p.after
+
+-- the marks of n more digits in front of `left`
+abbrev pub marks_before : Bool → ℕ → ℕ → List Mark
+marks_before commas left zero = []
+marks_before commas left (suc n) = (Digit ∷ comma_marks commas (n + left)) ++ marks_before commas left n

@@ -3,10 +3,11 @@
 //! A number is written from its last mark to the first: what shows at a mark depends on the digits in front of those that follow it,
 //! and these are what is left of the number once it is divided by ten for each digit written.
 
-ghost use Rattle.std.specs.Prelude.{◌≡◌, ◌+◌, ◌^◌, ◌<◌, ◌≤◌, [], ◌∷◌, length, replicate, unsigned_abs};
+ghost use Rattle.std.specs.Prelude.{◌≡◌, ◌+◌, ◌^◌, ◌<◌, ◌≤◌, List, [], ◌∷◌, IsTrue, length, replicate, true, unsigned_abs};
+ghost use Rattle.std.specs.List.{list_all};
 ghost use Rattle.std.specs.Int.{is_negative};
-ghost use Rattle.rpg_edit_marks.specs.Edited.{character};
-ghost use Rattle.rpg_edit.specs.Written.{Writes};
+ghost use Rattle.rpg_edit_marks.specs.Edited.{character, places};
+ghost use Rattle.rpg_edit.specs.Written.{is_suppressed, IsUsedUp, Writes};
 
 use crate::suppression::{Number, Pass};
 use rpg_edit_marks::Mark;
@@ -47,6 +48,28 @@ impl Pass {
             Mark::Sign(character) if self.number.negative => character,
             Mark::Sign(_) => b' ',
         }
+    }
+
+    /// Whether nothing is left of the number, and no digit in front shows for all that.
+    pub(crate) fn is_used_up(&self) -> bool
+        ensures { IsTrue result → IsUsedUp self.now }
+    {
+        self.rest == 0 && self.after > usize::from(self.suppression.kept)
+    }
+
+    /// Writes the fill at marks of which so many are digits, the others characters between digits, once the number is used up.
+    pub(crate) fn put_fill(&mut self, marks: usize, digits: usize, out: &mut [u8])
+        requires used_up { IsUsedUp self.old }
+        requires digits { digits ≤ marks }
+        requires room { marks ≤ self.old.start }
+        requires within { self.old.start ≤ length out.old }
+        ensures { (ms : List Mark) → length ms ≡ marks → places ms ≡ digits → list_all is_suppressed ms ≡ true
+            → Writes ms self.old out.old self.new out.new }
+    {
+        let start = self.start - marks;
+        out[start..self.start].fill(self.suppression.fill);
+        self.start = start;
+        self.after += digits;
     }
 
     /// Goes on in front of a digit.

@@ -1,2 +1,3 @@
 pub mod Codes
+pub mod Places
 pub mod Words

@@ -1,7 +1,8 @@
 //! How a number is edited, and its width.
 
-ghost use Rattle.std.specs.Prelude.{◌≡◌, ◌≤◌};
+ghost use Rattle.std.specs.Prelude.{◌≡◌, ◌≤◌, length};
 ghost use Rattle.rpg_edit_marks.specs.How.{width_of};
+ghost use Rattle.rpg_edit_marks.specs.Word.{word_marks};
 
 use crate::code::width_by;
 use crate::word::EditWord;
@@ -21,4 +22,12 @@ pub fn width(len: u8, dec: u8, how: &How) -> usize
         How::Code { code, fill } => width_by(*code, *fill, len, dec),
         How::Word(word) => word.marks().len(),
     }
+}
+
+/// The characters that a number takes by an edit word: as many as the word has. No marks are made.
+#[tactic(auto, using(crate::proofs::Places::word_widths))]
+pub fn word_width(word: &[u8]) -> usize
+    ensures { result ≡ length (word_marks word.now) }
+{
+    word.len()
 }

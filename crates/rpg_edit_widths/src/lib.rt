@@ -7,6 +7,6 @@ mod mark;
 mod suppression;
 mod word;
 
-pub use how::{How, width};
+pub use how::{How, width, word_width};
 pub use suppression::Suppression;
 pub use word::{EditFault, EditWord};

@@ -1,10 +1,11 @@
 //! Edit words, and the marks of a number that is edited by one.
 
-ghost use Rattle.std.specs.Prelude.{◌≡◌, ℕ, ◌+◌, ◌-◌, ◌<◌, ◌≤◌, List, [], ◌++◌, map, length, OnOk, OnErr, IfOk};
+ghost use Rattle.std.specs.Prelude.{◌≡◌, ◌==◌, ◌&&◌, not, ℕ, ◌+◌, ◌-◌, ◌<◌, ◌≤◌, List, [], ◌++◌, map, count_by, length, OnOk, OnErr, IfOk};
 ghost use Rattle.arrayvec.specs.ArrayVec.{array_vec_len};
+ghost use Rattle.rpg_edit_marks.specs.Edited.{places};
 ghost use Rattle.rpg_edit_marks.specs.Word.{is_stop, shown_character, mark_of, marks_of, places_end, always_mark, begins_credit, sign_part, first_dollar, word_marks, stop_of, digits_behind_stop, word_fill, has_dollar_at_stop, IsWordFor};
 
-use crate::mark::{MOST_MARKS, Marks, count_places};
+use crate::mark::{MOST_MARKS, Marks};
 use crate::suppression::Suppression;
 use arrayvec::ArrayVec;
 use rpg_edit_marks::Mark;
@@ -51,19 +52,26 @@ impl EditWord {
         ensures ok { OnOk result (IsWordFor digits word.now) }
         ensures fault { OnErr result (¬ IsWordFor digits word.now) }
     {
-        let stop = stop_of(word);
-        let marks = word_marks(word);
-        if count_places(&marks) != digits || is_dollar_before(word, stop) {
+        if !EditWord::fits(word, digits) {
             return Err(EditFault);
         }
         match ArrayVec::try_from(word) {
             Ok(characters) => Ok(EditWord {
                 characters,
-                marks,
-                suppression: suppression(word, stop),
+                marks: word_marks(word),
+                suppression: suppression(word, stop_of(word)),
             }),
             Err(_) => unreachable!(),
         }
+    }
+
+    /// Whether a word fits a number of so many digits, as `parse` takes it. No marks are made.
+    pub fn fits(word: &[u8], digits: u8) -> bool
+        requires { length word.now ≤ 24 }
+        ensures { result ≡ ((places (word_marks word.now) == digits) && not (has_dollar_at_stop word.now)) }
+    {
+        let stop = stop_of(word);
+        count_places(word, stop) == digits && !is_dollar_before(word, stop)
     }
 
     /// What stands at each of its places.
@@ -86,6 +94,22 @@ fn is_stop(character: u8) -> bool
     ensures { result ≡ is_stop character }
 {
     character == b'0' || character == b'*'
+}
+
+/// The places for digits: the blanks, and the stop where there is one.
+fn count_places(word: &[u8], stop: usize) -> u8
+    requires high { length word.now ≤ 24 }
+    requires stop { stop ≡ stop_of word.now }
+    ensures { result ≡ places (word_marks word.now) }
+{
+    count_blanks(word) + u8::from(stop < word.len())
+}
+
+fn count_blanks(word: &[u8]) -> u8
+    requires { length word.now ≤ 24 }
+    ensures { result ≡ count_by (λ c. c == 32) word.now }
+{
+    word.iter().filter(|character| **character == b' ').count() as u8
 }
 
 fn stop_of(word: &[u8]) -> usize

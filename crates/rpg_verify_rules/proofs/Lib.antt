@@ -3,6 +3,7 @@ pub mod Kept
 pub mod LeastLaws
 pub mod Lists
 pub mod Measures
+pub mod Rooms
 pub mod Sectioning
 pub mod Soundness
 pub mod Spanning

@@ -64,6 +64,16 @@ lacks_word p f = is_field_edited p f && not (is_field_worded p f)
 abbrev pub has_width : Object → LineField ℕ → Bool
 has_width p f = is_field_there p f && (is_field_edited p f && is_field_worded p f)
 
+-- the edit word that it names, if it names one, is a text constant
+abbrev pub names_text : Object → Editing ℕ → Bool
+names_text p Plain = true
+names_text p (Code code) = true
+names_text p (Word k) = is_text_constant (form_at p.fields k)
+
+-- there is such a field and it is edited well, but for whether a word fits: its width can be told
+abbrev pub may_have_width : Object → LineField ℕ → Bool
+may_have_width p f = is_field_there p f && (is_field_edited p f && names_text p f.editing)
+
 -- it has a width, and begins before the line or ends behind it
 abbrev pub lacks_room : Object → ℕ → LineField ℕ → Bool
 lacks_room p len f = has_width p f && not (has_room (form_at p.fields) (word_at p) len f)

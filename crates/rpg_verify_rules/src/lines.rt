@@ -19,7 +19,7 @@ ghost use Rattle.rpg_verify_rules.specs.declared.rule.Rule.TheVariants as rule_n
 
 use crate::indicators::{all_asked, may_be_asked};
 use crate::rule::LineRule;
-use crate::words::edit_word;
+use crate::words::{edit_word_width, is_edit_word};
 use rpg_edit_marks::{EditCode, Fill};
 use rpg_edit_widths::{How, width};
 use rpg_effect::condition::Condition;
@@ -27,7 +27,7 @@ use rpg_effect::form::{FieldForm, Kind};
 use rpg_effect::line::{Editing, File, LineField, Source, Spacing};
 use rpg_object_program::columns::{has_entry, is_one_entry};
 use rpg_object_program::forms::{
-    decimals_of, form_at, is_index_form, kind_of, length_of, may_write, same_kind,
+    decimals_of, form_at, is_index_form, is_text_constant, kind_of, length_of, may_write, same_kind,
 };
 use rpg_object_program::row::{Line, Rows, Version};
 
@@ -219,9 +219,7 @@ fn is_field_worded(rows: &Rows, field: &LineField<u16>) -> bool
     match field.editing {
         Editing::Plain => true,
         Editing::Code(_) => true,
-        Editing::Word(word) => {
-            edit_word(rows, word, digits_of(rows, field.operand.field)).is_some()
-        }
+        Editing::Word(word) => is_edit_word(rows, word, digits_of(rows, field.operand.field)),
     }
 }
 
@@ -241,18 +239,14 @@ fn lack_words(rows: &Rows, fields: &[LineField<u16>]) -> bool
 
 // ---- room
 
-/// How a field of `digits` digits is edited.
-fn how_of(rows: &Rows, digits: u8, editing: Editing<u16>, fill: Fill) -> How
-    requires { words.is_word_for (seen rows.now) digits editing ≡ true }
-    ensures { result ≡ edits.how_of (word_at (seen rows.now)) editing fill }
+/// Whether the edit word, where there is one, is a text constant.
+fn names_text(rows: &Rows, editing: Editing<u16>) -> bool
+    ensures { result ≡ words.names_text (seen rows.now) editing }
 {
     match editing {
-        Editing::Plain => How::Plain,
-        Editing::Code(code) => How::Code { code, fill },
-        Editing::Word(word) => match edit_word(rows, word, digits) {
-            Some(word) => How::Word(word),
-            None => unreachable!(),
-        },
+        Editing::Plain => true,
+        Editing::Code(_) => true,
+        Editing::Word(word) => is_text_constant(form_at(rows, word)),
     }
 }
 
@@ -260,16 +254,20 @@ fn how_of(rows: &Rows, digits: u8, editing: Editing<u16>, fill: Fill) -> How
 fn number_width(rows: &Rows, form: FieldForm, editing: Editing<u16>, fill: Fill) -> usize
     requires row { IsFieldRow form }
     requires number { form.kind ≡ Kind.Number }
-    requires word { words.is_word_for (seen rows.now) form.length editing ≡ true }
+    requires text { words.names_text (seen rows.now) editing ≡ true }
     ensures { result ≡ width_of form.length form.decimals (edits.how_of (word_at (seen rows.now)) editing fill) }
 {
     let digits = form.length as u8;
-    width(digits, form.decimals, &how_of(rows, digits, editing, fill))
+    match editing {
+        Editing::Plain => width(digits, form.decimals, &How::Plain),
+        Editing::Code(code) => width(digits, form.decimals, &How::Code { code, fill }),
+        Editing::Word(word) => edit_word_width(rows, word),
+    }
 }
 
 fn field_width(rows: &Rows, form: FieldForm, editing: Editing<u16>, fill: Fill) -> usize
     requires row { IsFieldRow form }
-    requires word { words.is_word_for (seen rows.now) form.length editing ≡ true }
+    requires text { words.names_text (seen rows.now) editing ≡ true }
     ensures { result ≡ edits.width_as form.kind (Some form) (edits.how_of (word_at (seen rows.now)) editing fill) }
 {
     match form.kind {
@@ -281,7 +279,7 @@ fn field_width(rows: &Rows, form: FieldForm, editing: Editing<u16>, fill: Fill) 
 /// Whether a field of a line of that length begins and ends inside it.
 fn has_room(rows: &Rows, length: u16, field: &LineField<u16>) -> bool
     requires program { IsProgram (seen rows.now) }
-    requires width { words.has_width (seen rows.now) field.now ≡ true }
+    requires width { words.may_have_width (seen rows.now) field.now ≡ true }
     ensures { result ≡ faults.has_room (forms.form_at rows.now.fields.items) (word_at (seen rows.now)) length field.now }
 {
     match form_at(rows, field.operand.field) {
@@ -293,18 +291,20 @@ fn has_room(rows: &Rows, length: u16, field: &LineField<u16>) -> bool
     }
 }
 
-fn has_width(rows: &Rows, field: &LineField<u16>) -> bool
+/// Whether there is such a field and it is edited well, by a word that is a text constant: whether the word fits is left open.
+fn may_have_width(rows: &Rows, field: &LineField<u16>) -> bool
     requires { IsProgram (seen rows.now) }
-    ensures { result ≡ words.has_width (seen rows.now) field.now }
+    ensures { result ≡ words.may_have_width (seen rows.now) field.now }
 {
-    is_field_there(rows, field) && (is_field_edited(rows, field) && is_field_worded(rows, field))
+    is_field_there(rows, field) && (is_field_edited(rows, field) && names_text(rows, field.editing))
 }
 
+/// Whether a word fits is asked only of a field that has no room.
 fn lacks_room(rows: &Rows, length: u16, field: &LineField<u16>) -> bool
     requires { IsProgram (seen rows.now) }
     ensures { result ≡ words.lacks_room (seen rows.now) length field.now }
 {
-    has_width(rows, field) && !has_room(rows, length, field)
+    may_have_width(rows, field) && (!has_room(rows, length, field) && is_field_worded(rows, field))
 }
 
 fn lack_room(rows: &Rows, length: u16, fields: &[LineField<u16>]) -> bool
