@@ -1,7 +1,8 @@
 //! Pages as text.
 
 use crate::page::Page;
-use crate::topic::{BYTES, FAULTS, HALTS, SHEETS, Topic, WARNINGS};
+use crate::topic::{BYTES, HALTS, SHEETS, Topic, WARNINGS};
+use rpg_faults::FaultCode;
 use rpg_verify_rules::RULES;
 use std::alloc::{AllocError, Global};
 
@@ -81,7 +82,7 @@ fn put_sources(alloc: Global, out: &mut String) -> Result<(), AllocError> {
 }
 
 fn put_faults(alloc: Global, out: &mut String) -> Result<(), AllocError> {
-    for code in FAULTS {
+    for code in FaultCode::all() {
         out.push_str("\n")?;
         put_page(alloc, out, Topic::Fault(code))?;
     }

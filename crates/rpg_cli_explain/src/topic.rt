@@ -34,27 +34,6 @@ pub(crate) const SHEETS: [SheetCode; 6] = [
     SheetCode::S6,
 ];
 
-pub(crate) const FAULTS: [FaultCode; 18] = [
-    FaultCode::F1,
-    FaultCode::F2,
-    FaultCode::F3,
-    FaultCode::F4,
-    FaultCode::F5,
-    FaultCode::F6,
-    FaultCode::F7,
-    FaultCode::F8,
-    FaultCode::F9,
-    FaultCode::F10,
-    FaultCode::F11,
-    FaultCode::F12,
-    FaultCode::F13,
-    FaultCode::F14,
-    FaultCode::F15,
-    FaultCode::F16,
-    FaultCode::F17,
-    FaultCode::F18,
-];
-
 pub(crate) const WARNINGS: [WarningCode; 4] = [
     WarningCode::W1,
     WarningCode::W2,
@@ -147,7 +126,7 @@ pub fn topic_of(code: &str) -> Option<Topic> {
     if let Some(at) = number_behind(code, "S") {
         SHEETS.get(at).map(|code| Topic::Sheet(*code))
     } else if let Some(at) = number_behind(code, "F") {
-        FAULTS.get(at).map(|code| Topic::Fault(*code))
+        FaultCode::all().get(at).map(|code| Topic::Fault(*code))
     } else if let Some(at) = number_behind(code, "W") {
         WARNINGS.get(at).map(|code| Topic::Warning(*code))
     } else if let Some(at) = number_behind(code, "V") {

@@ -8,7 +8,6 @@ use Rattle.rpg_effect.specs.declared.operation.Instruction.TheVariants as made
 use Rattle.rpg_object_program.specs.Object.{Object}
 use Rattle.rpg_object_program.specs.Sections.{first_place, has_end, is_place, place_behind}
 use Rattle.rpg_object_program.specs.declared.section.Section.{Section}
-use Rattle.rpg_object_program.specs.declared.section.Section.TheVariants as section
 use Rattle.rpg_verify_rules.specs.PlaceRules.{calls_higher, is_own, is_return, stays_inside}
 use Rattle.rpg_compile_program.proofs.Counts.{Within}
 use Rattle.rpg_compile_program.proofs.Each.{each_always, each_append, each_map}

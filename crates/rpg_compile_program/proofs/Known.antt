@@ -1,5 +1,5 @@
 -- The names of a source without a fault: each definition has a form, and a name's key has the form of its first definition.
-use Rattle.std.proofs.Common.{◌≡◌, ℕ, true, false, ◌||◌, List, [], Option, None, Some, refl, ap}
+use Rattle.std.proofs.Common.{◌≡◌, ℕ, true, false, ◌||◌, List, Option, None, Some, refl, ap}
 use Rattle.std.specs.Option.{option_and_then, option_map_or}
 use Rattle.std.specs.Prelude.{◌==◌}
 use Rattle.rpg_cards.specs.Keys.{Named}

@@ -26,7 +26,7 @@ use Rattle.rpg_object_program.specs.Object.{Object, lines_of}
 use Rattle.rpg_object_program.specs.Sections.{first_place}
 use Rattle.rpg_object_program.specs.declared.section.Section.{Section}
 use Rattle.rpg_object_program.specs.declared.section.Section.TheVariants as sections
-use Rattle.rpg_verify.specs.Bound.{bound, cost_in, most, once}
+use Rattle.rpg_verify.specs.Bound.{bound, cost_in, most}
 use Rattle.rpg_verify.specs.Bound as bounds
 
 -- ---- single phases

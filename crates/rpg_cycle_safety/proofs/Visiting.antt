@@ -1,5 +1,5 @@
 -- Each configuration that a run comes by is steady.
-use Rattle.std.proofs.Common.{◌≡◌, ℕ, ◌+◌, Bool, true, false, ◌&&◌, ◌||◌, eqb, nat_le, nat_lt, le-leb, eq-eqb, ◌⊎◌, inl, inr, List, [], ◌∷◌, Option, None, Some, All, length, refl, sym, ap, ◌∙◌, subst, cond, arith, nat_cmp, ℤ, unsigned_abs, ◌<◌, ◌^◌}
+use Rattle.std.proofs.Common.{◌≡◌, ℕ, ◌+◌, Bool, true, false, ◌&&◌, ◌||◌, eqb, nat_le, nat_lt, le-leb, eq-eqb, inl, inr, List, [], ◌∷◌, Option, None, Some, All, length, refl, sym, ap, ◌∙◌, subst, cond, arith, nat_cmp, ℤ, unsigned_abs, ◌<◌, ◌^◌}
 use Rattle.std.specs.FinMap as map
 use Rattle.rpg_cycle_records.specs.Earlier.{Left, Selected, left_by, with_record}
 use Rattle.rpg_cycle.specs.Ends.{PhaseEnd, GoesOn, EndOfJob, Halt, Wrong, phase_end}

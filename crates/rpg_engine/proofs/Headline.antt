@@ -1,5 +1,5 @@
 -- Each run of an accepted program ends well, and there is one.
-use Rattle.std.proofs.Common.{◌≡◌, ℕ, ◌+◌, ◌≤◌, ℤ, List, ◌++◌, Option, Some, refl, subst, sym, arith}
+use Rattle.std.proofs.Common.{◌≡◌, ℕ, ◌+◌, ℤ, List, ◌++◌, Option, Some, refl, subst, sym, arith}
 use Rattle.rpg_cycle.specs.Job.{first_fields}
 use Rattle.rpg_cycle.specs.Starting.{date_in, job_first_world}
 use Rattle.rpg_cycle_safety.proofs.Accepting.{accepted_orderly}

@@ -2,6 +2,7 @@
 
 ghost use Rattle.std.specs.Prelude.{◌≡◌, ◌≤◌, length, Some};
 ghost use Rattle.rpg_faults.specs.Codes as codes;
+ghost use Rattle.rpg_faults.specs.Faults as faults;
 
 use arrayvec::ArrayString;
 use itoa::Buffer;
@@ -49,6 +50,32 @@ pub enum FaultCode {
 }
 
 impl FaultCode {
+    /// All codes, the least first.
+    pub fn all() -> [FaultCode; 18]
+        ensures { result ≡ faults.codes }
+    {
+        [
+            FaultCode::F1,
+            FaultCode::F2,
+            FaultCode::F3,
+            FaultCode::F4,
+            FaultCode::F5,
+            FaultCode::F6,
+            FaultCode::F7,
+            FaultCode::F8,
+            FaultCode::F9,
+            FaultCode::F10,
+            FaultCode::F11,
+            FaultCode::F12,
+            FaultCode::F13,
+            FaultCode::F14,
+            FaultCode::F15,
+            FaultCode::F16,
+            FaultCode::F17,
+            FaultCode::F18,
+        ]
+    }
+
     pub fn number(self) -> u8
         ensures { result ≡ codes.fault_number self }
     {

@@ -8,7 +8,6 @@ ghost use Rattle.rpg_faults.specs.Told as told;
 use crate::Places;
 use crate::breach::breaks;
 use crate::code::FaultCode;
-use crate::least::codes;
 use crate::marks::fault_columns;
 use crate::seen::Seen;
 use crate::source_fault::{CardFault, SourceCode};
@@ -80,7 +79,7 @@ fn put_faults_on(
     requires seen { AreCardsSeen source.now (card.now ∷ after.now) seen.now }
     ensures { OnOk result (faults.new.items ≡ faults.old.items ++ told.told_on seen.now.before.now card.now after.now) }
 {
-    for code in codes() {
+    for code in FaultCode::all() {
         if breaks(code, source, labels, seen, card, after) {
             faults.push(CardFault {
                 card: card.number,

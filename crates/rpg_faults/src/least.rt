@@ -51,7 +51,7 @@ fn first_on_cards(source: &IndexedCards, labels: &Labels) -> Option<Fault>
     let mut seen = Seen::nothing(source, places);
     let mut rest = source.as_slice();
     while let Some((card, after)) = rest.split_first() {
-        if let Some(code) = least_code(&codes(), source, labels, &seen, card, after) {
+        if let Some(code) = least_code(&FaultCode::all(), source, labels, &seen, card, after) {
             return Some(Fault {
                 card: card.number,
                 code,
@@ -61,32 +61,6 @@ fn first_on_cards(source: &IndexedCards, labels: &Labels) -> Option<Fault>
         rest = after;
     }
     None
-}
-
-/// All codes, the least first.
-pub(crate) fn codes() -> [FaultCode; 18]
-    ensures { result ≡ faults.codes }
-{
-    [
-        FaultCode::F1,
-        FaultCode::F2,
-        FaultCode::F3,
-        FaultCode::F4,
-        FaultCode::F5,
-        FaultCode::F6,
-        FaultCode::F7,
-        FaultCode::F8,
-        FaultCode::F9,
-        FaultCode::F10,
-        FaultCode::F11,
-        FaultCode::F12,
-        FaultCode::F13,
-        FaultCode::F14,
-        FaultCode::F15,
-        FaultCode::F16,
-        FaultCode::F17,
-        FaultCode::F18,
-    ]
 }
 
 /// The first of these codes whose rule a card breaks.

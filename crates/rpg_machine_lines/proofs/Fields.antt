@@ -1,5 +1,5 @@
 -- Fields with nothing wrong.
-use Rattle.std.proofs.Common.{◌≡◌, ℕ, ℤ, ◌≤◌, Bool, true, false, not, ◌&&◌, cond, nat_le, eqb, eqb-true, leb-true, List, ◌++◌, Option, None, Some, refl, ap, ◌∙◌, arith, length, drop, take, ◌-◌, ◌+◌, length-append, length-take-le}
+use Rattle.std.proofs.Common.{◌≡◌, ℕ, ◌≤◌, Bool, true, false, not, ◌&&◌, cond, nat_le, eqb, eqb-true, leb-true, List, ◌++◌, Option, None, Some, refl, ap, ◌∙◌, arith, length, drop, take, ◌-◌, ◌+◌, length-append, length-take-le}
 use Rattle.std.proofs.lemmas.List.{take-take}
 use Rattle.rpg_edit_marks.specs.Code.{IsFitCode}
 use Rattle.rpg_edit_marks.specs.Edited.{places}

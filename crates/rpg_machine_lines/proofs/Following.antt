@@ -1,5 +1,5 @@
 -- An effect that was done, and what follows where it goes on.
-use Rattle.std.proofs.Common.{◌≡◌, ℕ, ap, subst, nat_cmp}
+use Rattle.std.proofs.Common.{◌≡◌, ap, subst, nat_cmp}
 use Rattle.std.specs.Prelude.{Result, Ok, Err, IfOk}
 use Rattle.rpg_effect.proofs.Putting.{halts_done, then_done}
 use Rattle.rpg_effect.specs.Effect.{Effect, then_go}

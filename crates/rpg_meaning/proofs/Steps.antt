@@ -29,7 +29,7 @@ use Rattle.rpg_meaning.specs.Job.{IsProgramOf, Job, JobState}
 use Rattle.rpg_meaning.specs.Phases.{Came, any_on_in, by_effect, calculated, meant_passes, turned_all, with_turned}
 use Rattle.rpg_machine.specs.Accepted.{IsOrderly}
 use Rattle.rpg_machine.specs.Config.{Config, Output}
-use Rattle.rpg_machine.specs.Outputs.{FillsFields, PutsOut, inputs_of}
+use Rattle.rpg_machine.specs.Outputs.{inputs_of}
 use Rattle.rpg_machine.specs.Outputs as machine_outputs
 use Rattle.rpg_machine.specs.declared.time.OutputTime.TheVariants as times
 use Rattle.rpg_meaning_calculations.proofs.Named.{lines_named}

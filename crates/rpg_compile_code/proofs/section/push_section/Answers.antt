@@ -1,6 +1,6 @@
 use Rattle.std.proofs.Common.{◌+◌, ◌++◌, ap, ◌∙◌, arith}
 use Rattle.rpg_cards.specs.Calculations.{calculation_of}
-use Rattle.rpg_compile_program.specs.Code.{code_from, size, sizes}
+use Rattle.rpg_compile_program.specs.Code.{code_from, sizes}
 use Rattle.rpg_compile_code.proofs.Steps.{none_left, one_more}
 use Rattle.rpg_compile_code.proofs.section.push_section.Goals as goal
 use Rattle.rpg_compile_code.specs.Numbers.{number_by}
