@@ -6,7 +6,7 @@ use Rattle.rpg_cycle.specs.Doing.{Does, under_way}
 use Rattle.rpg_cycle_records.specs.Earlier.{Left, Selected, left_by, with_record}
 use Rattle.rpg_cycle.specs.Ends.{GoesOn, PhaseEnd}
 use Rattle.rpg_cycle.specs.Job.{AtWork, DoesCycle, feed_at, with_feed}
-use Rattle.rpg_cycle_records.specs.Keeping.{kept_levels, noted, selected_as}
+use Rattle.rpg_cycle_records.specs.Keeping.{noted, renewed_by, selected_as}
 use Rattle.rpg_cycle.specs.Phases.{Cycle, CycleOn, UnderWay, begun}
 use Rattle.rpg_cycle.specs.Stages.{Ended, Going, Stage, job_end, stage_at}
 use Rattle.rpg_cycle.specs.declared.ends.JobEnd.{JobEnd}
@@ -20,7 +20,7 @@ abbrev pub job : Object → Running → Left → Stage → AtWork
 job p m left stage = record { program = p; config = m.config; last = m.last; output = m.output; left = left; stage = stage }
 
 -- what is kept of a record is what it leaves
-pub leaves : (p : Object) (earlier : List Selected) (t : Option ℕ) (text : List ℕ) → noted p t (kept_levels p t text (left_by p earlier)) ≡ left_by p (with_record (selected_as t text) earlier)
+pub leaves : (p : Object) (earlier : List Selected) (t : Option ℕ) (text : List ℕ) → noted p t (renewed_by p t text (left_by p earlier)) ≡ left_by p (with_record (selected_as t text) earlier)
 leaves p earlier None text = refl
 leaves p earlier (Some t) text = refl
 
@@ -36,7 +36,7 @@ feed_none b = ap (λ x. record { print = x; disk = b.disk }) (sym (append-nil b.
 
 -- the job goes on
 pub goes_on : (p : Object) (earlier : List Selected) (previous : Option Position) (next : Option (List ℕ)) (m b : Running) (left now : Left) (stage : Stage) (t : Option ℕ) (text : List ℕ) → m.program ≡ p → left ≡ left_by p earlier →
-    m.last ≡ line_of previous → now ≡ noted p t (kept_levels p t text left) → Does (CycleOn p left next) (refilled m) None GoesOn b (selected_as t text) →
+    m.last ≡ line_of previous → now ≡ noted p t (renewed_by p t text left) → Does (CycleOn p left next) (refilled m) None GoesOn b (selected_as t text) →
     DoesCycle (job p m left stage) earlier previous next GoesOn (job p b now Going)
 goes_on p earlier previous next m b left now stage t text same is placed kept d =
     let x = d.behind previous placed in
@@ -47,7 +47,7 @@ goes_on p earlier previous next m b left now stage t text same is placed kept d 
       out = x.out;
       cycle = cycle_of p earlier previous next m b left GoesOn (selected_as t text) x.out _ same is x.phase;
       config = refl;
-      left = λ h. kept ∙ ap (λ (l : Left). noted p t (kept_levels p t text l)) is ∙ leaves p earlier t text;
+      left = λ h. kept ∙ ap (λ (l : Left). noted p t (renewed_by p t text l)) is ∙ leaves p earlier t text;
       last = x.last;
       bytes = x.bytes ∙ feed_none _;
     }

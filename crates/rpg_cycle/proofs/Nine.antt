@@ -4,7 +4,7 @@ use Rattle.rpg_cycle.proofs.Composing.{goes, ends}
 use Rattle.rpg_cycle.specs.Doing.{Does}
 use Rattle.rpg_cycle_records.specs.Earlier.{Left, Selected}
 use Rattle.rpg_cycle.specs.Ends.{GoesOn, PhaseEnd}
-use Rattle.rpg_cycle_records.specs.Keeping.{kept_levels}
+use Rattle.rpg_cycle_records.specs.Keeping.{renewed_by}
 use Rattle.rpg_cycle.specs.Phases.{Phase, ◌before◌}
 use Rattle.rpg_cycle.specs.Stages.{job_end}
 use Rattle.rpg_cycle.specs.declared.ends.JobEnd.{JobEnd}
@@ -34,16 +34,16 @@ pub last : {C P : Phase} {old mid new : Running} {s t u : Option Selected} {e : 
 last {new} {u} {e} l d = l.rest e new u d
 
 -- what is kept beside the levels
-kept_any : (p : Object) (t : Option ℕ) (text : List ℕ) (l : Left) → (kept_levels p t text l).any ≡ l.any
+kept_any : (p : Object) (t : Option ℕ) (text : List ℕ) (l : Left) → (renewed_by p t text l).any ≡ l.any
 kept_any p None text l = refl
 kept_any p (Some t) text l = refl
 
-kept_control : (p : Object) (t : Option ℕ) (text : List ℕ) (l : Left) → (kept_levels p t text l).control ≡ l.control
+kept_control : (p : Object) (t : Option ℕ) (text : List ℕ) (l : Left) → (renewed_by p t text l).control ≡ l.control
 kept_control p None text l = refl
 kept_control p (Some t) text l = refl
 
 -- total time with what was kept before the record
-pub by_left : (F : Bool → Bool → Phase) (p : Object) (t : Option ℕ) (text : List ℕ) (now old : Left) (a b : Running) (s : Option Selected) (e : PhaseEnd) → now ≡ kept_levels p t text old →
+pub by_left : (F : Bool → Bool → Phase) (p : Object) (t : Option ℕ) (text : List ℕ) (now old : Left) (a b : Running) (s : Option Selected) (e : PhaseEnd) → now ≡ renewed_by p t text old →
     Does (F now.any now.control) a s e b s → Does (F old.any old.control) a s e b s
 by_left F p t text now old a b s e h d =
     subst (λ (x : Bool). Does (F x old.control) a s e b s) (ap (λ (l : Left). l.any) h ∙ kept_any p t text old)

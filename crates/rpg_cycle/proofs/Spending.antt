@@ -12,7 +12,8 @@ use Rattle.rpg_effect.specs.declared.line.Time.{Time}
 use Rattle.rpg_effect.specs.declared.line.Time.TheVariants as times
 use Rattle.rpg_cycle.proofs.Turning.{off_keeps}
 use Rattle.rpg_cycle_records.specs.Earlier.{levels_of}
-use Rattle.rpg_cycle_records.specs.Identifying.{IsOf, Misplaced, code_holds, has_position, identified, trial_weight}
+use Rattle.rpg_cycle_records.specs.Identifying.{IsOf, Misplaced, code_holds, has_position, identified, same_file, trial_weight}
+use Rattle.rpg_effect.specs.declared.input.InputFile.{InputFile}
 use Rattle.rpg_cycle.specs.Phases.{all_off}
 use Rattle.rpg_cycle.specs.Spending.{Selects, Spends, cycle_weight, inputs_weight, reach, record_weight, section_cost}
 use Rattle.rpg_machine.specs.Config.{Config}
@@ -119,10 +120,15 @@ at_most : (b : Bool) (codes rest weight others : ℕ) → codes ≤ weight → r
 at_most true codes rest weight others h g = omega arith
 at_most false codes rest weight others h g = omega arith
 
+of_file : (own b : Bool) (codes rest weight others : ℕ) → codes ≤ weight → rest ≤ others → cond (not own) rest (cond b (codes + rest) codes) ≤ weight + others
+of_file true b codes rest weight others h g = at_most b codes rest weight others h g
+of_file false b codes rest weight others h g = omega (arith, g)
+
 -- the codes that are tried are some of all that types have
-pub tried_few : (ts : List (TypeRow ℕ)) (text : List ℕ) → trial_weight ts text ≤ types_weight ts
-tried_few [] text = omega arith
-tried_few (t ∷ ts) text = at_most (codes_there text t && not (codes_hold text t)) (length t.codes) (trial_weight ts text) (type_weight t) (types_weight ts) (omega arith) (tried_few ts text)
+pub tried_few : (f : InputFile) (ts : List (TypeRow ℕ)) (text : List ℕ) → trial_weight f ts text ≤ types_weight ts
+tried_few f [] text = omega arith
+tried_few f (t ∷ ts) text =
+    of_file (same_file t.file f) (codes_there text t && not (codes_hold text t)) (length t.codes) (trial_weight f ts text) (type_weight t) (types_weight ts) (omega arith) (tried_few f ts text)
 
 -- so many more are its control fields and the fields that it fills
 abbrev beside : List (TypeRow ℕ) → ℕ → ℕ
@@ -136,16 +142,18 @@ pub record IsFound (n : ℕ) (ts : List (TypeRow ℕ)) (weight t : ℕ) : Type 0
 same_row : (n t : ℕ) → IsOf n ≡ IsOf t → t ≡ n + 0
 same_row n t h = let e : n ≡ t = cc in omega (arith, e)
 
-found : (n : ℕ) (u : TypeRow ℕ) (ts : List (TypeRow ℕ)) (text : List ℕ) (t : ℕ) (there hold : Bool) →
-    ((m : ℕ) → identified m ts text ≡ IsOf t → IsFound m ts (trial_weight ts text) t) → cond there (cond hold (IsOf n) (identified (n + 1) ts text)) Misplaced ≡ IsOf t →
-    IsFound n (u ∷ ts) (cond (there && not hold) (length u.codes + trial_weight ts text) (length u.codes)) t
-found n u ts text t false hold more h = cc
-found n u ts text t true true more h = record { place = 0; row = same_row n t h; few = omega arith }
-found n u ts text t true false more h = let x = more (n + 1) h in record { place = suc x.place; row = omega (arith, x.row); few = omega (arith, x.few) }
+found : (f : InputFile) (n : ℕ) (u : TypeRow ℕ) (ts : List (TypeRow ℕ)) (text : List ℕ) (t : ℕ) (own there hold : Bool) →
+    ((m : ℕ) → identified f m ts text ≡ IsOf t → IsFound m ts (trial_weight f ts text) t) →
+    cond (not own) (identified f (n + 1) ts text) (cond there (cond hold (IsOf n) (identified f (n + 1) ts text)) Misplaced) ≡ IsOf t →
+    IsFound n (u ∷ ts) (cond (not own) (trial_weight f ts text) (cond (there && not hold) (length u.codes + trial_weight f ts text) (length u.codes))) t
+found f n u ts text t false there hold more h = let x = more (n + 1) h in record { place = suc x.place; row = omega (arith, x.row); few = omega (arith, x.few) }
+found f n u ts text t true false hold more h = cc
+found f n u ts text t true true true more h = record { place = 0; row = same_row n t h; few = omega arith }
+found f n u ts text t true true false more h = let x = more (n + 1) h in record { place = suc x.place; row = omega (arith, x.row); few = omega (arith, x.few) }
 
-pub found_few : (n : ℕ) (ts : List (TypeRow ℕ)) (text : List ℕ) (t : ℕ) → identified n ts text ≡ IsOf t → IsFound n ts (trial_weight ts text) t
-found_few n [] text t h = cc
-found_few n (u ∷ ts) text t h = found n u ts text t (codes_there text u) (codes_hold text u) (λ m g. found_few m ts text t g) h
+pub found_few : (f : InputFile) (n : ℕ) (ts : List (TypeRow ℕ)) (text : List ℕ) (t : ℕ) → identified f n ts text ≡ IsOf t → IsFound n ts (trial_weight f ts text) t
+found_few f n [] text t h = cc
+found_few f n (u ∷ ts) text t h = found f n u ts text t (same_file u.file f) (codes_there text u) (codes_hold text u) (λ m g. found_few f m ts text t g) h
 
 -- ---- all phases
 

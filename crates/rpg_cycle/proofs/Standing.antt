@@ -9,6 +9,7 @@ use Rattle.rpg_cycle.specs.Runs.{Course, Runs, ends_or}
 use Rattle.rpg_cycle.specs.Standing.{RunsStandRight, StandsRight}
 use Rattle.rpg_cycle.specs.Starting.{job_start}
 use Rattle.rpg_cycle_records.specs.Earlier.{Left, Selected, control_fields, left_by, with_record}
+use Rattle.rpg_effect.specs.declared.input.InputFile.TheVariants.{Primary}
 use Rattle.rpg_cycle_records.specs.Identifying.{IsOf, IsOfNone, Misplaced, Trial, identified, is_good_record, padded, trial_weight}
 use Rattle.rpg_cycle_records.specs.Levels.{is_in_record}
 use Rattle.rpg_effect.specs.Effect.{Effect}
@@ -143,7 +144,7 @@ module _ (p : Object) where
 
   identified_stays : (left : Left) (text : List ℕ) (c : Config) → Stays c (identify p left text c).leads.config
   identified_stays left text c =
-      let taken = type_taken left text (identified 0 p.types text) (charged (trial_weight p.types text) c) in record { section = taken.section; place = taken.place }
+      let taken = type_taken left text (identified Primary 0 p.types text) (charged (trial_weight Primary p.types text) c) in record { section = taken.section; place = taken.place }
 
   good_stays : (b : Bool) (left : Left) (text : List ℕ) (c : Config) → Stays c (cond b (identify p left text c) (done (Halt 7) (record { config = c; selected = None }))).leads.config
   good_stays true left text c = identified_stays left text c
@@ -151,7 +152,7 @@ module _ (p : Object) where
 
   read_stays : (left : Left) (next : Option (List ℕ)) (c : Config) → Stays c (read_record p left next c).leads.config
   read_stays left None c = let all = all_stay level_indicators true (with_one last_record true c) in record { section = all.section; place = all.place }
-  read_stays left (Some text) c = good_stays (is_good_record p text) left (padded p text) c
+  read_stays left (Some text) c = good_stays (is_good_record p Primary text) left (padded p Primary text) c
 
   select_stays : (b : Bool) (left : Left) (next : Option (List ℕ)) (c : Config) →
       Stays c (cond b (done GoesOn (record { config = with_all level_indicators true c; selected = None })) (read_record p left next c)).leads.config

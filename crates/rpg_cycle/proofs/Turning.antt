@@ -7,7 +7,7 @@ use Rattle.rpg_effect.specs.Input.{TypeRow}
 use Rattle.rpg_cycle.proofs.Composing.{quietly}
 use Rattle.rpg_cycle.specs.Doing.{Passes}
 use Rattle.rpg_cycle.specs.Ends.{GoesOn}
-use Rattle.rpg_cycle_records.specs.Fitting.{IsTypeIn}
+use Rattle.rpg_cycle_records.specs.Fitting.{IsTypeFit}
 use Rattle.rpg_cycle.specs.Indicators.{first_page, last_record, level_indicators, with_all, with_one, with_type, without_type, without_types}
 use Rattle.rpg_cycle.specs.Phases.{all_off, done, has_no_overflow, set_off, with_config}
 use Rattle.rpg_machine.specs.Config.{Config}
@@ -91,7 +91,7 @@ sets_off p a b is = record {
 }
 
 -- the indicators of types
-pub row_indicators : (len : ℕ) (ts : List RecordType) → All (IsTypeIn len) (map type_row ts) → All (λ (t : RecordType). ForSome t.indicator IsIndicator) ts
-row_indicators len ts h k d inside =
+pub row_indicators : (p : Object) (ts : List RecordType) → All (IsTypeFit p) (map type_row ts) → All (λ (t : RecordType). ForSome t.indicator IsIndicator) ts
+row_indicators p ts h k d inside =
     subst (λ (t : TypeRow ℕ). ForSome t.indicator IsIndicator) (get_or-map type_row ts k d (type_row d) inside)
     (h k (type_row d) (subst (λ n. k < n) (sym (length-map ts type_row)) inside)).indicator

@@ -68,11 +68,19 @@ stage_law (Ended e) = refl
 abbrev pub stage_code : Coded Stage
 stage_code = code_by (Unit {0} ⊎ (Unit {0} ⊎ PhaseEnd)) (coded⊎ coded_unit (coded⊎ coded_unit end_code)) stage_to stage_from stage_law
 
-abbrev left_to : Left → Bool × (Bool × List (Option (List ℕ)))
-left_to l = (l.any, (l.control, l.bytes))
+abbrev Value : Type 0
+Value = Option (List ℕ)
 
-abbrev left_from : Bool × (Bool × List (Option (List ℕ))) → Left
-left_from p = record { any = p.0; control = p.1.0; bytes = p.1.1 }
+abbrev coded_value : Coded Value
+coded_value = coded_option (coded_list coded_ℕ)
+
+abbrev left_to : Left → Bool × (Bool × (List Value × (Value × Value)))
+left_to l = (l.any, (l.control, (l.bytes, (l.primary, l.secondary))))
+
+abbrev left_from : Bool × (Bool × (List Value × (Value × Value))) → Left
+left_from p = record { any = p.0; control = p.1.0; bytes = p.1.1.0; primary = p.1.1.1.0; secondary = p.1.1.1.1 }
 
 abbrev pub left_code : Coded Left
-left_code = code_by (Bool × (Bool × List (Option (List ℕ)))) (coded× coded_bool (coded× coded_bool (coded_list (coded_option (coded_list coded_ℕ))))) left_to left_from (λ _. refl)
+left_code =
+    code_by (Bool × (Bool × (List Value × (Value × Value)))) (coded× coded_bool (coded× coded_bool (coded× (coded_list coded_value) (coded× coded_value coded_value)))) left_to left_from
+    (λ _. refl)

@@ -8,6 +8,7 @@ use Rattle.rpg_cycle.specs.Indicators.{any_on, first_page, halt_indicators, is_o
 use Rattle.rpg_cycle_records.specs.Levels.{differs, highest_broken, is_in_record, level_bytes}
 use Rattle.rpg_effect.specs.Ends as effects
 use Rattle.rpg_effect.specs.Input.{TypeRow}
+use Rattle.rpg_effect.specs.declared.input.InputFile.TheVariants.{Primary}
 use Rattle.rpg_machine.specs.Config.{Config, Output, charged, no_output, with_more}
 use Rattle.rpg_machine.specs.Outputs.{FillsFields, PutsOut}
 use Rattle.rpg_machine.specs.Run.{RunsTo}
@@ -124,12 +125,12 @@ take_type p left text Misplaced c = done (Wrong effects.Storage) (record { confi
 
 -- types are tried, which weighs the codes of all that are
 abbrev pub identify : Object → Left → List ℕ → Config → Done
-identify p left text c = take_type p left text (identified 0 p.types text) (charged (trial_weight p.types text) c)
+identify p left text c = take_type p left text (identified Primary 0 p.types text) (charged (trial_weight Primary p.types text) c)
 
 -- a good record is identified, a bad one is halt 7; where there is none LR and all levels go on
 abbrev pub read_record : Object → Left → Option (List ℕ) → Config → Done
 read_record p left None c = done GoesOn (record { config = with_all level_indicators true (with_one last_record true c); selected = None })
-read_record p left (Some text) c = if is_good_record p text then identify p left (padded p text) c else done (Halt 7) (record { config = c; selected = None })
+read_record p left (Some text) c = if is_good_record p Primary text then identify p left (padded p Primary text) c else done (Halt 7) (record { config = c; selected = None })
 
 -- where LR is on no record is read, and L1 to L9 go on
 abbrev pub select_record : Object → Left → Option (List ℕ) → Phase

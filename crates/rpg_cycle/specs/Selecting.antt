@@ -1,6 +1,6 @@
 -- What the parts of the selection of a record do.
 use Rattle.std.specs.Prelude.{◌≡◌, ℕ, ◌<◌, ◌≤◌, All, List, length, slice_get, Option, Some}
-use Rattle.rpg_cycle_records.specs.Earlier.{Left, Selected}
+use Rattle.rpg_cycle_records.specs.Earlier.{Left, Selected, file_of}
 use Rattle.rpg_cycle.specs.Ends.{Halt, PhaseEnd}
 use Rattle.rpg_cycle_records.specs.Fitting.{IsControlIn}
 use Rattle.rpg_cycle_records.specs.Identifying.{IsOf, IsOfNone, identified, trial_weight}
@@ -12,23 +12,25 @@ use Rattle.rpg_cycle.specs.Stages.{job_end}
 use Rattle.rpg_cycle.specs.declared.ends.JobEnd.{JobEnd}
 use Rattle.rpg_paper.specs.Paper.{Position}
 use Rattle.rpg_effect.specs.declared.input.ControlField.{ControlField}
+use Rattle.rpg_effect.specs.declared.input.InputFile.TheVariants.{Primary}
 use Rattle.rpg_machine.specs.Config.{Config, charged}
 use Rattle.rpg_machine.specs.Running.{Running, config_on}
 use Rattle.rpg_object_program.specs.Object.{Object}
 
 -- the record is of that type, whose indicator went on
 pub record TakesType (p : Object) (text : List ℕ) (old : Running) (t : ℕ) (new : Running) : Type 0 where
-  pub type : identified 0 p.types text ≡ IsOf t
-  pub few : trial_weight p.types text ≤ 20000
+  pub type : identified Primary 0 p.types text ≡ IsOf t
+  pub own : file_of (slice_get p.types t) ≡ Primary
+  pub few : trial_weight Primary p.types text ≤ 20000
   pub there : t < length p.types
-  pub machine : new ≡ record old { config = with_type (type_indicator (slice_get p.types t)) (charged (trial_weight p.types text) old.config) }
+  pub machine : new ≡ record old { config = with_type (type_indicator (slice_get p.types t)) (charged (trial_weight Primary p.types text) old.config) }
 
 -- the record is of no type
 pub record IsUntaken (p : Object) (text : List ℕ) (old : Running) (e : JobEnd) (new : Running) : Type 0 where
-  pub type : identified 0 p.types text ≡ IsOfNone
-  pub few : trial_weight p.types text ≤ 20000
+  pub type : identified Primary 0 p.types text ≡ IsOfNone
+  pub few : trial_weight Primary p.types text ≤ 20000
   pub end : job_end e ≡ Halt 3
-  pub machine : new ≡ record old { config = charged (trial_weight p.types text) old.config }
+  pub machine : new ≡ record old { config = charged (trial_weight Primary p.types text) old.config }
 
 -- the control fields were compared, and are kept
 pub record IsCompared (fs : List ControlField) (text : List ℕ) (bytes : List (Option (List ℕ))) (old new : Running) (now : List (Option (List ℕ))) : Type 0 where

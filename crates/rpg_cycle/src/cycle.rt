@@ -4,7 +4,8 @@ ghost use Rattle.std.specs.Option.{ForSome, option_map};
 ghost use Rattle.rpg_cycle.specs.Doing.{Does};
 ghost use Rattle.rpg_cycle_records.specs.Earlier.{Selected};
 ghost use Rattle.rpg_cycle.specs.Ends.{GoesOn};
-ghost use Rattle.rpg_cycle_records.specs.Keeping.{kept_levels, left_of, selected_as};
+ghost use Rattle.rpg_cycle_records.specs.Fitting.{IsFilledAs};
+ghost use Rattle.rpg_cycle_records.specs.Keeping.{left_of, renewed_by, selected_as};
 ghost use Rattle.rpg_machine.specs.Ready.{IsReady};
 ghost use Rattle.rpg_cycle.specs.Phases as spec;
 ghost use Rattle.rpg_cycle.specs.Spending.{Spends, cycle_weight, inputs_weight, reach, record_weight};
@@ -38,7 +39,7 @@ fn take_record<S: Store + Drop>(
     requires light { cycle_weight program.now ≤ 2 ^ 48 }
     requires small { inputs_weight program.now selected ≤ 2 ^ 49 }
     requires there { ForSome selected (λ t. t < length program.now.types) }
-    requires whole { ForSome selected (λ _. length kept.now.record.items ≡ program.now.record_length) }
+    requires whole { ForSome selected (λ t. IsFilledAs program.now t kept.now.record.items) }
     requires characters { ForSome selected (λ _. All IsCharacter kept.now.record.items) }
     ensures goes { IfOk result (λ _. Does (spec.after_selection program.now (left_of kept.now)) machine.old (selected_as selected kept.now.record.items) GoesOn machine.new (selected_as selected kept.now.record.items)) }
     ensures stops { IfStops result (λ e. Does (spec.after_selection program.now (left_of kept.now)) machine.old (selected_as selected kept.now.record.items) (job_end e) machine.new (selected_as selected kept.now.record.items)) }
@@ -69,7 +70,7 @@ pub(crate) fn run_cycle<S: Store + Drop>(
     ensures ready { IfOk result (λ _. IsReady machine.new) }
     ensures few { UnlessNoMemory result (machine.new.config.steps ≤ bound program.now) }
     ensures there { IfOk result (λ t. ForSome t (λ t. t < length program.now.types)) }
-    ensures kept { IfOk result (λ t. left_of kept.new ≡ kept_levels program.now t kept.new.record.items (left_of kept.old)) }
+    ensures kept { IfOk result (λ t. left_of kept.new ≡ renewed_by program.now t kept.new.record.items (left_of kept.old)) }
 {
     is_bounded(program);
     machine.refill();

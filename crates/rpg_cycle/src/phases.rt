@@ -5,6 +5,7 @@ ghost use Rattle.rpg_cycle.specs.Doing.{Does, Passes};
 ghost use Rattle.rpg_cycle.specs.Ends as ends;
 ghost use Rattle.rpg_cycle.specs.Ends.{GoesOn};
 ghost use Rattle.rpg_cycle.specs.Indicators as lights;
+ghost use Rattle.rpg_cycle_records.specs.Fitting.{IsFilledAs};
 ghost use Rattle.rpg_cycle_records.specs.Keeping.{selected_as};
 ghost use Rattle.rpg_machine.specs.Ready.{IsReady};
 ghost use Rattle.rpg_cycle.specs.Phases as spec;
@@ -263,7 +264,7 @@ pub(crate) fn fill_fields<S: Store + Drop>(
     requires ready { IsReady machine.old }
     requires few { machine.old.config.steps ≤ 2 ^ 60 }
     requires there { ForSome selected (λ t. t < length program.now.types) }
-    requires whole { ForSome selected (λ _. length text.now ≡ program.now.record_length) }
+    requires whole { ForSome selected (λ t. IsFilledAs program.now t text.now) }
     requires characters { ForSome selected (λ _. All IsCharacter text.now) }
     ensures goes { IfOk result (λ _. Does (spec.fill_fields program.now) machine.old (selected_as selected text.now) GoesOn machine.new (selected_as selected text.now)) }
     ensures stops { IfStops result (λ e. Does (spec.fill_fields program.now) machine.old (selected_as selected text.now) (job_end e) machine.new (selected_as selected text.now)) }

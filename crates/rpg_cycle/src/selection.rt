@@ -4,9 +4,10 @@ ghost use Rattle.std.specs.Option.{ForSome, option_map};
 ghost use Rattle.rpg_cycle.specs.Doing.{Does};
 ghost use Rattle.rpg_cycle_records.specs.Earlier as earlier;
 ghost use Rattle.rpg_cycle.specs.Ends.{GoesOn};
+ghost use Rattle.rpg_cycle_records.specs.Fitting.{IsFilledAs};
 ghost use Rattle.rpg_cycle_records.specs.Identifying.{is_good_record};
 ghost use Rattle.rpg_cycle.specs.Indicators as lights;
-ghost use Rattle.rpg_cycle_records.specs.Keeping.{kept_levels, left_of, renewed, seen_levels, selected_as};
+ghost use Rattle.rpg_cycle_records.specs.Keeping.{left_of, renewed_by, seen_levels, selected_as};
 ghost use Rattle.rpg_machine.specs.Ready.{IsReady};
 ghost use Rattle.rpg_cycle.specs.Phases as spec;
 ghost use Rattle.rpg_cycle.specs.Selecting.{HasRead, IsCompared, IsUntaken, TakesType};
@@ -18,10 +19,9 @@ ghost use Rattle.rpg_object_program.specs.Kept.{IsCharacter};
 use crate::ends::{JobEnd, Stop};
 use crate::indicators::{LAST_RECORD, LEVELS, turn_all, turn_type_on};
 use crate::program::indicator_of;
-use rpg_cycle_records::{
-    Kept, LastBytes, compare, control_fields, fill, identify, is_good, types_of,
-};
+use rpg_cycle_records::{Kept, LastBytes, compare, control_fields, fill, identify, is_good};
 use rpg_effect::halt::Halt;
+use rpg_effect::input::InputFile;
 use rpg_machine::Machine;
 use rpg_store::Store;
 use rpg_verify::Verified;
@@ -48,7 +48,7 @@ fn take_type<S: Store + Drop>(
     ensures stops { IfStops result (λ e. IsUntaken program.now text.now machine.old e machine.new) }
     ensures ready { IfOk result (λ _. IsReady machine.old → IsReady machine.new) }
 {
-    let found = identify(types_of(program), text);
+    let found = identify(program, InputFile::Primary, text);
     machine.charge(found.codes);
     match found.row {
         None => Err(Stop::Ends(JobEnd::Halt(Halt::NoRecordType))),
@@ -70,7 +70,7 @@ fn compare_levels<S: Store + Drop>(
     requires few { machine.old.config.steps ≤ 2 ^ 51 }
     requires nine { length levels.old ≡ 9 }
     requires there { row < length program.now.types }
-    requires whole { length text.now ≡ program.now.record_length }
+    requires whole { IsFilledAs program.now row text.now }
     ensures compared { OnOk result (IsCompared (earlier.control_fields program.now row) text.now (seen_levels levels.old) machine.old machine.new (seen_levels levels.new)) }
     ensures ready { OnOk result (IsReady machine.old → IsReady machine.new) }
 {
@@ -96,16 +96,17 @@ fn read<S: Store + Drop>(
     ensures spends { IfStops result (λ _. Spends program.now (types_weight program.now.types) machine.old machine.new) }
     ensures selects { IfOk result (λ t. Selects program.now (Some t) machine.old machine.new) }
     ensures there { IfOk result (λ t. t < length program.now.types) }
-    ensures whole { IfOk result (λ _. length kept.new.record.items ≡ program.now.record_length) }
+    ensures whole { IfOk result (λ t. IsFilledAs program.now t kept.new.record.items) }
     ensures characters { IfOk result (λ _. All IsCharacter kept.new.record.items) }
-    ensures kept { IfOk result (λ t. left_of kept.new ≡ record (left_of kept.old) { bytes = renewed (earlier.control_fields program.now t) kept.new.record.items 9 (left_of kept.old).bytes }) }
+    ensures kept { IfOk result (λ t. left_of kept.new ≡ renewed_by program.now (Some t) kept.new.record.items (left_of kept.old)) }
 {
-    if !is_good(program, text) {
+    if !is_good(program, InputFile::Primary, text) {
         return Err(Stop::Ends(JobEnd::Halt(Halt::BadRecord)));
     }
-    fill(&mut kept.record, program, text)?;
+    fill(&mut kept.record, program, InputFile::Primary, text)?;
     let row = take_type(program, machine, &kept.record)?;
     compare_levels(program, machine, &mut kept.levels, row, &kept.record)?;
+    kept.values.keep(program, row, &kept.record)?;
     Ok(row)
 }
 
@@ -127,9 +128,9 @@ pub(crate) fn select_record<S: Store + Drop>(
     ensures spends { IfStops result (λ _. Spends program.now (types_weight program.now.types) machine.old machine.new) }
     ensures selects { IfOk result (λ t. Selects program.now t machine.old machine.new) }
     ensures there { IfOk result (λ t. ForSome t (λ t. t < length program.now.types)) }
-    ensures whole { IfOk result (λ t. ForSome t (λ _. length kept.new.record.items ≡ program.now.record_length)) }
+    ensures whole { IfOk result (λ t. ForSome t (λ t. IsFilledAs program.now t kept.new.record.items)) }
     ensures characters { IfOk result (λ t. ForSome t (λ _. All IsCharacter kept.new.record.items)) }
-    ensures kept { IfOk result (λ t. left_of kept.new ≡ kept_levels program.now t kept.new.record.items (left_of kept.old)) }
+    ensures kept { IfOk result (λ t. left_of kept.new ≡ renewed_by program.now t kept.new.record.items (left_of kept.old)) }
 {
     if machine.indicator(LAST_RECORD) {
         turn_all(machine, &LEVELS, true);

@@ -1,5 +1,10 @@
+pub mod Finding
 pub mod Fitting
 pub mod Fronts
 pub mod Joining
+pub mod Matches
+pub mod Order
 pub mod Recording
 pub mod Trying
+pub mod Valuing
+pub mod Weighing

@@ -5,8 +5,9 @@ use Rattle.std.proofs.lemmas.List.Elements.{All-append, All-replicate}
 use Rattle.std.specs.List.{list_all}
 use Rattle.rpg_text.specs.Texts.{is_character}
 use Rattle.rpg_cycle_records.specs.Identifying.{is_good_record, padded}
+use Rattle.rpg_effect.specs.declared.input.InputFile.{InputFile}
 use Rattle.rpg_object_program.specs.Kept.{IsCharacter}
-use Rattle.rpg_object_program.specs.Object.{Object}
+use Rattle.rpg_object_program.specs.Object.{Object, input_length}
 
 character : (c : ℕ) → is_character c ≡ true → IsCharacter c
 character c h = record { lowest = grind (arith, nat_tests, h); highest = grind (arith, nat_tests, h) }
@@ -27,8 +28,8 @@ characters (x ∷ xs) h =
     only : IsCharacter x → All IsCharacter (x ∷ [])
     only c = All-replicate IsCharacter 1 x c
 
-pub filled_characters : (p : Object) (text : List ℕ) → is_good_record p text ≡ true → All IsCharacter (padded p text)
-filled_characters p text good =
-    All-append IsCharacter text (replicate (p.record_length - length text) 32)
-    (characters text (second (leb (length text) p.record_length) (list_all is_character text) good))
-    (All-replicate IsCharacter (p.record_length - length text) 32 (record { lowest = omega arith; highest = omega arith }))
+pub filled_characters : (p : Object) (f : InputFile) (text : List ℕ) → is_good_record p f text ≡ true → All IsCharacter (padded p f text)
+filled_characters p f text good =
+    All-append IsCharacter text (replicate (input_length p f - length text) 32)
+    (characters text (second (leb (length text) (input_length p f)) (list_all is_character text) good))
+    (All-replicate IsCharacter (input_length p f - length text) 32 (record { lowest = omega arith; highest = omega arith }))

@@ -1,17 +1,21 @@
--- What the cycle wants of record types: that their columns are the record's, and that there are few.
-use Rattle.std.specs.Prelude.{ℕ, ◌≤◌, All, length}
+-- What the cycle wants of record types: that their columns are those of their file's records, and that there are few.
+use Rattle.std.specs.Prelude.{◌≡◌, ℕ, ◌≤◌, All, List, length, slice_get, true}
 use Rattle.std.specs.Option.{ForSome}
+use Rattle.rpg_cycle_records.specs.Earlier.{file_of}
+use Rattle.rpg_cycle_records.specs.Identifying.{same_file}
 use Rattle.rpg_effect.specs.Input.{TypeRow}
 use Rattle.rpg_effect.specs.declared.input.ControlField.{ControlField}
+use Rattle.rpg_effect.specs.declared.input.InputFile.{InputFile}
 use Rattle.rpg_effect.specs.declared.input.RecordCode.{RecordCode}
 use Rattle.rpg_object_program.specs.Kept.{IsIndicator}
+use Rattle.rpg_object_program.specs.Object.{Object, input_length}
 
 -- the position of a code is one of a record of that length
 pub record IsCodeIn (len : ℕ) (c : RecordCode) : Type 0 where
   pub low : 1 ≤ c.position
   pub high : c.position ≤ len
 
--- so are the columns of a control field
+-- so are the columns of a control field or a match field
 pub record IsControlIn (len : ℕ) (f : ControlField) : Type 0 where
   pub low : 1 ≤ f.from
   pub order : f.from ≤ f.to
@@ -23,3 +27,16 @@ pub record IsTypeIn (len : ℕ) (t : TypeRow ℕ) : Type 0 where
   pub few_codes : length t.codes ≤ 100
   pub levels : All (IsControlIn len) t.levels
   pub few_levels : length t.levels ≤ 100
+  pub matches : All (IsControlIn len) t.matches
+
+-- a type of that file fits records of that length
+abbrev pub IsTypeOf : InputFile → ℕ → TypeRow ℕ → Type 0
+IsTypeOf f len t = same_file t.file f ≡ true → IsTypeIn len t
+
+-- a type fits the records of its file
+abbrev pub IsTypeFit : Object → TypeRow ℕ → Type 0
+IsTypeFit p t = IsTypeIn (input_length p t.file) t
+
+-- a text is as long as the records of the file of that type
+abbrev pub IsFilledAs : Object → ℕ → List ℕ → Type 0
+IsFilledAs p t text = length text ≡ input_length p (file_of (slice_get p.types t))

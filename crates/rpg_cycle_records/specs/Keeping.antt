@@ -1,10 +1,12 @@
 -- What a job keeps of earlier records.
 use Rattle.std.specs.Prelude.{ℕ, zero, suc, ◌+◌, true, false, ◌||◌, List, [], ◌∷◌, map, slice_index_or, slice_set, Option, None, Some, if◌then◌else◌}
-use Rattle.rpg_cycle_records.specs.Earlier.{Left, Selected, control_fields, is_any, or_before}
+use Rattle.rpg_cycle_records.specs.Earlier.{Left, Selected, control_fields, is_any, or_before, value_from}
 use Rattle.rpg_cycle_records.specs.Levels.{level_bytes}
 use Rattle.rpg_cycle_records.specs.declared.kept.Kept.{Kept}
 use Rattle.rpg_cycle_records.specs.declared.levels.LastBytes.{LastBytes}
+use Rattle.rpg_cycle_records.specs.declared.matching.MatchValue.{MatchValue}
 use Rattle.rpg_effect.specs.declared.input.ControlField.{ControlField}
+use Rattle.rpg_effect.specs.declared.input.InputFile.TheVariants.{Primary, Secondary}
 use Rattle.rpg_object_program.specs.Object.{Object}
 
 abbrev pub seen_bytes : LastBytes → Option (List ℕ)
@@ -13,8 +15,17 @@ seen_bytes l = if l.is_known then Some l.bytes.items else None
 abbrev pub seen_levels : List LastBytes → List (Option (List ℕ))
 seen_levels ls = map seen_bytes ls
 
+abbrev pub seen_value : MatchValue → Option (List ℕ)
+seen_value v = if v.is_there then Some v.bytes.items else None
+
 abbrev pub left_of : Kept → Left
-left_of k = record { any = k.has_any; control = k.has_control; bytes = seen_levels k.levels.items }
+left_of k = record {
+  any = k.has_any;
+  control = k.has_control;
+  bytes = seen_levels k.levels.items;
+  primary = seen_value k.values.primary;
+  secondary = seen_value k.values.secondary;
+}
 
 -- of the first n levels the bytes of this record, where its type has the level, in the place of those before
 abbrev pub renewed : List ControlField → List ℕ → ℕ → List (Option (List ℕ)) → List (Option (List ℕ))
@@ -26,10 +37,14 @@ abbrev pub selected_as : Option ℕ → List ℕ → Option Selected
 selected_as None text = None
 selected_as (Some t) text = Some (record { type = t; text = text })
 
--- the levels renewed by the record that was selected, if one was
-abbrev pub kept_levels : Object → Option ℕ → List ℕ → Left → Left
-kept_levels p None text l = l
-kept_levels p (Some t) text l = record l { bytes = renewed (control_fields p t) text 9 l.bytes }
+-- the match value of its file renewed by a record that has one
+abbrev pub with_value : Object → Selected → Left → Left
+with_value p s l = record l { primary = or_before l.primary (value_from p Primary s); secondary = or_before l.secondary (value_from p Secondary s) }
+
+-- the levels and the match value of its file renewed by the record that was selected, if one was
+abbrev pub renewed_by : Object → Option ℕ → List ℕ → Left → Left
+renewed_by p None text l = l
+renewed_by p (Some t) text l = with_value p (record { type = t; text = text }) (record l { bytes = renewed (control_fields p t) text 9 l.bytes })
 
 -- that a record was selected is kept, and whether its type has control fields
 abbrev pub noted : Object → Option ℕ → Left → Left
@@ -37,4 +52,10 @@ noted p None l = l
 noted p (Some t) l = record l { any = true; control = l.control || is_any (control_fields p t) }
 
 abbrev pub nothing_left : Left
-nothing_left = record { any = false; control = false; bytes = None ∷ None ∷ None ∷ None ∷ None ∷ None ∷ None ∷ None ∷ None ∷ [] }
+nothing_left = record {
+  any = false;
+  control = false;
+  bytes = None ∷ None ∷ None ∷ None ∷ None ∷ None ∷ None ∷ None ∷ None ∷ [];
+  primary = None;
+  secondary = None;
+}

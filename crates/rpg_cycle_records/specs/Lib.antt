@@ -4,4 +4,8 @@ pub mod Fronts
 pub mod Identifying
 pub mod Keeping
 pub mod Levels
+pub mod Matching
+pub mod Merging
+pub mod Paying
 pub mod Trying
+pub mod Waiting

@@ -4,7 +4,9 @@ ghost use Rattle.std.specs.Option.{ForSome};
 ghost use Rattle.rpg_cycle_records.specs.Keeping.{left_of, noted, nothing_left, seen_levels};
 
 use crate::levels::LastBytes;
-use crate::program::{control_fields, record_length};
+use crate::matching::LastValues;
+use crate::program::{control_fields, input_length};
+use rpg_effect::input::InputFile;
 use rpg_verify::Verified;
 use std::alloc::{AllocError, Global};
 
@@ -20,12 +22,14 @@ pub struct Kept {
     pub has_control: bool,
     /// Of each level, L1 first.
     pub levels: Vec<LastBytes>,
+    pub values: LastValues,
     /// The record that a cycle selects, filled to its length.
     pub record: Vec<u8>,
 }
 
 impl Kept {
-    /// Nothing is left yet. All room is made here: 256 bytes for each of nine levels, and a record of the program's length.
+    /// Nothing is left yet. All room is made here: 256 bytes for each of nine levels and for the match value of each file, and a record
+    /// of the primary file.
     pub fn new(alloc: Global, program: &Verified) -> Result<Kept, AllocError>
         ensures { IfOk result (λ k. left_of k ≡ nothing_left) }
     {
@@ -33,7 +37,8 @@ impl Kept {
             has_any: false,
             has_control: false,
             levels: no_levels(alloc)?,
-            record: Vec::with_capacity(alloc, record_length(program))?,
+            values: LastValues::none(alloc)?,
+            record: Vec::with_capacity(alloc, input_length(program, InputFile::Primary))?,
         })
     }
 

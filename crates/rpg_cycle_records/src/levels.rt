@@ -108,7 +108,7 @@ fn add(bytes: &mut Vec<u8>, text: &[u8], field: ControlField) -> Result<(), Allo
 }
 
 /// Adds the bytes of a level.
-fn join(
+pub(crate) fn join(
     bytes: &mut Vec<u8>,
     fields: &[ControlField],
     text: &[u8],

@@ -3,12 +3,15 @@
 
 mod identification;
 mod kept;
+pub mod laws;
 mod levels;
+mod matching;
 mod program;
 mod record;
 
 pub use identification::{Found, identify};
 pub use kept::Kept;
 pub use levels::{LastBytes, compare};
+pub use matching::{LastValues, MatchValue};
 pub use program::{control_fields, rows_of, type_at, types_of};
 pub use record::{fill, is_good};

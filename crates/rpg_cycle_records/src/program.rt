@@ -1,11 +1,11 @@
 //! What is read of a program: its record types.
 ghost use Rattle.std.specs.Prelude.{◌≡◌, ◌≤◌, ◌<◌, All, Some, length, map, slice_get};
 ghost use Rattle.rpg_cycle_records.specs.Earlier as earlier;
-ghost use Rattle.rpg_cycle_records.specs.Fitting.{IsControlIn, IsTypeIn};
+ghost use Rattle.rpg_cycle_records.specs.Fitting.{IsControlIn, IsTypeFit};
 ghost use Rattle.rpg_object_program.specs.Kept.{IsProgram};
-ghost use Rattle.rpg_object_program.specs.Object.{seen, type_row};
+ghost use Rattle.rpg_object_program.specs.Object.{input_length as length_of, seen, type_row};
 
-use rpg_effect::input::ControlField;
+use rpg_effect::input::{ControlField, InputFile};
 use rpg_object_program::row::{RecordType, Rows};
 use rpg_verify::Verified;
 
@@ -17,10 +17,10 @@ pub fn rows_of(program: &Verified) -> &Rows
     program.program().rows()
 }
 
-/// What the rules and the format give of record types: their columns are the record's, and there are few.
+/// What the rules and the format give of record types: their columns are those of their file's records, and there are few.
 #[tactic(auto, using(crate::proofs::Fitting::types_fit))]
 fn types_fit(program: &Verified)
-    ensures fit { All (IsTypeIn program.now.record_length) program.now.types }
+    ensures fit { All (IsTypeFit program.now) program.now.types }
     ensures few { length program.now.types ≤ 200 }
 {
     program.is_sound();
@@ -30,7 +30,7 @@ fn types_fit(program: &Verified)
 /// The record types of a program, 200 at most.
 pub fn types_of(program: &Verified) -> &[RecordType]
     ensures same { map type_row result.now ≡ program.now.types }
-    ensures fit { All (IsTypeIn program.now.record_length) (map type_row result.now) }
+    ensures fit { All (IsTypeFit program.now) (map type_row result.now) }
     ensures few { length result.now ≤ 200 }
 {
     types_fit(program);
@@ -41,7 +41,7 @@ pub fn types_of(program: &Verified) -> &[RecordType]
 pub fn type_at(program: &Verified, row: usize) -> &RecordType
     requires { row < length program.now.types }
     ensures same { slice_get program.now.types row ≡ Some (type_row result.now) }
-    ensures fits { IsTypeIn program.now.record_length (type_row result.now) }
+    ensures fits { IsTypeFit program.now (type_row result.now) }
 {
     &types_of(program)[row]
 }
@@ -50,15 +50,36 @@ pub fn type_at(program: &Verified, row: usize) -> &RecordType
 pub fn control_fields(program: &Verified, row: usize) -> &[ControlField]
     requires { row < length program.now.types }
     ensures value { result.now ≡ earlier.control_fields program.now row }
-    ensures inside { All (IsControlIn program.now.record_length) result.now }
+    ensures inside { All (IsControlIn (length_of program.now (earlier.file_of (slice_get program.now.types row)))) result.now }
     ensures few { length result.now ≤ 100 }
 {
     type_at(program, row).levels.as_slice()
 }
 
-/// The columns of a record.
-pub(crate) fn record_length(program: &Verified) -> usize
-    ensures { result ≡ program.now.record_length }
+/// The match fields of a type, 9 at most; the first row is 0.
+pub(crate) fn match_fields(program: &Verified, row: usize) -> &[ControlField]
+    requires { row < length program.now.types }
+    ensures value { result.now ≡ earlier.match_fields program.now row }
+    ensures inside { All (IsControlIn (length_of program.now (earlier.file_of (slice_get program.now.types row)))) result.now }
 {
-    usize::from(rows_of(program).record_length)
+    type_at(program, row).matches.as_slice()
+}
+
+/// The file of a type; the first row is 0.
+pub(crate) fn file_of(program: &Verified, row: usize) -> InputFile
+    requires { row < length program.now.types }
+    ensures { result ≡ earlier.file_of (slice_get program.now.types row) }
+{
+    type_at(program, row).file
+}
+
+/// The columns of a file's records, 0 where there is no such file.
+pub(crate) fn input_length(program: &Verified, file: InputFile) -> usize
+    ensures { result ≡ length_of program.now file }
+{
+    let rows = rows_of(program);
+    usize::from(match file {
+        InputFile::Primary => rows.record_length,
+        InputFile::Secondary => rows.secondary_length,
+    })
 }

@@ -1,31 +1,34 @@
 -- A record is selected, or the job ends.
-use Rattle.std.proofs.Common.{◌≡◌, ℕ, ◌+◌, ◌-◌, ◌≤◌, Bool, true, false, ◌&&◌, cond, leb, leb-true, List, [], ◌∷◌, length, replicate, take, slice_get, Option, None, Some, All, refl, sym, ◌∙◌, subst, arith, length-append}
+use Rattle.std.proofs.Common.{◌≡◌, ℕ, ◌+◌, ◌-◌, ◌≤◌, Bool, true, false, ◌&&◌, cond, leb, leb-true, not, List, [], ◌∷◌, length, replicate, take, slice_get, Option, None, Some, All, refl, sym, ap, ◌∙◌, subst, arith, length-append}
 use Rattle.std.proofs.lemmas.List.{length-replicate}
 use Rattle.std.proofs.lemmas.List.Elements.{All-head, All-nil, All-tail}
 use Rattle.std.proofs.lemmas.Option.{get_or_from_slice_get, slice_get_within}
 use Rattle.std.specs.List.{list_all}
+use Rattle.rpg_cycle_records.proofs.Finding.{found_own}
 use Rattle.rpg_cycle_records.proofs.Fitting.{types_fit}
 use Rattle.rpg_cycle_records.proofs.Recording.{filled_characters}
 use Rattle.rpg_cycle.proofs.Selecting.{all_inside}
 use Rattle.rpg_cycle.proofs.Spending.{found_few, tried_few}
-use Rattle.rpg_cycle_records.proofs.Trying.{all_there}
-use Rattle.rpg_cycle_records.specs.Earlier.{Left, Selected, control_fields, levels_of}
+use Rattle.rpg_cycle_records.proofs.Trying.{all_there, fit_file}
+use Rattle.rpg_cycle_records.specs.Earlier.{Left, Selected, control_fields, file_of, levels_of}
 use Rattle.rpg_cycle.specs.Ends.{GoesOn, Halt, Wrong}
-use Rattle.rpg_cycle_records.specs.Fitting.{IsControlIn, IsTypeIn}
-use Rattle.rpg_cycle_records.specs.Identifying.{Trial, IsOf, IsOfNone, Misplaced, padded, code_holds, identified, is_good_record, has_position, trial_weight}
+use Rattle.rpg_cycle_records.specs.Fitting.{IsControlIn, IsFilledAs, IsTypeFit, IsTypeOf}
+use Rattle.rpg_cycle_records.specs.Identifying.{Trial, IsOf, IsOfNone, Misplaced, padded, code_holds, identified, is_good_record, has_position, same_file, trial_weight}
 use Rattle.rpg_cycle_records.specs.Levels.{is_in_record}
 use Rattle.rpg_cycle.specs.Indicators.{is_on, last_record, level_indicators, with_all, with_levels, with_one, with_type}
 use Rattle.rpg_cycle.specs.Phases.{Done, broken_level, compare_levels, done, identify, read_record, select_record, take_type, type_indicator}
 use Rattle.rpg_effect.specs.Ends as effects
 use Rattle.rpg_effect.specs.Input.{TypeRow}
 use Rattle.rpg_effect.specs.Weights.{types_weight}
+use Rattle.rpg_effect.specs.declared.input.InputFile.{InputFile}
+use Rattle.rpg_effect.specs.declared.input.InputFile.TheVariants.{Primary}
 use Rattle.rpg_text.specs.Texts.{is_character}
 use Rattle.rpg_cycle_safety.specs.Holding.{Holds}
 use Rattle.rpg_machine.specs.Accepted.{IsOrderly}
 use Rattle.rpg_machine.specs.Config.{Config, charged}
 use Rattle.rpg_machine.specs.Outputs.{inputs_at}
 use Rattle.rpg_object_program.specs.Kept.{IsCharacter}
-use Rattle.rpg_object_program.specs.Object.{Object}
+use Rattle.rpg_object_program.specs.Object.{Object, input_length}
 use Rattle.rpg_cycle_safety.proofs.Turning.{Still, all_still, last_still_on, still_holds, still_reach, still_then, type_still}
 use Rattle.rpg_cycle_safety.proofs.Working.{Comes, IsTaken, Works, does_work, ends, goes, its_fields, nothing, reach}
 use Rattle.std.specs.FinMap as map
@@ -37,16 +40,21 @@ not_misplaced n true true rest h more is = cc
 not_misplaced n true false rest h more is = more is
 not_misplaced n false hold rest h more is = cc
 
-never_misplaced : (n : ℕ) (ts : List (TypeRow ℕ)) (text : List ℕ) → All (IsTypeIn (length text)) ts → identified n ts text ≡ Misplaced → ⊥
-never_misplaced n [] text fit is = cc
-never_misplaced n (t ∷ ts) text fit is =
-    not_misplaced n (list_all (has_position text) t.codes) (list_all (code_holds text) t.codes) (identified (n + 1) ts text) (all_there text t.codes (All-head (IsTypeIn (length text)) t ts fit).codes)
-    (never_misplaced (n + 1) ts text (All-tail (IsTypeIn (length text)) t ts fit)) is
+in_file : (f : InputFile) (n : ℕ) (t : TypeRow ℕ) (text : List ℕ) (rest : Trial) (own : Bool) → same_file t.file f ≡ own → IsTypeOf f (length text) t → (rest ≡ Misplaced → ⊥) →
+    cond (not own) rest (cond (list_all (has_position text) t.codes) (cond (list_all (code_holds text) t.codes) (IsOf n) rest) Misplaced) ≡ Misplaced → ⊥
+in_file f n t text rest false e fit more is = more is
+in_file f n t text rest true e fit more is = not_misplaced n (list_all (has_position text) t.codes) (list_all (code_holds text) t.codes) rest (all_there text t.codes (fit e).codes) more is
 
-levels_fit : (len : ℕ) (types : List (TypeRow ℕ)) (row : ℕ) (o : Option (TypeRow ℕ)) → All (IsTypeIn len) types → slice_get types row ≡ o →
-    All (IsControlIn len) (levels_of o)
-levels_fit len types row None fit is = All-nil (IsControlIn len)
-levels_fit len types row (Some t) fit is = (subst (IsTypeIn len) (get_or_from_slice_get types row t t is) (fit row t (slice_get_within types row t is))).levels
+never_misplaced : (f : InputFile) (n : ℕ) (ts : List (TypeRow ℕ)) (text : List ℕ) → All (IsTypeOf f (length text)) ts → identified f n ts text ≡ Misplaced → ⊥
+never_misplaced f n [] text fit is = cc
+never_misplaced f n (t ∷ ts) text fit is =
+    in_file f n t text (identified f (n + 1) ts text) (same_file t.file f) refl (All-head (IsTypeOf f (length text)) t ts fit)
+    (never_misplaced f (n + 1) ts text (All-tail (IsTypeOf f (length text)) t ts fit)) is
+
+levels_fit : (p : Object) (row : ℕ) (o : Option (TypeRow ℕ)) → All (IsTypeFit p) p.types → slice_get p.types row ≡ o →
+    All (IsControlIn (input_length p (file_of o))) (levels_of o)
+levels_fit p row None fit is = All-nil (IsControlIn (input_length p Primary))
+levels_fit p row (Some t) fit is = (subst (IsTypeFit p) (get_or_from_slice_get p.types row t t is) (fit row t (slice_get_within p.types row t is))).levels
 
 -- ---- the record as it is filled
 
@@ -54,7 +62,7 @@ first : (b c : Bool) → (b && c) ≡ true → b ≡ true
 first true c h = refl
 first false c h = cc
 
-filled_long : (p : Object) (text : List ℕ) → is_good_record p text ≡ true → length (padded p text) ≡ p.record_length
+filled_long : (p : Object) (text : List ℕ) → is_good_record p Primary text ≡ true → length (padded p Primary text) ≡ p.record_length
 filled_long p text good =
     let short : length text ≤ p.record_length = leb-true (length text) p.record_length (first (leb (length text) p.record_length) (list_all is_character text) good) in
     let long = length-append text (replicate (p.record_length - length text) 32) in
@@ -88,15 +96,15 @@ module _ (p : Object) (left : Left) where
   taken_stays text IsOfNone weight c d still = (weight, still)
   taken_stays text Misplaced weight c d still = (weight, still)
 
-  read_stays : (b : Bool) (text : List ℕ) (c : Config) → HasStayed c (cond b (identify p left (padded p text) c) (done (Halt 7) (record { config = c; selected = None })))
+  read_stays : (b : Bool) (text : List ℕ) (c : Config) → HasStayed c (cond b (identify p left (padded p Primary text) c) (done (Halt 7) (record { config = c; selected = None })))
   read_stays true text c =
-      let weight = trial_weight p.types (padded p text) in
-      taken_stays (padded p text) (identified 0 p.types (padded p text)) weight c (charged weight c) (charged_still weight c)
+      let weight = trial_weight Primary p.types (padded p Primary text) in
+      taken_stays (padded p Primary text) (identified Primary 0 p.types (padded p Primary text)) weight c (charged weight c) (charged_still weight c)
   read_stays false text c = (0, all_still [] true c)
 
   next_stays : (next : Option (List ℕ)) (c : Config) → HasStayed c (read_record p left next c)
   next_stays None c = (0, last_still_on c)
-  next_stays (Some text) c = read_stays (is_good_record p text) text c
+  next_stays (Some text) c = read_stays (is_good_record p Primary text) text c
 
   -- whatever comes of the selection of a record
   pub selection_stays : (b : Bool) (next : Option (List ℕ)) (c : Config) →
@@ -125,45 +133,49 @@ module _ (p : Object) (orderly : IsOrderly p) (left : Left) (n : ℕ) where
       ends p (its_fields p) (n + types_weight p.types) (Halt k) (record { config = d; selected = None }) (low, high) (λ is. cc) (still_holds p weight c d still h) (omega (arith, grown, few, paid))
 
   module _ (full : List ℕ) (long : length full ≡ p.record_length) (spelled : All IsCharacter full) (c : Config) (h : Holds p c.world) (none : c.cells ≡ map.empty) (few : reach p c ≤ n) where
-    types_there : All (IsTypeIn (length full)) p.types
-    types_there = subst (λ (len : ℕ). All (IsTypeIn len) p.types) (sym long) (types_fit p orderly.sound orderly.program)
+    types_there : All (IsTypeFit p) p.types
+    types_there = types_fit p orderly.sound orderly.program
 
-    compared : (t : ℕ) → identified 0 p.types full ≡ IsOf t → Selects (compare_levels p left (record { type = t; text = full }) (with_type (type_indicator (slice_get p.types t)) (charged (trial_weight p.types full) c)))
+    filled_as : (t : ℕ) → identified Primary 0 p.types full ≡ IsOf t → IsFilledAs p t full
+    filled_as t is = long ∙ sym (ap (input_length p) (found_own Primary p.types full t is))
+
+    compared : (t : ℕ) → identified Primary 0 p.types full ≡ IsOf t → Selects (compare_levels p left (record { type = t; text = full }) (with_type (type_indicator (slice_get p.types t)) (charged (trial_weight Primary p.types full) c)))
     compared t is =
         let s : Selected = record { type = t; text = full } in
         let fields = control_fields p t in
-        let one = charged (trial_weight p.types full) c in
+        let one = charged (trial_weight Primary p.types full) c in
         let two = with_type (type_indicator (slice_get p.types t)) one in
         let three = charged (length fields) two in
         let four = with_levels (broken_level p left s) three in
-        let weight = trial_weight p.types full + length fields in
-        let still : Still (trial_weight p.types full + 0 + length fields + 0) c four =
-        still_then (trial_weight p.types full + 0 + length fields) 0 c three four
-        (still_then (trial_weight p.types full + 0) (length fields) c two three
-        (still_then (trial_weight p.types full) 0 c one two (charged_still (trial_weight p.types full) c) (type_still (type_indicator (slice_get p.types t)) one))
+        let weight = trial_weight Primary p.types full + length fields in
+        let still : Still (trial_weight Primary p.types full + 0 + length fields + 0) c four =
+        still_then (trial_weight Primary p.types full + 0 + length fields) 0 c three four
+        (still_then (trial_weight Primary p.types full + 0) (length fields) c two three
+        (still_then (trial_weight Primary p.types full) 0 c one two (charged_still (trial_weight Primary p.types full) c) (type_still (type_indicator (slice_get p.types t)) one))
         (charged_still (length fields) two)) (all_still (take (broken_level p left s) level_indicators) true three) in
-        let found = found_few 0 p.types full t is in
+        let found = found_few Primary 0 p.types full t is in
         let row : t ≡ found.place = let r = found.row in omega (arith, r) in
-        let paid : trial_weight p.types full + (length (control_fields p t) + length (inputs_at p t)) ≤ types_weight p.types =
-        subst (λ (k : ℕ). trial_weight p.types full + (length (control_fields p k) + length (inputs_at p k)) ≤ types_weight p.types) (sym row) found.few in
-        let inside = all_inside (length full) fields (levels_fit (length full) p.types t (slice_get p.types t) types_there refl) in
-        let good = goes_to (trial_weight p.types full + 0 + length fields + 0) c four (Some s) still h none (record { long = long; characters = spelled }) few (omega (arith, paid)) in
+        let paid : trial_weight Primary p.types full + (length (control_fields p t) + length (inputs_at p t)) ≤ types_weight p.types =
+        subst (λ (k : ℕ). trial_weight Primary p.types full + (length (control_fields p k) + length (inputs_at p k)) ≤ types_weight p.types) (sym row) found.few in
+        let whole = filled_as t is in
+        let inside = all_inside (length full) fields (subst (λ (len : ℕ). All (IsControlIn len) fields) (sym whole) (levels_fit p t (slice_get p.types t) types_there refl)) in
+        let good = goes_to (trial_weight Primary p.types full + 0 + length fields + 0) c four (Some s) still h none (record { long = whole; characters = spelled }) few (omega (arith, paid)) in
         subst (λ (b : Bool). Selects (cond b (done GoesOn (record { config = four; selected = Some s })) (done (Wrong effects.Storage) (record { config = three; selected = None })))) (sym inside) good
 
-    taken : (t : Trial) → identified 0 p.types full ≡ t → Selects (take_type p left full t (charged (trial_weight p.types full) c))
+    taken : (t : Trial) → identified Primary 0 p.types full ≡ t → Selects (take_type p left full t (charged (trial_weight Primary p.types full) c))
     taken (IsOf t) is = compared t is
-    taken IsOfNone is = halts_at 3 (trial_weight p.types full) c (charged (trial_weight p.types full) c) (omega arith) (omega arith) (charged_still (trial_weight p.types full) c) h few (tried_few p.types full)
-    taken Misplaced is = absurd (never_misplaced 0 p.types full types_there is)
+    taken IsOfNone is = halts_at 3 (trial_weight Primary p.types full) c (charged (trial_weight Primary p.types full) c) (omega arith) (omega arith) (charged_still (trial_weight Primary p.types full) c) h few (tried_few Primary p.types full)
+    taken Misplaced is = absurd (never_misplaced Primary 0 p.types full (fit_file p Primary (length full) p.types long types_there) is)
 
-  read_good : (b : Bool) (text : List ℕ) (c : Config) → is_good_record p text ≡ b → Holds p c.world → c.cells ≡ map.empty → reach p c ≤ n →
-      Selects (cond b (identify p left (padded p text) c) (done (Halt 7) (record { config = c; selected = None })))
+  read_good : (b : Bool) (text : List ℕ) (c : Config) → is_good_record p Primary text ≡ b → Holds p c.world → c.cells ≡ map.empty → reach p c ≤ n →
+      Selects (cond b (identify p left (padded p Primary text) c) (done (Halt 7) (record { config = c; selected = None })))
   read_good true text c good h none few =
-      taken (padded p text) (filled_long p text good) (filled_characters p text good) c h none few (identified 0 p.types (padded p text)) refl
+      taken (padded p Primary text) (filled_long p text good) (filled_characters p Primary text good) c h none few (identified Primary 0 p.types (padded p Primary text)) refl
   read_good false text c good h none few = halts_at 7 0 c c (omega arith) (omega arith) (all_still [] true c) h few (omega arith)
 
   reads : (next : Option (List ℕ)) (c : Config) → Holds p c.world → c.cells ≡ map.empty → reach p c ≤ n → Selects (read_record p left next c)
   reads None c h none few = goes_to 0 c (with_all level_indicators true (with_one last_record true c)) None (last_still_on c) h none tt few (omega arith)
-  reads (Some text) c h none few = read_good (is_good_record p text) text c refl h none few
+  reads (Some text) c h none few = read_good (is_good_record p Primary text) text c refl h none few
 
   selected_by : (b : Bool) (next : Option (List ℕ)) (c : Config) → Holds p c.world → c.cells ≡ map.empty → reach p c ≤ n →
       Selects (cond b (done GoesOn (record { config = with_all level_indicators true c; selected = None })) (read_record p left next c))

@@ -2,6 +2,7 @@
 use Rattle.std.proofs.Common.{◌≡◌, ℕ, ◌+◌, ◌*◌, ◌≤◌, Bool, true, false, cond, length, Option, None, Some, is_some, All, refl, arith, nat_cmp}
 use Rattle.std.specs.FinMap as map
 use Rattle.rpg_cycle_records.specs.Earlier.{Selected}
+use Rattle.rpg_cycle_records.specs.Fitting.{IsFilledAs}
 use Rattle.rpg_cycle.specs.Ends.{PhaseEnd, GoesOn, EndOfJob, Halt, Wrong, phase_end}
 use Rattle.rpg_cycle.specs.Phases.{Done, Phase, UnderWay, by_machine, does, done, either, has_no_overflow, passes, unless, ◌before◌}
 use Rattle.rpg_effect.specs.Effect.{Effect}
@@ -33,9 +34,9 @@ its_fields p None = 0
 its_fields p (Some s) = length (inputs_at p s.type)
 
 module _ (p : Object) where
-  -- a record that was selected is of the program's length, and characters
+  -- a record that was selected is as long as the records of its type's file, and characters
   pub record IsRecord (s : Selected) : Type 0 where
-    pub long : length s.text ≡ p.record_length
+    pub long : IsFilledAs p s.type s.text
     pub characters : All IsCharacter s.text
 
   abbrev pub IsTaken : Option Selected → Type 0

@@ -19,7 +19,7 @@ ghost use Rattle.rpg_cycle_safety.specs.Leading.{EndsWell, HasSectionRun, IsStea
 ghost use Rattle.rpg_machine_lines.specs.Outputs.{passage_effect};
 ghost use Rattle.rpg_machine.specs.Chain.{IsSafe};
 ghost use Rattle.rpg_machine.specs.Config.{Config, Output};
-ghost use Rattle.rpg_machine.specs.Outputs.{inputs_at, output_effect};
+ghost use Rattle.rpg_machine.specs.Outputs.{inputs_at, length_at, output_effect};
 ghost use Rattle.rpg_machine.specs.Run.{RunsTo, at_first, is_end, run};
 ghost use Rattle.rpg_machine.specs.Step.{Next, effect, step};
 ghost use Rattle.rpg_machine.specs.declared.time.OutputTime.{OutputTime};
@@ -46,9 +46,9 @@ pub fn operations_keep()
         Keeps p (operate (form_at p.fields) a w) }
 {}
 
-/// So do the input fields of a record type, over a record of the program's length.
+/// So do the input fields of a record type, over a record as long as those of its file.
 pub fn input_fields_keep()
-    ensures { (p : Object) (row : ℕ) (text : List ℕ) (w : World nat_cmp) → IsProgram p → IsAccepted p → length text ≡ p.record_length →
+    ensures { (p : Object) (row : ℕ) (text : List ℕ) (w : World nat_cmp) → IsProgram p → IsAccepted p → length text ≡ length_at p row →
         All IsCharacter text → Holds p w →
         Keeps p (record_in (form_at p.fields) text (inputs_at p row) w) }
 {}

@@ -3,6 +3,7 @@ use Rattle.std.proofs.Common.{◌≡◌, ℕ, Bool, true, false, cond, ◌||◌,
 use Rattle.rpg_cycle_records.specs.Earlier.{Left, Selected}
 use Rattle.rpg_cycle.specs.Ends.{PhaseEnd, GoesOn, EndOfJob, Halt, Wrong}
 use Rattle.rpg_cycle_records.specs.Identifying.{is_good_record}
+use Rattle.rpg_effect.specs.declared.input.InputFile.TheVariants.{Primary}
 use Rattle.rpg_cycle.specs.Indicators.{is_on, last_record, with_all, with_one, level_indicators}
 use Rattle.rpg_cycle.specs.Phases.{CycleOn, Done, Phase, UnderWay, detail_calculations, detail_lines, done, either, end_where_last, fill_fields, from_there, halt_where_asked, is_bypassed, overflow_lines, output, passes, section, select_record, set_off, total_time, ◌before◌}
 use Rattle.rpg_machine.specs.Config.{Config, Output}
@@ -66,13 +67,13 @@ bad_selected : (b : Bool) (x y : Config) → (let d : Done = cond b (done GoesOn
 bad_selected true x y = refl
 bad_selected false x y = refl
 
-selects_none : (p : Object) (left : Left) (r : List ℕ) → is_good_record p r ≡ false → SelectsNone p left (Some r)
+selects_none : (p : Object) (left : Left) (r : List ℕ) → is_good_record p Primary r ≡ false → SelectsNone p left (Some r)
 selects_none p left r bad c d out first =
     let halts = rw bad at first in
     ap (λ (u : UnderWay). u.selected) halts.1 ∙ bad_selected (is_on c.config last_record) (with_all level_indicators true c.config) c.config
 
 -- a cycle with a bad record doesn't go on
-pub bad_stops : (p : Object) (left : Left) (r : List ℕ) (c d : UnderWay) (out : Output) → is_good_record p r ≡ false → CycleOn p left (Some r) c GoesOn d out → ⊥
+pub bad_stops : (p : Object) (left : Left) (r : List ℕ) (c d : UnderWay) (out : Output) → is_good_record p Primary r ≡ false → CycleOn p left (Some r) c GoesOn d out → ⊥
 bad_stops p left r c d out bad = stops p left (Some r) c d out (selects_none p left r bad)
 
 -- where one phase does what the other does
@@ -91,10 +92,10 @@ behind_same P Q R same c e d out h = (h.0, h.1, h.2, h.3, there Q R h.0 h.1 h.2 
 pub first_same : (P Q R : Phase) → Follows P Q → Follows (P before R) (Q before R)
 first_same P Q R same c e d out h = (h.0, h.1, h.2, same c h.0 h.1 h.2 h.3, h.4)
 
-selects_same : (p : Object) (left : Left) (r s : List ℕ) → is_good_record p r ≡ false → is_good_record p s ≡ false → Follows (select_record p left (Some r)) (select_record p left (Some s))
+selects_same : (p : Object) (left : Left) (r s : List ℕ) → is_good_record p Primary r ≡ false → is_good_record p Primary s ≡ false → Follows (select_record p left (Some r)) (select_record p left (Some s))
 selects_same p left r s bad bad_too c e d out h = rw bad_too (rw bad at h)
 
 -- a cycle does the same with every bad record
-pub bad_are_one : (p : Object) (left : Left) (r s : List ℕ) → is_good_record p r ≡ false → is_good_record p s ≡ false → Follows (CycleOn p left (Some r)) (CycleOn p left (Some s))
+pub bad_are_one : (p : Object) (left : Left) (r s : List ℕ) → is_good_record p Primary r ≡ false → is_good_record p Primary s ≡ false → Follows (CycleOn p left (Some r)) (CycleOn p left (Some s))
 bad_are_one p left r s bad bad_too =
     behind_same (detail_lines p) _ _ (behind_same halt_where_asked _ _ (behind_same (set_off p) _ _ (first_same _ _ _ (selects_same p left r s bad bad_too))))

@@ -5,6 +5,7 @@ use Rattle.std.proofs.lemmas.Bool.{and_right}
 use Rattle.rpg_cycle_records.specs.Earlier.{Selected, left_by}
 use Rattle.rpg_cycle.specs.Ends.{GoesOn, PhaseEnd}
 use Rattle.rpg_cycle_records.specs.Identifying.{is_good_record}
+use Rattle.rpg_effect.specs.declared.input.InputFile.TheVariants.{Primary}
 use Rattle.rpg_cycle.specs.Job.{AtWork, Cycles}
 use Rattle.rpg_cycle.specs.Phases.{Cycle, UnderWay, begun, needs_record}
 use Rattle.rpg_paper.specs.Paper.{Position}
@@ -53,7 +54,7 @@ not_at_end job earlier previous e d out cycle on =
     never_on job.program (left_by job.program earlier) (begun job.program (config_on previous job.config)) d out
     (subst (λ (x : PhaseEnd). Does job earlier previous None x d out) on cycle)
 
-not_bad : (job : AtWork) (earlier : List Selected) (previous : Option Position) (r : List ℕ) (e : PhaseEnd) (d : UnderWay) (out : Output) → is_good_record job.program r ≡ false
+not_bad : (job : AtWork) (earlier : List Selected) (previous : Option Position) (r : List ℕ) (e : PhaseEnd) (d : UnderWay) (out : Output) → is_good_record job.program Primary r ≡ false
     → Does job earlier previous (Some r) e d out → e ≡ GoesOn → ⊥
 not_bad job earlier previous r e d out bad cycle on =
     bad_stops job.program (left_by job.program earlier) r (begun job.program (config_on previous job.config)) d out bad
@@ -111,7 +112,7 @@ ends_with remaining job job' old new with_next limit cycles ends = record {
       );
 }
 
-no_character : (p : Object) → is_good_record p (0 ∷ []) ≡ false
+no_character : (p : Object) → is_good_record p Primary (0 ∷ []) ≡ false
 no_character p = and_right _ _ refl
 
 pub takes_bad : {R : Type 0} (remaining : R → Option (List ℕ)) (job job' : AtWork) (old new : RecordReader R) → limit_of old ≡ job.program.record_length → ReadsNext remaining old (Ok next.Bad) new
@@ -125,7 +126,7 @@ takes_bad remaining job job' old new limit reads cycles = ends_with remaining jo
           (λ x y. HeadCycle job.program earlier (config_on previous job.config) e d out (records x) (records y))
           (λ x y gives.
           let bad = gives.1 in
-          let bad_too : is_good_record job.program bad.0 ≡ false = rw limit at bad.3 in
+          let bad_too : is_good_record job.program Primary bad.0 ≡ false = rw limit at bad.3 in
           subst (λ (rs : List (List ℕ)). HeadCycle job.program earlier (config_on previous job.config) e d out rs (records y)) (sym bad.2) (
             bad_are_one job.program (left_by job.program earlier) (0 ∷ []) bad.0 (no_character job.program) bad_too (begun job.program (config_on previous job.config)) e d out cycle,
             λ on. absurd (never on),

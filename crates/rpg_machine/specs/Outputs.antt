@@ -1,5 +1,6 @@
 -- What the machine does beside calculations: the lines of a time, and the columns of a record that become values of fields.
 use Rattle.std.specs.Prelude.{◌≡◌, ℕ, List, [], length, slice_get, Option, None, Some}
+use Rattle.std.specs.Option.{option_map_or}
 use Rattle.std.specs.Ordering.{nat_cmp}
 use Rattle.rpg_effect.specs.Effect.{Effect}
 use Rattle.rpg_effect.specs.Ends.{End}
@@ -9,11 +10,12 @@ use Rattle.rpg_effect.specs.Lines.{detail_output, overflow_output, total_output}
 use Rattle.rpg_effect.specs.Weights.{detail_weight, overflow_weight, total_weight}
 use Rattle.rpg_effect.specs.World.{World}
 use Rattle.rpg_effect.specs.declared.input.InputField.{InputField}
+use Rattle.rpg_effect.specs.declared.input.InputFile.TheVariants.{Primary}
 use Rattle.rpg_machine.specs.Config.{Config, Output, charged}
 use Rattle.rpg_machine.specs.declared.time.OutputTime.{OutputTime}
 use Rattle.rpg_machine.specs.declared.time.OutputTime.TheVariants as times
 use Rattle.rpg_object_program.specs.Constants.{word_at}
-use Rattle.rpg_object_program.specs.Object.{Object, lines_of}
+use Rattle.rpg_object_program.specs.Object.{Object, input_length, lines_of}
 
 -- an effect on the world, which weighs so much
 pub record ByEffect (weight : ℕ) (effect : World nat_cmp → Effect nat_cmp) (c : Config) (e : End) (d : Config) (out : Output) : Type 0 where
@@ -45,6 +47,10 @@ inputs_of (Some t) = t.inputs
 -- those of a row, the first of which is 0
 abbrev pub inputs_at : Object → ℕ → List (InputField ℕ)
 inputs_at p row = inputs_of (slice_get p.types row)
+
+-- how long the records of its file are
+abbrev pub length_at : Object → ℕ → ℕ
+length_at p row = input_length p (option_map_or (λ t. t.file) (slice_get p.types row) Primary)
 
 -- the fields of a record of a type get their values, and all of them are charged
 abbrev pub FillsFields : Object → ℕ → List ℕ → Config → End → Config → Output → Type 0

@@ -125,7 +125,7 @@ impl<'a, S: Store + Drop> Machine<'a, S> {
     ghost use Rattle.std.specs.FinSet as set;
     ghost use Rattle.rpg_effect.specs.Ends.{end_of};
     ghost use Rattle.rpg_machine.specs.Config.{here};
-    ghost use Rattle.rpg_machine.specs.Outputs.{FillsFields, PutsOut};
+    ghost use Rattle.rpg_machine.specs.Outputs.{FillsFields, PutsOut, length_at};
     ghost use Rattle.rpg_machine.specs.Potential.{PaysForSection};
     ghost use Rattle.rpg_machine.specs.Ready.{IsReady};
     ghost use Rattle.rpg_machine.specs.Run.{RunsTo};
@@ -176,12 +176,12 @@ impl<'a, S: Store + Drop> Machine<'a, S> {
         put_out(rows, &mut self.state.memory, &mut self.state.writer, time)
     }
 
-    /// Fills the fields of a record type, the first of which is 0, from a record that has all its columns.
+    /// Fills the fields of a record type, the first of which is 0, from a record that has all columns of its file's records.
     pub fn fill_fields(&mut self, row: usize, text: &[u8]) -> End
         requires ready { IsReady self.old }
         requires steps { self.old.config.steps < 2 ^ 63 }
         requires row { row < length self.old.program.types }
-        requires filled { length text.now ≡ self.old.program.record_length }
+        requires filled { length text.now ≡ length_at self.old.program row }
         requires characters { All IsCharacter text.now }
         ensures done { Did (FillsFields self.old.program row text.now) self.old (end_of result) self.new }
         ensures ready { result ≡ End.GoesOn → IsReady self.new }

@@ -1,24 +1,37 @@
 -- The laws of the format of the header, and what its numbers keep.
-use Rattle.std.proofs.Common.{◌≡◌, ℕ, ◌-◌, ◌^◌, ◌<◌, ◌≤◌, cond, Option, Some, None, Ok, Err, refl, sym, ap, ◌∙◌, arith, inl, inr, leb, eqb, eqb-true, ne_eqb}
+use Rattle.std.proofs.Common.{◌≡◌, ℕ, ◌-◌, ◌^◌, ◌<◌, ◌≤◌, cond, List, [], ◌∷◌, Option, Some, None, Ok, Err, refl, sym, ap, ◌∙◌, arith, inl, inr, leb, eqb, eqb-true, ne_eqb}
 use Rattle.std.proofs.lemmas.Bool.{leb-true, le-leb, and_parts, and_from}
 use Rattle.std.specs.Option.{ForSome}
-use Rattle.rpg_object_format.specs.declared.fault.Code.TheVariants.{NotAllowed, Unused, Version}
-use Rattle.rpg_object_format.specs.Format.{two_bytes, pair, row}
+use Rattle.rpg_object_format.specs.declared.fault.Code.TheVariants as faults
+use Rattle.rpg_object_format.specs.Format.{keep, two_bytes, pair, row, spelled_along}
+use Rattle.rpg_object_format.specs.Numbers.{two}
 use Rattle.rpg_object_format.proofs.Laws.{IsFormat, IsRule, two_law, pair_law, row_law}
-use Rattle.rpg_object_format.proofs.Rules.{chosen, stands_for, value_is, guarded, number_law, count_law, only_number_law}
+use Rattle.rpg_object_format.proofs.Rules.{chosen, stands_for, value_is, guarded, number_law, count_law}
 use Rattle.rpg_object_program.specs.Kept.{IsOverflowIndicator}
+use Rattle.rpg_object_program.specs.declared.row.Version.{Version}
+use Rattle.rpg_object_program.specs.declared.row.Version.TheVariants as versions
+use Rattle.rpg_object_rows.specs.Shapes.{row_where, unused_number}
+use Rattle.rpg_object_rows.specs.Types.{is_two}
+use Rattle.rpg_object_rows.proofs.ShapeLaws.{unused_number_law, where_used_law}
 use Rattle.rpg_text.specs.Texts.{is_between}
 use Rattle.rpg_object.specs.declared.header.Counts.{Counts}
 use Rattle.rpg_object.specs.declared.header.Header.{Header}
 use Rattle.rpg_object.specs.declared.header.Settings.{Settings}
-use Rattle.rpg_object.specs.Header.{overflow_of, overflow_number, settings, most_instructions, counts, header_format}
+use Rattle.rpg_object.specs.Header.{overflow_of, overflow_number, settings, most_instructions, counts, header_format, secondary_length, version_number, version_of}
 use Rattle.rpg_object_rows.proofs.Choices.{within, counted, between, few}
+
+version_rule : IsRule version_of version_number
+version_rule n x e =
+    elim (chosen (eqb n 1) (stands_for versions.One) (Err faults.Version) (stands_for x) e) [
+      | inl w ↦ ap version_number (sym (value_is versions.One x w.1)) ∙ sym (eqb-true _ _ w.0)
+      | inr w ↦ absurd (let k = w.1 in cc)
+    ]
 
 overflow_rule : IsRule overflow_of overflow_number
 overflow_rule n x e =
-    elim (chosen (eqb n 0) (stands_for None) (cond (is_between 112 119 n) (stands_for (Some n)) (Err NotAllowed)) (stands_for x) e) [
+    elim (chosen (eqb n 0) (stands_for None) (cond (is_between 112 119 n) (stands_for (Some n)) (Err faults.NotAllowed)) (stands_for x) e) [
       | inl w ↦ ap overflow_number (sym (value_is None x w.1)) ∙ sym (eqb-true _ _ w.0)
-      | inr w ↦ sym (ap overflow_number (guarded (is_between 112 119 n) NotAllowed (Some n) x w.1))
+      | inr w ↦ sym (ap overflow_number (guarded (is_between 112 119 n) faults.NotAllowed (Some n) x w.1))
     ]
 
 settings_law : IsFormat settings
@@ -38,11 +51,14 @@ counts_law =
     (pair_law _ _ (count_law 4000) (λ f. pair_law _ _ (count_law 200) (λ t. pair_law _ _ (count_law 1000) (λ l.
     pair_law _ _ (count_law most_instructions) (λ d. pair_law _ _ (count_law (most_instructions - d)) (λ n. count_law 100))))))
 
+secondary_length_law : (v : Version) → IsFormat (secondary_length v)
+secondary_length_law v = where_used_law (is_two v) _ 0 unused_number (number_law (is_between 0 9999)) unused_number_law
+
 pub header_law : IsFormat header_format
 unfolding header_format
 header_law =
     row_law _ _ _ (λ a h. refl) (λ x. refl)
-    (pair_law _ _ (only_number_law 1 Version) (λ version. pair_law _ _ settings_law (λ s. pair_law _ _ counts_law (λ c. only_number_law 0 Unused))))
+    (pair_law _ _ (two_law version_of version_number version_rule) (λ v. pair_law _ _ settings_law (λ s. pair_law _ _ counts_law (λ c. secondary_length_law v))))
 
 -- ---- what the header keeps
 
@@ -67,9 +83,9 @@ overflow_kept : (o : Option ℕ) → overflow_of (overflow_number o) ≡ Ok o �
 overflow_kept None e n is = absurd cc
 overflow_kept (Some m) e n is =
     let same : m ≡ n = cc in
-    elim (chosen (eqb m 0) (stands_for None) (cond (is_between 112 119 m) (stands_for (Some m)) (Err NotAllowed)) (stands_for (Some m)) e) [
+    elim (chosen (eqb m 0) (stands_for None) (cond (is_between 112 119 m) (stands_for (Some m)) (Err faults.NotAllowed)) (stands_for (Some m)) e) [
       | inl w ↦ absurd (let k = w.1 in cc)
-      | inr w ↦ elim (chosen (is_between 112 119 m) (stands_for (Some m)) (Err NotAllowed) (stands_for (Some m)) w.1) [
+      | inr w ↦ elim (chosen (is_between 112 119 m) (stands_for (Some m)) (Err faults.NotAllowed) (stands_for (Some m)) w.1) [
         | inl u ↦ let k = and_parts (leb 112 m) (leb m 119) u.0 in let low = leb-true _ _ k.0 in let high = leb-true _ _ k.1 in record { lowest = omega arith; highest = omega arith }
         | inr u ↦ absurd (let k = u.1 in cc)
       ]
@@ -101,9 +117,37 @@ counts_kept c h = record {
   few_subroutines = counted 100 c.subroutines h.1.1.1.1.1.0;
 }
 
-pub header_kept : (h : Header) → header_format.Holds h → AreSettings h.settings × AreCounts h.counts
-unfolding header_format row pair
-header_kept h holds = (settings_kept h.settings holds.1.0, counts_kept h.counts holds.1.1.0)
+pub record IsHeader (h : Header) : Type 0 where
+  pub settings : AreSettings h.settings
+  pub counts : AreCounts h.counts
+  pub longest_secondary : h.secondary_length ≤ 9999
+  pub plain : h.version ≡ versions.One → h.secondary_length ≡ 0
+  -- as yet
+  pub first_version : h.version ≡ versions.One
+
+secondary_kept : (v : Version) (n : ℕ) → (secondary_length v).Holds n → n ≤ 9999
+unfolding row_where two_bytes
+secondary_kept versions.One n h = omega (arith, h.0)
+secondary_kept versions.Two n h = (within 0 9999 n h.0).1
+
+no_secondary : (v : Version) (n : ℕ) → (secondary_length v).Holds n → v ≡ versions.One → n ≡ 0
+unfolding row_where
+no_secondary versions.One n h one = h.0
+no_secondary versions.Two n h one = absurd cc
+
+version_kept : (v : Version) → version_of (version_number v) ≡ Ok v → v ≡ versions.One
+version_kept versions.One e = refl
+version_kept versions.Two e = absurd cc
+
+pub header_kept : (h : Header) → header_format.Holds h → IsHeader h
+unfolding header_format row pair two_bytes
+header_kept h holds = record {
+  settings = settings_kept h.settings holds.1.0;
+  counts = counts_kept h.counts holds.1.1.0;
+  longest_secondary = secondary_kept h.version h.secondary_length holds.1.1.1;
+  plain = no_secondary h.version h.secondary_length holds.1.1.1;
+  first_version = version_kept h.version holds.0.0;
+}
 
 -- ---- what keeps that is a header
 
@@ -138,6 +182,35 @@ counts_from c h =
       ),
     )
 
-pub header_from : (h : Header) → AreSettings h.settings → AreCounts h.counts → header_format.Holds h
+version_from : (v : Version) → v ≡ versions.One → (version_of (version_number v) ≡ Ok v) × (version_number v < 2 ^ 16)
+version_from versions.One one = (refl, omega arith)
+version_from versions.Two one = absurd cc
+
+secondary_from : (v : Version) (n : ℕ) → n ≤ 9999 → (v ≡ versions.One → n ≡ 0) → (secondary_length v).Holds n
+unfolding row_where two_bytes
+secondary_from versions.One n le plain = (plain refl, (refl, omega arith))
+secondary_from versions.Two n le plain = (between 0 9999 n (omega arith) le, omega arith)
+
+pub header_from : (h : Header) → IsHeader h → header_format.Holds h
 unfolding header_format row pair two_bytes
-header_from h s c = ((refl, omega arith), (settings_from h.settings s, (counts_from h.counts c, (refl, omega arith))))
+header_from h k =
+    (version_from h.version k.first_version, (settings_from h.settings k.settings, (counts_from h.counts k.counts, secondary_from h.version h.secondary_length k.longest_secondary k.plain)))
+
+-- ---- the bytes of a header
+
+-- the numbers of a header, of which the first and the overflow indicator's are these
+abbrev pub header_numbers : ℕ → ℕ → Header → List ℕ
+header_numbers version overflow h =
+    version ∷ h.settings.allowance ∷ h.settings.record_length ∷ h.settings.printer_length ∷ h.settings.disk_length ∷ overflow
+    ∷ h.counts.fields ∷ h.counts.types ∷ h.counts.lines ∷ h.counts.detail ∷ h.counts.total ∷ h.counts.subroutines ∷ h.secondary_length ∷ []
+
+secondary_text : (v : Version) (n : ℕ) → (v ≡ versions.One → n ≡ 0) → (secondary_length v).spelling n ≡ two n
+unfolding row_where two_bytes
+secondary_text versions.One n plain = rw (plain refl) refl
+secondary_text versions.Two n plain = refl
+
+-- these numbers, two bytes each
+pub header_text : (h : Header) → (h.version ≡ versions.One → h.secondary_length ≡ 0) → (version overflow : ℕ) → version ≡ version_number h.version → overflow ≡ overflow_number h.settings.overflow
+    → header_format.spelling h ≡ spelled_along (λ s n. two n) keep tt (header_numbers version overflow h)
+unfolding header_format settings counts row pair two_bytes
+header_text h plain version overflow v o = rw (secondary_text h.version h.secondary_length plain, v, o) refl

@@ -9,6 +9,7 @@ use Rattle.rpg_object_format.specs.Format.{◌>>=◌, fault_at, pair, times_with
 use Rattle.rpg_object_format.proofs.Laws.{IsBytes, IsBytes-rest, IsFormat, further, bind_ok, bind_err, ok_is, pair_law, row_law, table_law}
 use Rattle.rpg_object_format.proofs.Rules.{chosen}
 use Rattle.rpg_object_program.specs.Object.{Object}
+use Rattle.rpg_object_program.specs.declared.row.Version.{Version}
 use Rattle.rpg_object_rows.specs.Instructions.{instruction}
 use Rattle.rpg_object_rows.specs.Lines.{line}
 use Rattle.rpg_object_rows.specs.Types.{record_type_format}
@@ -26,12 +27,12 @@ use Rattle.rpg_object.proofs.HeaderLaws.{header_law}
 use Rattle.rpg_object.proofs.SubroutineLaws.{subroutines_law}
 use Rattle.rpg_object.proofs.ValueLaws.{values_law}
 
-tables_law : (c : Counts) → IsFormat (tables c)
+tables_law : (v : Version) (c : Counts) → IsFormat (tables v c)
 unfolding tables
-tables_law c =
+tables_law v c =
     pair_law _ _ (fields_law c.fields) (λ fs.
     pair_law _ _ (values_law fs) (λ vs.
-    pair_law _ _ (table_law c.types record_type_format record_type_law) (λ ts.
+    pair_law _ _ (table_law c.types (record_type_format v) (record_type_law v)) (λ ts.
     pair_law _ _ (table_law c.lines line line_law) (λ ls.
     pair_law _ _ (table_law c.detail instruction instruction_law) (λ detail.
     pair_law _ _ (table_law c.total instruction instruction_law) (λ total.
@@ -39,7 +40,7 @@ tables_law c =
 
 -- a header with these counts
 abbrev with_counts : Header → ℕ → ℕ → ℕ → ℕ → ℕ → ℕ → Header
-with_counts h f t l d n s = record { settings = h.settings; counts = record { fields = f; types = t; lines = l; detail = d; total = n; subroutines = s } }
+with_counts h f t l d n s = record { version = h.version; settings = h.settings; secondary_length = h.secondary_length; counts = record { fields = f; types = t; lines = l; detail = d; total = n; subroutines = s } }
 
 counts_are : (h : Header) {f f' t t' l l' d d' n n' s s' : ℕ} → f ≡ f' → t ≡ t' → l ≡ l' → d ≡ d' → n ≡ n' → s ≡ s' → with_counts h f t l d n s ≡ with_counts h f' t' l' d' n' s'
 counts_are h {f} {f'} {t} {t'} {l} {l'} {d} {d'} {n} {n'} {s} {s'} ef et el ed en es =
@@ -49,7 +50,7 @@ counts_are h {f} {f'} {t} {t'} {l} {l'} {d} {d'} {n} {n'} {s} {s'} ef et el ed e
 abbrev with_header : Header × Tables → Header → Header × Tables
 with_header a h = (h, a.1)
 
-there : (a : Header × Tables) → (pair header_format (λ h. tables h.counts)).Holds a → (header_of (object_of a), tables_of (object_of a)) ≡ a
+there : (a : Header × Tables) → (pair header_format (λ h. tables h.version h.counts)).Holds a → (header_of (object_of a), tables_of (object_of a)) ≡ a
 unfolding tables pair fields subroutines times_with
 there a h =
     let f : length a.1.0 ≡ a.0.counts.fields = h.1.0.0 in
@@ -62,7 +63,7 @@ there a h =
 
 pub body_law : IsFormat body
 unfolding body
-body_law = row_law object_of (λ p. (header_of p, tables_of p)) (pair header_format (λ h. tables h.counts)) there (λ x. refl) (pair_law header_format (λ h. tables h.counts) header_law (λ h. tables_law h.counts))
+body_law = row_law object_of (λ p. (header_of p, tables_of p)) (pair header_format (λ h. tables h.version h.counts)) there (λ x. refl) (pair_law header_format (λ h. tables h.version h.counts) header_law (λ h. tables_law h.version h.counts))
 
 -- ---- whole objects
 

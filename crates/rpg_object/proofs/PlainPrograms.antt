@@ -1,27 +1,36 @@
 -- What the format of programs holds is a program in plain words, and back.
-use Rattle.std.proofs.Common.{◌-◌, length, arith}
-use Rattle.rpg_object_format.specs.Format.{pair, row}
-use Rattle.rpg_object_program.specs.Kept.{IsInstructionRow, IsLineRow, IsProgram, IsTypeRow}
+use Rattle.std.proofs.Common.{◌≡◌, ◌-◌, length, arith}
+use Rattle.rpg_object_format.specs.Format.{pair, row, table}
+use Rattle.rpg_object_program.specs.Kept.{IsInstructionRow, IsLineRow, IsPlain, IsPlainType, IsProgram, IsTypeRow}
 use Rattle.rpg_object_program.specs.Object.{Object}
+use Rattle.rpg_object_program.specs.declared.row.Version.TheVariants as versions
 use Rattle.rpg_object_rows.specs.Instructions.{instruction}
 use Rattle.rpg_object_rows.specs.Lines.{line}
 use Rattle.rpg_object_rows.specs.Types.{record_type_format}
 use Rattle.rpg_object_rows.proofs.InstructionKept.{instruction_kept, instruction_from}
 use Rattle.rpg_object_rows.proofs.LineLaws.{line_kept, line_from}
-use Rattle.rpg_object_rows.proofs.TypeLaws.{type_kept, type_from}
+use Rattle.rpg_object_rows.proofs.TypeLaws.{plain_kept, type_kept, type_from}
 use Rattle.rpg_object.specs.Program.{body, counts_of, header_of, settings_of, tables}
 use Rattle.rpg_object.proofs.FieldLaws.{fields_kept, storage_kept, fields_from}
-use Rattle.rpg_object.proofs.HeaderLaws.{AreSettings, AreCounts, header_kept, header_from}
+use Rattle.rpg_object.proofs.HeaderLaws.{AreSettings, AreCounts, IsHeader, header_kept, header_from}
 use Rattle.rpg_object.proofs.SubroutineLaws.{subroutines_kept, instructions_within, subroutines_from}
 use Rattle.rpg_object_rows.proofs.Choices.{all_from_table, table_from_all}
 use Rattle.rpg_object.proofs.ValueLaws.{values_kept, values_from}
+
+-- in version 1 there is neither a secondary file nor a match field
+plain_program : (p : Object) → body.Holds p → p.version ≡ versions.One → IsPlain p
+unfolding body tables row pair
+plain_program p h one = record {
+  secondary = (header_kept (header_of p) h.0).plain one;
+  types = all_from_table (record_type_format p.version) IsPlainType (λ t k. plain_kept p.version t k one) (length p.types) p.types h.1.1.1.0;
+}
 
 pub program_kept : (p : Object) → body.Holds p → IsProgram p
 unfolding body tables row pair
 program_kept p h =
     let head = header_kept (header_of p) h.0 in
-    let s : AreSettings (settings_of p) = head.0 in
-    let c : AreCounts (counts_of p) = head.1 in
+    let s : AreSettings (settings_of p) = head.settings in
+    let c : AreCounts (counts_of p) = head.counts in
     let few_detail = c.few_detail in
     let few_total = c.few_total in
     let within = instructions_within (length p.subroutines) (8192 - length p.detail - length p.total) p.subroutines h.1.1.1.1.1.1.1 in
@@ -30,6 +39,7 @@ program_kept p h =
       highest_allowance = s.highest_allowance;
       shortest_record = s.shortest_record;
       longest_record = s.longest_record;
+      longest_secondary = head.longest_secondary;
       widest_line = s.widest_line;
       longest_disk_record = s.longest_disk_record;
       overflow = s.overflow;
@@ -38,7 +48,7 @@ program_kept p h =
       storage = storage_kept (length p.fields) p.fields h.1.0;
       values = values_kept p.fields p.values h.1.1.0;
       few_types = c.few_types;
-      types = all_from_table record_type_format IsTypeRow type_kept (length p.types) p.types h.1.1.1.0;
+      types = all_from_table (record_type_format p.version) IsTypeRow (type_kept p.version) (length p.types) p.types h.1.1.1.0;
       few_lines = c.few_lines;
       lines = all_from_table line IsLineRow line_kept (length p.lines) p.lines h.1.1.1.1.0;
       detail = all_from_table instruction IsInstructionRow instruction_kept (length p.detail) p.detail h.1.1.1.1.1.0;
@@ -46,6 +56,8 @@ program_kept p h =
       few_subroutines = c.few_subroutines;
       subroutines = subroutines_kept (length p.subroutines) (8192 - length p.detail - length p.total) p.subroutines h.1.1.1.1.1.1.1;
       few_instructions = omega arith;
+      plain = plain_program p h;
+      first_version = head.first_version;
     }
 
 settings_plain : (p : Object) → IsProgram p → AreSettings (settings_of p)
@@ -71,17 +83,31 @@ counts_plain p h =
       few_subroutines = h.few_subroutines;
     }
 
+header_plain : (p : Object) → IsProgram p → IsHeader (header_of p)
+header_plain p h = record {
+  settings = settings_plain p h;
+  counts = counts_plain p h;
+  longest_secondary = h.longest_secondary;
+  plain = λ one. (h.plain one).secondary;
+  first_version = h.first_version;
+}
+
+types_from : (p : Object) → IsProgram p → (table (length p.types) (record_type_format p.version)).Holds p.types
+types_from p h =
+    table_from_all (record_type_format p.version) (λ t. IsTypeRow t × (p.version ≡ versions.One → IsPlainType t)) (λ t k. type_from p.version t k.0 k.1) p.types
+    (λ k d lt. (h.types k d lt, λ one. (h.plain one).types k d lt))
+
 pub program_from : (p : Object) → IsProgram p → body.Holds p
 unfolding body tables row pair
 program_from p h =
     let few = h.few_instructions in (
-      header_from (header_of p) (settings_plain p h) (counts_plain p h),
+      header_from (header_of p) (header_plain p h),
       (
         fields_from p.fields h.fields h.storage,
         (
           values_from p.fields p.values h.fields h.values,
           (
-            table_from_all record_type_format IsTypeRow type_from p.types h.types,
+            types_from p h,
             (
               table_from_all line IsLineRow line_from p.lines h.lines,
               (

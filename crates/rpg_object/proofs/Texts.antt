@@ -23,7 +23,7 @@ module _ (p : Object) where
   values_text = (values_format p.fields).spelling p.values
 
   abbrev types_text : List ℕ
-  types_text = (table (length p.types) record_type_format).spelling p.types
+  types_text = (table (length p.types) (record_type_format p.version)).spelling p.types
 
   abbrev lines_text : List ℕ
   lines_text = (table (length p.lines) line).spelling p.lines

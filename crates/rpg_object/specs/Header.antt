@@ -1,17 +1,29 @@
 -- The format of the header: the numbers before the tables.
 use Rattle.std.specs.Prelude.{ℕ, ◌-◌, ◌==◌, if◌then◌else◌, Option, Some, None, Result, Ok, Err}
 use Rattle.rpg_object_format.specs.declared.fault.Code.{Code}
-use Rattle.rpg_object_format.specs.declared.fault.Code.TheVariants.{NotAllowed, Unused, Version}
+use Rattle.rpg_object_format.specs.declared.fault.Code.TheVariants as faults
 use Rattle.rpg_object_format.specs.Format.{Format, two_bytes, pair, row}
-use Rattle.rpg_object_format.specs.Numbers.{number_where, count, only_number}
+use Rattle.rpg_object_format.specs.Numbers.{number_where, count}
+use Rattle.rpg_object_program.specs.declared.row.Version.{Version}
+use Rattle.rpg_object_program.specs.declared.row.Version.TheVariants as versions
+use Rattle.rpg_object_rows.specs.Shapes.{unused_number, where_used}
+use Rattle.rpg_object_rows.specs.Types.{is_two}
 use Rattle.rpg_text.specs.Texts.{is_between}
 use Rattle.rpg_object.specs.declared.header.Counts.{Counts}
 use Rattle.rpg_object.specs.declared.header.Header.{Header}
 use Rattle.rpg_object.specs.declared.header.Settings.{Settings}
 
+-- as yet version 1 alone
+abbrev pub version_of : ℕ → Result Version Code
+version_of n = if n == 1 then Ok versions.One else Err faults.Version
+
+abbrev pub version_number : Version → ℕ
+version_number versions.One = 1
+version_number versions.Two = 2
+
 -- 0 for none
 abbrev pub overflow_of : ℕ → Result (Option ℕ) Code
-overflow_of n = if n == 0 then Ok None else (if is_between 112 119 n then Ok (Some n) else Err NotAllowed)
+overflow_of n = if n == 0 then Ok None else (if is_between 112 119 n then Ok (Some n) else Err faults.NotAllowed)
 
 abbrev pub overflow_number : Option ℕ → ℕ
 overflow_number None = 0
@@ -40,9 +52,13 @@ counts = row
     (pair (count 4000) (λ f. pair (count 200) (λ t. pair (count 1000) (λ l.
     pair (count most_instructions) (λ d. pair (count (most_instructions - d)) (λ n. count 100))))))
 
--- version, settings, counts, 0
+-- 0 for none; in version 1 there is none
+abbrev pub secondary_length : Version → Format ℕ
+secondary_length v = where_used (is_two v) (number_where (is_between 0 9999)) 0 unused_number
+
+-- version, settings, counts, length of secondary records
 unfoldable pub header_format : Format Header
 header_format = row
-    (λ p. record { settings = p.1.0; counts = p.1.1.0 })
-    (λ h. (tt, (h.settings, (h.counts, tt))))
-    (pair (only_number 1 Version) (λ version. pair settings (λ s. pair counts (λ c. only_number 0 Unused))))
+    (λ p. record { version = p.0; settings = p.1.0; counts = p.1.1.0; secondary_length = p.1.1.1 })
+    (λ h. (h.version, (h.settings, (h.counts, h.secondary_length))))
+    (pair (two_bytes version_of version_number) (λ v. pair settings (λ s. pair counts (λ c. secondary_length v))))

@@ -9,6 +9,7 @@ use Rattle.rpg_object_format.specs.declared.fault.Code.TheVariants.{NoObject, Cu
 use Rattle.rpg_object_format.specs.declared.fault.Fault.{Fault}
 use Rattle.rpg_object_format.specs.Format.{Format, pair, row, table, fault_at, ◌>>=◌}
 use Rattle.rpg_object_program.specs.Object.{LineRow, Object, SubroutineRow}
+use Rattle.rpg_object_program.specs.declared.row.Version.{Version}
 use Rattle.rpg_object_rows.specs.Instructions.{instruction}
 use Rattle.rpg_object_rows.specs.Lines.{line}
 use Rattle.rpg_object_rows.specs.Types.{record_type_format}
@@ -24,11 +25,11 @@ abbrev pub Tables : Type 0
 Tables = List FieldForm × (List (List Value) × (List (TypeRow ℕ) × (List LineRow × (List (Instruction ℕ) × (List (Instruction ℕ) × List SubroutineRow)))))
 
 -- fields, first values, types, lines, detail, total, subroutines
-unfoldable pub tables : Counts → Format Tables
-tables c =
+unfoldable pub tables : Version → Counts → Format Tables
+tables v c =
     pair (fields c.fields) (λ fs.
     pair (values_format fs) (λ vs.
-    pair (table c.types record_type_format) (λ ts.
+    pair (table c.types (record_type_format v)) (λ ts.
     pair (table c.lines line) (λ ls.
     pair (table c.detail instruction) (λ detail.
     pair (table c.total instruction) (λ total.
@@ -37,8 +38,10 @@ tables c =
 -- the program of a header and its tables
 abbrev pub object_of : Header × Tables → Object
 object_of p = record {
+  version = p.0.version;
   allowance = p.0.settings.allowance;
   record_length = p.0.settings.record_length;
+  secondary_length = p.0.secondary_length;
   printer_length = p.0.settings.printer_length;
   disk_length = p.0.settings.disk_length;
   overflow = p.0.settings.overflow;
@@ -58,13 +61,13 @@ abbrev pub counts_of : Object → Counts
 counts_of p = record { fields = length p.fields; types = length p.types; lines = length p.lines; detail = length p.detail; total = length p.total; subroutines = length p.subroutines }
 
 abbrev pub header_of : Object → Header
-header_of p = record { settings = settings_of p; counts = counts_of p }
+header_of p = record { version = p.version; settings = settings_of p; counts = counts_of p; secondary_length = p.secondary_length }
 
 abbrev pub tables_of : Object → Tables
 tables_of p = (p.fields, (p.values, (p.types, (p.lines, (p.detail, (p.total, p.subroutines))))))
 
 unfoldable pub body : Format Object
-body = row object_of (λ p. (header_of p, tables_of p)) (pair header_format (λ h. tables h.counts))
+body = row object_of (λ p. (header_of p, tables_of p)) (pair header_format (λ h. tables h.version h.counts))
 
 -- ---- whole objects
 

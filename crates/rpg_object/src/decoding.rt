@@ -56,15 +56,17 @@ fn body_at(alloc: Global, bytes: &[u8]) -> Result<(Rows, &[u8]), ReadFault>
         .saturating_sub(counts.total);
     let (fields, rest) = fields_at(alloc, counts.fields, rest)?;
     let (values, rest) = values_at(alloc, &fields, rest)?;
-    let (types, rest) = record_types_at(alloc, counts.types, rest)?;
+    let (types, rest) = record_types_at(alloc, header.version, counts.types, rest)?;
     let (lines, rest) = lines_at(alloc, counts.lines, rest)?;
     let (detail, rest) = instructions_at(alloc, counts.detail, rest)?;
     let (total, rest) = instructions_at(alloc, counts.total, rest)?;
     let (subroutines, rest) = subroutines_at(alloc, counts.subroutines, left, rest)?;
     Ok((
         Rows {
+            version: header.version,
             allowance: settings.allowance,
             record_length: settings.record_length,
+            secondary_length: header.secondary_length,
             printer_length: settings.printer_length,
             disk_length: settings.disk_length,
             overflow: settings.overflow,

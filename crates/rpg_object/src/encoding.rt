@@ -47,13 +47,15 @@ fn put_body(out: &mut Vec<u8>, rows: &Rows) -> Result<(), AllocError>
     ensures { OnOk result (out.new.items ≡ out.old.items ++ body.spelling (seen rows.now)) }
 {
     let header = Header {
+        version: rows.version,
         settings: settings_of(rows),
         counts: counts_of(rows),
+        secondary_length: rows.secondary_length,
     };
     put_header(out, header)?;
     put_fields(out, &rows.fields)?;
     put_values(out, &rows.fields, &rows.values)?;
-    put_record_types(out, &rows.types)?;
+    put_record_types(out, rows.version, &rows.types)?;
     put_lines(out, &rows.lines)?;
     put_instructions(out, &rows.detail)?;
     put_instructions(out, &rows.total)?;

@@ -4,19 +4,21 @@ ghost use Rattle.std.specs.Prelude.{◌≡◌, ◌++◌, Result, OnOk};
 ghost use Rattle.rpg_object_format.specs.declared.fault.Code.{Code};
 ghost use Rattle.rpg_object_format.specs.Format.{read_two};
 ghost use Rattle.rpg_object_format.specs.Reading.{Gives};
+ghost use Rattle.rpg_object_program.specs.declared.row.Version.TheVariants as versions;
 ghost use Rattle.rpg_object.specs.Header as spec;
-ghost use Rattle.rpg_object.specs.Header.{overflow_of, overflow_number};
+ghost use Rattle.rpg_object.specs.Header.{overflow_of, overflow_number, version_of, version_number};
 
 use rpg_object_format::fault::{Code, ReadFault};
 use rpg_object_format::number::{
     count_at, number_at, number_between_at, only_number_at, put_numbers,
 };
+use rpg_object_program::row::Version;
 use std::alloc::AllocError;
 
 /// The most instructions that a program has, of all its sections together.
 pub const INSTRUCTIONS: u16 = 8_192;
 
-/// What a program runs with: its allowance, the lengths of its files, and its overflow indicator.
+/// What a program of each version runs with: its allowance, the lengths of its files, and its overflow indicator.
 #[derive(Clone, Copy)]
 pub struct Settings {
     pub allowance: u16,
@@ -40,8 +42,50 @@ pub struct Counts {
 /// The header of an object program, 32 bytes with the name before it.
 #[derive(Clone, Copy)]
 pub struct Header {
+    pub version: Version,
     pub settings: Settings,
     pub counts: Counts,
+    /// 0 without a secondary file.
+    pub secondary_length: u16,
+}
+
+/// As yet version 1 alone.
+fn version_of(n: u16) -> Result<Version, Code>
+    ensures { result ≡ version_of n }
+{
+    match n {
+        1 => Ok(Version::One),
+        _ => Err(Code::Version),
+    }
+}
+
+fn version_number(version: Version) -> u16
+    ensures { result ≡ version_number version }
+{
+    match version {
+        Version::One => 1,
+        Version::Two => 2,
+    }
+}
+
+#[tactic(auto, unfolding(rpg_object_format::specs::Format::read_two))]
+fn version_at(bytes: &[u8]) -> Result<(Version, &[u8]), ReadFault>
+    ensures { Gives (λ x. (x.0, x.1.now)) result (read_two version_of bytes.now) }
+{
+    number_at(bytes, version_of)
+}
+
+#[tactic(auto, unfolding(rpg_object_format::specs::Format::two_bytes, rpg_object_rows::specs::Shapes::row_where))]
+fn secondary_length_at(version: Version, bytes: &[u8]) -> Result<(u16, &[u8]), ReadFault>
+    ensures { Gives (λ x. (x.0, x.1.now)) result ((spec.secondary_length version).reading bytes.now) }
+{
+    match version {
+        Version::One => {
+            let (_, rest) = only_number_at(bytes, 0, Code::Unused)?;
+            Ok((0, rest))
+        }
+        Version::Two => number_between_at(bytes, 0, 9_999),
+    }
 }
 
 fn overflow_of(n: u16) -> Result<Option<u8>, Code>
@@ -119,22 +163,30 @@ fn counts_at(bytes: &[u8]) -> Result<(Counts, &[u8]), ReadFault>
 pub fn header_at(bytes: &[u8]) -> Result<(Header, &[u8]), ReadFault>
     ensures { Gives (λ x. (x.0, x.1.now)) result (spec.header_format.reading bytes.now) }
 {
-    let (_, rest) = only_number_at(bytes, 1, Code::Version)?;
+    let (version, rest) = version_at(bytes)?;
     let (settings, rest) = settings_at(rest)?;
     let (counts, rest) = counts_at(rest)?;
-    let (_, rest) = only_number_at(rest, 0, Code::Unused)?;
-    Ok((Header { settings, counts }, rest))
+    let (secondary_length, rest) = secondary_length_at(version, rest)?;
+    Ok((
+        Header {
+            version,
+            settings,
+            counts,
+            secondary_length,
+        },
+        rest,
+    ))
 }
 
 /// Writes the header behind the name.
-#[tactic(auto, unfolding(rpg_object_format::specs::Format::two_bytes, rpg_object_format::specs::Format::pair, rpg_object_format::specs::Format::row, crate::specs::Header::settings, crate::specs::Header::counts, crate::specs::Header::header_format))]
 pub fn put_header(out: &mut Vec<u8>, header: Header) -> Result<(), AllocError>
+    requires { header.version ≡ versions.One → header.secondary_length ≡ 0 }
     ensures { OnOk result (out.new.items ≡ out.old.items ++ spec.header_format.spelling header) }
 {
     let settings = header.settings;
     let counts = header.counts;
     let numbers = [
-        1,
+        version_number(header.version),
         settings.allowance,
         settings.record_length,
         settings.printer_length,
@@ -146,7 +198,7 @@ pub fn put_header(out: &mut Vec<u8>, header: Header) -> Result<(), AllocError>
         counts.detail,
         counts.total,
         counts.subroutines,
-        0,
+        header.secondary_length,
     ];
     put_numbers(out, &numbers)
 }

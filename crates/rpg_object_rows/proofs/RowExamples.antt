@@ -6,6 +6,7 @@ use Rattle.rpg_edit_marks.specs.declared.code.Fill.TheVariants as fills
 use Rattle.rpg_effect.specs.Input.{TypeRow}
 use Rattle.rpg_effect.specs.declared.condition.Condition.{Condition}
 use Rattle.rpg_effect.specs.declared.condition.Conditions.{Conditions}
+use Rattle.rpg_effect.specs.declared.input.InputFile.TheVariants.{Primary, Secondary}
 use Rattle.rpg_effect.specs.declared.line.Editing.TheVariants as editings
 use Rattle.rpg_effect.specs.declared.line.File.TheVariants.{Printer}
 use Rattle.rpg_effect.specs.declared.line.LineField.{LineField}
@@ -14,13 +15,15 @@ use Rattle.rpg_effect.specs.declared.line.Time.TheVariants as times
 use Rattle.rpg_effect.specs.declared.operation.Index.TheVariants.{Blank}
 use Rattle.rpg_effect.specs.declared.operation.Operand.{Operand}
 use Rattle.rpg_object_format.specs.declared.fault.Code.{Code}
-use Rattle.rpg_object_format.specs.declared.fault.Code.TheVariants.{NotAllowed, PastLimit}
+use Rattle.rpg_object_format.specs.declared.fault.Code.TheVariants.{NotAllowed, PastLimit, Unused}
 use Rattle.rpg_object_format.specs.declared.fault.Fault.{Fault}
 use Rattle.rpg_object_format.specs.Format.{byte, pair, read_byte, read_times, read_two, row, times_with, two_bytes}
 use Rattle.rpg_object_program.specs.Object.{LineRow}
+use Rattle.rpg_object_program.specs.declared.row.Version.TheVariants.{One, Two}
 use Rattle.rpg_object_rows.specs.Indicators.{alternative, condition_format, conditions_format, shows_format}
 use Rattle.rpg_object_rows.specs.Operands.{operand}
 use Rattle.rpg_object_rows.specs.Lines.{line, line_field, line_field_parts, line_parts, spacing}
+use Rattle.rpg_object_rows.specs.Shapes.{no_number, row_where}
 use Rattle.rpg_object_rows.specs.Types.{control_field_format, input_field_format, record_code_format, record_type_format, type_parts}
 
 abbrev of_field : ℕ → Operand ℕ
@@ -43,23 +46,52 @@ breaks left code = Err (fault left code)
 
 abbrev a_type : TypeRow ℕ
 a_type = record {
+  file = Primary;
   indicator = Some 1;
   codes = record { position = 1; is_negated = true; character = 67 } ∷ [];
   levels = record { level = 2; is_numeric = true; from = 3; to = 4 } ∷ [];
   inputs = record { from = 5; to = 6; field = 7; shows = record { plus = Some 10; minus = Some 11; zero = Some 12 } } ∷ [];
+  matches = [];
 }
 
-types : record_type_format.reading (1 ∷ 0 ∷ 0 ∷ 1 ∷ 0 ∷ 1 ∷ 0 ∷ 1 ∷ 0 ∷ 1 ∷ 1 ∷ 67 ∷ 2 ∷ 1 ∷ 0 ∷ 3 ∷ 0 ∷ 4 ∷ 0 ∷ 5 ∷ 0 ∷ 6 ∷ 0 ∷ 7 ∷ 10 ∷ 11 ∷ 12 ∷ 0 ∷ []) ≡ Ok (a_type, [])
-unfolding record_type_format type_parts record_code_format control_field_format input_field_format shows_format read_byte read_two read_times byte two_bytes pair row times_with
+types : (record_type_format One).reading (1 ∷ 0 ∷ 0 ∷ 1 ∷ 0 ∷ 1 ∷ 0 ∷ 1 ∷ 0 ∷ 1 ∷ 1 ∷ 67 ∷ 2 ∷ 1 ∷ 0 ∷ 3 ∷ 0 ∷ 4 ∷ 0 ∷ 5 ∷ 0 ∷ 6 ∷ 0 ∷ 7 ∷ 10 ∷ 11 ∷ 12 ∷ 0 ∷ []) ≡ Ok (a_type, [])
+unfolding record_type_format type_parts record_code_format control_field_format input_field_format shows_format row_where no_number read_byte read_two read_times byte two_bytes pair row times_with
 types = refl
 
-too_many_codes : record_type_format.reading (1 ∷ 0 ∷ 0 ∷ 101 ∷ 0 ∷ 0 ∷ 0 ∷ 0 ∷ []) ≡ breaks 6 PastLimit
-unfolding record_type_format type_parts record_code_format control_field_format input_field_format shows_format read_byte read_two read_times byte two_bytes pair row times_with
+too_many_codes : (record_type_format One).reading (1 ∷ 0 ∷ 0 ∷ 101 ∷ 0 ∷ 0 ∷ 0 ∷ 0 ∷ []) ≡ breaks 6 PastLimit
+unfolding record_type_format type_parts record_code_format control_field_format input_field_format shows_format row_where no_number read_byte read_two read_times byte two_bytes pair row times_with
 too_many_codes = refl
 
-no_level : record_type_format.reading (1 ∷ 0 ∷ 0 ∷ 0 ∷ 0 ∷ 1 ∷ 0 ∷ 0 ∷ 10 ∷ 0 ∷ 0 ∷ 1 ∷ 0 ∷ 1 ∷ []) ≡ breaks 6 NotAllowed
-unfolding record_type_format type_parts record_code_format control_field_format input_field_format shows_format read_byte read_two read_times byte two_bytes pair row times_with
+no_level : (record_type_format One).reading (1 ∷ 0 ∷ 0 ∷ 0 ∷ 0 ∷ 1 ∷ 0 ∷ 0 ∷ 10 ∷ 0 ∷ 0 ∷ 1 ∷ 0 ∷ 1 ∷ []) ≡ breaks 6 NotAllowed
+unfolding record_type_format type_parts record_code_format control_field_format input_field_format shows_format row_where no_number read_byte read_two read_times byte two_bytes pair row times_with
 no_level = refl
+
+not_the_primary : (record_type_format One).reading (1 ∷ 1 ∷ 0 ∷ 0 ∷ 0 ∷ 0 ∷ 0 ∷ 0 ∷ []) ≡ breaks 7 Unused
+unfolding record_type_format type_parts record_code_format control_field_format input_field_format shows_format row_where no_number read_byte read_two read_times byte two_bytes pair row times_with
+not_the_primary = refl
+
+-- of the secondary file, with a match field of level 1
+abbrev matched_type : TypeRow ℕ
+matched_type = record {
+  file = Secondary;
+  indicator = Some 2;
+  codes = [];
+  levels = [];
+  inputs = [];
+  matches = record { level = 1; is_numeric = true; from = 3; to = 4 } ∷ [];
+}
+
+matched_types : (record_type_format Two).reading (2 ∷ 1 ∷ 0 ∷ 0 ∷ 0 ∷ 0 ∷ 0 ∷ 0 ∷ 0 ∷ 1 ∷ 1 ∷ 1 ∷ 0 ∷ 3 ∷ 0 ∷ 4 ∷ []) ≡ Ok (matched_type, [])
+unfolding record_type_format type_parts record_code_format control_field_format input_field_format shows_format row_where no_number read_byte read_two read_times byte two_bytes pair row times_with
+matched_types = refl
+
+no_third_file : (record_type_format Two).reading (1 ∷ 2 ∷ 0 ∷ 0 ∷ 0 ∷ 0 ∷ 0 ∷ 0 ∷ 0 ∷ 0 ∷ []) ≡ breaks 9 NotAllowed
+unfolding record_type_format type_parts record_code_format control_field_format input_field_format shows_format row_where no_number read_byte read_two read_times byte two_bytes pair row times_with
+no_third_file = refl
+
+too_many_matches : (record_type_format Two).reading (1 ∷ 0 ∷ 0 ∷ 0 ∷ 0 ∷ 0 ∷ 0 ∷ 0 ∷ 0 ∷ 10 ∷ []) ≡ breaks 2 PastLimit
+unfolding record_type_format type_parts record_code_format control_field_format input_field_format shows_format row_where no_number read_byte read_two read_times byte two_bytes pair row times_with
+too_many_matches = refl
 
 -- ---- lines
 

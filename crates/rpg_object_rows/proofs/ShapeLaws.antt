@@ -1,12 +1,12 @@
 -- The laws of how rows are made of formats.
-use Rattle.std.proofs.Common.{◌≡◌, ℕ, ◌≤◌, Bool, true, false, List, ◌++◌, length, Ok, Err, refl, sym, ap, subst, inl, inr}
+use Rattle.std.proofs.Common.{◌≡◌, ℕ, ◌≤◌, Bool, true, false, List, [], ◌++◌, length, Result, Ok, Err, refl, sym, ap, subst, inl, inr}
 use Rattle.rpg_object_format.specs.declared.fault.Code.TheVariants.{CutShort, Unused}
 use Rattle.rpg_object_format.specs.declared.fault.Fault.{Fault}
 use Rattle.rpg_object_format.specs.Format.{Format, ◌>>=◌, made, pair, table, times_with}
 use Rattle.rpg_object_format.specs.Numbers.{count, is_any_number}
 use Rattle.rpg_object_format.proofs.Laws.{IsBytes, IsFormat, Takes, bind_err, bind_ok, further, ok_is, pair_law, row_law, table_law}
 use Rattle.rpg_object_format.proofs.Rules.{byte_where_law, count_law, only_byte_law, only_number_law}
-use Rattle.rpg_object_rows.specs.Shapes.{any_byte, always, counted_rows, row_where, unused_byte, unused_number, where_used}
+use Rattle.rpg_object_rows.specs.Shapes.{any_byte, always, counted_rows, no_number, row_where, unused_byte, unused_number, where_used}
 
 pub any_byte_law : IsFormat any_byte
 any_byte_law = byte_where_law is_any_number
@@ -16,6 +16,33 @@ unused_byte_law = only_byte_law 0 Unused
 
 pub unused_number_law : IsFormat unused_number
 unused_number_law = only_number_law 0 Unused
+
+pub no_number_law : IsFormat no_number
+unfolding no_number
+no_number_law = record { takes = takes; again = again; within = within; stays = stays; fails_alike = fails_alike }
+  where
+    nothing : List ℕ → Unit {0} × List ℕ
+    nothing bytes = (tt, bytes)
+
+    read : List ℕ → Result (Unit {0} × List ℕ) Fault
+    read bytes = Ok (nothing bytes)
+
+    takes : (bytes : List ℕ) (x : Unit {0}) (rest : List ℕ) → IsBytes bytes → read bytes ≡ Ok (x, rest) → Takes bytes [] rest × Unit {0}
+    takes bytes x rest fits e =
+        let same : bytes ≡ rest = ap (λ (y : Unit {0} × List ℕ). y.1) (ok_is (nothing bytes) (x, rest) e) in
+        (record { parts = same; rest_fits = subst IsBytes same fits }, tt)
+
+    again : (x : Unit {0}) (rest : List ℕ) → Unit {0} → read rest ≡ Ok (x, rest)
+    again x rest h = refl
+
+    within : (bytes : List ℕ) (d : Fault) → IsBytes bytes → read bytes ≡ Err d → d.left ≤ length bytes
+    within bytes d fits e = absurd cc
+
+    stays : (bytes more : List ℕ) (x : Unit {0}) (rest : List ℕ) → read bytes ≡ Ok (x, rest) → read (bytes ++ more) ≡ Ok (x, rest ++ more)
+    stays bytes more x rest e = ap (λ (y : List ℕ). read (y ++ more)) (ap (λ (y : Unit {0} × List ℕ). y.1) (ok_is (nothing bytes) (x, rest) e))
+
+    fails_alike : (bytes more : List ℕ) (d : Fault) → read bytes ≡ Err d → (d.code ≡ CutShort → ⊥) → read (bytes ++ more) ≡ Err (further (length more) d)
+    fails_alike bytes more d e not_end = absurd cc
 
 -- what is read is so; what is so is read again
 pub row_where_law : {A X : Type 0} (Is : X → Type 0) (make : A → X) (parts : X → A) (f : Format A) → ((a : A) → f.Holds a → parts (make a) ≡ a) → ((a : A) → f.Holds a → Is (make a)) → ((x : X) → Is x → make (parts x) ≡ x) → IsFormat f → IsFormat (row_where Is make parts f)

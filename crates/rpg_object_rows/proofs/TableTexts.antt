@@ -3,9 +3,13 @@ use Rattle.std.proofs.Common.{◌≡◌, ℕ, List, ◌++◌, map, refl, sym, ap
 use Rattle.std.proofs.lemmas.List.{map-id}
 use Rattle.rpg_effect.specs.Input.{TypeRow}
 use Rattle.rpg_object_format.specs.Format.{byte, keep, pair, row, spelled_along, times_with, two_bytes}
+use Rattle.rpg_object_program.specs.Kept.{IsPlainType}
 use Rattle.rpg_object_program.specs.Object.{LineRow}
+use Rattle.rpg_object_program.specs.declared.row.Version.{Version}
+use Rattle.rpg_object_program.specs.declared.row.Version.TheVariants as versions
 use Rattle.rpg_object_rows.specs.Indicators.{alternative}
 use Rattle.rpg_object_rows.specs.Lines.{line, line_field, line_head, line_parts, spacing}
+use Rattle.rpg_object_rows.specs.Shapes.{no_number, row_where}
 use Rattle.rpg_object_rows.specs.Types.{control_field_format, input_field_format, record_code_format, record_type_format, type_head, type_parts}
 
 -- the bytes of rows
@@ -16,18 +20,24 @@ texts spell xs = spelled_along (λ s x. spell x) keep tt xs
 pub as_they_are : {X : Type 0} (spell : X → List ℕ) (xs : List X) (old new : List ℕ) → new ≡ old ++ texts spell (map (λ x. x) xs) → new ≡ old ++ texts spell xs
 as_they_are spell xs old new e = e ∙ ap (λ (ys : List _). old ++ texts spell ys) (map-id xs)
 
-type_text : (t : TypeRow ℕ) → record_type_format.spelling t ≡ type_head t ++ (texts record_code_format.spelling t.codes ++ (texts control_field_format.spelling t.levels ++ texts input_field_format.spelling t.inputs))
-unfolding record_type_format type_parts byte two_bytes pair row times_with
-type_text t = refl
+-- the bytes of the tables of a type
+abbrev tables_text : TypeRow ℕ → List ℕ
+tables_text t = texts record_code_format.spelling t.codes ++ (texts control_field_format.spelling t.levels ++ (texts input_field_format.spelling t.inputs ++ texts control_field_format.spelling t.matches))
 
-pub type_written : (t : TypeRow ℕ) (old o1 o2 o3 new : List ℕ) → o1 ≡ old ++ type_head t → o2 ≡ o1 ++ texts record_code_format.spelling t.codes → o3 ≡ o2 ++ texts control_field_format.spelling t.levels → new ≡ o3 ++ texts input_field_format.spelling t.inputs → new ≡ old ++ record_type_format.spelling t
-type_written t old o1 o2 o3 new a b c d =
-    d ∙ ap (λ (x : List ℕ). x ++ texts input_field_format.spelling t.inputs) (c ∙ ap (λ (x : List ℕ). x ++ texts control_field_format.spelling t.levels) (b ∙ ap (λ (x : List ℕ). x ++ texts record_code_format.spelling t.codes) a))
-    ∙ regrouped old (type_head t) (texts record_code_format.spelling t.codes) (texts control_field_format.spelling t.levels) (texts input_field_format.spelling t.inputs)
-    ∙ ap (λ (x : List ℕ). old ++ x) (sym (type_text t))
+type_text : (v : Version) (t : TypeRow ℕ) → (v ≡ versions.One → IsPlainType t) → (record_type_format v).spelling t ≡ type_head v t ++ tables_text t
+unfolding record_type_format type_parts byte two_bytes pair row row_where no_number times_with
+type_text versions.One t plain = rw (plain refl).file refl
+type_text versions.Two t plain = refl
+
+pub type_written : (v : Version) (t : TypeRow ℕ) → (v ≡ versions.One → IsPlainType t) → (old o1 o2 o3 o4 new : List ℕ) → o1 ≡ old ++ type_head v t → o2 ≡ o1 ++ texts record_code_format.spelling t.codes
+    → o3 ≡ o2 ++ texts control_field_format.spelling t.levels → o4 ≡ o3 ++ texts input_field_format.spelling t.inputs → new ≡ o4 ++ texts control_field_format.spelling t.matches → new ≡ old ++ (record_type_format v).spelling t
+type_written v t plain old o1 o2 o3 o4 new a b c d e =
+    e ∙ ap (λ (x : List ℕ). x ++ texts control_field_format.spelling t.matches) (d ∙ ap (λ (x : List ℕ). x ++ texts input_field_format.spelling t.inputs) (c ∙ ap (λ (x : List ℕ). x ++ texts control_field_format.spelling t.levels) (b ∙ ap (λ (x : List ℕ). x ++ texts record_code_format.spelling t.codes) a)))
+    ∙ regrouped old (type_head v t) (texts record_code_format.spelling t.codes) (texts control_field_format.spelling t.levels) (texts input_field_format.spelling t.inputs) (texts control_field_format.spelling t.matches)
+    ∙ ap (λ (x : List ℕ). old ++ x) (sym (type_text v t plain))
   where
-    regrouped : (old a b c d : List ℕ) → (((old ++ a) ++ b) ++ c) ++ d ≡ old ++ (a ++ (b ++ (c ++ d)))
-    regrouped old a b c d = simp append_assoc
+    regrouped : (old a b c d e : List ℕ) → ((((old ++ a) ++ b) ++ c) ++ d) ++ e ≡ old ++ (a ++ (b ++ (c ++ (d ++ e))))
+    regrouped old a b c d e = simp append_assoc
 
 line_text : (l : LineRow) → line.spelling l ≡ line_head l ++ (texts alternative.spelling l.alternatives ++ texts line_field.spelling l.fields)
 unfolding line line_parts spacing byte two_bytes pair row times_with

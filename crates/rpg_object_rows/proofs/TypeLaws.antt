@@ -1,19 +1,24 @@
 -- The law of record types, and what they keep in plain words, and back.
-use Rattle.std.proofs.Common.{◌≡◌, ℕ, length, refl, ap, ◌∙◌, arith}
+use Rattle.std.proofs.Common.{◌≡◌, ℕ, ◌<◌, ◌≤◌, ◌^◌, List, [], ◌∷◌, length, Ok, refl, sym, ap, ◌∙◌, arith}
 use Rattle.rpg_effect.specs.Input.{TypeRow}
 use Rattle.rpg_effect.specs.declared.input.ControlField.{ControlField}
 use Rattle.rpg_effect.specs.declared.input.InputField.{InputField}
+use Rattle.rpg_effect.specs.declared.input.InputFile.{InputFile}
+use Rattle.rpg_effect.specs.declared.input.InputFile.TheVariants.{Primary, Secondary}
 use Rattle.rpg_effect.specs.declared.input.RecordCode.{RecordCode}
 use Rattle.rpg_object_format.specs.Format.{byte, pair, row, times_with, two_bytes}
 use Rattle.rpg_object_format.proofs.Laws.{IsFormat, pair_law, row_law, table_law}
-use Rattle.rpg_object_format.proofs.Rules.{any_number_law, byte_where_law, count_law, yes_or_no_law}
-use Rattle.rpg_object_program.specs.Kept.{IsCodeRow, IsControlRow, IsInputRow, IsTypeRow}
+use Rattle.rpg_object_format.proofs.Rules.{any_number_law, byte_where_law, count_law, one_of_law, yes_or_no_law}
+use Rattle.rpg_object_program.specs.Kept.{IsCodeRow, IsControlRow, IsInputRow, IsPlainType, IsTypeRow}
+use Rattle.rpg_object_program.specs.declared.row.Version.{Version}
+use Rattle.rpg_object_program.specs.declared.row.Version.TheVariants as versions
 use Rattle.rpg_text.specs.Texts.{is_between}
-use Rattle.rpg_object_rows.specs.Types.{TypeParts, control_field_format, input_field_format, record_code_format, record_type_format, type_parts}
+use Rattle.rpg_object_rows.specs.Types.{TypeParts, control_field_format, input_field_format, input_file, input_file_by_number, input_file_number, is_two, match_count, record_code_format, record_type_format, type_parts}
 use Rattle.rpg_object_rows.proofs.Choices.{all_from_table, between, counted, few, flag_from, table_from_all, within}
 use Rattle.rpg_object_rows.proofs.IndicatorLaws.{indicator_law, shows_law}
 use Rattle.rpg_object_rows.proofs.IndicatorsKept.{indicator_from, indicator_kept, shows_from, shows_kept}
-use Rattle.rpg_object_rows.proofs.ShapeLaws.{unused_byte_law}
+use Rattle.rpg_object_rows.specs.Shapes.{no_number, row_where, unused_byte}
+use Rattle.rpg_object_rows.proofs.ShapeLaws.{no_number_law, unused_byte_law, where_used_law}
 
 record_code_law : IsFormat record_code_format
 unfolding record_code_format
@@ -31,26 +36,39 @@ input_field_law =
     row_law _ _ _ (λ a h. refl) (λ x. refl)
     (pair_law _ _ any_number_law (λ from. pair_law _ _ any_number_law (λ to. pair_law _ _ any_number_law (λ field. pair_law _ _ shows_law (λ s. unused_byte_law)))))
 
-type_parts_law : IsFormat type_parts
+input_file_law : (v : Version) → IsFormat (input_file v)
+input_file_law v = where_used_law (is_two v) _ Primary unused_byte (one_of_law (Primary ∷ Secondary ∷ []) input_file_number) unused_byte_law
+
+match_count_law : (v : Version) → IsFormat (match_count v)
+match_count_law v = where_used_law (is_two v) _ 0 no_number (count_law 9) no_number_law
+
+type_parts_law : (v : Version) → IsFormat (type_parts v)
 unfolding type_parts
-type_parts_law =
-    pair_law _ _ indicator_law (λ i. pair_law _ _ unused_byte_law (λ nothing.
-    pair_law _ _ (count_law 100) (λ codes. pair_law _ _ (count_law 100) (λ levels. pair_law _ _ (count_law 500) (λ inputs.
-    pair_law _ _ (table_law codes record_code_format record_code_law) (λ cs. pair_law _ _ (table_law levels control_field_format control_field_law) (λ ls. table_law inputs input_field_format input_field_law)))))))
+type_parts_law v =
+    pair_law _ _ indicator_law (λ i. pair_law _ _ (input_file_law v) (λ file.
+    pair_law _ _ (count_law 100) (λ codes. pair_law _ _ (count_law 100) (λ levels. pair_law _ _ (count_law 500) (λ inputs. pair_law _ _ (match_count_law v) (λ matches.
+    pair_law _ _ (table_law codes record_code_format record_code_law) (λ cs. pair_law _ _ (table_law levels control_field_format control_field_law) (λ ls.
+    pair_law _ _ (table_law inputs input_field_format input_field_law) (λ is. table_law matches control_field_format control_field_law)))))))))
 
-abbrev with_counts : TypeParts → ℕ → ℕ → ℕ → TypeParts
-with_counts a codes levels inputs = (a.0, (tt, (codes, (levels, (inputs, a.1.1.1.1.1)))))
+abbrev with_counts : TypeParts → ℕ → ℕ → ℕ → ℕ → TypeParts
+with_counts a codes levels inputs matches = (a.0, (a.1.0, (codes, (levels, (inputs, (matches, a.1.1.1.1.1.1))))))
 
-type_there : (a : TypeParts) → type_parts.Holds a → with_counts a (length a.1.1.1.1.1.0) (length a.1.1.1.1.1.1.0) (length a.1.1.1.1.1.1.1) ≡ a
+counts_are : (a : TypeParts) {c c' l l' i i' m m' : ℕ} → c ≡ c' → l ≡ l' → i ≡ i' → m ≡ m' → with_counts a c l i m ≡ with_counts a c' l' i' m'
+counts_are a {c} {c'} {l} {l'} {i} {i'} {m} {m'} ec el ei em =
+    ap (λ (k : ℕ). with_counts a k l i m) ec ∙ ap (λ (k : ℕ). with_counts a c' k i m) el ∙ ap (λ (k : ℕ). with_counts a c' l' k m) ei ∙ ap (λ (k : ℕ). with_counts a c' l' i' k) em
+
+type_there : (v : Version) (a : TypeParts) → (type_parts v).Holds a → with_counts a (length a.1.1.1.1.1.1.0) (length a.1.1.1.1.1.1.1.0) (length a.1.1.1.1.1.1.1.1.0) (length a.1.1.1.1.1.1.1.1.1) ≡ a
 unfolding type_parts pair times_with
-type_there a h =
-    ap (λ (k : ℕ). with_counts a k (length a.1.1.1.1.1.1.0) (length a.1.1.1.1.1.1.1)) h.1.1.1.1.1.0.0
-    ∙ ap (λ (k : ℕ). with_counts a a.1.1.0 k (length a.1.1.1.1.1.1.1)) h.1.1.1.1.1.1.0.0
-    ∙ ap (λ (k : ℕ). with_counts a a.1.1.0 a.1.1.1.0 k) h.1.1.1.1.1.1.1.0
+type_there v a h =
+    let codes : length a.1.1.1.1.1.1.0 ≡ a.1.1.0 = h.1.1.1.1.1.1.0.0 in
+    let levels : length a.1.1.1.1.1.1.1.0 ≡ a.1.1.1.0 = h.1.1.1.1.1.1.1.0.0 in
+    let inputs : length a.1.1.1.1.1.1.1.1.0 ≡ a.1.1.1.1.0 = h.1.1.1.1.1.1.1.1.0.0 in
+    let matches : length a.1.1.1.1.1.1.1.1.1 ≡ a.1.1.1.1.1.0 = h.1.1.1.1.1.1.1.1.1.0 in
+    counts_are a codes levels inputs matches
 
-pub record_type_law : IsFormat record_type_format
+pub record_type_law : (v : Version) → IsFormat (record_type_format v)
 unfolding record_type_format
-record_type_law = row_law _ _ _ type_there (λ x. refl) type_parts_law
+record_type_law v = row_law _ _ _ (type_there v) (λ x. refl) (type_parts_law v)
 
 -- ---- what record types keep
 
@@ -78,22 +96,93 @@ input_from : (f : InputField ℕ) → IsInputRow f → input_field_format.Holds 
 unfolding input_field_format pair row byte two_bytes
 input_from f h = ((refl, h.from), ((refl, h.to), ((refl, h.field), (shows_from f.shows h.shows, (refl, omega arith)))))
 
-pub type_kept : (t : TypeRow ℕ) → record_type_format.Holds t → IsTypeRow t
+-- ---- what version 1 doesn't have
+
+file_from : (f : InputFile) → (input_file_by_number (input_file_number f) ≡ Ok f) × (input_file_number f < 2 ^ 8)
+file_from Primary = (refl, omega arith)
+file_from Secondary = (refl, omega arith)
+
+-- in version 1 the file is the primary
+primary_kept : (v : Version) (f : InputFile) → (input_file v).Holds f → v ≡ versions.One → f ≡ Primary
+unfolding row_where
+primary_kept versions.One f h one = h.0
+primary_kept versions.Two f h one = absurd cc
+
+input_file_from : (v : Version) (f : InputFile) → (v ≡ versions.One → f ≡ Primary) → (input_file v).Holds f
+unfolding row_where byte
+input_file_from versions.One f plain = (plain refl, (refl, omega arith))
+input_file_from versions.Two f plain = file_from f
+
+few_matches : (v : Version) (n : ℕ) → (match_count v).Holds n → n ≤ 9
+unfolding row_where two_bytes
+few_matches versions.One n h = omega (arith, h.0)
+few_matches versions.Two n h = counted 9 n h.0
+
+-- in version 1 there are no match fields
+no_matches : (v : Version) (n : ℕ) → (match_count v).Holds n → v ≡ versions.One → n ≡ 0
+unfolding row_where
+no_matches versions.One n h one = h.0
+no_matches versions.Two n h one = absurd cc
+
+match_count_from : (v : Version) (n : ℕ) → n ≤ 9 → (v ≡ versions.One → n ≡ 0) → (match_count v).Holds n
+unfolding row_where no_number two_bytes
+match_count_from versions.One n le plain = (plain refl, tt)
+match_count_from versions.Two n le plain = (few 9 n le, omega arith)
+
+none_left : {X : Type 0} (xs : List X) → length xs ≡ 0 → xs ≡ []
+none_left [] e = refl
+none_left (x ∷ xs) e = absurd (omega arith)
+
+-- ---- what record types keep, whole
+
+pub type_kept : (v : Version) (t : TypeRow ℕ) → (record_type_format v).Holds t → IsTypeRow t
 unfolding record_type_format type_parts pair row two_bytes
-type_kept t h = record {
+type_kept v t h = record {
   indicator = indicator_kept t.indicator h.0;
   few_codes = counted 100 (length t.codes) h.1.1.0.0;
-  codes = all_from_table record_code_format IsCodeRow code_kept (length t.codes) t.codes h.1.1.1.1.1.0;
+  codes = all_from_table record_code_format IsCodeRow code_kept (length t.codes) t.codes h.1.1.1.1.1.1.0;
   few_levels = counted 100 (length t.levels) h.1.1.1.0.0;
-  levels = all_from_table control_field_format IsControlRow control_kept (length t.levels) t.levels h.1.1.1.1.1.1.0;
+  levels = all_from_table control_field_format IsControlRow control_kept (length t.levels) t.levels h.1.1.1.1.1.1.1.0;
   few_inputs = counted 500 (length t.inputs) h.1.1.1.1.0.0;
-  inputs = all_from_table input_field_format IsInputRow input_kept (length t.inputs) t.inputs h.1.1.1.1.1.1.1;
+  inputs = all_from_table input_field_format IsInputRow input_kept (length t.inputs) t.inputs h.1.1.1.1.1.1.1.1.0;
+  few_matches = few_matches v (length t.matches) h.1.1.1.1.1.0;
+  matches = all_from_table control_field_format IsControlRow control_kept (length t.matches) t.matches h.1.1.1.1.1.1.1.1.1;
 }
 
-pub type_from : (t : TypeRow ℕ) → IsTypeRow t → record_type_format.Holds t
+pub plain_kept : (v : Version) (t : TypeRow ℕ) → (record_type_format v).Holds t → v ≡ versions.One → IsPlainType t
+unfolding record_type_format type_parts pair row
+plain_kept v t h one = record {
+  file = primary_kept v t.file h.1.0 one;
+  matches = none_left t.matches (no_matches v (length t.matches) h.1.1.1.1.1.0 one);
+}
+
+pub type_from : (v : Version) (t : TypeRow ℕ) → IsTypeRow t → (v ≡ versions.One → IsPlainType t) → (record_type_format v).Holds t
 unfolding record_type_format type_parts pair row byte two_bytes
-type_from t h =
+type_from v t h plain =
     let codes = h.few_codes in
     let levels = h.few_levels in
-    let inputs = h.few_inputs in
-    (indicator_from t.indicator h.indicator, ((refl, omega arith), ((few 100 (length t.codes) codes, omega arith), ((few 100 (length t.levels) levels, omega arith), ((few 500 (length t.inputs) inputs, omega arith), (table_from_all record_code_format IsCodeRow code_from t.codes h.codes, (table_from_all control_field_format IsControlRow control_from t.levels h.levels, table_from_all input_field_format IsInputRow input_from t.inputs h.inputs)))))))
+    let inputs = h.few_inputs in (
+      indicator_from t.indicator h.indicator,
+      (
+        input_file_from v t.file (λ one. (plain one).file),
+        (
+          (few 100 (length t.codes) codes, omega arith),
+          (
+            (few 100 (length t.levels) levels, omega arith),
+            (
+              (few 500 (length t.inputs) inputs, omega arith),
+              (
+                match_count_from v (length t.matches) h.few_matches (λ one. ap length (plain one).matches),
+                (
+                  table_from_all record_code_format IsCodeRow code_from t.codes h.codes,
+                  (
+                    table_from_all control_field_format IsControlRow control_from t.levels h.levels,
+                    (table_from_all input_field_format IsInputRow input_from t.inputs h.inputs, table_from_all control_field_format IsControlRow control_from t.matches h.matches),
+                  ),
+                ),
+              ),
+            ),
+          ),
+        ),
+      ),
+    )

@@ -1,5 +1,5 @@
 -- How rows are made of formats.
-use Rattle.std.specs.Prelude.{◌≡◌, ℕ, List, length, Bool, true, false}
+use Rattle.std.specs.Prelude.{◌≡◌, ℕ, List, [], length, Bool, true, false, Ok}
 use Rattle.rpg_object_format.specs.declared.fault.Code.TheVariants.{Unused}
 use Rattle.rpg_object_format.specs.Format.{Format, ◌>>=◌, made, pair, row, table}
 use Rattle.rpg_object_format.specs.Numbers.{is_any_number, byte_where, count, only_byte, only_number}
@@ -16,6 +16,10 @@ unused_byte = only_byte 0 Unused
 
 abbrev pub unused_number : Format (Unit {0})
 unused_number = only_number 0 Unused
+
+-- no number at all
+unfoldable pub no_number : Format (Unit {0})
+no_number = record { spelling = λ u. []; Holds = λ u. Unit {0}; reading = λ bytes. Ok (tt, bytes) }
 
 -- ---- rows
 

@@ -1,25 +1,26 @@
 //! Record types, with their codes, control fields and input fields.
 
-ghost use Rattle.std.specs.Prelude.{◌≡◌, ℕ, ◌++◌, ◌≤◌, All, length, map, OnOk};
-ghost use Rattle.rpg_effect.specs.Input.{TypeRow};
+ghost use Rattle.std.specs.Prelude.{◌≡◌, ℕ, ◌++◌, All, length, map, OnOk};
 ghost use Rattle.rpg_effect.specs.declared.input.ControlField as control;
 ghost use Rattle.rpg_effect.specs.declared.input.InputField as input;
 ghost use Rattle.rpg_effect.specs.declared.input.RecordCode as code;
 ghost use Rattle.rpg_object_format.specs.Format.{table};
 ghost use Rattle.rpg_object_format.specs.Reading.{Gives};
-ghost use Rattle.rpg_object_program.specs.Kept.{IsCodeRow, IsControlRow, IsInputRow, IsTypeRow};
+ghost use Rattle.rpg_object_program.specs.Kept.{IsCodeRow, IsControlRow, IsInputRow, IsPlainType, IsTypeRow};
 ghost use Rattle.rpg_object_program.specs.Object.{type_row};
+ghost use Rattle.rpg_object_program.specs.declared.row.Version.TheVariants as versions;
 ghost use Rattle.rpg_object_rows.specs.Types as rows;
 ghost use Rattle.rpg_object_rows.specs.Types.{control_field_format, input_field_format, record_code_format};
 
 use crate::indicator::{indicator_at, indicator_number, shows_at};
 use crate::table::{Row, put_rows, rows_at};
-use rpg_effect::input::{ControlField, InputField, RecordCode};
+use rpg_effect::input::{ControlField, InputField, InputFile, RecordCode};
 use rpg_object_format::fault::{Code, ReadFault};
 use rpg_object_format::number::{
-    any_number_at, byte_between_at, count_at, flag_at, flag_number, high, low, only_byte_at,
+    any_number_at, byte_at, byte_between_at, count_at, flag_at, flag_number, high, low,
+    only_byte_at, put_numbers,
 };
-use rpg_object_program::row::RecordType;
+use rpg_object_program::row::{RecordType, Version};
 use std::alloc::{AllocError, Global};
 
 #[tactic(auto, unfolding(rpg_object_format::specs::Format::byte, rpg_object_format::specs::Format::two_bytes, rpg_object_format::specs::Format::pair, rpg_object_format::specs::Format::row, crate::specs::Types::record_code_format))]
@@ -170,41 +171,106 @@ impl Row for InputField<u16> {
     }
 }
 
-/// Reads a record type. More than 100 codes, 100 control fields or 500 input fields are B7.
+fn input_file_of(n: u8) -> Result<InputFile, Code>
+    ensures { result ≡ rows.input_file_by_number n }
+{
+    match n {
+        0 => Ok(InputFile::Primary),
+        1 => Ok(InputFile::Secondary),
+        _ => Err(Code::NotAllowed),
+    }
+}
+
+fn input_file_number(file: InputFile) -> u8
+    ensures { result ≡ rows.input_file_number file }
+{
+    match file {
+        InputFile::Primary => 0,
+        InputFile::Secondary => 1,
+    }
+}
+
+#[tactic(auto, unfolding(rpg_object_format::specs::Format::read_byte, rpg_object_format::specs::Format::byte, crate::specs::Shapes::row_where))]
+fn input_file_at(version: Version, bytes: &[u8]) -> Result<(InputFile, &[u8]), ReadFault>
+    ensures { Gives (λ x. (x.0, x.1.now)) result ((rows.input_file version).reading bytes.now) }
+{
+    match version {
+        Version::One => {
+            let (_, rest) = only_byte_at(bytes, 0, Code::Unused)?;
+            Ok((InputFile::Primary, rest))
+        }
+        Version::Two => byte_at(bytes, input_file_of),
+    }
+}
+
+#[tactic(auto, unfolding(rpg_object_format::specs::Format::two_bytes, crate::specs::Shapes::row_where, crate::specs::Shapes::no_number))]
+fn match_count_at(version: Version, bytes: &[u8]) -> Result<(u16, &[u8]), ReadFault>
+    ensures { Gives (λ x. (x.0, x.1.now)) result ((rows.match_count version).reading bytes.now) }
+{
+    match version {
+        Version::One => Ok((0, bytes)),
+        Version::Two => count_at(bytes, 9),
+    }
+}
+
+#[tactic(auto, unfolding(rpg_object_format::specs::Format::two_bytes, crate::specs::Shapes::row_where, crate::specs::Shapes::no_number))]
+fn put_match_count(out: &mut Vec<u8>, version: Version, count: u16) -> Result<(), AllocError>
+    ensures { OnOk result (out.new.items ≡ out.old.items ++ (rows.match_count version).spelling count) }
+{
+    match version {
+        Version::One => Ok(()),
+        Version::Two => put_numbers(out, &[count]),
+    }
+}
+
+/// Reads a record type, as the version spells it. More than 100 codes, 100 control fields, 500 input fields or 9 match
+/// fields are B7.
 #[tactic(auto, unfolding(rpg_object_format::specs::Format::byte, rpg_object_format::specs::Format::two_bytes, rpg_object_format::specs::Format::pair, rpg_object_format::specs::Format::row, rpg_object_format::specs::Format::times_with, crate::specs::Types::type_parts, crate::specs::Types::record_type_format))]
-pub fn record_type_at(alloc: Global, bytes: &[u8]) -> Result<(RecordType, &[u8]), ReadFault>
-    ensures { Gives (λ x. (type_row x.0, x.1.now)) result (rows.record_type_format.reading bytes.now) }
+pub fn record_type_at(
+    alloc: Global,
+    version: Version,
+    bytes: &[u8],
+) -> Result<(RecordType, &[u8]), ReadFault>
+    ensures { Gives (λ x. (type_row x.0, x.1.now)) result ((rows.record_type_format version).reading bytes.now) }
 {
     let (indicator, rest) = indicator_at(bytes)?;
-    let (_, rest) = only_byte_at(rest, 0, Code::Unused)?;
+    let (file, rest) = input_file_at(version, rest)?;
     let (code_count, rest) = count_at(rest, 100)?;
     let (level_count, rest) = count_at(rest, 100)?;
     let (input_count, rest) = count_at(rest, 500)?;
+    let (match_count, rest) = match_count_at(version, rest)?;
     let (codes, rest) = rows_at(alloc, code_count, rest)?;
     let (levels, rest) = rows_at(alloc, level_count, rest)?;
     let (inputs, rest) = rows_at(alloc, input_count, rest)?;
+    let (matches, rest) = rows_at(alloc, match_count, rest)?;
     Ok((
         RecordType {
+            file,
             indicator,
             codes,
             levels,
             inputs,
+            matches,
         },
         rest,
     ))
 }
 
 /// Writes the numbers of a record type before its tables.
-fn put_type_head(out: &mut Vec<u8>, record_type: &RecordType) -> Result<(), AllocError>
+fn put_type_head(
+    out: &mut Vec<u8>,
+    version: Version,
+    record_type: &RecordType,
+) -> Result<(), AllocError>
     requires { IsTypeRow (type_row record_type.now) }
-    ensures { OnOk result (out.new.items ≡ out.old.items ++ rows.type_head (type_row record_type.now)) }
+    ensures { OnOk result (out.new.items ≡ out.old.items ++ rows.type_head version (type_row record_type.now)) }
 {
     let code_count = record_type.codes.len() as u16;
     let level_count = record_type.levels.len() as u16;
     let input_count = record_type.inputs.len() as u16;
     let row = [
         indicator_number(record_type.indicator),
-        0,
+        input_file_number(record_type.file),
         high(code_count),
         low(code_count),
         high(level_count),
@@ -213,58 +279,58 @@ fn put_type_head(out: &mut Vec<u8>, record_type: &RecordType) -> Result<(), Allo
         low(input_count),
     ];
     out.extend_from_slice(&row)?;
-    Ok(())
+    put_match_count(out, version, record_type.matches.len() as u16)
 }
 
-/// Writes a record type.
-pub fn put_record_type(out: &mut Vec<u8>, record_type: &RecordType) -> Result<(), AllocError>
-    requires { IsTypeRow (type_row record_type.now) }
-    ensures { OnOk result (out.new.items ≡ out.old.items ++ rows.record_type_format.spelling (type_row record_type.now)) }
+/// Writes a record type, as the version spells it.
+pub fn put_record_type(
+    out: &mut Vec<u8>,
+    version: Version,
+    record_type: &RecordType,
+) -> Result<(), AllocError>
+    requires row { IsTypeRow (type_row record_type.now) }
+    requires plain { version ≡ versions.One → IsPlainType (type_row record_type.now) }
+    ensures { OnOk result (out.new.items ≡ out.old.items ++ (rows.record_type_format version).spelling (type_row record_type.now)) }
 {
-    put_type_head(out, record_type)?;
+    put_type_head(out, version, record_type)?;
     put_rows(&record_type.codes, out)?;
     put_rows(&record_type.levels, out)?;
     put_rows(&record_type.inputs, out)?;
+    put_rows(&record_type.matches, out)?;
     Ok(())
 }
 
-impl Row for RecordType {
-    ghost Seen = { TypeRow ℕ };
-
-    ghost seen = { type_row };
-
-    ghost Keeps = { IsTypeRow };
-
-    ghost read = { rows.record_type_format.reading };
-
-    ghost spell = { rows.record_type_format.spelling };
-
-    fn read_row(alloc: Global, bytes: &[u8]) -> Result<(Self, &[u8]), ReadFault> {
-        record_type_at(alloc, bytes)
-    }
-
-    fn put_row(&self, out: &mut Vec<u8>) -> Result<(), AllocError> {
-        put_record_type(out, self)
-    }
-}
-
 /// Reads so many record types. How many there may be is the caller's to test.
-#[tactic(auto, unfolding(rpg_object_format::specs::Format::times_with))]
 pub fn record_types_at(
     alloc: Global,
+    version: Version,
     count: u16,
     bytes: &[u8],
 ) -> Result<(Vec<RecordType>, &[u8]), ReadFault>
-    ensures { Gives (λ x. (map type_row x.0.items, x.1.now)) result ((table count rows.record_type_format).reading bytes.now) }
+    ensures { Gives (λ x. (map type_row x.0.items, x.1.now)) result ((table count (rows.record_type_format version)).reading bytes.now) }
 {
-    rows_at(alloc, count, bytes)
+    let mut types = Vec::with_capacity(alloc, count as usize)?;
+    let mut rest = bytes;
+    for _ in 0..count {
+        let (record_type, after) = record_type_at(alloc, version, rest)?;
+        types.push(record_type)?;
+        rest = after;
+    }
+    Ok((types, rest))
 }
 
 /// Writes record types.
-#[tactic(auto, unfolding(rpg_object_format::specs::Format::times_with))]
-pub fn put_record_types(out: &mut Vec<u8>, types: &[RecordType]) -> Result<(), AllocError>
-    requires { All IsTypeRow (map type_row types.now) }
-    ensures { OnOk result (out.new.items ≡ out.old.items ++ (table (length types.now) rows.record_type_format).spelling (map type_row types.now)) }
+pub fn put_record_types(
+    out: &mut Vec<u8>,
+    version: Version,
+    types: &[RecordType],
+) -> Result<(), AllocError>
+    requires rows { All IsTypeRow (map type_row types.now) }
+    requires plain { version ≡ versions.One → All IsPlainType (map type_row types.now) }
+    ensures { OnOk result (out.new.items ≡ out.old.items ++ (table (length types.now) (rows.record_type_format version)).spelling (map type_row types.now)) }
 {
-    put_rows(types, out)
+    for record_type in types {
+        put_record_type(out, version, record_type)?;
+    }
+    Ok(())
 }

@@ -1,17 +1,19 @@
 //! Laws of the formats. A function here does nothing: its contract is the law.
 
-ghost use Rattle.std.specs.Prelude.{ℕ};
+ghost use Rattle.std.specs.Prelude.{◌≡◌, ℕ};
 ghost use Rattle.rpg_effect.specs.Input.{TypeRow};
-ghost use Rattle.rpg_object_program.specs.Kept.{IsLineRow, IsTypeRow};
+ghost use Rattle.rpg_object_program.specs.Kept.{IsLineRow, IsPlainType, IsTypeRow};
 ghost use Rattle.rpg_object_program.specs.Object.{LineRow};
+ghost use Rattle.rpg_object_program.specs.declared.row.Version.{Version};
+ghost use Rattle.rpg_object_program.specs.declared.row.Version.TheVariants as versions;
 ghost use Rattle.rpg_object_rows.specs.Lines.{line};
 ghost use Rattle.rpg_object_rows.specs.Types.{record_type_format};
 
-/// What a record type keeps, in plain words, and back.
-#[tactic(auto, using(crate::proofs::TypeLaws::type_kept, crate::proofs::TypeLaws::type_from))]
+/// What a record type keeps, in plain words, and back. In version 1 it is of the primary file and has no match fields.
 pub fn record_types_are_plain()
-    ensures plain { (t : TypeRow ℕ) → record_type_format.Holds t → IsTypeRow t }
-    ensures whole { (t : TypeRow ℕ) → IsTypeRow t → record_type_format.Holds t }
+    ensures plain { (v : Version) (t : TypeRow ℕ) → (record_type_format v).Holds t → IsTypeRow t }
+    ensures first { (t : TypeRow ℕ) → (record_type_format versions.One).Holds t → IsPlainType t }
+    ensures whole { (v : Version) (t : TypeRow ℕ) → IsTypeRow t → (v ≡ versions.One → IsPlainType t) → (record_type_format v).Holds t }
 {}
 
 /// What a line keeps, in plain words, and back.

@@ -8,6 +8,7 @@ use Rattle.rpg_cycle.specs.Ends.{GoesOn}
 use Rattle.rpg_cycle.specs.Phases as spec
 use Rattle.rpg_cycle.specs.Stages.{job_end}
 use Rattle.rpg_object_program.specs.Kept.{IsCharacter}
+use Rattle.rpg_cycle_records.specs.Fitting.{IsFilledAs}
 use Rattle.rpg_cycle_records.specs.Keeping.{left_of, selected_as}
 use Rattle.rpg_cycle.proofs.cycle.take_record.Goals as goal
 
@@ -184,7 +185,7 @@ pub fill_fields-requires-clause-there : goal.fill_fields-requires-clause-there
 fill_fields-requires-clause-there g c = c.requires.there
 
 pub fill_fields-requires-clause-whole : goal.fill_fields-requires-clause-whole
-fill_fields-requires-clause-whole g c = subst (λ (x : List ℕ). ForSome c.args.selected (λ _. length x ≡ c.args.program.now.record_length)) (sym c.deref.ensures.value) c.requires.whole
+fill_fields-requires-clause-whole g c = subst (λ (x : List ℕ). ForSome c.args.selected (λ t. IsFilledAs c.args.program.now t x)) (sym c.deref.ensures.value) c.requires.whole
 
 pub fill_fields-requires-clause-characters : goal.fill_fields-requires-clause-characters
 fill_fields-requires-clause-characters g c = subst (λ (x : List ℕ). ForSome c.args.selected (λ _. All IsCharacter x)) (sym c.deref.ensures.value) c.requires.characters

@@ -1,14 +1,17 @@
-use Rattle.std.proofs.Common.{◌∙◌, ℕ, List, All, sym, subst, refl}
+use Rattle.std.proofs.Common.{◌∙◌, ℕ, List, All, sym, ap, subst, refl}
 use Rattle.rpg_cycle_records.specs.Earlier.{control_fields}
 use Rattle.rpg_cycle_records.specs.Keeping.{left_of, seen_levels}
 use Rattle.rpg_cycle.specs.Selecting.{TakesType, IsCompared}
 use Rattle.rpg_cycle.specs.declared.ends.JobEnd.TheVariants as jobs
 use Rattle.rpg_effect.specs.declared.halt.Halt.TheVariants as halts
+use Rattle.rpg_effect.specs.declared.input.InputFile.TheVariants.{Primary}
 use Rattle.rpg_cycle_records.specs.declared.levels.LastBytes.{LastBytes}
 use Rattle.rpg_cycle.proofs.Composing.{passed_map}
 use Rattle.rpg_cycle_records.proofs.Recording.{filled_characters}
 use Rattle.rpg_cycle.proofs.Selecting.{refused, untaken, untaken_spends, has_taken, taken_selects}
 use Rattle.rpg_object_program.specs.Kept.{IsCharacter}
+use Rattle.rpg_object_program.specs.Object.{input_length}
+use Rattle.rpg_cycle_records.specs.Fitting.{IsFilledAs}
 use Rattle.rpg_cycle.proofs.selection.read.Goals as goal
 
 pub returns-then-not-is_good-clause-stops : goal.returns-then-not-is_good-clause-stops
@@ -50,4 +53,17 @@ returns-clause-selects g c =
 
 pub returns-clause-characters : goal.returns-clause-characters
 returns-clause-characters g c =
-    subst (λ (xs : List ℕ). All IsCharacter xs) (sym c.in_ok-fill.ensures.filled) (filled_characters c.args.program.now c.args.text.now (sym c.is_good.ensures ∙ c.if-not-is_good.false))
+    subst (λ (xs : List ℕ). All IsCharacter xs) (sym c.in_ok-fill.ensures.filled) (filled_characters c.args.program.now Primary c.args.text.now (sym c.is_good.ensures ∙ c.if-not-is_good.false))
+
+pub compare_levels-requires-clause-whole : goal.compare_levels-requires-clause-whole
+compare_levels-requires-clause-whole g c =
+    subst (λ (x : List ℕ). IsFilledAs c.args.program.now c.in_ok-row.row x) (sym c.deref-2.ensures.value)
+    (c.in_ok-fill.ensures.whole ∙ sym (ap (input_length c.args.program.now) c.in_ok-row.ensures.goes.own))
+
+pub keep-requires-clause-filled : goal.keep-requires-clause-filled
+keep-requires-clause-filled g c =
+    subst (λ (x : List ℕ). IsFilledAs c.args.program.now c.in_ok-row.row x) (sym c.deref-3.ensures.value)
+    (c.in_ok-fill.ensures.whole ∙ sym (ap (input_length c.args.program.now) c.in_ok-row.ensures.goes.own))
+
+pub returns-clause-whole : goal.returns-clause-whole
+returns-clause-whole g c = c.in_ok-fill.ensures.whole ∙ sym (ap (input_length c.args.program.now) c.in_ok-row.ensures.goes.own)

@@ -9,6 +9,15 @@ use Rattle.rpg_object.proofs.FieldsLeft.{as_many}
 use Rattle.rpg_object.proofs.Texts.{program_written}
 use Rattle.rpg_object.proofs.encoding.put_body.Goals as goal
 
+pub put_header-requires : goal.put_header-requires
+put_header-requires c = λ one. (c.requires.plain one).secondary
+
+pub put_record_types-requires-clause-rows : goal.put_record_types-requires-clause-rows
+put_record_types-requires-clause-rows c = rw c.deref-4.ensures.value c.requires.types
+
+pub put_record_types-requires-clause-plain : goal.put_record_types-requires-clause-plain
+put_record_types-requires-clause-plain c = λ one. rw c.deref-4.ensures.value ((c.requires.plain one).types)
+
 pub put_values-requires-clause-lengths : goal.put_values-requires-clause-lengths
 put_values-requires-clause-lengths c = rw c.deref-2.ensures.value (lengths_kept c.args.rows.now.fields.items c.requires.fields)
 

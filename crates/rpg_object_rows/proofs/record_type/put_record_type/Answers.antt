@@ -9,4 +9,5 @@ returns c =
     let codes = as_they_are record_code_format.spelling t.codes _ _ (rw c.deref.ensures.value at c.in_ok-put_rows.ensures) in
     let levels = as_they_are control_field_format.spelling t.levels _ _ (rw c.deref-2.ensures.value at c.in_ok-put_rows-2.ensures) in
     let inputs = as_they_are input_field_format.spelling t.inputs _ _ (rw c.deref-3.ensures.value at c.in_ok-put_rows-3.ensures) in
-    type_written t c.args.out.now.items _ _ _ _ c.in_ok-put_type_head.ensures codes levels inputs
+    let matches = as_they_are control_field_format.spelling t.matches _ _ (rw c.deref-4.ensures.value at c.in_ok-put_rows-4.ensures) in
+    type_written c.args.version t c.requires.plain c.args.out.now.items _ _ _ _ _ c.in_ok-put_type_head.ensures codes levels inputs matches

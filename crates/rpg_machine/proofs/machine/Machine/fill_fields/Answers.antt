@@ -1,18 +1,19 @@
-use Rattle.std.proofs.Common.{◌≡◌, ℕ, ◌+◌, ◌<◌, List, All, length, None, Some, sym, ap, ◌∙◌, subst, arith}
+use Rattle.std.proofs.Common.{◌≡◌, ℕ, ◌+◌, ◌<◌, List, All, length, Option, None, Some, sym, ap, ◌∙◌, subst, arith}
 use Rattle.std.proofs.lemmas.List.{length-map}
 use Rattle.std.proofs.lemmas.Option.{slice_get-get_or, slice_get-map}
-use Rattle.std.specs.Option.{option_map}
+use Rattle.std.specs.Option.{option_map, option_map_or}
 use Rattle.rpg_paper.specs.Form.{Standing}
 use Rattle.rpg_effect.specs.Ends.{end_of}
 use Rattle.rpg_effect.specs.Forms.{form_at}
-use Rattle.rpg_effect.specs.Input.{input_fault, record_in}
+use Rattle.rpg_effect.specs.Input.{TypeRow, input_fault, record_in}
 use Rattle.rpg_effect.specs.declared.input.InputField.{InputField}
+use Rattle.rpg_effect.specs.declared.input.InputFile.TheVariants.{Primary}
 use Rattle.rpg_machine.proofs.Records.{record_filled}
-use Rattle.rpg_machine.specs.Outputs.{FillsFields}
+use Rattle.rpg_machine.specs.Outputs.{FillsFields, length_at}
 use Rattle.rpg_machine.specs.Running.{Did, Running}
 use Rattle.rpg_machine.specs.State.{running_of}
 use Rattle.rpg_store.specs.Memory.{held_of}
-use Rattle.rpg_object_program.specs.Object.{Object, seen, type_row}
+use Rattle.rpg_object_program.specs.Object.{Object, input_length, seen, type_row}
 use Rattle.rpg_verify_rules.proofs.Values.{one_of_all}
 use Rattle.rpg_verify_rules.specs.Sound.{IsSound, IsSoundType}
 use Rattle.rpg_machine.proofs.machine.Machine.fill_fields.Goals as goal
@@ -29,7 +30,8 @@ fill_all-requires-clause-right g c =
     let there = slice_get-map type_row types c.args.row ∙ ap (option_map type_row) (slice_get-get_or types c.args.row t low ∙ ap Some (sym c.index.ensures)) in
     let sound = subst (λ (p : Object). IsSound p) (sym same) c.rows-rows.ensures.orderly.sound in
     let inputs = (one_of_all (IsSoundType (seen rows)) (seen rows).types c.args.row (type_row t) sound.types there).inputs in
-    let long : rows.record_length ≡ length c.args.text.now = ap (λ (p : Object). p.record_length) (same ∙ own) ∙ sym c.requires.filled in
+    let long : input_length (seen rows) t.file ≡ length c.args.text.now =
+    sym (ap (λ (o : Option (TypeRow ℕ)). input_length (seen rows) (option_map_or (λ (r : TypeRow ℕ). r.file) o Primary)) there) ∙ ap (λ (p : Object). length_at p c.args.row) (same ∙ own) ∙ sym c.requires.filled in
     subst (λ (fs : List (InputField ℕ)). All (λ f. input_fault (form_at rows.fields.items) (length c.args.text.now) f ≡ None) fs) (sym c.deref.ensures.value)
     (subst (λ (n : ℕ). All (λ f. input_fault (form_at rows.fields.items) n f ≡ None) t.inputs.items) long inputs)
 

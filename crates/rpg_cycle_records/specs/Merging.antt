@@ -1,0 +1,52 @@
+-- That match values were taken in their order: what makes the last value of each file enough to tell a match.
+use Rattle.std.specs.Prelude.{◌≡◌, ℕ, Bool, false, not, ◌&&◌, ◌||◌, List, [], ◌∷◌, Option, None, Some, is_none}
+use Rattle.rpg_effect.specs.declared.input.InputFile.{InputFile}
+use Rattle.rpg_effect.specs.declared.input.InputFile.TheVariants.{Primary, Secondary}
+use Rattle.rpg_object_program.specs.Object.{Object}
+use Rattle.rpg_cycle_records.specs.Earlier.{Selected, file_at, last_value, match_value, or_before}
+use Rattle.rpg_cycle_records.specs.Matching.{exceeds}
+use Rattle.rpg_cycle_records.specs.Waiting.{Input, Inputs, has_file, value_of}
+
+-- A value, where there is one, is no greater than this one; and where this one is missing, so is the value.
+abbrev pub IsUpTo : Option (List ℕ) → Option (List ℕ) → Type 0
+IsUpTo None m = m ≡ None
+IsUpTo (Some v) m = exceeds m (Some v) ≡ false
+
+-- so are the match values of all these records
+abbrev pub IsTopOf : Object → Option (List ℕ) → List Selected → Type 0
+IsTopOf p v [] = Unit {0}
+IsTopOf p v (s ∷ ss) = IsUpTo v (match_value p s) × IsTopOf p v ss
+
+-- a record without a match value stands anywhere
+abbrev pub IsTopIfAny : Object → Option (List ℕ) → List Selected → Type 0
+IsTopIfAny p None ss = Unit {0}
+IsTopIfAny p (Some v) ss = IsTopOf p (Some v) ss
+
+-- the match values of both files together rise from record to record, the last one being given first
+abbrev pub IsMerged : Object → List Selected → Type 0
+IsMerged p [] = Unit {0}
+IsMerged p (s ∷ ss) = IsTopIfAny p (match_value p s) ss × IsMerged p ss
+
+-- no record comes from the file any more
+abbrev pub is_spent : Object → InputFile → Input → Bool
+is_spent p f i = is_none i.waiting && (not (has_file p f) || i.is_over)
+
+-- the match value that the file has come to
+abbrev pub front : Object → List Selected → InputFile → Input → Option (List ℕ)
+front p earlier f i = or_before (last_value p f earlier) (value_of p f i.waiting)
+
+-- a record that waits in a file is of the file
+abbrev pub IsFrom : Object → InputFile → Option Selected → Type 0
+IsFrom p f None = Unit {0}
+IsFrom p f (Some s) = file_at p s ≡ f
+
+-- a file from which records come has come to no lower match value than any that was selected
+pub record IsFileOrderly (p : Object) (earlier : List Selected) (f : InputFile) (i : Input) : Type 0 where
+  pub own : IsFrom p f i.waiting
+  pub top : is_spent p f i ≡ false → IsTopOf p (front p earlier f i) earlier
+
+-- what holds between any two cycles of a job
+pub record IsOrderly (p : Object) (earlier : List Selected) (i : Inputs) : Type 0 where
+  pub merged : IsMerged p earlier
+  pub primary : IsFileOrderly p earlier Primary i.primary
+  pub secondary : IsFileOrderly p earlier Secondary i.secondary

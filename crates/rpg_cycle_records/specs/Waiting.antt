@@ -1,0 +1,85 @@
+-- Records that wait in their files, and which of them is selected.
+use Rattle.std.specs.Prelude.{ℕ, Bool, true, false, not, ◌&&◌, ◌||◌, ◌==◌, List, Option, None, Some, is_none, if◌then◌else◌}
+use Rattle.rpg_effect.specs.declared.input.InputFile.{InputFile}
+use Rattle.rpg_effect.specs.declared.input.InputFile.TheVariants.{Primary, Secondary}
+use Rattle.rpg_object_program.specs.Object.{Object, input_length}
+use Rattle.rpg_cycle_records.specs.Earlier.{Left, Selected, any_agrees, file_at, last_of_file, match_value, value_from, with_record}
+use Rattle.rpg_cycle_records.specs.Matching.{agrees, is_greater}
+
+-- a file: the record that waits in it, if one does, and whether its end was read
+pub record Input : Type 0 where
+  pub waiting : Option Selected
+  pub is_over : Bool
+
+pub record Inputs : Type 0 where
+  pub primary : Input
+  pub secondary : Input
+
+-- nothing was read yet
+abbrev pub unread : Inputs
+unread = record { primary = record { waiting = None; is_over = false }; secondary = record { waiting = None; is_over = false } }
+
+abbrev pub input_at : Inputs → InputFile → Input
+input_at i Primary = i.primary
+input_at i Secondary = i.secondary
+
+abbrev pub with_input : InputFile → Input → Inputs → Inputs
+with_input Primary x i = record i { primary = x }
+with_input Secondary x i = record i { secondary = x }
+
+abbrev pub waiting_in : Inputs → InputFile → Option Selected
+waiting_in i f = (input_at i f).waiting
+
+-- the end of the file was read
+abbrev pub over : InputFile → Inputs → Inputs
+over f i = with_input f (record { waiting = None; is_over = true }) i
+
+-- a record waits, or none does
+abbrev pub with_waiting : InputFile → Option Selected → Inputs → Inputs
+with_waiting f s i = with_input f (record { waiting = s; is_over = (input_at i f).is_over }) i
+
+-- a program has such a file
+abbrev pub has_file : Object → InputFile → Bool
+has_file p f = not (input_length p f == 0)
+
+-- a file that is there, not at its end and without a waiting record takes one in
+abbrev pub takes_in : Object → Inputs → InputFile → Bool
+takes_in p i f = has_file p f && (not (input_at i f).is_over && is_none (waiting_in i f))
+
+-- ---- selection
+
+-- of two match values the one that goes first: the primary's where it is missing, else the secondary's where that is, else the
+-- primary's unless it is greater
+abbrev pub first_of : Option (List ℕ) → Option (List ℕ) → InputFile
+first_of None w = Primary
+first_of (Some v) None = Secondary
+first_of (Some v) (Some w) = if is_greater v w then Secondary else Primary
+
+-- the file whose record is selected, if any waits
+abbrev pub chosen : Object → Option Selected → Option Selected → Option InputFile
+chosen p None None = None
+chosen p (Some s) None = Some Primary
+chosen p None (Some t) = Some Secondary
+chosen p (Some s) (Some t) = Some (first_of (match_value p s) (match_value p t))
+
+-- ---- matching records
+
+abbrev pub other_file : InputFile → InputFile
+other_file Primary = Secondary
+other_file Secondary = Primary
+
+-- one of the records that were taken in, those selected earlier and those that wait, is of the other file and has the record's match value
+abbrev pub has_match : Object → List Selected → Inputs → Selected → Bool
+has_match p earlier i s =
+    any_agrees p (other_file (file_at p s)) (match_value p s) (with_record (waiting_in i (other_file (file_at p s))) earlier)
+
+-- what a job that keeps the last values alone can test: the waiting record of the other file, or the last one selected from it, has the
+-- record's match value
+abbrev pub value_of : Object → InputFile → Option Selected → Option (List ℕ)
+value_of p f None = None
+value_of p f (Some s) = value_from p f s
+
+abbrev pub finds_match : Object → Left → Inputs → Selected → Bool
+finds_match p left i s =
+    agrees (match_value p s) (value_of p (other_file (file_at p s)) (waiting_in i (other_file (file_at p s))))
+    || agrees (match_value p s) (last_of_file left (other_file (file_at p s)))

@@ -1,0 +1,130 @@
+//! Match values: of a record, and how they stand to each other.
+ghost use Rattle.std.specs.Prelude.{◌≡◌, ◌++◌, All, OnOk, Some, length};
+ghost use Rattle.rpg_cycle_records.specs.Fitting.{IsControlIn};
+ghost use Rattle.rpg_cycle_records.specs.Keeping.{seen_value};
+ghost use Rattle.rpg_cycle_records.specs.Matching as spec;
+
+use crate::levels::join;
+use crate::program::{file_of, match_fields};
+use rpg_decimal::compare_text;
+use rpg_effect::input::{ControlField, InputFile};
+use rpg_verify::Verified;
+use std::alloc::{AllocError, Global};
+use std::cmp::Ordering;
+
+/// Bytes that the match fields of a type have together, at most.
+const LONGEST_VALUE: usize = 256;
+
+/// The match value of a record, which has none where its type has no match fields.
+#[derive(Drop)]
+pub struct MatchValue {
+    pub is_there: bool,
+    pub bytes: Vec<u8>,
+}
+
+impl MatchValue {
+    ghost use Rattle.std.specs.Prelude.{None, IfOk};
+
+    /// No value, with room for one of some bytes.
+    pub fn none(alloc: Global, room: usize) -> Result<MatchValue, AllocError>
+        ensures { IfOk result (λ v. seen_value v ≡ None) }
+    {
+        Ok(MatchValue {
+            is_there: false,
+            bytes: Vec::with_capacity(alloc, room)?,
+        })
+    }
+
+    /// The value of a record, which is filled to its length, in the place of another. It takes memory only where the room is too small;
+    /// on an error the value is of no use.
+    pub fn take(&mut self, fields: &[ControlField], text: &[u8]) -> Result<(), AllocError>
+        requires { All (IsControlIn (length text.now)) fields.now }
+        ensures { OnOk result (seen_value self.new ≡ spec.value_in fields.now text.now) }
+    {
+        self.is_there = !fields.is_empty();
+        self.bytes.clear();
+        join_down(&mut self.bytes, fields, text)
+    }
+
+    /// Whether both are there, and this one is greater than the other.
+    pub fn exceeds(&self, other: &MatchValue) -> bool
+        ensures { result ≡ spec.exceeds (seen_value self.now) (seen_value other.now) }
+    {
+        self.is_there
+            && other.is_there
+            && compare_values(&self.bytes, &other.bytes) == Ordering::Greater
+    }
+
+    /// Whether both are there and the same.
+    #[tactic(auto, using(crate::proofs::Order::same_is_equal))]
+    pub fn agrees(&self, other: &MatchValue) -> bool
+        ensures { result ≡ spec.agrees (seen_value self.now) (seen_value other.now) }
+    {
+        self.is_there
+            && other.is_there
+            && compare_values(&self.bytes, &other.bytes) == Ordering::Equal
+    }
+}
+
+/// The match values of the last records of the two files that have one.
+#[derive(Drop)]
+pub struct LastValues {
+    pub primary: MatchValue,
+    pub secondary: MatchValue,
+}
+
+impl LastValues {
+    ghost use Rattle.std.specs.Prelude.{◌<◌, IfOk, None};
+    ghost use Rattle.rpg_cycle_records.specs.Earlier.{or_before, value_from};
+    ghost use Rattle.rpg_cycle_records.specs.Fitting.{IsFilledAs};
+    ghost use Rattle.rpg_effect.specs.declared.input.InputFile.TheVariants as files;
+
+    /// No values, with room for 256 bytes each.
+    pub fn none(alloc: Global) -> Result<LastValues, AllocError>
+        ensures primary { IfOk result (λ l. seen_value l.primary ≡ None) }
+        ensures secondary { IfOk result (λ l. seen_value l.secondary ≡ None) }
+    {
+        Ok(LastValues {
+            primary: MatchValue::none(alloc, LONGEST_VALUE)?,
+            secondary: MatchValue::none(alloc, LONGEST_VALUE)?,
+        })
+    }
+
+    /// Keeps the match value of a record of a type, the first of which is 0, as the last one of its file, if the type has match fields. The
+    /// record is filled to its length. It takes memory only where the room is too small; on an error the value is of no use.
+    pub fn keep(&mut self, program: &Verified, row: usize, text: &[u8]) -> Result<(), AllocError>
+        requires there { row < length program.now.types }
+        requires filled { IsFilledAs program.now row text.now }
+        ensures primary { OnOk result (seen_value self.new.primary ≡ or_before (seen_value self.old.primary) (value_from program.now files.Primary (record { type = row; text = text.now }))) }
+        ensures secondary { OnOk result (seen_value self.new.secondary ≡ or_before (seen_value self.old.secondary) (value_from program.now files.Secondary (record { type = row; text = text.now }))) }
+    {
+        let fields = match_fields(program, row);
+        if fields.is_empty() {
+            return Ok(());
+        }
+        match file_of(program, row) {
+            InputFile::Primary => self.primary.take(fields, text),
+            InputFile::Secondary => self.secondary.take(fields, text),
+        }
+    }
+}
+
+/// Adds the bytes of all levels, from L9 down.
+fn join_down(bytes: &mut Vec<u8>, fields: &[ControlField], text: &[u8]) -> Result<(), AllocError>
+    requires { All (IsControlIn (length text.now)) fields.now }
+    ensures { OnOk result (bytes.new.items ≡ bytes.old.items ++ spec.joined_down fields.now text.now 9) }
+{
+    for i in 0..9u8 {
+        join(bytes, fields, text, 9 - i)?;
+    }
+    Ok(())
+}
+
+/// Compares two values by the first place where they differ, and where there is none by their lengths.
+#[tactic(auto, using(crate::proofs::Order::by_shared))]
+fn compare_values(a: &[u8], b: &[u8]) -> Ordering
+    ensures { result ≡ spec.value_cmp a.now b.now }
+{
+    let shared = a.len().min(b.len());
+    compare_text(&a[..shared], &b[..shared]).then(a.len().cmp(&b.len()))
+}
