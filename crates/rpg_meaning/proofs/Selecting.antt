@@ -1,5 +1,6 @@
 -- The selection of a record is followed.
-use Rattle.std.proofs.Common.{◌≡◌, ℕ, ◌+◌, ◌-◌, Bool, true, false, cond, ◌||◌, ◌&&◌, List, [], ◌∷◌, ◌++◌, length, map, replicate, slice_get, take, Option, None, Some, refl, sym, ap, ◌∙◌, subst, arith, nat_le}
+use Rattle.std.proofs.Common.{◌≡◌, ℕ, ◌+◌, ◌-◌, Bool, true, false, cond, not, ◌||◌, ◌&&◌, List, [], ◌∷◌, ◌++◌, length, map, replicate, slice_get, take, Option, None, Some, All, refl, sym, ap, ◌∙◌, subst, arith, nat_le}
+use Rattle.std.proofs.lemmas.List.Elements.{All-head, All-tail}
 use Rattle.std.proofs.lemmas.Option.{slice_get-map}
 use Rattle.std.specs.FinSet as set
 use Rattle.std.specs.List.{list_all, list_any}
@@ -12,6 +13,7 @@ use Rattle.rpg_cycle.specs.Phases as machine
 use Rattle.rpg_cycle.specs.Phases.{Done, UnderWay, done, type_indicator}
 use Rattle.rpg_effect.specs.Ends as effects
 use Rattle.rpg_effect.specs.Input.{TypeRow}
+use Rattle.rpg_effect.specs.declared.input.InputFile.TheVariants.{Primary}
 use Rattle.rpg_text.specs.Texts.{is_character}
 use Rattle.rpg_meaning.proofs.Following.{Alike, Follows, IsFine, IsSettled, Same, Selection, follows_does}
 use Rattle.rpg_meaning.proofs.Steps.{all_turned, on_agrees}
@@ -20,10 +22,11 @@ use Rattle.rpg_meaning.specs.Job.{IsProgramOf, Job, JobState}
 use Rattle.rpg_meaning.specs.Phases.{turned_all, with_turned}
 use Rattle.rpg_machine.specs.Accepted.{IsOrderly}
 use Rattle.rpg_machine.specs.Config.{Config, charged}
+use Rattle.rpg_object_program.specs.Kept.{IsPlainType}
 use Rattle.rpg_object_program.specs.Object.{Object}
 use Rattle.rpg_cycle_records.specs.Earlier as records
 use Rattle.rpg_cycle_records.specs.Earlier.{Selected, control_fields, is_any, left_by, levels_of, or_before}
-use Rattle.rpg_cycle_records.specs.Identifying.{IsOf, IsOfNone, Misplaced, Trial, code_holds, has_position, identified, is_good_record, padded, trial_weight}
+use Rattle.rpg_cycle_records.specs.Identifying.{IsOf, IsOfNone, Misplaced, Trial, code_holds, has_position, identified, is_good_record, padded, same_file, trial_weight}
 use Rattle.rpg_cycle_records.specs.Levels.{differs, highest_broken, is_in_record, level_bytes}
 use Rattle.rpg_effect_renaming.specs.Naming.{Agree, renamed_type}
 use Rattle.rpg_cycle_safety.proofs.Selecting.{selection_works}
@@ -48,12 +51,24 @@ IsTried (IsOf k) o = o ≡ Some k
 IsTried IsOfNone o = o ≡ None
 IsTried Misplaced o = Unit {0}
 
-tried_same : (job : Job) (number : Key → ℕ) (text : List ℕ) (n : ℕ) (ts : List (TypeRow Key)) → IsTried (identified n (map (renamed_type number) ts) text) (cards.type_of_text job text n ts)
-tried_same job number text n [] = refl
-tried_same job number text n (t ∷ ts) = by (list_all (has_position text) t.codes) (list_all (code_holds text) t.codes) (tried_same job number text (n + 1) ts)
+-- the types are all of the primary file
+tried_same : (job : Job) (number : Key → ℕ) (text : List ℕ) (n : ℕ) (ts : List (TypeRow Key)) → All IsPlainType (map (renamed_type number) ts)
+    → IsTried (identified Primary n (map (renamed_type number) ts) text) (cards.type_of_text job text n ts)
+tried_same job number text n [] plain = refl
+tried_same job number text n (t ∷ ts) plain =
+    subst (λ (b : Bool). IsTried (cond (not b) rest (cond (list_all (has_position text) t.codes) (cond (list_all (code_holds text) t.codes) (IsOf n) rest) Misplaced))
+    (cond (list_all (code_holds text) t.codes) (Some n) (cards.type_of_text job text (n + 1) ts))) (sym own)
+    (by (list_all (has_position text) t.codes) (list_all (code_holds text) t.codes)
+    (tried_same job number text (n + 1) ts (All-tail IsPlainType (renamed_type number t) (map (renamed_type number) ts) plain)))
   where
-    by : (there hold : Bool) → IsTried (identified (n + 1) (map (renamed_type number) ts) text) (cards.type_of_text job text (n + 1) ts)
-        → IsTried (cond there (cond hold (IsOf n) (identified (n + 1) (map (renamed_type number) ts) text)) Misplaced) (cond hold (Some n) (cards.type_of_text job text (n + 1) ts))
+    rest : Trial
+    rest = identified Primary (n + 1) (map (renamed_type number) ts) text
+
+    own : same_file t.file Primary ≡ true
+    own = ap (λ f. same_file f Primary) (All-head IsPlainType (renamed_type number t) (map (renamed_type number) ts) plain).file
+
+    by : (there hold : Bool) → IsTried rest (cards.type_of_text job text (n + 1) ts)
+        → IsTried (cond there (cond hold (IsOf n) rest) Misplaced) (cond hold (Some n) (cards.type_of_text job text (n + 1) ts))
     by true true r = refl
     by true false r = r
     by false hold r = tt
@@ -168,23 +183,26 @@ module _ {p : Object} {job : Job} {number : Key → ℕ} (orderly : IsOrderly p)
     taken_same text n IsOfNone o e h = subst (λ o. Matches (machine.take_type p (left_by p earlier) text IsOfNone (charged n c.config)) (cards.type_taken job earlier text o s)) (sym e) (record { ends = refl; same = stands (charged n c.config) refl refl })
     taken_same text n Misplaced o e h = absurd h
 
-    full_same : (text : List ℕ) → padded p text ≡ cards.meant_padded job text
+    full_same : (text : List ℕ) → padded p Primary text ≡ cards.meant_padded job text
     full_same text = ap (λ n. text ++ replicate (n - length text) 32) is.same_length
 
     read_same : (next : Option (List ℕ)) → IsCycleEnd (machine.read_record p (left_by p earlier) next c.config).end → Matches (machine.read_record p (left_by p earlier) next c.config) (cards.read job earlier next s)
     read_same None h = record { ends = refl; same = turned_only (last_record ∷ level_indicators) }
     read_same (Some text) h = subst (λ b. Matches (machine.read_record p (left_by p earlier) (Some text) c.config) (cond b (cards.type_taken job earlier (cards.meant_padded job text) (cards.type_of_text job (cards.meant_padded job text) 0 job.types) s) (Halt 7, s)))
-        (ap (λ n. nat_le (length text) n && list_all is_character text) is.same_length) (by (is_good_record p text) h)
+        (ap (λ n. nat_le (length text) n && list_all is_character text) is.same_length) (by (is_good_record p Primary text) h)
       where
-        identified_so : IsCycleEnd (machine.identify p (left_by p earlier) (padded p text) c.config).end
-            → Matches (machine.identify p (left_by p earlier) (padded p text) c.config) (cards.type_taken job earlier (cards.meant_padded job text) (cards.type_of_text job (cards.meant_padded job text) 0 job.types) s)
-        identified_so h =
-            subst (λ full. Matches (machine.identify p (left_by p earlier) (padded p text) c.config) (cards.type_taken job earlier full (cards.type_of_text job full 0 job.types) s)) (full_same text)
-            (taken_same (padded p text) (trial_weight p.types (padded p text)) (identified 0 p.types (padded p text)) (cards.type_of_text job (padded p text) 0 job.types)
-            (subst (λ ts. IsTried (identified 0 ts (padded p text)) (cards.type_of_text job (padded p text) 0 job.types)) (sym is.same_types) (tried_same job number (padded p text) 0 job.types)) h)
+        plain : All IsPlainType (map (renamed_type number) job.types)
+        plain = subst (λ (ts : List (TypeRow ℕ)). All IsPlainType ts) is.same_types (orderly.program.plain orderly.program.first_version).types
 
-        by : (b : Bool) → IsCycleEnd (cond b (machine.identify p (left_by p earlier) (padded p text) c.config) (done (Halt 7) (record { config = c.config; selected = None }))).end
-            → Matches (cond b (machine.identify p (left_by p earlier) (padded p text) c.config) (done (Halt 7) (record { config = c.config; selected = None })))
+        identified_so : IsCycleEnd (machine.identify p (left_by p earlier) (padded p Primary text) c.config).end
+            → Matches (machine.identify p (left_by p earlier) (padded p Primary text) c.config) (cards.type_taken job earlier (cards.meant_padded job text) (cards.type_of_text job (cards.meant_padded job text) 0 job.types) s)
+        identified_so h =
+            subst (λ full. Matches (machine.identify p (left_by p earlier) (padded p Primary text) c.config) (cards.type_taken job earlier full (cards.type_of_text job full 0 job.types) s)) (full_same text)
+            (taken_same (padded p Primary text) (trial_weight Primary p.types (padded p Primary text)) (identified Primary 0 p.types (padded p Primary text)) (cards.type_of_text job (padded p Primary text) 0 job.types)
+            (subst (λ ts. IsTried (identified Primary 0 ts (padded p Primary text)) (cards.type_of_text job (padded p Primary text) 0 job.types)) (sym is.same_types) (tried_same job number (padded p Primary text) 0 job.types plain)) h)
+
+        by : (b : Bool) → IsCycleEnd (cond b (machine.identify p (left_by p earlier) (padded p Primary text) c.config) (done (Halt 7) (record { config = c.config; selected = None }))).end
+            → Matches (cond b (machine.identify p (left_by p earlier) (padded p Primary text) c.config) (done (Halt 7) (record { config = c.config; selected = None })))
             (cond b (cards.type_taken job earlier (cards.meant_padded job text) (cards.type_of_text job (cards.meant_padded job text) 0 job.types) s) (Halt 7, s))
         by true h = identified_so h
         by false h = record { ends = refl; same = stands c.config refl refl }
