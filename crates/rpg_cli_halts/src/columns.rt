@@ -1,9 +1,9 @@
 //! The columns of a record that spell no number.
 
-use rpg_cycle_records::{fill, identify, is_good, types_of};
+use rpg_cycle_records::{fill, identify, is_good, type_at};
 use rpg_decimal::read_zoned;
 use rpg_effect::form::Kind;
-use rpg_effect::input::InputField;
+use rpg_effect::input::{InputField, InputFile};
 use rpg_object_program::forms::{form_at, kind_of};
 use rpg_object_program::row::Rows;
 use rpg_verify::Verified;
@@ -58,16 +58,15 @@ pub(crate) fn bad_columns(
     program: &Verified,
     text: &[u8],
 ) -> Result<Option<BadColumns>, AllocError> {
-    if !is_good(program, text) {
+    if !is_good(program, InputFile::Primary, text) {
         return Ok(None);
     }
     let mut record = Vec::new(alloc);
-    fill(&mut record, program, text)?;
-    let types = types_of(program);
-    let Some(row) = identify(types, &record).row else {
+    fill(&mut record, program, InputFile::Primary, text)?;
+    let Some(row) = identify(program, InputFile::Primary, &record).row else {
         return Ok(None);
     };
-    for input in &types[row].inputs {
+    for input in &type_at(program, row).inputs {
         let bad = bad_columns_of(program.program().rows(), &record, *input);
         if bad.is_some() {
             return Ok(bad);
