@@ -1,4 +1,4 @@
-//! The pages of V1 to V24.
+//! The pages of V1 to V26.
 
 use crate::page::{ANEW, Page, ROWS};
 use rpg_verify_rules::{LineRule, PlaceRule, Rule, SubroutineRule, TypeRule};
@@ -171,6 +171,20 @@ const V24: Page = Page {
     advice: ANEW,
 };
 
+const V25: Page = Page {
+    given: ROWS,
+    breaks: "- a record type of the secondary file, where its length is 0",
+    keeps: "- a record type of the primary file",
+    advice: ANEW,
+};
+
+const V26: Page = Page {
+    given: ROWS,
+    breaks: "- a match field in columns 80 to 81; two of M1 in one type; M1 in columns 1 to 4, where an\n  earlier type has M1 in columns 1 to 5",
+    keeps: "- M1 in columns 2 to 6 there; a type without match fields",
+    advice: ANEW,
+};
+
 /// The page of a rule.
 pub(crate) fn rule_page(rule: Rule) -> Page {
     match rule {
@@ -190,6 +204,8 @@ fn type_page(rule: TypeRule) -> Page {
         TypeRule::V5 => V5,
         TypeRule::V6 => V6,
         TypeRule::V7 => V7,
+        TypeRule::V25 => V25,
+        TypeRule::V26 => V26,
     }
 }
 

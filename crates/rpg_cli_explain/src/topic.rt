@@ -110,7 +110,7 @@ impl Topic {
                 "nothing is run. The least rule that a row breaks is told, with the first row that breaks\nit, counted from 0; status 4"
             }
             Topic::Bytes(_) => {
-                "nothing is run. The first number that is wrong is told, with the offset of its first byte,\ncounted from 0; the rules, V1 to V24, come behind; status 4"
+                "nothing is run. The first number that is wrong is told, with the offset of its first byte,\ncounted from 0; the rules, V1 to V26, come behind; status 4"
             }
         }
     }

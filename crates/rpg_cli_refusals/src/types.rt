@@ -1,28 +1,35 @@
-//! V3 to V7: what stands in a record type.
+//! V3 to V7, V25 and V26: what stands in a record type.
 
 use crate::fields::{put_field, put_indicator, put_shows};
 use rpg_effect::form::Kind;
-use rpg_effect::input::{ControlField, InputField, RecordCode};
+use rpg_effect::input::{ControlField, InputField, InputFile, RecordCode};
 use rpg_object_program::forms::{form_at, is_plain, kind_of, length_of, same_kind};
 use rpg_object_program::row::{RecordType, Rows};
 use rpg_verify_rules::TypeRule;
 use std::alloc::{AllocError, Global};
 
-/// Whether columns are those of a record, and not turned round.
-fn are_columns(rows: &Rows, from: u16, to: u16) -> bool {
-    1 <= from && from <= to && to <= rows.record_length
+/// The columns of a record of a file, 0 where there is no such file.
+fn length_for(rows: &Rows, file: InputFile) -> u16 {
+    match file {
+        InputFile::Primary => rows.record_length,
+        InputFile::Secondary => rows.secondary_length,
+    }
+}
+
+/// Whether columns are those of a record of that length, and not turned round.
+fn are_columns(length: u16, from: u16, to: u16) -> bool {
+    1 <= from && from <= to && to <= length
 }
 
 fn put_codes(
     alloc: Global,
     out: &mut String,
-    rows: &Rows,
+    length: u16,
     codes: &[RecordCode],
 ) -> Result<(), AllocError> {
-    let length = rows.record_length;
     for (at, code) in codes.iter().enumerate() {
         let position = code.position;
-        if !are_columns(rows, position, position) {
+        if !are_columns(length, position, position) {
             return out.push_str(format!(in alloc;
                 "; its code {at} is at position {position}, and a record has {length}"
             )?.as_str());
@@ -34,10 +41,9 @@ fn put_codes(
 fn put_levels(
     alloc: Global,
     out: &mut String,
-    rows: &Rows,
+    length: u16,
     levels: &[ControlField],
 ) -> Result<(), AllocError> {
-    let length = rows.record_length;
     for (at, field) in levels.iter().enumerate() {
         let ControlField {
             level,
@@ -45,7 +51,7 @@ fn put_levels(
             to,
             ..
         } = *field;
-        if !are_columns(rows, from, to) {
+        if !are_columns(length, from, to) {
             return out.push_str(format!(in alloc;
                 "; its control field {at}, of L{level}, is columns {from} to {to}, and a record has {length}"
             )?.as_str());
@@ -54,11 +60,43 @@ fn put_levels(
     Ok(())
 }
 
-/// Whether columns of a record fit a plain field.
-fn fits(rows: &Rows, input: InputField<u16>) -> bool {
+/// Whether a match field before that place is of that level.
+fn stands_before(matches: &[ControlField], at: usize, level: u8) -> bool {
+    matches.iter().take(at).any(|field| field.level == level)
+}
+
+fn put_matches(
+    alloc: Global,
+    out: &mut String,
+    length: u16,
+    matches: &[ControlField],
+) -> Result<(), AllocError> {
+    for (at, field) in matches.iter().enumerate() {
+        let ControlField {
+            level,
+            from,
+            to,
+            ..
+        } = *field;
+        if !are_columns(length, from, to) {
+            return out.push_str(format!(in alloc;
+                "; its match field {at}, of M{level}, is columns {from} to {to}, and a record has {length}"
+            )?.as_str());
+        }
+        if stands_before(matches, at, level) {
+            return out.push_str(format!(in alloc;
+                "; its match field {at} is of M{level}, as one before it is"
+            )?.as_str());
+        }
+    }
+    Ok(())
+}
+
+/// Whether columns of a record of that length fit a plain field.
+fn fits(rows: &Rows, length: u16, input: InputField<u16>) -> bool {
     let form = form_at(rows, input.field);
     let is_plain = form.is_some_and(|form| is_plain(form.class));
-    are_columns(rows, input.from, input.to)
+    are_columns(length, input.from, input.to)
         && is_plain
         && u32::from(input.to) + 1 == u32::from(input.from) + u32::from(length_of(form))
 }
@@ -67,9 +105,9 @@ fn put_inputs(
     alloc: Global,
     out: &mut String,
     rows: &Rows,
+    length: u16,
     inputs: &[InputField<u16>],
 ) -> Result<(), AllocError> {
-    let length = rows.record_length;
     for (at, input) in inputs.iter().enumerate() {
         let InputField {
             from,
@@ -77,7 +115,7 @@ fn put_inputs(
             field,
             ..
         } = *input;
-        if !fits(rows, *input) {
+        if !fits(rows, length, *input) {
             out.push_str(format!(in alloc;
                 "; its input field {at} is columns {from} to {to} of a record's {length}, for "
             )?.as_str())?;
@@ -135,7 +173,7 @@ fn put_turned_on(
     }
 }
 
-/// Which record type breaks a rule of V3 to V7, and what stands in it.
+/// Which record type breaks a rule of V3 to V7, V25 or V26, and what stands in it.
 pub(crate) fn put_type(
     alloc: Global,
     out: &mut String,
@@ -146,12 +184,15 @@ pub(crate) fn put_type(
     let Some(record_type) = rows.types.get(row) else {
         return Ok(());
     };
+    let length = length_for(rows, record_type.file);
     out.push_str(format!(in alloc; ": record type {row}")?.as_str())?;
     match rule {
-        TypeRule::V3 => put_codes(alloc, out, rows, &record_type.codes),
+        TypeRule::V3 => put_codes(alloc, out, length, &record_type.codes),
         TypeRule::V4 => put_turned_on(alloc, out, record_type),
-        TypeRule::V5 => put_levels(alloc, out, rows, &record_type.levels),
-        TypeRule::V6 => put_inputs(alloc, out, rows, &record_type.inputs),
+        TypeRule::V5 => put_levels(alloc, out, length, &record_type.levels),
+        TypeRule::V6 => put_inputs(alloc, out, rows, length, &record_type.inputs),
         TypeRule::V7 => put_marks(alloc, out, rows, &record_type.inputs),
+        TypeRule::V25 => out.push_str("; it is of the secondary file"),
+        TypeRule::V26 => put_matches(alloc, out, length, &record_type.matches),
     }
 }

@@ -6,7 +6,7 @@ use Rattle.rpg_verify_rules.specs.Least.{IsLeast, first_broken}
 use Rattle.rpg_verify_rules.specs.Rules.{broken, rule_number, all_rules}
 use Rattle.rpg_verify_rules.specs.declared.rule.Rule.{Rule}
 use Rattle.rpg_verify_rules.specs.declared.rule.Rule.TheVariants as rules
-use Rattle.rpg_verify_rules.specs.declared.rule.TypeRule.TheVariants.{V3, V4, V5, V6, V7}
+use Rattle.rpg_verify_rules.specs.declared.rule.TypeRule.TheVariants.{V3, V4, V5, V6, V7, V25, V26}
 use Rattle.rpg_verify_rules.specs.declared.rule.LineRule.TheVariants.{V2, V8, V9, V10, V11, V12, V13, V14, V15}
 use Rattle.rpg_verify_rules.specs.declared.rule.PlaceRule.TheVariants.{V16, V17, V18, V19, V20, V21, V22}
 use Rattle.rpg_verify_rules.specs.declared.rule.SubroutineRule.TheVariants.{V23, V24}
@@ -14,7 +14,7 @@ use Rattle.rpg_verify_rules.proofs.LeastLaws.{IsOneOf, Ascends, least}
 
 module _ (broken_by : Rule → List Bool) where
   ascend : Ascends rule_number broken_by 0 all_rules
-  ascend = (omega arith, (omega arith, (omega arith, (omega arith, (omega arith, (omega arith, (omega arith, (omega arith, (omega arith, (omega arith, (omega arith, (omega arith, (omega arith, (omega arith, (omega arith, (omega arith, (omega arith, (omega arith, (omega arith, (omega arith, (omega arith, (omega arith, (omega arith, (omega arith, tt))))))))))))))))))))))))
+  ascend = (omega arith, (omega arith, (omega arith, (omega arith, (omega arith, (omega arith, (omega arith, (omega arith, (omega arith, (omega arith, (omega arith, (omega arith, (omega arith, (omega arith, (omega arith, (omega arith, (omega arith, (omega arith, (omega arith, (omega arith, (omega arith, (omega arith, (omega arith, (omega arith, (omega arith, (omega arith, tt))))))))))))))))))))))))))
 
   all : (r : Rule) → IsOneOf rule_number broken_by r all_rules
   all rules.Overflow = inl refl
@@ -41,6 +41,8 @@ module _ (broken_by : Rule → List Bool) where
   all (rules.Place V22) = inr (inr (inr (inr (inr (inr (inr (inr (inr (inr (inr (inr (inr (inr (inr (inr (inr (inr (inr (inr (inr (inl refl)))))))))))))))))))))
   all (rules.Subroutine V23) = inr (inr (inr (inr (inr (inr (inr (inr (inr (inr (inr (inr (inr (inr (inr (inr (inr (inr (inr (inr (inr (inr (inl refl))))))))))))))))))))))
   all (rules.Subroutine V24) = inr (inr (inr (inr (inr (inr (inr (inr (inr (inr (inr (inr (inr (inr (inr (inr (inr (inr (inr (inr (inr (inr (inr (inl refl)))))))))))))))))))))))
+  all (rules.Type V25) = inr (inr (inr (inr (inr (inr (inr (inr (inr (inr (inr (inr (inr (inr (inr (inr (inr (inr (inr (inr (inr (inr (inr (inr (inl refl))))))))))))))))))))))))
+  all (rules.Type V26) = inr (inr (inr (inr (inr (inr (inr (inr (inr (inr (inr (inr (inr (inr (inr (inr (inr (inr (inr (inr (inr (inr (inr (inr (inr (inl refl)))))))))))))))))))))))))
 
 pub least_rule : (p : Object) → MatchOption (first_broken rule_number (broken p) all_rules) (IsAccepted p) (λ x. IsLeast rule_number (broken p) x.0 x.1)
 least_rule p = least rule_number (broken p) all_rules (ascend (broken p)) (all (broken p))

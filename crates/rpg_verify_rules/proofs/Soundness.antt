@@ -1,7 +1,7 @@
 -- What the rules give to whoever runs an accepted program.
 use Rattle.std.proofs.Common.{◌≡◌, ℕ, zero, suc, ◌-◌, ◌<◌, ◌≤◌, Bool, true, false, not, ◌&&◌, cond, List, [], ◌∷◌, length, All, Option, Some, None, slice_get, refl, sym, ap, ◌∙◌, arith}
 use Rattle.std.specs.Prelude.{get_or, nat_le, ◌==◌}
-use Rattle.std.proofs.lemmas.Bool.{and_from, and_parts, eqb-true, le-leb, lt-ltb, ltb-true, not-false, not-true, or_parts, true≢false}
+use Rattle.std.proofs.lemmas.Bool.{and_from, and_parts, eqb-true, le-leb, leb-true, lt-ltb, ltb-true, not-false, not-true, or_parts, true≢false}
 use Rattle.std.proofs.lemmas.Option.{slice_get-get_or, slice_get_within}
 use Rattle.std.specs.List.{list_all, list_any}
 use Rattle.rpg_edit_marks.specs.declared.code.Fill.{Fill}
@@ -37,7 +37,7 @@ use Rattle.rpg_verify_rules.specs.declared.rule.LineRule.TheVariants.{V2, V8, V1
 use Rattle.rpg_verify_rules.specs.declared.rule.PlaceRule.{PlaceRule}
 use Rattle.rpg_verify_rules.specs.declared.rule.PlaceRule.TheVariants.{V16, V17, V18, V19, V20, V21, V22}
 use Rattle.rpg_verify_rules.specs.declared.rule.TypeRule.{TypeRule}
-use Rattle.rpg_verify_rules.specs.declared.rule.TypeRule.TheVariants.{V3, V4, V5, V6, V7}
+use Rattle.rpg_verify_rules.specs.declared.rule.TypeRule.TheVariants.{V3, V4, V5, V6, V7, V25, V26}
 
 -- ---- tests of each element
 
@@ -212,6 +212,7 @@ unfolding type_breaks
 type_sound p t g =
     let len = input_length p t.file in
     let fields = and_parts _ _ (not-false _ (g V5)) in
+    let matched = and_parts _ _ (not-false _ (g V26)) in
     let shown_at = all_at (is_input_shown p) t.inputs (not-false _ (g V7)) in
     record {
       indicator = not-false _ (g V4);
@@ -221,6 +222,11 @@ type_sound p t g =
       inputs = all_by (λ f. input_fault (form_at p.fields) len f ≡ None) t.inputs
           (λ k f e. no_input_fault p len f (all_at (is_input_in p len) t.inputs (not-false _ (g V6)) k f e) (and_parts _ _ (shown_at k f e)).1);
       shown = all_by (λ f. is_input_shown p f ≡ true) t.inputs shown_at;
+      file = not-false _ (g V25);
+      matches = all_by (λ c. is_control_in len c ≡ true) t.matches (all_at (is_control_in len) t.matches matched.0);
+      once = (and_parts _ _ matched.1).0;
+      few_matched = leb-true _ _ (and_parts _ _ (and_parts _ _ matched.1).1).0;
+      alike = (and_parts _ _ (and_parts _ _ matched.1).1).1;
     }
 
 -- ---- a program

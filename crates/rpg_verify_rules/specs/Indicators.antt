@@ -3,6 +3,8 @@ use Rattle.std.specs.Prelude.{ℕ, Bool, true, ◌&&◌, ◌||◌, nat_le, Optio
 use Rattle.rpg_effect.specs.declared.condition.Condition.{Condition}
 use Rattle.rpg_effect.specs.declared.condition.Conditions.{Conditions}
 use Rattle.rpg_effect.specs.declared.operation.Shows.{Shows}
+use Rattle.rpg_object_program.specs.declared.row.Version.{Version}
+use Rattle.rpg_object_program.specs.declared.row.Version.TheVariants.{One, Two}
 
 abbrev pub is_within : ℕ → ℕ → ℕ → Bool
 is_within low high n = nat_le low n && nat_le n high
@@ -28,10 +30,14 @@ are_settable s = if_any is_settable s.plus && (if_any is_settable s.minus && if_
 abbrev pub has_shows : Shows → Bool
 has_shows s = is_some s.plus || (is_some s.minus || is_some s.zero)
 
--- MR is asked nowhere
-abbrev pub may_be_asked : Condition → Bool
-may_be_asked c = nat_le c.indicator 128
+-- MR is asked in version 2 alone
+abbrev pub most_asked : Version → ℕ
+most_asked One = 128
+most_asked Two = 129
+
+abbrev pub may_be_asked : Version → Condition → Bool
+may_be_asked v c = nat_le c.indicator (most_asked v)
 
 -- each of three that stands may be asked
-abbrev pub all_asked : Conditions → Bool
-all_asked cs = if_any may_be_asked cs.first && (if_any may_be_asked cs.second && if_any may_be_asked cs.third)
+abbrev pub all_asked : Version → Conditions → Bool
+all_asked v cs = if_any (may_be_asked v) cs.first && (if_any (may_be_asked v) cs.second && if_any (may_be_asked v) cs.third)

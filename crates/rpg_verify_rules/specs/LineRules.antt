@@ -15,6 +15,7 @@ use Rattle.rpg_effect.specs.declared.line.LineField.{LineField}
 use Rattle.rpg_effect.specs.declared.line.Spacing.{Spacing}
 use Rattle.rpg_object_program.specs.Constants.{word_at}
 use Rattle.rpg_object_program.specs.Object.{LineRow, Object, file_length}
+use Rattle.rpg_object_program.specs.declared.row.Version.{Version}
 use Rattle.rpg_verify_rules.specs.Indicators.{all_asked, may_be_asked}
 use Rattle.rpg_verify_rules.specs.declared.rule.LineRule.{LineRule}
 use Rattle.rpg_verify_rules.specs.declared.rule.LineRule.TheVariants.{V2, V8, V9, V10, V11, V12, V13, V14, V15}
@@ -67,18 +68,18 @@ has_width p f = is_field_there p f && (is_field_edited p f && is_field_worded p 
 abbrev pub lacks_room : Object → ℕ → LineField ℕ → Bool
 lacks_room p len f = has_width p f && not (has_room (form_at p.fields) (word_at p) len f)
 
-abbrev pub is_field_asked : LineField ℕ → Bool
-is_field_asked f = all_asked f.conditions
+abbrev pub is_field_asked : Version → LineField ℕ → Bool
+is_field_asked v f = all_asked v f.conditions
 
 -- ---- whether a line breaks a rule
 
 unfoldable pub line_breaks : LineRule → Object → LineRow → Bool
 line_breaks V2 p l = file_length p l.file == 0
 line_breaks V8 p l = not (is_spaced_on l.file l.spacing)
-line_breaks V9 p l = not (list_all (list_all may_be_asked) l.alternatives)
+line_breaks V9 p l = not (list_all (list_all (may_be_asked p.version)) l.alternatives)
 line_breaks V10 p l = not (list_all (is_field_there p) l.fields)
 line_breaks V11 p l = not (list_all (is_field_edited p) l.fields)
 line_breaks V12 p l = list_any (lacks_word p) l.fields
 line_breaks V13 p l = list_any (lacks_room p (file_length p l.file)) l.fields
 line_breaks V14 p l = not (list_all (blanks_writable (form_at p.fields) (word_at p)) l.fields)
-line_breaks V15 p l = not (list_all is_field_asked l.fields)
+line_breaks V15 p l = not (list_all (is_field_asked p.version) l.fields)

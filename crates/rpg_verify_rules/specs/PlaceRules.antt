@@ -15,6 +15,7 @@ use Rattle.rpg_effect.specs.declared.row.Use.{Use}
 use Rattle.rpg_object_program.specs.Instructions.{columns}
 use Rattle.rpg_object_program.specs.Object.{Object, SubroutineRow}
 use Rattle.rpg_object_program.specs.Sections.{is_place, level_of, section_instructions}
+use Rattle.rpg_object_program.specs.declared.row.Version.{Version}
 use Rattle.rpg_object_program.specs.declared.section.Section.{Section}
 use Rattle.rpg_object_program.specs.declared.section.Section.TheVariants.{Detail, Total, Subroutine}
 use Rattle.rpg_verify_rules.specs.Indicators.{all_asked, are_settable, has_shows, is_within}
@@ -49,9 +50,9 @@ abbrev pub is_searched_well : Object → Row (Operand ℕ) → Bool
 is_searched_well p r = not (is_two_sided r.marks) && (not (is_ordered r.marks) || is_ascending p r.factor2)
 
 -- conditions that may be asked, for SKIP at least one
-abbrev pub are_asked : Instruction ℕ → Bool
-are_asked (Branch is_taken_where cs target) = all_asked cs && (is_taken_where || has_conditions cs)
-are_asked i = true
+abbrev pub are_asked : Version → Instruction ℕ → Bool
+are_asked v (Branch is_taken_where cs target) = all_asked v cs && (is_taken_where || has_conditions cs)
+are_asked v i = true
 
 -- ---- where control goes
 
@@ -71,7 +72,7 @@ unfoldable pub place_breaks : PlaceRule → Object → Section → Instruction �
 place_breaks V16 p s i = not (all_of (is_good_operand (form_at p.fields)) (columns p i))
 place_breaks V17 p s i = not (all_of (has_kind (form_at p.fields)) (columns p i))
 place_breaks V18 p s i = not (all_used (is_writable_use (form_at p.fields)) (columns p i).result)
-place_breaks V19 p s i = not (are_asked i && (are_marked (columns p i).marks && is_searched_well p (columns p i)))
+place_breaks V19 p s i = not (are_asked p.version i && (are_marked (columns p i).marks && is_searched_well p (columns p i)))
 place_breaks V20 p s i = not (all_of (is_current_table (form_at p.fields)) (columns p i) && holds_positions (form_at p.fields) (columns p i))
 place_breaks V21 p s i = not (stays_inside p s i)
 place_breaks V22 p s i = not (calls_higher p s i)

@@ -12,7 +12,7 @@ use Rattle.rpg_verify_rules.specs.declared.rule.Rule.{Rule}
 use Rattle.rpg_verify_rules.specs.declared.rule.Rule.TheVariants as rules
 use Rattle.rpg_verify_rules.specs.declared.rule.SubroutineRule.{SubroutineRule}
 use Rattle.rpg_verify_rules.specs.declared.rule.SubroutineRule.TheVariants.{V23, V24}
-use Rattle.rpg_verify_rules.specs.declared.rule.TypeRule.TheVariants.{V3, V4, V5, V6, V7}
+use Rattle.rpg_verify_rules.specs.declared.rule.TypeRule.TheVariants.{V3, V4, V5, V6, V7, V25, V26}
 
 -- an overflow indicator without a printer
 abbrev pub lacks_printer : Object → Bool
@@ -56,6 +56,8 @@ rule_number (rules.Place V21) = 21
 rule_number (rules.Place V22) = 22
 rule_number (rules.Subroutine V23) = 23
 rule_number (rules.Subroutine V24) = 24
+rule_number (rules.Type V25) = 25
+rule_number (rules.Type V26) = 26
 
 -- the letter V and the number
 abbrev pub rule_text : Rule → List ℕ
@@ -67,4 +69,4 @@ all_rules =
     rules.Overflow ∷ rules.Line V2 ∷ rules.Type V3 ∷ rules.Type V4 ∷ rules.Type V5 ∷ rules.Type V6 ∷ rules.Type V7
     ∷ rules.Line V8 ∷ rules.Line V9 ∷ rules.Line V10 ∷ rules.Line V11 ∷ rules.Line V12 ∷ rules.Line V13 ∷ rules.Line V14 ∷ rules.Line V15
     ∷ rules.Place V16 ∷ rules.Place V17 ∷ rules.Place V18 ∷ rules.Place V19 ∷ rules.Place V20 ∷ rules.Place V21 ∷ rules.Place V22
-    ∷ rules.Subroutine V23 ∷ rules.Subroutine V24 ∷ []
+    ∷ rules.Subroutine V23 ∷ rules.Subroutine V24 ∷ rules.Type V25 ∷ rules.Type V26 ∷ []

@@ -1,5 +1,6 @@
 -- What the rules give to whoever runs an accepted program.
 use Rattle.std.specs.Prelude.{◌≡◌, ℕ, ◌<◌, ◌≤◌, true, All, None, Some}
+use Rattle.std.specs.List.{sum}
 use Rattle.rpg_effect.specs.Forms.{form_at}
 use Rattle.rpg_effect.specs.Input.{TypeRow, input_fault}
 use Rattle.rpg_effect.specs.LineFaults.{AreRight, line_fault}
@@ -16,7 +17,7 @@ use Rattle.rpg_object_program.specs.declared.section.Section.TheVariants.{Subrou
 use Rattle.rpg_verify_rules.specs.Indicators.{if_any, is_of_type}
 use Rattle.rpg_verify_rules.specs.LineRules.{is_spaced_on}
 use Rattle.rpg_verify_rules.specs.PlaceRules.{are_asked, are_marked, ends_in_return}
-use Rattle.rpg_verify_rules.specs.TypeRules.{all_measured, is_code_in, is_control_in, is_input_shown, measures}
+use Rattle.rpg_verify_rules.specs.TypeRules.{all_measured, are_joined_as, are_once, first_matches, has_file, is_code_in, is_control_in, is_input_shown, joined_widths, measures}
 
 -- an instruction stands at a place of a section
 abbrev pub IsAt : Object → Place → Instruction ℕ → Type 0
@@ -36,7 +37,7 @@ pub record IsSoundInstruction (p : Object) (s : Section) (i : Instruction ℕ) :
   pub operands : IsRightRow (form_at p.fields) (columns p i)
   pub control : LeadsWell p s i
   pub marks : are_marked (columns p i).marks ≡ true
-  pub conditions : are_asked i ≡ true
+  pub conditions : are_asked p.version i ≡ true
 
 -- a line: its file is there, its movements are in range, none on the disk file, and nothing is wrong with its fields
 pub record IsSoundLine (p : Object) (l : LineRow) : Type 0 where
@@ -44,8 +45,8 @@ pub record IsSoundLine (p : Object) (l : LineRow) : Type 0 where
   pub spacing : is_spaced_on l.file l.spacing ≡ true
   pub fields : AreRight (form_at p.fields) (word_at p) (file_length p l.file) l.fields
 
--- a record type: its columns are those of its file's records, its levels are as long in each type that has them, and nothing is wrong with its
--- input fields
+-- a record type: its file is there, its columns are those of the file's records, its levels are as long in each type that has them,
+-- nothing is wrong with its input fields, and its match fields are of one level each, as long as in each type that has some
 pub record IsSoundType (p : Object) (t : TypeRow ℕ) : Type 0 where
   pub indicator : if_any is_of_type t.indicator ≡ true
   pub codes : All (λ c. is_code_in (input_length p t.file) c ≡ true) t.codes
@@ -53,6 +54,11 @@ pub record IsSoundType (p : Object) (t : TypeRow ℕ) : Type 0 where
   pub joined : all_measured 1 (measures p.types) t.levels ≡ true
   pub inputs : All (λ f. input_fault (form_at p.fields) (input_length p t.file) f ≡ None) t.inputs
   pub shown : All (λ f. is_input_shown p f ≡ true) t.inputs
+  pub file : has_file p t.file ≡ true
+  pub matches : All (λ c. is_control_in (input_length p t.file) c ≡ true) t.matches
+  pub once : are_once t.matches ≡ true
+  pub few_matched : sum (joined_widths t.matches) ≤ 256
+  pub alike : are_joined_as (joined_widths (first_matches p.types)) t.matches ≡ true
 
 pub record IsSound (p : Object) : Type 0 where
   pub each : (x : Place) (i : Instruction ℕ) → IsAt p x i → IsSoundInstruction p x.section i

@@ -1,15 +1,21 @@
 -- The rules of record types.
-use Rattle.std.specs.Prelude.{ℕ, ◌+◌, ◌-◌, Bool, true, not, ◌&&◌, ◌||◌, ◌==◌, nat_le, List, [], ◌∷◌, if◌then◌else◌}
-use Rattle.std.specs.List.{list_all}
+use Rattle.std.specs.Prelude.{ℕ, ◌+◌, ◌-◌, Bool, true, not, ◌&&◌, ◌||◌, ◌==◌, nat_le, List, [], ◌∷◌, length, if◌then◌else◌}
+use Rattle.std.specs.List.{list_all, list_any, sum}
+use Rattle.std.specs.Cmp.Lexicographic.{pointwise}
 use Rattle.rpg_effect.specs.Forms.{form_at, kind_of}
 use Rattle.rpg_effect.specs.Input.{TypeRow, fits_columns, fits_shows}
 use Rattle.rpg_effect.specs.declared.input.ControlField.{ControlField}
 use Rattle.rpg_effect.specs.declared.input.InputField.{InputField}
+use Rattle.rpg_effect.specs.declared.input.InputFile.{InputFile}
 use Rattle.rpg_effect.specs.declared.input.RecordCode.{RecordCode}
 use Rattle.rpg_object_program.specs.Object.{Object, input_length}
 use Rattle.rpg_verify_rules.specs.Indicators.{are_settable, if_any, is_of_type, is_within}
 use Rattle.rpg_verify_rules.specs.declared.rule.TypeRule.{TypeRule}
-use Rattle.rpg_verify_rules.specs.declared.rule.TypeRule.TheVariants.{V3, V4, V5, V6, V7}
+use Rattle.rpg_verify_rules.specs.declared.rule.TypeRule.TheVariants.{V3, V4, V5, V6, V7, V25, V26}
+
+-- records of a file have a length where it is there
+abbrev pub has_file : Object → InputFile → Bool
+has_file p f = not (input_length p f == 0)
 
 -- the position is one of a record of that length
 abbrev pub is_code_in : ℕ → RecordCode → Bool
@@ -59,6 +65,35 @@ is_input_in p len f = fits_columns len f (form_at p.fields f.field)
 abbrev pub is_input_shown : Object → InputField ℕ → Bool
 is_input_shown p f = are_settable f.shows && fits_shows (kind_of (form_at p.fields f.field)) f.shows
 
+-- ---- match fields
+
+-- the joined lengths of levels 1 to 9
+abbrev pub joined_widths : List ControlField → List ℕ
+joined_widths cs =
+    joined_width 1 cs ∷ joined_width 2 cs ∷ joined_width 3 cs ∷ joined_width 4 cs ∷ joined_width 5 cs ∷ joined_width 6 cs ∷ joined_width 7 cs ∷ joined_width 8 cs
+    ∷ joined_width 9 cs ∷ []
+
+abbrev pub is_of_level : ℕ → ControlField → Bool
+is_of_level level c = c.level == level
+
+-- no level stands twice
+abbrev pub are_once : List ControlField → Bool
+are_once [] = true
+are_once (c ∷ cs) = not (list_any (is_of_level c.level) cs) && are_once cs
+
+-- those of the first type that has some; none where no type has any
+abbrev pub first_matches : List (TypeRow ℕ) → List ControlField
+first_matches [] = []
+first_matches (t ∷ ts) = if length t.matches == 0 then first_matches ts else t.matches
+
+-- there are none, or their levels have these joined lengths
+abbrev pub are_joined_as : List ℕ → List ControlField → Bool
+are_joined_as widths cs = length cs == 0 || pointwise ◌==◌ (joined_widths cs) widths
+
+-- of a record of that length, where the first ones of the program have these joined lengths; 256 columns at most
+abbrev pub are_matches : ℕ → List ℕ → List ControlField → Bool
+are_matches len widths cs = list_all (is_control_in len) cs && (are_once cs && (nat_le (sum (joined_widths cs)) 256 && are_joined_as widths cs))
+
 -- ---- whether a type breaks a rule; its records have the length of those of its file
 
 unfoldable pub type_breaks : TypeRule → Object → TypeRow ℕ → Bool
@@ -67,3 +102,5 @@ type_breaks V4 p t = not (if_any is_of_type t.indicator)
 type_breaks V5 p t = not (list_all (is_control_in (input_length p t.file)) t.levels && all_measured 1 (measures p.types) t.levels)
 type_breaks V6 p t = not (list_all (is_input_in p (input_length p t.file)) t.inputs)
 type_breaks V7 p t = not (list_all (is_input_shown p) t.inputs)
+type_breaks V25 p t = not (has_file p t.file)
+type_breaks V26 p t = not (are_matches (input_length p t.file) (joined_widths (first_matches p.types)) t.matches)

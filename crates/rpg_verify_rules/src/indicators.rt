@@ -5,6 +5,7 @@ ghost use Rattle.rpg_verify_rules.specs.Indicators as marks;
 
 use rpg_effect::condition::{Condition, Conditions};
 use rpg_effect::operation::Shows;
+use rpg_object_program::row::Version;
 
 fn is_settable(n: u8) -> bool
     ensures { result ≡ marks.is_settable n }
@@ -45,25 +46,35 @@ pub(crate) fn has_shows(shows: Shows) -> bool
     shows.plus.is_some() || (shows.minus.is_some() || shows.zero.is_some())
 }
 
-/// MR is asked nowhere.
-pub(crate) fn may_be_asked(condition: &Condition) -> bool
-    ensures { result ≡ marks.may_be_asked condition.now }
+/// MR is asked in version 2 alone.
+const fn most_asked(version: Version) -> u8
+    ensures { result ≡ marks.most_asked version }
 {
-    condition.indicator <= 128
-}
-
-fn is_asked_if_any(condition: Option<Condition>) -> bool
-    ensures { result ≡ marks.if_any marks.may_be_asked condition }
-{
-    match condition {
-        None => true,
-        Some(condition) => may_be_asked(&condition),
+    match version {
+        Version::One => 128,
+        Version::Two => 129,
     }
 }
 
-pub(crate) fn all_asked(conditions: Conditions) -> bool
-    ensures { result ≡ marks.all_asked conditions }
+pub(crate) fn may_be_asked(version: Version, condition: &Condition) -> bool
+    ensures { result ≡ marks.may_be_asked version condition.now }
 {
-    is_asked_if_any(conditions.first)
-        && (is_asked_if_any(conditions.second) && is_asked_if_any(conditions.third))
+    condition.indicator <= most_asked(version)
+}
+
+fn is_asked_if_any(version: Version, condition: Option<Condition>) -> bool
+    ensures { result ≡ marks.if_any (marks.may_be_asked version) condition }
+{
+    match condition {
+        None => true,
+        Some(condition) => may_be_asked(version, &condition),
+    }
+}
+
+pub(crate) fn all_asked(version: Version, conditions: Conditions) -> bool
+    ensures { result ≡ marks.all_asked version conditions }
+{
+    is_asked_if_any(version, conditions.first)
+        && (is_asked_if_any(version, conditions.second)
+            && is_asked_if_any(version, conditions.third))
 }

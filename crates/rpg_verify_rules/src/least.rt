@@ -16,7 +16,7 @@ use crate::types::first_type;
 use rpg_object_program::row::Rows;
 
 /// All rules in the order of their numbers.
-pub const RULES: [Rule; 24] = [
+pub const RULES: [Rule; 26] = [
     Rule::Overflow,
     Rule::Line(LineRule::V2),
     Rule::Type(TypeRule::V3),
@@ -41,6 +41,8 @@ pub const RULES: [Rule; 24] = [
     Rule::Place(PlaceRule::V22),
     Rule::Subroutine(SubroutineRule::V23),
     Rule::Subroutine(SubroutineRule::V24),
+    Rule::Type(TypeRule::V25),
+    Rule::Type(TypeRule::V26),
 ];
 
 /// The least broken rule, with its first row, where a rule is broken. It takes no memory.

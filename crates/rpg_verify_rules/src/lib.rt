@@ -5,6 +5,7 @@ mod indicators;
 pub mod laws;
 mod least;
 mod lines;
+mod matches;
 mod places;
 mod rule;
 mod subroutines;

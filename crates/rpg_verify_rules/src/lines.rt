@@ -29,7 +29,7 @@ use rpg_object_program::columns::{has_entry, is_one_entry};
 use rpg_object_program::forms::{
     decimals_of, form_at, is_index_form, kind_of, length_of, may_write, same_kind,
 };
-use rpg_object_program::row::{Line, Rows};
+use rpg_object_program::row::{Line, Rows, Version};
 
 /// The first line that breaks a rule.
 #[tactic(auto, using(crate::proofs::Lists::position_seen), unfolding(crate::specs::Rules::broken))]
@@ -55,13 +55,13 @@ fn breaks(rule: LineRule, rows: &Rows, line: &Line) -> bool
     match rule {
         LineRule::V2 => file_length(rows, line.file) == 0,
         LineRule::V8 => !is_spaced_on(line.file, line.spacing),
-        LineRule::V9 => !are_alternatives_asked(&line.alternatives),
+        LineRule::V9 => !are_alternatives_asked(rows.version, &line.alternatives),
         LineRule::V10 => !are_fields_there(rows, &line.fields),
         LineRule::V11 => !are_fields_edited(rows, &line.fields),
         LineRule::V12 => lack_words(rows, &line.fields),
         LineRule::V13 => lack_room(rows, file_length(rows, line.file), &line.fields),
         LineRule::V14 => !are_blanked_writable(rows, &line.fields),
-        LineRule::V15 => !are_fields_asked(&line.fields),
+        LineRule::V15 => !are_fields_asked(rows.version, &line.fields),
     }
 }
 
@@ -90,22 +90,22 @@ fn is_spaced_on(file: File, s: Spacing) -> bool
 
 // ---- alternatives
 
-fn are_all_asked(conditions: &[Condition]) -> bool
-    ensures { result ≡ list_all marks.may_be_asked conditions.now }
+fn are_all_asked(version: Version, conditions: &[Condition]) -> bool
+    ensures { result ≡ list_all (marks.may_be_asked version) conditions.now }
 {
-    conditions.iter().all(|c| may_be_asked(c))
+    conditions.iter().all(|c| may_be_asked(version, c))
 }
 
-fn are_each_asked(alternatives: &[Vec<Condition>]) -> bool
-    ensures { result ≡ list_all (λ (a : Vec Condition). list_all marks.may_be_asked a.items) alternatives.now }
+fn are_each_asked(version: Version, alternatives: &[Vec<Condition>]) -> bool
+    ensures { result ≡ list_all (λ (a : Vec Condition). list_all (marks.may_be_asked version) a.items) alternatives.now }
 {
-    alternatives.iter().all(|a| are_all_asked(a))
+    alternatives.iter().all(|a| are_all_asked(version, a))
 }
 
-fn are_alternatives_asked(alternatives: &[Vec<Condition>]) -> bool
-    ensures { result ≡ list_all (list_all marks.may_be_asked) (map (λ a. a.items) alternatives.now) }
+fn are_alternatives_asked(version: Version, alternatives: &[Vec<Condition>]) -> bool
+    ensures { result ≡ list_all (list_all (marks.may_be_asked version)) (map (λ a. a.items) alternatives.now) }
 {
-    are_each_asked(alternatives)
+    are_each_asked(version, alternatives)
 }
 
 // ---- whether fields are there, and may be blanked
@@ -144,10 +144,10 @@ fn are_blanked_writable(rows: &Rows, fields: &[LineField<u16>]) -> bool
     fields.iter().all(|f| is_blanked_writable(rows, f))
 }
 
-fn are_fields_asked(fields: &[LineField<u16>]) -> bool
-    ensures { result ≡ list_all words.is_field_asked fields.now }
+fn are_fields_asked(version: Version, fields: &[LineField<u16>]) -> bool
+    ensures { result ≡ list_all (words.is_field_asked version) fields.now }
 {
-    fields.iter().all(|f| all_asked(f.conditions))
+    fields.iter().all(|f| all_asked(version, f.conditions))
 }
 
 // ---- editing

@@ -23,7 +23,7 @@ use rpg_object_program::columns::{
     columns_of, has_kind, holds_positions, is_current_table, is_good, is_writable_use,
 };
 use rpg_object_program::forms::form_at;
-use rpg_object_program::row::{Rows, Subroutine};
+use rpg_object_program::row::{Rows, Subroutine, Version};
 use rpg_object_program::section::Section;
 use rpg_object_program::spans::{Span, is_higher, is_place};
 
@@ -136,7 +136,8 @@ fn breaks(rule: PlaceRule, rows: &Rows, span: Span, instruction: Instruction<u16
         PlaceRule::V17 => !have_kinds(rows, row),
         PlaceRule::V18 => !is_writable_if_any(rows, row.result),
         PlaceRule::V19 => {
-            !(are_asked(instruction) && (are_marked(row.marks) && is_searched_well(rows, row)))
+            !(are_asked(rows.version, instruction)
+                && (are_marked(row.marks) && is_searched_well(rows, row)))
         }
         PlaceRule::V20 => !(are_current_tables(rows, row) && holds_positions(rows, row)),
         PlaceRule::V21 => !stays_inside(rows, span, instruction),
@@ -211,15 +212,15 @@ fn has_conditions(conditions: Conditions) -> bool
     conditions.first.is_some() || (conditions.second.is_some() || conditions.third.is_some())
 }
 
-fn are_asked(instruction: Instruction<u16>) -> bool
-    ensures { result ≡ words.are_asked instruction }
+fn are_asked(version: Version, instruction: Instruction<u16>) -> bool
+    ensures { result ≡ words.are_asked version instruction }
 {
     match instruction {
         Instruction::Branch {
             is_taken_where,
             conditions,
             ..
-        } => all_asked(conditions) && (is_taken_where || has_conditions(conditions)),
+        } => all_asked(version, conditions) && (is_taken_where || has_conditions(conditions)),
         Instruction::Act(_)
         | Instruction::Except
         | Instruction::Call { .. }

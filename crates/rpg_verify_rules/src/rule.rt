@@ -17,6 +17,10 @@ pub enum TypeRule {
     V6,
     /// Indicators of moves can be set, and a text has one for blanks alone.
     V7,
+    /// The program has the type's file.
+    V25,
+    /// Match fields are in the record, each of another level, with the joined lengths of the first type that has some, 256 at most in all.
+    V26,
 }
 
 /// A rule of output lines.
@@ -85,6 +89,10 @@ impl TypeRule {
             }
             TypeRule::V7 => {
                 "an indicator of an input field can't be set, or a text has one for plus or minus"
+            }
+            TypeRule::V25 => "a record type is of a secondary file that the program doesn't have",
+            TypeRule::V26 => {
+                "a match field isn't columns of the record, or two are of one level, or a type's levels have other lengths than in the first type that has match fields, or more than 256 columns in all"
             }
         }
     }
@@ -192,6 +200,8 @@ impl Rule {
             Rule::Place(PlaceRule::V22) => 22,
             Rule::Subroutine(SubroutineRule::V23) => 23,
             Rule::Subroutine(SubroutineRule::V24) => 24,
+            Rule::Type(TypeRule::V25) => 25,
+            Rule::Type(TypeRule::V26) => 26,
         }
     }
     /// How a row breaks the rule, as a person reads it.

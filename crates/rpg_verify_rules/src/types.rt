@@ -1,6 +1,6 @@
-//! V3 to V7: record types.
+//! V3 to V7, V25 and V26: record types.
 
-ghost use Rattle.std.specs.Prelude.{◌≡◌, ◌≤◌, map};
+ghost use Rattle.std.specs.Prelude.{◌≡◌, ◌≤◌, ◌^◌, map};
 ghost use Rattle.std.specs.List.{list_all, position};
 ghost use Rattle.rpg_effect.specs.Input as inputs;
 ghost use Rattle.rpg_object_program.specs.Object.{input_length as length_of, seen, type_row};
@@ -10,6 +10,7 @@ ghost use Rattle.rpg_verify_rules.specs.TypeRules as words;
 ghost use Rattle.rpg_verify_rules.specs.declared.rule.Rule.TheVariants as rule_names;
 
 use crate::indicators::{are_settable, is_of_type};
+use crate::matches::{are_matches, first_widths};
 use crate::rule::TypeRule;
 use rpg_effect::form::Kind;
 use rpg_effect::input::{ControlField, InputField, InputFile, RecordCode};
@@ -23,21 +24,30 @@ pub(crate) fn first_type(rule: TypeRule, rows: &Rows) -> Option<usize>
     ensures { result ≡ first_true 0 (broken (seen rows.now) (rule_names.Type rule)) }
 {
     let measures = measures(&rows.types);
-    first_by(rule, rows, &measures)
+    let widths = first_widths(&rows.types);
+    first_by(rule, rows, &measures, &widths)
 }
 
-fn first_by(rule: TypeRule, rows: &Rows, measures: &[u128; 9]) -> Option<usize>
+fn first_by(rule: TypeRule, rows: &Rows, measures: &[u128; 9], widths: &[u128; 9]) -> Option<usize>
     requires measures { measures.now ≡ words.measures (map type_row rows.now.types.items) }
+    requires widths { widths.now ≡ words.joined_widths (words.first_matches (map type_row rows.now.types.items)) }
     ensures { result ≡ position (λ t. words.type_breaks rule (seen rows.now) (type_row t)) rows.now.types.items }
 {
     rows.types
         .iter()
-        .position(|t| breaks(rule, rows, measures, t))
+        .position(|t| breaks(rule, rows, measures, widths, t))
 }
 
 #[tactic(auto, unfolding(crate::specs::TypeRules::type_breaks))]
-fn breaks(rule: TypeRule, rows: &Rows, measures: &[u128; 9], record_type: &RecordType) -> bool
+fn breaks(
+    rule: TypeRule,
+    rows: &Rows,
+    measures: &[u128; 9],
+    widths: &[u128; 9],
+    record_type: &RecordType,
+) -> bool
     requires measures { measures.now ≡ words.measures (map type_row rows.now.types.items) }
+    requires widths { widths.now ≡ words.joined_widths (words.first_matches (map type_row rows.now.types.items)) }
     ensures { result ≡ words.type_breaks rule (seen rows.now) (type_row record_type.now) }
 {
     let length = input_length(rows, record_type.file);
@@ -50,6 +60,8 @@ fn breaks(rule: TypeRule, rows: &Rows, measures: &[u128; 9], record_type: &Recor
         }
         TypeRule::V6 => !are_inputs_in(rows, length, &record_type.inputs),
         TypeRule::V7 => !are_inputs_shown(rows, &record_type.inputs),
+        TypeRule::V25 => !has_file(rows, record_type.file),
+        TypeRule::V26 => !are_matches(length, widths, &record_type.matches),
     }
 }
 
@@ -61,6 +73,12 @@ fn input_length(rows: &Rows, file: InputFile) -> u16
         InputFile::Primary => rows.record_length,
         InputFile::Secondary => rows.secondary_length,
     }
+}
+
+fn has_file(rows: &Rows, file: InputFile) -> bool
+    ensures { result ≡ words.has_file (seen rows.now) file }
+{
+    input_length(rows, file) != 0
 }
 
 /// The columns of a control field of a level; none where they are turned around.
@@ -76,8 +94,9 @@ fn columns_at(level: u8, field: &ControlField) -> u128
 }
 
 /// The columns of all control fields of a level.
-fn joined(level: u8, fields: &[ControlField]) -> u128
-    ensures { result ≡ words.joined_width level fields.now }
+pub(crate) fn joined(level: u8, fields: &[ControlField]) -> u128
+    ensures value { result ≡ words.joined_width level fields.now }
+    ensures few { result ≤ 2 ^ 80 }
 {
     let mut sum = 0;
     for field in fields {
@@ -153,7 +172,7 @@ fn is_control_in(length: u16, field: &ControlField) -> bool
     1 <= field.from && (field.from <= field.to && field.to <= length)
 }
 
-fn are_controls_in(length: u16, fields: &[ControlField]) -> bool
+pub(crate) fn are_controls_in(length: u16, fields: &[ControlField]) -> bool
     ensures { result ≡ list_all (words.is_control_in length) fields.now }
 {
     fields.iter().all(|f| is_control_in(length, f))
