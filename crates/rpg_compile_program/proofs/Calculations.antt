@@ -226,7 +226,7 @@ module _ (cards : List SpecCard) (allowance : ℕ) where
     pub columns_kept : (r : PlaceRule) → IsOfColumns r → NoneTrue (broken (program_of cards allowance) (rules.Place r))
     unfolding broken program_of
     columns_kept r of =
-        instructions.places_kept (program_of cards allowance) forms (key_numbers cards) (numbers_rename (table_of cards)) (subroutine_level (sections cards).subroutines) (sections cards)
+        instructions.places_kept (program_of cards allowance) forms (key_numbers cards) (numbers_rename (table_of cards)) refl (subroutine_level (sections cards).subroutines) (sections cards)
         (record { detail = refl; total = refl; subroutines = refl })
         (record {
           detail = each_control (IsRightCalculation forms) is_detail (calculations cards) all_right;

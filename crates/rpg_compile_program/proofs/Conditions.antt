@@ -13,6 +13,7 @@ use Rattle.rpg_effect.specs.Control.{has_conditions}
 use Rattle.rpg_effect.specs.declared.condition.Conditions.{Conditions}
 use Rattle.rpg_faults_limits.specs.Indicators.{any_of, bad_in_calculation, cannot_be_set}
 use Rattle.rpg_object_program.specs.Kept.{IsIndicator}
+use Rattle.rpg_object_program.specs.declared.row.Version.TheVariants as versions
 use Rattle.rpg_verify_rules.specs.Indicators.{all_asked, are_settable, if_any, is_settable, is_within}
 use Rattle.rpg_sheet_specs.specs.declared.calculation.CalculationSpec.{CalculationSpec}
 use Rattle.rpg_sheet_specs.specs.declared.calculation.ControlLevel.{ControlLevel}
@@ -65,7 +66,7 @@ asked_if_any cards (Some c) right range =
     by_mr true h = h
     by_mr false h = refl
 
-places_asked : (a b c : Option sheet.Condition) → may_ask a ≡ true → may_ask b ≡ true → may_ask c ≡ true → all_asked (in_places (map condition_of (filter_map (λ x. x) (a ∷ b ∷ c ∷ [])))) ≡ true
+places_asked : (a b c : Option sheet.Condition) → may_ask a ≡ true → may_ask b ≡ true → may_ask c ≡ true → all_asked versions.One (in_places (map condition_of (filter_map (λ x. x) (a ∷ b ∷ c ∷ [])))) ≡ true
 places_asked None None None p q r = refl
 places_asked None None (Some z) p q r = and_from _ _ r refl
 places_asked None (Some y) None p q r = and_from _ _ q refl
@@ -75,9 +76,9 @@ places_asked (Some x) None (Some z) p q r = and_from _ _ p (and_from _ _ r refl)
 places_asked (Some x) (Some y) None p q r = and_from _ _ p (and_from _ _ q refl)
 places_asked (Some x) (Some y) (Some z) p q r = and_from _ _ p (and_from _ _ q r)
 
--- a card's conditions may be asked
+-- a card's conditions may be asked in version 1
 abbrev pub MayAsk : CalculationSpec → Type 0
-MayAsk k = all_asked (conditions_on k) ≡ true
+MayAsk k = all_asked versions.One (conditions_on k) ≡ true
 
 pub may_be_asked : (cards : List SpecCard) (k : CalculationSpec) → any_of (bad_in_calculation cards) k.conditions ≡ false → InThree IsCondition k.conditions → MayAsk k
 may_be_asked cards k right range =
@@ -88,10 +89,10 @@ may_be_asked cards k right range =
 
 -- ---- the tests of a group
 
--- a test has conditions, and they may be asked
+-- a test has conditions, and they may be asked in version 1
 pub record IsTested (cs : Conditions) : Type 0 where
   pub some : has_conditions cs ≡ true
-  pub asked : all_asked cs ≡ true
+  pub asked : all_asked versions.One cs ≡ true
 
 tests_right : (k : CalculationSpec) → MayAsk k → Each IsTested (tests_on k)
 tests_right k asked = by (depends k) refl

@@ -27,6 +27,7 @@ use Rattle.rpg_object_program.specs.declared.section.Section.{Section}
 use Rattle.rpg_object_program.specs.declared.section.Section.TheVariants as section
 use Rattle.rpg_effect_renaming.proofs.Rows.{right_same}
 use Rattle.rpg_effect_renaming.specs.Naming.{IsRenaming, renamed_action}
+use Rattle.rpg_object_program.specs.declared.row.Version.TheVariants as versions
 use Rattle.rpg_verify_rules.proofs.Kept.{NoneTrue}
 use Rattle.rpg_verify_rules.specs.Indicators.{all_asked}
 use Rattle.rpg_verify_rules.specs.PlaceRules.{are_marked, is_ascending, is_form_ascending, is_ordered, is_searched_well, judged_behind_detail, place_breaks, places_judged, section_judged, subroutines_judged}
@@ -51,7 +52,7 @@ pub record IsRightCalculation (forms : Key → Option FieldForm) (g : Calculatio
   pub level : ForSome g.level (λ n. n ≤ 110)
   pub deed : IsRightDeed forms g.deed
 
-module _ (p : Object) (forms : Key → Option FieldForm) (number : Key → ℕ) (renames : IsRenaming key_cmp nat_cmp forms (form_at p.fields) number) where
+module _ (p : Object) (forms : Key → Option FieldForm) (number : Key → ℕ) (renames : IsRenaming key_cmp nat_cmp forms (form_at p.fields) number) (first_version : p.version ≡ versions.One) where
   abbrev at : ℕ → Option FieldForm
   at n = form_at p.fields n
 
@@ -111,12 +112,12 @@ module _ (p : Object) (forms : Key → Option FieldForm) (number : Key → ℕ) 
 
   -- ---- other instructions
 
-  branch_kept : (is_taken_where : Bool) (cs : Conditions) (target : ℕ) → all_asked cs ≡ true → (is_taken_where || has_conditions cs) ≡ true → IsKept (made.Branch is_taken_where cs target)
+  branch_kept : (is_taken_where : Bool) (cs : Conditions) (target : ℕ) → all_asked versions.One cs ≡ true → (is_taken_where || has_conditions cs) ≡ true → IsKept (made.Branch is_taken_where cs target)
   unfolding place_breaks holds_positions
   branch_kept is_taken_where cs target asked some s V16 of = refl
   branch_kept is_taken_where cs target asked some s V17 of = refl
   branch_kept is_taken_where cs target asked some s V18 of = refl
-  branch_kept is_taken_where cs target asked some s V19 of = not_from_true _ (and_from _ _ (and_from _ _ asked some) refl)
+  branch_kept is_taken_where cs target asked some s V19 of = not_from_true _ (and_from _ _ (and_from _ _ (ap (λ v. all_asked v cs) first_version ∙ asked) some) refl)
   branch_kept is_taken_where cs target asked some s V20 of = refl
   branch_kept is_taken_where cs target asked some s V21 of = absurd of
   branch_kept is_taken_where cs target asked some s V22 of = absurd of

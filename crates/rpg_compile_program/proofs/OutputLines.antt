@@ -44,6 +44,7 @@ use Rattle.rpg_object_program.specs.Object.{Object, file_length}
 use Rattle.rpg_effect_renaming.proofs.Lines.{keeps_same}
 use Rattle.rpg_effect_renaming.specs.Naming.{renamed_field}
 use Rattle.rpg_verify_rules.proofs.Kept.{NoneTrue}
+use Rattle.rpg_object_program.specs.declared.row.Version.TheVariants as versions
 use Rattle.rpg_verify_rules.specs.Indicators.{all_asked, if_any, may_be_asked}
 use Rattle.rpg_verify_rules.specs.LineRules.{edits_form, is_field_asked, is_field_edited, is_field_there, is_spaced_on, is_word_for, lacks_room, lacks_word, line_breaks}
 use Rattle.rpg_verify_rules.specs.Rules.{broken}
@@ -144,8 +145,9 @@ each_at P (y ∷ ys) x after h = each_at P ys x after h.1
 
 -- ---- conditions
 
+-- it may be asked in version 1
 abbrev IsAsked : Condition → Type 0
-IsAsked c = may_be_asked c ≡ true
+IsAsked c = may_be_asked versions.One c ≡ true
 
 asked_one : (cards : List SpecCard) (o : Option sheet.Condition) → option_map_or (bad_in_output cards) o false ≡ false → ForSome o IsCondition → Each IsAsked (map condition_of (option_to_list o))
 asked_one cards None good range = tt
@@ -179,12 +181,12 @@ asked_three cards t good range =
     let one = or_parts _ _ two.0 in
     three_of IsAsked condition_of t.first t.second t.third (asked_one cards t.first one.0 range.first) (asked_one cards t.second one.1 range.second) (asked_one cards t.third two.1 range.third)
 
-asked_place : (cs : List Condition) (k : ℕ) → Each IsAsked cs → if_any may_be_asked (slice_get cs k) ≡ true
+asked_place : (cs : List Condition) (k : ℕ) → Each IsAsked cs → if_any (may_be_asked versions.One) (slice_get cs k) ≡ true
 asked_place [] k h = refl
 asked_place (c ∷ cs) zero h = h.0
 asked_place (c ∷ cs) (suc k) h = asked_place cs k h.1
 
-pub asked_places : (cs : List Condition) → Each IsAsked cs → all_asked (in_places cs) ≡ true
+pub asked_places : (cs : List Condition) → Each IsAsked cs → all_asked versions.One (in_places cs) ≡ true
 asked_places cs h = and_from _ _ (asked_place cs 0 h) (and_from _ _ (asked_place cs 1 h) (asked_place cs 2 h))
 
 each_passes : {X : Type 0} (test : X → Bool) (xs : List X) → Each (λ x. test x ≡ true) xs → list_all test xs ≡ true
@@ -202,11 +204,11 @@ IsFurtherAsked (output.And t) = Each IsAsked (standing t)
 IsFurtherAsked (output.Or t) = Each IsAsked (standing t)
 IsFurtherAsked (output.Field f) = Unit {0}
 
-alternatives_asked : (so_far : List Condition) (os : List OutputSpec) → Each IsAsked so_far → Each IsFurtherAsked os → list_all (list_all may_be_asked) (line_alternatives so_far os) ≡ true
-alternatives_asked so_far [] h good = and_from _ _ (each_passes may_be_asked so_far h) refl
+alternatives_asked : (so_far : List Condition) (os : List OutputSpec) → Each IsAsked so_far → Each IsFurtherAsked os → list_all (list_all (may_be_asked versions.One)) (line_alternatives so_far os) ≡ true
+alternatives_asked so_far [] h good = and_from _ _ (each_passes (may_be_asked versions.One) so_far h) refl
 alternatives_asked so_far (output.Record r ∷ os) h good = alternatives_asked so_far os h good.1
 alternatives_asked so_far (output.And t ∷ os) h good = alternatives_asked (so_far ++ standing t) os (each_append IsAsked so_far (standing t) h good.0) good.1
-alternatives_asked so_far (output.Or t ∷ os) h good = and_from _ _ (each_passes may_be_asked so_far h) (alternatives_asked (standing t) os good.0 good.1)
+alternatives_asked so_far (output.Or t ∷ os) h good = and_from _ _ (each_passes (may_be_asked versions.One) so_far h) (alternatives_asked (standing t) os good.0 good.1)
 alternatives_asked so_far (output.Field f ∷ os) h good = alternatives_asked so_far os h good.1
 
 -- ---- movements
@@ -421,6 +423,10 @@ module _ (cards : List SpecCard) (allowance : ℕ) where
     abbrev at : Key → ℕ
     at = key_numbers cards
 
+    first_version : p.version ≡ versions.One
+    unfolding program_of
+    first_version = refl
+
     -- the length of the file that a line goes to
     file_is : (f : FileSpec) → IsOwn f → (u : FileUse) → file_use f ≡ u → is_output u ≡ true → put_length cards (file_put u) ≡ f.record_length
     file_is f own uses.Primary is test = cc
@@ -439,7 +445,7 @@ module _ (cards : List SpecCard) (allowance : ℕ) where
 
     record IsRightField (len : ℕ) (f : LineField ℕ) : Type 0 where
       keeps : KeepsFieldRules (form_at p.fields) (word_at p) len f
-      asked : is_field_asked f ≡ true
+      asked : is_field_asked p.version f ≡ true
 
     field_right : (len : ℕ) (f : OutputField) → KeepsFieldRules forms texts len (line_field_of f) → Each IsAsked (standing f.conditions) → IsRightField len (renamed_field at (line_field_of f))
     unfolding program_of
@@ -504,13 +510,13 @@ module _ (cards : List SpecCard) (allowance : ℕ) where
         by_rule : (r : LineRule) → line_breaks r p (numbered_line cards (words.line_of_file (file_put (file_use good.0.0)) (put_length cards (file_put (file_use good.0.0))) g)) ≡ false
         by_rule V2 = ne_eqb (file_length p (file_put (file_use good.0.0))) 0 (λ e. let some = (put_of g good).some in let l = length_same cards allowance (file_put (file_use good.0.0)) ∙ (put_of g good).length in omega arith)
         by_rule V8 = not_from_true _ (spaced_right (file_put (file_use good.0.0)) g.heading.movement good.1.0.movement (put_of g good).still)
-        by_rule V9 = not_from_true _ (alternatives_asked (standing g.heading.conditions) g.followers good.1.0.asked (further_asked g.file g.followers good.1.1))
+        by_rule V9 = not_from_true _ (ap (λ v. list_all (list_all (may_be_asked v)) (line_alternatives (standing g.heading.conditions) g.followers)) first_version ∙ alternatives_asked (standing g.heading.conditions) g.followers good.1.0.asked (further_asked g.file g.followers good.1.1))
         by_rule V10 = not_from_true _ (each_passes (is_field_there p) _ (all (λ f. is_field_there p f ≡ true) (λ f k. field_there p _ f k.keeps)))
         by_rule V11 = not_from_true _ (each_passes (is_field_edited p) _ (all (λ f. is_field_edited p f ≡ true) (λ f k. field_edited p _ f k.keeps)))
         by_rule V12 = none_passes (lacks_word p) _ (all (λ f. lacks_word p f ≡ false) (λ f k. field_worded p _ f k.keeps))
         by_rule V13 = none_passes (lacks_room p (file_length p (file_put (file_use good.0.0)))) _ (all (λ f. lacks_room p (file_length p (file_put (file_use good.0.0))) f ≡ false) (λ f k. field_placed p _ f k.keeps))
         by_rule V14 = not_from_true _ (each_passes _ _ (all (λ f. blanks_writable (form_at p.fields) (word_at p) f ≡ true) (λ f k. k.keeps.blanked)))
-        by_rule V15 = not_from_true _ (each_passes is_field_asked _ (all (λ f. is_field_asked f ≡ true) (λ f k. k.asked)))
+        by_rule V15 = not_from_true _ (each_passes (is_field_asked p.version) _ (all (λ f. is_field_asked p.version f ≡ true) (λ f k. k.asked)))
 
     line_right : (g : Group OutputRecord OutputSpec) → InFile g → (r : LineRule) → line_breaks r p (numbered_line cards (card_line cards g)) ≡ false
     line_right g good r =

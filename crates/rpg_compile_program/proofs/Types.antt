@@ -1,6 +1,6 @@
 -- No record type of the program of a source without a fault breaks a rule.
-use Rattle.std.proofs.Common.{◌≡◌, ℕ, ◌+◌, ◌-◌, ◌≤◌, Bool, true, false, cond, ◌&&◌, List, [], ◌∷◌, ◌++◌, map, Option, None, Some, refl, sym, ap, ◌∙◌, subst, arith}
-use Rattle.std.proofs.lemmas.Bool.{and_from, eq-eqb, eqb-false, eqb-true, le-leb, ltb-false, not_from_true}
+use Rattle.std.proofs.Common.{◌≡◌, ℕ, ◌+◌, ◌-◌, ◌≤◌, Bool, true, false, cond, not, ◌&&◌, List, [], ◌∷◌, ◌++◌, map, Option, None, Some, refl, sym, ap, ◌∙◌, subst, arith}
+use Rattle.std.proofs.lemmas.Bool.{and_from, eq-eqb, eqb-false, eqb-true, le-leb, ltb-false, ne_eqb, not_from_true}
 use Rattle.std.proofs.lemmas.List.Sums.{sum_by-cons}
 use Rattle.std.proofs.lemmas.Option.{same_Some}
 use Rattle.std.specs.List.{cons_option, filter_map, flat_map}
@@ -32,7 +32,7 @@ use Rattle.rpg_verify_rules.specs.TypeRules.{is_code_in, is_control_in, is_input
 use Rattle.rpg_verify_rules.specs.TypeRules as rule
 use Rattle.rpg_verify_rules.specs.declared.rule.Rule.TheVariants as verifier
 use Rattle.rpg_verify_rules.specs.declared.rule.TypeRule.{TypeRule}
-use Rattle.rpg_verify_rules.specs.declared.rule.TypeRule.TheVariants.{V3, V4, V5, V6, V7}
+use Rattle.rpg_verify_rules.specs.declared.rule.TypeRule.TheVariants.{V3, V4, V5, V6, V7, V25, V26}
 use Rattle.rpg_sheet_specs.specs.declared.file.FileSpec.{FileSpec}
 use Rattle.rpg_sheet_specs.specs.declared.input.InputField.{InputField}
 use Rattle.rpg_sheet_specs.specs.declared.input.InputSpec.{InputSpec}
@@ -332,12 +332,14 @@ module _ (cards : List SpecCard) (rules : KeepsCardRules cards) (ranges : AreCar
           (each_level_field (IsFieldGood cards rules ranges g.file) (λ c. is_control_in (length_at g) c ≡ true) control_right (input_fields_in g.followers) fields_good)) levels_right)
       type_right V6 = not_from_true _ (each_passes (is_input_in p (length_at g)) (row_type g).inputs (inputs_each (λ f. is_input_in p (length_at g) f ≡ true) input_right))
       type_right V7 = not_from_true _ (each_passes (is_input_shown p) (row_type g).inputs (inputs_each (λ f. is_input_shown p f ≡ true) shown_right))
+      type_right V25 = ap (λ b. not (not b)) (ne_eqb (length_at g) 0 (λ z. let low = h.filed.0.3.lowest in let same = record_is g h.filed in omega (arith, z, low, same)))
+      type_right V26 = refl
 
     rows_right : (r : TypeRule) (gs : List (Group RecordType InputSpec)) → Each IsKnown gs → Each (λ t. type_breaks r p t ≡ false) (map (renamed_type (key_numbers cards)) (map type_of gs))
     rows_right r [] h = tt
     rows_right r (g ∷ gs) h = (type_right g h.0 r, rows_right r gs h.1)
 
-    -- V3 to V7
+    -- V3 to V7, V25 and V26
     pub types_kept : (r : TypeRule) → NoneTrue (broken (program_of cards allowance) (verifier.Type r))
     unfolding broken
     types_kept r = subst (λ ts. NoneTrue (map (type_breaks r p) ts)) (sym types_are) (none_broken (type_breaks r p) (map (renamed_type (key_numbers cards)) (map type_of (groups input_role cards))) (rows_right r (groups input_role cards) each_known))

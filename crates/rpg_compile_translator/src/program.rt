@@ -21,7 +21,7 @@ use rpg_cards::{FileUse, IndexedCards, SpecCard, file_for};
 use rpg_compile_code::{SectionRows, section_rows};
 use rpg_compile_layouts::{Fields, fields_of, lines_of, types_of};
 use rpg_object_program::Program;
-use rpg_object_program::row::Rows;
+use rpg_object_program::row::{Rows, Version};
 use rpg_sheet_specs::FileSpec;
 use std::alloc::{AllocError, Global};
 
@@ -65,8 +65,10 @@ fn program_of(alloc: Global, cards: &[SpecCard], allowance: u16) -> Result<Progr
     } = section_rows(alloc, &table, cards)?;
     let printer = file_for(FileUse::Printer, cards);
     Ok(Program::build(Rows {
+        version: Version::One,
         allowance,
         record_length: length_of(file_for(FileUse::Primary, cards)),
+        secondary_length: 0,
         printer_length: length_of(printer),
         disk_length: length_of(file_for(FileUse::Disk, cards)),
         overflow: overflow_of(printer),
