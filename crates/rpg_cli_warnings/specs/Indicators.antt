@@ -139,6 +139,6 @@ never_asked n cards = if nat_le n 99 && not (is_some (find (asks n) cards)) then
 abbrev pub listed : Option Warning → List Warning
 listed w = option_to_list w
 
-abbrev pub warnings_up_to : ℕ → List SpecCard → List Warning
+unfoldable pub warnings_up_to : ℕ → List SpecCard → List Warning
 warnings_up_to zero cards = []
 warnings_up_to (suc n) cards = warnings_up_to n cards ++ listed (never_on (suc n) cards) ++ listed (never_asked (suc n) cards)

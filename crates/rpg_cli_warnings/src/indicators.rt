@@ -60,18 +60,20 @@ pub(crate) fn put(warnings: &mut Vec<Warning>, warning: Option<Warning>) -> Resu
     Ok(())
 }
 
-/// Appends the warnings of all indicators, in the order of their numbers.
+/// Appends the warnings of the indicators up to a number, in their order.
+#[tactic(auto, using(crate::proofs::UpTo::up_to_none, crate::proofs::UpTo::up_to_next))]
 pub(crate) fn put_indicators(
     warnings: &mut Vec<Warning>,
     cards: &[SpecCard],
+    last: u8,
 ) -> Result<(), AllocError>
-    ensures { OnOk result (warnings.new.items ≡ warnings.old.items ++ indicators.warnings_up_to 129 cards.now) }
+    ensures { OnOk result (warnings.new.items ≡ warnings.old.items ++ indicators.warnings_up_to last cards.now) }
 {
-    let mut last = 0u8;
-    while last < 129 {
-        last += 1;
-        put(warnings, never_on(cards, last))?;
-        put(warnings, never_asked(cards, last))?;
+    let mut indicator = 0;
+    while indicator < last {
+        indicator += 1;
+        put(warnings, never_on(cards, indicator))?;
+        put(warnings, never_asked(cards, indicator))?;
     }
     Ok(())
 }
