@@ -1,5 +1,5 @@
 use Rattle.std.proofs.Common.{◌≡◌, ◌∙◌, ◌+◌, List, ◌++◌, Option, ap, sym, append-nil, arith}
-use Rattle.rpg_cli_warnings.specs.Indicators.{listed, never_asked, never_on}
+use Rattle.rpg_cli_warnings.specs.Indicators.{listed, never_asked, never_on, warnings_up_to}
 use Rattle.rpg_cli_warnings.specs.declared.warning.Warning.{Warning}
 use Rattle.rpg_cli_warnings.proofs.UpTo.{behind_both, up_to_next, up_to_none}
 use Rattle.rpg_cli_warnings.proofs.indicators.put_indicators.Goals as goal
@@ -19,6 +19,7 @@ loop-indicator-preserved c =
     let both = first ∙ ap (λ (ws : List Warning). ws ++ listed (never_on (n + 1) cards)) c.loop-indicator.invariant.so_far in
     record {
       within = omega (arith, c.loop-indicator-test.true);
-      so_far = second ∙ ap (λ (ws : List Warning). ws ++ listed (never_asked (n + 1) cards)) both ∙ behind_both _ _ _ _
+      so_far = second ∙ ap (λ (ws : List Warning). ws ++ listed (never_asked (n + 1) cards)) both
+          ∙ behind_both c.args.warnings.now.items (warnings_up_to n cards) (listed (never_on (n + 1) cards)) (listed (never_asked (n + 1) cards))
           ∙ ap (λ (ws : List Warning). c.args.warnings.now.items ++ ws) (sym (up_to_next n cards));
     }
