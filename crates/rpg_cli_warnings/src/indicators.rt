@@ -61,7 +61,6 @@ pub(crate) fn put(warnings: &mut Vec<Warning>, warning: Option<Warning>) -> Resu
 }
 
 /// Appends the warnings of the indicators up to a number, in their order.
-#[tactic(auto, using(crate::proofs::UpTo::up_to_none, crate::proofs::UpTo::up_to_next))]
 pub(crate) fn put_indicators(
     warnings: &mut Vec<Warning>,
     cards: &[SpecCard],
