@@ -76,7 +76,7 @@ refuse() {
     for ((nth = 1; served < 100; nth++)); do
         rm -f "$written"
         status=0
-        line=$(REFUSED=$nth LD_PRELOAD=$work/refuse.so "$rpg2" "${@:5}") || status=$?
+        line=$(REFUSED=$nth LD_PRELOAD=$work/refuse.so "$rpg2" "${@:5}" 2> "$work/told") || status=$?
         if [ "$line" = "$wanted" ] && [ "$status" = 0 ] && is_as "$written" "$expected"; then
             served=$((served + 1))
             continue
@@ -225,7 +225,7 @@ refuse_job() {
         refused=$((refused + 1))
         if [[ "$told" =~ "; no memory"(.*)$ ]]; then
             failed=$((failed + 1))
-            if [[ ! "${BASH_REMATCH[1]}" =~ ^("; failed"(", steps "[0-9]+)?){2,}$ ]]; then
+            if [[ ! "${BASH_REMATCH[1]}" =~ ^("; failed"(", steps "[0-9]+)?(", "[0-9]+" bytes")?){2,}$ ]]; then
                 echo "job of $name, allocation $nth refused: '$told'"
                 exit 1
             fi
