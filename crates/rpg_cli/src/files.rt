@@ -155,11 +155,14 @@ fn tell_warnings<L: Listener>(
     }
 }
 
-/// Tells the faults of a source. Where there is no memory for the messages the line alone says what is wrong.
+/// Tells the faults of a source, if it has any. Where there is no memory for the messages the line alone says what is wrong.
 fn tell_faults<L: Listener>(alloc: Global, path: &str, source: &[u8], most: u16, listener: &mut L) {
     let Ok(faults) = source_faults(alloc, source) else {
         return;
     };
+    if faults.is_empty() {
+        return;
+    }
     if let Ok(messages) = source_messages(alloc, path, source, &faults, most) {
         listener.tell(messages.as_str());
     }
