@@ -95,8 +95,10 @@ impl LastValues {
     pub fn keep(&mut self, program: &Verified, row: usize, text: &[u8]) -> Result<(), AllocError>
         requires there { row < length program.now.types }
         requires filled { IsFilledAs program.now row text.now }
-        ensures primary { OnOk result (seen_value self.new.primary ≡ or_before (seen_value self.old.primary) (value_from program.now files.Primary (record { type = row; text = text.now }))) }
-        ensures secondary { OnOk result (seen_value self.new.secondary ≡ or_before (seen_value self.old.secondary) (value_from program.now files.Secondary (record { type = row; text = text.now }))) }
+        ensures primary { OnOk result (seen_value self.new.primary ≡ or_before (seen_value self.old.primary)
+            (value_from program.now files.Primary (record { type = row; text = text.now }))) }
+        ensures secondary { OnOk result (seen_value self.new.secondary ≡ or_before (seen_value self.old.secondary)
+            (value_from program.now files.Secondary (record { type = row; text = text.now }))) }
     {
         let fields = match_fields(program, row);
         if fields.is_empty() {
