@@ -1,5 +1,5 @@
 -- W1 and W2: which indicators are warned of, and at which card.
-use Rattle.std.specs.Prelude.{ℕ, ◌+◌, List, [], ◌∷◌, ◌++◌, Bool, true, false, not, ◌&&◌, ◌||◌, ◌==◌, nat_le, suc, zero, Option, None, Some, is_some, find, if◌then◌else◌}
+use Rattle.std.specs.Prelude.{ℕ, ◌+◌, List, [], ◌++◌, Bool, true, false, not, ◌&&◌, ◌||◌, ◌==◌, nat_le, suc, zero, Option, None, Some, is_some, find, if◌then◌else◌}
 use Rattle.std.specs.List.{list_any}
 use Rattle.std.specs.Option.{option_map, option_map_or, option_to_list}
 use Rattle.rpg_cards.specs.declared.spec_card.SpecCard.{SpecCard}
@@ -16,7 +16,6 @@ use Rattle.rpg_sheet_specs.specs.declared.output.OutputSpec.TheVariants as outpu
 use Rattle.rpg_sheet_specs.specs.declared.spec.Spec.{Spec}
 use Rattle.rpg_sheet_specs.specs.declared.spec.Spec.TheVariants as spec
 use Rattle.rpg_cli_warnings.specs.declared.warning.Warning.{Warning}
-use Rattle.rpg_cli_warnings.specs.declared.warning.WarningKind.{WarningKind}
 use Rattle.rpg_cli_warnings.specs.declared.warning.WarningKind.TheVariants as kind
 
 -- ---- asking

@@ -1,10 +1,10 @@
 -- The order of texts.
-use Rattle.std.proofs.Common.{◌≡◌, ◌≢◌, ℕ, ◌+◌, ◌-◌, ◌<◌, ◌≤◌, max, List, length, get_or, drop, replicate, refl, sym, ap, ap₂, ◌∙◌, arith, length-append, inl, inr, nat_cmp, Ordering, Less, Equal, Greater, true, false, not, ◌==◌, true≢false}
+use Rattle.std.proofs.Common.{◌≡◌, ◌≢◌, ℕ, ◌+◌, ◌-◌, ◌<◌, max, List, length, get_or, drop, replicate, refl, sym, ap, ap₂, ◌∙◌, arith, length-append, inl, inr, nat_cmp, Ordering, Less, Equal, Greater, true, false, not, ◌==◌, true≢false}
 use Rattle.std.specs.Ordering.{ordering_then, ordering_index}
 use Rattle.std.specs.Cmp.Lexicographic.{slice_cmp}
 use Rattle.std.proofs.lemmas.Bool.{cases_lt}
 use Rattle.std.proofs.lemmas.Bool.Decides.{nat_tests}
-use Rattle.std.proofs.lemmas.List.{drop_more, drop_all, length-replicate, get_or_append_left, get_or-append_right, get_or-replicate, get_or_past, get_or_default}
+use Rattle.std.proofs.lemmas.List.{drop_more, length-replicate, get_or_append_left, get_or-append_right, get_or-replicate, get_or_past, get_or_default}
 use Rattle.rpg_decimal_words.specs.Order.{padded_text, character_cmp, rank}
 
 length-padded : (n : ℕ) (text : List ℕ) → length (padded_text n text) ≡ max (length text) n

@@ -8,7 +8,7 @@ use Rattle.rpg_cards.specs.Calls.{call_at, called_subroutine, calls, calls_behin
 use Rattle.rpg_cards.specs.Deeds.{Acts, Begins, Calculation, Executes, Deed, Ends, GoesTo, Marks, Nothing, PutsOut, tests}
 use Rattle.rpg_cards.specs.Keys.{Key, Name}
 use Rattle.rpg_cards.specs.Labels as labels
-use Rattle.rpg_cards.specs.Labels.{begun_count, is_begsr, is_endsr, is_inside_subroutine, label_named, section_by, section_of, wants}
+use Rattle.rpg_cards.specs.Labels.{begun_count, is_begsr, is_endsr, label_named, section_by, section_of, wants}
 use Rattle.rpg_cards.specs.declared.labels.Label.{Label}
 use Rattle.rpg_cards.specs.declared.labels.Named.{Named}
 use Rattle.rpg_cards.specs.declared.labels.Section.{Section}

@@ -10,11 +10,11 @@ use Rattle.std.specs.Option.{option_and_then, option_map, option_map_or, option_
 use Rattle.std.proofs.lemmas.List.Folds.{list_any-append}
 use Rattle.rpg_cards.specs.Calculations.{CalculationGroup, calculation_of, calculations, calculations_before, calculations_from, calculation_ending, card_ending, group_with, open_behind, open_calculation_group, open_with}
 use Rattle.rpg_cards.specs.Calls as calls_of
-use Rattle.rpg_cards.specs.Calls.{calls, calls_behind, subroutine_in, called_subroutine}
+use Rattle.rpg_cards.specs.Calls.{calls_behind, subroutine_in, called_subroutine}
 use Rattle.rpg_cards.specs.Deeds.{Calculation, deed_of}
 use Rattle.rpg_cards.specs.Keys.{Key, Name}
 use Rattle.rpg_cards.specs.Labels as labels_of
-use Rattle.rpg_cards.specs.Labels.{begins_subroutine, gives, is_begsr, is_inside_subroutine, begun_count, label_named, labels, labels_behind, section_by, section_of, subroutine_at, wants}
+use Rattle.rpg_cards.specs.Labels.{gives, is_begsr, begun_count, label_named, labels, labels_behind, section_by, section_of, subroutine_at, wants}
 use Rattle.rpg_cards.specs.Sections.{is_subroutine}
 use Rattle.rpg_cards.specs.declared.labels.Label.{Label}
 use Rattle.rpg_cards.specs.declared.labels.Named.{Named}

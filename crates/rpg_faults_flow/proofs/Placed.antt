@@ -5,7 +5,7 @@ use Rattle.std.specs.Option.{option_map, option_map_or, option_to_list}
 use Rattle.rpg_cards.specs.Deeds.{Acts, Begins, Calculation, Executes, Deed, Ends, GoesTo, Marks, Nothing, PutsOut}
 use Rattle.rpg_cards.specs.Keys.{Key, Name}
 use Rattle.rpg_cards.specs.Labels as labels
-use Rattle.rpg_cards.specs.Labels.{as_label, begins_subroutine, begun_count, ends, gives, is_begsr, is_endsr, is_inside_subroutine, label_at, label_named, labels_behind, section_by, section_of, subroutine_at}
+use Rattle.rpg_cards.specs.Labels.{as_label, begins_subroutine, begun_count, gives, is_begsr, label_named, labels_behind, section_by, section_of}
 use Rattle.rpg_cards.specs.declared.labels.Label.{Label}
 use Rattle.rpg_cards.specs.declared.labels.Section.{Section}
 use Rattle.rpg_cards.specs.declared.labels.Section.TheVariants as section_kind

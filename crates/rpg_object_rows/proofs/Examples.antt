@@ -1,7 +1,6 @@
 -- The format of instructions on bytes of real programs, and on bytes that break a row.
-use Rattle.std.proofs.Common.{◌≡◌, ℕ, true, false, List, [], ◌∷◌, Option, Some, None, Result, Ok, Err, refl}
+use Rattle.std.proofs.Common.{◌≡◌, ℕ, true, false, List, [], ◌∷◌, Some, None, Result, Ok, Err, refl}
 use Rattle.rpg_effect.specs.declared.condition.Condition.{Condition}
-use Rattle.rpg_effect.specs.declared.condition.Conditions.{Conditions}
 use Rattle.rpg_effect.specs.declared.operation.Action.TheVariants as actions
 use Rattle.rpg_effect.specs.declared.operation.Index.TheVariants.{Blank, Literal, Field}
 use Rattle.rpg_effect.specs.declared.operation.Instruction.{Instruction}

@@ -1,7 +1,6 @@
 -- The formats of record types and lines on bytes of real programs, and on bytes that break a row.
-use Rattle.std.proofs.Common.{◌≡◌, ℕ, true, false, List, [], ◌∷◌, Option, Some, None, Result, Ok, Err, refl}
+use Rattle.std.proofs.Common.{◌≡◌, ℕ, true, false, List, [], ◌∷◌, Some, None, Result, Ok, Err, refl}
 use Rattle.rpg_edit_marks.specs.declared.code.EditCode.TheVariants as codes
-use Rattle.rpg_edit_marks.specs.declared.code.Ending.TheVariants.{Unsigned}
 use Rattle.rpg_edit_marks.specs.declared.code.Fill.TheVariants as fills
 use Rattle.rpg_effect.specs.Input.{TypeRow}
 use Rattle.rpg_effect.specs.declared.condition.Condition.{Condition}

@@ -1,5 +1,5 @@
 -- The law of record types, and what they keep in plain words, and back.
-use Rattle.std.proofs.Common.{◌≡◌, ℕ, ◌<◌, ◌≤◌, ◌^◌, List, [], ◌∷◌, length, Ok, refl, sym, ap, ◌∙◌, arith}
+use Rattle.std.proofs.Common.{◌≡◌, ℕ, ◌<◌, ◌≤◌, ◌^◌, List, [], ◌∷◌, length, Ok, refl, ap, ◌∙◌, arith}
 use Rattle.rpg_effect.specs.Input.{TypeRow}
 use Rattle.rpg_effect.specs.declared.input.ControlField.{ControlField}
 use Rattle.rpg_effect.specs.declared.input.InputField.{InputField}

@@ -1,17 +1,15 @@
 -- The lines with a fault in turn are all unreadable cards, the least one first.
 use Rattle.std.proofs.Common.{◌≡◌, ℕ, ◌+◌, ◌<◌, ◌≤◌, Bool, true, false, List, [], ◌∷◌, ◌++◌, length, Option, Some, None, refl, sym, ap, ◌∙◌, append-nil, arith, length-append}
-use Rattle.std.specs.Prelude.{if◌then◌else◌, nat_lt, nat_le, slice_get}
+use Rattle.std.specs.Prelude.{nat_lt, nat_le, slice_get}
 use Rattle.std.specs.Option.{option_map}
-use Rattle.std.specs.Str.Lines.{lines}
-use Rattle.std.proofs.lemmas.Bool.{both_ways}
 use Rattle.std.proofs.lemmas.Grind.{common_steps}
 use Rattle.rpg_sheet.specs.declared.sheet.SheetCode.{SheetCode}
 use Rattle.rpg_sheet.specs.declared.unreadable.UnreadableCard.{UnreadableCard}
-use Rattle.rpg_sheet_specs.specs.Cards.{card_of, ends_source}
+use Rattle.rpg_sheet_specs.specs.Cards.{card_of}
 use Rattle.rpg_sheet.specs.Seen.{AreLinesSeen, code_seen}
-use Rattle.rpg_sheet.specs.Sheet.{fault_behind, fault_columns, line_code, source}
+use Rattle.rpg_sheet.specs.Sheet.{fault_behind, fault_columns, line_code}
 use Rattle.rpg_sheet.specs.Unreadable.{refusal_of, unreadable_at, unreadable_behind}
-use Rattle.rpg_sheet.proofs.SheetLemmas.{code_is_seen, first_code, source_ends}
+use Rattle.rpg_sheet.proofs.SheetLemmas.{code_is_seen, first_code}
 
 few_lines : (n : ℕ) → n ≤ 2000 → nat_lt 2000 n ≡ false
 few_lines n h = grind (arith, common_steps)

@@ -1,5 +1,5 @@
 -- The cards of a source, and the sheets that they are on.
-use Rattle.std.specs.Prelude.{ℕ, ◌-◌, List, [], ◌∷◌, ◌++◌, length, take, Bool, Option, None, if◌then◌else◌, ◌&&◌, ◌||◌, not, codes, replicate}
+use Rattle.std.specs.Prelude.{ℕ, ◌-◌, List, [], ◌∷◌, ◌++◌, length, take, Bool, Option, None, if◌then◌else◌, ◌||◌, not, codes, replicate}
 use Rattle.std.specs.Str.{bytes_eq}
 use Rattle.rpg_sheet_specs.specs.declared.form_type.FormType.{FormType}
 use Rattle.rpg_sheet_specs.specs.declared.form_type.FormType.TheVariants as form

@@ -1,9 +1,8 @@
 -- Blanks at the end of a text, eight by eight.
-use Rattle.std.proofs.Common.{◌≡◌, ℕ, ◌+◌, ◌-◌, ◌≤◌, List, [], ◌∷◌, ◌++◌, length, take, ap, sym, ◌∙◌, true, nat_eq, arith}
+use Rattle.std.proofs.Common.{◌≡◌, ℕ, ◌+◌, ◌-◌, ◌≤◌, List, [], ◌∷◌, ◌++◌, take, ap, ◌∙◌, arith}
 use Rattle.std.proofs.Math.ListN.{drop}
 use Rattle.std.proofs.Math.Seq.{take-add}
 use Rattle.std.proofs.lemmas.List.{reverse-append}
-use Rattle.std.specs.Cmp.Lexicographic.{same_text}
 use Rattle.std.specs.List.{prefix_len, suffix_len}
 use Rattle.rpg_text.specs.Texts.{is_blank}
 

@@ -1,4 +1,4 @@
-use Rattle.std.proofs.Common.{◌≡◌, ◌∙◌, ◌+◌, List, ◌++◌, Option, ap, sym, append-nil, arith}
+use Rattle.std.proofs.Common.{◌∙◌, ◌+◌, List, ◌++◌, Option, ap, sym, append-nil, arith}
 use Rattle.rpg_cli_warnings.specs.Indicators.{listed, never_asked, never_on, warnings_up_to}
 use Rattle.rpg_cli_warnings.specs.declared.warning.Warning.{Warning}
 use Rattle.rpg_cli_warnings.proofs.UpTo.{behind_both, up_to_next, up_to_none}

@@ -1,4 +1,4 @@
-use Rattle.std.proofs.Common.{◌≡◌, ℕ, All, List, length, sym, subst}
+use Rattle.std.proofs.Common.{ℕ, All, List, sym, subst}
 use Rattle.std.specs.Option.{ForSome}
 use Rattle.rpg_cycle.proofs.Composing.{memory_both, memory_map, ok_map, ok_of_err, passed_map, passed_memory, stops_map}
 use Rattle.rpg_cycle.proofs.Nine.{last, step, stop, whole}

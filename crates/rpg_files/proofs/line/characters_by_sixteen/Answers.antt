@@ -1,4 +1,4 @@
-use Rattle.std.proofs.Common.{arith, sym, ◌∙◌}
+use Rattle.std.proofs.Common.{arith, sym}
 use Rattle.rpg_files.proofs.FirstLines.{joined_slice}
 use Rattle.rpg_files.proofs.line.characters_by_sixteen.Goals as goal
 

@@ -1,4 +1,4 @@
-use Rattle.std.proofs.Common.{◌≡◌, ◌≤◌, length, sym, arith}
+use Rattle.std.proofs.Common.{sym, arith}
 use Rattle.std.proofs.lemmas.List.{length-take-le}
 use Rattle.rpg_sheet.proofs.Padding.{shortened}
 use Rattle.rpg_sheet.proofs.line.within_card.Goals as goal

@@ -1,7 +1,5 @@
-use Rattle.std.proofs.Common.{false, ◌≡◌, ◌+◌, ◌<◌, List, [], ◌∷◌, ◌++◌, ap, sym, ◌∙◌, arith, append_assoc, vec_len, map, ℕ}
-use Rattle.std.proofs.lemmas.List.{map-append}
+use Rattle.std.proofs.Common.{false, ◌≡◌, ◌+◌, ◌<◌, List, [], ◌∷◌, ◌++◌, ap, sym, ◌∙◌, arith, append_assoc, vec_len, ℕ}
 use Rattle.rpg_sheet_specs.specs.Cards.{card_of, ends_source}
-use Rattle.rpg_sheet_specs.specs.Specs.{spec_of}
 use Rattle.rpg_sheet.specs.Sheet.{source}
 use Rattle.rpg_sheet.proofs.SheetLemmas.{specs-push, seen-push, few_seen, source_ends, source_goes_on, fault_behind-good, fault_behind-bad}
 use Rattle.rpg_sheet.proofs.source.cards.Goals as goal

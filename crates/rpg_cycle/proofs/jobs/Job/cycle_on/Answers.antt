@@ -1,4 +1,4 @@
-use Rattle.std.proofs.Common.{sym, ap, ◌∙◌, ◌≡◌, subst}
+use Rattle.std.proofs.Common.{ap, ◌∙◌, subst}
 use Rattle.std.specs.Option.{option_map}
 use Rattle.rpg_cycle.proofs.JobCycles.{job, goes_on, ends, one_more_left}
 use Rattle.rpg_cycle.specs.Ends.{GoesOn}

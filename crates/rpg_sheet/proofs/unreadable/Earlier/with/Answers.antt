@@ -1,4 +1,3 @@
-use Rattle.std.proofs.Common.{List, ℕ}
 use Rattle.rpg_sheet.proofs.SheetLemmas.{seen-push}
 use Rattle.rpg_sheet.proofs.unreadable.Earlier.with.Goals as goal
 
