@@ -52,6 +52,7 @@ by_last p f x (s ∷ ss) m h = go (by_last p f x ss m.1 h.1) (value_from p f s) 
         absorbed (is_same x y) (is_same x z) (λ k. same_top x y z
         (ap (λ o. exceeds o (Some y)) (sym e) ∙ last_below p f y ss (subst (λ o. IsTopIfAny p o ss) own m.0))
         (ap (λ o. exceeds o (Some x)) (sym own) ∙ h.0) k)
+
     go : any_agrees p f (Some x) ss ≡ agrees (Some x) (last_value p f ss) → (o : Option (List ℕ)) → value_from p f s ≡ o →
         (agrees (Some x) (value_from p f s) || any_agrees p f (Some x) ss) ≡ agrees (Some x) (or_before (last_value p f ss) (value_from p f s))
     go ih None e = rw e ih
@@ -77,6 +78,7 @@ found p earlier i s m h = go (waiting_in i (other_file (file_at p s))) refl
   where
     rest : any_agrees p (other_file (file_at p s)) (match_value p s) earlier ≡ agrees (match_value p s) (last_of_file (left_by p earlier) (other_file (file_at p s)))
     rest = by_left p earlier (other_file (file_at p s)) (match_value p s) m h
+
     go : (w : Option Selected) → waiting_in i (other_file (file_at p s)) ≡ w → has_match p earlier i s ≡ finds_match p (left_by p earlier) i s
     go None e = rw e (rw (agrees_none (match_value p s)) rest)
     go (Some t) e = rw e (ap (λ b. agrees (match_value p s) (value_from p (other_file (file_at p s)) t) || b) rest)

@@ -50,7 +50,7 @@ all_hidden negative size kept fill [] k none more are = refl
 all_hidden negative size kept fill (m ∷ rest) k none more are =
     let each = and_parts (is_suppressed m) (list_all is_suppressed rest) are in
     ap (λ c. c ∷ characters_before negative size kept fill rest k)
-      (hidden negative size kept fill m (places rest + k) (none_left size (places rest) k none) (omega (arith, more)) each.0)
+    (hidden negative size kept fill m (places rest + k) (none_left size (places rest) k none) (omega (arith, more)) each.0)
     ∙ ap (λ cs. fill ∷ cs) (all_hidden negative size kept fill rest k none more each.1)
 
 -- ---- the marks in front of some digits
@@ -132,8 +132,18 @@ writes_fill ms n p q o r used room within are_n are start after number suppressi
       text = ap (λ i. drop i r) start ∙ ap (drop at) made ∙ drop_at (take at o) (fills ++ post_of at (p.start - at) o) at front
           ∙ ap (λ xs. fills ++ xs) behind ∙ ap (λ xs. xs ++ drop p.start o) (sym shows);
       front = ap (take q.start) made ∙ take-put_mid_below at (p.start - at) o fills q.start (omega (arith, start)) (omega (arith, within));
-      same_length = omega (arith, ap length made, length-append (take at o) (fills ++ post_of at (p.start - at) o), length-append fills (post_of at (p.start - at) o),
-          ap length behind, length-drop p.start o, front, few, within, room);
+      same_length = omega (
+        arith,
+        ap length made,
+        length-append (take at o) (fills ++ post_of at (p.start - at) o),
+        length-append fills (post_of at (p.start - at) o),
+        ap length behind,
+        length-drop p.start o,
+        front,
+        few,
+        within,
+        room,
+      );
       start = omega (arith, start, room, are_n);
       after = after;
       number = number;

@@ -150,7 +150,8 @@ ltb_suc : (m n : ℕ) → ltb (1 + m) (suc n) ≡ ltb m n
 ltb_suc m n =
     elim (cases_lt m n) [
       | inl h ↦ lt-ltb (1 + m) (suc n) (omega (arith, h)) ∙ sym (lt-ltb m n h)
-      | inr h ↦ le-ltb (1 + m) (suc n) (omega (arith, h)) ∙ sym (le-ltb m n h)]
+      | inr h ↦ le-ltb (1 + m) (suc n) (omega (arith, h)) ∙ sym (le-ltb m n h)
+    ]
 
 stop_not_blank : (c : ℕ) → is_stop c ≡ true → is_blank c ≡ false
 stop_not_blank c h = grind (arith, nat_tests)

@@ -20,7 +20,7 @@ returns-then-is_used_up c =
     let left = c.loop-left.left in
     let more = c.args.digits - left in
     writes_before commas left c.args.digits _ _ _ _ _ _ c.loop-left-test.true c.loop-left.invariant
-      (c.put_fill.ensures (marks_before commas left more) (sym c.marks_before-marks.ensures) (before_places commas left more ∙ sym c.from.ensures) (before_hidden commas left more))
+    (c.put_fill.ensures (marks_before commas left more) (sym c.marks_before-marks.ensures) (before_places commas left more ∙ sym c.from.ensures) (before_hidden commas left more))
 
 pub put_comma-requires-clause-room : goal.put_comma-requires-clause-room
 put_comma-requires-clause-room c =

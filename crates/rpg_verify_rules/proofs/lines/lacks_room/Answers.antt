@@ -11,4 +11,4 @@ pub returns-then-not-has_room : goal.returns-then-not-has_room
 returns-then-not-has_room c =
     let no_room : c.has_room.result ≡ false = search rules in
     lacking (seen c.args.rows.now) c.args.length c.args.field.now c.is_field_worded.result
-      (sym c.may_have_width.ensures ∙ c.if-may_have_width.true) (sym c.has_room.ensures ∙ no_room) c.is_field_worded.ensures
+    (sym c.may_have_width.ensures ∙ c.if-may_have_width.true) (sym c.has_room.ensures ∙ no_room) c.is_field_worded.ensures
