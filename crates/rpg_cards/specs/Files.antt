@@ -5,7 +5,7 @@ use Rattle.std.specs.List.{filter_map}
 use Rattle.std.specs.Option.{option_and_then}
 use Rattle.rpg_cards.specs.Cards.{file_on}
 use Rattle.rpg_cards.specs.declared.files.FileUse.{FileUse}
-use Rattle.rpg_cards.specs.declared.files.FileUse.TheVariants.{Primary, Printer, Disk}
+use Rattle.rpg_cards.specs.declared.files.FileUse.TheVariants.{Primary, Secondary, Printer, Disk}
 use Rattle.rpg_cards.specs.declared.spec_card.SpecCard.{SpecCard}
 use Rattle.rpg_sheet_specs.specs.declared.file.Device.{Device}
 use Rattle.rpg_sheet_specs.specs.declared.file.Device.TheVariants as device
@@ -17,6 +17,7 @@ use Rattle.rpg_sheet_specs.specs.declared.file.FileSpec.{FileSpec}
 
 abbrev pub use_by : FileRole → Device → FileUse
 use_by role.Primary d = Primary
+use_by role.Secondary d = Secondary
 use_by role.Output device.Printer = Printer
 use_by role.Output device.Disk = Disk
 
@@ -25,12 +26,14 @@ file_use f = use_by f.role f.device
 
 abbrev pub same_use : FileUse → FileUse → Bool
 same_use Primary Primary = true
+same_use Secondary Secondary = true
 same_use Printer Printer = true
 same_use Disk Disk = true
 same_use u v = false
 
 abbrev pub is_input : FileUse → Bool
 is_input Primary = true
+is_input Secondary = true
 is_input Printer = false
 is_input Disk = false
 

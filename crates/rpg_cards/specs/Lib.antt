@@ -8,6 +8,7 @@ pub mod Groups
 pub mod Index
 pub mod Keys
 pub mod Labels
+pub mod Levels
 pub mod Names
 pub mod Operations
 pub mod Plain

@@ -9,8 +9,8 @@ use rpg_sheet_specs::{Device, FileRole, FileSpec, Word};
 /// What a file serves as.
 #[derive(Clone, Copy, PartialEq, Eq)]
 pub enum FileUse {
-    /// The input file.
     Primary,
+    Secondary,
     Printer,
     Disk,
 }
@@ -20,6 +20,7 @@ pub const fn use_of(file: &FileSpec) -> FileUse
 {
     match (file.role, file.device) {
         (FileRole::Primary, _) => FileUse::Primary,
+        (FileRole::Secondary, _) => FileUse::Secondary,
         (FileRole::Output, Device::Printer) => FileUse::Printer,
         (FileRole::Output, Device::Disk) => FileUse::Disk,
     }
@@ -57,6 +58,7 @@ const fn is_same_use(a: FileUse, b: FileUse) -> bool
     matches!(
         (a, b),
         (FileUse::Primary, FileUse::Primary)
+            | (FileUse::Secondary, FileUse::Secondary)
             | (FileUse::Printer, FileUse::Printer)
             | (FileUse::Disk, FileUse::Disk)
     )

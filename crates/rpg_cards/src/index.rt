@@ -10,12 +10,14 @@ ghost use Rattle.rpg_cards.specs.Constants as constants;
 ghost use Rattle.rpg_cards.specs.Constants.{is_same};
 ghost use Rattle.rpg_cards.specs.Files as files;
 ghost use Rattle.rpg_cards.specs.Index.{defined_first, first_at, place_of_constant, placed_definition, HasSameFiles};
+ghost use Rattle.rpg_cards.specs.Levels as levels;
 ghost use Rattle.rpg_cards.specs.Names as names;
 ghost use Rattle.rpg_cards.specs.Names.{is_of};
 ghost use Rattle.rpg_cards.specs.declared.constants.Constant.{Constant};
 
 use crate::constants::{Constant, factor_constant};
 use crate::files::{FileUse, file_for, file_named};
+use crate::levels::has_match_field;
 use crate::names::{Defined, Definition, given_form};
 use crate::spec_card::SpecCard;
 use arrayvec::ArrayVec;
@@ -45,19 +47,21 @@ pub struct IndexedCards<'a> {
     constants: IndexMap<Constant, usize>,
     /// Those from the first F card on.
     from_files: &'a [SpecCard],
+    has_match_field: bool,
 }
 
 impl<'a> Model for IndexedCards<'a> {
-    ghost use Rattle.std.specs.Prelude.{List};
+    ghost use Rattle.std.specs.Prelude.{List, ◌≡◌};
     ghost use Rattle.rpg_cards.specs.declared.spec_card.SpecCard.{SpecCard};
 
     ghost Value = { List SpecCard };
 
     ghost use Rattle.rpg_cards.specs.Index.{IsIndex, HasSameFiles};
+    ghost use Rattle.rpg_cards.specs.Levels as levels;
 
     ghost view = { λ i. i.cards.now };
 
-    ghost invariant = { λ i. IsIndex i.names.entries i.constants.entries i.cards.now × HasSameFiles i.from_files.now i.cards.now };
+    ghost invariant = { λ i. IsIndex i.names.entries i.constants.entries i.cards.now × HasSameFiles i.from_files.now i.cards.now × (i.has_match_field ≡ levels.has_match_field i.cards.now) };
 }
 
 impl<'a> IndexedCards<'a> {
@@ -80,6 +84,7 @@ impl<'a> IndexedCards<'a> {
             names,
             constants,
             from_files: from_first_file(cards),
+            has_match_field: has_match_field(cards),
         })
     }
 
@@ -173,6 +178,13 @@ impl<'a> IndexedCards<'a> {
         ensures { option_copied result ≡ files.file_for file_use self.now }
     {
         file_for(file_use, self.from_files)
+    }
+
+    /// Whether a field has a match level, so that conditions may ask for MR.
+    pub fn has_match_field(&self) -> bool
+        ensures { result ≡ levels.has_match_field self.now }
+    {
+        self.has_match_field
     }
 }
 

@@ -9,6 +9,7 @@ mod groups;
 mod index;
 mod indicators;
 mod labels;
+mod levels;
 mod names;
 mod operations;
 mod sheets;
@@ -24,6 +25,7 @@ pub use labels::{
     Label, Named, Section, begins_subroutine, ends_subroutine, gives, is_subroutine, plain_name,
     wants,
 };
+pub use levels::has_match_field;
 pub use names::{Defined, Definition, field_form, is_table, sized_form, table_form};
 pub use operations::{Column, Content, Kinds, OperationColumns, Shown, columns};
 pub use sheets::{GroupFile, Groups, Sheets};

@@ -27,8 +27,8 @@ ended_well word (Err fault) x is = absurd cc
 
 -- ---- how often calls failed
 
-abbrev pub counts : ℕ → ℕ → ℕ → Counts
-counts reader print disk = record { reader = reader; print = print; disk = disk }
+abbrev pub counts : ℕ → ℕ → ℕ → ℕ → Counts
+counts primary secondary print disk = record { primary = primary; secondary = secondary; print = print; disk = disk }
 
 -- once more
 pub one_more : {X E : Type 0} (before after : ℕ) (given : Result X E) (fault : E) → after ≡ faults_after before given → given ≡ Err fault → after ≡ before + 1
@@ -39,15 +39,15 @@ pub no_more : {X E : Type 0} (before after : ℕ) (given : Result X E) (x : X) �
 no_more before after given x is well = is ∙ ap (faults_after before) well
 
 -- behind a run in which none failed, the printer's flush did
-pub print_failed : (old : Counts) (reader print print' disk : ℕ) → counts reader print disk ≡ old → print' ≡ print + 1 → counts reader print' disk ≡ record old { print = old.print + 1 }
-print_failed old reader print print' disk same more = subst (λ (o : Counts). counts reader print' disk ≡ record o { print = o.print + 1 }) same (ap (λ n. counts reader n disk) more)
+pub print_failed : (old : Counts) (primary secondary print print' disk : ℕ) → counts primary secondary print disk ≡ old → print' ≡ print + 1 → counts primary secondary print' disk ≡ record old { print = old.print + 1 }
+print_failed old primary secondary print print' disk same more = subst (λ (o : Counts). counts primary secondary print' disk ≡ record o { print = o.print + 1 }) same (ap (λ n. counts primary secondary n disk) more)
 
 -- the disk's did, behind the printer's that didn't
-pub disk_failed : (old : Counts) (reader print print' disk disk' : ℕ) → counts reader print disk ≡ old → print' ≡ print → disk' ≡ disk + 1
-    → counts reader print' disk' ≡ record old { disk = old.disk + 1 }
-disk_failed old reader print print' disk disk' same kept more =
-    subst (λ (o : Counts). counts reader print' disk' ≡ record o { disk = o.disk + 1 }) same (ap (λ n. counts reader n disk') kept ∙ ap (λ n. counts reader print n) more)
+pub disk_failed : (old : Counts) (primary secondary print print' disk disk' : ℕ) → counts primary secondary print disk ≡ old → print' ≡ print → disk' ≡ disk + 1
+    → counts primary secondary print' disk' ≡ record old { disk = old.disk + 1 }
+disk_failed old primary secondary print print' disk disk' same kept more =
+    subst (λ (o : Counts). counts primary secondary print' disk' ≡ record o { disk = o.disk + 1 }) same (ap (λ n. counts primary secondary n disk') kept ∙ ap (λ n. counts primary secondary print n) more)
 
 -- neither did
-pub none_failed : (old : Counts) (reader print print' disk disk' : ℕ) → counts reader print disk ≡ old → print' ≡ print → disk' ≡ disk → counts reader print' disk' ≡ old
-none_failed old reader print print' disk disk' same kept stays = ap (λ n. counts reader n disk') kept ∙ ap (λ n. counts reader print n) stays ∙ same
+pub none_failed : (old : Counts) (primary secondary print print' disk disk' : ℕ) → counts primary secondary print disk ≡ old → print' ≡ print → disk' ≡ disk → counts primary secondary print' disk' ≡ old
+none_failed old primary secondary print print' disk disk' same kept stays = ap (λ n. counts primary secondary n disk') kept ∙ ap (λ n. counts primary secondary print n) stays ∙ same

@@ -2,7 +2,8 @@
 use Rattle.std.specs.Prelude.{◌≡◌, ℕ, ◌<◌, List, Result, IfOk, Err}
 use Rattle.rpg_engine.specs.Bound.{bound}
 use Rattle.rpg_engine.specs.Object.{Object}
-use Rattle.rpg_engine.specs.Objects.{HasObjectFault}
+use Rattle.rpg_cli_files.specs.Spelling.{CompilesTo, CompilesToOther}
+use Rattle.rpg_engine.specs.Objects.{HasObjectFault, SpellsProgram}
 use Rattle.rpg_engine.specs.declared.fault.RunFault.TheVariants as runs
 use Rattle.rpg_engine.specs.declared.object.ObjectFault.{ObjectFault}
 use Rattle.rpg_faults.specs.Source.{IsSourceRefusal}
@@ -25,3 +26,22 @@ BreaksLimit (answers.OverLimit most_steps) accepted most = (most < most_steps) �
 BreaksLimit (answers.Object fault) accepted most = accepted ≡ Err fault
 BreaksLimit (answers.Run fault) accepted most = fault ≡ runs.BadDate
 BreaksLimit e accepted most = ⊥
+
+-- the source is compiled to these bytes, with the allowance of the program that they spell
+pub record IsSourceOf (text : List ℕ) (bytes : List ℕ) : Type 0 where
+  pub program : Object
+  pub spelled : SpellsProgram bytes program
+  pub compiled : CompilesTo text program.allowance bytes
+
+-- with that allowance it is compiled to other bytes
+pub record IsOtherSource (text : List ℕ) (bytes : List ℕ) : Type 0 where
+  pub program : Object
+  pub spelled : SpellsProgram bytes program
+  pub compiled : CompilesToOther text program.allowance bytes
+
+-- why a source isn't that of the bytes: they spell no program, it has a fault, or it is compiled to others
+abbrev pub TellsMismatch : Answer → List ℕ → List ℕ → Type 0
+TellsMismatch (answers.Object fault) text bytes = HasObjectFault fault bytes
+TellsMismatch (answers.Source fault) text bytes = IsSourceRefusal fault text
+TellsMismatch answers.OtherSource text bytes = IsOtherSource text bytes
+TellsMismatch e text bytes = ⊥

@@ -32,8 +32,8 @@ FlushFaults words.Disk old new = new ≡ record old { disk = old.disk + 1 }
 FlushFaults word old new = ⊥
 
 -- A fault of the run is told as the counts are, and that of a file exactly where that writer's count rose by one.
-abbrev pub TellsFaults : Result Report Answer → Option (List ℕ) → Option (List ℕ) → Counts → Counts → Type 0
-TellsFaults (Ok report) given left old new = FaultsAre {X = Report} (Ok report) given left old new
-TellsFaults (Err (answers.Run fault)) given left old new = FaultsAre {X = Report} (Err fault) given left old new
-TellsFaults (Err (answers.File word fault)) given left old new = FlushFaults word old new
-TellsFaults (Err e) given left old new = ⊥
+abbrev pub TellsFaults : Result Report Answer → (given left others rest : Option (List ℕ)) → Counts → Counts → Type 0
+TellsFaults (Ok report) given left others rest old new = FaultsAre {X = Report} (Ok report) given left others rest old new
+TellsFaults (Err (answers.Run fault)) given left others rest old new = FaultsAre {X = Report} (Err fault) given left others rest old new
+TellsFaults (Err (answers.File word fault)) given left others rest old new = FlushFaults word old new
+TellsFaults (Err e) given left others rest old new = ⊥

@@ -24,8 +24,12 @@ pub enum Answer {
     Source(SourceFault),
     /// The object file isn't that of an accepted program.
     Object(ObjectFault),
+    /// The source is compiled to other bytes than those of the object file.
+    OtherSource,
     /// The program has a disk file, and the words name none.
     DiskFileWanted,
+    /// The program has a secondary file, and the words name none.
+    SecondaryFileWanted,
     /// A cycle of the program may take more steps than the words allow.
     OverLimit { bound: u64 },
     /// The run gave no report.

@@ -2,27 +2,11 @@
 
 use crate::answer::{Answer, named};
 use crate::told::Listener;
-use rpg_cli_cards::{LineFault, RULER, ShorthandFault, deck_of, shorthand_of};
+use rpg_cli_cards::{RULER, ShorthandFault, deck_of, line_message, shorthand_of};
 use rpg_cli_files::file_bytes;
-use rpg_cli_refusals::put_shown;
 use rpg_cli_words::{CardsWanted, CardsWords, FileWord};
-use std::alloc::{AllocError, Global};
-use std::fmt::Write;
+use std::alloc::Global;
 use std::rt::Files;
-
-/// What is wrong with a line of shorthand.
-fn line_message(
-    alloc: Global,
-    path: &str,
-    line: u16,
-    fault: LineFault,
-) -> Result<String, AllocError> {
-    let mut out = String::new(alloc);
-    let sentence = fault.sentence();
-    put_shown(&mut out, path)?;
-    writeln!(&mut out, ":{line}: {sentence}")?;
-    Ok(out)
-}
 
 /// Shows the cards that lines of shorthand stand for, or tells the first line that is no card.
 fn show_deck<L: Listener>(

@@ -2,8 +2,8 @@
 
 ghost use Rattle.std.specs.Prelude.{◌≡◌, ℤ, ◌-◌, ◌^◌, ◌<◌, IfErr, IfOk, None, Some};
 ghost use Rattle.rpg_cli.specs.Running.{TellsFaults, TellsRun};
-ghost use Rattle.rpg_engine.specs.Faults.{Counts};
-ghost use Rattle.rpg_engine.specs.Inputs.{OfInput};
+ghost use Rattle.rpg_engine.specs.Faults.{counts_of};
+ghost use Rattle.rpg_engine.specs.Inputs.{OfInputs};
 ghost use Rattle.rpg_engine.specs.Refusing.{IsToldOfDate};
 ghost use Rattle.rpg_engine.specs.Reporting.{JobEndsWell, Reports, SendsParts};
 ghost use Rattle.rpg_engine.specs.Starting.{date_in};
@@ -17,43 +17,50 @@ use rpg_files::Counted;
 use std::alloc::Global;
 use std::io::{Read, Write};
 
-/// Runs an accepted program over an input, and writes out what the writers still hold.
-pub(crate) fn run_over<I: Read, P: Write, D: Write>(
+/// Runs an accepted program over its inputs, and writes out what the writers still hold.
+pub(crate) fn run_over<I: Read, S: Read, P: Write, D: Write>(
     alloc: Global,
     program: &Verified,
     date: &[u8],
     input: &mut Counted<I>,
+    secondary: &mut Counted<S>,
     print: &mut Counted<P>,
     disk: &mut Counted<D>,
 ) -> Result<Report, Answer>
     requires input { faults_of input.old < 2 ^ 64 - 1 }
+    requires secondary { faults_of secondary.old < 2 ^ 64 - 1 }
     requires print { faults_of print.old < 2 ^ 64 - 1 }
     requires disk { faults_of disk.old < 2 ^ 64 - 1 }
 
     // A date that is none is told.
     ensures refused { TellsRun (λ ran. IsToldOfDate ran date.now) result }
     // Then nothing is read and nothing written.
-    ensures untouched { date_in date.now ≡ None → (input.new ≡ input.old) × (print.new ≡ print.old) × (disk.new ≡ disk.old) }
+    ensures untouched { date_in date.now ≡ None → (input.new ≡ input.old) × (secondary.new ≡ secondary.old) × (print.new ≡ print.old) × (disk.new ≡ disk.old) }
+    // Of a program without a secondary file the secondary input isn't read.
+    ensures alone { program.now.secondary_length ≡ 0 → secondary.new ≡ secondary.old }
 
-    // Else the job ends, at its end or at a halt, within one cycle more than the input has records, and no cycle takes more steps than the bound.
+    // Else the job ends, at its end or at a halt, within one cycle more than both inputs have records, and no cycle takes more steps than the bound.
     ensures headline { TellsRun (λ ran. IfOk ran (λ report. (day : ℤ) → date_in date.now ≡ Some day
-        → OfInput (I.remaining (device_of input.old)) (I.remaining (device_of input.new)) (JobEndsWell program.now report))) result }
-    // The report and all output are those of the run over the input's records.
+        → OfInputs (I.remaining (device_of input.old)) (I.remaining (device_of input.new))
+        (S.remaining (device_of secondary.old)) (S.remaining (device_of secondary.new)) (JobEndsWell program.now report))) result }
+    // The report and all output are those of the run over the inputs' records.
     ensures report { TellsRun (λ ran. IfOk ran (λ report. (day : ℤ) → date_in date.now ≡ Some day
-        → OfInput (I.remaining (device_of input.old)) (I.remaining (device_of input.new))
+        → OfInputs (I.remaining (device_of input.old)) (I.remaining (device_of input.new))
+        (S.remaining (device_of secondary.old)) (S.remaining (device_of secondary.new))
         (Reports program.now day report (P.contents (device_of print.old)) (P.contents (device_of print.new))
         (D.contents (device_of disk.old)) (D.contents (device_of disk.new))))) result }
     // Where it stops early each writer has a first part of the run's output.
     ensures early { TellsRun (λ ran. IfErr ran (λ e. (day : ℤ) → date_in date.now ≡ Some day
-        → OfInput (I.remaining (device_of input.old)) (I.remaining (device_of input.new))
+        → OfInputs (I.remaining (device_of input.old)) (I.remaining (device_of input.new))
+        (S.remaining (device_of secondary.old)) (S.remaining (device_of secondary.new))
         (SendsParts program.now day e (P.contents (device_of print.old)) (P.contents (device_of print.new))
         (D.contents (device_of disk.old)) (D.contents (device_of disk.new))))) result }
     // It is told whose fault it was.
-    ensures faults { let before : Counts = record { reader = faults_of input.old; print = faults_of print.old; disk = faults_of disk.old } in
-        let after : Counts = record { reader = faults_of input.new; print = faults_of print.new; disk = faults_of disk.new } in
-        TellsFaults result (I.remaining (device_of input.old)) (I.remaining (device_of input.new)) before after }
+    ensures faults { TellsFaults result (I.remaining (device_of input.old)) (I.remaining (device_of input.new))
+        (S.remaining (device_of secondary.old)) (S.remaining (device_of secondary.new))
+        (counts_of input.old secondary.old print.old disk.old) (counts_of input.new secondary.new print.new disk.new) }
 {
-    let report = execute_program(alloc, program, date, input, print, disk)?;
+    let report = execute_program(alloc, program, date, input, secondary, print, disk)?;
     named(FileWord::Print, flush_device(print))?;
     named(FileWord::Disk, flush_device(disk))?;
     Ok(report)

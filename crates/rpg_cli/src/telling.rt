@@ -4,7 +4,7 @@
 use crate::answer::Answer;
 use crate::told::Listener;
 use rpg_cli_files::{FileFault, identity_at, input_file};
-use rpg_cli_halts::{HaltedCycle, halt_message};
+use rpg_cli_halts::{HaltedCycle, HaltedSource, halt_message};
 use rpg_cli_refusals::{bytes_message, put_shown, rule_message};
 use rpg_cli_words::{FileWord, Request, RunWords};
 use rpg_engine::{JobEnd, ObjectFault, Report, RunFault, Verified, accept, decode_object};
@@ -45,6 +45,19 @@ fn put_file_fault(
     }
 }
 
+/// What is told where an input failed while the job ran. Of two it isn't known which.
+fn put_read_fault(out: &mut String, request: &Request) -> Result<(), AllocError> {
+    let reason = "it can't be read to its end, or has more than 10,000,000 records";
+    if request.path(FileWord::Secondary).is_none() {
+        return put_file(out, request, FileWord::Input, reason);
+    }
+    if let Some(path) = request.path(FileWord::Input) {
+        put_shown(out, path)?;
+        out.push_str(" (INPUT) or ")?;
+    }
+    put_file(out, request, FileWord::Secondary, reason)
+}
+
 /// What is told of a device that failed while the job ran.
 fn put_run_fault(
     alloc: Global,
@@ -53,12 +66,7 @@ fn put_run_fault(
     fault: RunFault,
 ) -> Result<(), AllocError> {
     match fault {
-        RunFault::Read => put_file(
-            out,
-            request,
-            FileWord::Input,
-            "it can't be read to its end, or has more than 10,000,000 records",
-        ),
+        RunFault::Read => put_read_fault(out, request),
         RunFault::Print { sent } => {
             let reason = format!(in alloc; "it can't be written behind {sent} bytes")?;
             put_file(out, request, FileWord::Print, reason.as_str())
@@ -76,6 +84,12 @@ fn answer_message(alloc: Global, request: &Request, answer: &Answer) -> Result<S
     match *answer {
         Answer::File { word, fault } => put_file_fault(&mut out, request, word, fault)?,
         Answer::Run(fault) => put_run_fault(alloc, &mut out, request, fault)?,
+        Answer::OtherSource => put_file(
+            &mut out,
+            request,
+            FileWord::OwnSource,
+            "it is compiled to other bytes than those of OBJ",
+        )?,
         _ => {}
     }
     Ok(out)
@@ -146,13 +160,14 @@ fn halted_message<R: Files + AllocGlobal>(
     words: &RunWords,
     program: &Verified,
     halted: HaltedCycle,
+    source: Option<HaltedSource<'_>>,
 ) -> Result<String, AllocError> {
-    let line = match halted.record() {
+    let line = match halted.record(program) {
         Some(record) if halted.is_of_columns() => record_line(rt, words, record),
         _ => None,
     };
     let record = line.as_ref().map(|line| line.as_bytes());
-    halt_message(rt.alloc(), words.input, program, halted, record)
+    halt_message(rt.alloc(), words.input, program, halted, record, source)
 }
 
 /// The halt of a report, if its job halted.
@@ -179,6 +194,7 @@ pub(crate) fn tell_halt<R: Files + AllocGlobal, L: Listener>(
     words: &RunWords,
     object: &[u8],
     report: Report,
+    source: Option<HaltedSource<'_>>,
     listener: &mut L,
 ) {
     let Some(halted) = halt_of(report) else {
@@ -187,7 +203,7 @@ pub(crate) fn tell_halt<R: Files + AllocGlobal, L: Listener>(
     let Some(program) = program_of(rt.alloc(), object) else {
         return;
     };
-    if let Ok(message) = halted_message(rt, words, &program, halted) {
+    if let Ok(message) = halted_message(rt, words, &program, halted, source) {
         listener.tell(message.as_str());
     }
 }

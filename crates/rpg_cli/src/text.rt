@@ -159,10 +159,10 @@ fn exit_status(answer: &Answer) -> u8
             JobEnd::EndOfJob => 0,
             JobEnd::Halt(_) => 5,
         },
-        Answer::Source(SourceFault::At { .. }) | Answer::NoCard { .. } => 3,
+        Answer::Source(SourceFault::At { .. }) | Answer::OtherSource | Answer::NoCard { .. } => 3,
         Answer::Source(SourceFault::NoMemory) => 1,
         Answer::Object(fault) => object_status(fault),
-        Answer::DiskFileWanted | Answer::NoSuchCode => 2,
+        Answer::DiskFileWanted | Answer::SecondaryFileWanted | Answer::NoSuchCode => 2,
         Answer::OverLimit { .. } => 4,
         Answer::Run(fault) => run_status(fault),
         Answer::File { .. } | Answer::NoMemory => 1,
@@ -185,7 +185,9 @@ pub fn line(answer: &Answer) -> Line
         Answer::Ended(report) => put_report(&mut text, report),
         Answer::Source(fault) => put_source_fault(&mut text, fault),
         Answer::Object(fault) => put_object_fault(&mut text, fault),
+        Answer::OtherSource => put(&mut text, b"not the object's source"),
         Answer::DiskFileWanted => put(&mut text, b"disk file wanted"),
+        Answer::SecondaryFileWanted => put(&mut text, b"secondary file wanted"),
         Answer::OverLimit { bound } => {
             put(&mut text, b"refused: bound ");
             put_number(&mut text, bound);

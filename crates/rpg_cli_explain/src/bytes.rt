@@ -12,8 +12,8 @@ const B1: Page = Page {
 
 const B2: Page = Page {
     given: ALONE,
-    breaks: "- 00 02 behind the name",
-    keeps: "- 00 01, the only version",
+    breaks: "- 00 03 behind the name",
+    keeps: "- 00 01, and 00 02 for a program with a secondary file or match fields",
     advice: ANEW,
 };
 

@@ -47,15 +47,15 @@ const F6: Page = Page {
 
 const F7: Page = Page {
     given: ALONE,
-    breaks: "- a file that no F card has, a second input file, a printer of more than 132 places:\n\n     OPRNT    D        01\n     FOTHER   IP  F      80            READ40\n     FPRINT   O   F     133            PRINTER",
-    keeps: "- one input file, and at most one printer and one disk file; record types name the input file\n  and lines the others, the first of each by its name:\n\n     FPRINT   O   F     132            PRINTER\n     OPRINT   D        01",
-    advice: "compare the name with the F cards. Card 0 means that no F card is an input file, as\nin an empty source",
+    breaks: "- a file that no F card has, a second primary file, a printer of more than 132 places:\n\n     OPRNT    D        01\n     FOTHER   IP  F      80            READ40\n     FPRINT   O   F     133            PRINTER",
+    keeps: "- one primary file, and at most one secondary file, one printer and one disk file; record types\n  name the input files and lines the others, the first of each by its name:\n\n     FPRINT   O   F     132            PRINTER\n     OPRINT   D        01",
+    advice: "compare the name with the F cards. Card 0 means that no F card is a primary file, as\nin an empty source. Of two input files both have E in 17 or neither",
 };
 
 const F8: Page = Page {
     given: NAMES,
-    breaks: "- a record type that turns on L0, a result that turns on 1P, a line that asks MR:\n\n     IINPUT   AA  L0\n     C                     ADD  AMT       TOT        1P\n     OPRINT   D        MR",
-    keeps: "- record types turn on 01 to 99, L1 to L9, LR or H1 to H9, calculations all but L0, 1P and MR;\n  calculations ask all but 1P and MR, lines all but MR:\n\n     IINPUT   AA  01\n     C                     ADD  AMT       TOT        LR\n     OPRINT   D        1P",
+    breaks: "- a record type that turns on L0, a result that turns on 1P, a line that asks MR where no field\n  has a match level:\n\n     IINPUT   AA  L0\n     C                     ADD  AMT       TOT        1P\n     OPRINT   D        MR",
+    keeps: "- record types turn on 01 to 99, L1 to L9, LR or H1 to H9, calculations all but L0, 1P and MR;\n  calculations ask all but 1P, lines all, MR where a field has a match level (M1 to M9):\n\n     IINPUT   AA  01\n     C                     ADD  AMT       TOT        LR\n     OPRINT   D        1P",
     advice: "take one of 01 to 99. A text field has an indicator for blanks (69-70) alone",
 };
 
@@ -112,21 +112,21 @@ const F16: Page = Page {
     given: NAMES,
     breaks: "- with records of 80 columns and lines of 120 places: columns past the record, an end past the\n  line, a field of 5 digits that ends at place 4:\n\n     I                                       79  810AMT\n     O                         TOT      121\n     O                         TOT        4",
     keeps: "     I                                       78  800AMT\n     O                         TOT      120\n     O                         TOT        5",
-    advice: "look at the record length (24-27) on the F card first: of the input file for I\ncards, of the printer for O cards. A number takes a place for each digit, and what its edit code\nor word adds. Control fields of one level have the same length in all record types",
+    advice: "look at the record length (24-27) on the F card first: of the input file for I\ncards, of the printer for O cards. A number takes a place for each digit, and what its edit code\nor word adds. Control fields of one level have the same length in all record types, and so have\nmatch fields, of which each type has the same levels or none, a level once, 256 columns in all",
 };
 
 const F17: Page = Page {
     given: NAMES,
     breaks: "- code Y on a number that has not 6 digits, a fill beside Y, an edit word of 3 places for 5\n  digits:\n\n     O                         TOT   Y   10\n     O                         TOT       10 '   '",
     keeps: "- an edit word has a blank, 0 or * for each digit, and no $ right before its stop:\n\n     O                         UDATE Y   10\n     O                         TOT       10 '     '",
-    advice: "docs/EDITING.md shows what each code and word makes of a number",
+    advice: "the message tells how many digits the code or word wants, and how many the number has.\ndocs/EDITING.md shows what each code and word makes of a number",
 };
 
 const F18: Page = Page {
     given: ALONE,
     breaks: "- an E card with entries a card (33-35), and no ** card for it; too few or too many entries;\n  letters in a number; with A in 45 a later entry that is lower:\n\n     E                    TABA    3   3  2 0A\n**\n100530",
     keeps: "     E                    TABA    3   3  2 0A\n**\n102030",
-    advice: "the data stand behind the sheets, each table's behind a ** card, in the order of the\nE cards. Fewer entries than 33-35 says stand on the last card alone",
+    advice: "the message tells how many cards of data are wanted and how many stand there, or\nwhich entry is wrong. The data stand behind the sheets, each table's behind a ** card, in the\norder of the E cards. Fewer entries than 33-35 says stand on the last card alone",
 };
 
 /// The page of a code.

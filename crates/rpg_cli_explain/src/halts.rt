@@ -7,14 +7,14 @@ const HALT_1: Page = Page {
     given: ALONE,
     breaks: "- DIV by a field that is 0",
     keeps: "- a COMP of the divisor with 0 before, and the DIV under its indicator",
-    advice: "look at the field in factor 2 of each DIV that is done; the line tells the cycle",
+    advice: "look at the field in factor 2 of each DIV that is done; the line tells the cycle, and\nrpg2 run with --source SRC the card",
 };
 
 const HALT_2: Page = Page {
     given: ALONE,
     breaks: "- AR,X where X is 0 or more than the entries of AR, in a calculation or on an output line",
     keeps: "- an X from 1 to the entries",
-    advice: "see where X is set. On a line it is looked up when the line is put out, which for a\ndetail line is in the cycle behind its record",
+    advice: "see where X is set; rpg2 run with --source SRC tells the card that has AR,X. On a\nline it is looked up when the line is put out, which for a detail line is in the cycle behind\nits record",
 };
 
 const HALT_3: Page = Page {
@@ -28,14 +28,14 @@ const HALT_4: Page = Page {
     given: ALONE,
     breaks: "- in the columns of a number: \"5O0\" (a letter O in the middle), \"-120\", \"1.50\"\n- a MOVE of such a text to a number",
     keeps: "- \"12 5\" is 1205 and \"35 \" is 350: blanks are zeros\n- the last column may have a letter for the sign: } and J to R are minus 0 to 9, { and A to I\n  plus 0 to 9. So \"50O\" is good too, and is -506",
-    advice: "look at the columns of numbers in the record that is told. A number has no point, no\ncomma and no minus sign: decimals are the input card's, so 1.50 with 2 decimals is 150",
+    advice: "look at the columns of numbers in the record that is told; rpg2 run with --source\nSRC tells their name and their card. A number has no point, no comma and no minus sign: decimals\nare the input card's, so 1.50 with 2 decimals is 150",
 };
 
 const HALT_5: Page = Page {
     given: ALONE,
     breaks: "- a GOTO back to a label before it that is done more than 1,000 times in a cycle",
     keeps: "- as many backward GOTOs and EXSRs in a cycle as the allowance says",
-    advice: "see what ends the loop, or compile with a greater --allowance, at most 65535",
+    advice: "see what ends the loop, whose card rpg2 run with --source SRC tells, or compile with\na greater --allowance, at most 65535",
 };
 
 const HALT_6: Page = Page {
@@ -52,6 +52,13 @@ const HALT_7: Page = Page {
     advice: "look at the record that is told, and convert the file to plain ASCII text",
 };
 
+const HALT_8: Page = Page {
+    given: ALONE,
+    breaks: "- a record with match fields whose value is lower than that of the record before it in its\n  file, as B1 and then A1 by a match field of columns 1 to 2",
+    keeps: "- both files sorted by their match fields, equal values side by side",
+    advice: "sort the file by its match fields, M9 before M8 and so on, in the order that\ndocs/format/MACHINE.md has for characters",
+};
+
 /// The page of a code.
 pub(crate) fn halt_page(halt: Halt) -> Page {
     match halt {
@@ -62,5 +69,6 @@ pub(crate) fn halt_page(halt: Halt) -> Page {
         Halt::AllowanceSpent => HALT_5,
         Halt::IndicatorOn => HALT_6,
         Halt::BadRecord => HALT_7,
+        Halt::OutOfSequence => HALT_8,
     }
 }

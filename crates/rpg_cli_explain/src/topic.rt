@@ -41,7 +41,7 @@ pub(crate) const WARNINGS: [WarningCode; 4] = [
     WarningCode::W4,
 ];
 
-pub(crate) const HALTS: [Halt; 7] = [
+pub(crate) const HALTS: [Halt; 8] = [
     Halt::ZeroDivisor,
     Halt::BadIndex,
     Halt::NoRecordType,
@@ -49,6 +49,7 @@ pub(crate) const HALTS: [Halt; 7] = [
     Halt::AllowanceSpent,
     Halt::IndicatorOn,
     Halt::BadRecord,
+    Halt::OutOfSequence,
 ];
 
 pub(crate) const BYTES: [Code; 7] = [

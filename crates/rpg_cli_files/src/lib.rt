@@ -3,17 +3,21 @@
 #![tactic(auto)]
 
 mod files;
+mod matching;
 mod reason;
 mod replacing;
 mod sending;
+mod streams;
 mod translation;
 
 pub use files::{
     FileFault, FileIdentity, empty_file, file_bytes, flush_device, identity, identity_at,
     input_file, output_file,
 };
+pub use matching::compiles_to;
 pub use reason::Reason;
 pub use replacing::write_bytes;
 pub use rpg_compile::{SourceCode, SourceFault};
 pub use sending::send_line;
+pub use streams::{LineTarget, OptionalFile, RecordSource, lines, records};
 pub use translation::compile_to_bytes;

@@ -15,6 +15,16 @@ pub(crate) struct BadColumns {
     pub from: usize,
     pub to: usize,
     pub column: usize,
+    /// The field that they are moved into.
+    pub field: u16,
+}
+
+/// The bad columns of an input field, by its record type and its place there, both counted from 0.
+#[derive(Clone, Copy)]
+pub(crate) struct BadInput {
+    pub columns: BadColumns,
+    pub row: usize,
+    pub input: usize,
 }
 
 impl BadColumns {
@@ -47,7 +57,12 @@ fn bad_columns_of(rows: &Rows, text: &[u8], input: InputField<u16>) -> Option<Ba
             let to = usize::from(input.to);
             let part = text.get(from.checked_sub(1)?..to)?;
             let column = from.saturating_add(bad_spot(part)?);
-            Some(BadColumns { from, to, column })
+            Some(BadColumns {
+                from,
+                to,
+                column,
+                field: input.field,
+            })
         }
     }
 }
@@ -57,7 +72,7 @@ pub(crate) fn bad_columns(
     alloc: Global,
     program: &Verified,
     text: &[u8],
-) -> Result<Option<BadColumns>, AllocError> {
+) -> Result<Option<BadInput>, AllocError> {
     if !is_good(program, InputFile::Primary, text) {
         return Ok(None);
     }
@@ -66,10 +81,13 @@ pub(crate) fn bad_columns(
     let Some(row) = identify(program, InputFile::Primary, &record).row else {
         return Ok(None);
     };
-    for input in &type_at(program, row).inputs {
-        let bad = bad_columns_of(program.program().rows(), &record, *input);
-        if bad.is_some() {
-            return Ok(bad);
+    for (number, input) in type_at(program, row).inputs.iter().enumerate() {
+        if let Some(columns) = bad_columns_of(program.program().rows(), &record, *input) {
+            return Ok(Some(BadInput {
+                columns,
+                row,
+                input: number,
+            }));
         }
     }
     Ok(None)

@@ -1,7 +1,8 @@
 //! Halts.
 
-use crate::columns::{BadColumns, bad_columns};
+use crate::columns::{BadColumns, BadInput, bad_columns};
 use crate::lines::put_indexed_fields;
+use crate::source::{HaltedSource, put_source};
 use rpg_cli_refusals::{put_instruction_at, put_shown};
 use rpg_effect::halt::Halt;
 use rpg_object_program::section::{Place, Section};
@@ -23,20 +24,30 @@ impl HaltedCycle {
     }
 
     /// The record that the halt is about, where it is known. Each cycle before has taken one; the fields of a record are filled, and detail
-    /// calculations done, in the cycle that takes it.
-    pub fn record(self) -> Option<u64> {
+    /// calculations done, in the cycle that takes it. Where there are two files, cycles don't tell how many records were taken from each.
+    pub fn record(self, program: &Verified) -> Option<u64> {
+        if has_two_files(program) {
+            return None;
+        }
         match self.place {
             Some(place) => match place.section {
                 Section::Detail => Some(self.cycles),
                 Section::Total | Section::Subroutine(_) => None,
             },
             None => match self.halt {
-                Halt::NoRecordType | Halt::BadRecord | Halt::BadDigit => Some(self.cycles),
+                Halt::NoRecordType | Halt::BadRecord | Halt::BadDigit | Halt::OutOfSequence => {
+                    Some(self.cycles)
+                }
                 Halt::IndicatorOn => self.cycles.checked_sub(1),
                 Halt::ZeroDivisor | Halt::BadIndex | Halt::AllowanceSpent => None,
             },
         }
     }
+}
+
+/// Whether a program has a secondary file.
+fn has_two_files(program: &Verified) -> bool {
+    program.program().rows().secondary_length > 0
 }
 
 /// Foreign characters.
@@ -58,11 +69,16 @@ fn put_columns(
     bad: BadColumns,
     text: &[u8],
 ) -> Result<(), AllocError> {
-    let BadColumns { from, to, column } = bad;
+    let BadColumns {
+        from,
+        to,
+        column,
+        ..
+    } = bad;
     let one = BadColumns {
         from: column,
         to: column,
-        column,
+        ..bad
     };
     out.push_str(format!(in alloc; ": columns {from} to {to} are \"")?.as_str())?;
     put_text(out, bad.of(text))?;
@@ -77,7 +93,7 @@ fn put_place(
     out: &mut String,
     program: &Verified,
     halted: HaltedCycle,
-    found: Option<(BadColumns, &[u8])>,
+    found: Option<(BadInput, &[u8])>,
 ) -> Result<(), AllocError> {
     let rows = program.program().rows();
     match (halted.place, halted.halt, found) {
@@ -86,15 +102,23 @@ fn put_place(
             put_instruction_at(alloc, out, rows, usize::from(place.number))
         }
         (None, Halt::BadIndex, _) => put_indexed_fields(alloc, out, rows),
-        (None, _, Some((bad, text))) => put_columns(alloc, out, bad, text),
+        (None, _, Some((bad, text))) => put_columns(alloc, out, bad.columns, text),
         (None, _, None) => Ok(()),
     }
 }
 
 /// Which record it was, or what the cycle does.
-fn put_cycle(alloc: Global, out: &mut String, halted: HaltedCycle) -> Result<(), AllocError> {
+fn put_cycle(
+    alloc: Global,
+    out: &mut String,
+    program: &Verified,
+    halted: HaltedCycle,
+) -> Result<(), AllocError> {
     let cycles = halted.cycles;
-    if let Some(record) = halted.record() {
+    if has_two_files(program) {
+        return out.push_str(format!(in alloc; "it was cycle {cycles}")?.as_str());
+    }
+    if let Some(record) = halted.record(program) {
         let text = match halted.halt {
             Halt::IndicatorOn => format!(in alloc; "record {record} was the last one")?,
             _ => format!(in alloc; "it was record {record}")?,
@@ -123,13 +147,14 @@ fn put_before(alloc: Global, out: &mut String, cycles: u64) -> Result<(), AllocE
 }
 
 /// What is told of a halt of a job by this program over the records of the file that `path` names. The record that the halt is about makes it
-/// known which of its columns were no number.
+/// known which of its columns were no number, and the program's source which card it was.
 pub fn halt_message(
     alloc: Global,
     path: &str,
     program: &Verified,
     halted: HaltedCycle,
     record: Option<&[u8]>,
+    source: Option<HaltedSource<'_>>,
 ) -> Result<String, AllocError> {
     let mut out = String::new(alloc);
     let found = match record {
@@ -139,11 +164,11 @@ pub fn halt_message(
         _ => None,
     };
     put_shown(&mut out, path)?;
-    if let Some(record) = halted.record() {
+    if let Some(record) = halted.record(program) {
         out.push_str(format!(in alloc; ":{record}")?.as_str())?;
     }
     if let Some((bad, _)) = found {
-        let from = bad.from;
+        let from = bad.columns.from;
         out.push_str(format!(in alloc; ":{from}")?.as_str())?;
     }
     let number = halted.halt.number();
@@ -151,9 +176,13 @@ pub fn halt_message(
     out.push_str(halted.halt.sentence())?;
     put_place(alloc, &mut out, program, halted, found)?;
     out.push('\n')?;
+    if let Some(source) = source {
+        let bad = found.map(|(bad, _)| bad);
+        put_source(alloc, &mut out, program, halted, bad, source)?;
+    }
     put_shown(&mut out, path)?;
     out.push_str(": ")?;
-    put_cycle(alloc, &mut out, halted)?;
+    put_cycle(alloc, &mut out, program, halted)?;
     put_before(alloc, &mut out, halted.cycles)?;
     out.push('\n')?;
     Ok(out)

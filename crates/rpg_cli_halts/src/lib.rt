@@ -4,5 +4,7 @@
 mod columns;
 mod halts;
 mod lines;
+mod source;
 
 pub use halts::{HaltedCycle, halt_message};
+pub use source::HaltedSource;

@@ -2,6 +2,7 @@
 
 use crate::deck::Deck;
 use crate::words::put_ruler;
+use rpg_cards::IndexedCards;
 use rpg_cli_messages::{put_first, put_note};
 use rpg_faults::CardFault;
 use rpg_text::trimmed;
@@ -27,6 +28,7 @@ fn put_faults<'f>(
     out: &mut String,
     number: usize,
     line: &[u8],
+    source: &IndexedCards,
     faults: &'f [CardFault],
 ) -> Result<&'f [CardFault], AllocError> {
     let mut rest = faults;
@@ -34,7 +36,7 @@ fn put_faults<'f>(
         if usize::from(fault.card) != number {
             break;
         }
-        put_note(alloc, out, MARGIN, line, *fault)?;
+        put_note(alloc, out, MARGIN, line, source, *fault)?;
         rest = rest.get(1..).unwrap_or(&[]);
     }
     Ok(rest)
@@ -45,16 +47,17 @@ pub(crate) fn put_cards(
     alloc: Global,
     out: &mut String,
     deck: &Deck,
+    source: &IndexedCards,
     faults: &[CardFault],
 ) -> Result<(), AllocError> {
     out.push_str("\n card ")?;
     put_ruler(out, 80)?;
     out.push('\n')?;
-    let mut rest = put_faults(alloc, out, 0, &[], faults)?;
+    let mut rest = put_faults(alloc, out, 0, &[], source, faults)?;
     for (place, line) in deck.lines.iter().enumerate() {
         let number = place.saturating_add(1);
         put_card(out, number, line)?;
-        rest = put_faults(alloc, out, number, line, rest)?;
+        rest = put_faults(alloc, out, number, line, source, rest)?;
     }
     Ok(())
 }

@@ -35,6 +35,7 @@ fn described(card: u16, file: &FileSpec) -> DescribedFile {
 fn use_word(serves_as: FileUse) -> &'static str {
     match serves_as {
         FileUse::Primary => "input",
+        FileUse::Secondary => "secondary",
         FileUse::Printer => "printer",
         FileUse::Disk => "disk",
     }
@@ -43,7 +44,7 @@ fn use_word(serves_as: FileUse) -> &'static str {
 /// What a record of a file is made of.
 pub(crate) fn length_words(serves_as: FileUse) -> &'static str {
     match serves_as {
-        FileUse::Primary | FileUse::Disk => "columns",
+        FileUse::Primary | FileUse::Secondary | FileUse::Disk => "columns",
         FileUse::Printer => "places",
     }
 }

@@ -91,10 +91,9 @@ fn put_contents(
     put_lines(alloc, out, files, source)
 }
 
-fn put_indexed(alloc: Global, out: &mut String, cards: &[SpecCard]) -> Result<(), AllocError> {
-    let source = IndexedCards::new(alloc, cards)?;
-    let files = FileIndex::of(alloc, cards)?;
-    put_contents(alloc, out, &files, &source)
+fn put_indexed(alloc: Global, out: &mut String, source: &IndexedCards) -> Result<(), AllocError> {
+    let files = FileIndex::of(alloc, source.as_slice())?;
+    put_contents(alloc, out, &files, source)
 }
 
 fn deck_text(
@@ -104,9 +103,10 @@ fn deck_text(
     faults: &[CardFault],
 ) -> Result<String, AllocError> {
     let mut out = String::new(alloc);
+    let source = IndexedCards::new(alloc, &deck.cards)?;
     put_head(&mut out, path, deck, faults)?;
-    put_cards(alloc, &mut out, deck, faults)?;
-    put_indexed(alloc, &mut out, &deck.cards)?;
+    put_cards(alloc, &mut out, deck, &source, faults)?;
+    put_indexed(alloc, &mut out, &source)?;
     Ok(out)
 }
 

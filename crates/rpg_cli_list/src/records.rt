@@ -130,6 +130,10 @@ fn put_field(
         let level = level.number();
         write!(row, "  L{level}")?;
     }
+    if let Some(level) = field.match_level {
+        let level = level.number();
+        write!(row, "  M{level}")?;
+    }
     put_shown(&mut row, "plus", number_of(field.indicators.first))?;
     put_shown(&mut row, "minus", number_of(field.indicators.second))?;
     put_shown(&mut row, "zero or blank", number_of(field.indicators.third))?;

@@ -1,9 +1,9 @@
 //! Labels and subroutines.
 
 use crate::numbers::Numbers;
-use crate::words::name_text;
 use indexmap::IndexMap;
 use rpg_cards::{Named, SpecCard, gives, wants};
+use rpg_cli_source::name_text;
 use rpg_sheet_specs::Word;
 use std::alloc::{AllocError, Global};
 use std::fmt::Write;

@@ -8,10 +8,9 @@ mod names;
 mod numbers;
 mod operations;
 mod turning;
-mod words;
 
 pub use constants::Constants;
 pub use indicators::Indicators;
 pub use labels::Labels;
 pub use names::Names;
-pub use words::name_text;
+pub use rpg_cli_source::name_text;

@@ -1,9 +1,9 @@
 //! The names of a source, with the cards that define, set and use them.
 
 use crate::numbers::Numbers;
-use crate::words::name_text;
 use rpg_cards::{Column, Content, Defined, IndexedCards, SpecCard, columns};
 use rpg_cli_show_fields::form_text;
+use rpg_cli_source::name_text;
 use rpg_sheet_specs::{
     CalculationSpec, Entry, EntryIndex, Factor, Operation, OutputField, Spec, Word,
 };

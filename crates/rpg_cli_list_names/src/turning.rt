@@ -92,6 +92,7 @@ pub(crate) fn machine_words(number: usize) -> Option<&'static str> {
         101..=109 => Some("a higher level, or the end of the input"),
         110 => Some("the end of the input"),
         111 => Some("the start, until the first record"),
+        129 => Some("a record with the same match fields in the other file"),
         _ => None,
     }
 }

@@ -4,14 +4,19 @@
 mod begins;
 mod card;
 mod card_lines;
+mod counted;
+mod data;
+mod editing;
+mod entries;
 mod message;
 mod note;
+mod numbers;
 mod picture;
 mod range;
 mod sheets;
 
 pub use begins::begins_range;
 pub use card_lines::CardLines;
-pub use message::{Remark, put_remark, put_told, source_messages};
+pub use message::{Remark, put_card_remark, put_remark, put_told, source_messages};
 pub use note::put_note;
 pub use picture::{put_first, put_shown};

@@ -2,8 +2,10 @@
 
 use crate::card::CardKind;
 use crate::card_lines::CardLines;
+use crate::numbers::{put_numbers, readable_cards};
 use crate::picture::{put_picture, put_shown};
 use crate::sheets::range_at;
+use rpg_cards::IndexedCards;
 use rpg_faults::{CardFault, SourceCode};
 use rpg_sheet::{ColumnFault, SheetCode};
 use std::alloc::{AllocError, Global};
@@ -17,11 +19,13 @@ pub fn source_messages(
     faults: &[CardFault],
     most: u16,
 ) -> Result<String, AllocError> {
+    let cards = readable_cards(alloc, source)?;
+    let cards = IndexedCards::new(alloc, &cards)?;
     let mut out = String::new(alloc);
     let mut lines = CardLines::of(source);
     for fault in faults.iter().take(usize::from(most)) {
         let line = lines.line_of(fault.card);
-        put_message(alloc, &mut out, path, line, *fault)?;
+        put_message(alloc, &mut out, path, line, &cards, *fault)?;
     }
     put_count(alloc, &mut out, path, faults, most)?;
     Ok(out)
@@ -59,12 +63,13 @@ fn put_message(
     out: &mut String,
     path: &str,
     line: &[u8],
+    cards: &IndexedCards,
     fault: CardFault,
 ) -> Result<(), AllocError> {
     let columns = columns_of(line, fault);
     let code = fault.code.text();
     put_place(alloc, out, path, fault.card, columns, code.as_str())?;
-    put_sentence(alloc, out, line, fault)?;
+    put_sentence(alloc, out, line, cards, fault)?;
     out.push('\n')?;
     if fault.card == 0 {
         return Ok(());
@@ -96,6 +101,20 @@ pub fn put_remark(
     put_picture(alloc, out, remark.card, line, columns)
 }
 
+/// Writes what is told of a card as a whole: a line `PATH:CARD: SENTENCE`, and the card, which has that line in the source.
+pub fn put_card_remark(
+    alloc: Global,
+    out: &mut String,
+    path: &str,
+    card: u16,
+    line: &[u8],
+    sentence: &str,
+) -> Result<(), AllocError> {
+    put_shown(out, path.as_bytes())?;
+    out.push_str(format!(in alloc; ":{card}: {sentence}\n")?.as_str())?;
+    put_picture(alloc, out, card, line, None)
+}
+
 /// Where a fault is, and its code.
 fn put_place(
     alloc: Global,
@@ -117,15 +136,19 @@ fn put_place(
     out.push_str(": ")
 }
 
-/// What is wrong.
+/// What is wrong: the rule that is broken, and by which numbers of the cards.
 pub(crate) fn put_sentence(
     alloc: Global,
     out: &mut String,
     line: &[u8],
+    cards: &IndexedCards,
     fault: CardFault,
 ) -> Result<(), AllocError> {
     match fault.code {
-        SourceCode::Fault(code) => out.push_str(code.sentence()),
+        SourceCode::Fault(code) => {
+            out.push_str(code.sentence())?;
+            put_numbers(alloc, out, cards, fault.card, code)
+        }
         SourceCode::Sheet(SheetCode::S1) => {
             let count = line.len();
             out.push_str(format!(in alloc;

@@ -2,6 +2,7 @@
 
 use crate::message::{columns_of, put_sentence};
 use crate::picture::put_times;
+use rpg_cards::IndexedCards;
 use rpg_faults::CardFault;
 use rpg_sheet::ColumnFault;
 use std::alloc::{AllocError, Global};
@@ -22,6 +23,7 @@ pub fn put_note(
     out: &mut String,
     margin: usize,
     line: &[u8],
+    cards: &IndexedCards,
     fault: CardFault,
 ) -> Result<(), AllocError> {
     if let Some(columns) = columns_of(line, fault) {
@@ -35,6 +37,6 @@ pub fn put_note(
     )?;
     out.push_str(code.as_str())?;
     out.push(' ')?;
-    put_sentence(alloc, out, line, fault)?;
+    put_sentence(alloc, out, line, cards, fault)?;
     out.push('\n')
 }

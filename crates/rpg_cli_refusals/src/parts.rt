@@ -1,5 +1,7 @@
 //! The parts of rows, by their places among the row's bytes.
 
+use rpg_object_program::row::Version;
+
 /// A number of a row: what it is called, and how many bytes it has.
 #[derive(Clone, Copy)]
 pub(crate) struct RowPart {
@@ -15,13 +17,13 @@ fn two_bytes(name: &'static str) -> RowPart {
     RowPart { name, bytes: 2 }
 }
 
-pub(crate) fn header_part(place: usize) -> RowPart {
+pub(crate) fn header_part(version: Version, place: usize) -> RowPart {
     match place {
         0..=5 => RowPart {
             name: "the name RPGOBJ",
             bytes: 6,
         },
-        6 | 7 => two_bytes("version 1"),
+        6 | 7 => two_bytes("version 1 or 2"),
         8 | 9 => two_bytes("the allowance, 1 to 65,535,"),
         10 | 11 => two_bytes("the length of a record, 1 to 9,999,"),
         12 | 13 => two_bytes("the length of a printed line, 0 to 132,"),
@@ -33,7 +35,10 @@ pub(crate) fn header_part(place: usize) -> RowPart {
         24 | 25 => two_bytes("the count of detail instructions, at most 8,192,"),
         26 | 27 => two_bytes("the count of total instructions, at most 8,192 with those before,"),
         28 | 29 => two_bytes("the count of subroutines, at most 100,"),
-        _ => two_bytes("a number that is always 0"),
+        _ => match version {
+            Version::One => two_bytes("a number that is always 0"),
+            Version::Two => two_bytes("the length of a secondary record, 0 to 9,999,"),
+        },
     }
 }
 
@@ -48,13 +53,17 @@ pub(crate) fn field_part(place: usize) -> RowPart {
     }
 }
 
-pub(crate) fn type_part(place: usize) -> RowPart {
+pub(crate) fn type_part(version: Version, place: usize) -> RowPart {
     match place {
         0 => byte("the indicator, 0 to 129,"),
-        1 => byte("a number that is always 0"),
+        1 => match version {
+            Version::One => byte("a number that is always 0"),
+            Version::Two => byte("the file, 0 or 1,"),
+        },
         2 | 3 => two_bytes("the count of record codes, at most 100,"),
         4 | 5 => two_bytes("the count of control fields, at most 100,"),
-        _ => two_bytes("the count of input fields, at most 500,"),
+        6 | 7 => two_bytes("the count of input fields, at most 500,"),
+        _ => two_bytes("the count of match fields, at most 9,"),
     }
 }
 
@@ -71,6 +80,14 @@ pub(crate) fn level_part(place: usize) -> RowPart {
         0 => byte("a control field's level, 1 to 9,"),
         1 => byte("a control field's kind, 0 or 1,"),
         _ => two_bytes("a control field's column"),
+    }
+}
+
+pub(crate) fn match_part(place: usize) -> RowPart {
+    match place {
+        0 => byte("a match field's level, 1 to 9,"),
+        1 => byte("a match field's kind, 0 or 1,"),
+        _ => two_bytes("a match field's column"),
     }
 }
 

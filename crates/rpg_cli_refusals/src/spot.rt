@@ -2,8 +2,9 @@
 
 use crate::parts::{
     RowPart, alternative_part, field_part, header_part, input_part, instruction_part, level_part,
-    line_field_part, line_part, record_code_part, subroutine_part, type_part,
+    line_field_part, line_part, match_part, record_code_part, subroutine_part, type_part,
 };
+use rpg_object_program::row::Version;
 
 /// A part of a row of a table.
 #[derive(Clone, Copy)]
@@ -42,6 +43,14 @@ impl Walk<'_> {
         }
     }
 
+    /// The version that the bytes say; 1 where they say another.
+    fn version(&self) -> Version {
+        match self.number(6) {
+            2 => Version::Two,
+            _ => Version::One,
+        }
+    }
+
     /// A number of two bytes in the row that begins here.
     fn ahead(&self, place: usize) -> usize {
         self.number(self.at.saturating_add(place))
@@ -61,7 +70,7 @@ impl Walk<'_> {
 fn in_header(walk: &mut Walk<'_>) -> Option<Spot> {
     let place = walk.within(32)?;
     Some(Spot {
-        part: header_part(place),
+        part: header_part(walk.version(), place),
         table: "header",
         row: None,
     })
@@ -94,8 +103,13 @@ fn in_type(walk: &mut Walk<'_>, row: usize) -> Option<Spot> {
     let codes = walk.ahead(2);
     let levels = walk.ahead(4);
     let inputs = walk.ahead(6);
-    if let Some(place) = walk.within(8) {
-        return row_spot(type_part(place), table, row);
+    let version = walk.version();
+    let (head, matches) = match version {
+        Version::One => (8, 0),
+        Version::Two => (10, walk.ahead(8)),
+    };
+    if let Some(place) = walk.within(head) {
+        return row_spot(type_part(version, place), table, row);
     }
     if let Some(place) = walk.within(codes.saturating_mul(4)) {
         return row_spot(record_code_part(place % 4), table, row);
@@ -103,8 +117,11 @@ fn in_type(walk: &mut Walk<'_>, row: usize) -> Option<Spot> {
     if let Some(place) = walk.within(levels.saturating_mul(6)) {
         return row_spot(level_part(place % 6), table, row);
     }
-    let place = walk.within(inputs.saturating_mul(10))?;
-    row_spot(input_part(place % 10), table, row)
+    if let Some(place) = walk.within(inputs.saturating_mul(10)) {
+        return row_spot(input_part(place % 10), table, row);
+    }
+    let place = walk.within(matches.saturating_mul(6))?;
+    row_spot(match_part(place % 6), table, row)
 }
 
 fn in_types(walk: &mut Walk<'_>) -> Option<Spot> {

@@ -3,14 +3,13 @@
 use crate::bound::Costs;
 use crate::refusal::{Table, put_if_broken};
 use rpg_cli_show_fields::{
-    INSTRUCTION, Layout, SUBROUTINE, has_conditions, operand_text, put_conditions, put_named,
-    put_shown,
+    INSTRUCTION, Layout, NamedRows, SUBROUTINE, has_conditions, operand_text, put_conditions,
+    put_named, put_shown,
 };
 use rpg_effect::condition::Conditions;
 use rpg_effect::operation::{Action, Instruction, Operand, Shows};
 use rpg_effect::row::Use;
 use rpg_object_program::columns::row_of;
-use rpg_object_program::row::Rows;
 use rpg_verify::BrokenRule;
 use std::alloc::{AllocError, Global};
 use std::fmt::Write;
@@ -76,11 +75,11 @@ fn put_indicators(out: &mut String, action: Action<Operand<u16>>) -> Result<(), 
 
 fn used_text(
     alloc: Global,
-    rows: &Rows,
+    named: NamedRows<'_>,
     used: Option<Use<Operand<u16>>>,
 ) -> Result<String, AllocError> {
     match used {
-        Some(used) => operand_text(alloc, rows, used.operand),
+        Some(used) => operand_text(alloc, named, used.operand),
         None => Ok(String::new(alloc)),
     }
 }
@@ -88,19 +87,25 @@ fn used_text(
 fn put_action(
     alloc: Global,
     out: &mut String,
-    rows: &Rows,
+    named: NamedRows<'_>,
     action: Action<Operand<u16>>,
 ) -> Result<(), AllocError> {
-    let row = row_of(rows, action);
-    let factor1 = used_text(alloc, rows, row.factor1)?;
-    let factor2 = used_text(alloc, rows, row.factor2)?;
-    let result = used_text(alloc, rows, row.result)?;
+    let row = row_of(named.rows, action);
+    let factor1 = used_text(alloc, named, row.factor1)?;
+    let factor2 = used_text(alloc, named, row.factor2)?;
+    let result = used_text(alloc, named, row.result)?;
     let word = action.name();
     let half = if is_half_adjusted(action) { "H" } else { "" };
-    write!(
-        out,
-        "{factor1:<14} {word:<6} {factor2:<14} {result:<8} {half:<1}"
-    )?;
+    match named.source {
+        None => write!(
+            out,
+            "{factor1:<14} {word:<6} {factor2:<14} {result:<8} {half:<1}"
+        )?,
+        Some(_) => write!(
+            out,
+            "{factor1:<14} {word:<6} {factor2:<14} {result:<14} {half:<1}"
+        )?,
+    }
     put_indicators(out, action)
 }
 
@@ -135,11 +140,11 @@ fn put_call(out: &mut String, word: &str, subroutine: u16) -> Result<(), AllocEr
 fn put_instruction(
     alloc: Global,
     out: &mut String,
-    rows: &Rows,
+    named: NamedRows<'_>,
     instruction: Instruction<u16>,
 ) -> Result<(), AllocError> {
     match instruction {
-        Instruction::Act(action) => put_action(alloc, out, rows, action),
+        Instruction::Act(action) => put_action(alloc, out, named, action),
         Instruction::Except => put_plain(out, "EXCPT"),
         Instruction::Branch {
             is_taken_where,
@@ -161,9 +166,18 @@ struct Begin {
 /// What is known of all places.
 #[derive(Clone, Copy)]
 struct Known<'a> {
-    rows: &'a Rows,
+    named: NamedRows<'a>,
     costs: &'a Costs,
     broken: Option<BrokenRule>,
+}
+
+/// The column of the card that an instruction was made of; nothing where the source isn't known.
+fn card_column(alloc: Global, named: NamedRows<'_>, place: usize) -> Result<String, AllocError> {
+    match named.source.map(|source| source.place_card(place)) {
+        None => Ok(String::new(alloc)),
+        Some(None) => String::from_str(alloc, "       "),
+        Some(Some(card)) => format!(in alloc; "  {card:>5}"),
+    }
 }
 
 /// Writes the instructions of a section.
@@ -177,8 +191,9 @@ fn put_section(
     let Begin { mut at, mut place } = begin;
     for instruction in code {
         let cost = known.costs.text(alloc, place)?;
-        let mut row = format!(in alloc; "{at:>6} {place:>5} {cost:>6}  ")?;
-        put_instruction(alloc, &mut row, known.rows, *instruction)?;
+        let card = card_column(alloc, known.named, place)?;
+        let mut row = format!(in alloc; "{at:>6} {place:>5} {cost:>6}{card}  ")?;
+        put_instruction(alloc, &mut row, known.named, *instruction)?;
         writeln!(out, "{}", row.trim_end())?;
         put_if_broken(out, known.broken, Table::Places, place)?;
         at = at.saturating_add(INSTRUCTION);
@@ -187,11 +202,21 @@ fn put_section(
     Ok(())
 }
 
-fn put_heading(out: &mut String, name: &str, count: usize) -> Result<(), AllocError> {
+fn put_heading(
+    out: &mut String,
+    named: NamedRows<'_>,
+    name: &str,
+    count: usize,
+) -> Result<(), AllocError> {
     if count == 0 {
         return writeln!(out, "\n        {name}: none");
     }
-    writeln!(out, "\n    at place   path  {name}")
+    let card = if named.source.is_some() {
+        "   card"
+    } else {
+        ""
+    };
+    writeln!(out, "\n    at place   path{card}  {name}")
 }
 
 /// Writes a subroutine's level and its instructions.
@@ -202,7 +227,7 @@ fn put_subroutines(
     begin: Begin,
 ) -> Result<(), AllocError> {
     let Begin { mut at, mut place } = begin;
-    for (number, subroutine) in known.rows.subroutines.iter().enumerate() {
+    for (number, subroutine) in known.named.rows.subroutines.iter().enumerate() {
         let level = subroutine.level;
         let code = &subroutine.instructions;
         writeln!(
@@ -222,26 +247,27 @@ fn put_subroutines(
 pub(crate) fn put_sections(
     alloc: Global,
     out: &mut String,
-    rows: &Rows,
+    named: NamedRows<'_>,
     layout: Layout,
     costs: &Costs,
     broken: Option<BrokenRule>,
 ) -> Result<(), AllocError> {
     let known = Known {
-        rows,
+        named,
         costs,
         broken,
     };
+    let rows = named.rows;
     let at = layout.detail;
-    put_heading(out, "DETAIL CALCULATIONS", rows.detail.len())?;
+    put_heading(out, named, "DETAIL CALCULATIONS", rows.detail.len())?;
     put_section(alloc, out, known, Begin { at, place: 0 }, &rows.detail)?;
     let at = layout.total;
     let place = rows.detail.len();
-    put_heading(out, "TOTAL CALCULATIONS", rows.total.len())?;
+    put_heading(out, named, "TOTAL CALCULATIONS", rows.total.len())?;
     put_section(alloc, out, known, Begin { at, place }, &rows.total)?;
     let at = layout.subroutines;
     let place = place.saturating_add(rows.total.len());
-    put_heading(out, "SUBROUTINES", rows.subroutines.len())?;
+    put_heading(out, named, "SUBROUTINES", rows.subroutines.len())?;
     if rows.subroutines.is_empty() {
         put_if_broken(out, broken, Table::Subroutines, 0)?;
     }

@@ -2,13 +2,13 @@
 
 use crate::refusal::{Table, put_if_broken};
 use rpg_cli_show_fields::{
-    LINE_FIELD, code_letter, field_text, fill_words, has_conditions, line_bytes, line_head_bytes,
-    operand_text, put_condition, put_conditions, put_spacing, time_word,
+    LINE_FIELD, NamedRows, code_letter, field_text, fill_words, has_conditions, line_bytes,
+    line_head_bytes, operand_text, put_card, put_condition, put_conditions, put_spacing, time_word,
 };
 use rpg_edit_marks::Fill;
 use rpg_effect::condition::Condition;
 use rpg_effect::line::{Editing, File, LineField, Source};
-use rpg_object_program::row::{Line, Rows};
+use rpg_object_program::row::Line;
 use rpg_verify::BrokenRule;
 use std::alloc::{AllocError, Global};
 use std::fmt::Write;
@@ -39,19 +39,26 @@ fn put_alternatives(out: &mut String, alternatives: &[Vec<Condition>]) -> Result
     Ok(())
 }
 
-fn put_head(out: &mut String, at: usize, number: usize, line: &Line) -> Result<(), AllocError> {
+fn put_head(
+    out: &mut String,
+    at: usize,
+    number: usize,
+    line: &Line,
+    card: Option<u16>,
+) -> Result<(), AllocError> {
     let file = file_word(line.file);
     let time = time_word(line.time);
     write!(out, "{at:>6}  line {number}: {file}, {time}")?;
     put_spacing(out, line.spacing)?;
     put_alternatives(out, &line.alternatives)?;
+    put_card(out, card)?;
     out.push('\n')
 }
 
 fn put_editing(
     alloc: Global,
     out: &mut String,
-    rows: &Rows,
+    named: NamedRows<'_>,
     editing: Editing<u16>,
     fill: Fill,
 ) -> Result<(), AllocError> {
@@ -63,7 +70,7 @@ fn put_editing(
             write!(out, " by code {letter}{filled}")
         }
         Editing::Word(word) => {
-            let word = field_text(alloc, rows, word)?;
+            let word = field_text(alloc, named, word)?;
             write!(out, " by word {word}")
         }
     }
@@ -72,18 +79,19 @@ fn put_editing(
 fn put_field(
     alloc: Global,
     out: &mut String,
-    rows: &Rows,
+    named: NamedRows<'_>,
     at: usize,
     field: LineField<u16>,
+    card: Option<u16>,
 ) -> Result<(), AllocError> {
     let end = field.end;
     let page = match field.source {
         Source::Value => "",
         Source::Page => "PAGE, one more in ",
     };
-    let operand = operand_text(alloc, rows, field.operand)?;
+    let operand = operand_text(alloc, named, field.operand)?;
     write!(out, "{at:>6}    to place {end:<4} {page}{operand}")?;
-    put_editing(alloc, out, rows, field.editing, field.fill)?;
+    put_editing(alloc, out, named, field.editing, field.fill)?;
     if field.is_blanked {
         out.push_str(", blank after")?;
     }
@@ -91,19 +99,25 @@ fn put_field(
         out.push_str(", when")?;
         put_conditions(out, field.conditions)?;
     }
+    put_card(out, card)?;
     out.push('\n')
 }
 
+/// Writes the fields of a line, of which the first begins at a byte.
 fn put_fields(
     alloc: Global,
     out: &mut String,
-    rows: &Rows,
+    named: NamedRows<'_>,
     begin: usize,
+    number: usize,
     fields: &[LineField<u16>],
 ) -> Result<(), AllocError> {
     let mut at = begin;
-    for field in fields {
-        put_field(alloc, out, rows, at, *field)?;
+    for (i, field) in fields.iter().enumerate() {
+        let card = named
+            .source
+            .and_then(|source| source.line_field_card(number, i));
+        put_field(alloc, out, named, at, *field, card)?;
         at = at.saturating_add(LINE_FIELD);
     }
     Ok(())
@@ -113,16 +127,17 @@ fn put_fields(
 pub(crate) fn put_lines(
     alloc: Global,
     out: &mut String,
-    rows: &Rows,
+    named: NamedRows<'_>,
     begin: usize,
     broken: Option<BrokenRule>,
 ) -> Result<(), AllocError> {
     out.push_str("\n    at  LINES\n")?;
     let mut at = begin;
-    for (number, line) in rows.lines.iter().enumerate() {
-        put_head(out, at, number, line)?;
+    for (number, line) in named.rows.lines.iter().enumerate() {
+        let card = named.source.and_then(|source| source.line_card(number));
+        put_head(out, at, number, line, card)?;
         let fields = at.saturating_add(line_head_bytes(line));
-        put_fields(alloc, out, rows, fields, &line.fields)?;
+        put_fields(alloc, out, named, fields, number, &line.fields)?;
         put_if_broken(out, broken, Table::Lines, number)?;
         at = at.saturating_add(line_bytes(line));
     }

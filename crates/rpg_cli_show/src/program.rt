@@ -6,9 +6,9 @@ use crate::instructions::put_sections;
 use crate::lines::put_lines;
 use crate::refusal::put_rule;
 use crate::types::put_types;
-use rpg_cli_show_fields::{Layout, put_fields, put_first_values};
+use rpg_cli_show_fields::{Layout, NamedRows, put_fields, put_first_values};
+use rpg_cli_source::SourceRows;
 use rpg_object_program::Program;
-use rpg_object_program::row::Rows;
 use rpg_verify::{BrokenRule, Verified, VerifyFault, verify};
 use std::alloc::{AllocError, Global};
 use std::fmt::Write;
@@ -17,40 +17,47 @@ use std::fmt::Write;
 fn put_tables(
     alloc: Global,
     out: &mut String,
-    rows: &Rows,
+    named: NamedRows<'_>,
     costs: &Costs,
     broken: Option<BrokenRule>,
 ) -> Result<(), AllocError> {
-    let layout = Layout::of(rows);
-    put_fields(alloc, out, rows)?;
-    put_first_values(alloc, out, rows, layout.values)?;
-    put_types(alloc, out, rows, layout.types, broken)?;
-    put_lines(alloc, out, rows, layout.lines, broken)?;
-    put_sections(alloc, out, rows, layout, costs, broken)
+    let layout = Layout::of(named.rows);
+    put_fields(alloc, out, named)?;
+    put_first_values(alloc, out, named, layout.values)?;
+    put_types(alloc, out, named, layout.types, broken)?;
+    put_lines(alloc, out, named, layout.lines, broken)?;
+    put_sections(alloc, out, named, layout, costs, broken)
 }
 
-fn accepted_text(alloc: Global, verified: &Verified) -> Result<String, AllocError> {
+fn accepted_text(
+    alloc: Global,
+    verified: &Verified,
+    source: Option<&SourceRows>,
+) -> Result<String, AllocError> {
     let rows = verified.program().rows();
+    let named = NamedRows { rows, source };
     let costs = Costs::of(alloc, verified)?;
     let mut out = String::new(alloc);
     put_header(&mut out, rows, Layout::of(rows), None)?;
     put_bound(&mut out, verified, &costs)?;
-    put_tables(alloc, &mut out, rows, &costs, None)?;
+    put_tables(alloc, &mut out, named, &costs, None)?;
     Ok(out)
 }
 
 fn refused_text(
     alloc: Global,
     program: &Program,
+    source: Option<&SourceRows>,
     broken: BrokenRule,
 ) -> Result<String, AllocError> {
     let rows = program.rows();
+    let named = NamedRows { rows, source };
     let row = broken.row;
     let mut out = String::new(alloc);
     put_header(&mut out, rows, Layout::of(rows), Some(broken))?;
     write!(&mut out, "  refused  row {row} by ")?;
     put_rule(&mut out, broken)?;
-    put_tables(alloc, &mut out, rows, &Costs::none(alloc), Some(broken))?;
+    put_tables(alloc, &mut out, named, &Costs::none(alloc), Some(broken))?;
     Ok(out)
 }
 
@@ -58,11 +65,12 @@ fn refused_text(
 fn unaccepted_text(
     alloc: Global,
     program: &Program,
+    source: Option<&SourceRows>,
     fault: VerifyFault,
 ) -> Result<String, AllocError> {
     match fault {
         VerifyFault::Refused { rule, row } => {
-            refused_text(alloc, program, BrokenRule { rule, row })
+            refused_text(alloc, program, source, BrokenRule { rule, row })
         }
         VerifyFault::NoMemory => Err(AllocError),
     }
@@ -70,10 +78,14 @@ fn unaccepted_text(
 
 /// All of a program that a person wants to read: its header, its fields with their first values and their uses, its record types and lines,
 /// and its instructions with their places and path costs. Of an accepted program the bound is told and what it is made of; of a refused
-/// one the least rule that is broken, and the row that breaks it.
-pub fn program_text(alloc: Global, program: Program) -> Result<String, AllocError> {
+/// one the least rule that is broken, and the row that breaks it. Where its source is known, fields have their names and rows their cards.
+pub fn program_text(
+    alloc: Global,
+    program: Program,
+    source: Option<&SourceRows>,
+) -> Result<String, AllocError> {
     match verify(alloc, program) {
-        Ok(verified) => accepted_text(alloc, &verified),
-        Err((program, fault)) => unaccepted_text(alloc, &program, fault),
+        Ok(verified) => accepted_text(alloc, &verified, source),
+        Err((program, fault)) => unaccepted_text(alloc, &program, source, fault),
     }
 }

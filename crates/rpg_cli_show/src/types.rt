@@ -2,16 +2,22 @@
 
 use crate::refusal::{Table, put_if_broken};
 use rpg_cli_show_fields::{
-    CODE, INPUT, Indicator, LEVEL, put_shown, quoted, type_bytes, type_head_bytes,
+    CODE, INPUT, Indicator, LEVEL, NamedRows, put_card, put_shown, quoted, type_bytes,
+    type_head_bytes,
 };
 use rpg_effect::input::{ControlField, InputField, InputFile, RecordCode};
-use rpg_object_program::row::{RecordType, Rows, Version};
+use rpg_object_program::row::RecordType;
 use rpg_verify::BrokenRule;
 use std::alloc::{AllocError, Global};
 use std::fmt::Write;
 
 /// Which records are of the type, and what it turns on.
-fn put_head(out: &mut String, number: usize, record_type: &RecordType) -> Result<(), AllocError> {
+fn put_head(
+    out: &mut String,
+    number: usize,
+    record_type: &RecordType,
+    card: Option<u16>,
+) -> Result<(), AllocError> {
     write!(out, "type {number}: ")?;
     let of_file = match record_type.file {
         InputFile::Primary => "",
@@ -22,13 +28,12 @@ fn put_head(out: &mut String, number: usize, record_type: &RecordType) -> Result
     } else {
         write!(out, "records{of_file} with these codes")?;
     }
-    match record_type.indicator {
-        Some(number) => {
-            let indicator = Indicator(number);
-            writeln!(out, ", turns on {indicator}")
-        }
-        None => out.push('\n'),
+    if let Some(number) = record_type.indicator {
+        let indicator = Indicator(number);
+        write!(out, ", turns on {indicator}")?;
     }
+    put_card(out, card)?;
+    out.push('\n')
 }
 
 fn put_code(
@@ -77,17 +82,26 @@ fn put_level(
     )
 }
 
-fn put_input(out: &mut String, at: usize, input: InputField<u16>) -> Result<(), AllocError> {
+fn put_input(
+    alloc: Global,
+    out: &mut String,
+    named: NamedRows<'_>,
+    at: usize,
+    input: InputField<u16>,
+    card: Option<u16>,
+) -> Result<(), AllocError> {
     let InputField {
         from,
         to,
         field,
         shows,
     } = input;
-    write!(out, "{at:>6}    columns {from}-{to} to #{field}")?;
+    let name = named.name_behind(alloc, field)?;
+    write!(out, "{at:>6}    columns {from}-{to} to #{field}{name}")?;
     put_shown(out, "plus", shows.plus)?;
     put_shown(out, "minus", shows.minus)?;
     put_shown(out, "zero or blank", shows.zero)?;
+    put_card(out, card)?;
     out.push('\n')
 }
 
@@ -120,13 +134,17 @@ fn put_levels(
 }
 
 fn put_inputs(
+    alloc: Global,
     out: &mut String,
+    named: NamedRows<'_>,
     begin: usize,
+    number: usize,
     inputs: &[InputField<u16>],
 ) -> Result<usize, AllocError> {
     let mut at = begin;
-    for input in inputs {
-        put_input(out, at, *input)?;
+    for (i, input) in inputs.iter().enumerate() {
+        let card = named.source.and_then(|source| source.input_card(number, i));
+        put_input(alloc, out, named, at, *input, card)?;
         at = at.saturating_add(INPUT);
     }
     Ok(at)
@@ -135,17 +153,18 @@ fn put_inputs(
 fn put_type(
     alloc: Global,
     out: &mut String,
+    named: NamedRows<'_>,
     at: usize,
-    version: Version,
     number: usize,
     record_type: &RecordType,
 ) -> Result<(), AllocError> {
+    let card = named.source.and_then(|source| source.type_card(number));
     write!(out, "{at:>6}  ")?;
-    put_head(out, number, record_type)?;
-    let codes = at.saturating_add(type_head_bytes(version));
+    put_head(out, number, record_type, card)?;
+    let codes = at.saturating_add(type_head_bytes(named.rows.version));
     let levels = put_codes(alloc, out, codes, &record_type.codes)?;
     let inputs = put_levels(out, levels, Joined::Control, &record_type.levels)?;
-    let matches = put_inputs(out, inputs, &record_type.inputs)?;
+    let matches = put_inputs(alloc, out, named, inputs, number, &record_type.inputs)?;
     put_levels(out, matches, Joined::Match, &record_type.matches)?;
     Ok(())
 }
@@ -154,14 +173,15 @@ fn put_type(
 pub(crate) fn put_types(
     alloc: Global,
     out: &mut String,
-    rows: &Rows,
+    named: NamedRows<'_>,
     begin: usize,
     broken: Option<BrokenRule>,
 ) -> Result<(), AllocError> {
     out.push_str("\n    at  RECORD TYPES\n")?;
+    let rows = named.rows;
     let mut at = begin;
     for (number, record_type) in rows.types.iter().enumerate() {
-        put_type(alloc, out, at, rows.version, number, record_type)?;
+        put_type(alloc, out, named, at, number, record_type)?;
         put_if_broken(out, broken, Table::Types, number)?;
         at = at.saturating_add(type_bytes(rows.version, record_type));
     }

@@ -1,8 +1,10 @@
 //! Fields with their forms, their first values, and what uses them.
 
 use crate::layout::{field_place, value_bytes};
+use crate::named::NamedRows;
 use crate::uses::Uses;
 use crate::values::{is_empty, value_text};
+use rpg_cli_source::{SourceRows, name_text};
 use rpg_effect::form::{Class, FieldForm, Kind};
 use rpg_effect::value::Value;
 use rpg_object_program::row::Rows;
@@ -55,18 +57,40 @@ fn first_text(alloc: Global, form: FieldForm, values: &[Value]) -> Result<String
     }
 }
 
+/// The columns of a field's name and of the card that defines it first, which are blank of a field that has none.
+fn name_columns(alloc: Global, source: &SourceRows, number: u16) -> Result<String, AllocError> {
+    let name = match source.field_name(number) {
+        Some(name) => name_text(alloc, name)?,
+        None => String::new(alloc),
+    };
+    let card = match source.field_card(number) {
+        Some(card) => format!(in alloc; "{card}")?,
+        None => String::new(alloc),
+    };
+    format!(in alloc; "{name:<6}  {card:>4}  ")
+}
+
 /// The row of a field before its uses.
 fn field_row(
     alloc: Global,
+    named: NamedRows<'_>,
     index: usize,
     form: FieldForm,
-    values: &[Value],
 ) -> Result<String, AllocError> {
     let at = field_place(index);
     let number = index.saturating_add(1);
     let form_words = form_text(alloc, form)?;
-    let first = first_text(alloc, form, values)?;
-    format!(in alloc; "{at:>6}  #{number:<5}{form_words:<32}  {first:<20}")
+    let first = first_text(alloc, form, values_at(named.rows, index))?;
+    let names = match named.source {
+        Some(source) => name_columns(alloc, source, field_number(index))?,
+        None => String::new(alloc),
+    };
+    format!(in alloc; "{at:>6}  #{number:<5}{names}{form_words:<32}  {first:<20}")
+}
+
+/// The number of the field of an index.
+fn field_number(index: usize) -> u16 {
+    u16::try_from(index.saturating_add(1)).unwrap_or(0)
 }
 
 /// The first values of the field of an index.
@@ -78,11 +102,19 @@ fn values_at(rows: &Rows, index: usize) -> &[Value] {
 }
 
 /// Writes a row for each field.
-pub fn put_fields(alloc: Global, out: &mut String, rows: &Rows) -> Result<(), AllocError> {
+pub fn put_fields(alloc: Global, out: &mut String, named: NamedRows<'_>) -> Result<(), AllocError> {
+    let rows = named.rows;
     let uses = Uses::of(alloc, rows)?;
-    out.push_str("\n    at  FIELD form                              first value           used\n")?;
+    let names = match named.source {
+        Some(_) => "name    card  ",
+        None => "",
+    };
+    writeln!(
+        out,
+        "\n    at  FIELD {names}form                              first value           used"
+    )?;
     for (index, form) in rows.fields.iter().enumerate() {
-        let mut row = field_row(alloc, index, *form, values_at(rows, index))?;
+        let mut row = field_row(alloc, named, index, *form)?;
         uses.put(&mut row, index)?;
         writeln!(out, "{}", row.trim_end())?;
     }
@@ -110,16 +142,18 @@ fn put_entries(
 fn put_listed(
     alloc: Global,
     out: &mut String,
+    named: NamedRows<'_>,
     index: usize,
     at: usize,
     form: FieldForm,
-    values: &[Value],
 ) -> Result<(), AllocError> {
+    let values = values_at(named.rows, index);
     if !are_listed(values) {
         return Ok(());
     }
     let number = index.saturating_add(1);
-    writeln!(out, "\n    at  FIRST VALUES OF #{number}")?;
+    let name = named.name_behind(alloc, field_number(index))?;
+    writeln!(out, "\n    at  FIRST VALUES OF #{number}{name}")?;
     put_entries(alloc, out, at, form, values)
 }
 
@@ -127,12 +161,12 @@ fn put_listed(
 pub fn put_first_values(
     alloc: Global,
     out: &mut String,
-    rows: &Rows,
+    named: NamedRows<'_>,
     begin: usize,
 ) -> Result<(), AllocError> {
     let mut at = begin;
-    for (index, form) in rows.fields.iter().enumerate() {
-        put_listed(alloc, out, index, at, *form, values_at(rows, index))?;
+    for (index, form) in named.rows.fields.iter().enumerate() {
+        put_listed(alloc, out, named, index, at, *form)?;
         at = at.saturating_add(value_bytes(*form));
     }
     Ok(())

@@ -4,6 +4,7 @@
 mod editing;
 mod fields;
 mod layout;
+mod named;
 mod operands;
 mod spacing;
 mod uses;
@@ -16,7 +17,8 @@ pub use layout::{
     CODE, INPUT, INSTRUCTION, LEVEL, LINE_FIELD, Layout, SUBROUTINE, line_bytes, line_head_bytes,
     type_bytes, type_head_bytes,
 };
-pub use operands::{field_text, operand_text};
+pub use named::{NamedRows, put_card};
+pub use operands::{card_operand, field_text, operand_text};
 pub use spacing::{put_spacing, time_word};
 pub use values::{quoted, value_text};
 pub use words::{Indicator, has_conditions, put_condition, put_conditions, put_named, put_shown};

@@ -68,16 +68,34 @@ fn explain_command<'a>(alloc: Global) -> Result<Command<'a>, AllocError> {
         .arg(optional_word(alloc, "N", "The number of a halt"))
 }
 
+/// The source of an object program.
+fn source<'a>(alloc: Global) -> Arg<'a> {
+    Arg::new(alloc, "source")
+        .long("source")
+        .value_name("SRC")
+        .action(ArgAction::Set)
+        .help("The source that OBJ was compiled from, whose names and cards are told")
+}
+
 fn show_command<'a>(alloc: Global) -> Result<Command<'a>, AllocError> {
     Command::new(alloc, "show")
         .about("Shows the object program OBJ: its fields, record types, lines and instructions")
-        .arg(word(alloc, "OBJ", "The object program"))
+        .arg(word(alloc, "OBJ", "The object program"))?
+        .arg(source(alloc))
 }
 
 fn date<'a>(alloc: Global) -> Arg<'a> {
     word(alloc, "date", "The date, as six digits")
         .long("date")
         .value_name("N")
+}
+
+fn secondary<'a>(alloc: Global) -> Arg<'a> {
+    Arg::new(alloc, "secondary")
+        .long("secondary")
+        .value_name("FILE")
+        .action(ArgAction::Set)
+        .help("The records of a secondary file")
 }
 
 fn disk<'a>(alloc: Global) -> Arg<'a> {
@@ -114,8 +132,10 @@ fn run_with_files<'a>(alloc: Global) -> Result<Command<'a>, AllocError> {
 fn run_command<'a>(alloc: Global) -> Result<Command<'a>, AllocError> {
     run_with_files(alloc)?
         .arg(date(alloc))?
+        .arg(secondary(alloc))?
         .arg(disk(alloc))?
-        .arg(most(alloc))
+        .arg(most(alloc))?
+        .arg(source(alloc))
 }
 
 /// Adds a command, if there was memory for it.
@@ -128,11 +148,11 @@ fn with_subcommand<'a>(
 
 /// What each exit status tells, below the commands.
 const STATUSES: &str =
-    "Exit statuses:\n  0  all went well\n  1  a file or a device failed, or memory is wanting\n  2  the words are wrong, or the date, or the disk file is missing\n  3  the source is refused\n  4  the object program is refused\n  5  the job halted";
+    "Exit statuses:\n  0  all went well\n  1  a file or a device failed, or memory is wanting\n  2  the words are wrong, or the date, or a disk file or a secondary file is missing\n  3  the source is refused\n  4  the object program is refused\n  5  the job halted";
 
 /// The format of object programs, and what the program is proved with.
 const VERSION: &str =
-    "object programs of version 1, proved with rattle-kit-13b logic dac8208d650f15bf";
+    "object programs of versions 1 and 2, proved with rattle-kit-13f logic dac8208d650f15bf";
 
 fn command_without_words<'a>(alloc: Global) -> Command<'a> {
     Command::new(alloc, "rpg2")

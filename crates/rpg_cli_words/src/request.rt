@@ -59,6 +59,8 @@ pub struct VerifyWords<'a> {
 #[derive(Clone, Copy)]
 pub struct ShowWords<'a> {
     pub object: &'a str,
+    /// The source of the object program, if the words name it.
+    pub source: Option<&'a str>,
 }
 
 /// The words of `run`.
@@ -70,10 +72,14 @@ pub struct RunWords<'a> {
     /// Where the printed lines go, a file or `-`.
     pub print: &'a str,
     pub date: &'a str,
+    /// The records of a secondary file, if the words tell them.
+    pub secondary: Option<&'a str>,
     /// Where the records of a disk file go, if the words tell it.
     pub disk: Option<&'a str>,
     /// The greatest bound that a program may have, if the words tell one.
     pub most: Option<u64>,
+    /// The source of the object program, if the words name it.
+    pub source: Option<&'a str>,
 }
 
 /// The words of `explain`.
@@ -91,8 +97,11 @@ pub enum FileWord {
     Source,
     Object,
     Input,
+    Secondary,
     Print,
     Disk,
+    /// The source of an object program that is shown or run.
+    OwnSource,
 }
 
 impl FileWord {
@@ -102,8 +111,10 @@ impl FileWord {
             FileWord::Source => "SRC",
             FileWord::Object => "OBJ",
             FileWord::Input => "INPUT",
+            FileWord::Secondary => "--secondary FILE",
             FileWord::Print => "PRINT",
             FileWord::Disk => "FILE",
+            FileWord::OwnSource => "SRC",
         }
     }
 
@@ -113,8 +124,10 @@ impl FileWord {
             FileWord::Source => "<SRC>",
             FileWord::Object => "<OBJ>",
             FileWord::Input => "<INPUT>",
+            FileWord::Secondary => "--secondary <FILE>",
             FileWord::Print => "<PRINT>",
             FileWord::Disk => "--disk <FILE>",
+            FileWord::OwnSource => "--source <SRC>",
         }
     }
 }
@@ -137,6 +150,7 @@ impl<'a> Request<'a> {
             (Request::Cards(words), FileWord::Source) => Some(words.source),
             (Request::Verify(words), FileWord::Object) => Some(words.object),
             (Request::Show(words), FileWord::Object) => Some(words.object),
+            (Request::Show(words), FileWord::OwnSource) => words.source,
             (Request::Run(words), word) => words.path(word),
             _ => None,
         }
@@ -162,8 +176,10 @@ impl<'a> RunWords<'a> {
             FileWord::Source => None,
             FileWord::Object => Some(self.object),
             FileWord::Input => Some(self.input),
+            FileWord::Secondary => self.secondary,
             FileWord::Print => Some(self.print),
             FileWord::Disk => self.disk,
+            FileWord::OwnSource => self.source,
         }
     }
 }
@@ -252,6 +268,7 @@ fn verify_words<'a>(given: &ArgMatches<'a>) -> Option<VerifyWords<'a>> {
 fn show_words<'a>(given: &ArgMatches<'a>) -> Option<ShowWords<'a>> {
     Some(ShowWords {
         object: given.get_str("OBJ")?,
+        source: given.get_str("source"),
     })
 }
 
@@ -261,8 +278,10 @@ fn run_words<'a>(given: &ArgMatches<'a>) -> Option<RunWords<'a>> {
         input: given.get_str("INPUT")?,
         print: given.get_str("PRINT")?,
         date: given.get_str("date")?,
+        secondary: given.get_str("secondary"),
         disk: given.get_str("disk"),
         most: given.get_one::<u64>("most"),
+        source: given.get_str("source"),
     })
 }
 

@@ -2,40 +2,53 @@
 use Rattle.std.proofs.Common.{◌≡◌, ℕ, ◌+◌, ◌<◌, List, ◌∷◌, length, get_or, drop, map, Option, None, Some, refl, sym, ap, ◌∙◌}
 use Rattle.std.proofs.lemmas.List.{at_drop_more}
 use Rattle.std.specs.Option.{option_and_then, option_or}
-use Rattle.rpg_cards.proofs.GroupLemmas.{rows_from}
 use Rattle.rpg_cards.specs.Cards.{input_on, type_in, type_on}
+use Rattle.rpg_cards.specs.Files.{file_by}
 use Rattle.rpg_cards.specs.Groups.{followers, following, groups_from, input_card_role, input_role, opening, role_on}
+use Rattle.rpg_cards.specs.Keys.{Key}
 use Rattle.rpg_cards.specs.declared.spec_card.SpecCard.{SpecCard}
-use Rattle.rpg_compile_layouts.specs.Parts.{type_behind}
+use Rattle.rpg_compile_layouts.specs.Parts.{type_behind, types_from}
+use Rattle.rpg_effect.specs.Input.{TypeRow}
+use Rattle.rpg_effect.specs.declared.input.InputFile.{InputFile}
 use Rattle.rpg_sheet_specs.specs.declared.input.InputSpec.{InputSpec}
 use Rattle.rpg_sheet_specs.specs.declared.input.InputSpec.TheVariants as input
 use Rattle.rpg_sheet_specs.specs.declared.input.RecordType.{RecordType}
-use Rattle.rpg_compile_program.specs.Types.{type_of, types_on}
+use Rattle.rpg_compile_program.specs.Types.{card_type, input_file}
 
 -- ---- the card in front
 
-pub types_on_heading : (c : SpecCard) (behind rest : List SpecCard) (t : RecordType) → rest ≡ c ∷ behind → Some t ≡ type_on c.spec → types_on rest ≡ type_behind t behind ∷ types_on behind
-types_on_heading c behind rest t split on = ap types_on split ∙ by_card (input_on c.spec) on
-  where
-    by_card : (o : Option InputSpec) → Some t ≡ option_and_then type_in o
-        → map type_of (opening (role_on input_card_role o) None (followers input_role behind) (λ own. groups_from input_role own behind)) ≡ type_behind t behind ∷ types_on behind
-    by_card None e = absurd cc
-    by_card (Some (input.Type u)) e =
-        let same : t ≡ u = cc in
-        ap (λ x. type_behind x behind ∷ map type_of (groups_from input_role (option_or u.file None) behind)) (sym same)
-        ∙ ap (λ ys. type_behind t behind ∷ ys) (rows_from input_role type_of (λ h fs a b. refl) (option_or u.file None) None behind)
-    by_card (Some (input.And cs)) e = absurd cc
-    by_card (Some (input.Field f)) e = absurd cc
+module _ (source : List SpecCard) where
+  abbrev types_at : Option (List ℕ) → List SpecCard → Option InputSpec → List (TypeRow Key)
+  types_at name behind o = map (card_type source) (opening (role_on input_card_role o) name (followers input_role behind) (λ own. groups_from input_role own behind))
 
-pub types_on_other : (c : SpecCard) (behind rest : List SpecCard) → rest ≡ c ∷ behind → None ≡ type_on c.spec → types_on rest ≡ types_on behind
-types_on_other c behind rest split none = ap types_on split ∙ by_card (input_on c.spec) none
-  where
-    by_card : (o : Option InputSpec) → None ≡ option_and_then type_in o
-        → map type_of (opening (role_on input_card_role o) None (followers input_role behind) (λ own. groups_from input_role own behind)) ≡ types_on behind
-    by_card None e = refl
-    by_card (Some (input.Type u)) e = absurd cc
-    by_card (Some (input.And cs)) e = refl
-    by_card (Some (input.Field f)) e = refl
+  types_heading : (name : Option (List ℕ)) (c : SpecCard) (behind rest : List SpecCard) (t : RecordType) → rest ≡ c ∷ behind → Some t ≡ type_on c.spec
+      → types_from source name rest ≡ type_behind (input_file (file_by (option_or t.file name) source)) t behind ∷ types_from source (option_or t.file name) behind
+  types_heading name c behind rest t split on = ap (types_from source name) split ∙ by_card (input_on c.spec) on
+    where
+      by_card : (o : Option InputSpec) → Some t ≡ option_and_then type_in o
+          → types_at name behind o ≡ type_behind (input_file (file_by (option_or t.file name) source)) t behind ∷ types_from source (option_or t.file name) behind
+      by_card None e = absurd cc
+      by_card (Some (input.Type u)) e =
+          let same : t ≡ u = cc in
+          ap (λ x. type_behind (input_file (file_by (option_or x.file name) source)) x behind ∷ types_from source (option_or x.file name) behind) (sym same)
+      by_card (Some (input.And cs)) e = absurd cc
+      by_card (Some (input.Field f)) e = absurd cc
+
+  pub types_first : (name own : Option (List ℕ)) (file : InputFile) (c : SpecCard) (behind rest : List SpecCard) (t : RecordType) → rest ≡ c ∷ behind → Some t ≡ type_on c.spec → own ≡ option_or t.file name → file ≡ input_file (file_by own source)
+      → types_from source name rest ≡ type_behind file t behind ∷ types_from source own behind
+  types_first name own file c behind rest t split on named read =
+      types_heading name c behind rest t split on
+      ∙ ap (λ n. type_behind (input_file (file_by n source)) t behind ∷ types_from source n behind) (sym named)
+      ∙ ap (λ f. type_behind f t behind ∷ types_from source own behind) (sym read)
+
+  pub types_other : (name : Option (List ℕ)) (c : SpecCard) (behind rest : List SpecCard) → rest ≡ c ∷ behind → None ≡ type_on c.spec → types_from source name rest ≡ types_from source name behind
+  types_other name c behind rest split none = ap (types_from source name) split ∙ by_card (input_on c.spec) none
+    where
+      by_card : (o : Option InputSpec) → None ≡ option_and_then type_in o → types_at name behind o ≡ types_from source name behind
+      by_card None e = refl
+      by_card (Some (input.Type u)) e = absurd cc
+      by_card (Some (input.And cs)) e = refl
+      by_card (Some (input.Field f)) e = refl
 
 -- ---- a card behind a heading
 

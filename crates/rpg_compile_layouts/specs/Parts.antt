@@ -1,19 +1,26 @@
--- A type by its heading and the cards behind it.
-use Rattle.std.specs.Prelude.{List, map, None}
+-- Types by their headings and the cards behind them.
+use Rattle.std.specs.Prelude.{ℕ, List, map, Option, None}
 use Rattle.std.specs.List.{filter_map, flat_map}
 use Rattle.rpg_cards.specs.Keys.{Key}
-use Rattle.rpg_cards.specs.Groups.{followers, input_role}
+use Rattle.rpg_cards.specs.Groups.{followers, groups_from, input_role}
 use Rattle.rpg_cards.specs.declared.spec_card.SpecCard.{SpecCard}
 use Rattle.rpg_effect.specs.Input.{TypeRow}
 use Rattle.rpg_effect.specs.declared.input.ControlField.{ControlField}
 use Rattle.rpg_effect.specs.declared.input.InputField as row
+use Rattle.rpg_effect.specs.declared.input.InputFile.{InputFile}
 use Rattle.rpg_effect.specs.declared.input.RecordCode.{RecordCode}
 use Rattle.rpg_sheet_specs.specs.declared.input.InputField.{InputField}
 use Rattle.rpg_sheet_specs.specs.declared.input.RecordType.{RecordType}
-use Rattle.rpg_compile_program.specs.Types.{and_card_codes, control_field_of, input_fields_in, input_row, type_of}
+use Rattle.rpg_compile_program.specs.Types.{and_card_codes, card_type, field_at_level, input_fields_in, input_row, type_of_file}
 
-abbrev pub type_behind : RecordType → List SpecCard → TypeRow Key
-type_behind t cards = type_of (record { heading = t; followers = followers input_role cards; file = None })
+-- those of the groups in these cards, where groups without a file are of the one of that name
+abbrev pub types_from : List SpecCard → Option (List ℕ) → List SpecCard → List (TypeRow Key)
+types_from source name cards = map (card_type source) (groups_from input_role name cards)
+
+-- ---- a type by its heading and the cards behind it
+
+abbrev pub type_behind : InputFile → RecordType → List SpecCard → TypeRow Key
+type_behind file t cards = type_of_file file (record { heading = t; followers = followers input_role cards; file = None })
 
 abbrev pub codes_behind : List SpecCard → List RecordCode
 codes_behind cards = flat_map and_card_codes (followers input_role cards)
@@ -21,8 +28,9 @@ codes_behind cards = flat_map and_card_codes (followers input_role cards)
 abbrev pub fields_behind : List SpecCard → List InputField
 fields_behind cards = input_fields_in (followers input_role cards)
 
-abbrev pub levels_behind : List SpecCard → List ControlField
-levels_behind cards = filter_map control_field_of (fields_behind cards)
+-- where they have a level of that choice
+abbrev pub levels_behind : (InputField → Option ℕ) → List SpecCard → List ControlField
+levels_behind level_of cards = filter_map (field_at_level level_of) (fields_behind cards)
 
 abbrev pub inputs_behind : List SpecCard → List (row.InputField Key)
 inputs_behind cards = map input_row (fields_behind cards)

@@ -11,6 +11,7 @@ pub record IsTypeWithin (t : TypeRow Key) : Type 0 where
   pub codes : length t.codes ≤ 100
   pub levels : length t.levels ≤ 100
   pub inputs : length t.inputs ≤ 500
+  pub matches : length t.matches ≤ 9
 
 abbrev pub HasIndexRow : LineField ℕ → Type 0
 HasIndexRow f = IsIndexRow f.operand.index

@@ -1,6 +1,7 @@
-//! The control fields of record types.
+//! The control fields and the match fields of record types.
 
 ghost use Rattle.std.specs.Prelude.{◌≡◌, All, IfOk, IfSome};
+ghost use Rattle.rpg_cards.specs.Levels.{control_level, match_level};
 ghost use Rattle.rpg_compile_layouts.specs.Parts.{levels_behind};
 ghost use Rattle.rpg_object_program.specs.Kept.{IsControlRow};
 ghost use Rattle.rpg_compile_program.specs.Types as types;
@@ -10,10 +11,10 @@ use rpg_effect::input::ControlField;
 use rpg_sheet_specs::{InputField, InputSpec, Within};
 use std::alloc::{AllocError, Global};
 
-/// A control field for each field card with a level, up to the next type card.
+/// A control field for each field card with a control level, up to the next type card.
 #[tactic(auto, using(crate::proofs::Followers::next_input))]
 pub(crate) fn levels_of(alloc: Global, behind: &[SpecCard]) -> Result<Vec<ControlField>, AllocError>
-    ensures levels { IfOk result (λ v. v.items ≡ levels_behind behind.now) }
+    ensures levels { IfOk result (λ v. v.items ≡ levels_behind control_level behind.now) }
     ensures kept { IfOk result (λ v. All IsControlRow v.items) }
 {
     let mut levels = Vec::new(alloc);
@@ -31,15 +32,47 @@ pub(crate) fn levels_of(alloc: Global, behind: &[SpecCard]) -> Result<Vec<Contro
     Ok(levels)
 }
 
+/// A match field for each field card with a match level, up to the next type card.
+#[tactic(auto, using(crate::proofs::Followers::next_input))]
+pub(crate) fn matches_of(
+    alloc: Global,
+    behind: &[SpecCard],
+) -> Result<Vec<ControlField>, AllocError>
+    ensures matches { IfOk result (λ v. v.items ≡ levels_behind match_level behind.now) }
+    ensures kept { IfOk result (λ v. All IsControlRow v.items) }
+{
+    let mut matches = Vec::new(alloc);
+    for card in behind {
+        match card.input() {
+            Some(InputSpec::Type(_)) => return Ok(matches),
+            Some(InputSpec::Field(field)) => {
+                if let Some(level) = match_of(field) {
+                    matches.push(level)?;
+                }
+            }
+            Some(InputSpec::And(_)) | None => {}
+        }
+    }
+    Ok(matches)
+}
+
 fn level_of(field: &InputField) -> Option<ControlField>
     ensures value { result ≡ types.control_field_of field.now }
     ensures kept { IfSome result IsControlRow }
 {
     let level = field.level?;
-    Some(control_field(level, field.decimals.is_some(), field.from, field.to))
+    Some(field_at(level, field.decimals.is_some(), field.from, field.to))
 }
 
-fn control_field(level: Within<1, 9>, is_numeric: bool, from: u16, to: u16) -> ControlField
+fn match_of(field: &InputField) -> Option<ControlField>
+    ensures value { result ≡ types.match_field_of field.now }
+    ensures kept { IfSome result IsControlRow }
+{
+    let level = field.match_level?;
+    Some(field_at(level, field.decimals.is_some(), field.from, field.to))
+}
+
+fn field_at(level: Within<1, 9>, is_numeric: bool, from: u16, to: u16) -> ControlField
     ensures value { result ≡ record { level = level; is_numeric = is_numeric; from = from; to = to } }
     ensures kept { IsControlRow result }
 {

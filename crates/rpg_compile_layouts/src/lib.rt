@@ -6,6 +6,7 @@ mod alternatives;
 mod codes;
 mod constants;
 mod fields;
+mod files;
 mod levels;
 mod lines;
 mod loaded;

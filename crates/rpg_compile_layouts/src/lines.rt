@@ -1,22 +1,20 @@
 //! Lines, from the groups of O cards.
 
 ghost use Rattle.std.specs.Prelude.{◌≡◌, All, map, IfOk};
-ghost use Rattle.std.specs.Option.{option_or};
-ghost use Rattle.rpg_cards.specs.Files as files;
 ghost use Rattle.rpg_compile_layouts.specs.Rows.{row_behind, rows_of};
 ghost use Rattle.rpg_compile_layouts.specs.Within.{IsLineWithin};
 ghost use Rattle.rpg_object_program.specs.Kept.{IsLineRow};
 ghost use Rattle.rpg_object_program.specs.Object.{line_row};
-ghost use Rattle.rpg_compile_program.specs.Lines as lines;
 
 use crate::FieldTable;
 use crate::alternatives::alternatives_of;
+use crate::files::{own_or, put_on};
 use crate::output_fields::fields_of;
 use crate::spacing::{spacing_of, time_of};
-use rpg_cards::{FileUse, IndexedCards, SpecCard, use_of};
+use rpg_cards::{IndexedCards, SpecCard};
 use rpg_effect::line::File;
 use rpg_object_program::row::Line;
-use rpg_sheet_specs::{OutputRecord, Word};
+use rpg_sheet_specs::OutputRecord;
 use std::alloc::{AllocError, Global};
 
 /// A row for each group of O cards, in which fields and constants stand by their numbers.
@@ -64,33 +62,4 @@ fn line_of(
         alternatives: alternatives_of(alloc, heading.conditions, behind)?,
         fields: fields_of(alloc, table, behind)?,
     })
-}
-
-/// The file that a record card names, else the one before.
-fn own_or<'a>(own: &'a Option<Word<8>>, before: &'a Option<Word<8>>) -> &'a Option<Word<8>>
-    ensures { result.now ≡ option_or own.now before.now }
-{
-    if own.is_some() { own } else { before }
-}
-
-/// The file of that name; the printer where it isn't known.
-fn put_on(source: &IndexedCards, name: &Option<Word<8>>) -> File
-    ensures { result ≡ lines.output_file (files.file_by name.now source.now) }
-{
-    let Some(name) = name else {
-        return File::Printer;
-    };
-    match source.file_named(name) {
-        Some(file) => put_by(use_of(file)),
-        None => File::Printer,
-    }
-}
-
-fn put_by(file_use: FileUse) -> File
-    ensures { result ≡ lines.file_put file_use }
-{
-    match file_use {
-        FileUse::Primary | FileUse::Printer => File::Printer,
-        FileUse::Disk => File::Disk,
-    }
 }

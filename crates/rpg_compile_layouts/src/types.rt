@@ -11,8 +11,9 @@ ghost use Rattle.rpg_compile_program.specs.Types as types;
 
 use crate::FieldTable;
 use crate::codes::codes_of;
-use crate::levels::levels_of;
-use rpg_cards::{SpecCard, number_of, shows_of};
+use crate::files::{own_or, read_from};
+use crate::levels::{levels_of, matches_of};
+use rpg_cards::{IndexedCards, SpecCard, number_of, shows_of};
 use rpg_effect::input::{InputField, InputFile};
 use rpg_effect::operation::Shows;
 use rpg_object_program::row::RecordType;
@@ -20,21 +21,25 @@ use rpg_sheet_specs::InputSpec;
 use std::alloc::{AllocError, Global};
 
 /// A row for each group of I cards, in which fields stand by their numbers.
-#[tactic(auto, using(crate::proofs::Followers::types_on_other))]
+#[tactic(auto, using(crate::proofs::Followers::types_other))]
 pub fn types_of(
     alloc: Global,
     table: &FieldTable,
-    cards: &[SpecCard],
+    source: &IndexedCards,
 ) -> Result<Vec<RecordType>, AllocError>
-    requires { All IsTypeWithin (types.types_on cards.now) }
-    ensures types { IfOk result (λ v. map type_row v.items ≡ map (renamed_type (key_number table.now)) (types.types_on cards.now)) }
+    requires { All IsTypeWithin (types.types_on source.now) }
+    ensures types { IfOk result (λ v. map type_row v.items ≡ map (renamed_type (key_number table.now)) (types.types_on source.now)) }
     ensures rows { IfOk result (λ v. All IsTypeRow (map type_row v.items)) }
 {
     let mut types = Vec::new(alloc);
-    let mut rest = cards;
+    let nameless = None;
+    let mut name = &nameless;
+    let mut rest = source.as_slice();
     while let Some((card, behind)) = rest.split_first() {
         if let Some(record_type) = card.record_type() {
-            types.push(type_of(alloc, table, record_type, behind)?)?;
+            name = own_or(&record_type.file, name);
+            let file = read_from(source, name);
+            types.push(type_of(alloc, table, file, record_type, behind)?)?;
         }
         rest = behind;
     }
@@ -45,20 +50,21 @@ pub fn types_of(
 fn type_of(
     alloc: Global,
     table: &FieldTable,
+    file: InputFile,
     record_type: &rpg_sheet_specs::RecordType,
     behind: &[SpecCard],
 ) -> Result<RecordType, AllocError>
-    requires { IsTypeWithin (type_behind record_type.now behind.now) }
-    ensures row { IfOk result (λ t. type_row t ≡ renamed_type (key_number table.now) (type_behind record_type.now behind.now)) }
+    requires { IsTypeWithin (type_behind file record_type.now behind.now) }
+    ensures row { IfOk result (λ t. type_row t ≡ renamed_type (key_number table.now) (type_behind file record_type.now behind.now)) }
     ensures kept { IfOk result (λ t. IsTypeRow (type_row t)) }
 {
     Ok(RecordType {
-        file: InputFile::Primary,
+        file,
         indicator: number_of(record_type.indicator),
         codes: codes_of(alloc, record_type.codes, behind)?,
         levels: levels_of(alloc, behind)?,
         inputs: inputs_of(alloc, table, behind)?,
-        matches: Vec::new(alloc),
+        matches: matches_of(alloc, behind)?,
     })
 }
 

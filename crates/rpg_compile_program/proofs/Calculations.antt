@@ -50,7 +50,7 @@ use Rattle.rpg_compile_program.proofs.Instructions.{IsOfColumns, IsRightCalculat
 use Rattle.rpg_compile_program.proofs.Numbers.{numbers_rename}
 use Rattle.rpg_compile_program.proofs.Operations.{IsCardFit, card_right}
 use Rattle.rpg_compile_program.proofs.RightRows.{IsRightDeed}
-use Rattle.rpg_compile_program.specs.Program.{key_numbers, program_of, sections}
+use Rattle.rpg_compile_program.specs.Program.{key_numbers, program_of, sections, version_for}
 use Rattle.rpg_compile_program.specs.Ranges.{AreCards, IsCalculation, IsCard, IsControl, IsInRange}
 use Rattle.rpg_compile_program.specs.Table.{key_form, table_of}
 
@@ -129,7 +129,7 @@ module _ (cards : List SpecCard) (allowance : ℕ) where
       indicators_right : bad_on_calculation cards k ≡ false
       indicators_right = indicators_on cards c.spec k is (h.indicators before c after split)
 
-      asked : MayAsk k
+      asked : MayAsk (version_for cards) k
       asked = may_be_asked cards k (or_parts _ _ indicators_right).0 range.conditions
 
       -- the constant of a factor has its form
@@ -188,8 +188,8 @@ module _ (cards : List SpecCard) (allowance : ℕ) where
     -- ---- calculations
 
     record IsOpen (before : List (Calculation Key)) (g full : CalculationGroup) : Type 0 where
-      first : MayAsk g.first
-      followers : Each MayAsk g.followers
+      first : MayAsk (version_for cards) g.first
+      followers : Each (MayAsk (version_for cards)) g.followers
       control : IsControl g.first.control_level
 
     begun : (before : List SpecCard) (c : SpecCard) (after : List SpecCard) (k : CalculationSpec) (front : List (Calculation Key)) (full : CalculationGroup) → cards ≡ before ++ c ∷ after → calculation_on c.spec ≡ Some k
@@ -197,7 +197,7 @@ module _ (cards : List SpecCard) (allowance : ℕ) where
     begun before c after k front full split is = record { first = asked before c after k split is; followers = tt; control = (range before c after k split is).control }
 
     abbrev IsRight : List (Calculation Key) → Calculation Key → List (Calculation Key) → Type 0
-    IsRight front g rest = IsRightCalculation forms g
+    IsRight front g rest = IsRightCalculation (version_for cards) forms g
 
     walk_of : Walk cards IsOpen IsRight
     walk_of = record {
@@ -205,31 +205,31 @@ module _ (cards : List SpecCard) (allowance : ℕ) where
       stray = λ before c after k split is joins none. begun before c after k _ _ split is;
       more = λ before c after k g split is joins open_is q. record {
         first = q.first;
-        followers = each_append MayAsk g.followers (k ∷ []) q.followers (asked before c after k split is, tt);
+        followers = each_append (MayAsk (version_for cards)) g.followers (k ∷ []) q.followers (asked before c after k split is, tt);
         control = q.control;
       };
       last = λ before c after g split ends_here q.
           let e = ending before c after g ends_here in
           let is_last : last_card g ≡ e.card = sym (ap last_card e.group) ∙ last_with (open_calculation_group before) e.card in
           record {
-            tested = group_tested g.first g.followers q.first q.followers;
+            tested = group_tested (version_for cards) g.first g.followers q.first q.followers;
             level = level_within g.first.control_level q.control;
             deed = subst (λ k. IsRightDeed forms (deed_of k)) (sym is_last) (card_right cards forms h.named h.good e.card (card_fit before c after e.card split e.is e.ends));
           };
     }
 
-    all_right : Each (IsRightCalculation forms) (calculations cards)
-    all_right = each_split (IsRightCalculation forms) (λ front g gs right. right) [] (calculations cards) (each_calculation cards IsOpen IsRight walk_of)
+    all_right : Each (IsRightCalculation (version_for cards) forms) (calculations cards)
+    all_right = each_split (IsRightCalculation (version_for cards) forms) (λ front g gs right. right) [] (calculations cards) (each_calculation cards IsOpen IsRight walk_of)
 
     -- ---- the program
 
     pub columns_kept : (r : PlaceRule) → IsOfColumns r → NoneTrue (broken (program_of cards allowance) (rules.Place r))
     unfolding broken program_of
     columns_kept r of =
-        instructions.places_kept (program_of cards allowance) forms (key_numbers cards) (numbers_rename (table_of cards)) refl (subroutine_level (sections cards).subroutines) (sections cards)
+        instructions.places_kept (program_of cards allowance) forms (key_numbers cards) (numbers_rename (table_of cards)) (subroutine_level (sections cards).subroutines) (sections cards)
         (record { detail = refl; total = refl; subroutines = refl })
         (record {
-          detail = each_control (IsRightCalculation forms) is_detail (calculations cards) all_right;
-          total = each_control (IsRightCalculation forms) is_total (calculations cards) all_right;
-          subroutines = each_body (IsRightCalculation forms) (of_control is_subroutine (calculations cards)) (each_control (IsRightCalculation forms) is_subroutine (calculations cards) all_right);
+          detail = each_control (IsRightCalculation (version_for cards) forms) is_detail (calculations cards) all_right;
+          total = each_control (IsRightCalculation (version_for cards) forms) is_total (calculations cards) all_right;
+          subroutines = each_body (IsRightCalculation (version_for cards) forms) (of_control is_subroutine (calculations cards)) (each_control (IsRightCalculation (version_for cards) forms) is_subroutine (calculations cards) all_right);
         }) r of

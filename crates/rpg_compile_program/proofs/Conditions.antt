@@ -1,25 +1,30 @@
 -- Conditions and resulting indicators of C cards that break no rule of cards are those that a program may have.
-use Rattle.std.proofs.Common.{◌≡◌, ◌≢◌, ◌⊎◌, ℕ, ◌≤◌, Bool, true, false, cond, ◌&&◌, List, [], ◌∷◌, ◌++◌, map, Option, None, Some, refl, inl, inr, arith}
+use Rattle.std.proofs.Common.{◌≡◌, ◌≢◌, ◌⊎◌, ℕ, ◌≤◌, Bool, true, false, cond, not, ◌||◌, ◌&&◌, List, [], ◌∷◌, ◌++◌, map, Option, None, Some, refl, inl, inr, arith}
 use Rattle.std.proofs.lemmas.Bool.{and_from, cases_Bool, eqb-false, le-leb, leb-false, leb-true, or_left, or_parts, or_right}
 use Rattle.std.specs.List.{filter_map}
 use Rattle.std.specs.Option.{ForSome, option_map_or}
-use Rattle.std.specs.Prelude.{nat_le, ◌==◌}
+use Rattle.std.specs.Prelude.{is_some, nat_le, ◌==◌}
 use Rattle.rpg_cards.specs.Calculations.{alternatives, awaited_level, condition_of, conditions_on, depends, in_places, is_or, tests_on}
 use Rattle.rpg_cards.specs.Deeds.{shows_of}
+use Rattle.rpg_cards.specs.Files.{file_for}
+use Rattle.rpg_cards.specs.Levels.{has_match_field}
 use Rattle.rpg_cards.specs.Plain.{Each}
+use Rattle.rpg_cards.specs.declared.files.FileUse.TheVariants.{Secondary}
 use Rattle.rpg_cards.specs.declared.spec_card.SpecCard.{SpecCard}
 use Rattle.rpg_compile_program.proofs.Each.{each_append}
 use Rattle.rpg_effect.specs.Control.{has_conditions}
 use Rattle.rpg_effect.specs.declared.condition.Conditions.{Conditions}
-use Rattle.rpg_faults_limits.specs.Indicators.{any_of, bad_in_calculation, cannot_be_set}
+use Rattle.rpg_faults_limits.specs.Indicators.{any_of, bad_in_calculation, cannot_be_set, is_barred_mr}
 use Rattle.rpg_object_program.specs.Kept.{IsIndicator}
+use Rattle.rpg_object_program.specs.declared.row.Version.{Version}
 use Rattle.rpg_object_program.specs.declared.row.Version.TheVariants as versions
-use Rattle.rpg_verify_rules.specs.Indicators.{all_asked, are_settable, if_any, is_settable, is_within}
+use Rattle.rpg_verify_rules.specs.Indicators.{all_asked, are_settable, if_any, is_settable, is_within, most_asked}
 use Rattle.rpg_sheet_specs.specs.declared.calculation.CalculationSpec.{CalculationSpec}
 use Rattle.rpg_sheet_specs.specs.declared.calculation.ControlLevel.{ControlLevel}
 use Rattle.rpg_sheet_specs.specs.declared.calculation.ControlLevel.TheVariants as control
 use Rattle.rpg_sheet_specs.specs.declared.indicator.Condition as sheet
 use Rattle.rpg_sheet_specs.specs.declared.indicator.Three.{Three}
+use Rattle.rpg_compile_program.specs.Program.{version_for}
 use Rattle.rpg_compile_program.specs.Ranges.{InThree, IsCondition, IsControl}
 
 -- ---- resulting indicators
@@ -52,68 +57,82 @@ all_settable t right range =
 
 -- ---- conditions
 
-abbrev may_ask : Option sheet.Condition → Bool
-may_ask o = option_map_or (λ (c : sheet.Condition). nat_le c.indicator 128) o true
+-- what every version may ask
+pub may_ask_low : (v : Version) (n : ℕ) → n ≤ 128 → nat_le n (most_asked v) ≡ true
+may_ask_low versions.One n low = le-leb n 128 low
+may_ask_low versions.Two n low = le-leb n 129 (omega arith)
 
-asked_if_any : (cards : List SpecCard) (o : Option sheet.Condition) → option_map_or (bad_in_calculation cards) o false ≡ false → ForSome o IsCondition → may_ask o ≡ true
-asked_if_any cards None right range = refl
-asked_if_any cards (Some c) right range =
-    let within : c.indicator ≤ 129 = (range c refl).highest in
-    let other : c.indicator ≢ 129 = eqb-false c.indicator 129 (by_mr (c.indicator == 129) (or_parts (c.indicator == 111) ((c.indicator == 129) && true) right).1) in
-    le-leb c.indicator 128 (omega arith)
+-- what F8 doesn't bar may be asked in the program's version
+pub asked_number : (cards : List SpecCard) (n : ℕ) → is_barred_mr cards n ≡ false → n ≤ 129 → nat_le n (most_asked (version_for cards)) ≡ true
+asked_number cards n right within = by (is_some (file_for Secondary cards)) (has_match_field cards) right
   where
-    by_mr : (b : Bool) → (b && true) ≡ false → b ≡ false
-    by_mr true h = h
-    by_mr false h = refl
+    not_mr : (b : Bool) → (b && true) ≡ false → b ≡ false
+    not_mr true h = h
+    not_mr false h = refl
 
-places_asked : (a b c : Option sheet.Condition) → may_ask a ≡ true → may_ask b ≡ true → may_ask c ≡ true → all_asked versions.One (in_places (map condition_of (filter_map (λ x. x) (a ∷ b ∷ c ∷ [])))) ≡ true
-places_asked None None None p q r = refl
-places_asked None None (Some z) p q r = and_from _ _ r refl
-places_asked None (Some y) None p q r = and_from _ _ q refl
-places_asked None (Some y) (Some z) p q r = and_from _ _ q (and_from _ _ r refl)
-places_asked (Some x) None None p q r = and_from _ _ p refl
-places_asked (Some x) None (Some z) p q r = and_from _ _ p (and_from _ _ r refl)
-places_asked (Some x) (Some y) None p q r = and_from _ _ p (and_from _ _ q refl)
-places_asked (Some x) (Some y) (Some z) p q r = and_from _ _ p (and_from _ _ q r)
+    by : (a b : Bool) → ((n == 129) && not b) ≡ false → nat_le n (most_asked (cond (a || b) versions.Two versions.One)) ≡ true
+    by true b h = le-leb n 129 within
+    by false true h = le-leb n 129 within
+    by false false h = let other : n ≢ 129 = eqb-false n 129 (not_mr (n == 129) h) in le-leb n 128 (omega arith)
 
--- a card's conditions may be asked in version 1
-abbrev pub MayAsk : CalculationSpec → Type 0
-MayAsk k = all_asked versions.One (conditions_on k) ≡ true
+module _ (v : Version) where
+  abbrev may_ask : Option sheet.Condition → Bool
+  may_ask o = option_map_or (λ (c : sheet.Condition). nat_le c.indicator (most_asked v)) o true
 
-pub may_be_asked : (cards : List SpecCard) (k : CalculationSpec) → any_of (bad_in_calculation cards) k.conditions ≡ false → InThree IsCondition k.conditions → MayAsk k
+  places_asked : (a b c : Option sheet.Condition) → may_ask a ≡ true → may_ask b ≡ true → may_ask c ≡ true → all_asked v (in_places (map condition_of (filter_map (λ x. x) (a ∷ b ∷ c ∷ [])))) ≡ true
+  places_asked None None None p q r = refl
+  places_asked None None (Some z) p q r = and_from _ _ r refl
+  places_asked None (Some y) None p q r = and_from _ _ q refl
+  places_asked None (Some y) (Some z) p q r = and_from _ _ q (and_from _ _ r refl)
+  places_asked (Some x) None None p q r = and_from _ _ p refl
+  places_asked (Some x) None (Some z) p q r = and_from _ _ p (and_from _ _ r refl)
+  places_asked (Some x) (Some y) None p q r = and_from _ _ p (and_from _ _ q refl)
+  places_asked (Some x) (Some y) (Some z) p q r = and_from _ _ p (and_from _ _ q r)
+
+  -- a card's conditions may be asked in that version
+  abbrev pub MayAsk : CalculationSpec → Type 0
+  MayAsk k = all_asked v (conditions_on k) ≡ true
+
+  -- a test has conditions, and they may be asked
+  pub record IsTested (cs : Conditions) : Type 0 where
+    pub some : has_conditions cs ≡ true
+    pub asked : all_asked v cs ≡ true
+
+asked_if_any : (cards : List SpecCard) (o : Option sheet.Condition) → option_map_or (bad_in_calculation cards) o false ≡ false → ForSome o IsCondition → may_ask (version_for cards) o ≡ true
+asked_if_any cards None right range = refl
+asked_if_any cards (Some c) right range = asked_number cards c.indicator (or_parts (c.indicator == 111) (is_barred_mr cards c.indicator) right).1 (range c refl).highest
+
+pub may_be_asked : (cards : List SpecCard) (k : CalculationSpec) → any_of (bad_in_calculation cards) k.conditions ≡ false → InThree IsCondition k.conditions → MayAsk (version_for cards) k
 may_be_asked cards k right range =
     let t = k.conditions in
     let two = or_parts _ _ right in
     let one = or_parts _ _ two.0 in
-    places_asked t.first t.second t.third (asked_if_any cards t.first one.0 range.first) (asked_if_any cards t.second one.1 range.second) (asked_if_any cards t.third two.1 range.third)
+    places_asked (version_for cards) t.first t.second t.third
+    (asked_if_any cards t.first one.0 range.first) (asked_if_any cards t.second one.1 range.second) (asked_if_any cards t.third two.1 range.third)
 
 -- ---- the tests of a group
 
--- a test has conditions, and they may be asked in version 1
-pub record IsTested (cs : Conditions) : Type 0 where
-  pub some : has_conditions cs ≡ true
-  pub asked : all_asked versions.One cs ≡ true
+module _ (v : Version) where
+  tests_right : (k : CalculationSpec) → MayAsk v k → Each (IsTested v) (tests_on k)
+  tests_right k asked = by (depends k) refl
+    where
+      by : (b : Bool) → depends k ≡ b → Each (IsTested v) (cond b (conditions_on k ∷ []) [])
+      by true some = (record { some = some; asked = asked }, tt)
+      by false some = tt
 
-tests_right : (k : CalculationSpec) → MayAsk k → Each IsTested (tests_on k)
-tests_right k asked = by (depends k) refl
-  where
-    by : (b : Bool) → depends k ≡ b → Each IsTested (cond b (conditions_on k ∷ []) [])
-    by true some = (record { some = some; asked = asked }, tt)
-    by false some = tt
+  alternatives_tested : (so_far : List Conditions) (ks : List CalculationSpec) → Each (IsTested v) so_far → Each (MayAsk v) ks → Each (Each (IsTested v)) (alternatives so_far ks)
+  alternatives_tested so_far [] h asked = (h, tt)
+  alternatives_tested so_far (k ∷ ks) h asked =
+      by (is_or k.control_level) (alternatives_tested (tests_on k) ks (tests_right k asked.0) asked.1)
+      (alternatives_tested (so_far ++ tests_on k) ks (each_append (IsTested v) so_far (tests_on k) h (tests_right k asked.0)) asked.1)
+    where
+      by : (b : Bool) → Each (Each (IsTested v)) (alternatives (tests_on k) ks) → Each (Each (IsTested v)) (alternatives (so_far ++ tests_on k) ks)
+          → Each (Each (IsTested v)) (cond b (so_far ∷ alternatives (tests_on k) ks) (alternatives (so_far ++ tests_on k) ks))
+      by true begun more = (h, begun)
+      by false begun more = more
 
-alternatives_tested : (so_far : List Conditions) (ks : List CalculationSpec) → Each IsTested so_far → Each MayAsk ks → Each (Each IsTested) (alternatives so_far ks)
-alternatives_tested so_far [] h asked = (h, tt)
-alternatives_tested so_far (k ∷ ks) h asked =
-    by (is_or k.control_level) (alternatives_tested (tests_on k) ks (tests_right k asked.0) asked.1)
-    (alternatives_tested (so_far ++ tests_on k) ks (each_append IsTested so_far (tests_on k) h (tests_right k asked.0)) asked.1)
-  where
-    by : (b : Bool) → Each (Each IsTested) (alternatives (tests_on k) ks) → Each (Each IsTested) (alternatives (so_far ++ tests_on k) ks)
-        → Each (Each IsTested) (cond b (so_far ∷ alternatives (tests_on k) ks) (alternatives (so_far ++ tests_on k) ks))
-    by true begun more = (h, begun)
-    by false begun more = more
-
-pub group_tested : (first : CalculationSpec) (followers : List CalculationSpec) → MayAsk first → Each MayAsk followers → Each (Each IsTested) (alternatives (tests_on first) followers)
-group_tested first followers asked more = alternatives_tested (tests_on first) followers (tests_right first asked) more
+  pub group_tested : (first : CalculationSpec) (followers : List CalculationSpec) → MayAsk v first → Each (MayAsk v) followers → Each (Each (IsTested v)) (alternatives (tests_on first) followers)
+  group_tested first followers asked more = alternatives_tested (tests_on first) followers (tests_right first asked) more
 
 -- the level indicator that it waits for
 pub level_within : (c : ControlLevel) → IsControl c → ForSome (awaited_level c) (λ n. n ≤ 110)

@@ -13,7 +13,7 @@ use Rattle.rpg_compile_program.specs.Whole.{IsCodeOf, called_number}
 use Rattle.rpg_effect.specs.Control.{has_conditions}
 use Rattle.rpg_effect.specs.Forms.{form_at}
 use Rattle.rpg_effect.specs.Right.{KeepsRules}
-use Rattle.rpg_effect.specs.Rows.{form_of, holds_positions, is_two_sided, row_of}
+use Rattle.rpg_effect.specs.Rows.{all_used, form_of, holds_positions, is_two_sided, is_writable_use, row_of}
 use Rattle.rpg_effect.specs.declared.condition.Conditions.{Conditions}
 use Rattle.rpg_effect.specs.declared.form.FieldForm.{FieldForm}
 use Rattle.rpg_effect.specs.declared.operation.Action.{Action}
@@ -22,18 +22,20 @@ use Rattle.rpg_effect.specs.declared.operation.Instruction.{Instruction}
 use Rattle.rpg_effect.specs.declared.operation.Instruction.TheVariants as made
 use Rattle.rpg_effect.specs.declared.operation.Operand.{Operand}
 use Rattle.rpg_effect.specs.declared.row.Use.{Use}
+use Rattle.rpg_object_program.specs.Instructions.{columns}
 use Rattle.rpg_object_program.specs.Object.{Object}
 use Rattle.rpg_object_program.specs.declared.section.Section.{Section}
 use Rattle.rpg_object_program.specs.declared.section.Section.TheVariants as section
 use Rattle.rpg_effect_renaming.proofs.Rows.{right_same}
 use Rattle.rpg_effect_renaming.specs.Naming.{IsRenaming, renamed_action}
-use Rattle.rpg_object_program.specs.declared.row.Version.TheVariants as versions
+use Rattle.rpg_object_program.specs.declared.row.Version.{Version}
+use Rattle.rpg_verify_rules.proofs.Columns.{columns_same, kinds_same, written_same}
 use Rattle.rpg_verify_rules.proofs.Kept.{NoneTrue}
 use Rattle.rpg_verify_rules.specs.Indicators.{all_asked}
-use Rattle.rpg_verify_rules.specs.PlaceRules.{are_marked, is_ascending, is_form_ascending, is_ordered, is_searched_well, judged_behind_detail, place_breaks, places_judged, section_judged, subroutines_judged}
+use Rattle.rpg_verify_rules.specs.PlaceRules.{are_marked, columns_of_kind, holds_found, is_ascending, is_form_ascending, is_ordered, is_searched_well, judged_behind_detail, place_breaks, places_judged, section_judged, subroutines_judged}
 use Rattle.rpg_verify_rules.specs.declared.rule.PlaceRule.{PlaceRule}
 use Rattle.rpg_verify_rules.specs.declared.rule.PlaceRule.TheVariants.{V16, V17, V18, V19, V20, V21, V22}
-use Rattle.rpg_compile_program.proofs.Conditions.{IsTested}
+use Rattle.rpg_compile_program.proofs.Conditions.{IsTested, may_ask_low}
 use Rattle.rpg_compile_program.proofs.RightRows.{IsRightAct, IsRightDeed, ascends, is_sought_well, keeps_rules}
 
 -- a rule on what an instruction has, and not on where it leads
@@ -46,13 +48,13 @@ IsOfColumns V20 = Unit {0}
 IsOfColumns V21 = ⊥
 IsOfColumns V22 = ⊥
 
--- a calculation with nothing wrong
-pub record IsRightCalculation (forms : Key → Option FieldForm) (g : Calculation Key) : Type 0 where
-  pub tested : Each (Each IsTested) g.alternatives
+-- a calculation with nothing wrong, in a program of that version
+pub record IsRightCalculation (v : Version) (forms : Key → Option FieldForm) (g : Calculation Key) : Type 0 where
+  pub tested : Each (Each (IsTested v)) g.alternatives
   pub level : ForSome g.level (λ n. n ≤ 110)
   pub deed : IsRightDeed forms g.deed
 
-module _ (p : Object) (forms : Key → Option FieldForm) (number : Key → ℕ) (renames : IsRenaming key_cmp nat_cmp forms (form_at p.fields) number) (first_version : p.version ≡ versions.One) where
+module _ (p : Object) (forms : Key → Option FieldForm) (number : Key → ℕ) (renames : IsRenaming key_cmp nat_cmp forms (form_at p.fields) number) where
   abbrev at : ℕ → Option FieldForm
   at n = form_at p.fields n
 
@@ -85,7 +87,7 @@ module _ (p : Object) (forms : Key → Option FieldForm) (number : Key → ℕ) 
   sought_same (Move side b r) = refl
   sought_same (SetIndicators on s) = refl
 
-  ascending_same : (u : Option (Use (Operand ℕ))) → is_ascending p u ≡ ascends at u
+  ascending_same : (u : Option (Use (Operand ℕ))) → all_used (is_ascending p) u ≡ ascends at u
   ascending_same None = refl
   ascending_same (Some u) = refl
 
@@ -101,23 +103,29 @@ module _ (p : Object) (forms : Key → Option FieldForm) (number : Key → ℕ) 
       kept : KeepsRules at (row_of (form_of at) (renamed_action number x))
       kept = keeps_rules at (row_of (form_of at) (renamed_action number x)) (right_same renames x h.row)
 
+      acted : Instruction ℕ
+      acted = made.Act (renamed_action number x)
+
+      same : columns_of_kind p acted ≡ columns p acted
+      same = columns_same p acted kept.good kept.kinds
+
       by : (r : PlaceRule) → IsOfColumns r → place_breaks r p s (made.Act (renamed_action number x)) ≡ false
       by V16 of = not_from_true _ kept.good
-      by V17 of = not_from_true _ kept.kinds
-      by V18 of = not_from_true _ kept.result
-      by V19 of = not_from_true _ (and_from _ _ (marks_same x ∙ h.marked) (searched_well x h kept.one_sided))
-      by V20 of = not_from_true _ (and_from _ _ kept.tables kept.positions)
+      by V17 of = not_from_true _ (kinds_same p acted kept.good ∙ kept.kinds)
+      by V18 of = not_from_true _ (ap (λ r. all_used (is_writable_use at) r.result) same ∙ kept.result)
+      by V19 of = not_from_true _ (and_from _ _ (marks_same x ∙ h.marked) (ap (is_searched_well p) same ∙ searched_well x h kept.one_sided))
+      by V20 of = not_from_true _ (ap (holds_found p) (written_same p acted kept.good kept.kinds kept.result) ∙ and_from _ _ kept.tables kept.positions)
       by V21 of = absurd of
       by V22 of = absurd of
 
   -- ---- other instructions
 
-  branch_kept : (is_taken_where : Bool) (cs : Conditions) (target : ℕ) → all_asked versions.One cs ≡ true → (is_taken_where || has_conditions cs) ≡ true → IsKept (made.Branch is_taken_where cs target)
+  branch_kept : (is_taken_where : Bool) (cs : Conditions) (target : ℕ) → all_asked p.version cs ≡ true → (is_taken_where || has_conditions cs) ≡ true → IsKept (made.Branch is_taken_where cs target)
   unfolding place_breaks holds_positions
   branch_kept is_taken_where cs target asked some s V16 of = refl
   branch_kept is_taken_where cs target asked some s V17 of = refl
   branch_kept is_taken_where cs target asked some s V18 of = refl
-  branch_kept is_taken_where cs target asked some s V19 of = not_from_true _ (and_from _ _ (and_from _ _ (ap (λ v. all_asked v cs) first_version ∙ asked) some) refl)
+  branch_kept is_taken_where cs target asked some s V19 of = not_from_true _ (and_from _ _ (and_from _ _ asked some) refl)
   branch_kept is_taken_where cs target asked some s V20 of = refl
   branch_kept is_taken_where cs target asked some s V21 of = absurd of
   branch_kept is_taken_where cs target asked some s V22 of = absurd of
@@ -154,16 +162,16 @@ module _ (p : Object) (forms : Key → Option FieldForm) (number : Key → ℕ) 
 
   -- ---- a calculation's code
 
-  skips_kept : (target : ℕ) (cs : List Conditions) → Each IsTested cs → Each IsKept (map (skip_code target) cs)
+  skips_kept : (target : ℕ) (cs : List Conditions) → Each (IsTested p.version) cs → Each IsKept (map (skip_code target) cs)
   skips_kept target [] h = tt
   skips_kept target (c ∷ cs) h = (branch_kept false c target h.0.asked h.0.some, skips_kept target cs h.1)
 
-  alternative_kept : (next operation : ℕ) (cs : List Conditions) → Each IsTested cs → Each IsKept (alternative_code next operation cs)
+  alternative_kept : (next operation : ℕ) (cs : List Conditions) → Each (IsTested p.version) cs → Each IsKept (alternative_code next operation cs)
   alternative_kept next operation [] h = tt
   alternative_kept next operation (c ∷ []) h = (branch_kept true c operation h.0.asked refl, tt)
   alternative_kept next operation (c ∷ d ∷ rest) h = (branch_kept false c next h.0.asked h.0.some, alternative_kept next operation (d ∷ rest) h.1)
 
-  tests_kept : (place operation behind : ℕ) (alts : List (List Conditions)) → Each (Each IsTested) alts → Each IsKept (tests_code place operation behind alts)
+  tests_kept : (place operation behind : ℕ) (alts : List (List Conditions)) → Each (Each (IsTested p.version)) alts → Each IsKept (tests_code place operation behind alts)
   tests_kept place operation behind [] h = tt
   tests_kept place operation behind (cs ∷ []) h = skips_kept behind cs h.0
   tests_kept place operation behind (cs ∷ ds ∷ rest) h =
@@ -172,7 +180,7 @@ module _ (p : Object) (forms : Key → Option FieldForm) (number : Key → ℕ) 
 
   level_kept : (behind : ℕ) (o : Option ℕ) → ForSome o (λ n. n ≤ 110) → Each IsKept (level_code behind o)
   level_kept behind None h = tt
-  level_kept behind (Some n) h = let within = h n refl in (branch_kept false (on_level n) behind (and_from _ _ (le-leb n 128 (omega arith)) refl) refl, tt)
+  level_kept behind (Some n) h = let within = h n refl in (branch_kept false (on_level n) behind (and_from _ _ (may_ask_low p.version n (omega arith)) refl) refl, tt)
 
   when_kept : (b : Bool) (code : List (Instruction ℕ)) → Each IsKept code → Each IsKept (cond b code [])
   when_kept true code h = h
@@ -190,7 +198,7 @@ module _ (p : Object) (forms : Key → Option FieldForm) (number : Key → ℕ) 
     step_kept (Ends l) h = (return_kept own, tt)
     step_kept Nothing h = tt
 
-    group_kept : (place : ℕ) (g : Calculation Key) → IsRightCalculation forms g → Each IsKept (group_code number place_of callee_of own place g)
+    group_kept : (place : ℕ) (g : Calculation Key) → IsRightCalculation p.version forms g → Each IsKept (group_code number place_of callee_of own place g)
     unfolding group_code
     group_kept place g h =
         let waiting = level_code (place + size g) g.level in
@@ -200,7 +208,7 @@ module _ (p : Object) (forms : Key → Option FieldForm) (number : Key → ℕ) 
         (each_append IsKept waiting (asking ++ doing) (level_kept (place + size g) g.level h.level)
         (each_append IsKept asking doing (tests_kept (place + waits g.level) (place + waits g.level + tests g.alternatives) (place + size g) g.alternatives h.tested) (step_kept g.deed h.deed)))
 
-    code_kept : (place : ℕ) (gs : List (Calculation Key)) → Each (IsRightCalculation forms) gs → Each IsKept (code_from number place_of callee_of own place gs)
+    code_kept : (place : ℕ) (gs : List (Calculation Key)) → Each (IsRightCalculation p.version forms) gs → Each IsKept (code_from number place_of callee_of own place gs)
     unfolding code_from
     code_kept place [] h = tt
     code_kept place (g ∷ gs) h =
@@ -208,7 +216,7 @@ module _ (p : Object) (forms : Key → Option FieldForm) (number : Key → ℕ) 
 
   -- ---- sections
 
-  section_kept : (callee_of : Option Name → ℕ) (own first : ℕ) (gs : List (Calculation Key)) → Each (IsRightCalculation forms) gs → Each IsKept (section_code number callee_of own first gs)
+  section_kept : (callee_of : Option Name → ℕ) (own first : ℕ) (gs : List (Calculation Key)) → Each (IsRightCalculation p.version forms) gs → Each IsKept (section_code number callee_of own first gs)
   unfolding section_code
   section_kept callee_of own first gs h = code_kept (λ l. label_place l gs first) callee_of own first gs h
 
@@ -216,12 +224,12 @@ module _ (p : Object) (forms : Key → Option FieldForm) (number : Key → ℕ) 
   none_of_section s r of code h = none_broken (place_breaks r p s) code (each_map IsKept (λ i. place_breaks r p s i ≡ false) code (λ i kept. kept s r of) h)
 
   pub record AreRight (s : Sections Key) : Type 0 where
-    pub detail : Each (IsRightCalculation forms) s.detail
-    pub total : Each (IsRightCalculation forms) s.total
-    pub subroutines : Each (λ (x : Subroutine Key). Each (IsRightCalculation forms) x.body) s.subroutines
+    pub detail : Each (IsRightCalculation p.version forms) s.detail
+    pub total : Each (IsRightCalculation p.version forms) s.total
+    pub subroutines : Each (λ (x : Subroutine Key). Each (IsRightCalculation p.version forms) x.body) s.subroutines
 
   module _ (level : ℕ → ℕ) (s : Sections Key) (code : IsCodeOf number level s p) (h : AreRight s) (r : PlaceRule) (of : IsOfColumns r) where
-    none_of_subroutines : (n own first : ℕ) (ss : List (Subroutine Key)) → Each (λ (x : Subroutine Key). Each (IsRightCalculation forms) x.body) ss
+    none_of_subroutines : (n own first : ℕ) (ss : List (Subroutine Key)) → Each (λ (x : Subroutine Key). Each (IsRightCalculation p.version forms) x.body) ss
         → NoneTrue (subroutines_judged r p n (subroutines_code number (called_number s) level own first ss))
     unfolding subroutines_code
     none_of_subroutines n own first [] h = λ k e. absurd cc

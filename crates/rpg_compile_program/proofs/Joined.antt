@@ -8,9 +8,11 @@ use Rattle.std.specs.Prelude.{nat_le, sum_by, ◌==◌}
 use Rattle.rpg_cards.specs.Keys.{Key}
 use Rattle.rpg_cards.specs.Plain.{Each}
 use Rattle.rpg_cards.specs.Groups.{Group}
+use Rattle.rpg_cards.specs.Levels.{control_level, is_at}
+use Rattle.rpg_cards.specs.declared.spec_card.SpecCard.{SpecCard}
 use Rattle.rpg_effect.specs.Input.{TypeRow}
 use Rattle.rpg_effect.specs.declared.input.ControlField.{ControlField}
-use Rattle.rpg_faults.specs.Places.{first_length, good_length, has_bad, input_columns, is_at_level, joined_length, lengths_differ, level_length, levels}
+use Rattle.rpg_faults.specs.Places.{first_length, good_length, has_bad, input_columns, joined_length, lengths_differ, level_length, levels}
 use Rattle.rpg_effect_renaming.specs.Naming.{renamed_type}
 use Rattle.rpg_verify_rules.specs.TypeRules.{all_measured, is_measured, measure, measures}
 use Rattle.rpg_verify_rules.specs.TypeRules as row
@@ -18,7 +20,7 @@ use Rattle.rpg_sheet_specs.specs.declared.input.InputField.{InputField}
 use Rattle.rpg_sheet_specs.specs.declared.input.InputSpec.{InputSpec}
 use Rattle.rpg_sheet_specs.specs.declared.input.RecordType.{RecordType}
 use Rattle.rpg_compile_program.proofs.Lists.{or_first, or_second}
-use Rattle.rpg_compile_program.specs.Types.{control_field, control_field_of, input_fields_in, type_of}
+use Rattle.rpg_compile_program.specs.Types.{card_type, control_field, field_at_level, input_fields_in}
 
 -- ---- columns that are good
 
@@ -26,7 +28,7 @@ pub record HasColumns (f : InputField) : Type 0 where
   pub first : 1 ≤ f.from
   pub order : f.from ≤ f.to
 
-some_columns : (f : InputField) → HasColumns f → (input_columns f ≡ f.to + 1 - f.from) × (1 ≤ input_columns f)
+pub some_columns : (f : InputField) → HasColumns f → (input_columns f ≡ f.to + 1 - f.from) × (1 ≤ input_columns f)
 some_columns f h =
     let low = h.first in
     let high = h.order in
@@ -35,28 +37,30 @@ some_columns f h =
 
 -- ---- one type: the sums of both are one
 
-abbrev At : ℕ → List InputField → List InputField
-At level fs = filter (is_at_level level) fs
+module _ (level_of : InputField → Option ℕ) where
+  abbrev pub At : ℕ → List InputField → List InputField
+  At level fs = filter (is_at level_of level) fs
 
-abbrev Sum : ℕ → List InputField → ℕ
-Sum level fs = sum_by input_columns (At level fs)
+  abbrev pub Sum : ℕ → List InputField → ℕ
+  Sum level fs = sum_by input_columns (At level fs)
 
-one_more : (level : ℕ) (f : InputField) (fs : List InputField) → Sum level (f ∷ fs) ≡ cond (is_at_level level f) (input_columns f) 0 + Sum level fs
-one_more level f fs = by (is_at_level level f)
-  where
-    by : (b : Bool) → sum_by input_columns (cond b (f ∷ At level fs) (At level fs)) ≡ cond b (input_columns f) 0 + Sum level fs
-    by true = sum_by-cons input_columns f (At level fs)
-    by false = omega arith
+  one_more : (level : ℕ) (f : InputField) (fs : List InputField) → Sum level (f ∷ fs) ≡ cond (is_at level_of level f) (input_columns f) 0 + Sum level fs
+  one_more level f fs = by (is_at level_of level f)
+    where
+      by : (b : Bool) → sum_by input_columns (cond b (f ∷ At level fs) (At level fs)) ≡ cond b (input_columns f) 0 + Sum level fs
+      by true = sum_by-cons input_columns f (At level fs)
+      by false = omega arith
 
-pub same_sum : (level : ℕ) (fs : List InputField) → Each HasColumns fs → row.joined_width level (filter_map control_field_of fs) ≡ Sum level fs
-same_sum level [] h = refl
-same_sum level (f ∷ fs) h =
-    let more = one_more level f fs in
-    by_level f.level (same_sum level fs h.1) ∙ sym more
-  where
-    by_level : (o : Option ℕ) → row.joined_width level (filter_map control_field_of fs) ≡ Sum level fs → row.joined_width level (cons_option (option_map (control_field f) o) (filter_map control_field_of fs)) ≡ cond (option_map_or (λ l. l == level) o false) (input_columns f) 0 + Sum level fs
-    by_level None r = let s = r in omega arith
-    by_level (Some l) r = ap (λ n. cond (l == level) n 0 + row.joined_width level (filter_map control_field_of fs)) (sym (some_columns f h.0).0) ∙ ap (λ n. cond (l == level) (input_columns f) 0 + n) r
+  pub same_sum : (level : ℕ) (fs : List InputField) → Each HasColumns fs → row.joined_width level (filter_map (field_at_level level_of) fs) ≡ Sum level fs
+  same_sum level [] h = refl
+  same_sum level (f ∷ fs) h =
+      let more = one_more level f fs in
+      by_level (level_of f) (same_sum level fs h.1) ∙ sym more
+    where
+      by_level : (o : Option ℕ) → row.joined_width level (filter_map (field_at_level level_of) fs) ≡ Sum level fs
+          → row.joined_width level (cons_option (option_map (control_field f) o) (filter_map (field_at_level level_of) fs)) ≡ cond (option_map_or (λ l. l == level) o false) (input_columns f) 0 + Sum level fs
+      by_level None r = let s = r in omega arith
+      by_level (Some l) r = ap (λ n. cond (l == level) n 0 + row.joined_width level (filter_map (field_at_level level_of) fs)) (sym (some_columns f h.0).0) ∙ ap (λ n. cond (l == level) (input_columns f) 0 + n) r
 
 -- ---- levels of types
 
@@ -66,15 +70,15 @@ InGroup g = Each HasColumns (input_fields_in g.followers)
 abbrev pub Joined : ℕ → Group RecordType InputSpec → ℕ
 Joined level g = joined_length level g.followers
 
-positive : (fs : List InputField) → Each HasColumns fs → has_bad fs ≡ false
+pub positive : (fs : List InputField) → Each HasColumns fs → has_bad fs ≡ false
 positive [] h = refl
 positive (f ∷ fs) h = ap (λ b. b || has_bad fs) (ne_eqb (input_columns f) 0 (λ e. let low = (some_columns f h.0).1 in omega arith)) ∙ positive fs h.1
 
-each_at : (level : ℕ) (fs : List InputField) → Each HasColumns fs → Each HasColumns (At level fs)
-each_at level [] h = tt
-each_at level (f ∷ fs) h = by (is_at_level level f) (each_at level fs h.1)
+pub each_filtered : (test : InputField → Bool) (fs : List InputField) → Each HasColumns fs → Each HasColumns (filter test fs)
+each_filtered test [] h = tt
+each_filtered test (f ∷ fs) h = by (test f) (each_filtered test fs h.1)
   where
-    by : (b : Bool) → Each HasColumns (At level fs) → Each HasColumns (cond b (f ∷ At level fs) (At level fs))
+    by : (b : Bool) → Each HasColumns (filter test fs) → Each HasColumns (cond b (f ∷ filter test fs) (filter test fs))
     by true r = (h.0, r)
     by false r = r
 
@@ -91,7 +95,7 @@ length_is (f ∷ fs) h =
     ∙ sym (ap (λ b. cond b None (Some (sum_by input_columns (f ∷ fs)))) (ne_eqb (sum_by input_columns (f ∷ fs)) 0 (λ e. omega arith)))
 
 level_is : (level : ℕ) (g : Group RecordType InputSpec) → InGroup g → level_length level g.followers ≡ some_if (Joined level g)
-level_is level g h = length_is (At level (input_fields_in g.followers)) (each_at level (input_fields_in g.followers) h)
+level_is level g h = length_is (At control_level level (input_fields_in g.followers)) (each_filtered (is_at control_level level) (input_fields_in g.followers) h)
 
 -- the joined length of the first that has the level
 abbrev pub first_joined : ℕ → List (Group RecordType InputSpec) → ℕ
@@ -106,10 +110,10 @@ first_is level (g ∷ gs) h = (λ i. option_or (level_is level g h.0 i) (first_i
     by true e = refl
     by false e = sym (ap (λ b. cond b None (Some (Joined level g))) e)
 
-pub first_same : (number : Key → ℕ) (level : ℕ) (gs : List (Group RecordType InputSpec)) → Each InGroup gs → measure level (map (renamed_type number) (map type_of gs)) ≡ first_joined level gs
-first_same number level [] h = refl
-first_same number level (g ∷ gs) h =
-    (λ i. cond (same_sum level (input_fields_in g.followers) h.0 i == 0) (first_same number level gs h.1 i) (same_sum level (input_fields_in g.followers) h.0 i))
+pub first_same : (cards : List SpecCard) (number : Key → ℕ) (level : ℕ) (gs : List (Group RecordType InputSpec)) → Each InGroup gs → measure level (map (renamed_type number) (map (card_type cards) gs)) ≡ first_joined level gs
+first_same cards number level [] h = refl
+first_same cards number level (g ∷ gs) h =
+    (λ i. cond (same_sum control_level level (input_fields_in g.followers) h.0 i == 0) (first_same cards number level gs h.1 i) (same_sum control_level level (input_fields_in g.followers) h.0 i))
 
 -- ---- a type among others
 

@@ -14,8 +14,10 @@ pub mod Instructions
 pub mod Joined
 pub mod Known
 pub mod Labels
+pub mod LevelSums
 pub mod Lines
 pub mod Lists
+pub mod Matched
 pub mod Names
 pub mod Numbers
 pub mod OpenGroups

@@ -10,13 +10,14 @@ use Rattle.std.specs.Prelude.{find, is_some, nat_eq}
 use Rattle.rpg_cards.specs.Cards.{file_on}
 use Rattle.rpg_cards.specs.Files.{file_by, file_for, file_named, file_use, files, same_use}
 use Rattle.rpg_cards.specs.declared.files.FileUse.{FileUse}
-use Rattle.rpg_cards.specs.declared.files.FileUse.TheVariants.{Primary, Printer, Disk}
+use Rattle.rpg_cards.specs.declared.files.FileUse.TheVariants.{Primary, Secondary, Printer, Disk}
 use Rattle.rpg_cards.specs.declared.spec_card.SpecCard.{SpecCard}
 use Rattle.rpg_faults_limits.specs.Files.{bad_file, lacks_file, longest_in_file}
 use Rattle.rpg_sheet_specs.specs.declared.file.FileSpec.{FileSpec}
 
 same_use-self : (u : FileUse) → same_use u u ≡ true
 same_use-self Primary = refl
+same_use-self Secondary = refl
 same_use-self Printer = refl
 same_use-self Disk = refl
 
@@ -39,7 +40,8 @@ module _ (cards : List SpecCard)
   first_is before c after f split is =
       let good : bad_file before f ≡ false = subst (λ (o : Option FileSpec). option_map_or (bad_file before) o false ≡ false) is (fit before c after split) in
       let two = or_parts _ _ good in
-      let one = or_parts _ _ two.0 in
+      let three = or_parts _ _ two.0 in
+      let one = or_parts _ _ three.0 in
       let alone = none_if (file_for (file_use f) before) one.1 in
       let test = λ (g : FileSpec). same_use (file_use f) (file_use g) in
       let here : find test (files (c ∷ after)) ≡ Some f =

@@ -29,7 +29,7 @@ use Rattle.rpg_faults_operands.specs.Kinds.{wrong_in_output, wrong_operand}
 use Rattle.rpg_faults_operands.specs.Names.{lacks_name, names_nothing}
 use Rattle.rpg_faults_operands.specs.Operands.{Operand, operands_ending, operands_listed, output_operand, output_operand_on}
 use Rattle.rpg_effect.specs.Forms.{form_at, has_field, length_of}
-use Rattle.rpg_effect.specs.LineFaults.{KeepsFieldRules, blanks_writable, fits_editing}
+use Rattle.rpg_effect.specs.LineFaults.{KeepsFieldRules, fits_editing}
 use Rattle.rpg_effect.specs.declared.condition.Condition.{Condition}
 use Rattle.rpg_effect.specs.declared.form.FieldForm.{FieldForm}
 use Rattle.rpg_effect.specs.declared.line.Editing.{Editing}
@@ -44,9 +44,9 @@ use Rattle.rpg_object_program.specs.Object.{Object, file_length}
 use Rattle.rpg_effect_renaming.proofs.Lines.{keeps_same}
 use Rattle.rpg_effect_renaming.specs.Naming.{renamed_field}
 use Rattle.rpg_verify_rules.proofs.Kept.{NoneTrue}
-use Rattle.rpg_object_program.specs.declared.row.Version.TheVariants as versions
+use Rattle.rpg_object_program.specs.declared.row.Version.{Version}
 use Rattle.rpg_verify_rules.specs.Indicators.{all_asked, if_any, may_be_asked}
-use Rattle.rpg_verify_rules.specs.LineRules.{edits_form, is_field_asked, is_field_edited, is_field_there, is_spaced_on, is_word_for, lacks_room, lacks_word, line_breaks}
+use Rattle.rpg_verify_rules.specs.LineRules.{asks_wrongly, blanks_wrongly, edits_form, is_field_asked, is_field_edited, is_field_there, is_spaced_on, is_word_for, lacks_editing, lacks_room, lacks_word, line_breaks}
 use Rattle.rpg_verify_rules.specs.Rules.{broken}
 use Rattle.rpg_verify_rules.specs.declared.rule.LineRule.{LineRule}
 use Rattle.rpg_verify_rules.specs.declared.rule.LineRule.TheVariants.{V2, V8, V9, V10, V11, V12, V13, V14, V15}
@@ -54,6 +54,7 @@ use Rattle.rpg_verify_rules.specs.declared.rule.Rule.TheVariants as rules
 use Rattle.rpg_cards.specs.Names.{form_in, form_of_name}
 use Rattle.rpg_cards.specs.Keys.{Named}
 use Rattle.rpg_faults_operands.specs.Names.{is_undefined}
+use Rattle.rpg_compile_program.proofs.Conditions.{asked_number}
 use Rattle.rpg_compile_program.proofs.FiledGroups as filed
 use Rattle.rpg_compile_program.proofs.Lines.{length_same}
 use Rattle.rpg_compile_program.proofs.Numbers.{numbers_rename}
@@ -62,7 +63,7 @@ use Rattle.rpg_compile_program.proofs.OutputFiles as named_files
 use Rattle.rpg_compile_program.proofs.Words.{words_same}
 use Rattle.rpg_compile_program.specs.Lines.{line_alternatives, file_put, is_unmoved, line_field_of, card_line, output_fields_in, put_length, output_file, spacing_of}
 use Rattle.rpg_compile_program.specs.Lines as words
-use Rattle.rpg_compile_program.specs.Program.{key_numbers, numbered_line, program_of}
+use Rattle.rpg_compile_program.specs.Program.{key_numbers, numbered_line, program_of, version_for}
 use Rattle.rpg_compile_program.specs.Ranges.{AreCards, InThree, IsCard, IsCondition, IsInRange, IsLine, IsMovement, IsOutput, IsOutputField, IsSkip, IsSpace}
 use Rattle.rpg_compile_program.specs.Table.{key_form, key_word, table_of}
 use Rattle.rpg_sheet_specs.specs.declared.output.Movement.{Movement}
@@ -145,20 +146,13 @@ each_at P (y ∷ ys) x after h = each_at P ys x after h.1
 
 -- ---- conditions
 
--- it may be asked in version 1
-abbrev IsAsked : Condition → Type 0
-IsAsked c = may_be_asked versions.One c ≡ true
+-- it may be asked in that version
+abbrev IsAsked : Version → Condition → Type 0
+IsAsked v c = may_be_asked v c ≡ true
 
-asked_one : (cards : List SpecCard) (o : Option sheet.Condition) → option_map_or (bad_in_output cards) o false ≡ false → ForSome o IsCondition → Each IsAsked (map condition_of (option_to_list o))
+asked_one : (cards : List SpecCard) (o : Option sheet.Condition) → option_map_or (bad_in_output cards) o false ≡ false → ForSome o IsCondition → Each (IsAsked (version_for cards)) (map condition_of (option_to_list o))
 asked_one cards None good range = tt
-asked_one cards (Some c) good range =
-    let within = (range c refl).highest in
-    let other = eqb-false c.indicator 129 (by_mr (c.indicator == 129) good) in
-    (le-leb c.indicator 128 (omega (arith, other)), tt)
-  where
-    by_mr : (b : Bool) → (b && true) ≡ false → b ≡ false
-    by_mr true h = h
-    by_mr false h = refl
+asked_one cards (Some c) good range = (asked_number cards c.indicator good (range c refl).highest, tt)
 
 each_append : {X : Type 0} (P : X → Type 0) (xs ys : List X) → Each P xs → Each P ys → Each P (xs ++ ys)
 each_append P [] ys h g = g
@@ -175,19 +169,19 @@ three_of P f (Some x) None (Some z) p q r = (p.0, r)
 three_of P f (Some x) (Some y) None p q r = (p.0, q)
 three_of P f (Some x) (Some y) (Some z) p q r = (p.0, (q.0, r))
 
-pub asked_three : (cards : List SpecCard) (t : Three (Option sheet.Condition)) → any_of (bad_in_output cards) t ≡ false → InThree IsCondition t → Each IsAsked (standing t)
+pub asked_three : (cards : List SpecCard) (t : Three (Option sheet.Condition)) → any_of (bad_in_output cards) t ≡ false → InThree IsCondition t → Each (IsAsked (version_for cards)) (standing t)
 asked_three cards t good range =
     let two = or_parts _ _ good in
     let one = or_parts _ _ two.0 in
-    three_of IsAsked condition_of t.first t.second t.third (asked_one cards t.first one.0 range.first) (asked_one cards t.second one.1 range.second) (asked_one cards t.third two.1 range.third)
+    three_of (IsAsked (version_for cards)) condition_of t.first t.second t.third (asked_one cards t.first one.0 range.first) (asked_one cards t.second one.1 range.second) (asked_one cards t.third two.1 range.third)
 
-asked_place : (cs : List Condition) (k : ℕ) → Each IsAsked cs → if_any (may_be_asked versions.One) (slice_get cs k) ≡ true
-asked_place [] k h = refl
-asked_place (c ∷ cs) zero h = h.0
-asked_place (c ∷ cs) (suc k) h = asked_place cs k h.1
+asked_place : (v : Version) (cs : List Condition) (k : ℕ) → Each (IsAsked v) cs → if_any (may_be_asked v) (slice_get cs k) ≡ true
+asked_place v [] k h = refl
+asked_place v (c ∷ cs) zero h = h.0
+asked_place v (c ∷ cs) (suc k) h = asked_place v cs k h.1
 
-pub asked_places : (cs : List Condition) → Each IsAsked cs → all_asked versions.One (in_places cs) ≡ true
-asked_places cs h = and_from _ _ (asked_place cs 0 h) (and_from _ _ (asked_place cs 1 h) (asked_place cs 2 h))
+pub asked_places : (v : Version) (cs : List Condition) → Each (IsAsked v) cs → all_asked v (in_places cs) ≡ true
+asked_places v cs h = and_from _ _ (asked_place v cs 0 h) (and_from _ _ (asked_place v cs 1 h) (asked_place v cs 2 h))
 
 each_passes : {X : Type 0} (test : X → Bool) (xs : List X) → Each (λ x. test x ≡ true) xs → list_all test xs ≡ true
 each_passes test [] h = refl
@@ -198,18 +192,19 @@ none_passes test [] h = refl
 none_passes test (x ∷ xs) h = or_from (test x) (list_any test xs) h.0 (none_passes test xs h.1)
 
 -- the conditions of AND and OR cards
-abbrev IsFurtherAsked : OutputSpec → Type 0
-IsFurtherAsked (output.Record r) = Unit {0}
-IsFurtherAsked (output.And t) = Each IsAsked (standing t)
-IsFurtherAsked (output.Or t) = Each IsAsked (standing t)
-IsFurtherAsked (output.Field f) = Unit {0}
+module _ (v : Version) where
+  abbrev IsFurtherAsked : OutputSpec → Type 0
+  IsFurtherAsked (output.Record r) = Unit {0}
+  IsFurtherAsked (output.And t) = Each (IsAsked v) (standing t)
+  IsFurtherAsked (output.Or t) = Each (IsAsked v) (standing t)
+  IsFurtherAsked (output.Field f) = Unit {0}
 
-alternatives_asked : (so_far : List Condition) (os : List OutputSpec) → Each IsAsked so_far → Each IsFurtherAsked os → list_all (list_all (may_be_asked versions.One)) (line_alternatives so_far os) ≡ true
-alternatives_asked so_far [] h good = and_from _ _ (each_passes (may_be_asked versions.One) so_far h) refl
-alternatives_asked so_far (output.Record r ∷ os) h good = alternatives_asked so_far os h good.1
-alternatives_asked so_far (output.And t ∷ os) h good = alternatives_asked (so_far ++ standing t) os (each_append IsAsked so_far (standing t) h good.0) good.1
-alternatives_asked so_far (output.Or t ∷ os) h good = and_from _ _ (each_passes (may_be_asked versions.One) so_far h) (alternatives_asked (standing t) os good.0 good.1)
-alternatives_asked so_far (output.Field f ∷ os) h good = alternatives_asked so_far os h good.1
+  alternatives_asked : (so_far : List Condition) (os : List OutputSpec) → Each (IsAsked v) so_far → Each IsFurtherAsked os → list_all (list_all (may_be_asked v)) (line_alternatives so_far os) ≡ true
+  alternatives_asked so_far [] h good = and_from _ _ (each_passes (may_be_asked v) so_far h) refl
+  alternatives_asked so_far (output.Record r ∷ os) h good = alternatives_asked so_far os h good.1
+  alternatives_asked so_far (output.And t ∷ os) h good = alternatives_asked (so_far ++ standing t) os (each_append (IsAsked v) so_far (standing t) h good.0) good.1
+  alternatives_asked so_far (output.Or t ∷ os) h good = and_from _ _ (each_passes (may_be_asked v) so_far h) (alternatives_asked (standing t) os good.0 good.1)
+  alternatives_asked so_far (output.Field f ∷ os) h good = alternatives_asked so_far os h good.1
 
 -- ---- movements
 
@@ -266,11 +261,28 @@ module _ (p : Object) (len : ℕ) (f : LineField ℕ) (k : KeepsFieldRules (form
   never true b e = not_from_true b e
   never false b e = refl
 
+  editing_fits : lacks_editing p f ≡ false
+  editing_fits = never _ _ field_edited
+
+  never_inside : (a b : Bool) → b ≡ false → (a && b) ≡ false
+  never_inside true b e = e
+  never_inside false b e = refl
+
   field_worded : lacks_word p f ≡ false
-  field_worded = never _ _ (worded_by f.editing f.fill k.editing)
+  field_worded = never_inside _ _ (never _ _ (worded_by f.editing f.fill k.editing))
 
   field_placed : lacks_room p len f ≡ false
   field_placed = never _ _ k.room
+
+  never_first : (a b : Bool) → a ≡ true → (not a && b) ≡ false
+  never_first true b e = refl
+  never_first false b e = cc
+
+  field_blanked : blanks_wrongly p len f ≡ false
+  field_blanked = never_first _ _ k.blanked
+
+  asked_well : is_field_asked p.version f ≡ true → asks_wrongly p len f ≡ false
+  asked_well h = never_first _ _ h
 
 -- ---- the source
 
@@ -316,7 +328,7 @@ module _ (cards : List SpecCard) (allowance : ℕ) where
     -- ---- a line's card
 
     pub record IsLineGood (name : Option (List ℕ)) (r : OutputRecord) : Type 0 where
-      pub asked : Each IsAsked (standing r.conditions)
+      pub asked : Each (IsAsked (version_for cards)) (standing r.conditions)
       pub still : (moves r.movement && option_map_or is_disk (file_by name cards) false) ≡ false
       pub movement : IsMovement r.movement
 
@@ -359,14 +371,14 @@ module _ (cards : List SpecCard) (allowance : ℕ) where
         ∙ or_right (list_any (is_same (constant.Text x)) (first ++ second)) _ (itself (constant.Text x) (option_and_then text_constant (output_field_on s)) third)
 
     pub record IsFieldGood (name : Option (List ℕ)) (f : OutputField) : Type 0 where
-      pub asked : Each IsAsked (standing f.conditions)
+      pub asked : Each (IsAsked (version_for cards)) (standing f.conditions)
       pub past : is_past (file_by name cards) f.end ≡ false
       pub keeps : (len : ℕ) → f.end ≤ len → KeepsFieldRules forms texts len (line_field_of f)
 
     abbrev pub IsOutputGood : Option (List ℕ) → OutputSpec → Type 0
     IsOutputGood name (output.Record r) = Unit {0}
-    IsOutputGood name (output.And t) = Each IsAsked (standing t)
-    IsOutputGood name (output.Or t) = Each IsAsked (standing t)
+    IsOutputGood name (output.And t) = Each (IsAsked (version_for cards)) (standing t)
+    IsOutputGood name (output.Or t) = Each (IsAsked (version_for cards)) (standing t)
     IsOutputGood name (output.Field f) = IsFieldGood name f
 
     -- what a rule says of the field on a card
@@ -423,19 +435,21 @@ module _ (cards : List SpecCard) (allowance : ℕ) where
     abbrev at : Key → ℕ
     at = key_numbers cards
 
-    first_version : p.version ≡ versions.One
+    version_is : p.version ≡ version_for cards
     unfolding program_of
-    first_version = refl
+    version_is = refl
 
     -- the length of the file that a line goes to
     file_is : (f : FileSpec) → IsOwn f → (u : FileUse) → file_use f ≡ u → is_output u ≡ true → put_length cards (file_put u) ≡ f.record_length
     file_is f own uses.Primary is test = cc
+    file_is f own uses.Secondary is test = cc
     file_is f own uses.Printer is test = ap words.record_length_of (subst (λ (u : FileUse). file_for u cards ≡ Some f) is own.only)
     file_is f own uses.Disk is test = ap words.record_length_of (subst (λ (u : FileUse). file_for u cards ≡ Some f) is own.only)
 
     -- a line for the disk stands still
     still_on : (f : FileSpec) (m : Movement) → (moves m && is_disk f) ≡ false → (u : FileUse) → file_use f ≡ u → file_put u ≡ put.Disk → moves m ≡ false
     still_on f m still uses.Primary is e = cc
+    still_on f m still uses.Secondary is e = cc
     still_on f m still uses.Printer is e = cc
     still_on f m still uses.Disk is e = by_moves (moves m) (subst (λ (u : FileUse). (moves m && same_use uses.Disk u) ≡ false) is still)
       where
@@ -447,11 +461,11 @@ module _ (cards : List SpecCard) (allowance : ℕ) where
       keeps : KeepsFieldRules (form_at p.fields) (word_at p) len f
       asked : is_field_asked p.version f ≡ true
 
-    field_right : (len : ℕ) (f : OutputField) → KeepsFieldRules forms texts len (line_field_of f) → Each IsAsked (standing f.conditions) → IsRightField len (renamed_field at (line_field_of f))
+    field_right : (len : ℕ) (f : OutputField) → KeepsFieldRules forms texts len (line_field_of f) → Each (IsAsked (version_for cards)) (standing f.conditions) → IsRightField len (renamed_field at (line_field_of f))
     unfolding program_of
     field_right len f keeps asked = record {
       keeps = keeps_same (numbers_rename (table_of cards)) texts (word_at p) (words_same cards allowance) len (line_field_of f) keeps;
-      asked = asked_places (standing f.conditions) asked;
+      asked = asked_places (version_for cards) (standing f.conditions) asked;
     }
 
     fields_right : (name : Option (List ℕ)) (file : FileSpec) (len : ℕ) → file_by name cards ≡ Some file → file.record_length ≡ len → (os : List OutputSpec) → Each (IsOutputGood name) os →
@@ -466,7 +480,7 @@ module _ (cards : List SpecCard) (allowance : ℕ) where
         let within : f.end ≤ len = let l = ltb-false file.record_length f.end past in omega arith in
         (field_right len f (here.keeps len within) here.asked, fields_right name file len by is os good.1)
 
-    further_asked : (name : Option (List ℕ)) (os : List OutputSpec) → Each (IsOutputGood name) os → Each IsFurtherAsked os
+    further_asked : (name : Option (List ℕ)) (os : List OutputSpec) → Each (IsOutputGood name) os → Each (IsFurtherAsked (version_for cards)) os
     further_asked name [] good = tt
     further_asked name (output.Record r ∷ os) good = (tt, further_asked name os good.1)
     further_asked name (output.And t ∷ os) good = (good.0, further_asked name os good.1)
@@ -510,13 +524,13 @@ module _ (cards : List SpecCard) (allowance : ℕ) where
         by_rule : (r : LineRule) → line_breaks r p (numbered_line cards (words.line_of_file (file_put (file_use good.0.0)) (put_length cards (file_put (file_use good.0.0))) g)) ≡ false
         by_rule V2 = ne_eqb (file_length p (file_put (file_use good.0.0))) 0 (λ e. let some = (put_of g good).some in let l = length_same cards allowance (file_put (file_use good.0.0)) ∙ (put_of g good).length in omega arith)
         by_rule V8 = not_from_true _ (spaced_right (file_put (file_use good.0.0)) g.heading.movement good.1.0.movement (put_of g good).still)
-        by_rule V9 = not_from_true _ (ap (λ v. list_all (list_all (may_be_asked v)) (line_alternatives (standing g.heading.conditions) g.followers)) first_version ∙ alternatives_asked (standing g.heading.conditions) g.followers good.1.0.asked (further_asked g.file g.followers good.1.1))
+        by_rule V9 = not_from_true _ (ap (λ v. list_all (list_all (may_be_asked v)) (line_alternatives (standing g.heading.conditions) g.followers)) version_is ∙ alternatives_asked (version_for cards) (standing g.heading.conditions) g.followers good.1.0.asked (further_asked g.file g.followers good.1.1))
         by_rule V10 = not_from_true _ (each_passes (is_field_there p) _ (all (λ f. is_field_there p f ≡ true) (λ f k. field_there p _ f k.keeps)))
-        by_rule V11 = not_from_true _ (each_passes (is_field_edited p) _ (all (λ f. is_field_edited p f ≡ true) (λ f k. field_edited p _ f k.keeps)))
+        by_rule V11 = none_passes (lacks_editing p) _ (all (λ f. lacks_editing p f ≡ false) (λ f k. editing_fits p _ f k.keeps))
         by_rule V12 = none_passes (lacks_word p) _ (all (λ f. lacks_word p f ≡ false) (λ f k. field_worded p _ f k.keeps))
         by_rule V13 = none_passes (lacks_room p (file_length p (file_put (file_use good.0.0)))) _ (all (λ f. lacks_room p (file_length p (file_put (file_use good.0.0))) f ≡ false) (λ f k. field_placed p _ f k.keeps))
-        by_rule V14 = not_from_true _ (each_passes _ _ (all (λ f. blanks_writable (form_at p.fields) (word_at p) f ≡ true) (λ f k. k.keeps.blanked)))
-        by_rule V15 = not_from_true _ (each_passes (is_field_asked p.version) _ (all (λ f. is_field_asked p.version f ≡ true) (λ f k. k.asked)))
+        by_rule V14 = none_passes (blanks_wrongly p (file_length p (file_put (file_use good.0.0)))) _ (all (λ f. blanks_wrongly p (file_length p (file_put (file_use good.0.0))) f ≡ false) (λ f k. field_blanked p _ f k.keeps))
+        by_rule V15 = none_passes (asks_wrongly p (file_length p (file_put (file_use good.0.0)))) _ (all (λ f. asks_wrongly p (file_length p (file_put (file_use good.0.0))) f ≡ false) (λ f k. asked_well p _ f k.keeps k.asked))
 
     line_right : (g : Group OutputRecord OutputSpec) → InFile g → (r : LineRule) → line_breaks r p (numbered_line cards (card_line cards g)) ≡ false
     line_right g good r =

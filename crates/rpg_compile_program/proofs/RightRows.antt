@@ -150,9 +150,9 @@ module _ {K : Type 0} (forms : K → Option FieldForm) where
 
   -- ---- deeds
 
-  -- what stands in a column is in ascending sequence
+  -- what stands in a column, if anything does, is in ascending sequence
   abbrev pub ascends : Option (Use (Operand K)) → Bool
-  ascends None = false
+  ascends None = true
   ascends (Some u) = is_form_ascending (forms u.operand.field)
 
   -- a search for the next one above or below is through what is in ascending sequence

@@ -7,7 +7,7 @@ use Rattle.rpg_cards.specs.Cards.{file_on, output_record_on, type_on}
 use Rattle.rpg_cards.specs.Files.{file_for, file_use, files, is_input, is_output, same_use}
 use Rattle.rpg_cards.specs.Groups.{input_role, open_group, output_role}
 use Rattle.rpg_cards.specs.declared.files.FileUse.{FileUse}
-use Rattle.rpg_cards.specs.declared.files.FileUse.TheVariants.{Disk, Primary, Printer}
+use Rattle.rpg_cards.specs.declared.files.FileUse.TheVariants.{Disk, Primary, Printer, Secondary}
 use Rattle.rpg_cards.specs.declared.spec_card.SpecCard.{SpecCard}
 use Rattle.rpg_faults_limits.specs.Files.{bad_file, lacks_file, longest_in_file}
 use Rattle.rpg_verify_rules.proofs.Kept.{NoneTrue}
@@ -31,13 +31,20 @@ find_passes test (y ∷ ys) x e = by (test y) refl e (find_passes test ys x)
 
 same_use-equal : (u v : FileUse) → same_use u v ≡ true → u ≡ v
 same_use-equal Primary Primary e = refl
+same_use-equal Secondary Secondary e = refl
 same_use-equal Printer Printer e = refl
 same_use-equal Disk Disk e = refl
+same_use-equal Primary Secondary e = cc
 same_use-equal Primary Printer e = cc
 same_use-equal Primary Disk e = cc
+same_use-equal Secondary Primary e = cc
+same_use-equal Secondary Printer e = cc
+same_use-equal Secondary Disk e = cc
 same_use-equal Printer Primary e = cc
+same_use-equal Printer Secondary e = cc
 same_use-equal Printer Disk e = cc
 same_use-equal Disk Primary e = cc
+same_use-equal Disk Secondary e = cc
 same_use-equal Disk Printer e = cc
 
 module _ (cards : List SpecCard) (rules : KeepsCardRules cards) where
@@ -62,6 +69,9 @@ module _ (cards : List SpecCard) (rules : KeepsCardRules cards) where
 
   pub longest_record : record_length_of (file_for Primary cards) ≤ 9999
   longest_record = longest_of Primary
+
+  pub longest_secondary_record : record_length_of (file_for Secondary cards) ≤ 9999
+  longest_secondary_record = longest_of Secondary
 
   pub widest_line : record_length_of (file_for Printer cards) ≤ 132
   widest_line = longest_of Printer

@@ -49,6 +49,7 @@ record_length_of file = option_map_or (λ f. f.record_length) file 0
 -- the file that a line goes to; the printer where it isn't known
 abbrev pub file_put : FileUse → File
 file_put uses.Primary = files.Printer
+file_put uses.Secondary = files.Printer
 file_put uses.Printer = files.Printer
 file_put uses.Disk = files.Disk
 

@@ -1,10 +1,11 @@
 -- The program that the cards of a source stand for: what they say by names, at the numbers of the names.
-use Rattle.std.specs.Prelude.{ℕ, List, map}
+use Rattle.std.specs.Prelude.{ℕ, Bool, ◌||◌, List, map, is_some, if◌then◌else◌}
 use Rattle.std.specs.Option.{option_and_then}
 use Rattle.rpg_cards.specs.Calculations.{calculations}
 use Rattle.rpg_cards.specs.Keys.{Key}
 use Rattle.rpg_cards.specs.Sections.{Sections, sections_of}
 use Rattle.rpg_cards.specs.Files.{file_for}
+use Rattle.rpg_cards.specs.Levels.{has_match_field}
 use Rattle.rpg_cards.specs.declared.files.FileUse.TheVariants as uses
 use Rattle.rpg_cards.specs.declared.spec_card.SpecCard.{SpecCard}
 use Rattle.rpg_compile_program.specs.Levels.{subroutine_level}
@@ -12,6 +13,7 @@ use Rattle.rpg_compile_program.specs.Whole.{detail_code, subroutine_rows, total_
 use Rattle.rpg_effect.specs.Input.{TypeRow}
 use Rattle.rpg_effect.specs.Lines.{Line}
 use Rattle.rpg_object_program.specs.Object.{LineRow, Object}
+use Rattle.rpg_object_program.specs.declared.row.Version.{Version}
 use Rattle.rpg_object_program.specs.declared.row.Version.TheVariants as versions
 use Rattle.rpg_effect_renaming.specs.Naming.{renamed_line, renamed_type}
 use Rattle.rpg_compile_program.specs.Data.{values_of}
@@ -39,13 +41,19 @@ line_rows cards = map (numbered_line cards) (lines_on cards)
 abbrev pub sections : List SpecCard → Sections Key
 sections cards = sections_of (calculations cards)
 
--- of version 1: its records are those of the primary file alone
+-- version 2 has a secondary file or match fields
+abbrev pub version_with : Bool → Bool → Version
+version_with has_secondary has_match_field = if has_secondary || has_match_field then versions.Two else versions.One
+
+abbrev pub version_for : List SpecCard → Version
+version_for cards = version_with (is_some (file_for uses.Secondary cards)) (has_match_field cards)
+
 unfoldable pub program_of : List SpecCard → ℕ → Object
 program_of cards allowance = record {
-  version = versions.One;
+  version = version_for cards;
   allowance = allowance;
   record_length = record_length_of (file_for uses.Primary cards);
-  secondary_length = 0;
+  secondary_length = record_length_of (file_for uses.Secondary cards);
   printer_length = record_length_of (file_for uses.Printer cards);
   disk_length = record_length_of (file_for uses.Disk cards);
   overflow = option_and_then (λ f. f.overflow) (file_for uses.Printer cards);

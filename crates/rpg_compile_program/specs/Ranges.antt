@@ -44,16 +44,17 @@ IsCondition c = IsIndicator c.indicator
 abbrev pub IsCode : RecordCode → Type 0
 IsCode c = IsCharacter c.character
 
--- L1 to L9
-abbrev pub IsControlLevel : ℕ → Type 0
-IsControlLevel n = (1 ≤ n) × (n ≤ 9)
+-- L1 to L9, M1 to M9
+abbrev pub IsFieldLevel : ℕ → Type 0
+IsFieldLevel n = (1 ≤ n) × (n ≤ 9)
 
 pub record IsType (t : RecordType) : Type 0 where
   pub indicator : ForSome t.indicator IsIndicator
   pub codes : InThree IsCode t.codes
 
 pub record IsInputField (f : InputField) : Type 0 where
-  pub level : ForSome f.level IsControlLevel
+  pub level : ForSome f.level IsFieldLevel
+  pub match_level : ForSome f.match_level IsFieldLevel
   pub indicators : InThree IsIndicator f.indicators
 
 abbrev pub IsInput : InputSpec → Type 0

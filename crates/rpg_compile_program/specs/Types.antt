@@ -1,23 +1,41 @@
 -- Record types, from the groups of I cards, by names.
 use Rattle.std.specs.Prelude.{ℕ, ◌++◌, List, [], ◌∷◌, map, Option, is_some}
 use Rattle.std.specs.List.{filter_map, flat_map}
-use Rattle.std.specs.Option.{option_map}
+use Rattle.std.specs.Option.{option_map, option_map_or}
 use Rattle.rpg_cards.specs.Deeds.{shows_of}
 use Rattle.rpg_cards.specs.Keys.{Key, Named}
 use Rattle.rpg_cards.specs.Cards.{input_field_in}
+use Rattle.rpg_cards.specs.Files.{file_by, file_use}
 use Rattle.rpg_cards.specs.Groups.{Group, groups, input_role}
+use Rattle.rpg_cards.specs.Levels.{control_level, match_level}
+use Rattle.rpg_cards.specs.declared.files.FileUse.{FileUse}
+use Rattle.rpg_cards.specs.declared.files.FileUse.TheVariants as uses
 use Rattle.rpg_cards.specs.declared.spec_card.SpecCard.{SpecCard}
 use Rattle.rpg_effect.specs.Input.{TypeRow}
 use Rattle.rpg_effect.specs.declared.input.ControlField.{ControlField}
 use Rattle.rpg_effect.specs.declared.input.InputField as row
-use Rattle.rpg_effect.specs.declared.input.InputFile.TheVariants.{Primary}
+use Rattle.rpg_effect.specs.declared.input.InputFile.{InputFile}
+use Rattle.rpg_effect.specs.declared.input.InputFile.TheVariants.{Primary, Secondary}
 use Rattle.rpg_effect.specs.declared.input.RecordCode as row_code
+use Rattle.rpg_sheet_specs.specs.declared.file.FileSpec.{FileSpec}
 use Rattle.rpg_sheet_specs.specs.declared.indicator.Three.{Three}
 use Rattle.rpg_sheet_specs.specs.declared.input.InputField.{InputField}
 use Rattle.rpg_sheet_specs.specs.declared.input.InputSpec.{InputSpec}
 use Rattle.rpg_sheet_specs.specs.declared.input.InputSpec.TheVariants as input
 use Rattle.rpg_sheet_specs.specs.declared.input.RecordCode.{RecordCode}
 use Rattle.rpg_sheet_specs.specs.declared.input.RecordType.{RecordType}
+
+-- ---- files
+
+-- the file that records are read from; the primary one where it isn't known
+abbrev pub file_read : FileUse → InputFile
+file_read uses.Primary = Primary
+file_read uses.Secondary = Secondary
+file_read uses.Printer = Primary
+file_read uses.Disk = Primary
+
+abbrev pub input_file : Option FileSpec → InputFile
+input_file file = option_map_or (λ f. file_read (file_use f)) file Primary
 
 -- ---- record codes
 
@@ -40,8 +58,16 @@ and_card_codes (input.Field f) = []
 abbrev pub control_field : InputField → ℕ → ControlField
 control_field f level = record { level = level; is_numeric = is_some f.decimals; from = f.from; to = f.to }
 
+-- where the field has a level of that choice
+module _ (level_of : InputField → Option ℕ) where
+  abbrev pub field_at_level : InputField → Option ControlField
+  field_at_level f = option_map (control_field f) (level_of f)
+
 abbrev pub control_field_of : InputField → Option ControlField
-control_field_of f = option_map (control_field f) f.level
+control_field_of f = field_at_level control_level f
+
+abbrev pub match_field_of : InputField → Option ControlField
+match_field_of f = field_at_level match_level f
 
 abbrev pub input_row : InputField → row.InputField Key
 input_row f = record { from = f.from; to = f.to; field = Named f.name; shows = shows_of f.indicators }
@@ -51,16 +77,19 @@ input_row f = record { from = f.from; to = f.to; field = Named f.name; shows = s
 abbrev pub input_fields_in : List InputSpec → List InputField
 input_fields_in cards = filter_map input_field_in cards
 
--- of the primary file, and without match fields
-abbrev pub type_of : Group RecordType InputSpec → TypeRow Key
-type_of g = record {
-  file = Primary;
+-- a type of that file
+abbrev pub type_of_file : InputFile → Group RecordType InputSpec → TypeRow Key
+type_of_file file g = record {
+  file = file;
   indicator = g.heading.indicator;
   codes = codes_of g.heading.codes ++ flat_map and_card_codes g.followers;
   levels = filter_map control_field_of (input_fields_in g.followers);
   inputs = map input_row (input_fields_in g.followers);
-  matches = [];
+  matches = filter_map match_field_of (input_fields_in g.followers);
 }
 
+abbrev pub card_type : List SpecCard → Group RecordType InputSpec → TypeRow Key
+card_type cards g = type_of_file (input_file (file_by g.file cards)) g
+
 abbrev pub types_on : List SpecCard → List (TypeRow Key)
-types_on cards = map type_of (groups input_role cards)
+types_on cards = map (card_type cards) (groups input_role cards)

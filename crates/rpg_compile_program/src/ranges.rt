@@ -79,11 +79,12 @@ fn field_in_range(field: &InputField)
     ensures { ranges.IsInputField field.now }
 {
     level_in_range(field.level);
+    level_in_range(field.match_level);
     indicators_in_range(field.indicators);
 }
 
 fn level_in_range(level: Option<Within<1, 9>>)
-    ensures { ForSome level ranges.IsControlLevel }
+    ensures { ForSome level ranges.IsFieldLevel }
 {
     if let Some(level) = level {
         level.number();

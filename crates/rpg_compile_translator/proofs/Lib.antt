@@ -14,4 +14,5 @@ pub mod Programs
 pub mod Sizes
 pub mod Totals
 pub mod Types
+pub mod Versions
 pub mod Walks

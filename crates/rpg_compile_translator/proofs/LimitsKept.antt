@@ -11,7 +11,7 @@ use Rattle.rpg_compile_translator.proofs.Totals.{fields_within, name_storage_wit
 use Rattle.rpg_compile_translator.proofs.Types.{few_types, types_within}
 use Rattle.rpg_compile_translator.specs.Limits.{KeepsLimits}
 use Rattle.rpg_compile_program.proofs.Flow.{plain}
-use Rattle.rpg_compile_program.proofs.Settings.{longest_disk_record, longest_record, shortest_record, widest_line}
+use Rattle.rpg_compile_program.proofs.Settings.{longest_disk_record, longest_record, longest_secondary_record, shortest_record, widest_line}
 use Rattle.rpg_compile_program.specs.Ranges.{AreCards}
 
 pub keeps_limits : (cards : List SpecCard) → Faultless cards → length cards ≤ 2000 → AreCards cards → KeepsLimits cards
@@ -20,6 +20,7 @@ keeps_limits cards none few ranges =
     record {
       shortest_record = shortest_record cards rules;
       longest_record = longest_record cards rules;
+      longest_secondary_record = longest_secondary_record cards rules;
       widest_line = widest_line cards rules;
       longest_disk_record = longest_disk_record cards rules;
       overflow = overflow_kept cards ranges;
@@ -29,7 +30,7 @@ keeps_limits cards none few ranges =
       name_storage = name_storage_within cards rules;
       storage = storage_within cards rules;
       few_types = few_types cards rules;
-      types = types_within cards rules;
+      types = types_within cards rules ranges;
       few_lines = few_lines cards rules;
       lines = lines_within cards rules;
       plain = plain cards rules;

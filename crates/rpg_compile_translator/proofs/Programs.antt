@@ -1,5 +1,5 @@
 -- The program of cards that keep its limits keeps all that the object format asks.
-use Rattle.std.proofs.Common.{◌≡◌, ℕ, suc, ◌+◌, ◌<◌, ◌≤◌, List, [], ◌∷◌, length, map, Option, refl, ap, arith}
+use Rattle.std.proofs.Common.{◌≡◌, ℕ, suc, ◌+◌, ◌<◌, ◌≤◌, List, [], ◌∷◌, length, map, Option, None, Some, refl, ap, arith}
 use Rattle.std.proofs.lemmas.List.{length-map}
 use Rattle.std.specs.Option.{option_and_then}
 use Rattle.std.specs.Prelude.{All}
@@ -7,7 +7,8 @@ use Rattle.rpg_cards.specs.Groups.{Group, groups, input_role}
 use Rattle.rpg_cards.specs.Keys.{Key, Name}
 use Rattle.rpg_cards.specs.Plain.{Each}
 use Rattle.rpg_cards.specs.Sections.{Subroutine}
-use Rattle.rpg_cards.specs.Files.{file_for}
+use Rattle.rpg_cards.specs.Files.{file_by, file_for, file_use}
+use Rattle.rpg_cards.specs.declared.files.FileUse.{FileUse}
 use Rattle.rpg_cards.specs.declared.files.FileUse.TheVariants as uses
 use Rattle.rpg_cards.specs.declared.spec_card.SpecCard.{SpecCard}
 use Rattle.rpg_compile_program.specs.Code.{sizes, subroutines_code}
@@ -15,36 +16,33 @@ use Rattle.rpg_compile_program.specs.Levels.{subroutine_level}
 use Rattle.rpg_compile_program.specs.Whole.{called_number, detail_code, subroutine_rows, total_code}
 use Rattle.rpg_effect.specs.Input.{TypeRow}
 use Rattle.rpg_effect.specs.Values.{Value}
+use Rattle.rpg_effect.specs.declared.input.InputFile.TheVariants.{Primary}
 use Rattle.rpg_effect.specs.declared.form.FieldForm.{FieldForm}
 use Rattle.rpg_effect.specs.declared.operation.Instruction.{Instruction}
 use Rattle.rpg_compile_code.specs.Marked.{IsMarked, IsMarkedRow}
 use Rattle.rpg_object_program.specs.Kept.{AreValuesOf, IsLineRow, IsPlainType, IsProgram, IsTypeRow}
 use Rattle.rpg_object_program.specs.Object.{LineRow, Object, SubroutineRow}
-use Rattle.rpg_object_program.specs.declared.row.Version.TheVariants as versions
+use Rattle.rpg_object_program.specs.declared.row.Version.{Version}
 use Rattle.rpg_object_program.specs.declared.section.Section.TheVariants as section
+use Rattle.rpg_sheet_specs.specs.declared.file.FileSpec.{FileSpec}
 use Rattle.rpg_sheet_specs.specs.declared.input.InputSpec.{InputSpec}
 use Rattle.rpg_sheet_specs.specs.declared.input.RecordType.{RecordType}
 use Rattle.rpg_compile_translator.specs.Limits.{KeepsLimits}
 use Rattle.rpg_verify_rules.specs.Accepted.{IsAccepted}
 use Rattle.rpg_compile_program.specs.Data.{values_of}
 use Rattle.rpg_compile_program.specs.Lines.{lines_on, record_length_of}
-use Rattle.rpg_compile_program.specs.Program.{key_numbers, line_rows, numbered_line, program_of, sections, types_of}
+use Rattle.rpg_compile_program.specs.Program.{key_numbers, line_rows, numbered_line, program_of, sections, types_of, version_for}
 use Rattle.rpg_compile_program.specs.Table.{forms, table_of}
-use Rattle.rpg_compile_program.specs.Types.{type_of, types_on}
+use Rattle.rpg_compile_program.specs.Types.{card_type, file_read, input_file, types_on}
 use Rattle.rpg_effect_renaming.specs.Naming.{renamed_type}
 use Rattle.rpg_compile_translator.proofs.Instructions as instructions
-use Rattle.rpg_compile_translator.proofs.Walks.{all_of}
+use Rattle.rpg_compile_translator.proofs.Versions.{plain}
 
 -- as many rows as subroutines
 rows_length : (number : Key → ℕ) (callee_of : Option Name → ℕ) (level : ℕ → ℕ) (own first : ℕ) (ss : List (Subroutine Key)) → length (subroutines_code number callee_of level own first ss) ≡ length ss
 unfolding subroutines_code
 rows_length number callee_of level own first [] = refl
 rows_length number callee_of level own first (s ∷ ss) = ap suc (rows_length number callee_of level (suc own) (first + sizes s.body) ss)
-
--- types are of the primary file, and have no match fields
-types_plain : (number : Key → ℕ) (gs : List (Group RecordType InputSpec)) → Each IsPlainType (map (renamed_type number) (map type_of gs))
-types_plain number [] = tt
-types_plain number (g ∷ gs) = (record { file = refl; matches = refl }, types_plain number gs)
 
 abbrev details : List SpecCard → List (Instruction ℕ)
 details cards = detail_code (key_numbers cards) (sections cards)
@@ -69,7 +67,7 @@ is_program cards allowance low high limits values accepted types lines detail to
       highest_allowance = high;
       shortest_record = limits.shortest_record;
       longest_record = limits.longest_record;
-      longest_secondary = omega arith;
+      longest_secondary = limits.longest_secondary_record;
       widest_line = limits.widest_line;
       longest_disk_record = limits.longest_disk_record;
       overflow = limits.overflow;
@@ -86,17 +84,16 @@ is_program cards allowance low high limits values accepted types lines detail to
       few_subroutines = omega (arith, limits.few_subroutines);
       subroutines = instructions.subroutine_rows p accepted limits.few_fields limits.fields subroutines;
       few_instructions = limits.few_instructions allowance;
-      plain = λ first. record { secondary = refl; types = all_of IsPlainType p.types (types_plain (key_numbers cards) (groups input_role cards)) };
-      first_version = refl;
+      plain = λ first. plain cards first allowance;
     }
 
 -- an object with these parts is the program
-pub made_of : (cards : List SpecCard) (allowance record_length printer_length disk_length : ℕ) (overflow : Option ℕ) (fs : List FieldForm) (vs : List (List Value)) (ts : List (TypeRow ℕ)) (ls : List LineRow)
+pub made_of : (cards : List SpecCard) (version : Version) (allowance record_length secondary_length printer_length disk_length : ℕ) (overflow : Option ℕ) (fs : List FieldForm) (vs : List (List Value)) (ts : List (TypeRow ℕ)) (ls : List LineRow)
     (detail total : List (Instruction ℕ)) (ss : List SubroutineRow)
-    → record_length ≡ record_length_of (file_for uses.Primary cards) → printer_length ≡ record_length_of (file_for uses.Printer cards) → disk_length ≡ record_length_of (file_for uses.Disk cards)
+    → version ≡ version_for cards → record_length ≡ record_length_of (file_for uses.Primary cards) → secondary_length ≡ record_length_of (file_for uses.Secondary cards) → printer_length ≡ record_length_of (file_for uses.Printer cards) → disk_length ≡ record_length_of (file_for uses.Disk cards)
     → overflow ≡ option_and_then (λ f. f.overflow) (file_for uses.Printer cards)
     → fs ≡ forms (table_of cards) → vs ≡ values_of cards → ts ≡ types_of cards → ls ≡ line_rows cards
     → detail ≡ details cards → total ≡ totals cards → ss ≡ bodies cards
-    → ◌≡◌ {A = Object} (record { version = versions.One; allowance = allowance; record_length = record_length; secondary_length = 0; printer_length = printer_length; disk_length = disk_length; overflow = overflow; fields = fs; values = vs; types = ts; lines = ls; detail = detail; total = total; subroutines = ss }) (program_of cards allowance)
+    → ◌≡◌ {A = Object} (record { version = version; allowance = allowance; record_length = record_length; secondary_length = secondary_length; printer_length = printer_length; disk_length = disk_length; overflow = overflow; fields = fs; values = vs; types = ts; lines = ls; detail = detail; total = total; subroutines = ss }) (program_of cards allowance)
 unfolding program_of
-made_of cards allowance r p d o fs vs ts ls detail total ss a b c e f g h i j k l = cc
+made_of cards v allowance r s p d o fs vs ts ls detail total ss q a t b c e f g h i j k l = cc

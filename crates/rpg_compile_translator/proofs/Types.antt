@@ -17,10 +17,13 @@ use Rattle.rpg_sheet_specs.specs.declared.input.InputSpec.{InputSpec}
 use Rattle.rpg_sheet_specs.specs.declared.input.InputSpec.TheVariants as input
 use Rattle.rpg_sheet_specs.specs.declared.input.RecordCode.{RecordCode}
 use Rattle.rpg_sheet_specs.specs.declared.input.RecordType.{RecordType}
-use Rattle.rpg_compile_program.proofs.Lists.{all_within, front_within}
+use Rattle.rpg_compile_program.proofs.Lists.{all_within, each_both, front_within}
+use Rattle.rpg_compile_program.proofs.Matched.{Matches}
 use Rattle.rpg_compile_program.proofs.OpenGroups.{each_open}
+use Rattle.rpg_compile_program.proofs.Types.{each_few_rows}
+use Rattle.rpg_compile_program.specs.Ranges.{AreCards}
 use Rattle.rpg_compile_program.specs.Rules.{KeepsCardRules}
-use Rattle.rpg_compile_program.specs.Types.{and_card_codes, codes_of, control_field, control_field_of, input_fields_in, input_row, record_code_of, type_of, types_on}
+use Rattle.rpg_compile_program.specs.Types.{and_card_codes, card_type, codes_of, control_field, control_field_of, input_fields_in, input_row, record_code_of, types_on}
 
 -- ---- what the cards of a type come to
 
@@ -74,8 +77,13 @@ all_levels (input.Field f ∷ is) =
 abbrev IsWithin : Group RecordType InputSpec → Type 0
 IsWithin g = (code_count g ≤ 100) × (level_count g ≤ 100) × (field_count g ≤ 500)
 
-type_within : (g : Group RecordType InputSpec) → IsWithin g → IsTypeWithin (type_of g)
-type_within g h =
+-- with nine match fields at most
+abbrev IsFew : Group RecordType InputSpec → Type 0
+IsFew g = IsWithin g × (length (Matches g) ≤ 9)
+
+type_within : (cards : List SpecCard) (g : Group RecordType InputSpec) → IsFew g → IsTypeWithin (card_type cards g)
+type_within cards g few =
+    let h = few.0 in
     let codes = length-append (codes_of g.heading.codes) (flat_map and_card_codes g.followers) in
     let own = codes_count g.heading.codes in
     let further = all_codes g.followers in
@@ -85,13 +93,13 @@ type_within g h =
     let few_codes = h.0 in
     let few_levels = h.1 in
     let few_fields = h.2 in
-    record { codes = omega arith; levels = omega arith; inputs = omega arith }
+    record { codes = omega arith; levels = omega arith; inputs = omega arith; matches = few.1 }
 
 module _ (cards : List SpecCard) (rules : KeepsCardRules cards) where
   pub few_types : length (types_on cards) ≤ 200
   few_types =
       let all : group_count input_role cards ≤ 200 = all_within (group_count input_role) 200 cards (omega arith) (λ before c after split. (unpassed cards rules before c after split).types) in
-      let same = length-map (groups input_role cards) type_of in
+      let same = length-map (groups input_role cards) (card_type cards) in
       omega arith
 
   opened : (before after : List SpecCard) → cards ≡ before ++ after → (g : Group RecordType InputSpec) → open_group input_role before ≡ Some g → IsWithin g
@@ -101,5 +109,7 @@ module _ (cards : List SpecCard) (rules : KeepsCardRules cards) where
     at_open field_count 500 (open_group input_role before) g (front_within (of_type field_count) 500 cards (omega arith) (λ b c a s. (unpassed cards rules b c a s).inputs) before after split) is,
   )
 
-  pub types_within : All IsTypeWithin (types_on cards)
-  types_within = all_of IsTypeWithin (types_on cards) (each_row IsWithin IsTypeWithin type_of (groups input_role cards) type_within (each_open input_role cards IsWithin opened))
+  pub types_within : AreCards cards → All IsTypeWithin (types_on cards)
+  types_within ranges =
+      all_of IsTypeWithin (types_on cards) (each_row IsFew IsTypeWithin (card_type cards) (groups input_role cards) (type_within cards)
+      (each_both IsWithin (λ g. length (Matches g) ≤ 9) IsFew (groups input_role cards) (λ g within few. (within, few)) (each_open input_role cards IsWithin opened) (each_few_rows cards rules ranges)))

@@ -23,6 +23,7 @@ pub record KeepsLimits (cards : List SpecCard) : Type 0 where
   -- ---- files
   pub shortest_record : 1 ≤ record_length_of (file_for uses.Primary cards)
   pub longest_record : record_length_of (file_for uses.Primary cards) ≤ 9999
+  pub longest_secondary_record : record_length_of (file_for uses.Secondary cards) ≤ 9999
   pub widest_line : record_length_of (file_for uses.Printer cards) ≤ 132
   pub longest_disk_record : record_length_of (file_for uses.Disk cards) ≤ 9999
   pub overflow : ForSome (option_and_then (λ f. f.overflow) (file_for uses.Printer cards)) IsOverflowIndicator

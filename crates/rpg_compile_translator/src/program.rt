@@ -1,6 +1,6 @@
 //! The program of cards.
 
-ghost use Rattle.std.specs.Prelude.{◌≡◌, ◌<◌, ◌≤◌, length, option_copied, IfOk};
+ghost use Rattle.std.specs.Prelude.{◌≡◌, ◌<◌, ◌≤◌, length, is_some, option_copied, IfOk};
 ghost use Rattle.std.specs.Option.{option_and_then};
 ghost use Rattle.rpg_faults.specs.Faults.{Faultless};
 ghost use Rattle.rpg_faults_flow.specs.Kept.{KeepsRule};
@@ -56,19 +56,20 @@ fn program_of(alloc: Global, cards: &[SpecCard], allowance: u16) -> Result<Progr
         forms: fields,
         values,
     } = fields_of(alloc, cards)?;
-    let types = types_of(alloc, &table, cards)?;
+    let types = types_of(alloc, &table, &source)?;
     let lines = lines_of(alloc, &table, &source)?;
     let SectionRows {
         detail,
         total,
         subroutines,
     } = section_rows(alloc, &table, cards)?;
+    let secondary = file_for(FileUse::Secondary, cards);
     let printer = file_for(FileUse::Printer, cards);
     Ok(Program::build(Rows {
-        version: Version::One,
+        version: version_for(secondary, source.has_match_field()),
         allowance,
         record_length: length_of(file_for(FileUse::Primary, cards)),
-        secondary_length: 0,
+        secondary_length: length_of(secondary),
         printer_length: length_of(printer),
         disk_length: length_of(file_for(FileUse::Disk, cards)),
         overflow: overflow_of(printer),
@@ -80,6 +81,17 @@ fn program_of(alloc: Global, cards: &[SpecCard], allowance: u16) -> Result<Progr
         total,
         subroutines,
     }))
+}
+
+/// The version of a program with a secondary file or match fields, or without.
+fn version_for(secondary: Option<&FileSpec>, has_match_field: bool) -> Version
+    ensures { result ≡ programs.version_with (is_some (option_copied secondary.entry)) has_match_field }
+{
+    match secondary {
+        Some(_) => Version::Two,
+        None if has_match_field => Version::Two,
+        None => Version::One,
+    }
 }
 
 /// The record length of a file, 0 where there is none.

@@ -1,12 +1,12 @@
 -- Phases done one after another.
-use Rattle.std.proofs.Common.{Result, Ok, Err, IfOk, ◌≡◌, ℕ, Bool, true, false, [], ◌++◌, List, Option, refl, sym, ap, ◌∙◌, subst, append_assoc, append-nil}
+use Rattle.std.proofs.Common.{Result, Ok, Err, IfOk, ◌≡◌, ℕ, Bool, true, false, [], ◌++◌, List, Option, None, Some, refl, sym, ap, ◌∙◌, subst, append_assoc, append-nil}
+use Rattle.std.specs.Option.{ForSome}
 use Rattle.std.specs.Result.{IsErrAnd}
 use Rattle.rpg_paper.proofs.Papers.{bytes_from-append}
 use Rattle.rpg_paper.specs.Paper.{Placed, Position, bytes_from, last_position_from}
 use Rattle.rpg_effect.proofs.Putting.{disk-append, end_from-lines}
 use Rattle.rpg_effect.specs.Put.{Bytes, disk_bytes, line_of, with_output}
-use Rattle.rpg_cycle.specs.Doing.{Does, DoesBehind, Passes, under_way}
-use Rattle.rpg_cycle_records.specs.Earlier.{Selected}
+use Rattle.rpg_cycle.specs.Doing.{Does, DoesBehind, Held, Passes, under_way}
 use Rattle.rpg_cycle.specs.Ends.{PhaseEnd, GoesOn, EndOfJob, Halt}
 use Rattle.rpg_effect.specs.Halts.{halt_number}
 use Rattle.rpg_cycle.specs.Phases.{Done, Phase, UnderWay, does, done, either, passes, unless, ◌before◌}
@@ -36,7 +36,7 @@ output_none previous p = bytes_are _ _ (sym (append-nil p.print)) (sym (append-n
 
 -- ---- two phases
 
-both_behind : (P Q : Phase) (previous : Option Position) (a b c : Running) (s t u : Option Selected) (e : PhaseEnd) (x : DoesBehind P previous a s GoesOn b t) →
+both_behind : (P Q : Phase) (previous : Option Position) (a b c : Running) (s t u : Held) (e : PhaseEnd) (x : DoesBehind P previous a s GoesOn b t) →
     DoesBehind Q (last_position_from previous x.out.lines) b t e c u → DoesBehind (P before Q) previous a s e c u
 both_behind P Q previous a b c s t u e x y =
     let ends = end_from-lines previous x.out.lines y.out.lines in
@@ -55,7 +55,7 @@ both_behind P Q previous a b c s t u e x y =
     }
 
 -- the one phase went on, and then the other was done
-pub goes : {P Q : Phase} {a b c : Running} {s t u : Option Selected} {e : PhaseEnd} → Does P a s GoesOn b t → Does Q b t e c u → Does (P before Q) a s e c u
+pub goes : {P Q : Phase} {a b c : Running} {s t u : Held} {e : PhaseEnd} → Does P a s GoesOn b t → Does Q b t e c u → Does (P before Q) a s e c u
 goes {P} {Q} {a} {b} {c} {s} {t} {u} {e} h g = record {
   program = g.program ∙ h.program;
   behind = λ previous l.
@@ -64,7 +64,7 @@ goes {P} {Q} {a} {b} {c} {s} {t} {u} {e} h g = record {
 }
 
 -- the one phase ended the job
-ends_behind : (P Q : Phase) (previous : Option Position) (a b : Running) (s t : Option Selected) (e : JobEnd) → DoesBehind P previous a s (job_end e) b t → DoesBehind (P before Q) previous a s (job_end e) b t
+ends_behind : (P Q : Phase) (previous : Option Position) (a b : Running) (s t : Held) (e : JobEnd) → DoesBehind P previous a s (job_end e) b t → DoesBehind (P before Q) previous a s (job_end e) b t
 ends_behind P Q previous a b s t jobs.EndOfJob x = record {
   out = x.out;
   phase = (EndOfJob, under_way (config_on (last_position_from previous x.out.lines) b.config) t, x.out, x.phase, (refl, refl, refl));
@@ -78,11 +78,11 @@ ends_behind P Q previous a b s t (jobs.Halt k) x = record {
   bytes = x.bytes;
 }
 
-pub ends : {P Q : Phase} {a b : Running} {s t : Option Selected} (e : JobEnd) → Does P a s (job_end e) b t → Does (P before Q) a s (job_end e) b t
+pub ends : {P Q : Phase} {a b : Running} {s t : Held} (e : JobEnd) → Does P a s (job_end e) b t → Does (P before Q) a s (job_end e) b t
 ends {P} {Q} {a} {b} {s} {t} e h = record { program = h.program; behind = λ previous l. ends_behind P Q previous a b s t e (h.behind previous l) }
 
 -- a phase that puts nothing out and leaves the form where it is
-pub quietly : (f : UnderWay → Done) (a b : Running) (s t : Option Selected) (e : PhaseEnd) (d : Config) →
+pub quietly : (f : UnderWay → Done) (a b : Running) (s t : Held) (e : PhaseEnd) (d : Config) →
     ((previous : Option Position) → f (under_way (config_on previous a.config) s) ≡ done e (under_way (config_on previous d) t)) → b ≡ record a { config = d } → Does (does f) a s e b t
 quietly f a b s t e d h is = subst (λ (r : Running). Does (does f) a s e r t) (sym is) (record {
   program = refl;
@@ -133,6 +133,12 @@ not_left_out test P a b e h d = record {
 
 -- ---- results
 
+pub of_none : {A : Type 0} (P : A → Type 0) → ForSome None P
+of_none P = λ x e. absurd (cc)
+
+pub of_some : {A : Type 0} (P : A → Type 0) (x : A) → P x → ForSome (Some x) P
+of_some P x h = λ y e. let same : x ≡ y = cc in subst P same h
+
 -- what holds of how a job ended, made into another fact
 pub if_stops : (A B : Type 0) (r : Stop) (P Q : JobEnd → Type 0) → ((e : JobEnd) → P e → Q e) → IfStops {A = A} (Err r) P → IfStops {A = B} (Err r) Q
 if_stops A B (stops.Ends e) P Q f h = f e h
@@ -175,3 +181,21 @@ memory_err A B stops.NoMemory P Q f h = tt
 pub passed_memory : (A B : Type 0) (r : Result B Stop) (s : Stop) (P Q : Type 0) → (P → Q) → IsErrAnd r (λ x. x ≡ s) → UnlessNoMemory {A = A} (Err s) P → UnlessNoMemory r Q
 passed_memory A B (Ok x) s P Q f h g = absurd h
 passed_memory A B (Err x) s P Q f h g = memory_err A B x P Q f (subst (λ (y : Stop). UnlessNoMemory {A = A} (Err y) P) (sym h) g)
+
+-- where the job ended, so much is known of the machine
+memory_stops : (A B : Type 0) (s : Stop) (P : JobEnd → Type 0) (Q : Type 0) → ((e : JobEnd) → P e → Q) → IfStops {A = A} (Err s) P → UnlessNoMemory {A = B} (Err s) Q
+memory_stops A B (stops.Ends e) P Q f h = f e h
+memory_stops A B stops.NoMemory P Q f h = tt
+
+pub passed_stops : (A B : Type 0) (r : Result B Stop) (s : Stop) (P : JobEnd → Type 0) (Q : Type 0) → ((e : JobEnd) → P e → Q) → IsErrAnd r (λ x. x ≡ s) → IfStops {A = A} (Err s) P → UnlessNoMemory r Q
+passed_stops A B (Ok x) s P Q f h g = absurd h
+passed_stops A B (Err x) s P Q f h g = memory_stops A B x P Q f (subst (λ (y : Stop). IfStops {A = A} (Err y) P) (sym h) g)
+
+-- what is known of the machine is known where the job ended
+stops_memory : (A B : Type 0) (s : Stop) (P : Type 0) (Q : JobEnd → Type 0) → ((e : JobEnd) → P → Q e) → UnlessNoMemory {A = A} (Err s) P → IfStops {A = B} (Err s) Q
+stops_memory A B (stops.Ends e) P Q f h = f e h
+stops_memory A B stops.NoMemory P Q f h = tt
+
+pub passed_known : (A B : Type 0) (r : Result B Stop) (s : Stop) (P : Type 0) (Q : JobEnd → Type 0) → ((e : JobEnd) → P → Q e) → IsErrAnd r (λ x. x ≡ s) → UnlessNoMemory {A = A} (Err s) P → IfStops r Q
+passed_known A B (Ok x) s P Q f h g = absurd h
+passed_known A B (Err x) s P Q f h g = stops_memory A B x P Q f (subst (λ (y : Stop). UnlessNoMemory {A = A} (Err y) P) (sym h) g)

@@ -1,20 +1,25 @@
 -- Runs under way: what was done so far, and what is left.
-use Rattle.std.proofs.Common.{◌≡◌, ℕ, ◌+◌, max, ◌<◌, ◌≤◌, List, [], ◌∷◌, ◌++◌, Option, None, Some, length, get_or, drop, refl, sym, ap, ◌∙◌, subst, append_assoc, append-nil, arith}
-use Rattle.std.proofs.lemmas.List.{drop_more}
-use Rattle.std.specs.Global.{Vec}
+use Rattle.std.proofs.Common.{◌≡◌, ℕ, suc, ◌+◌, max, ◌<◌, ◌≤◌, Bool, true, ◌&&◌, List, [], ◌∷◌, ◌++◌, Option, None, Some, refl, sym, ap, ◌∙◌, subst, append_assoc, append-nil, arith}
 use Rattle.rpg_paper.specs.Paper.{Placed, Position, last_position_from, paper}
 use Rattle.rpg_effect.proofs.Putting.{end_from-lines}
 use Rattle.rpg_effect.specs.Put.{Bytes, line_of, with_output}
+use Rattle.rpg_effect.specs.declared.input.InputFile.{InputFile}
+use Rattle.rpg_effect.specs.declared.input.InputFile.TheVariants.{Primary, Secondary}
 use Rattle.rpg_cycle.proofs.Composing.{output_both, output_none}
-use Rattle.rpg_cycle.proofs.Ending.{never_on}
+use Rattle.rpg_cycle.proofs.Counting.{own_count}
+use Rattle.rpg_cycle.proofs.Cycling.{at_first, keeps}
+use Rattle.rpg_cycle.proofs.Ending.{shorter}
 use Rattle.rpg_cycle.proofs.JobCycles.{cycles_behind}
 use Rattle.rpg_cycle_records.specs.Earlier.{Selected, left_by, with_record}
+use Rattle.rpg_cycle_records.specs.Merging.{IsOrderly}
+use Rattle.rpg_cycle_records.specs.Waiting.{Inputs, unread}
+use Rattle.rpg_cycle.specs.Counting.{records_count, waiting_count}
 use Rattle.rpg_cycle.specs.Ends.{PhaseEnd, GoesOn, EndOfJob, Halt, Wrong}
-use Rattle.rpg_cycle.specs.Job.{AtWork, Cycles, DoesCycle, feed_at, with_feed}
-use Rattle.rpg_cycle.specs.Phases.{UnderWay}
-use Rattle.rpg_cycle.specs.Running.{RunsRecords, texts}
-use Rattle.rpg_cycle.specs.Runs.{Course, Runs, ends_or, last_cycle, last_feed, with_cycle}
-use Rattle.rpg_cycle.specs.Stages.{Ended, Going, job_end, stage_at}
+use Rattle.rpg_cycle.specs.Job.{AtWork, Cycles, DoesCycle, feed_at, job_needs_record, with_feed}
+use Rattle.rpg_cycle.specs.Phases.{Cycle, UnderWay, begun, needs_record}
+use Rattle.rpg_cycle.specs.Running.{RunsRecords}
+use Rattle.rpg_cycle.specs.Runs.{Course, Records, Runs, ends_or, last_cycle, last_feed, left_behind, next_of, rest_of, with_cycle}
+use Rattle.rpg_cycle.specs.Stages.{Ended, Going, is_going, job_end, stage_at}
 use Rattle.rpg_cycle.specs.declared.ends.JobEnd.{JobEnd}
 use Rattle.rpg_cycle.specs.declared.ends.JobEnd.TheVariants as jobs
 use Rattle.rpg_cycle.specs.declared.runs.Summary.{Summary}
@@ -49,15 +54,28 @@ behind cycles most out course = record {
   there = course.there;
 }
 
+-- what the next cycle of a job takes from a file, and what it leaves
+abbrev pub next_in : AtWork → InputFile → List (List ℕ) → Option (List ℕ)
+next_in j f rs = next_of (needs_record j.program j.config j.inputs f) rs
+
+abbrev pub left_after : AtWork → Records → Records
+left_after j rs = left_behind j.program j.config j.inputs rs
+
+-- a run from a job behind these records and this line
+abbrev pub RunsFrom : AtWork → List Selected → Option Position → Records → Course → Type 0
+RunsFrom j earlier previous rs course = Runs j.program earlier rs (config_on previous j.config) j.inputs course
+
 -- so many cycles were done from the old job to the new one, over the records up to those that are left
-pub record IsUnderWay (old : AtWork) (records : List (List ℕ)) (new : AtWork) (rest : List (List ℕ)) (cycles most : ℕ) : Type 0 where
+pub record IsUnderWay (old : AtWork) (records : Records) (new : AtWork) (rest : Records) (cycles most : ℕ) : Type 0 where
   pub program : new.program ≡ old.program
   pub earlier : List Selected
   pub left : new.left ≡ left_by new.program earlier
+  pub orderly : IsOrderly new.program earlier new.inputs
   pub out : Output
   pub last : new.last ≡ line_of (last_position_from None out.lines)
   pub bytes : new.output ≡ with_output None out.lines out.records old.output
-  pub runs : (course : Course) → Runs new.program earlier rest (config_on (last_position_from None out.lines) new.config) course → Runs old.program [] records (config_on None old.config) (behind cycles most out course)
+  pub runs : (course : Course) → RunsFrom new earlier (last_position_from None out.lines) rest course → Runs old.program [] records (config_on None old.config) unread (behind cycles most out course)
+  pub few : cycles + waiting_count new.inputs + records_count rest ≤ records_count records
 
 -- the same ending and the same last cycle
 abbrev course_with : PhaseEnd → ℕ → ℕ → Output → UnderWay → Course
@@ -73,16 +91,19 @@ with_more_assoc : (x y z : Output) → with_more x (with_more y z) ≡ with_more
 with_more_assoc x y z = outputs_are _ _ (sym (append_assoc x.lines y.lines z.lines)) (sym (append_assoc x.records y.records z.records))
 
 -- at the start
-pub begins : (old : AtWork) (records : List (List ℕ)) → old.left ≡ left_by old.program [] → old.last ≡ None → IsUnderWay old records old records 0 0
-begins old records h top = record {
+pub begins : (old : AtWork) (records : Records) → old.left ≡ left_by old.program [] → old.inputs ≡ unread → old.last ≡ None → IsUnderWay old records old records 0 0
+begins old records h fresh top = record {
   program = refl;
   earlier = [];
   left = h;
+  orderly = subst (λ (i : Inputs). IsOrderly old.program [] i) (sym fresh) (at_first old.program);
   out = no_output;
   last = top;
   bytes = output_none None old.output;
-  runs = λ course r. subst (λ c. Runs old.program [] records (config_on None old.config) c)
-      (same_course course.ending course.there course.cycles (0 + course.cycles) course.most (max 0 course.most) course.output (with_more no_output course.output) (omega arith) (omega arith) (outputs_are _ _ refl refl)) r;
+  runs = λ course r. subst (λ c. Runs old.program [] records (config_on None old.config) unread c)
+      (same_course course.ending course.there course.cycles (0 + course.cycles) course.most (max 0 course.most) course.output (with_more no_output course.output) (omega arith) (omega arith) (outputs_are _ _ refl refl))
+      (subst (λ (i : Inputs). Runs old.program [] records (config_on None old.config) i course) fresh r);
+  few = let none : waiting_count old.inputs ≡ 0 = ap waiting_count fresh in omega (arith, none);
 }
 
 feed_gone : (feed : List ℕ) (b : Bytes) → feed ≡ [] → with_feed feed b ≡ b
@@ -92,35 +113,102 @@ more_bytes : (old mid new : AtWork) (a b : Output) → mid.output ≡ with_outpu
     new.output ≡ with_output None (a.lines ++ b.lines) (a.records ++ b.records) old.output
 more_bytes old mid new a b h g = g ∙ ap (with_output (last_position_from None a.lines) b.lines b.records) h ∙ output_both None a.lines b.lines a.records b.records old.output
 
-more_done : (old mid new : AtWork) (records rest : List (List ℕ)) (text : List ℕ) (cycles most greater : ℕ) (u : IsUnderWay old records mid (text ∷ rest) cycles most) →
-    DoesCycle mid u.earlier (last_position_from None u.out.lines) (Some text) GoesOn new → greater ≡ max most new.config.steps → IsUnderWay old records new rest (cycles + 1) greater
-more_done old mid new records rest text cycles most greater u d g =
+-- the same cycle, where it was given what is next in the files
+abbrev CycleFrom : AtWork → List Selected → Option Position → Option (List ℕ) → Option (List ℕ) → PhaseEnd → UnderWay → Output → Type 0
+CycleFrom j earlier previous a b e d out = Cycle j.program earlier a b (begun j.program (config_on previous j.config) j.inputs) e d out
+
+with_next : (j : AtWork) (earlier : List Selected) (previous : Option Position) (rs : Records) (a b : Option (List ℕ)) (e : PhaseEnd) (d : UnderWay) (out : Output) →
+    a ≡ next_in j Primary rs.primary → b ≡ next_in j Secondary rs.secondary → CycleFrom j earlier previous a b e d out →
+    CycleFrom j earlier previous (next_in j Primary rs.primary) (next_in j Secondary rs.secondary) e d out
+with_next j earlier previous rs a b e d out first second cycle =
+    subst (λ (x : Option (List ℕ)). CycleFrom j earlier previous x (next_in j Secondary rs.secondary) e d out) first
+    (subst (λ (y : Option (List ℕ)). CycleFrom j earlier previous a y e d out) second cycle)
+
+-- one cycle and the rest are a run
+more_runs : (j : AtWork) (earlier : List Selected) (previous : Option Position) (rs : Records) (d : UnderWay) (out : Output) (course : Course) →
+    CycleFrom j earlier previous (next_in j Primary rs.primary) (next_in j Secondary rs.secondary) GoesOn d out →
+    Runs j.program (with_record d.selected earlier) (left_after j rs) d.config d.inputs course → RunsFrom j earlier previous rs (with_cycle d.config out course)
+more_runs j earlier previous rs d out course cycle rest =
+    own_count j.program (suc course.cycles) earlier rs (config_on previous j.config) j.inputs (with_cycle d.config out course) (GoesOn, d, out, cycle, (course, rest, refl))
+
+fewer : (done was left now rest new all : ℕ) → done + was + left ≤ all → now + rest + 1 ≤ was + left → new ≡ now → done + 1 + new + rest ≤ all
+fewer done was left now rest new all h g e = omega (arith, h, g, e)
+
+more_done : (old mid new : AtWork) (records rest : Records) (a b : Option (List ℕ)) (cycles most greater : ℕ) (u : IsUnderWay old records mid rest cycles most) →
+    a ≡ next_in mid Primary rest.primary → b ≡ next_in mid Secondary rest.secondary →
+    DoesCycle mid u.earlier (last_position_from None u.out.lines) a b GoesOn new → greater ≡ max most new.config.steps → IsUnderWay old records new (left_after mid rest) (cycles + 1) greater
+more_done old mid new records rest a b cycles most greater u first second d g =
+    let q = last_position_from None u.out.lines in
     let ends = end_from-lines None u.out.lines d.out.lines in
     let next = with_record d.there.selected u.earlier in
+    let cycle = with_next mid u.earlier q rest a b GoesOn d.there d.out first second d.cycle in
     record {
       program = d.program ∙ u.program;
       earlier = next;
       left = d.left refl ∙ ap (λ (p : Object). left_by p next) (sym d.program);
+      orderly = subst (λ (p : Object). IsOrderly p next new.inputs) (sym d.program)
+          (subst (λ (i : Inputs). IsOrderly mid.program next i) (sym (d.inputs refl)) (keeps mid.program u.earlier a b (config_on q mid.config) mid.inputs d.there d.out u.orderly d.cycle));
       out = with_more u.out d.out;
       last = d.last ∙ ap line_of (sym ends);
       bytes = more_bytes old mid new u.out d.out u.bytes (d.bytes ∙ feed_gone [] _ refl);
       runs = λ course h.
-          let left : Runs mid.program next rest d.there.config course =
-          subst (λ (c : Config). Runs mid.program next rest c course) (ap (λ (q : Option Position). config_on q new.config) ends ∙ sym d.config)
-          (subst (λ (p : Object). Runs p next rest (config_on (last_position_from None (u.out.lines ++ d.out.lines)) new.config) course) d.program h) in
-          subst (λ c. Runs old.program [] records (config_on None old.config) c)
+          let by_program : Runs mid.program next (left_after mid rest) (config_on (last_position_from None (u.out.lines ++ d.out.lines)) new.config) new.inputs course =
+          subst (λ (p : Object). Runs p next (left_after mid rest) (config_on (last_position_from None (u.out.lines ++ d.out.lines)) new.config) new.inputs course) d.program h in
+          let by_config : Runs mid.program next (left_after mid rest) d.there.config new.inputs course =
+          subst (λ (c : Config). Runs mid.program next (left_after mid rest) c new.inputs course) (ap (λ (q : Option Position). config_on q new.config) ends ∙ sym d.config) by_program in
+          let left : Runs mid.program next (left_after mid rest) d.there.config d.there.inputs course =
+          subst (λ (i : Inputs). Runs mid.program next (left_after mid rest) d.there.config i course) (d.inputs refl) by_config in
+          subst (λ c. Runs old.program [] records (config_on None old.config) unread c)
           (same_course course.ending course.there (cycles + (1 + course.cycles)) (cycles + 1 + course.cycles) (max most (max d.there.config.steps course.most)) (max greater course.most)
           (with_more u.out (with_more d.out course.output)) (with_more (with_more u.out d.out) course.output) (omega arith) (omega (arith, g, ap (λ (c : Config). c.steps) d.config)) (with_more_assoc u.out d.out course.output))
-          (u.runs (with_cycle d.there.config d.out course) (GoesOn, d.there, d.out, d.cycle, (course, left, refl)));
+          (u.runs (with_cycle d.there.config d.out course) (more_runs mid u.earlier q rest d.there d.out course cycle left));
+      few = fewer cycles (waiting_count mid.inputs) (records_count rest) (waiting_count d.there.inputs) (records_count (left_after mid rest)) (waiting_count new.inputs) (records_count records) u.few
+          (shorter mid.program u.earlier rest (config_on q mid.config) mid.inputs d.there d.out u.orderly cycle) (ap waiting_count (d.inputs refl));
     }
 
--- one more cycle, and the job goes on
-pub one_more : (old mid new : AtWork) (records rest : List (List ℕ)) (text : List ℕ) (cycles most greater : ℕ) → IsUnderWay old records mid (text ∷ rest) cycles most →
-    Cycles mid (Some text) new → Going ≡ new.stage → greater ≡ max most new.config.steps → IsUnderWay old records new rest (cycles + 1) greater
-one_more old mid new records rest text cycles most greater u h s g =
-    let d = cycles_behind mid new (Some text) h u.earlier u.left (last_position_from None u.out.lines) u.last in
-    more_done old mid new records rest text cycles most greater u
-    (subst (λ (e : PhaseEnd). DoesCycle mid u.earlier (last_position_from None u.out.lines) (Some text) e new) (went d.0 (sym d.1.stage ∙ sym s)) d.1) g
+-- how the job's cycle ended, if it goes on
+went_on : (old mid new : AtWork) (records rest : Records) (a b : Option (List ℕ)) (cycles most : ℕ) (u : IsUnderWay old records mid rest cycles most) → Cycles mid a b new → Going ≡ new.stage →
+    DoesCycle mid u.earlier (last_position_from None u.out.lines) a b GoesOn new
+went_on old mid new records rest a b cycles most u h s =
+    let q = last_position_from None u.out.lines in
+    let d = cycles_behind mid new a b h u.earlier u.left u.orderly q u.last in
+    subst (λ (e : PhaseEnd). DoesCycle mid u.earlier q a b e new) (went d.0 (sym d.1.stage ∙ sym s)) d.1
+
+pub one_more : (old mid new : AtWork) (records rest : Records) (a b : Option (List ℕ)) (cycles most greater : ℕ) → IsUnderWay old records mid rest cycles most →
+    a ≡ next_in mid Primary rest.primary → b ≡ next_in mid Secondary rest.secondary → Cycles mid a b new → Going ≡ new.stage → greater ≡ max most new.config.steps →
+    IsUnderWay old records new (left_after mid rest) (cycles + 1) greater
+one_more old mid new records rest a b cycles most greater u first second h s g =
+    more_done old mid new records rest a b cycles most greater u first second (went_on old mid new records rest a b cycles most u h s) g
+
+-- what waits and what is left get fewer
+pub fewer_left : (old mid new : AtWork) (records rest then : Records) (a b : Option (List ℕ)) (cycles most : ℕ) → IsUnderWay old records mid rest cycles most →
+    a ≡ next_in mid Primary rest.primary → b ≡ next_in mid Secondary rest.secondary → then ≡ left_after mid rest → Cycles mid a b new → Going ≡ new.stage →
+    waiting_count new.inputs + records_count then < waiting_count mid.inputs + records_count rest
+fewer_left old mid new records rest then a b cycles most u first second left h s =
+    let q = last_position_from None u.out.lines in
+    let d = went_on old mid new records rest a b cycles most u h s in
+    let less = shorter mid.program u.earlier rest (config_on q mid.config) mid.inputs d.there d.out u.orderly (with_next mid u.earlier q rest a b GoesOn d.there d.out first second d.cycle) in
+    below (waiting_count new.inputs) (waiting_count d.there.inputs) (records_count then) (records_count (left_after mid rest)) (waiting_count mid.inputs + records_count rest)
+    (ap waiting_count (d.inputs refl)) (ap records_count left) less
+  where
+    below : (x y r s n : ℕ) → x ≡ y → r ≡ s → y + s + 1 ≤ n → x + r < n
+    below x y r s n h g k = omega (arith, h, g, k)
+
+-- ---- what a cycle is given, and what is left, by what the job says that it needs
+
+needed : (j : AtWork) (f : InputFile) (need : Bool) → is_going j.stage ≡ true → need ≡ job_needs_record j f → need ≡ needs_record j.program j.config j.inputs f
+needed j f need going is = is ∙ ap (λ (b : Bool). b && needs_record j.program j.config j.inputs f) going
+
+pub next_is : (j : AtWork) (f : InputFile) (need : Bool) (rs : List (List ℕ)) (o : Option (List ℕ)) → is_going j.stage ≡ true → need ≡ job_needs_record j f → o ≡ next_of need rs → o ≡ next_in j f rs
+next_is j f need rs o going is next = next ∙ ap (λ (b : Bool). next_of b rs) (needed j f need going is)
+
+records_are : (x y : Records) → x.primary ≡ y.primary → x.secondary ≡ y.secondary → x ≡ y
+records_are x y h g = ap (λ l. let r : Records = record { primary = l; secondary = x.secondary } in r) h ∙ ap (λ l. let r : Records = record { primary = y.primary; secondary = l } in r) g
+
+pub rest_is : (j : AtWork) (n m : Bool) (rs then : Records) → is_going j.stage ≡ true → n ≡ job_needs_record j Primary → m ≡ job_needs_record j Secondary →
+    then.primary ≡ rest_of n rs.primary → then.secondary ≡ rest_of m rs.secondary → then ≡ left_after j rs
+rest_is j n m rs then going one two first second =
+    records_are then (left_after j rs) (first ∙ ap (λ (b : Bool). rest_of b rs.primary) (needed j Primary n going one)) (second ∙ ap (λ (b : Bool). rest_of b rs.secondary) (needed j Secondary m going two))
 
 -- ---- the end of a course
 
@@ -141,11 +229,11 @@ feed_ended jobs.EndOfJob last = refl
 feed_ended (jobs.Halt k) last = refl
 
 -- the job's last cycle
-ends_by : (old mid new : AtWork) (records rest : List (List ℕ)) (now : Option (List ℕ)) (cycles most : ℕ) (e : JobEnd) (s : Summary) → (u : IsUnderWay old records mid rest cycles most) →
-    (d : DoesCycle mid u.earlier (last_position_from None u.out.lines) now (job_end e) new) →
-    Runs mid.program u.earlier rest (config_on (last_position_from None u.out.lines) mid.config) (last_cycle (job_end e) d.there d.out) →
+ends_by : (old mid new : AtWork) (records rest : Records) (a b : Option (List ℕ)) (cycles most : ℕ) (e : JobEnd) (s : Summary) (u : IsUnderWay old records mid rest cycles most) →
+    (d : DoesCycle mid u.earlier (last_position_from None u.out.lines) a b (job_end e) new) →
+    RunsFrom mid u.earlier (last_position_from None u.out.lines) rest (last_cycle (job_end e) d.there d.out) →
     s ≡ record { ending = e; cycles = cycles + 1; most = max most new.config.steps } → RunsRecords old records s new
-ends_by old mid new records rest now cycles most e s u d last is =
+ends_by old mid new records rest a b cycles most e s u d last is =
     let all = with_more u.out d.out in
     let ends = end_from-lines None u.out.lines d.out.lines in
     let bytes = ap (with_output (last_position_from None u.out.lines) d.out.lines d.out.records) u.bytes ∙ output_both None u.out.lines d.out.lines u.out.records d.out.records old.output in
@@ -154,7 +242,7 @@ ends_by old mid new records rest now cycles most e s u d last is =
     subst (λ (x : Summary). RunsRecords old records x new) (sym is) (record {
       out = all;
       there = d.there;
-      runs = subst (λ c. Runs old.program [] records (config_on None old.config) c)
+      runs = subst (λ c. Runs old.program [] records (config_on None old.config) unread c)
           (same_course (job_end e) d.there (cycles + 1) (cycles + 1) (max most d.there.config.steps) (max most new.config.steps) all all refl (ap (λ (c : Config). max most c.steps) d.config) refl)
           (u.runs (last_cycle (job_end e) d.there d.out) last);
       print = ap (λ (b : Bytes). b.print) (d.bytes ∙ ap (with_feed (feed_at (stage_at (job_end e)) new.last)) bytes)
@@ -162,40 +250,18 @@ ends_by old mid new records rest now cycles most e s u d last is =
       disk = ap (λ (b : Bytes). b.disk) (d.bytes ∙ ap (with_feed (feed_at (stage_at (job_end e)) new.last)) bytes);
     })
 
--- it ends at a record
-pub ends_at_record : (old mid new : AtWork) (records rest : List (List ℕ)) (text : List ℕ) (cycles most : ℕ) (e : JobEnd) (s : Summary) → IsUnderWay old records mid (text ∷ rest) cycles most →
-    Cycles mid (Some text) new → Ended (job_end e) ≡ new.stage → s ≡ record { ending = e; cycles = cycles + 1; most = max most new.config.steps } → RunsRecords old records s new
-ends_at_record old mid new records rest text cycles most e s u h g is =
+pub ended_so : (old mid new : AtWork) (records rest : Records) (a b : Option (List ℕ)) (cycles most : ℕ) (e : JobEnd) (s : Summary) → IsUnderWay old records mid rest cycles most →
+    a ≡ next_in mid Primary rest.primary → b ≡ next_in mid Secondary rest.secondary → Cycles mid a b new → Ended (job_end e) ≡ new.stage →
+    s ≡ record { ending = e; cycles = cycles + 1; most = max most new.config.steps } → RunsRecords old records s new
+ended_so old mid new records rest a b cycles most e s u first second h g is =
     let q = last_position_from None u.out.lines in
-    let x = cycles_behind mid new (Some text) h u.earlier u.left q u.last in
-    let d : DoesCycle mid u.earlier q (Some text) (job_end e) new = subst (λ (y : PhaseEnd). DoesCycle mid u.earlier q (Some text) y new) (was_ended x.0 (job_end e) (sym x.1.stage ∙ sym g)) x.1 in
-    ends_by old mid new records (text ∷ rest) (Some text) cycles most e s u d (job_end e, d.there, d.out, d.cycle, ends_here e d.there d.out _) is
-
--- it ends at the end of the file
-pub ends_at_file : (old mid new : AtWork) (records : List (List ℕ)) (cycles most : ℕ) (e : JobEnd) (s : Summary) → IsUnderWay old records mid [] cycles most →
-    Cycles mid None new → Ended (job_end e) ≡ new.stage → s ≡ record { ending = e; cycles = cycles + 1; most = max most new.config.steps } → RunsRecords old records s new
-ends_at_file old mid new records cycles most e s u h g is =
-    let q = last_position_from None u.out.lines in
-    let x = cycles_behind mid new None h u.earlier u.left q u.last in
-    let d : DoesCycle mid u.earlier q None (job_end e) new = subst (λ (y : PhaseEnd). DoesCycle mid u.earlier q None y new) (was_ended x.0 (job_end e) (sym x.1.stage ∙ sym g)) x.1 in
-    ends_by old mid new records [] None cycles most e s u d (job_end e, d.there, d.out, d.cycle, ends_here e d.there d.out _) is
-
--- at the end of the file the job doesn't go on
-pub never_going : (old mid new : AtWork) (records : List (List ℕ)) (cycles most : ℕ) → IsUnderWay old records mid [] cycles most → Cycles mid None new → Going ≡ new.stage → ⊥
-never_going old mid new records cycles most u h s =
-    let q = last_position_from None u.out.lines in
-    let x = cycles_behind mid new None h u.earlier u.left q u.last in
-    let d : DoesCycle mid u.earlier q None GoesOn new = subst (λ (y : PhaseEnd). DoesCycle mid u.earlier q None y new) (went x.0 (sym x.1.stage ∙ sym s)) x.1 in
-    never_on mid.program (left_by mid.program u.earlier) (config_on q mid.config) d.there d.out d.cycle
+    let x = cycles_behind mid new a b h u.earlier u.left u.orderly q u.last in
+    let d : DoesCycle mid u.earlier q a b (job_end e) new = subst (λ (y : PhaseEnd). DoesCycle mid u.earlier q a b y new) (was_ended x.0 (job_end e) (sym x.1.stage ∙ sym g)) x.1 in
+    ends_by old mid new records rest a b cycles most e s u d
+    (job_end e, d.there, d.out, with_next mid u.earlier q rest a b (job_end e) d.there d.out first second d.cycle, ends_here e d.there d.out _) is
 
 -- the steps stay in the bound of the program
-pub still_low : (old mid new : AtWork) (records rest : List (List ℕ)) (now : Option (List ℕ)) (cycles most : ℕ) → IsUnderWay old records mid rest cycles most → Cycles mid now new → new.config.steps ≤ bound new.program →
+pub still_low : (old mid new : AtWork) (records rest : Records) (a b : Option (List ℕ)) (cycles most : ℕ) → IsUnderWay old records mid rest cycles most → Cycles mid a b new → new.config.steps ≤ bound new.program →
     new.config.steps ≤ bound old.program
-still_low old mid new records rest now cycles most u h few =
+still_low old mid new records rest a b cycles most u h few =
     subst (λ (p : Object). new.config.steps ≤ bound p) ((h.does (last_position_from None u.out.lines) u.last).1.program ∙ u.program) few
-
--- ---- the records that are left
-
-pub next_text : (records : List (Vec ℕ)) (i : ℕ) (v : Vec ℕ) (bytes : List ℕ) → i < length records → v ≡ get_or records i v → bytes ≡ v.items → texts (drop i records) ≡ bytes ∷ texts (drop (i + 1) records)
-next_text records i v bytes h is e =
-    ap texts (drop_more records i v h) ∙ ap (λ (x : Vec ℕ). x.items ∷ texts (drop (i + 1) records)) (sym is) ∙ ap (λ b. b ∷ texts (drop (i + 1) records)) (sym e)

@@ -2,10 +2,13 @@
 use Rattle.std.proofs.Common.{◌≡◌, ℕ, List, [], Option, None, Some, refl, sym, ap, ◌∙◌, subst, append-nil}
 use Rattle.rpg_paper.specs.Paper.{Position, last_position_from}
 use Rattle.rpg_effect.specs.Put.{Bytes, line_of, with_output}
-use Rattle.rpg_cycle.specs.Doing.{Does, under_way}
+use Rattle.rpg_cycle.proofs.Cycling.{from_last, keeps, to_last}
+use Rattle.rpg_cycle.specs.Doing.{Does, Held, holding, under_way, unselected}
 use Rattle.rpg_cycle_records.specs.Earlier.{Left, Selected, left_by, with_record}
+use Rattle.rpg_cycle_records.specs.Merging.{IsOrderly}
+use Rattle.rpg_cycle_records.specs.Waiting.{Inputs, finds_match}
 use Rattle.rpg_cycle.specs.Ends.{GoesOn, PhaseEnd}
-use Rattle.rpg_cycle.specs.Job.{AtWork, Cycles, DoesCycle, IsLeft, feed_at, with_feed}
+use Rattle.rpg_cycle.specs.Job.{AtWork, Cycles, DoesCycle, IsBehind, feed_at, with_feed}
 use Rattle.rpg_cycle_records.specs.Keeping.{noted, renewed_by, selected_as}
 use Rattle.rpg_cycle.specs.Phases.{Cycle, CycleOn, UnderWay, begun}
 use Rattle.rpg_cycle.specs.Stages.{Ended, Going, Stage, job_end, stage_at}
@@ -16,8 +19,8 @@ use Rattle.rpg_machine.specs.Running.{Running, config_on, feed_behind, finished,
 use Rattle.rpg_object_program.specs.Object.{Object}
 
 -- a job with that machine
-abbrev pub job : Object → Running → Left → Stage → AtWork
-job p m left stage = record { program = p; config = m.config; last = m.last; output = m.output; left = left; stage = stage }
+abbrev pub job : Object → Running → Left → Inputs → Stage → AtWork
+job p m left inputs stage = record { program = p; config = m.config; last = m.last; output = m.output; left = left; inputs = inputs; stage = stage }
 
 -- what is kept of a record is what it leaves
 pub leaves : (p : Object) (earlier : List Selected) (t : Option ℕ) (text : List ℕ) → noted p t (renewed_by p t text (left_by p earlier)) ≡ left_by p (with_record (selected_as t text) earlier)
@@ -25,64 +28,78 @@ leaves p earlier None text = refl
 leaves p earlier (Some t) text = refl
 
 -- records that leave the same leave the same with one more
-same_with : (p : Object) (s : Option Selected) (a b : List Selected) → left_by p a ≡ left_by p b → left_by p (with_record s a) ≡ left_by p (with_record s b)
+pub same_with : (p : Object) (s : Option Selected) (a b : List Selected) → left_by p a ≡ left_by p b → left_by p (with_record s a) ≡ left_by p (with_record s b)
 same_with p None a b h = h
 same_with p (Some s) a b h = sym (leaves p a (Some s.type) s.text) ∙ ap (λ (l : Left). noted p (Some s.type) (renewed_by p (Some s.type) s.text l)) h ∙ leaves p b (Some s.type) s.text
 
--- a cycle is the same behind all records that leave the same
-pub does_behind : (old new : AtWork) (a b : List Selected) (previous : Option Position) (next : Option (List ℕ)) (e : PhaseEnd) → left_by old.program a ≡ left_by old.program b → DoesCycle old a previous next e new → DoesCycle old b previous next e new
-does_behind old new a b previous next e same d = record {
+-- a cycle that seeks matches by what these records left
+abbrev pub CycleBy : Object → Left → Option (List ℕ) → Option (List ℕ) → UnderWay → PhaseEnd → UnderWay → Output → Type 0
+CycleBy p left primary secondary c e d out = CycleOn p left (finds_match p left) primary secondary c e d out
+
+-- a cycle is the same behind all records that leave the same, where the files are in their order
+pub does_behind : (old new : AtWork) (a b : List Selected) (previous : Option Position) (x y : Option (List ℕ)) (e : PhaseEnd) → left_by old.program a ≡ left_by old.program b →
+    IsOrderly old.program a old.inputs → IsOrderly old.program b old.inputs → DoesCycle old a previous x y e new → DoesCycle old b previous x y e new
+does_behind old new a b previous x y e same one two d = record {
   stage = d.stage;
   program = d.program;
   there = d.there;
   out = d.out;
-  cycle = subst (λ (l : Left). CycleOn old.program l next (begun old.program (config_on previous old.config)) e d.there d.out) same d.cycle;
+  cycle = from_last old.program b x y (config_on previous old.config) old.inputs e d.there d.out two
+      (subst (λ (l : Left). CycleBy old.program l x y (begun old.program (config_on previous old.config) old.inputs) e d.there d.out) same
+      (to_last old.program a x y (config_on previous old.config) old.inputs e d.there d.out one d.cycle));
   config = d.config;
   left = λ on. d.left on ∙ same_with old.program d.there.selected a b same;
+  inputs = d.inputs;
   last = d.last;
   bytes = d.bytes;
 }
 
 -- behind all that leave what the job keeps
-pub cycles_behind : (old new : AtWork) (next : Option (List ℕ)) → Cycles old next new → (earlier : List Selected) → old.left ≡ left_by old.program earlier →
-    (previous : Option Position) → old.last ≡ line_of previous → (e : PhaseEnd) × DoesCycle old earlier previous next e new
-cycles_behind old new next c earlier is previous placed =
+pub cycles_behind : (old new : AtWork) (x y : Option (List ℕ)) → Cycles old x y new → (earlier : List Selected) → old.left ≡ left_by old.program earlier → IsOrderly old.program earlier old.inputs →
+    (previous : Option Position) → old.last ≡ line_of previous → (e : PhaseEnd) × DoesCycle old earlier previous x y e new
+cycles_behind old new x y c earlier is order previous placed =
     let d = c.does previous placed in
-    (d.0, does_behind old new c.behind.earlier earlier previous next d.0 (sym c.behind.leave ∙ is) d.1)
+    (d.0, does_behind old new c.behind.earlier earlier previous x y d.0 (sym c.behind.leave ∙ is) c.behind.orderly order d.1)
 
 -- a record that was selected is one more of those that left what is kept
-pub one_more_left : (p : Object) (t : Option ℕ) (text : List ℕ) (left now : Left) → IsLeft p left → now ≡ noted p t (renewed_by p t text left) → IsLeft p now
-one_more_left p t text left now h is = record {
-  earlier = with_record (selected_as t text) h.earlier;
-  leave = is ∙ ap (λ (l : Left). noted p t (renewed_by p t text l)) h.leave ∙ leaves p h.earlier t text;
+pub one_more : (old new : AtWork) (earlier : List Selected) (previous : Option Position) (x y : Option (List ℕ)) → IsOrderly old.program earlier old.inputs → DoesCycle old earlier previous x y GoesOn new →
+    IsBehind old.program new.left new.inputs
+one_more old new earlier previous x y order d = record {
+  earlier = with_record d.there.selected earlier;
+  leave = d.left refl;
+  orderly = subst (λ (i : Inputs). IsOrderly old.program (with_record d.there.selected earlier) i) (sym (d.inputs refl))
+      (keeps old.program earlier x y (config_on previous old.config) old.inputs d.there d.out order d.cycle);
 }
 
 -- the cycle that a machine did, behind the records that left this
-cycle_of : (p : Object) (earlier : List Selected) (previous : Option Position) (next : Option (List ℕ)) (m b : Running) (left : Left) (e : PhaseEnd) (s : Option Selected) (out : Output) (d : UnderWay) →
-    m.program ≡ p → left ≡ left_by p earlier → CycleOn p left next (under_way (config_on previous (refilled m).config) None) e d out → Cycle p earlier next (begun p (config_on previous m.config)) e d out
-cycle_of p earlier previous next m b left e s out d same is c =
-    subst (λ (l : Left). CycleOn p l next (begun p (config_on previous m.config)) e d out) is
-    (subst (λ (q : Object). CycleOn p left next (begun q (config_on previous m.config)) e d out) same c)
+cycle_of : (p : Object) (earlier : List Selected) (previous : Option Position) (x y : Option (List ℕ)) (m : Running) (left : Left) (i : Inputs) (e : PhaseEnd) (out : Output) (d : UnderWay) →
+    m.program ≡ p → left ≡ left_by p earlier → IsOrderly p earlier i → CycleBy p left x y (under_way (config_on previous (refilled m).config) (unselected i)) e d out →
+    Cycle p earlier x y (begun p (config_on previous m.config) i) e d out
+cycle_of p earlier previous x y m left i e out d same is order c =
+    from_last p earlier x y (config_on previous m.config) i e d out order
+    (subst (λ (l : Left). CycleBy p l x y (begun p (config_on previous m.config) i) e d out) is
+    (subst (λ (q : Object). CycleBy p left x y (begun q (config_on previous m.config) i) e d out) same c))
 
 feed_none : (b : Bytes) → b ≡ with_feed [] b
 feed_none b = ap (λ x. record { print = x; disk = b.disk }) (sym (append-nil b.print))
 
 -- the job goes on
-pub goes_on : (p : Object) (earlier : List Selected) (previous : Option Position) (next : Option (List ℕ)) (m b : Running) (left now : Left) (stage : Stage) (t : Option ℕ) (text : List ℕ) → m.program ≡ p → left ≡ left_by p earlier →
-    m.last ≡ line_of previous → now ≡ noted p t (renewed_by p t text left) → Does (CycleOn p left next) (refilled m) None GoesOn b (selected_as t text) →
-    DoesCycle (job p m left stage) earlier previous next GoesOn (job p b now Going)
-goes_on p earlier previous next m b left now stage t text same is placed kept d =
-    let x = d.behind previous placed in
+pub goes_on : (p : Object) (earlier : List Selected) (previous : Option Position) (x y : Option (List ℕ)) (m b : Running) (left now : Left) (i j : Inputs) (stage : Stage) (t : Option ℕ) (text : List ℕ) → m.program ≡ p →
+    left ≡ left_by p earlier → IsOrderly p earlier i → m.last ≡ line_of previous → now ≡ noted p t (renewed_by p t text left) →
+    Does (CycleBy p left x y) (refilled m) (unselected i) GoesOn b (holding j t text) → DoesCycle (job p m left i stage) earlier previous x y GoesOn (job p b now j Going)
+goes_on p earlier previous x y m b left now i j stage t text same is order placed kept d =
+    let z = d.behind previous placed in
     record {
       stage = refl;
       program = refl;
-      there = under_way (config_on (last_position_from previous x.out.lines) b.config) (selected_as t text);
-      out = x.out;
-      cycle = cycle_of p earlier previous next m b left GoesOn (selected_as t text) x.out _ same is x.phase;
+      there = under_way (config_on (last_position_from previous z.out.lines) b.config) (holding j t text);
+      out = z.out;
+      cycle = cycle_of p earlier previous x y m left i GoesOn z.out _ same is order z.phase;
       config = refl;
       left = λ h. kept ∙ ap (λ (l : Left). noted p t (renewed_by p t text l)) is ∙ leaves p earlier t text;
-      last = x.last;
-      bytes = x.bytes ∙ feed_none _;
+      inputs = λ h. refl;
+      last = z.last;
+      bytes = z.bytes ∙ feed_none _;
     }
 
 stops_not : (e : JobEnd) → job_end e ≡ GoesOn → ⊥
@@ -94,20 +111,21 @@ ended jobs.EndOfJob = refl
 ended (jobs.Halt k) = refl
 
 -- the job ends, and so does the last line
-pub ends : (p : Object) (earlier : List Selected) (previous : Option Position) (next : Option (List ℕ)) (m b c : Running) (left now : Left) (stage : Stage) (s : Option Selected) (e : JobEnd) → m.program ≡ p → left ≡ left_by p earlier →
-    m.last ≡ line_of previous → Does (CycleOn p left next) (refilled m) None (job_end e) b s → c ≡ finished b →
-    DoesCycle (job p m left stage) earlier previous next (job_end e) (job p c now (Ended (job_end e)))
-ends p earlier previous next m b c left now stage s e same is placed d done =
-    let x = d.behind previous placed in
-    subst (λ (r : Running). DoesCycle (job p m left stage) earlier previous next (job_end e) (job p r now (Ended (job_end e)))) (sym done) (record {
+pub ends : (p : Object) (earlier : List Selected) (previous : Option Position) (x y : Option (List ℕ)) (m b c : Running) (left now : Left) (i j : Inputs) (stage : Stage) (s : Held) (e : JobEnd) → m.program ≡ p →
+    left ≡ left_by p earlier → IsOrderly p earlier i → m.last ≡ line_of previous → Does (CycleBy p left x y) (refilled m) (unselected i) (job_end e) b s → c ≡ finished b →
+    DoesCycle (job p m left i stage) earlier previous x y (job_end e) (job p c now j (Ended (job_end e)))
+ends p earlier previous x y m b c left now i j stage s e same is order placed d done =
+    let z = d.behind previous placed in
+    subst (λ (r : Running). DoesCycle (job p m left i stage) earlier previous x y (job_end e) (job p r now j (Ended (job_end e)))) (sym done) (record {
       stage = sym (ended e);
       program = refl;
-      there = under_way (config_on (last_position_from previous x.out.lines) b.config) s;
-      out = x.out;
-      cycle = cycle_of p earlier previous next m b left (job_end e) s x.out _ same is x.phase;
+      there = under_way (config_on (last_position_from previous z.out.lines) b.config) s;
+      out = z.out;
+      cycle = cycle_of p earlier previous x y m left i (job_end e) z.out _ same is order z.phase;
       config = refl;
       left = λ h. absurd (stops_not e h);
-      last = x.last;
-      bytes = ap (with_feed (feed_behind b.last)) x.bytes
-          ∙ ap (λ (g : Stage). with_feed (feed_at g b.last) (with_output previous x.out.lines x.out.records m.output)) (sym (ended e));
+      inputs = λ h. absurd (stops_not e h);
+      last = z.last;
+      bytes = ap (with_feed (feed_behind b.last)) z.bytes
+          ∙ ap (λ (g : Stage). with_feed (feed_at g b.last) (with_output previous z.out.lines z.out.records m.output)) (sym (ended e));
     })

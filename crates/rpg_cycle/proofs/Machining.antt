@@ -1,10 +1,9 @@
 -- Phases that are the machine's.
 use Rattle.std.proofs.Common.{◌≡◌, ℕ, List, Option, None, Some, refl, sym, subst}
 use Rattle.rpg_effect.specs.Ends as effects
-use Rattle.rpg_cycle.specs.Doing.{Does, Passes}
-use Rattle.rpg_cycle_records.specs.Earlier.{Selected}
+use Rattle.rpg_cycle.specs.Doing.{Does, Held, Passes, holding}
+use Rattle.rpg_cycle_records.specs.Waiting.{Inputs}
 use Rattle.rpg_cycle.specs.Ends.{GoesOn, PhaseEnd, phase_end}
-use Rattle.rpg_cycle_records.specs.Keeping.{selected_as}
 use Rattle.rpg_cycle.specs.Phases.{by_machine, fill_fields, output, section}
 use Rattle.rpg_machine.specs.Outputs.{FillsFields, PutsOut}
 use Rattle.rpg_machine.specs.Run.{RunsTo}
@@ -14,15 +13,15 @@ use Rattle.rpg_object_program.specs.Object.{Object}
 use Rattle.rpg_object_program.specs.declared.section.Section.{Section}
 
 -- what the machine did is a phase
-machine_does : (P : Behaviour) (a b : Running) (last : effects.End) (s : Option Selected) → Did P a last b → Does (by_machine P) a s (phase_end last) b s
+machine_does : (P : Behaviour) (a b : Running) (last : effects.End) (s : Held) → Did P a last b → Does (by_machine P) a s (phase_end last) b s
 machine_does P a b last s d = record {
   program = d.program;
   behind = λ previous l.
       let x = d.behind previous l in
-      record { out = x.out; phase = (last, x.act, refl, refl); last = x.last; bytes = x.bytes };
+      record { out = x.out; phase = (last, x.act, refl, refl, refl); last = x.last; bytes = x.bytes };
 }
 
-ended_so : (P : Behaviour) (a b : Running) (last : effects.End) (e : PhaseEnd) (s : Option Selected) → phase_end last ≡ e → Did P a last b → Does (by_machine P) a s e b s
+ended_so : (P : Behaviour) (a b : Running) (last : effects.End) (e : PhaseEnd) (s : Held) → phase_end last ≡ e → Did P a last b → Does (by_machine P) a s e b s
 ended_so P a b last e s is d = subst (λ (x : PhaseEnd). Does (by_machine P) a s x b s) is (machine_does P a b last s d)
 
 pub put_out : (p : Object) (time : OutputTime) (a b : Running) (last : effects.End) (e : PhaseEnd) → a.program ≡ p → phase_end last ≡ e → Did (PutsOut a.program time) a last b → Passes (output p time) a e b
@@ -38,24 +37,24 @@ calculated p s a b last e same is d = record {
 }
 
 -- fields were filled from a record
-filled_fields : (p : Object) (t : ℕ) (text : List ℕ) (a b : Running) (e : PhaseEnd) → (let s : Option Selected = Some (record { type = t; text = text }) in
+filled_fields : (p : Object) (i : Inputs) (t : ℕ) (text : List ℕ) (a b : Running) (e : PhaseEnd) → (let s : Held = holding i (Some t) text in
     Does (by_machine (FillsFields p t text)) a s e b s → Does (fill_fields p) a s e b s)
-filled_fields p t text a b e h = record {
+filled_fields p i t text a b e h = record {
   program = h.program;
   behind = λ previous l. let x = h.behind previous l in record { out = x.out; phase = x.phase; last = x.last; bytes = x.bytes };
 }
 
-pub filled : (p : Object) (o : Option ℕ) (t : ℕ) (text : List ℕ) (a b : Running) (last : effects.End) (e : PhaseEnd) → o ≡ Some t → a.program ≡ p → phase_end last ≡ e → Did (FillsFields a.program t text) a last b →
-    Does (fill_fields p) a (selected_as o text) e b (selected_as o text)
-filled p o t text a b last e there same is d =
-    let s : Option Selected = Some (record { type = t; text = text }) in
-    subst (λ (x : Option ℕ). Does (fill_fields p) a (selected_as x text) e b (selected_as x text)) (sym there)
-    (filled_fields p t text a b e (subst (λ (q : Object). Does (by_machine (FillsFields q t text)) a s e b s) same (ended_so (FillsFields a.program t text) a b last e s is d)))
+pub filled : (p : Object) (i : Inputs) (o : Option ℕ) (t : ℕ) (text : List ℕ) (a b : Running) (last : effects.End) (e : PhaseEnd) → o ≡ Some t → a.program ≡ p → phase_end last ≡ e → Did (FillsFields a.program t text) a last b →
+    Does (fill_fields p) a (holding i o text) e b (holding i o text)
+filled p i o t text a b last e there same is d =
+    let s : Held = holding i (Some t) text in
+    subst (λ (x : Option ℕ). Does (fill_fields p) a (holding i x text) e b (holding i x text)) (sym there)
+    (filled_fields p i t text a b e (subst (λ (q : Object). Does (by_machine (FillsFields q t text)) a s e b s) same (ended_so (FillsFields a.program t text) a b last e s is d)))
 
 -- no record was selected
-pub nothing_filled : (p : Object) (o : Option ℕ) (text : List ℕ) (a : Running) → o ≡ None → Does (fill_fields p) a (selected_as o text) GoesOn a (selected_as o text)
-nothing_filled p o text a none =
-    subst (λ (x : Option ℕ). Does (fill_fields p) a (selected_as x text) GoesOn a (selected_as x text)) (sym none) (record {
+pub nothing_filled : (p : Object) (i : Inputs) (o : Option ℕ) (text : List ℕ) (a : Running) → o ≡ None → Does (fill_fields p) a (holding i o text) GoesOn a (holding i o text)
+nothing_filled p i o text a none =
+    subst (λ (x : Option ℕ). Does (fill_fields p) a (holding i x text) GoesOn a (holding i x text)) (sym none) (record {
       program = refl;
       behind = λ previous l. record { out = Rattle.rpg_machine.specs.Config.no_output; phase = (refl, refl, refl); last = l; bytes = Rattle.rpg_cycle.proofs.Composing.output_none previous a.output };
     })

@@ -1,36 +1,45 @@
 -- The nine phases, as far as they were done.
-use Rattle.std.proofs.Common.{◌≡◌, ℕ, Bool, List, Option, None, Some, refl, ap, ◌∙◌, subst}
+use Rattle.std.proofs.Common.{◌≡◌, ℕ, Bool, cond, ◌||◌, List, Option, None, Some, refl, ap, ◌∙◌, subst}
 use Rattle.rpg_cycle.proofs.Composing.{goes, ends}
-use Rattle.rpg_cycle.specs.Doing.{Does}
-use Rattle.rpg_cycle_records.specs.Earlier.{Left, Selected}
+use Rattle.rpg_cycle.proofs.Cycling.{Test, by_totals}
+use Rattle.rpg_cycle.specs.Doing.{Does, Held, holding, under_way}
+use Rattle.rpg_cycle_records.specs.Earlier.{Left, Selected, control_fields, file_at, last_of_file, match_value, or_before}
+use Rattle.rpg_cycle_records.specs.Identifying.{same_file}
+use Rattle.rpg_cycle_records.specs.Matching.{agrees}
+use Rattle.rpg_cycle_records.specs.Waiting.{Inputs, finds_match, other_file, value_of, waiting_in}
 use Rattle.rpg_cycle.specs.Ends.{GoesOn, PhaseEnd}
-use Rattle.rpg_cycle_records.specs.Keeping.{renewed_by}
-use Rattle.rpg_cycle.specs.Phases.{Phase, ◌before◌}
+use Rattle.rpg_cycle_records.specs.Keeping.{renewed, renewed_by, selected_as}
+use Rattle.rpg_cycle.specs.Phases.{Phase, after_selection, detail_calculations, end_where_last, fill_fields, is_bypassed, output, overflow_lines, section, show_match, unless, ◌before◌}
 use Rattle.rpg_cycle.specs.Stages.{job_end}
 use Rattle.rpg_cycle.specs.declared.ends.JobEnd.{JobEnd}
-use Rattle.rpg_machine.specs.Running.{Running, refilled}
+use Rattle.rpg_effect.specs.declared.input.InputFile.{InputFile}
+use Rattle.rpg_effect.specs.declared.input.InputFile.TheVariants.{Primary, Secondary}
+use Rattle.rpg_machine.specs.Running.{Running, config_on, refilled}
+use Rattle.rpg_machine.specs.declared.time.OutputTime.TheVariants as times
 use Rattle.rpg_object_program.specs.Object.{Object}
+use Rattle.rpg_object_program.specs.declared.section.Section.TheVariants as sections
+use Rattle.rpg_paper.specs.Paper.{last_position_from}
 
 -- whatever the phases that are left lead to from there, the whole leads to from where it began
-pub record Leads (C : Phase) (old : Running) (s : Option Selected) (Q : Phase) (mid : Running) (t : Option Selected) : Type 0 where
-  pub rest : (e : PhaseEnd) (new : Running) (u : Option Selected) → Does Q mid t e new u → Does C old s e new u
+pub record Leads (C : Phase) (old : Running) (s : Held) (Q : Phase) (mid : Running) (t : Held) : Type 0 where
+  pub rest : (e : PhaseEnd) (new : Running) (u : Held) → Does Q mid t e new u → Does C old s e new u
 
-pub begins : (C : Phase) (a b : Running) → b ≡ refilled a → Leads C (refilled a) None C b None
-begins C a b is = record { rest = λ e new u d. subst (λ (r : Running). Does C r None e new u) is d }
+pub begins : (C : Phase) (a b : Running) (s : Held) → b ≡ refilled a → Leads C (refilled a) s C b s
+begins C a b s is = record { rest = λ e new u d. subst (λ (r : Running). Does C r s e new u) is d }
 
-pub whole : (C : Phase) (a : Running) (s : Option Selected) → Leads C a s C a s
+pub whole : (C : Phase) (a : Running) (s : Held) → Leads C a s C a s
 whole C a s = record { rest = λ e new u d. d }
 
 -- one phase more went on
-pub step : {C P Q : Phase} {old mid new : Running} {s t u : Option Selected} → Leads C old s (P before Q) mid t → Does P mid t GoesOn new u → Leads C old s Q new u
+pub step : {C P Q : Phase} {old mid new : Running} {s t u : Held} → Leads C old s (P before Q) mid t → Does P mid t GoesOn new u → Leads C old s Q new u
 step l d = record { rest = λ e last v r. l.rest e last v (goes d r) }
 
 -- the next phase ended the job
-pub stop : {C P Q : Phase} {old mid new : Running} {s t u : Option Selected} (e : JobEnd) → Leads C old s (P before Q) mid t → Does P mid t (job_end e) new u → Does C old s (job_end e) new u
+pub stop : {C P Q : Phase} {old mid new : Running} {s t u : Held} (e : JobEnd) → Leads C old s (P before Q) mid t → Does P mid t (job_end e) new u → Does C old s (job_end e) new u
 stop {new} {u} e l d = l.rest (job_end e) new u (ends e d)
 
 -- the last phase was done
-pub last : {C P : Phase} {old mid new : Running} {s t u : Option Selected} {e : PhaseEnd} → Leads C old s P mid t → Does P mid t e new u → Does C old s e new u
+pub last : {C P : Phase} {old mid new : Running} {s t u : Held} {e : PhaseEnd} → Leads C old s P mid t → Does P mid t e new u → Does C old s e new u
 last {new} {u} {e} l d = l.rest e new u d
 
 -- what is kept beside the levels
@@ -42,9 +51,50 @@ kept_control : (p : Object) (t : Option ℕ) (text : List ℕ) (l : Left) → (r
 kept_control p None text l = refl
 kept_control p (Some t) text l = refl
 
--- total time with what was kept before the record
-pub by_left : (F : Bool → Bool → Phase) (p : Object) (t : Option ℕ) (text : List ℕ) (now old : Left) (a b : Running) (s : Option Selected) (e : PhaseEnd) → now ≡ renewed_by p t text old →
-    Does (F now.any now.control) a s e b s → Does (F old.any old.control) a s e b s
-by_left F p t text now old a b s e h d =
-    subst (λ (x : Bool). Does (F x old.control) a s e b s) (ap (λ (l : Left). l.any) h ∙ kept_any p t text old)
-    (subst (λ (x : Bool). Does (F now.any x) a s e b s) (ap (λ (l : Left). l.control) h ∙ kept_control p t text old) d)
+-- the last value of the other file is as before
+other_last : (g : InputFile) (v : Option (List ℕ)) (bytes : List (Option (List ℕ))) (l : Left) →
+    last_of_file (record { any = l.any; control = l.control; bytes = bytes; primary = or_before l.primary (cond (same_file g Primary) v None); secondary = or_before l.secondary (cond (same_file g Secondary) v None) }) (other_file g)
+    ≡ last_of_file l (other_file g)
+other_last Primary v bytes l = refl
+other_last Secondary v bytes l = refl
+
+-- so the record's match is found where it was before
+same_match : (p : Object) (t : ℕ) (text : List ℕ) (i : Inputs) (old : Left) → (let s : Selected = record { type = t; text = text } in
+    finds_match p (renewed_by p (Some t) text old) i s ≡ finds_match p old i s)
+same_match p t text i old =
+    let s : Selected = record { type = t; text = text } in
+    let other = other_file (file_at p s) in
+    ap (λ v. agrees (match_value p s) (value_of p other (waiting_in i other)) || agrees (match_value p s) v)
+    (other_last (file_at p s) (match_value p s) (renewed (control_fields p t) text 9 old.bytes) old)
+
+match_of : (p : Object) (t : Option ℕ) (text : List ℕ) (i : Inputs) (now old : Left) → now ≡ renewed_by p t text old → (x : Selected) → selected_as t text ≡ Some x → finds_match p now i x ≡ finds_match p old i x
+match_of p None text i now old h x e = cc
+match_of p (Some t) text i now old h x e =
+    let same : record { type = t; text = text } ≡ x = cc in
+    subst (λ (y : Selected). finds_match p now i y ≡ finds_match p old i y) same
+    (ap (λ (l : Left). finds_match p l i (record { type = t; text = text })) h ∙ same_match p t text i old)
+
+-- by another test that agrees on the selected record
+tested : (p : Object) (left : Left) (s u : Test) (a b : Running) (h k : Held) (e : PhaseEnd) → ((x : Selected) → h.selected ≡ Some x → s h.inputs x ≡ u h.inputs x) →
+    Does (after_selection p left s) a h e b k → Does (after_selection p left u) a h e b k
+tested p left s u a b h k e agree d = record {
+  program = d.program;
+  behind = λ previous l.
+      let x = d.behind previous l in record {
+        out = x.out;
+        phase = by_totals p left s u (under_way (config_on previous a.config) h) agree e (under_way (config_on (last_position_from previous x.out.lines) b.config) k) x.out x.phase;
+        last = x.last;
+        bytes = x.bytes;
+      };
+}
+
+-- the phases behind the selection with what was kept before the record
+pub by_left : (p : Object) (t : Option ℕ) (text : List ℕ) (i : Inputs) (now old : Left) (a b : Running) (e : PhaseEnd) → now ≡ renewed_by p t text old →
+    Does (after_selection p now (finds_match p now)) a (holding i t text) e b (holding i t text) → Does (after_selection p old (finds_match p old)) a (holding i t text) e b (holding i t text)
+by_left p t text i now old a b e h d =
+    let s = holding i t text in
+    let F = λ (x y : Bool). unless (is_bypassed p x y) (section p sections.Total before output p times.Total)
+    before end_where_last before overflow_lines p before show_match (finds_match p now) before fill_fields p before detail_calculations p in
+    tested p old (finds_match p now) (finds_match p old) a b s s e (match_of p t text i now old h)
+    (subst (λ (x : Bool). Does (F x old.control) a s e b s) (ap (λ (l : Left). l.any) h ∙ kept_any p t text old)
+    (subst (λ (x : Bool). Does (F now.any x) a s e b s) (ap (λ (l : Left). l.control) h ∙ kept_control p t text old) d))

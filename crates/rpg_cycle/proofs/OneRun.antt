@@ -1,14 +1,17 @@
 -- What a job does is determined: a phase, a cycle and a run have one outcome.
-use Rattle.std.proofs.Common.{◌≡◌, ℕ, ℤ, zero, suc, Bool, true, false, cond, List, [], ◌∷◌, Option, None, Some, refl, sym, ap, ◌∙◌, subst}
+use Rattle.std.proofs.Common.{◌≡◌, ℕ, ℤ, zero, suc, Bool, true, false, cond, List, [], Option, None, Some, refl, sym, ap, ◌∙◌, subst}
 use Rattle.std.specs.Ordering.{nat_cmp}
 use Rattle.rpg_effect.specs.Effect.{Effect}
 use Rattle.rpg_effect.specs.Ends as effects
 use Rattle.rpg_effect.specs.Put.{Bytes}
 use Rattle.rpg_effect.specs.World.{Fields, World}
 use Rattle.rpg_cycle_records.specs.Earlier.{Left, Selected, left_by, with_record}
+use Rattle.rpg_cycle_records.specs.Waiting.{Inputs, has_match, unread}
+use Rattle.rpg_effect.specs.declared.input.InputFile.TheVariants.{Primary, Secondary}
 use Rattle.rpg_cycle.specs.Ends.{PhaseEnd, GoesOn, EndOfJob, Halt, Wrong, phase_end}
-use Rattle.rpg_cycle.specs.Phases.{CycleOn, Done, Phase, UnderWay, begun, by_machine, does, either, fill_from, from_there, output, passes, section, unless, ◌before◌}
-use Rattle.rpg_cycle.specs.Runs.{Course, IsRun, Runs, ends_or, printed, stored, with_cycle}
+use Rattle.rpg_cycle.specs.Indicators.{is_on, last_record}
+use Rattle.rpg_cycle.specs.Phases.{CycleOn, Done, Phase, UnderWay, begun, by_machine, does, either, fill_from, from_there, needs_record, output, passes, section, select_record, unless, ◌before◌}
+use Rattle.rpg_cycle.specs.Runs.{Course, IsRun, Records, RunsIn, ends_or, left_behind, next_of, printed, stored, with_cycle}
 use Rattle.rpg_cycle.specs.Starting.{job_start}
 use Rattle.rpg_machine.specs.Config.{Config, Output, no_output, with_more}
 use Rattle.rpg_machine.specs.Outputs.{ByEffect}
@@ -78,14 +81,17 @@ run_fixed p s = record {
   puts = λ c e f x y a b h g. let k = same_stop p s c e f x y a b h g in cc;
 }
 
-under_way_same : (x y : UnderWay) → x.config ≡ y.config → x.selected ≡ y.selected → x ≡ y
-under_way_same x y h g = ap (λ c. let u : UnderWay = record { config = c; selected = x.selected } in u) h ∙ ap (λ s. let u : UnderWay = record { config = y.config; selected = s } in u) g
+under_way_same : (x y : UnderWay) → x.config ≡ y.config → x.inputs ≡ y.inputs → x.selected ≡ y.selected → x ≡ y
+under_way_same x y h f g =
+    ap (λ c. let u : UnderWay = record { config = c; inputs = x.inputs; selected = x.selected } in u) h
+    ∙ ap (λ i. let u : UnderWay = record { config = y.config; inputs = i; selected = x.selected } in u) f
+    ∙ ap (λ s. let u : UnderWay = record { config = y.config; inputs = y.inputs; selected = s } in u) g
 
 machine_fixed : (P : Behaviour) → IsFixedAct P → IsFixed (by_machine P)
 machine_fixed P p = record {
   same = λ c e f x y a b h g. record {
     end = h.2 ∙ ap phase_end (p.ends c.config h.0 g.0 x.config y.config a b h.1 g.1) ∙ sym g.2;
-    there = under_way_same x y (p.leads c.config h.0 g.0 x.config y.config a b h.1 g.1) (h.3 ∙ sym g.3);
+    there = under_way_same x y (p.leads c.config h.0 g.0 x.config y.config a b h.1 g.1) (h.3 ∙ sym g.3) (h.4 ∙ sym g.4);
     out = p.puts c.config h.0 g.0 x.config y.config a b h.1 g.1;
   };
 }
@@ -129,44 +135,53 @@ section_fixed p s = machine_fixed _ (run_fixed p s)
 
 -- ---- a cycle
 
-pub cycle_fixed : (p : Object) (left : Left) (next : Option (List ℕ)) → IsFixed (CycleOn p left next)
-cycle_fixed p left next =
+select_fixed : (p : Object) (left : Left) (a b : Option (List ℕ)) → IsFixed (select_record p left a b)
+select_fixed p left a b = record {
+  same = λ c e f x y u v h g.
+      (either_fixed (is_on c.config last_record) _ _ (does_fixed _) (before_fixed _ _ (does_fixed _) (before_fixed _ _ (does_fixed _) (does_fixed _)))).same c e f x y u v h g;
+}
+
+pub cycle_fixed : (p : Object) (left : Left) (matches : Inputs → Selected → Bool) (a b : Option (List ℕ)) → IsFixed (CycleOn p left matches a b)
+cycle_fixed p left matches a b =
     before_fixed _ _ (output_fixed p times.Detail)
     (before_fixed _ _ (does_fixed _)
     (before_fixed _ _ (does_fixed _)
-    (before_fixed _ _ (does_fixed _)
+    (before_fixed _ _ (select_fixed p left a b)
     (before_fixed _ _ (unless_fixed _ _ (before_fixed _ _ (section_fixed p sections.Total) (output_fixed p times.Total)))
     (before_fixed _ _ (does_fixed _)
     (before_fixed _ _ (unless_fixed _ _ (output_fixed p times.Overflow))
-    (before_fixed _ _ (record { same = λ c e f x y a b h g. (fill_fixed p c.selected).same c e f x y a b h g })
-    (section_fixed p sections.Detail))))))))
+    (before_fixed _ _ (does_fixed _)
+    (before_fixed _ _ (record { same = λ c e f x y u v h g. (fill_fixed p c.selected).same c e f x y u v h g })
+    (section_fixed p sections.Detail)))))))))
 
 -- ---- a run
 
-ends_same : (e f : PhaseEnd) (x y : UnderWay) (a b : Output) (R : UnderWay → Course → Type 0) (u v : Course) → IsSame e f x y a b → ((r s : Course) → R x r → R x s → r ≡ s) → ends_or e x a R u → ends_or f y b R v → u ≡ v
-ends_same e f x y a b R u v s one h g =
-    cases e h (subst (λ (z : PhaseEnd). ends_or z x a R v) (sym s.end) (subst (λ (z : UnderWay). ends_or f z a R v) (sym s.there) (subst (λ (z : Output). ends_or f y z R v) (sym s.out) g)))
+ends_same : (e f : PhaseEnd) (x y : UnderWay) (a b : Output) (R S : UnderWay → Course → Type 0) (u v : Course) → IsSame e f x y a b → ((r s : Course) → R x r → S x s → r ≡ s) → ends_or e x a R u → ends_or f y b S v → u ≡ v
+ends_same e f x y a b R S u v s one h g =
+    cases e h (subst (λ (z : PhaseEnd). ends_or z x a S v) (sym s.end) (subst (λ (z : UnderWay). ends_or f z a S v) (sym s.there) (subst (λ (z : Output). ends_or f y z S v) (sym s.out) g)))
   where
-    cases : (k : PhaseEnd) → ends_or k x a R u → ends_or k x a R v → u ≡ v
+    cases : (k : PhaseEnd) → ends_or k x a R u → ends_or k x a S v → u ≡ v
     cases GoesOn l m = l.2 ∙ ap (with_cycle x.config a) (one l.0 m.0 l.1 m.1) ∙ sym m.2
     cases EndOfJob l m = l ∙ sym m
     cases (Halt n) l m = l ∙ sym m
     cases (Wrong n) l m = l ∙ sym m
 
-pub runs_same : (p : Object) (earlier : List Selected) (records : List (List ℕ)) (c : Config) (u v : Course) → Runs p earlier records c u → Runs p earlier records c v → u ≡ v
-runs_same p earlier [] c u v (e, x, a, h, r) (f, y, b, g, s) =
-    ends_same e f x y a b (λ d rest. ⊥) u v ((cycle_fixed p (left_by p earlier) None).same (begun p c) e f x y a b h g) (λ k l m n. absurd m) r s
-runs_same p earlier (t ∷ ts) c u v (e, x, a, h, r) (f, y, b, g, s) =
-    ends_same e f x y a b (λ d rest. Runs p (with_record d.selected earlier) ts d.config rest) u v ((cycle_fixed p (left_by p earlier) (Some t)).same (begun p c) e f x y a b h g)
-    (λ k l m n. runs_same p (with_record x.selected earlier) ts x.config k l m n) r s
+pub runs_same : (n m : ℕ) (p : Object) (earlier : List Selected) (rs : Records) (c : Config) (i : Inputs) (u v : Course) → RunsIn n p earlier rs c i u → RunsIn m p earlier rs c i v → u ≡ v
+runs_same zero m p earlier rs c i u v h g = absurd h
+runs_same (suc n) zero p earlier rs c i u v h g = absurd g
+runs_same (suc n) (suc m) p earlier rs c i u v (e, x, a, h, r) (f, y, b, g, s) =
+    ends_same e f x y a b (λ d rest. RunsIn n p (with_record d.selected earlier) (left_behind p c i rs) d.config d.inputs rest)
+    (λ d rest. RunsIn m p (with_record d.selected earlier) (left_behind p c i rs) d.config d.inputs rest) u v
+    ((cycle_fixed p (left_by p earlier) (has_match p earlier) (next_of (needs_record p c i Primary) rs.primary) (next_of (needs_record p c i Secondary) rs.secondary)).same (begun p c i) e f x y a b h g)
+    (λ k l o q. runs_same n m p (with_record x.selected earlier) (left_behind p c i rs) x.config x.inputs k l o q) r s
 
-pub course_one : (p : Object) (date : ℤ) (fields : Fields nat_cmp) (records : List (List ℕ)) (u v : Course) (a b : Bytes) → IsRun p date fields records u a → IsRun p date fields records v b → u ≡ v
-course_one p date fields records u v a b h g = runs_same p [] records (job_start p date fields) u v h.runs g.runs
+pub course_one : (p : Object) (date : ℤ) (fields : Fields nat_cmp) (records : Records) (u v : Course) (a b : Bytes) → IsRun p date fields records u a → IsRun p date fields records v b → u ≡ v
+course_one p date fields records u v a b h g = runs_same u.cycles v.cycles p [] records (job_start p date fields) unread u v h.runs g.runs
 
 bytes_are : (x y : Bytes) → x.print ≡ y.print → x.disk ≡ y.disk → x ≡ y
 bytes_are x y h g = ap (λ z. let o : Bytes = record { print = z; disk = x.disk } in o) h ∙ ap (λ z. let o : Bytes = record { print = y.print; disk = z } in o) g
 
-pub bytes_one : (p : Object) (date : ℤ) (fields : Fields nat_cmp) (records : List (List ℕ)) (u v : Course) (a b : Bytes) → IsRun p date fields records u a → IsRun p date fields records v b → a ≡ b
+pub bytes_one : (p : Object) (date : ℤ) (fields : Fields nat_cmp) (records : Records) (u v : Course) (a b : Bytes) → IsRun p date fields records u a → IsRun p date fields records v b → a ≡ b
 bytes_one p date fields records u v a b h g =
     let same = course_one p date fields records u v a b h g in
     bytes_are a b (h.print ∙ ap (λ (c : Course). printed c.output) same ∙ sym g.print) (h.disk ∙ ap (λ (c : Course). stored c.output) same ∙ sym g.disk)

@@ -1,31 +1,36 @@
--- How a record is selected.
-use Rattle.std.proofs.Common.{◌≡◌, ℕ, ◌≤◌, ◌+◌, ◌*◌, suc, Bool, true, false, cond, ◌&&◌, List, [], ◌∷◌, length, slice_get, All, Option, None, Some, refl, sym, ap, ◌∙◌, subst, take, arith}
+-- How records are taken in, and how one is selected.
+use Rattle.std.proofs.Common.{◌≡◌, ℕ, ◌≤◌, ◌+◌, ◌*◌, suc, Bool, true, false, cond, not, ◌&&◌, List, [], ◌∷◌, length, slice_get, All, Option, None, Some, is_none, refl, sym, ap, ◌∙◌, subst, take, arith}
 use Rattle.std.proofs.lemmas.Bool.Decides.{nat_tests}
 use Rattle.std.specs.List.{list_all}
-use Rattle.rpg_paper.specs.Paper.{Position}
-use Rattle.rpg_effect.specs.Weights.{types_weight}
+use Rattle.std.specs.Option.{ForSome}
+use Rattle.rpg_paper.specs.Paper.{Position, last_position_from}
 use Rattle.rpg_effect.specs.declared.input.ControlField.{ControlField}
+use Rattle.rpg_effect.specs.declared.input.InputFile.{InputFile}
 use Rattle.rpg_effect.specs.declared.input.InputFile.TheVariants.{Primary, Secondary}
-use Rattle.rpg_cycle.proofs.Composing.{quietly}
-use Rattle.rpg_cycle.proofs.Spending.{found_few, tried_few}
+use Rattle.rpg_cycle.proofs.Composing.{of_none, of_some, quietly}
+use Rattle.rpg_cycle.proofs.Spending.{keeps_reach}
 use Rattle.rpg_cycle.proofs.Turning.{all_keep, all_on, type_keeps, type_on}
-use Rattle.rpg_cycle.specs.Doing.{Does}
-use Rattle.rpg_cycle_records.specs.Earlier.{Left, Selected, control_fields, or_before, value_from}
+use Rattle.rpg_cycle.specs.Doing.{Does, Held, holding, unselected, under_way}
+use Rattle.rpg_cycle.specs.Indicators.{is_on, last_record, level_indicators, with_all, with_levels, with_one, with_type}
+use Rattle.rpg_cycle_records.specs.Earlier.{Left, Selected, file_of, last_of_file, match_fields, match_value, or_before, value_from, control_fields}
 use Rattle.rpg_cycle.specs.Ends.{GoesOn, Halt, PhaseEnd}
 use Rattle.rpg_cycle_records.specs.Fitting.{IsControlIn}
 use Rattle.rpg_cycle_records.specs.Identifying.{IsOf, IsOfNone, identified, is_good_record, padded, trial_weight}
-use Rattle.rpg_cycle.specs.Indicators.{is_on, last_record, level_indicators, with_all, with_levels, with_one, with_type}
-use Rattle.rpg_cycle_records.specs.Keeping.{renewed, renewed_by}
+use Rattle.rpg_cycle_records.specs.Keeping.{left_of, renewed, renewed_by, selected_as}
 use Rattle.rpg_cycle_records.specs.Levels.{broken_in, is_in_record}
-use Rattle.rpg_cycle.specs.Phases.{broken_level, done, read_record, select_record, type_indicator}
-use Rattle.rpg_cycle.specs.Selecting.{HasRead, IsCompared, IsUntaken, TakesType}
-use Rattle.rpg_cycle.specs.Spending.{Selects, Spends}
+use Rattle.rpg_cycle_records.specs.Matching.{exceeds}
+use Rattle.rpg_cycle_records.specs.Waiting.{Input, Inputs, chosen, has_file, input_at, over, takes_in, waiting_in, with_input, with_waiting}
+use Rattle.rpg_cycle_records.specs.Holding.{HoldsRecord, HoldsSelected, IsFileKept, input_of, inputs_of, kept_at, record_in, takes_from, text_in}
+use Rattle.rpg_cycle_records.specs.declared.files.KeptFile.{KeptFile}
+use Rattle.rpg_cycle_records.specs.declared.kept.Kept.{Kept}
+use Rattle.rpg_cycle.specs.Phases.{broken_level, does, done, either, read_record, select_from, select_one, select_record, select_waiting, take_in, type_indicator, with_config, ◌before◌}
+use Rattle.rpg_cycle.specs.Selecting.{HasRead, HasSelected, IsCompared, IsUntaken, TakesType}
+use Rattle.rpg_cycle.specs.Spending.{Spends, TakesIn}
 use Rattle.rpg_cycle.specs.Stages.{job_end}
 use Rattle.rpg_cycle.specs.declared.ends.JobEnd.{JobEnd}
 use Rattle.rpg_machine.specs.Config.{Config, charged}
-use Rattle.rpg_machine.specs.Outputs.{inputs_at}
 use Rattle.rpg_machine.specs.Running.{Running, config_on}
-use Rattle.rpg_object_program.specs.Object.{Object}
+use Rattle.rpg_object_program.specs.Object.{Object, input_length}
 use Rattle.rpg_verify.specs.Bound.{most}
 
 and : (b c : Bool) → b ≡ true → c ≡ true → (b && c) ≡ true
@@ -34,112 +39,299 @@ and b c h g = rw h g
 inside : (len : ℕ) (f : ControlField) → IsControlIn len f → is_in_record len f ≡ true
 inside len f h = grind (arith, nat_tests, h.low, h.order, h.high)
 
--- the control fields of an accepted program are in the record
+-- the control fields and the match fields of an accepted program are in the record
 pub all_inside : (len : ℕ) (fs : List ControlField) → All (IsControlIn len) fs → list_all (is_in_record len) fs ≡ true
 all_inside len [] h = refl
 all_inside len (f ∷ fs) h = and (is_in_record len f) (list_all (is_in_record len) fs) (inside len f (h 0 f (omega arith))) (all_inside len fs (λ k d l. h (suc k) d (omega (arith, l))))
 
--- what a record that is taken leads to
-abbrev pub taken : Object → Left → List ℕ → ℕ → Config → Config
-taken p left text t c =
-    with_levels (broken_level p left (record { type = t; text = text })) (charged (length (control_fields p t))
-    (with_type (type_indicator (slice_get p.types t)) (charged (trial_weight Primary p.types text) c)))
+-- what a record that is taken in costs
+abbrev pub taken : Object → InputFile → List ℕ → ℕ → Config → Config
+taken p f text t c = charged (length (match_fields p t)) (charged (trial_weight f p.types text) c)
 
-taken_on : (previous : Option Position) (p : Object) (left : Left) (text : List ℕ) (t : ℕ) (c : Config) → config_on previous (taken p left text t c) ≡ taken p left text t (config_on previous c)
-taken_on previous p left text t c =
-    let levels = take (broken_level p left (record { type = t; text = text })) level_indicators in
-    let weight = charged (length (control_fields p t)) in
-    all_on previous levels true (weight (with_type (type_indicator (slice_get p.types t)) (charged (trial_weight Primary p.types text) c)))
-    ∙ ap (λ (x : Config). with_all levels true (weight x)) (type_on previous (type_indicator (slice_get p.types t)) (charged (trial_weight Primary p.types text) c))
+reads_one : (p : Object) (left : Left) (f : InputFile) (text full : List ℕ) (i : Inputs) (c : Config) (t : ℕ) → is_good_record p f text ≡ true → padded p f text ≡ full → identified f 0 p.types full ≡ IsOf t →
+    list_all (is_in_record (length full)) (match_fields p t) ≡ true → exceeds (last_of_file left f) (match_value p (record { type = t; text = full })) ≡ false →
+    read_record p left f (Some text) (under_way c (unselected i)) ≡ done GoesOn (under_way (taken p f full t c) (unselected (with_waiting f (Some (record { type = t; text = full })) i)))
+reads_one p left f text full i c t good e is there low = rw good (rw e (rw is (rw there (rw low refl))))
 
-reads_one : (p : Object) (left : Left) (text full : List ℕ) (c : Config) (t : ℕ) → is_good_record p Primary text ≡ true → padded p Primary text ≡ full → identified Primary 0 p.types full ≡ IsOf t →
-    list_all (is_in_record (length full)) (control_fields p t) ≡ true → read_record p left (Some text) c ≡ done GoesOn (record { config = taken p left full t c; selected = Some (record { type = t; text = full }) })
-reads_one p left text full c t good e is there = rw good (rw e (rw is (rw there refl)))
+reads_low : (p : Object) (left : Left) (f : InputFile) (text full : List ℕ) (i : Inputs) (c : Config) (t : ℕ) → is_good_record p f text ≡ true → padded p f text ≡ full → identified f 0 p.types full ≡ IsOf t →
+    list_all (is_in_record (length full)) (match_fields p t) ≡ true → exceeds (last_of_file left f) (match_value p (record { type = t; text = full })) ≡ true →
+    read_record p left f (Some text) (under_way c (unselected i)) ≡ done (Halt 8) (under_way (taken p f full t c) (unselected i))
+reads_low p left f text full i c t good e is there low = rw good (rw e (rw is (rw there (rw low refl))))
 
-reads_none : (p : Object) (left : Left) (text full : List ℕ) (c : Config) → is_good_record p Primary text ≡ true → padded p Primary text ≡ full → identified Primary 0 p.types full ≡ IsOfNone →
-    read_record p left (Some text) c ≡ done (Halt 3) (record { config = charged (trial_weight Primary p.types full) c; selected = None })
-reads_none p left text full c good e is = rw good (rw e (rw is refl))
+reads_none : (p : Object) (left : Left) (f : InputFile) (text full : List ℕ) (i : Inputs) (c : Config) → is_good_record p f text ≡ true → padded p f text ≡ full → identified f 0 p.types full ≡ IsOfNone →
+    read_record p left f (Some text) (under_way c (unselected i)) ≡ done (Halt 3) (under_way (charged (trial_weight f p.types full) c) (unselected i))
+reads_none p left f text full i c good e is = rw good (rw e (rw is refl))
 
-reads_bad : (p : Object) (left : Left) (text : List ℕ) (c : Config) → is_good_record p Primary text ≡ false → read_record p left (Some text) c ≡ done (Halt 7) (record { config = c; selected = None })
-reads_bad p left text c bad = rw bad refl
+reads_bad : (p : Object) (left : Left) (f : InputFile) (text : List ℕ) (i : Inputs) (c : Config) → is_good_record p f text ≡ false → read_record p left f (Some text) (under_way c (unselected i)) ≡ done (Halt 7) (under_way c (unselected i))
+reads_bad p left f text i c bad = rw bad refl
 
 -- ---- what was read
 
 -- a bad record
-pub refused : (p : Object) (left : Left) (text : List ℕ) (a : Running) (e : JobEnd) → is_good_record p Primary text ≡ false → job_end e ≡ Halt 7 → HasRead p left text a (job_end e) a None
-refused p left text a e bad is = record {
+pub refused : (p : Object) (left : Left) (f : InputFile) (text : List ℕ) (i : Inputs) (a : Running) (e : JobEnd) → is_good_record p f text ≡ false → job_end e ≡ Halt 7 → HasRead p left f (Some text) i a (job_end e) a i
+refused p left f text i a e bad is = record {
   config = a.config;
-  read = λ previous. reads_bad p left text (config_on previous a.config) bad ∙ ap (λ (x : PhaseEnd). done x (record { config = config_on previous a.config; selected = None })) (sym is);
+  read = λ previous. reads_bad p left f text i (config_on previous a.config) bad ∙ ap (λ (x : PhaseEnd). done x (under_way (config_on previous a.config) (unselected i))) (sym is);
   machine = refl;
 }
 
 -- no type takes the record
-pub untaken : (p : Object) (left : Left) (text full : List ℕ) (a b : Running) (e : JobEnd) → is_good_record p Primary text ≡ true → full ≡ padded p Primary text →
-    IsUntaken p full a e b → HasRead p left text a (job_end e) b None
-untaken p left text full a b e good is u = record {
-  config = charged (trial_weight Primary p.types full) a.config;
-  read = λ previous. reads_none p left text full (config_on previous a.config) good (sym is) u.type
-      ∙ ap (λ (x : PhaseEnd). done x (record { config = charged (trial_weight Primary p.types full) (config_on previous a.config); selected = None })) (sym u.end);
+pub untaken : (p : Object) (left : Left) (f : InputFile) (text full : List ℕ) (i : Inputs) (a b : Running) (e : JobEnd) → is_good_record p f text ≡ true → full ≡ padded p f text →
+    IsUntaken p f full a e b → HasRead p left f (Some text) i a (job_end e) b i
+untaken p left f text full i a b e good is u = record {
+  config = charged (trial_weight f p.types full) a.config;
+  read = λ previous. reads_none p left f text full i (config_on previous a.config) good (sym is) u.type
+      ∙ ap (λ (x : PhaseEnd). done x (under_way (charged (trial_weight f p.types full) (config_on previous a.config)) (unselected i))) (sym u.end);
   machine = u.machine;
 }
 
--- a type takes it
-pub has_taken : (p : Object) (left : Left) (text full : List ℕ) (t : ℕ) (a b c : Running) (now : List (Option (List ℕ))) → is_good_record p Primary text ≡ true → full ≡ padded p Primary text →
-    TakesType p full a t b → IsCompared (control_fields p t) full left.bytes b c now → HasRead p left text a GoesOn c (Some (record { type = t; text = full }))
-has_taken p left text full t a b c now good is one two = record {
-  config = taken p left full t a.config;
-  read = λ previous. reads_one p left text full (config_on previous a.config) t good (sym is) one.type (all_inside (length full) (control_fields p t) two.inside)
-      ∙ ap (λ (x : Config). done GoesOn (record { config = x; selected = Some (record { type = t; text = full }) })) (sym (taken_on previous p left full t a.config));
-  machine = two.machine
-      ∙ ap (λ (x : Running). let r : Running = record x { config = with_levels (broken_level p left (record { type = t; text = full })) (charged (length (control_fields p t)) x.config) } in r) one.machine;
+-- the machine behind the match fields
+pub charged_so : (p : Object) (f : InputFile) (full : List ℕ) (t : ℕ) (a b c : Running) → TakesType p f full a t b → c ≡ record b { config = charged (length (match_fields p t)) b.config } →
+    c ≡ record a { config = taken p f full t a.config }
+charged_so p f full t a b c one two = two ∙ ap (λ (x : Running). let r : Running = record x { config = charged (length (match_fields p t)) x.config } in r) one.machine
+
+-- its match value is too low
+pub too_low : (p : Object) (left : Left) (f : InputFile) (text full : List ℕ) (i : Inputs) (t : ℕ) (a b c : Running) (e : JobEnd) → is_good_record p f text ≡ true → full ≡ padded p f text → TakesType p f full a t b →
+    All (IsControlIn (length full)) (match_fields p t) → c ≡ record b { config = charged (length (match_fields p t)) b.config } →
+    exceeds (last_of_file left f) (match_value p (record { type = t; text = full })) ≡ true → job_end e ≡ Halt 8 → HasRead p left f (Some text) i a (job_end e) c i
+too_low p left f text full i t a b c e good is one fields two low h = record {
+  config = taken p f full t a.config;
+  read = λ previous. reads_low p left f text full i (config_on previous a.config) t good (sym is) one.type (all_inside (length full) (match_fields p t) fields) low
+      ∙ ap (λ (x : PhaseEnd). done x (under_way (taken p f full t (config_on previous a.config)) (unselected i))) (sym h);
+  machine = charged_so p f full t a b c one two;
 }
 
--- what was kept of it
+-- it waits
+pub waits : (p : Object) (left : Left) (f : InputFile) (text full : List ℕ) (i : Inputs) (x : Input) (t : ℕ) (a b c : Running) → is_good_record p f text ≡ true → full ≡ padded p f text → TakesType p f full a t b →
+    All (IsControlIn (length full)) (match_fields p t) → c ≡ record b { config = charged (length (match_fields p t)) b.config } →
+    exceeds (last_of_file left f) (match_value p (record { type = t; text = full })) ≡ false →
+    x ≡ record { waiting = Some (record { type = t; text = full }); is_over = (input_at i f).is_over } → HasRead p left f (Some text) i a GoesOn c (with_input f x i)
+waits p left f text full i x t a b c good is one fields two low h = record {
+  config = taken p f full t a.config;
+  read = λ previous. reads_one p left f text full i (config_on previous a.config) t good (sym is) one.type (all_inside (length full) (match_fields p t) fields) low
+      ∙ ap (λ (y : Input). done GoesOn (under_way (taken p f full t (config_on previous a.config)) (unselected (with_input f y i)))) (sym h);
+  machine = charged_so p f full t a b c one two;
+}
+
+-- the match fields of a record that was filled
+pub fields_inside : (p : Object) (f : InputFile) (t : ℕ) (full : List ℕ) (fs : List ControlField) → All (IsControlIn (input_length p (file_of (slice_get p.types t)))) fs → fs ≡ match_fields p t →
+    length full ≡ input_length p f → file_of (slice_get p.types t) ≡ f → All (IsControlIn (length full)) (match_fields p t)
+fields_inside p f t full fs h is whole own =
+    subst (λ (n : ℕ). All (IsControlIn n) (match_fields p t)) (ap (input_length p) own ∙ sym whole) (subst (λ (gs : List ControlField). All (IsControlIn (input_length p (file_of (slice_get p.types t)))) gs) is h)
+
+negated : (b r : Bool) → not b ≡ r → b ≡ not r
+negated true r h = ap not h
+negated false r h = ap not h
+
+pub low_so : (l v m : Option (List ℕ)) (b r : Bool) → l ≡ v → b ≡ not (exceeds v m) → b ≡ r → exceeds l m ≡ not r
+low_so l v m b r same is h = ap (λ (x : Option (List ℕ)). exceeds x m) same ∙ negated (exceeds v m) r (sym is ∙ h)
+
+-- what is kept of a file where the record waits
+pub waits_so : (k : KeptFile) (t : ℕ) (text : List ℕ) (x : Input) → k.waiting ≡ Some t → k.record.items ≡ text → k.is_over ≡ x.is_over →
+    input_of k ≡ record { waiting = Some (record { type = t; text = text }); is_over = x.is_over }
+waits_so k t text x w e o =
+    ap (λ (r : Option ℕ). let y : Input = record { waiting = selected_as r k.record.items; is_over = k.is_over } in y) w
+    ∙ ap (λ (xs : List ℕ). let y : Input = record { waiting = selected_as (Some t) xs; is_over = k.is_over } in y) e
+    ∙ ap (λ (b : Bool). let y : Input = record { waiting = selected_as (Some t) text; is_over = b } in y) o
+
+-- ---- the phase
+
+pub settled : (p : Object) (left : Left) (f : InputFile) (next : Option (List ℕ)) (i : Inputs) (a : Running) → takes_in p i f ≡ false → Does (take_in p left f next) a (unselected i) GoesOn a (unselected i)
+settled p left f next i a h =
+    quietly (λ c. cond (takes_in p c.inputs f) (read_record p left f next c) (done GoesOn c)) a a (unselected i) (unselected i) GoesOn a.config (λ previous. rw h refl) refl
+
+pub asked : (p : Object) (left : Left) (f : InputFile) (next given : Option (List ℕ)) (i j : Inputs) (a b : Running) (e : PhaseEnd) → takes_in p i f ≡ true → next ≡ given → HasRead p left f given i a e b j →
+    Does (take_in p left f next) a (unselected i) e b (unselected j)
+asked p left f next given i j a b e h is r =
+    quietly (λ c. cond (takes_in p c.inputs f) (read_record p left f next c) (done GoesOn c)) a b (unselected i) (unselected j) e r.config
+    (λ previous. rw h (ap (λ (n : Option (List ℕ)). read_record p left f n (under_way (config_on previous a.config) (unselected i))) is ∙ r.read previous)) r.machine
+
+-- the file is at its end
+pub at_end : (p : Object) (left : Left) (f : InputFile) (i : Inputs) (a : Running) → HasRead p left f None i a GoesOn a (over f i)
+at_end p left f i a = record { config = a.config; read = λ previous. refl; machine = refl }
+
+-- what was kept of the selected record
 pub renews : (p : Object) (t : ℕ) (text : List ℕ) (old : Left) (bytes : List (Option (List ℕ))) (a b : Option (List ℕ)) → bytes ≡ renewed (control_fields p t) text 9 old.bytes →
     a ≡ or_before old.primary (value_from p Primary (record { type = t; text = text })) → b ≡ or_before old.secondary (value_from p Secondary (record { type = t; text = text })) →
     record { any = old.any; control = old.control; bytes = bytes; primary = a; secondary = b } ≡ renewed_by p (Some t) text old
 renews p t text old bytes a b e f g = rw e (rw f (rw g refl))
 
--- ---- what it takes
+-- ---- what is kept of a file, put in its place
 
-pub untaken_spends : (p : Object) (full : List ℕ) (a b : Running) (e : JobEnd) → IsUntaken p full a e b → Spends p (types_weight p.types) a b
-untaken_spends p full a b e u = record { few = omega (arith, tried_few Primary p.types full, ap (λ (x : Running). x.config.steps) u.machine, ap (λ (x : Running). x.config.allowance * most p) u.machine) }
+put_back : (f : InputFile) (i : Inputs) → with_input f (input_at i f) i ≡ i
+put_back Primary i = refl
+put_back Secondary i = refl
 
-pub taken_selects : (p : Object) (full : List ℕ) (t : ℕ) (bytes now : List (Option (List ℕ))) (a b c : Running) → TakesType p full a t b → IsCompared (control_fields p t) full bytes b c now → Selects p (Some t) a c
-taken_selects p full t bytes now a b c one two =
-    let x = found_few Primary 0 p.types full t one.type in
-    let row : t ≡ x.place = omega (arith, x.row) in
-    let few : trial_weight Primary p.types full + (length (control_fields p t) + length (inputs_at p t)) ≤ types_weight p.types =
-    subst (λ (k : ℕ). trial_weight Primary p.types full + (length (control_fields p k) + length (inputs_at p k)) ≤ types_weight p.types) (sym row) x.few in
-    let typed = type_keeps (type_indicator (slice_get p.types t)) (charged (trial_weight Primary p.types full) a.config) in
-    let leveled = all_keep (take (broken_in (control_fields p t) full bytes) level_indicators) true (charged (length (control_fields p t)) b.config) in
+pub stays : (p : Object) (left : Left) (f : InputFile) (next : Option (List ℕ)) (i : Inputs) (x : Input) (a : Running) → input_at i f ≡ x → takes_from p f x ≡ false →
+    Does (take_in p left f next) a (unselected i) GoesOn a (unselected (with_input f x i))
+stays p left f next i x a is h =
+    subst (λ (j : Inputs). Does (take_in p left f next) a (unselected i) GoesOn a (unselected j)) (sym (put_back f i) ∙ ap (λ (y : Input). with_input f y i) is)
+    (settled p left f next i a (ap (takes_from p f) is ∙ h))
+
+none_there : (b : Bool) (i : Input) → (b && (not i.is_over && is_none i.waiting)) ≡ true → i.waiting ≡ None
+none_there b i h = none b i.is_over i.waiting h
+  where
+    none : (b c : Bool) (o : Option Selected) → (b && (not c && is_none o)) ≡ true → o ≡ None
+    none true false None h = refl
+    none true false (Some s) h = cc
+    none true true o h = cc
+    none false c o h = cc
+
+pub ends : (p : Object) (left : Left) (f : InputFile) (next : Option (List ℕ)) (i : Inputs) (x y : Input) (a : Running) → input_at i f ≡ x → takes_from p f x ≡ true → next ≡ None →
+    y ≡ record { waiting = x.waiting; is_over = true } → Does (take_in p left f next) a (unselected i) GoesOn a (unselected (with_input f y i))
+ends p left f next i x y a is h none e =
+    subst (λ (z : Input). Does (take_in p left f next) a (unselected i) GoesOn a (unselected (with_input f z i)))
+    (ap (λ (o : Option Selected). let z : Input = record { waiting = o; is_over = true } in z) (sym (none_there (has_file p f) x h)) ∙ sym e)
+    (asked p left f next None i (over f i) a a GoesOn (ap (takes_from p f) is ∙ h) none (at_end p left f i a))
+
+pub costs_nothing : (p : Object) (f : InputFile) (a : Running) → TakesIn p f a a
+costs_nothing p f a = record { text = []; row = None; own = of_none (λ t. file_of (slice_get p.types t) ≡ f); few = omega arith }
+
+pub untaken_costs : (p : Object) (f : InputFile) (full : List ℕ) (a b : Running) (e : JobEnd) → IsUntaken p f full a e b → TakesIn p f a b
+untaken_costs p f full a b e u = record {
+  text = full;
+  row = None;
+  own = of_none (λ t. file_of (slice_get p.types t) ≡ f);
+  few = omega (arith, ap (λ (x : Running). x.config.steps) u.machine, ap (λ (x : Running). x.config.allowance * most p) u.machine);
+}
+
+pub taken_costs : (p : Object) (f : InputFile) (full : List ℕ) (t : ℕ) (a b c : Running) → TakesType p f full a t b → c ≡ record b { config = charged (length (match_fields p t)) b.config } → TakesIn p f a c
+taken_costs p f full t a b c one two =
+    let m = charged_so p f full t a b c one two in
     record {
-      few = omega (
-        arith,
-        few,
-        ap (λ (r : Running). r.config.steps) two.machine,
-        leveled.steps,
-        ap (λ (r : Running). r.config.steps) one.machine,
-        typed.steps,
-        ap (λ (r : Running). r.config.allowance * most p) two.machine,
-        ap (λ (k : ℕ). k * most p) leveled.allowance,
-        ap (λ (r : Running). r.config.allowance * most p) one.machine,
-        ap (λ (k : ℕ). k * most p) typed.allowance,
-      );
+      text = full;
+      row = Some t;
+      own = of_some (λ n. file_of (slice_get p.types n) ≡ f) t one.own;
+      few = omega (arith, ap (λ (x : Running). x.config.steps) m, ap (λ (x : Running). x.config.allowance * most p) m);
     }
 
--- ---- the phase
+pub few_steps : (p : Object) (f : InputFile) (full : List ℕ) (t : ℕ) (a b c : Running) → TakesType p f full a t b → c ≡ record b { config = charged (length (match_fields p t)) b.config } → length (match_fields p t) ≤ 9 →
+    c.config.steps ≤ a.config.steps + 20009
+few_steps p f full t a b c one two few =
+    let m = ap (λ (x : Running). x.config.steps) (charged_so p f full t a b c one two) in omega (arith, m, one.few, few)
 
-pub selects : (p : Object) (left : Left) (next : Option (List ℕ)) (a b : Running) (e : PhaseEnd) (s : Option Selected) (text : List ℕ) → next ≡ Some text → is_on a.config last_record ≡ false →
-    HasRead p left text a e b s → Does (select_record p left next) a None e b s
-selects p left next a b e s text is off h =
-    quietly (λ c. cond (is_on c.config last_record) (done GoesOn (record { config = with_all level_indicators true c.config; selected = None })) (read_record p left next c.config)) a b None s e h.config
-    (λ previous. rw off (ap (λ (n : Option (List ℕ)). read_record p left n (config_on previous a.config)) is ∙ h.read previous)) h.machine
+-- ---- a waiting record is selected
 
-pub at_end : (p : Object) (left : Left) (next : Option (List ℕ)) (a b : Running) → next ≡ None → is_on a.config last_record ≡ false →
-    b ≡ record a { config = with_all level_indicators true (with_one last_record true a.config) } → Does (select_record p left next) a None GoesOn b None
-at_end p left next a b is off lit =
-    quietly (λ c. cond (is_on c.config last_record) (done GoesOn (record { config = with_all level_indicators true c.config; selected = None })) (read_record p left next c.config)) a b None None GoesOn
+pub nothing_waits : (p : Object) (left : Left) (f : InputFile) (i : Inputs) (x : Input) (text : List ℕ) (a : Running) → input_at i f ≡ x → x.waiting ≡ None → HasSelected p left f i a None text a (with_input f x i)
+nothing_waits p left f i x text a is none = record {
+  config = a.config;
+  read = λ previous.
+      ap (λ (o : Option Selected). select_waiting p left f o (under_way (config_on previous a.config) (unselected i))) (ap (λ (y : Input). y.waiting) is ∙ none)
+      ∙ ap (λ (j : Inputs). done GoesOn (under_way (config_on previous a.config) (unselected j))) (sym (put_back f i) ∙ ap (λ (y : Input). with_input f y i) is);
+  machine = refl;
+}
+
+-- what a selected record leads to
+abbrev compared_so : Object → Left → ℕ → List ℕ → Config → Config
+compared_so p left t text c =
+    with_levels (broken_level p left (record { type = t; text = text })) (charged (length (control_fields p t)) (with_type (type_indicator (slice_get p.types t)) c))
+
+compared_on : (previous : Option Position) (p : Object) (left : Left) (t : ℕ) (text : List ℕ) (c : Config) → config_on previous (compared_so p left t text c) ≡ compared_so p left t text (config_on previous c)
+compared_on previous p left t text c =
+    let levels = take (broken_level p left (record { type = t; text = text })) level_indicators in
+    let weight = charged (length (control_fields p t)) in
+    all_on previous levels true (weight (with_type (type_indicator (slice_get p.types t)) c))
+    ∙ ap (λ (x : Config). with_all levels true (weight x)) (type_on previous (type_indicator (slice_get p.types t)) c)
+
+selects_it : (p : Object) (left : Left) (f : InputFile) (i : Inputs) (t : ℕ) (text : List ℕ) (c : Config) → list_all (is_in_record (length text)) (control_fields p t) ≡ true →
+    select_waiting p left f (Some (record { type = t; text = text })) (under_way c (unselected i)) ≡ done GoesOn (under_way (compared_so p left t text c) (holding (with_waiting f None i) (Some t) text))
+selects_it p left f i t text c there = rw there refl
+
+pub one_waits : (p : Object) (left : Left) (f : InputFile) (i : Inputs) (x y : Input) (t : ℕ) (text : List ℕ) (a b : Running) (now : List (Option (List ℕ))) → input_at i f ≡ x →
+    x.waiting ≡ Some (record { type = t; text = text }) → y ≡ record { waiting = None; is_over = x.is_over } → IsCompared (type_indicator (slice_get p.types t)) (control_fields p t) text left.bytes a b now →
+    HasSelected p left f i a (Some t) text b (with_input f y i)
+one_waits p left f i x y t text a b now is waits e h = record {
+  config = compared_so p left t text a.config;
+  read = λ previous.
+      ap (λ (o : Option Selected). select_waiting p left f o (under_way (config_on previous a.config) (unselected i))) (ap (λ (z : Input). z.waiting) is ∙ waits)
+      ∙ selects_it p left f i t text (config_on previous a.config) (all_inside (length text) (control_fields p t) h.inside)
+      ∙ ap (λ (c : Config). done GoesOn (under_way c (holding (with_waiting f None i) (Some t) text))) (sym (compared_on previous p left t text a.config))
+      ∙ ap (λ (z : Input). done GoesOn (under_way (config_on previous (compared_so p left t text a.config)) (holding (with_input f z i) (Some t) text)))
+      (ap (λ (z : Input). let w : Input = record { waiting = None; is_over = z.is_over } in w) is ∙ sym e);
+  machine = h.machine;
+}
+
+-- what it costs
+pub compared_spends : (p : Object) (n : Option ℕ) (fs : List ControlField) (text : List ℕ) (bytes now : List (Option (List ℕ))) (a b : Running) → IsCompared n fs text bytes a b now → Spends p (length fs) a b
+compared_spends p n fs text bytes now a b h =
+    let typed = type_keeps n a.config in
+    let leveled = all_keep (take (broken_in fs text bytes) level_indicators) true (charged (length fs) (with_type n a.config)) in
+    keeps_reach p (length fs) a b (with_levels (broken_in fs text bytes) (charged (length fs) (with_type n a.config))) h.machine
+    (record { steps = leveled.steps ∙ ap (λ (k : ℕ). k + length fs) typed.steps; allowance = leveled.allowance ∙ typed.allowance })
+
+-- ---- one of the records that wait
+
+pub picks : (p : Object) (left : Left) (f : InputFile) (i j : Inputs) (t : Option ℕ) (text : List ℕ) (a b : Running) → chosen p (waiting_in i Primary) (waiting_in i Secondary) ≡ Some f →
+    HasSelected p left f i a t text b j → Does (select_one p left) a (unselected i) GoesOn b (holding j t text)
+picks p left f i j t text a b is h =
+    quietly (λ c. select_from p left (chosen p (waiting_in c.inputs Primary) (waiting_in c.inputs Secondary)) c) a b (unselected i) (holding j t text) GoesOn h.config
+    (λ previous. ap (λ (o : Option InputFile). select_from p left o (under_way (config_on previous a.config) (unselected i))) is ∙ h.read previous) h.machine
+
+pub picks_none : (p : Object) (left : Left) (i : Inputs) (a b : Running) → chosen p (waiting_in i Primary) (waiting_in i Secondary) ≡ None →
+    b ≡ record a { config = with_all level_indicators true (with_one last_record true a.config) } → Does (select_one p left) a (unselected i) GoesOn b (unselected i)
+picks_none p left i a b none is =
+    quietly (λ c. select_from p left (chosen p (waiting_in c.inputs Primary) (waiting_in c.inputs Secondary)) c) a b (unselected i) (unselected i) GoesOn
     (with_all level_indicators true (with_one last_record true a.config))
-    (λ previous. rw off (ap (λ (n : Option (List ℕ)). read_record p left n (config_on previous a.config)) is
-    ∙ ap (λ (x : Config). done GoesOn (record { config = x; selected = None })) (sym (all_on previous level_indicators true (with_one last_record true a.config))))) lit
+    (λ previous. ap (λ (o : Option InputFile). select_from p left o (under_way (config_on previous a.config) (unselected i))) none
+    ∙ ap (λ (c : Config). done GoesOn (under_way c (unselected i))) (sym (all_on previous level_indicators true (with_one last_record true a.config)))) is
+
+-- the text that is kept of the record
+text_of_file : (p : Object) (k : Kept) (f : InputFile) (t : Option ℕ) → ForSome t (λ n. file_of (slice_get p.types n) ≡ f) → selected_as t (text_in p k t) ≡ selected_as t (record_in k f)
+text_of_file p k f None h = refl
+text_of_file p k f (Some n) h = ap (λ (g : InputFile). selected_as (Some n) (record_in k g)) (h n refl)
+
+-- the file's record was selected
+pub picks_from : (p : Object) (f : InputFile) (old now : Kept) (t : Option ℕ) (a b : Running) → chosen p (waiting_in (inputs_of old) Primary) (waiting_in (inputs_of old) Secondary) ≡ Some f →
+    HasSelected p (left_of old) f (inputs_of old) a t (record_in now f) b (inputs_of now) → t ≡ (kept_at old f).waiting → IsFileKept p f (kept_at old f) →
+    Does (select_one p (left_of old)) a (unselected (inputs_of old)) GoesOn b (holding (inputs_of now) t (text_in p now t))
+picks_from p f old now t a b is h same kept =
+    subst (λ (o : Option Selected). let s : Held = record { inputs = inputs_of now; selected = o } in Does (select_one p (left_of old)) a (unselected (inputs_of old)) GoesOn b s)
+    (sym (text_of_file p now f t (λ n e. (kept n (sym same ∙ e)).own)))
+    (picks p (left_of old) f (inputs_of old) (inputs_of now) t (record_in now f) a b is h)
+
+-- and its file holds it still
+pub holds_from : (p : Object) (f : InputFile) (old now : Kept) (t : Option ℕ) → t ≡ (kept_at old f).waiting → kept_at now f ≡ record (kept_at old f) { waiting = None } → IsFileKept p f (kept_at old f) →
+    HoldsSelected p now t
+holds_from p f old now t same is kept = λ n e.
+    let h = kept n (sym same ∙ e) in
+    subst (λ (g : InputFile). HoldsRecord p g (kept_at now g) n) (sym h.own)
+    (subst (λ (k : KeptFile). HoldsRecord p f k n) (sym is) (record { there = h.there; own = h.own; whole = h.whole; characters = h.characters; value = h.value }))
+
+-- ---- phase 4
+
+-- LR is on
+pub at_last : (p : Object) (left : Left) (primary secondary : Option (List ℕ)) (i : Inputs) (a b : Running) → is_on a.config last_record ≡ true → b ≡ record a { config = with_all level_indicators true a.config } →
+    Does (select_record p left primary secondary) a (unselected i) GoesOn b (unselected i)
+at_last p left primary secondary i a b on is =
+    let P = does (λ c. done GoesOn (with_config (with_all level_indicators true) c)) in
+    let Q = take_in p left Primary primary before take_in p left Secondary secondary before select_one p left in
+    let d = quietly (λ c. done GoesOn (with_config (with_all level_indicators true) c)) a b (unselected i) (unselected i) GoesOn (with_all level_indicators true a.config)
+    (λ previous. ap (λ (c : Config). done GoesOn (under_way c (unselected i))) (sym (all_on previous level_indicators true a.config))) is in
+    record {
+      program = d.program;
+      behind = λ previous l.
+          let x = d.behind previous l in record {
+            out = x.out;
+            phase = subst (λ (z : Bool). either z P Q (under_way (config_on previous a.config) (unselected i)) GoesOn (under_way (config_on (last_position_from previous x.out.lines) b.config) (unselected i)) x.out)
+                (sym on) x.phase;
+            last = x.last;
+            bytes = x.bytes;
+          };
+    }
+
+-- it is off
+pub not_last : (p : Object) (left : Left) (primary secondary : Option (List ℕ)) (a b : Running) (s t : Held) (e : PhaseEnd) → is_on a.config last_record ≡ false →
+    Does (take_in p left Primary primary before take_in p left Secondary secondary before select_one p left) a s e b t → Does (select_record p left primary secondary) a s e b t
+not_last p left primary secondary a b s t e off d =
+    let P = does (λ c. done GoesOn (with_config (with_all level_indicators true) c)) in
+    let Q = take_in p left Primary primary before take_in p left Secondary secondary before select_one p left in
+    record {
+      program = d.program;
+      behind = λ previous l.
+          let x = d.behind previous l in record {
+            out = x.out;
+            phase = subst (λ (z : Bool). either z P Q (under_way (config_on previous a.config) s) e (under_way (config_on (last_position_from previous x.out.lines) b.config) t) x.out) (sym off) x.phase;
+            last = x.last;
+            bytes = x.bytes;
+          };
+    }

@@ -10,13 +10,18 @@ use Rattle.rpg_effect.specs.Put.{line_of}
 use Rattle.rpg_effect.specs.Weights.{is_at_detail, is_at_total, is_in_cycle, line_weight, lines_weight, type_weight, types_weight}
 use Rattle.rpg_effect.specs.declared.line.Time.{Time}
 use Rattle.rpg_effect.specs.declared.line.Time.TheVariants as times
-use Rattle.rpg_cycle.proofs.Turning.{off_keeps}
-use Rattle.rpg_cycle_records.specs.Earlier.{levels_of}
+use Rattle.rpg_cycle.proofs.Composing.{of_none}
+use Rattle.rpg_cycle.proofs.Turning.{Keeps, off_keeps}
+use Rattle.rpg_cycle_records.proofs.Weighing.{all_paid, matches_sum, moved_sum, one_row, row_moved, two_rows}
+use Rattle.rpg_cycle_records.specs.Earlier.{file_of, levels_of}
+use Rattle.rpg_cycle_records.specs.Paying.{moved_of}
+use Rattle.std.specs.Option.{ForSome}
+use Rattle.rpg_effect.specs.declared.input.InputFile.TheVariants.{Primary, Secondary}
 use Rattle.rpg_cycle_records.specs.Identifying.{IsOf, Misplaced, code_holds, has_position, identified, same_file, trial_weight}
 use Rattle.rpg_effect.specs.declared.input.InputFile.{InputFile}
 use Rattle.rpg_cycle.specs.Phases.{all_off}
-use Rattle.rpg_cycle.specs.Spending.{Selects, Spends, cycle_weight, inputs_weight, reach, record_weight, section_cost}
-use Rattle.rpg_machine.specs.Config.{Config}
+use Rattle.rpg_cycle.specs.Spending.{Selects, Spends, TakesIn, compared_weight, cycle_weight, inputs_weight, matched_weight, reach, record_weight, section_cost}
+use Rattle.rpg_machine.specs.Config.{Config, charged}
 use Rattle.rpg_machine.specs.Potential.{PaysForSection}
 use Rattle.rpg_machine.specs.Outputs.{FillsFields, PutsOut, inputs_at, inputs_of, output_weight}
 use Rattle.rpg_machine.specs.Running.{Did, Running, refilled}
@@ -101,7 +106,7 @@ few_left s r0 r1 x i full d t f o c low h1 h2 light small = omega (arith, low, h
 pub low_there : (x : ℕ) → x ≤ 2 ^ 49 → x ≤ 2 ^ 59
 low_there x h = omega (arith, h)
 
-pub low_here : (x y : ℕ) → x ≤ y → y < 2 ^ 48 → x ≤ 2 ^ 50
+pub low_here : (x y : ℕ) → x ≤ y → y < 2 ^ 48 → x ≤ 2 ^ 49
 low_here x y h l = omega (arith, h, l)
 
 pub few_steps : (p : Object) (t : Option ℕ) (a b : Running) → reach p a ≤ 2 ^ 49 → cycle_weight p ≤ 2 ^ 48 → inputs_weight p t ≤ 2 ^ 49 → Spends p (record_weight p t) a b → b.config.steps ≤ 2 ^ 60
@@ -154,6 +159,61 @@ found f n u ts text t true true false more h = let x = more (n + 1) h in record 
 pub found_few : (f : InputFile) (n : ℕ) (ts : List (TypeRow ℕ)) (text : List ℕ) (t : ℕ) → identified f n ts text ≡ IsOf t → IsFound n ts (trial_weight f ts text) t
 found_few f n [] text t h = cc
 found_few f n (u ∷ ts) text t h = found f n u ts text t (same_file u.file f) (codes_there text u) (codes_hold text u) (λ m g. found_few f m ts text t g) h
+
+-- ---- the records that are taken in, and the one that is selected
+
+matched_both : (p : Object) (j k : Option ℕ) → ForSome j (λ t. file_of (slice_get p.types t) ≡ Primary) → ForSome k (λ t. file_of (slice_get p.types t) ≡ Secondary) →
+    matched_weight p j + matched_weight p k ≤ matches_sum p.types
+matched_both p None None e f = omega arith
+matched_both p (Some j) None e f = let h = one_row p.types j in omega (arith, h)
+matched_both p None (Some k) e f = let h = one_row p.types k in omega (arith, h)
+matched_both p (Some j) (Some k) e f = two_rows p.types j k (e j refl) (f k refl)
+
+moved_is : (o : Option (TypeRow ℕ)) → length (levels_of o) + length (inputs_of o) ≡ moved_of o
+moved_is None = refl
+moved_is (Some t) = refl
+
+moved_row : (p : Object) (t : Option ℕ) → compared_weight p t + inputs_weight p t ≤ moved_sum p.types
+moved_row p None = omega arith
+moved_row p (Some t) = let h = row_moved p.types t in let e = moved_is (slice_get p.types t) in omega (arith, h, e)
+
+-- the primary's record was taken in
+pub taken_paid : (p : Object) (a b : Running) → TakesIn p Primary a b → Spends p (types_weight p.types) a b
+taken_paid p a b x =
+    let m = matched_both p x.row None x.own (of_none (λ t. file_of (slice_get p.types t) ≡ Secondary)) in
+    let w = all_paid p.types x.text [] in
+    record { few = paid (reach p a) (reach p b) _ _ _ _ _ (types_weight p.types) x.few m w }
+  where
+    paid : (r s x y m n v w : ℕ) → s ≤ r + (x + y) → y + 0 ≤ m → x + v + m + n ≤ w → s ≤ r + w
+    paid r s x y m n v w h g k = omega (arith, h, g, k)
+
+-- those of both files were
+pub both_taken : (p : Object) (a b c : Running) → TakesIn p Primary a b → TakesIn p Secondary b c → Spends p (types_weight p.types) a c
+both_taken p a b c x y =
+    let m = matched_both p x.row y.row x.own y.own in
+    let w = all_paid p.types x.text y.text in
+    record { few = paid (reach p a) (reach p b) (reach p c) _ _ _ _ _ _ (types_weight p.types) x.few y.few m w }
+  where
+    paid : (r s t x y v z m n w : ℕ) → s ≤ r + (x + y) → t ≤ s + (v + z) → y + z ≤ m → x + v + m + n ≤ w → t ≤ r + w
+    paid r s t x y v z m n w h g k l = omega (arith, h, g, k, l)
+
+-- and one was selected
+pub both_paid : (p : Object) (t : Option ℕ) (a b c d : Running) → TakesIn p Primary a b → TakesIn p Secondary b c → Spends p (compared_weight p t) c d → Selects p t a d
+both_paid p t a b c d x y z =
+    let m = matched_both p x.row y.row x.own y.own in
+    let w = all_paid p.types x.text y.text in
+    let n = moved_row p t in
+    record { few = paid (reach p a) (reach p b) (reach p c) (reach p d) _ _ _ _ _ _ _ _ (types_weight p.types) x.few y.few z.few m n w }
+  where
+    paid : (r s t u x y v z m n k i w : ℕ) → s ≤ r + (x + y) → t ≤ s + (v + z) → u ≤ t + k → y + z ≤ m → k + i ≤ n → x + v + m + n ≤ w → u + i ≤ r + w
+    paid r s t u x y v z m n k i w h g j l o q = omega (arith, h, g, j, l, o, q)
+
+-- the steps and the allowance alone
+pub keeps_reach : (p : Object) (n : ℕ) (a b : Running) (d : Config) → b ≡ record a { config = d } → Keeps (charged n a.config) d → Spends p n a b
+keeps_reach p n a b d is k = reach_of p n a b (ap (λ (r : Running). r.config.steps) is ∙ k.steps) (ap (λ (r : Running). r.config.allowance) is ∙ k.allowance)
+
+pub none_selected : (p : Object) (a b : Running) → Spends p 0 a b → Selects p None a b
+none_selected p a b h = record { few = omega (arith, h.few) }
 
 -- ---- all phases
 

@@ -1,15 +1,18 @@
 -- Where a phase, a cycle and a run stand when they end.
-use Rattle.std.proofs.Common.{◌≡◌, ◌+◌, ℕ, ℤ, Bool, true, false, cond, ◌&&◌, eqb, eq-eqb, List, [], ◌∷◌, length, slice_get, take, Option, None, Some, refl, sym, ap, ◌∙◌, subst, inl, inr, arith}
+use Rattle.std.proofs.Common.{◌≡◌, ◌+◌, ℕ, ℤ, zero, suc, Bool, true, false, cond, not, ◌&&◌, eqb, eq-eqb, List, [], ◌∷◌, length, slice_get, take, Option, None, Some, refl, sym, ap, ◌∙◌, subst, inl, inr, arith}
 use Rattle.std.specs.List.{list_all}
 use Rattle.std.specs.Ordering.{nat_cmp}
 use Rattle.rpg_cycle.specs.Ends.{PhaseEnd, GoesOn, EndOfJob, Halt, Wrong, phase_end}
 use Rattle.rpg_cycle.specs.Indicators.{is_on, last_record, level_indicators, with_all, with_levels, with_one, with_type, without_type, without_types}
-use Rattle.rpg_cycle.specs.Phases.{CycleOn, Done, Phase, UnderWay, all_off, begun, broken_level, by_machine, does, done, either, fill_from, from_there, identify, output, passes, read_record, section, take_type, type_indicator, unless, ◌before◌}
-use Rattle.rpg_cycle.specs.Runs.{Course, Runs, ends_or}
+use Rattle.rpg_cycle.specs.Phases.{CycleOn, Done, Phase, UnderWay, all_off, begun, broken_level, by_machine, does, done, either, fill_from, from_there, identify, needs_record, output, passes, read_record, section, select_from, select_record, select_waiting, take_type, type_indicator, unless, with_config, with_inputs, ◌before◌}
+use Rattle.rpg_cycle.specs.Runs.{Course, Records, RunsIn, ends_or, left_behind, next_of}
 use Rattle.rpg_cycle.specs.Standing.{RunsStandRight, StandsRight}
 use Rattle.rpg_cycle.specs.Starting.{job_start}
-use Rattle.rpg_cycle_records.specs.Earlier.{Left, Selected, control_fields, left_by, with_record}
-use Rattle.rpg_effect.specs.declared.input.InputFile.TheVariants.{Primary}
+use Rattle.rpg_cycle_records.specs.Earlier.{Left, Selected, control_fields, last_of_file, left_by, match_fields, match_value, with_record}
+use Rattle.rpg_cycle_records.specs.Matching.{exceeds}
+use Rattle.rpg_cycle_records.specs.Waiting.{Inputs, chosen, has_match, takes_in, unread, waiting_in, with_waiting}
+use Rattle.rpg_effect.specs.declared.input.InputFile.{InputFile}
+use Rattle.rpg_effect.specs.declared.input.InputFile.TheVariants.{Primary, Secondary}
 use Rattle.rpg_cycle_records.specs.Identifying.{IsOf, IsOfNone, Misplaced, Trial, identified, is_good_record, padded, trial_weight}
 use Rattle.rpg_cycle_records.specs.Levels.{is_in_record}
 use Rattle.rpg_effect.specs.Effect.{Effect}
@@ -126,38 +129,60 @@ module _ (p : Object) where
   unless_stands : (test : Config → Bool) (P : Phase) → Stands P → Stands (unless test P)
   unless_stands test P s = record { right = λ c e d out h none. (either_stands (test c.config) passes P passes_stands s).right c e d out h none }
 
-  -- ---- the selection of a record
+  -- ---- records are taken in, and one is selected
 
-  levels_stay : (b : Bool) (s : Selected) (n m : ℕ) (c : Config) →
-      Stays c (cond b (done GoesOn (record { config = with_levels n (charged m c); selected = Some s })) (done (Wrong effects.Storage) (record { config = charged m c; selected = None }))).leads.config
-  levels_stay true s n m c = let all = all_stay (take n level_indicators) true (charged m c) in record { section = all.section; place = all.place }
+  matched_stays : (bad low : Bool) (f : Inputs → Inputs) (c : UnderWay) →
+      Stays c.config (cond bad (done (Wrong effects.Storage) c) (cond low (done (Halt 8) c) (done GoesOn (with_inputs f c)))).leads.config
+  matched_stays true low f c = still c.config
+  matched_stays false true f c = still c.config
+  matched_stays false false f c = still c.config
+
+  type_taken : (left : Left) (f : InputFile) (text : List ℕ) (t : Trial) (c : UnderWay) → Stays c.config (take_type p left f text t c).leads.config
+  type_taken left f text (IsOf t) c =
+      let s : Selected = record { type = t; text = text } in
+      let m = matched_stays (not (list_all (is_in_record (length text)) (match_fields p t))) (exceeds (last_of_file left f) (match_value p s)) (with_waiting f (Some s))
+      (with_config (charged (length (match_fields p t))) c) in
+      record { section = m.section; place = m.place }
+  type_taken left f text IsOfNone c = still c.config
+  type_taken left f text Misplaced c = still c.config
+
+  good_stays : (b : Bool) (left : Left) (f : InputFile) (text : List ℕ) (c : UnderWay) → Stays c.config (cond b (identify p left f text c) (done (Halt 7) c)).leads.config
+  good_stays true left f text c =
+      let taken = type_taken left f text (identified f 0 p.types text) (with_config (charged (trial_weight f p.types text)) c) in record { section = taken.section; place = taken.place }
+  good_stays false left f text c = still c.config
+
+  read_stays : (left : Left) (f : InputFile) (next : Option (List ℕ)) (c : UnderWay) → Stays c.config (read_record p left f next c).leads.config
+  read_stays left f None c = still c.config
+  read_stays left f (Some text) c = good_stays (is_good_record p f text) left f (padded p f text) c
+
+  taking_stays : (b : Bool) (left : Left) (f : InputFile) (next : Option (List ℕ)) (c : UnderWay) → Stays c.config (cond b (read_record p left f next c) (done GoesOn c)).leads.config
+  taking_stays true left f next c = read_stays left f next c
+  taking_stays false left f next c = still c.config
+
+  levels_stay : (b : Bool) (s : Selected) (n m : ℕ) (c : UnderWay) →
+      Stays c.config (cond b (done GoesOn (with_config (λ x. with_levels n (charged m x)) (record c { selected = Some s }))) (done (Wrong effects.Storage) (with_config (charged m) c))).leads.config
+  levels_stay true s n m c = let all = all_stay (take n level_indicators) true (charged m c.config) in record { section = all.section; place = all.place }
   levels_stay false s n m c = record { section = refl; place = refl }
 
-  type_taken : (left : Left) (text : List ℕ) (t : Trial) (c : Config) → Stays c (take_type p left text t c).leads.config
-  type_taken left text (IsOf t) c =
-      let s : Selected = record { type = t; text = text } in
-      let on = with_type (type_indicator (slice_get p.types t)) c in
-      and_stays c on _ (type_stays (type_indicator (slice_get p.types t)) c)
-      (levels_stay (list_all (is_in_record (length text)) (control_fields p t)) s (broken_level p left s) (length (control_fields p t)) on)
-  type_taken left text IsOfNone c = still c
-  type_taken left text Misplaced c = still c
+  waiting_stays : (left : Left) (f : InputFile) (o : Option Selected) (c : UnderWay) → Stays c.config (select_waiting p left f o c).leads.config
+  waiting_stays left f None c = still c.config
+  waiting_stays left f (Some s) c =
+      let on = with_config (with_type (type_indicator (slice_get p.types s.type))) (with_inputs (with_waiting f None) c) in
+      and_stays c.config on.config _ (type_stays (type_indicator (slice_get p.types s.type)) c.config)
+      (levels_stay (list_all (is_in_record (length s.text)) (control_fields p s.type)) s (broken_level p left s) (length (control_fields p s.type)) on)
 
-  identified_stays : (left : Left) (text : List ℕ) (c : Config) → Stays c (identify p left text c).leads.config
-  identified_stays left text c =
-      let taken = type_taken left text (identified Primary 0 p.types text) (charged (trial_weight Primary p.types text) c) in record { section = taken.section; place = taken.place }
+  from_stays : (left : Left) (o : Option InputFile) (c : UnderWay) → Stays c.config (select_from p left o c).leads.config
+  from_stays left None c = let all = all_stay level_indicators true (with_one last_record true c.config) in record { section = all.section; place = all.place }
+  from_stays left (Some f) c = waiting_stays left f (waiting_in c.inputs f) c
 
-  good_stays : (b : Bool) (left : Left) (text : List ℕ) (c : Config) → Stays c (cond b (identify p left text c) (done (Halt 7) (record { config = c; selected = None }))).leads.config
-  good_stays true left text c = identified_stays left text c
-  good_stays false left text c = still c
-
-  read_stays : (left : Left) (next : Option (List ℕ)) (c : Config) → Stays c (read_record p left next c).leads.config
-  read_stays left None c = let all = all_stay level_indicators true (with_one last_record true c) in record { section = all.section; place = all.place }
-  read_stays left (Some text) c = good_stays (is_good_record p Primary text) left (padded p Primary text) c
-
-  select_stays : (b : Bool) (left : Left) (next : Option (List ℕ)) (c : Config) →
-      Stays c (cond b (done GoesOn (record { config = with_all level_indicators true c; selected = None })) (read_record p left next c)).leads.config
-  select_stays true left next c = all_stay level_indicators true c
-  select_stays false left next c = read_stays left next c
+  select_stands : (left : Left) (a b : Option (List ℕ)) → Stands (select_record p left a b)
+  select_stands left a b = record {
+    right = λ c e d out h none.
+        (either_stands (is_on c.config last_record) _ _ (does_stands _ (λ c. all_stay level_indicators true c.config))
+        (before_stands _ _ (does_stands _ (λ c. taking_stays (takes_in p c.inputs Primary) left Primary a c))
+        (before_stands _ _ (does_stands _ (λ c. taking_stays (takes_in p c.inputs Secondary) left Secondary b c))
+        (does_stands _ (λ c. from_stays left (chosen p (waiting_in c.inputs Primary) (waiting_in c.inputs Secondary)) c))))).right c e d out h none;
+  }
 
   -- ---- a cycle
 
@@ -168,17 +193,18 @@ module _ (p : Object) where
   output_stands : (time : OutputTime) → Stands (output p time)
   output_stands time = effect_stands _ _
 
-  cycle_stands : (left : Left) (next : Option (List ℕ)) → Stands (CycleOn p left next)
-  cycle_stands left next =
+  cycle_stands : (left : Left) (matches : Inputs → Selected → Bool) (a b : Option (List ℕ)) → Stands (CycleOn p left matches a b)
+  cycle_stands left matches a b =
       before_stands _ _ (output_stands times.Detail)
       (before_stands _ _ (does_stands _ (λ c. still c.config))
       (before_stands _ _ (does_stands _ (λ c. off_stays p c.config))
-      (before_stands _ _ (does_stands _ (λ c. select_stays (is_on c.config last_record) left next c.config))
+      (before_stands _ _ (select_stands left a b)
       (before_stands _ _ (unless_stands _ _ (before_stands _ _ (section_stands sections.Total) (output_stands times.Total)))
       (before_stands _ _ (does_stands _ (λ c. still c.config))
       (before_stands _ _ (unless_stands _ _ (output_stands times.Overflow))
+      (before_stands _ _ (does_stands _ (λ c. record { section = refl; place = refl }))
       (before_stands _ _ (record { right = λ c e d out h none. (fill_stands c.selected).right c e d out h none })
-      (section_stands sections.Detail))))))))
+      (section_stands sections.Detail)))))))))
 
   -- ---- a run
 
@@ -189,12 +215,13 @@ module _ (p : Object) where
   ends_stand (Halt k) d out Rest course right go is = subst (λ (x : Course). StandsRight p x.ending x.there.config) (sym is) right
   ends_stand (Wrong f) d out Rest course right go is = subst (λ (x : Course). StandsRight p x.ending x.there.config) (sym is) right
 
-  runs_stand : (records : List (List ℕ)) (earlier : List Selected) (c : Config) (course : Course) → running_place p c ≡ None → Runs p earlier records c course → StandsRight p course.ending course.there.config
-  runs_stand [] earlier c course none (e, d, out, cycle, ends) =
-      ends_stand e d out (λ d rest. ⊥) course ((cycle_stands (left_by p earlier) None).right (begun p c) e d out cycle none) (λ on rest h. absurd h) ends
-  runs_stand (r ∷ rs) earlier c course none (e, d, out, cycle, ends) =
-      ends_stand e d out (λ d rest. Runs p (with_record d.selected earlier) rs d.config rest) course ((cycle_stands (left_by p earlier) (Some r)).right (begun p c) e d out cycle none)
-      (λ on rest h. runs_stand rs (with_record d.selected earlier) d.config rest on h) ends
+  runs_stand : (n : ℕ) (rs : Records) (earlier : List Selected) (c : Config) (i : Inputs) (course : Course) → running_place p c ≡ None → RunsIn n p earlier rs c i course
+      → StandsRight p course.ending course.there.config
+  runs_stand zero rs earlier c i course none h = absurd h
+  runs_stand (suc n) rs earlier c i course none (e, d, out, cycle, ends) =
+      ends_stand e d out (λ d rest. RunsIn n p (with_record d.selected earlier) (left_behind p c i rs) d.config d.inputs rest) course
+      ((cycle_stands (left_by p earlier) (has_match p earlier) (next_of (needs_record p c i Primary) rs.primary) (next_of (needs_record p c i Secondary) rs.secondary)).right (begun p c i) e d out cycle none)
+      (λ on rest h. runs_stand n (left_behind p c i rs) (with_record d.selected earlier) d.config d.inputs rest on h) ends
 
   -- a job starts behind detail calculations
   starts_outside : (date : ℤ) (fields : Fields nat_cmp) → running_place p (job_start p date fields) ≡ None
@@ -202,4 +229,4 @@ module _ (p : Object) where
   starts_outside date fields = ap (λ (b : Bool). cond b None (Some (here (job_start p date fields)))) (eq-eqb (length p.detail) (0 + length p.detail) (omega arith))
 
 pub runs_stand_right : RunsStandRight
-runs_stand_right p date fields records course bytes run = runs_stand p records [] (job_start p date fields) course (starts_outside p date fields) run.runs
+runs_stand_right p date fields records course bytes run = runs_stand p course.cycles records [] (job_start p date fields) unread course (starts_outside p date fields) run.runs

@@ -5,11 +5,13 @@ use Rattle.std.specs.Option.{ForSome}
 use Rattle.rpg_paper.specs.Paper.{Position}
 use Rattle.rpg_effect.specs.Input.{TypeRow}
 use Rattle.rpg_cycle.proofs.Composing.{quietly}
-use Rattle.rpg_cycle.specs.Doing.{Passes}
+use Rattle.rpg_cycle.specs.Doing.{Does, Held, Passes, under_way}
+use Rattle.rpg_cycle_records.specs.Earlier.{Selected}
+use Rattle.rpg_cycle_records.specs.Waiting.{Inputs}
 use Rattle.rpg_cycle.specs.Ends.{GoesOn}
 use Rattle.rpg_cycle_records.specs.Fitting.{IsTypeFit}
-use Rattle.rpg_cycle.specs.Indicators.{first_page, last_record, level_indicators, with_all, with_one, with_type, without_type, without_types}
-use Rattle.rpg_cycle.specs.Phases.{all_off, done, has_no_overflow, set_off, with_config}
+use Rattle.rpg_cycle.specs.Indicators.{first_page, last_record, level_indicators, matching_record, with_all, with_one, with_type, without_type, without_types}
+use Rattle.rpg_cycle.specs.Phases.{all_off, done, has_no_overflow, if_selected, set_off, show_match, with_config}
 use Rattle.rpg_machine.specs.Config.{Config}
 use Rattle.rpg_machine.specs.Running.{Running, config_on}
 use Rattle.rpg_object_program.specs.Kept.{IsIndicator}
@@ -87,7 +89,7 @@ off_keeps p c =
 pub sets_off : (p : Object) (a b : Running) → b ≡ record a { config = all_off p a.config } → Passes (set_off p) a GoesOn b
 sets_off p a b is = record {
   each = λ s. quietly (λ c. done GoesOn (with_config (all_off p) c)) a b s s GoesOn (all_off p a.config)
-      (λ previous. ap (λ (d : Config). done GoesOn (record { config = d; selected = s })) (sym (off_on previous p a.config))) is;
+      (λ previous. ap (λ (d : Config). done GoesOn (under_way d s)) (sym (off_on previous p a.config))) is;
 }
 
 -- the indicators of types
@@ -95,3 +97,11 @@ pub row_indicators : (p : Object) (ts : List RecordType) → All (IsTypeFit p) (
 row_indicators p ts h k d inside =
     subst (λ (t : TypeRow ℕ). ForSome t.indicator IsIndicator) (get_or-map type_row ts k d (type_row d) inside)
     (h k (type_row d) (subst (λ n. k < n) (sym (length-map ts type_row)) inside)).indicator
+
+-- ---- the phase that shows a match
+
+pub shows : (matches : Inputs → Selected → Bool) (is_match : Bool) (a b : Running) (h : Held) → is_match ≡ if_selected (matches h.inputs) h.selected → b ≡ record a { config = with_one matching_record is_match a.config } →
+    Does (show_match matches) a h GoesOn b h
+shows matches is_match a b h e is =
+    quietly (λ c. done GoesOn (with_config (with_one matching_record (if_selected (matches c.inputs) c.selected)) c)) a b h h GoesOn (with_one matching_record is_match a.config)
+    (λ previous. ap (λ (x : Bool). done GoesOn (under_way (with_one matching_record x (config_on previous a.config)) h)) (sym e)) is

@@ -1,15 +1,23 @@
 -- Where no record is needed, none makes a difference.
-use Rattle.std.proofs.Common.{◌≡◌, ℕ, ◌≤◌, Bool, true, false, cond, eqb, ne_eqb, not, ◌||◌, List, [], ◌∷◌, Option, None, Some, refl, sym, ap, ◌∙◌, arith}
+use Rattle.std.proofs.Common.{◌≡◌, ℕ, ◌≤◌, Bool, true, false, cond, eqb, ne_eqb, not, ◌&&◌, ◌||◌, List, [], ◌∷◌, length, Option, None, Some, is_none, refl, sym, ap, ◌∙◌, arith}
 use Rattle.std.proofs.lemmas.Bool.{eqb-false}
 use Rattle.std.specs.Option.{ForSome}
 use Rattle.rpg_effect.specs.Forms.{form_at}
 use Rattle.rpg_effect.specs.Input.{TypeRow}
 use Rattle.rpg_cycle.proofs.Others.{IsOther, details_keep, insert_other, remove_other}
-use Rattle.rpg_cycle_records.specs.Earlier.{Left, Selected, left_by}
+use Rattle.rpg_cycle_records.specs.Earlier.{Left, Selected, last_of_file, left_by, match_fields, match_value}
+use Rattle.rpg_cycle_records.specs.Identifying.{IsOf, IsOfNone, Misplaced, Trial, identified, is_good_record, padded, trial_weight}
+use Rattle.rpg_cycle_records.specs.Levels.{is_in_record}
+use Rattle.rpg_cycle_records.specs.Matching.{exceeds}
+use Rattle.rpg_cycle_records.specs.Waiting.{Input, Inputs, has_file, has_match, takes_in, with_waiting}
+use Rattle.rpg_effect.specs.Ends as effects
+use Rattle.rpg_effect.specs.declared.input.InputFile.{InputFile}
+use Rattle.rpg_effect.specs.declared.input.InputFile.TheVariants.{Primary, Secondary}
+use Rattle.std.specs.List.{list_all}
 use Rattle.rpg_cycle.specs.Ends.{PhaseEnd, GoesOn, EndOfJob, Halt, Wrong}
 use Rattle.rpg_cycle.specs.Indicators.{any_on, first_page, halt_indicators, is_on, last_record, level_indicators, with_all, with_one, without_type, without_types}
-use Rattle.rpg_cycle.specs.Phases.{Cycle, CycleOn, Done, Phase, UnderWay, all_off, begun, detail_calculations, detail_lines, done, end_where_last, fill_fields, halt_where_asked, needs_record, overflow_lines, read_record, select_record, set_off, total_time, ◌before◌}
-use Rattle.rpg_machine.specs.Config.{Config, Output}
+use Rattle.rpg_cycle.specs.Phases.{Cycle, Done, Phase, UnderWay, after_selection, all_off, begun, detail_lines, does, done, either, halt_where_asked, identify, needs_record, read_record, select_one, select_record, set_off, take_in, take_type, with_config, with_inputs, ◌before◌}
+use Rattle.rpg_machine.specs.Config.{Config, Output, charged}
 use Rattle.rpg_object_program.specs.Constants.{word_at}
 use Rattle.rpg_object_program.specs.Kept.{IsOverflowIndicator, IsProgram}
 use Rattle.rpg_object_program.specs.Object.{Object, lines_of}
@@ -79,80 +87,134 @@ rest_agrees P Q R c h = record { each = cases }
     cases e d out (Halt k, m, put, first, rest) = (Halt k, m, put, first, rest)
     cases e d out (Wrong f, m, put, first, rest) = (Wrong f, m, put, first, rest)
 
--- where LR is on the record makes no difference
-abbrev chosen : Object → Left → Option (List ℕ) → Bool → Config → Done
-chosen p left next b c = cond b (done GoesOn (record { config = with_all level_indicators true c; selected = None })) (read_record p left next c)
+-- a file that takes none in
+taken_alike : (b : Bool) (x y z : Done) → b ≡ false → cond b x z ≡ cond b y z
+taken_alike true x y z h = cc
+taken_alike false x y z h = refl
 
-same_choice : (p : Object) (left : Left) (now next : Option (List ℕ)) (b : Bool) (c : Config) → b ≡ true → chosen p left now b c ≡ chosen p left next b c
-same_choice p left now next true c h = refl
-same_choice p left now next false c h = cc
-
-selects_alike : (p : Object) (left : Left) (now next : Option (List ℕ)) (c : UnderWay) → is_on c.config last_record ≡ true → Agrees (select_record p left now) (select_record p left next) c
-selects_alike p left now next c on =
-    let same = same_choice p left now next (is_on c.config last_record) c.config on in
+takes_alike : (p : Object) (left : Left) (f : InputFile) (now next : Option (List ℕ)) (c : UnderWay) → takes_in p c.inputs f ≡ false → Agrees (take_in p left f now) (take_in p left f next) c
+takes_alike p left f now next c off =
+    let same = taken_alike (takes_in p c.inputs f) (read_record p left f now c) (read_record p left f next c) (done GoesOn c) off in
     record { each = λ e d out h. (h.0 ∙ ap (λ (x : Done). x.end) same, h.1 ∙ ap (λ (x : Done). x.leads) same, h.2) }
+
+-- what is taken in from the primary file leaves the other one as it is
+module _ (p : Object) (left : Left) where
+  matched_apart : (bad low : Bool) (s : Option Selected) (c : UnderWay) →
+      (cond bad (done (Wrong effects.Storage) c) (cond low (done (Halt 8) c) (done GoesOn (with_inputs (with_waiting Primary s) c)))).leads.inputs.secondary ≡ c.inputs.secondary
+  matched_apart true low s c = refl
+  matched_apart false true s c = refl
+  matched_apart false false s c = refl
+
+  type_apart : (text : List ℕ) (t : Trial) (c : UnderWay) → (take_type p left Primary text t c).leads.inputs.secondary ≡ c.inputs.secondary
+  type_apart text (IsOf t) c =
+      let s : Selected = record { type = t; text = text } in
+      matched_apart (not (list_all (is_in_record (length text)) (match_fields p t))) (exceeds (last_of_file left Primary) (match_value p s)) (Some s) (with_config (charged (length (match_fields p t))) c)
+  type_apart text IsOfNone c = refl
+  type_apart text Misplaced c = refl
+
+  good_apart : (b : Bool) (text : List ℕ) (c : UnderWay) → (cond b (identify p left Primary text c) (done (Halt 7) c)).leads.inputs.secondary ≡ c.inputs.secondary
+  good_apart true text c = type_apart text (identified Primary 0 p.types text) (with_config (charged (trial_weight Primary p.types text)) c)
+  good_apart false text c = refl
+
+  read_apart : (next : Option (List ℕ)) (c : UnderWay) → (read_record p left Primary next c).leads.inputs.secondary ≡ c.inputs.secondary
+  read_apart None c = refl
+  read_apart (Some text) c = good_apart (is_good_record p Primary text) (padded p Primary text) c
+
+  taking_apart : (b : Bool) (next : Option (List ℕ)) (c : UnderWay) → (cond b (read_record p left Primary next c) (done GoesOn c)).leads.inputs.secondary ≡ c.inputs.secondary
+  taking_apart true next c = read_apart next c
+  taking_apart false next c = refl
+
+  still_none : (a : Option (List ℕ)) (c m : UnderWay) (put : Output) → take_in p left Primary a c GoesOn m put → takes_in p c.inputs Secondary ≡ false → takes_in p m.inputs Secondary ≡ false
+  still_none a c m put g off =
+      ap (λ (x : Input). has_file p Secondary && (not x.is_over && is_none x.waiting))
+      (ap (λ (u : UnderWay). u.inputs.secondary) g.1 ∙ taking_apart (takes_in p c.inputs Primary) a c) ∙ off
+
+-- where LR is on no file takes one in
+lit_alike : (P Q R : Phase) (c : UnderWay) (lit : Bool) → (lit ≡ false → Agrees Q R c) → Agrees (either lit P Q) (either lit P R) c
+lit_alike P Q R c true h = record { each = λ e d out g. g }
+lit_alike P Q R c false h = h refl
+
+first_alike : (p : Object) (left : Left) (now next b : Option (List ℕ)) (c : UnderWay) → (is_on c.config last_record ≡ false → takes_in p c.inputs Primary ≡ false) →
+    Agrees (select_record p left now b) (select_record p left next b) c
+first_alike p left now next b c off = record {
+  each = (lit_alike (does (λ c. done GoesOn (with_config (with_all level_indicators true) c))) (take_in p left Primary now before take_in p left Secondary b before select_one p left)
+      (take_in p left Primary next before take_in p left Secondary b before select_one p left) c (is_on c.config last_record)
+      (λ dark. first_agrees (take_in p left Primary now) (take_in p left Primary next) (take_in p left Secondary b before select_one p left) c (takes_alike p left Primary now next c (off dark)))).each;
+}
+
+second_alike : (p : Object) (left : Left) (a now next : Option (List ℕ)) (c : UnderWay) → (is_on c.config last_record ≡ false → takes_in p c.inputs Secondary ≡ false) →
+    Agrees (select_record p left a now) (select_record p left a next) c
+second_alike p left a now next c off = record {
+  each = (lit_alike (does (λ c. done GoesOn (with_config (with_all level_indicators true) c))) (take_in p left Primary a before take_in p left Secondary now before select_one p left)
+      (take_in p left Primary a before take_in p left Secondary next before select_one p left) c (is_on c.config last_record)
+      (λ dark. rest_agrees (take_in p left Primary a) (take_in p left Secondary now before select_one p left) (take_in p left Secondary next before select_one p left) c
+      (λ m put g. first_agrees (take_in p left Secondary now) (take_in p left Secondary next) (select_one p left) m (takes_alike p left Secondary now next m (still_none p left a c m put g (off dark)))))).each;
+}
 
 not_asked : (b : Bool) → GoesOn ≡ cond b (Halt 6) GoesOn → b ≡ false
 not_asked true h = cc
 not_asked false h = refl
 
-asked_or_last : (a b : Bool) → not (a || b) ≡ false → b ≡ false → a ≡ true
-asked_or_last true b h g = refl
-asked_or_last false true h g = cc
-asked_or_last false false h g = cc
+needed_not : (lit halted takes : Bool) → (not (lit || halted) && takes) ≡ false → halted ≡ false → lit ≡ false → takes ≡ false
+needed_not true halted takes h g k = cc
+needed_not false true takes h g k = cc
+needed_not false false takes h g k = h
 
 -- ---- the cycle
 
-stays : (p : Object) (c : Config) (m : UnderWay) (put : Output) → IsProgram p → detail_lines p (begun p c) GoesOn m put → (n : ℕ) → ((k : ℕ) → 112 ≤ k → k ≤ 119 → n ≡ k → ⊥) → is_on m.config n ≡ is_on c n
-stays p c m put kept g n far =
+stays : (p : Object) (c : Config) (i : Inputs) (m : UnderWay) (put : Output) → IsProgram p → detail_lines p (begun p c i) GoesOn m put → (n : ℕ) → ((k : ℕ) → 112 ≤ k → k ≤ 119 → n ≡ k → ⊥) → is_on m.config n ≡ is_on c n
+stays p c i m put kept g n far =
     ap (λ (x : Config). is_on x n) g.1.leads ∙ (details_keep (form_at p.fields) (word_at p) n p.overflow (lines_of p) c.world (others p.overflow n kept.overflow far)).same
 
-halts_stay : (p : Object) (c : Config) (m : UnderWay) (put : Output) → IsProgram p → detail_lines p (begun p c) GoesOn m put → any_on m.config halt_indicators ≡ any_on c halt_indicators
-halts_stay p c m put kept g =
-    let s = stays p c m put kept g in
+halts_stay : (p : Object) (c : Config) (i : Inputs) (m : UnderWay) (put : Output) → IsProgram p → detail_lines p (begun p c i) GoesOn m put → any_on m.config halt_indicators ≡ any_on c halt_indicators
+halts_stay p c i m put kept g =
+    let s = stays p c i m put kept g in
     any_same c m.config halt_indicators (
-      s 120 (λ k a b i. omega arith),
+      s 120 (λ k a b e. omega arith),
       (
-        s 121 (λ k a b i. omega arith),
+        s 121 (λ k a b e. omega arith),
         (
-          s 122 (λ k a b i. omega arith),
+          s 122 (λ k a b e. omega arith),
           (
-            s 123 (λ k a b i. omega arith),
+            s 123 (λ k a b e. omega arith),
             (
-              s 124 (λ k a b i. omega arith),
-              (s 125 (λ k a b i. omega arith), (s 126 (λ k a b i. omega arith), (s 127 (λ k a b i. omega arith), (s 128 (λ k a b i. omega arith), tt)))),
+              s 124 (λ k a b e. omega arith),
+              (s 125 (λ k a b e. omega arith), (s 126 (λ k a b e. omega arith), (s 127 (λ k a b e. omega arith), (s 128 (λ k a b e. omega arith), tt)))),
             ),
           ),
         ),
       ),
     )
 
-behind_off : (p : Object) (left : Left) (now next : Option (List ℕ)) (m u : UnderWay) (put : Output) → is_on m.config last_record ≡ true → set_off p m GoesOn u put →
-    Agrees (select_record p left now before total_time p left before end_where_last before overflow_lines p before fill_fields p before detail_calculations p)
-    (select_record p left next before total_time p left before end_where_last before overflow_lines p before fill_fields p before detail_calculations p) u
-behind_off p left now next m u put on g =
-    first_agrees (select_record p left now) (select_record p left next) (total_time p left before end_where_last before overflow_lines p before fill_fields p before detail_calculations p) u
-    (selects_alike p left now next u (ap (λ (x : UnderWay). is_on x.config last_record) g.1 ∙ last_stays p m.config ∙ on))
+-- the fourth phase agrees wherever the phases before it lead, if it does where LR is as it was and the files are
+module _ (p : Object) (left : Left) (matches : Inputs → Selected → Bool) (c : Config) (i : Inputs) (f : InputFile) (kept : IsProgram p) (needless : needs_record p c i f ≡ false) (P Q : Phase)
+    (alike : (u : UnderWay) → (is_on u.config last_record ≡ false → takes_in p u.inputs f ≡ false) → Agrees P Q u) where
+  behind_off : (m n u : UnderWay) (put more last : Output) → detail_lines p (begun p c i) GoesOn m put → halt_where_asked m GoesOn n more → set_off p n GoesOn u last →
+      Agrees (P before after_selection p left matches) (Q before after_selection p left matches) u
+  behind_off m n u put more last g k o =
+      let none : any_on c halt_indicators ≡ false = sym (halts_stay p c i m put kept g) ∙ not_asked (any_on m.config halt_indicators) k.0 in
+      let lit : is_on u.config last_record ≡ is_on c last_record = ap (λ (x : UnderWay). is_on x.config last_record) o.1 ∙ last_stays p n.config
+      ∙ ap (λ (x : UnderWay). is_on x.config last_record) k.1 ∙ stays p c i m put kept g last_record (λ q a b e. omega arith) in
+      let same : u.inputs ≡ i = ap (λ (x : UnderWay). x.inputs) o.1 ∙ ap (λ (x : UnderWay). x.inputs) k.1 ∙ g.3 in
+      first_agrees P Q (after_selection p left matches) u
+      (alike u (λ dark. ap (λ (j : Inputs). takes_in p j f) same ∙ needed_not (is_on c last_record) (any_on c halt_indicators) (takes_in p i f) needless none (sym lit ∙ dark)))
 
-behind_halt : (p : Object) (left : Left) (now next : Option (List ℕ)) (c : Config) (m u : UnderWay) (put more : Output) → IsProgram p → needs_record c ≡ false → detail_lines p (begun p c) GoesOn m put → halt_where_asked m GoesOn u more →
-    Agrees (set_off p before select_record p left now before total_time p left before end_where_last before overflow_lines p before fill_fields p before detail_calculations p)
-    (set_off p before select_record p left next before total_time p left before end_where_last before overflow_lines p before fill_fields p before detail_calculations p) u
-behind_halt p left now next c m u put more kept needless g k =
-    let none : any_on c halt_indicators ≡ false = sym (halts_stay p c m put kept g) ∙ not_asked (any_on m.config halt_indicators) k.0 in
-    let on : is_on u.config last_record ≡ true = ap (λ (x : UnderWay). is_on x.config last_record) k.1 ∙ stays p c m put kept g last_record (λ q a b i. omega arith)
-    ∙ asked_or_last (is_on c last_record) (any_on c halt_indicators) needless none in
-    rest_agrees (set_off p) (select_record p left now before total_time p left before end_where_last before overflow_lines p before fill_fields p before detail_calculations p)
-    (select_record p left next before total_time p left before end_where_last before overflow_lines p before fill_fields p before detail_calculations p) u
-    (λ v w x. behind_off p left now next u v w on x)
+  behind_lines : Agrees (detail_lines p before halt_where_asked before set_off p before P before after_selection p left matches)
+      (detail_lines p before halt_where_asked before set_off p before Q before after_selection p left matches) (begun p c i)
+  behind_lines =
+      rest_agrees (detail_lines p) (halt_where_asked before set_off p before P before after_selection p left matches) (halt_where_asked before set_off p before Q before after_selection p left matches) (begun p c i)
+      (λ m put g. rest_agrees halt_where_asked (set_off p before P before after_selection p left matches) (set_off p before Q before after_selection p left matches) m
+      (λ n more k. rest_agrees (set_off p) (P before after_selection p left matches) (Q before after_selection p left matches) n
+      (λ u last o. behind_off m n u put more last g k o)))
 
-behind_lines : (p : Object) (left : Left) (now next : Option (List ℕ)) (c : Config) → IsProgram p → needs_record c ≡ false → Agrees (CycleOn p left now) (CycleOn p left next) (begun p c)
-behind_lines p left now next c kept needless =
-    rest_agrees (detail_lines p) (halt_where_asked before set_off p before select_record p left now before total_time p left before end_where_last before overflow_lines p before fill_fields p before detail_calculations p)
-    (halt_where_asked before set_off p before select_record p left next before total_time p left before end_where_last before overflow_lines p before fill_fields p before detail_calculations p) (begun p c)
-    (λ m put g. rest_agrees halt_where_asked (set_off p before select_record p left now before total_time p left before end_where_last before overflow_lines p before fill_fields p before detail_calculations p)
-    (set_off p before select_record p left next before total_time p left before end_where_last before overflow_lines p before fill_fields p before detail_calculations p) m
-    (λ u more k. behind_halt p left now next c m u put more kept needless g k))
+pub primary_unneeded : (p : Object) (earlier : List Selected) (c : Config) (i : Inputs) (now next b : Option (List ℕ)) (e : PhaseEnd) (d : UnderWay) (out : Output) → IsProgram p → needs_record p c i Primary ≡ false →
+    Cycle p earlier now b (begun p c i) e d out → Cycle p earlier next b (begun p c i) e d out
+primary_unneeded p earlier c i now next b e d out kept needless h =
+    let left = left_by p earlier in
+    (behind_lines p left (has_match p earlier) c i Primary kept needless (select_record p left now b) (select_record p left next b) (first_alike p left now next b)).each e d out h
 
-pub unneeded : (p : Object) (earlier : List Selected) (c : Config) (now next : Option (List ℕ)) (e : PhaseEnd) (d : UnderWay) (out : Output) → IsProgram p → needs_record c ≡ false →
-    Cycle p earlier now (begun p c) e d out → Cycle p earlier next (begun p c) e d out
-unneeded p earlier c now next e d out kept needless h = (behind_lines p (left_by p earlier) now next c kept needless).each e d out h
+pub secondary_unneeded : (p : Object) (earlier : List Selected) (c : Config) (i : Inputs) (a now next : Option (List ℕ)) (e : PhaseEnd) (d : UnderWay) (out : Output) → IsProgram p → needs_record p c i Secondary ≡ false →
+    Cycle p earlier a now (begun p c i) e d out → Cycle p earlier a next (begun p c i) e d out
+secondary_unneeded p earlier c i a now next e d out kept needless h =
+    let left = left_by p earlier in
+    (behind_lines p left (has_match p earlier) c i Secondary kept needless (select_record p left a now) (select_record p left a next) (second_alike p left a now next)).each e d out h

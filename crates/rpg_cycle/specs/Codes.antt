@@ -4,7 +4,8 @@ use Rattle.std.proofs.Common.{inl, inr}
 use Rattle.std.specs.Coded.{Coded, code_by, coded×, coded⊎, coded_ℕ, coded_bool, coded_list, coded_option}
 use base.Stored.{coded_unit}
 use Rattle.rpg_effect.specs.Ends.{Fault, Jump, Storage, Kind, Return}
-use Rattle.rpg_cycle_records.specs.Earlier.{Left}
+use Rattle.rpg_cycle_records.specs.Earlier.{Left, Selected}
+use Rattle.rpg_cycle_records.specs.Waiting.{Input, Inputs}
 use Rattle.rpg_cycle.specs.Ends.{PhaseEnd, GoesOn, EndOfJob, Halt, Wrong}
 use Rattle.rpg_cycle.specs.Stages.{Stage, Going, Ended, Failed}
 
@@ -84,3 +85,12 @@ abbrev pub left_code : Coded Left
 left_code =
     code_by (Bool × (Bool × (List Value × (Value × Value)))) (coded× coded_bool (coded× coded_bool (coded× (coded_list coded_value) (coded× coded_value coded_value)))) left_to left_from
     (λ _. refl)
+
+abbrev selected_code : Coded Selected
+selected_code = code_by (ℕ × List ℕ) (coded× coded_ℕ (coded_list coded_ℕ)) (λ s. (s.type, s.text)) (λ p. record { type = p.0; text = p.1 }) (λ _. refl)
+
+abbrev input_code : Coded Input
+input_code = code_by (Option Selected × Bool) (coded× (coded_option selected_code) coded_bool) (λ i. (i.waiting, i.is_over)) (λ p. record { waiting = p.0; is_over = p.1 }) (λ _. refl)
+
+abbrev pub inputs_code : Coded Inputs
+inputs_code = code_by (Input × Input) (coded× input_code input_code) (λ i. (i.primary, i.secondary)) (λ p. record { primary = p.0; secondary = p.1 }) (λ _. refl)

@@ -17,6 +17,10 @@ first_page = 111
 abbrev pub level_zero : ℕ
 level_zero = 100
 
+-- MR
+abbrev pub matching_record : ℕ
+matching_record = 129
+
 -- L1 to L9
 abbrev pub level_indicators : List ℕ
 level_indicators = 101 ∷ 102 ∷ 103 ∷ 104 ∷ 105 ∷ 106 ∷ 107 ∷ 108 ∷ 109 ∷ []

@@ -5,6 +5,12 @@ use Rattle.rpg_paper.specs.Paper.{Position, last_position_from}
 use Rattle.rpg_effect.specs.Put.{Bytes, line_of, with_output}
 use Rattle.rpg_effect.specs.World.{Fields}
 use Rattle.rpg_cycle_records.specs.Earlier.{Left, Selected, left_by, with_record}
+use Rattle.rpg_cycle_records.specs.Holding.{AreFilesKept, inputs_of}
+use Rattle.rpg_cycle_records.specs.Keeping.{left_of}
+use Rattle.rpg_cycle_records.specs.declared.kept.Kept.{Kept}
+use Rattle.rpg_cycle_records.specs.Merging.{IsOrderly}
+use Rattle.rpg_cycle_records.specs.Waiting.{Inputs, unread}
+use Rattle.rpg_effect.specs.declared.input.InputFile.{InputFile}
 use Rattle.rpg_cycle.specs.Ends.{GoesOn, PhaseEnd}
 use Rattle.rpg_machine.specs.Running as machines
 use Rattle.rpg_machine.specs.Ready.{IsReady}
@@ -19,13 +25,14 @@ use Rattle.rpg_store.specs.First.{first_contents, first_currents}
 use Rattle.rpg_verify.specs.Bound.{bound}
 
 -- a job: its program, the machine's configuration, the line that was placed last, the bytes put out since they were taken, what earlier
--- records left, and how far it is
+-- records left, its files, and how far it is
 pub record AtWork : Type 0 where
   pub program : Object
   pub config : Config
   pub last : Option ℕ
   pub output : Bytes
   pub left : Left
+  pub inputs : Inputs
   pub stage : Stage
 
 -- ---- the start
@@ -38,6 +45,7 @@ job_started p date fields = record {
   last = None;
   output = no_bytes;
   left = left_by p [];
+  inputs = unread;
   stage = Going;
 }
 
@@ -53,10 +61,11 @@ first_fields p = record { values = first_contents p; current = first_currents p 
 
 -- ---- a cycle
 
--- earlier records, the last of them first, left this
-pub record IsLeft (p : Object) (left : Left) : Type 0 where
+-- earlier records, the last of them first, left this and these files
+pub record IsBehind (p : Object) (left : Left) (inputs : Inputs) : Type 0 where
   pub earlier : List Selected
   pub leave : left ≡ left_by p earlier
+  pub orderly : IsOrderly p earlier inputs
 
 -- where the job ends, so does the last line
 abbrev pub feed_at : Stage → Option ℕ → List ℕ
@@ -67,27 +76,28 @@ feed_at Failed last = []
 abbrev pub with_feed : List ℕ → Bytes → Bytes
 with_feed feed bytes = record bytes { print = bytes.print ++ feed }
 
--- Behind these earlier records and a line placed before, a job did a cycle with the record that was next, or with none at the end of the
--- file. Its bytes were appended.
-pub record DoesCycle (old : AtWork) (earlier : List Selected) (previous : Option Position) (next : Option (List ℕ)) (e : PhaseEnd) (new : AtWork) : Type 0 where
+-- Behind these earlier records and a line placed before, a job did a cycle with the record that was next in each file, or with none at its
+-- end. Its bytes were appended.
+pub record DoesCycle (old : AtWork) (earlier : List Selected) (previous : Option Position) (primary secondary : Option (List ℕ)) (e : PhaseEnd) (new : AtWork) : Type 0 where
   pub stage : new.stage ≡ stage_at e
   pub program : new.program ≡ old.program
   pub there : UnderWay
   pub out : Output
-  pub cycle : Cycle old.program earlier next (begun old.program (config_on previous old.config)) e there out
+  pub cycle : Cycle old.program earlier primary secondary (begun old.program (config_on previous old.config) old.inputs) e there out
   pub config : there.config ≡ config_on (last_position_from previous out.lines) new.config
   pub left : e ≡ GoesOn → new.left ≡ left_by old.program (with_record there.selected earlier)
+  pub inputs : e ≡ GoesOn → new.inputs ≡ there.inputs
   pub last : new.last ≡ line_of (last_position_from previous out.lines)
   pub bytes : new.output ≡ with_feed (feed_at (stage_at e) new.last) (with_output previous out.lines out.records old.output)
 
 -- A cycle behind the earlier records that left what the job keeps, whatever was placed before. It is the same behind all that leave this.
-pub record Cycles (old : AtWork) (next : Option (List ℕ)) (new : AtWork) : Type 0 where
-  pub behind : IsLeft old.program old.left
-  pub does : (previous : Option Position) → old.last ≡ line_of previous → (e : PhaseEnd) × DoesCycle old behind.earlier previous next e new
+pub record Cycles (old : AtWork) (primary secondary : Option (List ℕ)) (new : AtWork) : Type 0 where
+  pub behind : IsBehind old.program old.left old.inputs
+  pub does : (previous : Option Position) → old.last ≡ line_of previous → (e : PhaseEnd) × DoesCycle old behind.earlier previous primary secondary e new
 
--- the next cycle takes a record: the job goes on, and neither LR nor one of H1 to H9 is on
-abbrev pub job_needs_record : AtWork → Bool
-job_needs_record j = is_going j.stage && cycles.needs_record j.config
+-- the next cycle takes a record in from a file: the job goes on, and the file takes one in
+abbrev pub job_needs_record : AtWork → InputFile → Bool
+job_needs_record j f = is_going j.stage && cycles.needs_record j.program j.config j.inputs f
 
 -- its last cycle took no more steps than the program's bound
 abbrev pub KeepsBound : AtWork → Type 0
@@ -99,9 +109,11 @@ job_taken j = record j { output = no_bytes }
 
 -- ---- what a job keeps
 
--- while it goes on its machine runs its program and is ready, and earlier records left what is kept of them; the steps are in their bound
-pub record IsAtWork (p : Object) (machine : Running) (stage : Stage) (left : Left) : Type 0 where
+-- while it goes on its machine runs its program and is ready, earlier records left what is kept of them, and what waits in the files is
+-- kept well; the steps are in their bound
+pub record IsAtWork (p : Object) (machine : Running) (stage : Stage) (kept : Kept) : Type 0 where
   pub program : is_going stage ≡ true → machine.program ≡ p
   pub ready : is_going stage ≡ true → IsReady machine
-  pub behind : is_going stage ≡ true → IsLeft p left
+  pub behind : is_going stage ≡ true → IsBehind p (left_of kept) (inputs_of kept)
+  pub files : is_going stage ≡ true → AreFilesKept p kept
   pub few : has_failed stage ≡ false → machine.config.steps ≤ bound p

@@ -1,4 +1,5 @@
 pub mod Codes
+pub mod Counting
 pub mod Dating
 pub mod Doing
 pub mod Ends

@@ -1,14 +1,17 @@
 -- One cycle of a job: its nine phases, one after another.
 use Rattle.std.specs.Prelude.{◌≡◌, ℕ, Bool, true, false, not, ◌&&◌, ◌||◌, List, [], ◌∷◌, length, slice_get, Option, None, Some, is_none, if◌then◌else◌}
 use Rattle.std.specs.List.{list_all}
-use Rattle.rpg_cycle_records.specs.Earlier.{Left, Selected, control_fields, is_any, last_of_level, left_by}
+use Rattle.rpg_cycle_records.specs.Earlier.{Left, Selected, control_fields, is_any, last_of_file, last_of_level, left_by, match_fields, match_value}
 use Rattle.rpg_cycle.specs.Ends.{PhaseEnd, GoesOn, EndOfJob, Halt, Wrong, phase_end}
 use Rattle.rpg_cycle_records.specs.Identifying.{Trial, IsOf, IsOfNone, Misplaced, padded, identified, is_good_record, trial_weight}
-use Rattle.rpg_cycle.specs.Indicators.{any_on, first_page, halt_indicators, is_on, last_record, level_indicators, with_all, with_levels, with_one, with_type, without_types}
+use Rattle.rpg_cycle.specs.Indicators.{any_on, first_page, halt_indicators, is_on, last_record, level_indicators, matching_record, with_all, with_levels, with_one, with_type, without_types}
 use Rattle.rpg_cycle_records.specs.Levels.{differs, highest_broken, is_in_record, level_bytes}
+use Rattle.rpg_cycle_records.specs.Matching.{exceeds}
+use Rattle.rpg_cycle_records.specs.Waiting.{Inputs, chosen, has_match, over, takes_in, waiting_in, with_waiting}
 use Rattle.rpg_effect.specs.Ends as effects
 use Rattle.rpg_effect.specs.Input.{TypeRow}
-use Rattle.rpg_effect.specs.declared.input.InputFile.TheVariants.{Primary}
+use Rattle.rpg_effect.specs.declared.input.InputFile.{InputFile}
+use Rattle.rpg_effect.specs.declared.input.InputFile.TheVariants.{Primary, Secondary}
 use Rattle.rpg_machine.specs.Config.{Config, Output, charged, no_output, with_more}
 use Rattle.rpg_machine.specs.Outputs.{FillsFields, PutsOut}
 use Rattle.rpg_machine.specs.Run.{RunsTo}
@@ -19,9 +22,10 @@ use Rattle.rpg_object_program.specs.Object.{Object}
 use Rattle.rpg_object_program.specs.declared.section.Section.{Section}
 use Rattle.rpg_object_program.specs.declared.section.Section.TheVariants as sections
 
--- A cycle under way: the configuration, and the record that phase 4 selected, if it has selected one.
+-- A cycle under way: the configuration, the files, and the record that phase 4 selected, if it has selected one.
 pub record UnderWay : Type 0 where
   pub config : Config
+  pub inputs : Inputs
   pub selected : Option Selected
 
 -- A phase leads from one to another; it goes on or ends the job, and it puts something out.
@@ -46,9 +50,13 @@ abbrev pub ◌before◌ : Phase → Phase → Phase
 abbrev pub with_config : (Config → Config) → UnderWay → UnderWay
 with_config f c = record c { config = f c.config }
 
--- what the machine does, without selecting a record
+-- with the files changed
+abbrev pub with_inputs : (Inputs → Inputs) → UnderWay → UnderWay
+with_inputs f c = record c { inputs = f c.inputs }
+
+-- what the machine does, without reading or selecting a record
 abbrev pub by_machine : Behaviour → Phase
-by_machine P c e d out = (last : effects.End) × P c.config last d.config out × (e ≡ phase_end last) × (d.selected ≡ c.selected)
+by_machine P c e d out = (last : effects.End) × P c.config last d.config out × (e ≡ phase_end last) × (d.inputs ≡ c.inputs) × (d.selected ≡ c.selected)
 
 -- the lines of a time
 abbrev pub output : Object → OutputTime → Phase
@@ -99,44 +107,69 @@ all_off p c = with_one first_page false (with_all level_indicators false (withou
 abbrev pub set_off : Object → Phase
 set_off p = does (λ c. done GoesOn (with_config (all_off p) c))
 
--- ---- 4 a record is read and identified, and its control fields are compared
+-- ---- 4 records are taken in, and one is selected
+
+-- a record waits, unless its match value is lower than its file's last one, which is halt 8
+abbrev pub match_up : Object → Left → InputFile → Selected → UnderWay → Done
+match_up p left f s c =
+    if not (list_all (is_in_record (length s.text)) (match_fields p s.type)) then done (Wrong effects.Storage) c
+    else (if exceeds (last_of_file left f) (match_value p s) then done (Halt 8) c
+    else done GoesOn (with_inputs (with_waiting f (Some s)) c))
+
+-- the match fields of an identified record weigh 1 each; a record of no type is halt 3
+abbrev pub take_type : Object → Left → InputFile → List ℕ → Trial → UnderWay → Done
+take_type p left f text (IsOf t) c = match_up p left f (record { type = t; text = text }) (with_config (charged (length (match_fields p t))) c)
+take_type p left f text IsOfNone c = done (Halt 3) c
+take_type p left f text Misplaced c = done (Wrong effects.Storage) c
+
+-- the types of the file are tried, which weighs the codes of all that are
+abbrev pub identify : Object → Left → InputFile → List ℕ → UnderWay → Done
+identify p left f text c = take_type p left f text (identified f 0 p.types text) (with_config (charged (trial_weight f p.types text)) c)
+
+-- a good record is identified, a bad one is halt 7; where there is none the file is at its end
+abbrev pub read_record : Object → Left → InputFile → Option (List ℕ) → UnderWay → Done
+read_record p left f None c = done GoesOn (with_inputs (over f) c)
+read_record p left f (Some text) c = if is_good_record p f text then identify p left f (padded p f text) c else done (Halt 7) c
+
+-- a file that is there, not at its end and without a waiting record takes one in
+abbrev pub take_in : Object → Left → InputFile → Option (List ℕ) → Phase
+take_in p left f next = does (λ c. if takes_in p c.inputs f then read_record p left f next c else done GoesOn c)
 
 -- the highest level that this record breaks, 0 where it breaks none
 abbrev pub broken_level : Object → Left → Selected → ℕ
 broken_level p left s = highest_broken (λ level. differs (last_of_level left level) (level_bytes (control_fields p s.type) s.text level)) 9
 
 -- the control fields are compared; the highest level that is broken goes on with all below it
-abbrev pub compare_levels : Object → Left → Selected → Config → Done
+abbrev pub compare_levels : Object → Left → Selected → UnderWay → Done
 compare_levels p left s c =
     if list_all (is_in_record (length s.text)) (control_fields p s.type)
-    then done GoesOn (record { config = with_levels (broken_level p left s) (charged (length (control_fields p s.type)) c); selected = Some s })
-    else done (Wrong effects.Storage) (record { config = charged (length (control_fields p s.type)) c; selected = None })
+    then done GoesOn (with_config (λ x. with_levels (broken_level p left s) (charged (length (control_fields p s.type)) x)) (record c { selected = Some s }))
+    else done (Wrong effects.Storage) (with_config (charged (length (control_fields p s.type))) c)
 
 -- the indicator of a type
 abbrev pub type_indicator : Option (TypeRow ℕ) → Option ℕ
 type_indicator None = None
 type_indicator (Some t) = t.indicator
 
--- an identified record's indicator goes on; a record of no type is halt 3
-abbrev pub take_type : Object → Left → List ℕ → Trial → Config → Done
-take_type p left text (IsOf t) c = compare_levels p left (record { type = t; text = text }) (with_type (type_indicator (slice_get p.types t)) c)
-take_type p left text IsOfNone c = done (Halt 3) (record { config = c; selected = None })
-take_type p left text Misplaced c = done (Wrong effects.Storage) (record { config = c; selected = None })
+-- the record that waits in a file is selected: it waits no longer, and its type's indicator goes on
+abbrev pub select_waiting : Object → Left → InputFile → Option Selected → UnderWay → Done
+select_waiting p left f None c = done GoesOn c
+select_waiting p left f (Some s) c =
+    compare_levels p left s (with_config (with_type (type_indicator (slice_get p.types s.type))) (with_inputs (with_waiting f None) c))
 
--- types are tried, which weighs the codes of all that are
-abbrev pub identify : Object → Left → List ℕ → Config → Done
-identify p left text c = take_type p left text (identified Primary 0 p.types text) (charged (trial_weight Primary p.types text) c)
+-- where no record waits, LR and all levels go on
+abbrev pub select_from : Object → Left → Option InputFile → UnderWay → Done
+select_from p left None c = done GoesOn (with_config (λ x. with_all level_indicators true (with_one last_record true x)) c)
+select_from p left (Some f) c = select_waiting p left f (waiting_in c.inputs f) c
 
--- a good record is identified, a bad one is halt 7; where there is none LR and all levels go on
-abbrev pub read_record : Object → Left → Option (List ℕ) → Config → Done
-read_record p left None c = done GoesOn (record { config = with_all level_indicators true (with_one last_record true c); selected = None })
-read_record p left (Some text) c = if is_good_record p Primary text then identify p left (padded p Primary text) c else done (Halt 7) (record { config = c; selected = None })
+abbrev pub select_one : Object → Left → Phase
+select_one p left = does (λ c. select_from p left (chosen p (waiting_in c.inputs Primary) (waiting_in c.inputs Secondary)) c)
 
--- where LR is on no record is read, and L1 to L9 go on
-abbrev pub select_record : Object → Left → Option (List ℕ) → Phase
-select_record p left next = does (λ c.
-    if is_on c.config last_record then done GoesOn (record { config = with_all level_indicators true c.config; selected = None })
-    else read_record p left next c.config)
+-- where LR is on no record is taken in, and L1 to L9 go on
+abbrev pub select_record : Object → Left → Option (List ℕ) → Option (List ℕ) → Phase
+select_record p left primary secondary c =
+    either (is_on c.config last_record) (does (λ c. done GoesOn (with_config (with_all level_indicators true) c)))
+    (take_in p left Primary primary before take_in p left Secondary secondary before select_one p left) c
 
 -- ---- 5 total calculations and total output, unless they are bypassed
 
@@ -166,7 +199,15 @@ has_no_overflow (Some n) c = not (is_on c n)
 abbrev pub overflow_lines : Object → Phase
 overflow_lines p = unless (has_no_overflow p.overflow) (output p times.Overflow)
 
--- ---- 8 the columns of the record become values of fields
+-- ---- 8 MR shows whether the selected record has a match, and its columns become values of fields
+
+-- of the selected record
+abbrev pub if_selected : (Selected → Bool) → Option Selected → Bool
+if_selected test None = false
+if_selected test (Some s) = test s
+
+abbrev pub show_match : (Inputs → Selected → Bool) → Phase
+show_match matches = does (λ c. done GoesOn (with_config (with_one matching_record (if_selected (matches c.inputs) c.selected)) c))
 
 -- those of the selected record's type
 abbrev pub fill_from : Object → Option Selected → Phase
@@ -183,36 +224,34 @@ detail_calculations p = section p sections.Detail
 
 -- ---- the cycle
 
--- a cycle with what earlier records leave
-abbrev pub CycleOn : Object → Left → Option (List ℕ) → Phase
-CycleOn p left next =
-    detail_lines p
-    before halt_where_asked
-    before set_off p
-    before select_record p left next
-    before total_time p left
-    before end_where_last
-    before overflow_lines p
-    before fill_fields p
-    before detail_calculations p
-
--- what follows the selection in it
-abbrev pub after_selection : Object → Left → Phase
-after_selection p left =
+-- what follows the selection of a record, with what earlier records leave and with a test of matching records
+abbrev pub after_selection : Object → Left → (Inputs → Selected → Bool) → Phase
+after_selection p left matches =
     total_time p left
     before end_where_last
     before overflow_lines p
+    before show_match matches
     before fill_fields p
     before detail_calculations p
 
--- a cycle behind those that selected the earlier records, the last of these first, with the record that is next, or none at the end of the file
-abbrev pub Cycle : Object → List Selected → Option (List ℕ) → Phase
-Cycle p earlier next = CycleOn p (left_by p earlier) next
+-- a cycle with these
+abbrev pub CycleOn : Object → Left → (Inputs → Selected → Bool) → Option (List ℕ) → Option (List ℕ) → Phase
+CycleOn p left matches primary secondary =
+    detail_lines p
+    before halt_where_asked
+    before set_off p
+    before select_record p left primary secondary
+    before after_selection p left matches
+
+-- a cycle behind those that selected the earlier records, the last of these first, with the record that is next in each file, or none at
+-- its end
+abbrev pub Cycle : Object → List Selected → Option (List ℕ) → Option (List ℕ) → Phase
+Cycle p earlier primary secondary = CycleOn p (left_by p earlier) (has_match p earlier) primary secondary
 
 -- the allowance full, no steps, and nothing selected
-abbrev pub begun : Object → Config → UnderWay
-begun p c = record { config = record c { allowance = p.allowance; steps = 0 }; selected = None }
+abbrev pub begun : Object → Config → Inputs → UnderWay
+begun p c i = record { config = record c { allowance = p.allowance; steps = 0 }; inputs = i; selected = None }
 
--- of a job that goes on: whether its next cycle takes a record, which it does unless LR or one of H1 to H9 is on
-abbrev pub needs_record : Config → Bool
-needs_record c = not (is_on c last_record || any_on c halt_indicators)
+-- of a job that goes on: whether a file takes a record in at its next cycle, which none does where LR or one of H1 to H9 is on
+abbrev pub needs_record : Object → Config → Inputs → InputFile → Bool
+needs_record p c i f = not (is_on c last_record || any_on c halt_indicators) && takes_in p i f

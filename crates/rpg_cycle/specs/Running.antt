@@ -1,9 +1,10 @@
 -- What the code's runs are.
 use Rattle.std.specs.Prelude.{◌≡◌, ℕ, ℤ, List, [], ◌++◌, None, Some, map}
 use Rattle.std.specs.Global.{Vec}
+use Rattle.rpg_cycle_records.specs.Waiting.{unread}
 use Rattle.rpg_cycle.specs.Job.{AtWork, first_fields}
 use Rattle.rpg_cycle.specs.Phases.{UnderWay}
-use Rattle.rpg_cycle.specs.Runs.{Course, IsRun, Runs, printed, stored}
+use Rattle.rpg_cycle.specs.Runs.{Course, IsRun, Records, Runs, printed, stored}
 use Rattle.rpg_cycle.specs.Stages.{job_end}
 use Rattle.rpg_cycle.specs.Starting.{date_in}
 use Rattle.rpg_cycle.specs.declared.runs.Run.{Run}
@@ -17,15 +18,19 @@ use Rattle.rpg_object_program.specs.Object.{Object}
 abbrev pub texts : List (Vec ℕ) → List (List ℕ)
 texts = map (λ (v : Vec ℕ). v.items)
 
+-- the records of both files
+abbrev pub records_in : List (Vec ℕ) → List (Vec ℕ) → Records
+records_in primary secondary = record { primary = texts primary; secondary = texts secondary }
+
 -- the course of a run that put this out and led there
 abbrev pub course_of : Summary → Output → UnderWay → Course
 course_of s out there = record { ending = job_end s.ending; cycles = s.cycles; most = s.most; output = out; there = there }
 
 -- a job before its first cycle ran over records to its end
-pub record RunsRecords (old : AtWork) (records : List (List ℕ)) (s : Summary) (new : AtWork) : Type 0 where
+pub record RunsRecords (old : AtWork) (records : Records) (s : Summary) (new : AtWork) : Type 0 where
   pub out : Output
   pub there : UnderWay
-  pub runs : Runs old.program [] records (config_on None old.config) (course_of s out there)
+  pub runs : Runs old.program [] records (config_on None old.config) unread (course_of s out there)
   pub print : new.output.print ≡ old.output.print ++ printed out
   pub disk : new.output.disk ≡ old.output.disk ++ stored out
 
@@ -37,7 +42,7 @@ abbrev pub run_output : Run → Bytes
 run_output r = record { print = r.output.print.items; disk = r.output.disk.items }
 
 -- the whole run of a program over records, on the date that a text spells and over the first values of its fields
-pub record RunsWhole (p : Object) (date : List ℕ) (records : List (List ℕ)) (r : Run) : Type 0 where
+pub record RunsWhole (p : Object) (date : List ℕ) (records : Records) (r : Run) : Type 0 where
   pub number : ℤ
   pub spelled : date_in date ≡ Some number
   pub out : Output

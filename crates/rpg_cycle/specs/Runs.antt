@@ -1,13 +1,15 @@
--- Whole runs: a cycle for each record, and one for the end of the file, until one ends the job.
-use Rattle.std.specs.Prelude.{◌≡◌, ℕ, ◌+◌, ◌++◌, ℤ, List, [], ◌∷◌, max, None, Some}
+-- Whole runs: cycles, each with the records that are next in the files that take one in, until one ends the job.
+use Rattle.std.specs.Prelude.{◌≡◌, ℕ, zero, suc, ◌+◌, ◌++◌, ℤ, Bool, List, [], ◌∷◌, max, Option, None, Some, if◌then◌else◌}
 use Rattle.std.specs.Ordering.{nat_cmp}
 use Rattle.rpg_cycle_records.specs.Earlier.{Selected, with_record}
+use Rattle.rpg_cycle_records.specs.Waiting.{Inputs, unread}
 use Rattle.rpg_cycle.specs.Ends.{PhaseEnd, GoesOn, EndOfJob, Halt, Wrong}
-use Rattle.rpg_cycle.specs.Phases.{Cycle, UnderWay, begun}
+use Rattle.rpg_cycle.specs.Phases.{Cycle, UnderWay, begun, needs_record}
 use Rattle.rpg_cycle.specs.Starting.{job_start}
 use Rattle.rpg_paper.specs.Paper.{Placed, paper}
 use Rattle.rpg_effect.specs.Put.{Bytes, disk_bytes}
 use Rattle.rpg_effect.specs.World.{Fields}
+use Rattle.rpg_effect.specs.declared.input.InputFile.TheVariants.{Primary, Secondary}
 use Rattle.rpg_machine.specs.Config.{Config, Output, with_more}
 use Rattle.rpg_object_program.specs.Object.{Object}
 
@@ -40,13 +42,41 @@ ends_or EndOfJob d out Rest course = course ≡ last_cycle EndOfJob d out
 ends_or (Halt k) d out Rest course = course ≡ last_cycle (Halt k) d out
 ends_or (Wrong f) d out Rest course = course ≡ last_cycle (Wrong f) d out
 
--- a run from a configuration, behind earlier records (the last first), over the records that are left
-abbrev pub Runs : Object → List Selected → List (List ℕ) → Config → Course → Type 0
-Runs p earlier [] c course =
-    (e : PhaseEnd) × (d : UnderWay) × (out : Output) × Cycle p earlier None (begun p c) e d out × ends_or e d out (λ d rest. ⊥) course
-Runs p earlier (r ∷ rs) c course =
-    (e : PhaseEnd) × (d : UnderWay) × (out : Output) × Cycle p earlier (Some r) (begun p c) e d out
-    × ends_or e d out (λ d rest. Runs p (with_record d.selected earlier) rs d.config rest) course
+-- the records of both files
+pub record Records : Type 0 where
+  pub primary : List (List ℕ)
+  pub secondary : List (List ℕ)
+
+abbrev pub first_in : {A : Type 0} → List A → Option A
+first_in [] = None
+first_in (x ∷ xs) = Some x
+
+abbrev pub behind_first : {A : Type 0} → List A → List A
+behind_first [] = []
+behind_first (x ∷ xs) = xs
+
+-- what a cycle takes from a file, and what it leaves
+abbrev pub next_of : {A : Type 0} → Bool → List A → Option A
+next_of is_needed rs = if is_needed then first_in rs else None
+
+abbrev pub rest_of : {A : Type 0} → Bool → List A → List A
+rest_of is_needed rs = if is_needed then behind_first rs else rs
+
+-- the records that are left behind a cycle
+abbrev pub left_behind : Object → Config → Inputs → Records → Records
+left_behind p c i rs = record { primary = rest_of (needs_record p c i Primary) rs.primary; secondary = rest_of (needs_record p c i Secondary) rs.secondary }
+
+-- a run of at most so many cycles from a configuration and files, behind earlier records (the last first), over the records that are left
+abbrev pub RunsIn : ℕ → Object → List Selected → Records → Config → Inputs → Course → Type 0
+RunsIn zero p earlier rs c i course = ⊥
+RunsIn (suc n) p earlier rs c i course =
+    (e : PhaseEnd) × (d : UnderWay) × (out : Output)
+    × Cycle p earlier (next_of (needs_record p c i Primary) rs.primary) (next_of (needs_record p c i Secondary) rs.secondary) (begun p c i) e d out
+    × ends_or e d out (λ d rest. RunsIn n p (with_record d.selected earlier) (left_behind p c i rs) d.config d.inputs rest) course
+
+-- a run, in as many cycles as it takes
+abbrev pub Runs : Object → List Selected → Records → Config → Inputs → Course → Type 0
+Runs p earlier rs c i course = RunsIn course.cycles p earlier rs c i course
 
 -- a line feed behind the last line, where one was placed
 abbrev pub last_feed : List Placed → List ℕ
@@ -62,7 +92,7 @@ abbrev pub stored : Output → List ℕ
 stored out = disk_bytes out.records
 
 -- the whole run of a program over records, with a date and with what its fields hold at first
-pub record IsRun (p : Object) (date : ℤ) (fields : Fields nat_cmp) (records : List (List ℕ)) (course : Course) (bytes : Bytes) : Type 0 where
-  pub runs : Runs p [] records (job_start p date fields) course
+pub record IsRun (p : Object) (date : ℤ) (fields : Fields nat_cmp) (records : Records) (course : Course) (bytes : Bytes) : Type 0 where
+  pub runs : Runs p [] records (job_start p date fields) unread course
   pub print : bytes.print ≡ printed course.output
   pub disk : bytes.disk ≡ stored course.output

@@ -1,5 +1,10 @@
 -- What the phases of a cycle take at most.
-use Rattle.std.specs.Prelude.{ℕ, ◌+◌, ◌*◌, ◌≤◌, length, Option, None, Some, is_some, if◌then◌else◌}
+use Rattle.std.specs.Option.{ForSome}
+use Rattle.rpg_cycle_records.specs.Earlier.{control_fields, file_of}
+use Rattle.std.specs.Prelude.{ℕ, ◌≡◌, List, slice_get, ◌+◌, ◌*◌, ◌≤◌, length, Option, None, Some, is_some, if◌then◌else◌}
+use Rattle.rpg_cycle_records.specs.Identifying.{trial_weight}
+use Rattle.rpg_cycle_records.specs.Paying.{matches_at}
+use Rattle.rpg_effect.specs.declared.input.InputFile.{InputFile}
 use Rattle.rpg_effect.specs.Weights.{types_weight}
 use Rattle.rpg_machine.specs.Outputs.{inputs_at, output_weight}
 use Rattle.rpg_machine.specs.Running.{Running}
@@ -27,9 +32,26 @@ abbrev pub inputs_weight : Object → Option ℕ → ℕ
 inputs_weight p None = 0
 inputs_weight p (Some t) = length (inputs_at p t)
 
+-- the control fields of the selected record's type
+abbrev pub compared_weight : Object → Option ℕ → ℕ
+compared_weight p None = 0
+compared_weight p (Some t) = length (control_fields p t)
+
 -- a record was selected, and filling its fields is still to be paid
 pub record Selects (p : Object) (t : Option ℕ) (old new : Running) : Type 0 where
   pub few : reach p new + inputs_weight p t ≤ reach p old + types_weight p.types
+
+-- the match fields of a row, if there is one
+abbrev pub matched_weight : Object → Option ℕ → ℕ
+matched_weight p None = 0
+matched_weight p (Some t) = matches_at p.types t
+
+-- what the taking in of a file's record cost at most: the trying of its types on a text, and the match fields of one of them, or of none
+pub record TakesIn (p : Object) (f : InputFile) (old new : Running) : Type 0 where
+  pub text : List ℕ
+  pub row : Option ℕ
+  pub own : ForSome row (λ t. file_of (slice_get p.types t) ≡ f)
+  pub few : reach p new ≤ reach p old + (trial_weight f p.types text + matched_weight p row)
 
 -- the lines of a full page
 abbrev pub full_page_weight : Object → ℕ

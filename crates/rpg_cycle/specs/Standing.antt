@@ -1,8 +1,8 @@
 -- Where a job stands when a cycle ends, and when a run does.
-use Rattle.std.specs.Prelude.{◌≡◌, ℕ, ℤ, ◌⊎◌, List, None}
+use Rattle.std.specs.Prelude.{◌≡◌, ℤ, ◌⊎◌, None}
 use Rattle.std.specs.Ordering.{nat_cmp}
 use Rattle.rpg_cycle.specs.Ends.{PhaseEnd, GoesOn, EndOfJob, Halt, Wrong}
-use Rattle.rpg_cycle.specs.Runs.{Course, IsRun}
+use Rattle.rpg_cycle.specs.Runs.{Course, IsRun, Records}
 use Rattle.rpg_effect.specs.Put.{Bytes}
 use Rattle.rpg_effect.specs.World.{Fields}
 use Rattle.rpg_machine.specs.Config.{Config}
@@ -21,5 +21,5 @@ StandsRight p (Wrong f) d = Unit {0}
 -- so does each run
 abbrev pub RunsStandRight : Type 0
 RunsStandRight =
-    (p : Object) (date : ℤ) (fields : Fields nat_cmp) (records : List (List ℕ)) (course : Course) (bytes : Bytes)
+    (p : Object) (date : ℤ) (fields : Fields nat_cmp) (records : Records) (course : Course) (bytes : Bytes)
     → IsRun p date fields records course bytes → StandsRight p course.ending course.there.config

@@ -11,6 +11,8 @@ use rpg_store::Store;
 pub const LAST_RECORD: u8 = 110;
 
 pub const FIRST_PAGE: u8 = 111;
+/// MR.
+pub const MATCHING_RECORD: u8 = 129;
 /// L1 to L9.
 pub const LEVELS: [u8; 9] = [101, 102, 103, 104, 105, 106, 107, 108, 109];
 /// H1 to H9.

@@ -8,6 +8,7 @@ use crate::ends::{CycleEnd, JobEnd, Progress, StartFault, Stop};
 use crate::indicators::{LAST_RECORD, is_halt_asked};
 use crate::program::is_end;
 use rpg_cycle_records::Kept;
+use rpg_effect::input::InputFile;
 use rpg_machine::{Machine, Output};
 use rpg_object_program::section::Place;
 use rpg_store::{FlatStore, Store, first_values_fit};
@@ -26,15 +27,16 @@ pub struct Job<'a, S: Store + Drop> {
 
 impl<'a, S: Store + Drop> Model for Job<'a, S> {
     ghost use Rattle.std.specs.Coded.{codes};
-    ghost use Rattle.rpg_cycle.specs.Codes.{left_code, stage_code};
+    ghost use Rattle.rpg_cycle.specs.Codes.{inputs_code, left_code, stage_code};
     ghost use Rattle.rpg_cycle.specs.Job.{AtWork, IsAtWork};
+    ghost use Rattle.rpg_cycle_records.specs.Holding.{inputs_of};
     ghost use Rattle.rpg_cycle_records.specs.Keeping.{left_of};
     ghost use Rattle.rpg_machine.specs.Codes.{config_code};
     ghost use Rattle.rpg_cycle.specs.Stages.{stage_of};
 
     ghost Value = { AtWork };
 
-    ghost coded = { Prim.hlevel (codes, config_code, left_code, stage_code) };
+    ghost coded = { Prim.hlevel (codes, config_code, inputs_code, left_code, stage_code) };
 
     ghost view = { λ j. record {
       program = j.program.now;
@@ -42,10 +44,18 @@ impl<'a, S: Store + Drop> Model for Job<'a, S> {
       last = j.machine.last;
       output = j.machine.output;
       left = left_of j.kept;
+      inputs = inputs_of j.kept;
       stage = stage_of j.progress;
     } };
 
-    ghost invariant = { λ j. IsAtWork j.program.now j.machine (stage_of j.progress) (left_of j.kept) };
+    ghost invariant = { λ j. IsAtWork j.program.now j.machine (stage_of j.progress) j.kept };
+}
+
+/// From which files a cycle takes a record in.
+#[derive(Clone, Copy)]
+pub struct Need {
+    pub primary: bool,
+    pub secondary: bool,
 }
 
 /// What a job answers at its stage.
@@ -84,8 +94,10 @@ impl<'a> Job<'a, FlatStore> {
 }
 
 impl<'a, S: Store + Drop> Job<'a, S> {
-    ghost use Rattle.std.specs.Prelude.{◌≤◌, true, false, ◌↔◌, None, IfOk, OnErr, IsOk, IsErrOf};
+    ghost use Rattle.std.specs.Prelude.{◌≤◌, ◌&&◌, ◌||◌, not, true, false, ◌↔◌, None, IfOk, OnErr, IsOk, IsErrOf};
     ghost use Rattle.std.specs.Option.{option_map};
+    ghost use Rattle.rpg_cycle.specs.Indicators.{any_on, halt_indicators, is_on, last_record};
+    ghost use Rattle.rpg_effect.specs.declared.input.InputFile.TheVariants as files;
     ghost use Rattle.rpg_cycle.specs.Job as of;
     ghost use Rattle.rpg_cycle.specs.Stages.{Failed, is_going, told};
     ghost use Rattle.rpg_cycle.specs.Starting.{date_in};
@@ -133,9 +145,22 @@ impl<'a, S: Store + Drop> Job<'a, S> {
         })
     }
 
-    /// Whether the next cycle takes a record.
-    pub fn needs_record(&self) -> bool
-        ensures { result ≡ of.job_needs_record self.now }
+    /// From which files the next cycle takes a record in.
+    pub fn needs(&self) -> Need
+        ensures primary { result.primary ≡ of.job_needs_record self.now files.Primary }
+        ensures secondary { result.secondary ≡ of.job_needs_record self.now files.Secondary }
+    {
+        let takes = self.takes_records();
+        let (first, second) = (&self.kept.primary, &self.kept.secondary);
+        Need {
+            primary: takes && first.takes_in(self.program, InputFile::Primary),
+            secondary: takes && second.takes_in(self.program, InputFile::Secondary),
+        }
+    }
+
+    /// Whether the job goes on, and neither LR nor one of H1 to H9 is on.
+    fn takes_records(&self) -> bool
+        ensures { result ≡ is_going self.now.stage && not (is_on self.now.config last_record || any_on self.now.config halt_indicators) }
     {
         match self.progress {
             Progress::Going => {
@@ -145,10 +170,14 @@ impl<'a, S: Store + Drop> Job<'a, S> {
         }
     }
 
-    /// Does one cycle, with the record that is next, or with `None` at the end of the file. A record that isn't needed is
+    /// Does one cycle, with the record that is next in each file, or with `None` at its end. A record that isn't needed is
     /// ignored. After an `Err` the job has failed: it answers `Failed` from then on.
-    pub fn cycle(&mut self, next: Option<&[u8]>) -> Result<CycleEnd, AllocError>
-        ensures going { is_going self.old.stage ≡ true → IfOk result (λ _. of.Cycles self.old (option_map (λ t. t.now) next.entry) self.new) }
+    pub fn cycle(
+        &mut self,
+        primary: Option<&[u8]>,
+        secondary: Option<&[u8]>,
+    ) -> Result<CycleEnd, AllocError>
+        ensures going { is_going self.old.stage ≡ true → IfOk result (λ _. of.Cycles self.old (option_map (λ t. t.now) primary.entry) (option_map (λ t. t.now) secondary.entry) self.new) }
         ensures told { IfOk result (λ e. told e ≡ self.new.stage) }
         ensures over { is_going self.old.stage ≡ false → IsOk result × (self.new ≡ self.old) }
         ensures failed { OnErr result (self.new.stage ≡ Failed) }
@@ -156,7 +185,7 @@ impl<'a, S: Store + Drop> Job<'a, S> {
     {
         match self.progress {
             Progress::Going => {
-                let progress = self.cycle_on(next)?;
+                let progress = self.cycle_on(primary, secondary)?;
                 Ok(answer_from(progress))
             }
             Progress::Ended(end) => Ok(answer_from(Progress::Ended(end))),
@@ -165,16 +194,21 @@ impl<'a, S: Store + Drop> Job<'a, S> {
     }
 
     /// A cycle of a job that goes on. The job counts as failed until the cycle is through.
-    pub(crate) fn cycle_on(&mut self, next: Option<&[u8]>) -> Result<Progress, AllocError>
+    pub(crate) fn cycle_on(
+        &mut self,
+        primary: Option<&[u8]>,
+        secondary: Option<&[u8]>,
+    ) -> Result<Progress, AllocError>
         requires { is_going self.old.stage ≡ true }
-        ensures done { IfOk result (λ _. of.Cycles self.old (option_map (λ t. t.now) next.entry) self.new) }
+        ensures done { IfOk result (λ _. of.Cycles self.old (option_map (λ t. t.now) primary.entry) (option_map (λ t. t.now) secondary.entry) self.new) }
         ensures stage { IfOk result (λ g. stage_of g ≡ self.new.stage) }
         ensures ran { IfOk result (λ g. stage_of g ≡ Failed → ⊥) }
         ensures failed { OnErr result (self.new.stage ≡ Failed) }
         ensures bound { IfOk result (λ _. self.new.config.steps ≤ bound self.new.program) }
     {
         self.progress = Progress::Failed;
-        match run_cycle(self.program, &mut self.machine, &mut self.kept, next) {
+        let (machine, kept) = (&mut self.machine, &mut self.kept);
+        match run_cycle(self.program, machine, kept, primary, secondary) {
             Ok(selected) => {
                 self.kept.note(self.program, selected);
                 self.progress = Progress::Going;

@@ -13,8 +13,11 @@ mod runs;
 mod selection;
 
 pub use ends::{CycleEnd, JobEnd, StartFault};
-pub use jobs::Job;
-pub use laws::{runs_are_one, runs_are_short, runs_stand_right, unneeded_records_are_ignored};
+pub use jobs::{Job, Need};
+pub use laws::{
+    cycles_keep_order, runs_are_one, runs_are_short, runs_go_by_their_count, runs_stand_right,
+    unneeded_records_are_ignored,
+};
 pub use rpg_effect::halt::Halt;
 pub use rpg_machine::Output;
 pub use runs::{Run, run_records};

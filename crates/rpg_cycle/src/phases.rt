@@ -1,12 +1,13 @@
 //! The phases of a cycle that select no record.
 ghost use Rattle.std.specs.Prelude.{◌≡◌, ℕ, ◌+◌, ◌^◌, ◌<◌, ◌≤◌, All, IfOk, List, length, map, true};
 ghost use Rattle.std.specs.Option.{ForSome};
-ghost use Rattle.rpg_cycle.specs.Doing.{Does, Passes};
+ghost use Rattle.rpg_cycle.specs.Doing.{Does, Passes, holding, holding_kept};
 ghost use Rattle.rpg_cycle.specs.Ends as ends;
 ghost use Rattle.rpg_cycle.specs.Ends.{GoesOn};
 ghost use Rattle.rpg_cycle.specs.Indicators as lights;
-ghost use Rattle.rpg_cycle_records.specs.Fitting.{IsFilledAs};
-ghost use Rattle.rpg_cycle_records.specs.Keeping.{selected_as};
+ghost use Rattle.rpg_cycle_records.specs.Holding.{AreFilesKept, HoldsSelected, inputs_of, text_in};
+ghost use Rattle.rpg_cycle_records.specs.Keeping.{left_of};
+ghost use Rattle.rpg_cycle_records.specs.Waiting.{Inputs, finds_match};
 ghost use Rattle.rpg_machine.specs.Ready.{IsReady};
 ghost use Rattle.rpg_cycle.specs.Phases as spec;
 ghost use Rattle.rpg_cycle.specs.Phases.{◌before◌};
@@ -15,15 +16,17 @@ ghost use Rattle.rpg_cycle.specs.Stages.{IfStops, UnlessNoMemory, job_end};
 ghost use Rattle.rpg_effect.specs.Ends as effects;
 ghost use Rattle.rpg_machine.specs.Outputs.{output_weight};
 ghost use Rattle.rpg_machine.specs.declared.time.OutputTime.TheVariants as times;
-ghost use Rattle.rpg_object_program.specs.Kept.{IsCharacter, IsIndicator};
+ghost use Rattle.rpg_object_program.specs.Kept.{IsIndicator};
 ghost use Rattle.rpg_object_program.specs.Object.{type_row};
 ghost use Rattle.rpg_object_program.specs.Sections.{has_end};
 ghost use Rattle.rpg_object_program.specs.declared.section.Section.TheVariants as sections;
 
 use crate::ends::{JobEnd, Stop};
-use crate::indicators::{FIRST_PAGE, LAST_RECORD, LEVELS, is_halt_asked, turn_all, turn_type_off};
+use crate::indicators::{
+    FIRST_PAGE, LAST_RECORD, LEVELS, MATCHING_RECORD, is_halt_asked, turn_all, turn_type_off,
+};
 use crate::program::{is_bounded, overflow_of};
-use rpg_cycle_records::types_of;
+use rpg_cycle_records::{Kept, types_of};
 use rpg_effect::halt::Halt;
 use rpg_effect::outcome::End;
 use rpg_machine::Machine;
@@ -213,8 +216,8 @@ pub(crate) fn end_where_last<S: Store + Drop>(
     machine: &Machine<S>,
     selected: Option<usize>,
 ) -> Result<(), Stop>
-    ensures goes { IfOk result (λ _. (text : List ℕ) → Does spec.end_where_last machine.now (selected_as selected text) GoesOn machine.now (selected_as selected text)) }
-    ensures stops { IfStops result (λ e. (text : List ℕ) → Does spec.end_where_last machine.now (selected_as selected text) (job_end e) machine.now (selected_as selected text)) }
+    ensures goes { IfOk result (λ _. (i : Inputs) (text : List ℕ) → Does spec.end_where_last machine.now (holding i selected text) GoesOn machine.now (holding i selected text)) }
+    ensures stops { IfStops result (λ e. (i : Inputs) (text : List ℕ) → Does spec.end_where_last machine.now (holding i selected text) (job_end e) machine.now (holding i selected text)) }
 {
     if machine.indicator(LAST_RECORD) || selected.is_none() {
         return Err(Stop::Ends(JobEnd::EndOfJob));
@@ -253,21 +256,51 @@ pub(crate) fn put_out_overflow<S: Store + Drop>(
     put_out(program, machine, OutputTime::Overflow)
 }
 
+/// Whether the selected record has a match, if one was selected.
+fn has_match(program: &Verified, kept: &Kept, selected: Option<usize>) -> bool
+    requires kept { AreFilesKept program.now kept.now }
+    requires held { HoldsSelected program.now kept.now selected }
+    ensures { result ≡ spec.if_selected (finds_match program.now (left_of kept.now) (inputs_of kept.now)) (holding_kept program.now kept.now selected).selected }
+{
+    match selected {
+        None => false,
+        Some(row) => kept.finds_match(program, row),
+    }
+}
+
+/// 8. MR shows whether the selected record has a match.
+pub(crate) fn show_match<S: Store + Drop>(
+    program: &Verified,
+    machine: &mut Machine<S>,
+    kept: &Kept,
+    selected: Option<usize>,
+)
+    requires program { machine.old.program ≡ program.now }
+    requires ready { IsReady machine.old }
+    requires kept { AreFilesKept program.now kept.now }
+    requires held { HoldsSelected program.now kept.now selected }
+    ensures goes { let h = holding_kept program.now kept.now selected in Does (spec.show_match (finds_match program.now (left_of kept.now))) machine.old h GoesOn machine.new h }
+    ensures program { machine.new.program ≡ program.now }
+    ensures ready { IsReady machine.new }
+    ensures spends { Spends program.now 0 machine.old machine.new }
+{
+    let is_matched = has_match(program, kept, selected);
+    machine.set_indicator(MATCHING_RECORD, is_matched);
+}
+
 /// 8. The columns of the selected record become values of fields.
 pub(crate) fn fill_fields<S: Store + Drop>(
     program: &Verified,
     machine: &mut Machine<S>,
+    kept: &Kept,
     selected: Option<usize>,
-    text: &[u8],
 ) -> Result<(), Stop>
     requires program { machine.old.program ≡ program.now }
     requires ready { IsReady machine.old }
     requires few { machine.old.config.steps ≤ 2 ^ 60 }
-    requires there { ForSome selected (λ t. t < length program.now.types) }
-    requires whole { ForSome selected (λ t. IsFilledAs program.now t text.now) }
-    requires characters { ForSome selected (λ _. All IsCharacter text.now) }
-    ensures goes { IfOk result (λ _. Does (spec.fill_fields program.now) machine.old (selected_as selected text.now) GoesOn machine.new (selected_as selected text.now)) }
-    ensures stops { IfStops result (λ e. Does (spec.fill_fields program.now) machine.old (selected_as selected text.now) (job_end e) machine.new (selected_as selected text.now)) }
+    requires held { HoldsSelected program.now kept.now selected }
+    ensures goes { IfOk result (λ _. (i : Inputs) → let h = holding i selected (text_in program.now kept.now selected) in Does (spec.fill_fields program.now) machine.old h GoesOn machine.new h) }
+    ensures stops { IfStops result (λ e. (i : Inputs) → let h = holding i selected (text_in program.now kept.now selected) in Does (spec.fill_fields program.now) machine.old h (job_end e) machine.new h) }
     ensures program { IfOk result (λ _. machine.new.program ≡ program.now) }
     ensures ready { IfOk result (λ _. IsReady machine.new) }
     ensures spends { UnlessNoMemory result (Spends program.now (inputs_weight program.now selected) machine.old machine.new) }
@@ -275,7 +308,7 @@ pub(crate) fn fill_fields<S: Store + Drop>(
     match selected {
         None => Ok(()),
         Some(row) => {
-            let end = machine.fill_fields(row, text);
+            let end = machine.fill_fields(row, kept.text(program, row));
             go_on(end)
         }
     }

@@ -1,7 +1,10 @@
 //! Whole runs of a program over records.
 ghost use Rattle.std.specs.Prelude.{◌≡◌, ◌↔◌, ◌≤◌, ◌+◌, None, IfOk, IsErrOf, [], length, true};
 ghost use Rattle.rpg_cycle_records.specs.Earlier.{left_by};
-ghost use Rattle.rpg_cycle.specs.Running.{RunsRecords, RunsWhole, texts};
+ghost use Rattle.std.specs.Option.{option_map};
+ghost use Rattle.rpg_cycle.specs.Running.{RunsRecords, RunsWhole, records_in, texts};
+ghost use Rattle.rpg_cycle.specs.Runs.{next_of, rest_of};
+ghost use Rattle.rpg_cycle_records.specs.Waiting.{unread};
 ghost use Rattle.rpg_cycle.specs.Stages.{is_going};
 ghost use Rattle.rpg_cycle.specs.Starting.{date_in};
 ghost use Rattle.rpg_verify.specs.Bound.{bound};
@@ -31,21 +34,21 @@ pub struct Summary {
     pub most: u64,
 }
 
-/// Runs a program over records, on a date of six digits: a cycle for each, and one for the end of the file, until one
-/// ends the job.
+/// Runs a program over the records of its two files, on a date of six digits, until a cycle ends the job.
 pub fn run_records(
     alloc: Global,
     program: &Verified,
     date: &[u8],
-    records: &[Vec<u8>],
+    primary: &[Vec<u8>],
+    secondary: &[Vec<u8>],
 ) -> Result<Run, StartFault>
-    ensures run { IfOk result (λ r. RunsWhole program.now date.now (texts records.now) r) }
+    ensures run { IfOk result (λ r. RunsWhole program.now date.now (records_in primary.now secondary.now) r) }
     ensures date { IsErrOf result StartFault.BadDate ↔ (date_in date.now ≡ None) }
-    ensures cycles { IfOk result (λ r. r.cycles ≤ length records.now + 1) }
+    ensures cycles { IfOk result (λ r. r.cycles ≤ length primary.now + length secondary.now + 1) }
     ensures bound { IfOk result (λ r. r.most ≤ bound program.now) }
 {
     let mut job = Job::<FlatStore>::start(alloc, program, date)?;
-    let summary = run_on(&mut job, records)?;
+    let summary = run_on(&mut job, primary, secondary)?;
     Ok(Run {
         ending: summary.ending,
         cycles: summary.cycles,
@@ -54,19 +57,42 @@ pub fn run_records(
     })
 }
 
+/// The first of some records, where it is needed, with those behind it.
+fn split_needed(is_needed: bool, records: &[Vec<u8>]) -> (Option<&[u8]>, &[Vec<u8>])
+    ensures next { option_map (λ t. t.now) result.0 ≡ next_of is_needed (texts records.now) }
+    ensures rest { texts result.1.now ≡ rest_of is_needed (texts records.now) }
+{
+    match records.split_first() {
+        Some((first, rest)) if is_needed => (Some(first), rest),
+        Some(_) | None => (None, records),
+    }
+}
+
 /// Runs a job that goes on over the records that are left, to its end.
-fn run_on<S: Store + Drop>(job: &mut Job<S>, records: &[Vec<u8>]) -> Result<Summary, AllocError>
+fn run_on<S: Store + Drop>(
+    job: &mut Job<S>,
+    primary: &[Vec<u8>],
+    secondary: &[Vec<u8>],
+) -> Result<Summary, AllocError>
     requires going { is_going job.old.stage ≡ true }
     requires first { job.old.left ≡ left_by job.old.program [] }
+    requires unread { job.old.inputs ≡ unread }
     requires top { job.old.last ≡ None }
-    ensures runs { IfOk result (λ s. RunsRecords job.old (texts records.now) s job.new) }
-    ensures cycles { IfOk result (λ s. s.cycles ≤ length records.now + 1) }
+    ensures runs { IfOk result (λ s. RunsRecords job.old (records_in primary.now secondary.now) s job.new) }
+    ensures cycles { IfOk result (λ s. s.cycles ≤ length primary.now + length secondary.now + 1) }
     ensures bound { IfOk result (λ s. s.most ≤ bound job.old.program) }
 {
     let mut cycles = 0u64;
     let mut most = 0u64;
-    for text in records {
-        let progress = job.cycle_on(Some(text))?;
+    let mut primary = primary;
+    let mut secondary = secondary;
+    loop {
+        let need = job.needs();
+        let (first, others) = split_needed(need.primary, primary);
+        let (second, rest) = split_needed(need.secondary, secondary);
+        let progress = job.cycle_on(first, second)?;
+        primary = others;
+        secondary = rest;
         cycles += 1;
         most = most.max(job.steps());
         match progress {
@@ -78,14 +104,5 @@ fn run_on<S: Store + Drop>(job: &mut Job<S>, records: &[Vec<u8>]) -> Result<Summ
             }),
             Progress::Failed => unreachable!(),
         }
-    }
-    match job.cycle_on(None)? {
-        Progress::Ended(ending) => Ok(Summary {
-            ending,
-            cycles: cycles + 1,
-            most: most.max(job.steps()),
-        }),
-        Progress::Going => unreachable!(),
-        Progress::Failed => unreachable!(),
     }
 }

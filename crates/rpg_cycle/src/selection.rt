@@ -1,25 +1,32 @@
-//! A record is read, identified and compared.
-ghost use Rattle.std.specs.Prelude.{◌≡◌, ◌^◌, ◌<◌, ◌≤◌, All, IfOk, OnOk, Some, None, length, true};
+//! Records are taken in, and one is selected.
+ghost use Rattle.std.specs.Prelude.{◌≡◌, ◌+◌, ◌^◌, ◌<◌, ◌≤◌, All, IfOk, OnOk, Some, None, length, slice_get, true};
 ghost use Rattle.std.specs.Option.{ForSome, option_map};
-ghost use Rattle.rpg_cycle.specs.Doing.{Does};
+ghost use Rattle.rpg_cycle.specs.Doing.{Does, holding_kept, unselected};
 ghost use Rattle.rpg_cycle_records.specs.Earlier as earlier;
+ghost use Rattle.rpg_cycle_records.specs.Earlier.{Left};
 ghost use Rattle.rpg_cycle.specs.Ends.{GoesOn};
 ghost use Rattle.rpg_cycle_records.specs.Fitting.{IsFilledAs};
+ghost use Rattle.rpg_cycle_records.specs.Holding.{AreFilesKept, HoldsRecord, HoldsSelected, IsFileKept, input_of, inputs_of, text_in};
 ghost use Rattle.rpg_cycle_records.specs.Identifying.{is_good_record};
 ghost use Rattle.rpg_cycle.specs.Indicators as lights;
-ghost use Rattle.rpg_cycle_records.specs.Keeping.{left_of, renewed_by, seen_levels, selected_as};
+ghost use Rattle.rpg_cycle_records.specs.Keeping.{left_of, renewed_by, seen_levels, seen_value};
+ghost use Rattle.rpg_cycle_records.specs.Waiting.{Inputs, input_at, with_input};
 ghost use Rattle.rpg_machine.specs.Ready.{IsReady};
 ghost use Rattle.rpg_cycle.specs.Phases as spec;
-ghost use Rattle.rpg_cycle.specs.Selecting.{HasRead, IsCompared, IsUntaken, TakesType};
-ghost use Rattle.rpg_cycle.specs.Spending.{Selects, Spends};
-ghost use Rattle.rpg_cycle.specs.Stages.{IfStops, job_end};
+ghost use Rattle.rpg_cycle.specs.Selecting.{HasRead, HasSelected, IsCompared, IsUntaken, TakesType, with_seen};
+ghost use Rattle.rpg_cycle.specs.Spending.{Selects, Spends, TakesIn, compared_weight};
+ghost use Rattle.rpg_cycle.specs.Stages.{IfStops, UnlessNoMemory, job_end};
 ghost use Rattle.rpg_effect.specs.Weights.{types_weight};
 ghost use Rattle.rpg_object_program.specs.Kept.{IsCharacter};
+ghost use Rattle.rpg_object_program.specs.Object.{input_length};
 
 use crate::ends::{JobEnd, Stop};
 use crate::indicators::{LAST_RECORD, LEVELS, turn_all, turn_type_on};
 use crate::program::indicator_of;
-use rpg_cycle_records::{Kept, LastBytes, compare, control_fields, fill, identify, is_good};
+use rpg_cycle_records::{
+    Kept, KeptFile, LastBytes, LastValues, MatchValue, chosen, compare, control_fields, fill,
+    identify, is_good, match_fields,
+};
 use rpg_effect::halt::Halt;
 use rpg_effect::input::InputFile;
 use rpg_machine::Machine;
@@ -36,30 +43,87 @@ fn turn_levels_on<S: Store + Drop>(machine: &mut Machine<S>, n: usize)
     turn_all(machine, &LEVELS[..n], true);
 }
 
-/// Identifies a record: its type's indicator goes on.
+/// Identifies a record of a file.
 fn take_type<S: Store + Drop>(
     program: &Verified,
     machine: &mut Machine<S>,
+    file: InputFile,
     text: &[u8],
 ) -> Result<usize, Stop>
     requires few { machine.old.config.steps ≤ 2 ^ 50 }
-    requires whole { length text.now ≡ program.now.record_length }
-    ensures goes { IfOk result (λ t. TakesType program.now text.now machine.old t machine.new) }
-    ensures stops { IfStops result (λ e. IsUntaken program.now text.now machine.old e machine.new) }
+    requires whole { length text.now ≡ input_length program.now file }
+    ensures goes { IfOk result (λ t. TakesType program.now file text.now machine.old t machine.new) }
+    ensures stops { IfStops result (λ e. IsUntaken program.now file text.now machine.old e machine.new) }
     ensures ready { IfOk result (λ _. IsReady machine.old → IsReady machine.new) }
 {
-    let found = identify(program, InputFile::Primary, text);
+    let found = identify(program, file, text);
     machine.charge(found.codes);
     match found.row {
         None => Err(Stop::Ends(JobEnd::Halt(Halt::NoRecordType))),
-        Some(row) => {
-            turn_type_on(machine, indicator_of(program, row));
-            Ok(row)
-        }
+        Some(row) => Ok(row),
     }
 }
 
-/// Compares the control fields of a record with the last bytes of their levels, and keeps them.
+/// Takes a record in: it is filled and identified, and waits unless its match value is lower than the file's last one.
+fn read<S: Store + Drop>(
+    program: &Verified,
+    machine: &mut Machine<S>,
+    kept: &mut KeptFile,
+    last: &MatchValue,
+    file: InputFile,
+    text: &[u8],
+) -> Result<(), Stop>
+    requires few { machine.old.config.steps ≤ 2 ^ 50 }
+    ensures goes { IfOk result (λ _. (left : Left) (i : Inputs) → earlier.last_of_file left file ≡ seen_value last.now → input_at i file ≡ input_of kept.old → HasRead program.now left file (Some text.now) i machine.old GoesOn machine.new (with_input file (input_of kept.new) i)) }
+    ensures stops { IfStops result (λ e. (left : Left) (i : Inputs) → earlier.last_of_file left file ≡ seen_value last.now → HasRead program.now left file (Some text.now) i machine.old (job_end e) machine.new i) }
+    ensures ready { IfOk result (λ _. IsReady machine.old → IsReady machine.new) }
+    ensures program { IfOk result (λ _. machine.new.program ≡ machine.old.program) }
+    ensures takes { UnlessNoMemory result (TakesIn program.now file machine.old machine.new) }
+    ensures few { IfOk result (λ _. machine.new.config.steps ≤ machine.old.config.steps + 20009) }
+    ensures kept { IfOk result (λ _. IsFileKept program.now file kept.new) }
+{
+    if !is_good(program, file, text) {
+        return Err(Stop::Ends(JobEnd::Halt(Halt::BadRecord)));
+    }
+    fill(&mut kept.record, program, file, text)?;
+    let row = take_type(program, machine, file, &kept.record)?;
+    machine.charge(match_fields(program, row).len() as u32);
+    if !kept.wait(program, row, last)? {
+        return Err(Stop::Ends(JobEnd::Halt(Halt::OutOfSequence)));
+    }
+    Ok(())
+}
+
+/// A file that is there, not at its end and without a waiting record takes one in.
+fn take_in<S: Store + Drop>(
+    program: &Verified,
+    machine: &mut Machine<S>,
+    kept: &mut KeptFile,
+    last: &MatchValue,
+    file: InputFile,
+    next: Option<&[u8]>,
+) -> Result<(), Stop>
+    requires few { machine.old.config.steps ≤ 2 ^ 50 }
+    requires kept { IsFileKept program.now file kept.old }
+    ensures goes { IfOk result (λ _. (left : Left) (i : Inputs) → earlier.last_of_file left file ≡ seen_value last.now → input_at i file ≡ input_of kept.old → Does (spec.take_in program.now left file (option_map (λ x. x.now) next.entry)) machine.old (unselected i) GoesOn machine.new (unselected (with_input file (input_of kept.new) i))) }
+    ensures stops { IfStops result (λ e. (left : Left) (i : Inputs) → earlier.last_of_file left file ≡ seen_value last.now → input_at i file ≡ input_of kept.old → Does (spec.take_in program.now left file (option_map (λ x. x.now) next.entry)) machine.old (unselected i) (job_end e) machine.new (unselected i)) }
+    ensures ready { IfOk result (λ _. IsReady machine.old → IsReady machine.new) }
+    ensures program { IfOk result (λ _. machine.new.program ≡ machine.old.program) }
+    ensures takes { UnlessNoMemory result (TakesIn program.now file machine.old machine.new) }
+    ensures few { IfOk result (λ _. machine.new.config.steps ≤ machine.old.config.steps + 20009) }
+    ensures kept { IfOk result (λ _. IsFileKept program.now file kept.new) }
+{
+    if !kept.takes_in(program, file) {
+        return Ok(());
+    }
+    let Some(text) = next else {
+        kept.is_over = true;
+        return Ok(());
+    };
+    read(program, machine, kept, last, file, text)
+}
+
+/// The indicator of a record's type goes on; its control fields are compared with the last bytes of their levels, and kept.
 fn compare_levels<S: Store + Drop>(
     program: &Verified,
     machine: &mut Machine<S>,
@@ -71,9 +135,10 @@ fn compare_levels<S: Store + Drop>(
     requires nine { length levels.old ≡ 9 }
     requires there { row < length program.now.types }
     requires whole { IsFilledAs program.now row text.now }
-    ensures compared { OnOk result (IsCompared (earlier.control_fields program.now row) text.now (seen_levels levels.old) machine.old machine.new (seen_levels levels.new)) }
+    ensures compared { OnOk result (IsCompared (spec.type_indicator (slice_get program.now.types row)) (earlier.control_fields program.now row) text.now (seen_levels levels.old) machine.old machine.new (seen_levels levels.new)) }
     ensures ready { OnOk result (IsReady machine.old → IsReady machine.new) }
 {
+    turn_type_on(machine, indicator_of(program, row));
     let fields = control_fields(program, row);
     machine.charge(fields.len() as u32);
     let broken = compare(levels, fields, text)?;
@@ -81,66 +146,114 @@ fn compare_levels<S: Store + Drop>(
     Ok(())
 }
 
-/// Reads a record: it is filled, identified and compared.
-fn read<S: Store + Drop>(
+/// Selects the record that waits in a file: it waits no longer.
+fn select_waiting<S: Store + Drop>(
+    program: &Verified,
+    machine: &mut Machine<S>,
+    levels: &mut [LastBytes],
+    values: &mut LastValues,
+    kept: &mut KeptFile,
+) -> Result<Option<usize>, AllocError>
+    requires few { machine.old.config.steps ≤ 2 ^ 51 }
+    requires nine { length levels.old ≡ 9 }
+    requires held { ForSome kept.old.waiting (λ t. HoldsRecord program.now (earlier.file_of (slice_get program.now.types t)) kept.old t) }
+    ensures goes { IfOk result (λ t. (file : InputFile) (left : Left) (i : Inputs) → input_at i file ≡ input_of kept.old → HasSelected program.now (with_seen levels.old values.old left) file i machine.old t kept.new.record.items machine.new (with_input file (input_of kept.new) i)) }
+    ensures row { IfOk result (λ t. t ≡ kept.old.waiting) }
+    ensures file { IfOk result (λ _. kept.new ≡ record kept.old { waiting = None }) }
+    ensures program { IfOk result (λ _. machine.new.program ≡ machine.old.program) }
+    ensures ready { IfOk result (λ _. IsReady machine.old → IsReady machine.new) }
+    ensures spends { IfOk result (λ t. Spends program.now (compared_weight program.now t) machine.old machine.new) }
+    ensures left { IfOk result (λ t. (l : Left) → with_seen levels.new values.new l ≡ renewed_by program.now t kept.new.record.items (with_seen levels.old values.old l)) }
+{
+    let Some(row) = kept.waiting else {
+        return Ok(None);
+    };
+    kept.waiting = None;
+    compare_levels(program, machine, levels, row, &kept.record)?;
+    values.keep(program, row, &kept.record)?;
+    Ok(Some(row))
+}
+
+/// Selects one of the records that wait; where none does, LR and L1 to L9 go on.
+fn select_one<S: Store + Drop>(
     program: &Verified,
     machine: &mut Machine<S>,
     kept: &mut Kept,
-    text: &[u8],
-) -> Result<usize, Stop>
-    requires few { machine.old.config.steps ≤ 2 ^ 50 }
+) -> Result<Option<usize>, AllocError>
+    requires few { machine.old.config.steps ≤ 2 ^ 51 }
     requires nine { length kept.old.levels.items ≡ 9 }
-    ensures goes { IfOk result (λ t. HasRead program.now (left_of kept.old) text.now machine.old GoesOn machine.new (selected_as (Some t) kept.new.record.items)) }
-    ensures stops { IfStops result (λ e. HasRead program.now (left_of kept.old) text.now machine.old (job_end e) machine.new None) }
+    requires kept { AreFilesKept program.now kept.old }
+    ensures goes { IfOk result (λ t. Does (spec.select_one program.now (left_of kept.old)) machine.old (unselected (inputs_of kept.old)) GoesOn machine.new (holding_kept program.now kept.new t)) }
+    ensures program { IfOk result (λ _. machine.new.program ≡ machine.old.program) }
     ensures ready { IfOk result (λ _. IsReady machine.old → IsReady machine.new) }
-    ensures spends { IfStops result (λ _. Spends program.now (types_weight program.now.types) machine.old machine.new) }
-    ensures selects { IfOk result (λ t. Selects program.now (Some t) machine.old machine.new) }
-    ensures there { IfOk result (λ t. t < length program.now.types) }
-    ensures whole { IfOk result (λ t. IsFilledAs program.now t kept.new.record.items) }
-    ensures characters { IfOk result (λ _. All IsCharacter kept.new.record.items) }
-    ensures kept { IfOk result (λ t. left_of kept.new ≡ renewed_by program.now (Some t) kept.new.record.items (left_of kept.old)) }
+    ensures spends { IfOk result (λ t. Spends program.now (compared_weight program.now t) machine.old machine.new) }
+    ensures held { IfOk result (λ t. HoldsSelected program.now kept.new t) }
+    ensures kept { IfOk result (λ t. AreFilesKept program.now kept.new) }
+    ensures left { IfOk result (λ t. left_of kept.new ≡ renewed_by program.now t (text_in program.now kept.new t) (left_of kept.old)) }
 {
-    if !is_good(program, InputFile::Primary, text) {
-        return Err(Stop::Ends(JobEnd::Halt(Halt::BadRecord)));
+    match chosen(program, &kept.primary, &kept.secondary) {
+        None => {
+            machine.set_indicator(LAST_RECORD, true);
+            turn_all(machine, &LEVELS, true);
+            Ok(None)
+        }
+        Some(InputFile::Primary) => {
+            let file = &mut kept.primary;
+            let row = select_waiting(program, machine, &mut kept.levels, &mut kept.values, file)?;
+            Ok(row)
+        }
+        Some(InputFile::Secondary) => {
+            let file = &mut kept.secondary;
+            let row = select_waiting(program, machine, &mut kept.levels, &mut kept.values, file)?;
+            Ok(row)
+        }
     }
-    fill(&mut kept.record, program, InputFile::Primary, text)?;
-    let row = take_type(program, machine, &kept.record)?;
-    compare_levels(program, machine, &mut kept.levels, row, &kept.record)?;
-    kept.values.keep(program, row, &kept.record)?;
-    Ok(row)
 }
 
-/// 4. A record is read, unless LR is on; at the end of the file LR and L1 to L9 go on.
+/// 4. Each file that needs one takes a record in, and one is selected, unless LR is on, where L1 to L9 go on.
 pub(crate) fn select_record<S: Store + Drop>(
     program: &Verified,
     machine: &mut Machine<S>,
     kept: &mut Kept,
-    next: Option<&[u8]>,
+    primary: Option<&[u8]>,
+    secondary: Option<&[u8]>,
 ) -> Result<Option<usize>, Stop>
     requires ready { IsReady machine.old }
-    requires few { machine.old.config.steps ≤ 2 ^ 50 }
+    requires few { machine.old.config.steps ≤ 2 ^ 49 }
     requires program { machine.old.program ≡ program.now }
     requires nine { length kept.old.levels.items ≡ 9 }
-    ensures goes { IfOk result (λ t. Does (spec.select_record program.now (left_of kept.old) (option_map (λ x. x.now) next.entry)) machine.old None GoesOn machine.new (selected_as t kept.new.record.items)) }
-    ensures stops { IfStops result (λ e. Does (spec.select_record program.now (left_of kept.old) (option_map (λ x. x.now) next.entry)) machine.old None (job_end e) machine.new None) }
+    requires kept { AreFilesKept program.now kept.old }
+    ensures goes { IfOk result (λ t. Does (spec.select_record program.now (left_of kept.old) (option_map (λ x. x.now) primary.entry) (option_map (λ x. x.now) secondary.entry)) machine.old (unselected (inputs_of kept.old)) GoesOn machine.new (holding_kept program.now kept.new t)) }
+    ensures stops { IfStops result (λ e. (i : Inputs) × Does (spec.select_record program.now (left_of kept.old) (option_map (λ x. x.now) primary.entry) (option_map (λ x. x.now) secondary.entry)) machine.old (unselected (inputs_of kept.old)) (job_end e) machine.new (unselected i)) }
     ensures program { IfOk result (λ _. machine.new.program ≡ program.now) }
     ensures ready { IfOk result (λ _. IsReady machine.new) }
     ensures spends { IfStops result (λ _. Spends program.now (types_weight program.now.types) machine.old machine.new) }
     ensures selects { IfOk result (λ t. Selects program.now t machine.old machine.new) }
-    ensures there { IfOk result (λ t. ForSome t (λ t. t < length program.now.types)) }
-    ensures whole { IfOk result (λ t. ForSome t (λ t. IsFilledAs program.now t kept.new.record.items)) }
-    ensures characters { IfOk result (λ t. ForSome t (λ _. All IsCharacter kept.new.record.items)) }
-    ensures kept { IfOk result (λ t. left_of kept.new ≡ renewed_by program.now t kept.new.record.items (left_of kept.old)) }
+    ensures held { IfOk result (λ t. HoldsSelected program.now kept.new t) }
+    ensures kept { IfOk result (λ t. AreFilesKept program.now kept.new) }
+    ensures left { IfOk result (λ t. left_of kept.new ≡ renewed_by program.now t (text_in program.now kept.new t) (left_of kept.old)) }
 {
     if machine.indicator(LAST_RECORD) {
         turn_all(machine, &LEVELS, true);
         return Ok(None);
     }
-    let Some(text) = next else {
-        machine.set_indicator(LAST_RECORD, true);
-        turn_all(machine, &LEVELS, true);
-        return Ok(None);
-    };
-    let row = read(program, machine, kept, text)?;
-    Ok(Some(row))
+    let last = &kept.values;
+    take_in(
+        program,
+        machine,
+        &mut kept.primary,
+        &last.primary,
+        InputFile::Primary,
+        primary,
+    )?;
+    take_in(
+        program,
+        machine,
+        &mut kept.secondary,
+        &last.secondary,
+        InputFile::Secondary,
+        secondary,
+    )?;
+    let row = select_one(program, machine, kept)?;
+    Ok(row)
 }

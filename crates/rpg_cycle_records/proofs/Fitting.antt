@@ -1,7 +1,6 @@
 -- What the rules and the format give of record types.
-use Rattle.std.proofs.Common.{◌≡◌, ℕ, List, true, get_or, All, sym, subst, arith}
+use Rattle.std.proofs.Common.{◌≡◌, ℕ, true, get_or, All, arith}
 use Rattle.std.proofs.lemmas.Bool.Decides.{nat_tests}
-use Rattle.std.proofs.lemmas.List.Elements.{All-nil}
 use Rattle.rpg_cycle_records.specs.Fitting.{IsCodeIn, IsControlIn, IsTypeFit}
 use Rattle.rpg_effect.specs.declared.input.ControlField.{ControlField}
 use Rattle.rpg_effect.specs.declared.input.RecordCode.{RecordCode}
@@ -16,7 +15,7 @@ code_in len c h = record { low = grind (arith, nat_tests, h); high = grind (arit
 control_in : (len : ℕ) (f : ControlField) → is_control_in len f ≡ true → IsControlIn len f
 control_in len f h = record { low = grind (arith, nat_tests, h); order = grind (arith, nat_tests, h); high = grind (arith, nat_tests, h) }
 
--- the types of an accepted program; as yet they have no match fields
+-- the types of an accepted program
 pub types_fit : (p : Object) → IsSound p → IsProgram p → All (IsTypeFit p) p.types
 types_fit p sound kept = λ k d inside.
     let s = sound.types k d inside in
@@ -29,5 +28,6 @@ types_fit p sound kept = λ k d inside.
       few_codes = t.few_codes;
       levels = λ i c l. control_in len (get_or row.levels i c) (s.levels i c l);
       few_levels = t.few_levels;
-      matches = subst (λ (fs : List ControlField). All (IsControlIn len) fs) (sym ((kept.plain kept.first_version).types k d inside).matches) (All-nil (IsControlIn len));
+      matches = λ i c l. control_in len (get_or row.matches i c) (s.matches i c l);
+      few_matches = t.few_matches;
     }

@@ -1,3 +1,4 @@
+pub mod Choosing
 pub mod Finding
 pub mod Fitting
 pub mod Fronts

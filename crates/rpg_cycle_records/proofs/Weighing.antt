@@ -13,11 +13,11 @@ codes_sum : List (TypeRow ℕ) → ℕ
 codes_sum [] = 0
 codes_sum (t ∷ ts) = length t.codes + codes_sum ts
 
-matches_sum : List (TypeRow ℕ) → ℕ
+pub matches_sum : List (TypeRow ℕ) → ℕ
 matches_sum [] = 0
 matches_sum (t ∷ ts) = length t.matches + matches_sum ts
 
-moved_sum : List (TypeRow ℕ) → ℕ
+pub moved_sum : List (TypeRow ℕ) → ℕ
 moved_sum [] = 0
 moved_sum (t ∷ ts) = (length t.levels + length t.inputs) + moved_sum ts
 
@@ -40,13 +40,13 @@ tried (t ∷ ts) x y =
     one_tried t.file (length t.codes) (trial_weight Primary ts x) (trial_weight Secondary ts y) (codes_sum ts)
     (list_all (has_position x) t.codes && not (list_all (code_holds x) t.codes)) (list_all (has_position y) t.codes && not (list_all (code_holds y) t.codes)) (tried ts x y)
 
-one_row : (ts : List (TypeRow ℕ)) (k : ℕ) → matches_at ts k ≤ matches_sum ts
+pub one_row : (ts : List (TypeRow ℕ)) (k : ℕ) → matches_at ts k ≤ matches_sum ts
 unfolding matches_sum
 one_row [] k = omega arith
 one_row (t ∷ ts) zero = omega arith
 one_row (t ∷ ts) (suc k) = let h = one_row ts k in omega (arith, h)
 
-two_rows : (ts : List (TypeRow ℕ)) (j k : ℕ) → file_of (slice_get ts j) ≡ Primary → file_of (slice_get ts k) ≡ Secondary → matches_at ts j + matches_at ts k ≤ matches_sum ts
+pub two_rows : (ts : List (TypeRow ℕ)) (j k : ℕ) → file_of (slice_get ts j) ≡ Primary → file_of (slice_get ts k) ≡ Secondary → matches_at ts j + matches_at ts k ≤ matches_sum ts
 unfolding matches_sum
 two_rows [] j k e f = omega arith
 two_rows (t ∷ ts) zero zero e f = let x : Primary ≡ Secondary = sym e ∙ f in absurd (cc)
@@ -54,11 +54,15 @@ two_rows (t ∷ ts) zero (suc k) e f = let h = one_row ts k in omega (arith, h)
 two_rows (t ∷ ts) (suc j) zero e f = let h = one_row ts j in omega (arith, h)
 two_rows (t ∷ ts) (suc j) (suc k) e f = let h = two_rows ts j k e f in omega (arith, h)
 
-row_moved : (ts : List (TypeRow ℕ)) (k : ℕ) → moved_of (slice_get ts k) ≤ moved_sum ts
+pub row_moved : (ts : List (TypeRow ℕ)) (k : ℕ) → moved_of (slice_get ts k) ≤ moved_sum ts
 unfolding moved_sum
 row_moved [] k = omega arith
 row_moved (t ∷ ts) zero = omega arith
 row_moved (t ∷ ts) (suc k) = let h = row_moved ts k in omega (arith, h)
+
+-- all types together, each once
+pub all_paid : (ts : List (TypeRow ℕ)) (x y : List ℕ) → trial_weight Primary ts x + trial_weight Secondary ts y + matches_sum ts + moved_sum ts ≤ types_weight ts
+all_paid ts x y = let a = tried ts x y in let d = all_sums ts in omega (arith, a, d)
 
 pub few : (ts : List (TypeRow ℕ)) (x y : List ℕ) (j k n : ℕ) → file_of (slice_get ts j) ≡ Primary → file_of (slice_get ts k) ≡ Secondary →
     trial_weight Primary ts x + matches_at ts j + (trial_weight Secondary ts y + matches_at ts k) + moved_of (slice_get ts n) ≤ types_weight ts

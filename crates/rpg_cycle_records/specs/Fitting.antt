@@ -28,6 +28,7 @@ pub record IsTypeIn (len : ℕ) (t : TypeRow ℕ) : Type 0 where
   pub levels : All (IsControlIn len) t.levels
   pub few_levels : length t.levels ≤ 100
   pub matches : All (IsControlIn len) t.matches
+  pub few_matches : length t.matches ≤ 9
 
 -- a type of that file fits records of that length
 abbrev pub IsTypeOf : InputFile → ℕ → TypeRow ℕ → Type 0

@@ -1,6 +1,7 @@
 pub mod Earlier
 pub mod Fitting
 pub mod Fronts
+pub mod Holding
 pub mod Identifying
 pub mod Keeping
 pub mod Levels

@@ -1,11 +1,17 @@
 //! What a job keeps from cycle to cycle.
-ghost use Rattle.std.specs.Prelude.{◌≡◌, ◌<◌, IfOk, None, length, replicate};
+ghost use Rattle.std.specs.Prelude.{◌≡◌, ◌<◌, ◌&&◌, ◌||◌, IfOk, None, Some, is_some, length, replicate, slice_get};
+ghost use Rattle.rpg_cycle_records.specs.Earlier.{file_of};
 ghost use Rattle.std.specs.Option.{ForSome};
-ghost use Rattle.rpg_cycle_records.specs.Keeping.{left_of, noted, nothing_left, seen_levels};
+ghost use Rattle.rpg_cycle_records.specs.Holding.{AreFilesKept, HoldsRecord, inputs_of, kept_at, record_in, text_in};
+ghost use Rattle.rpg_cycle_records.specs.Keeping.{left_of, noted, nothing_left, seen_levels, seen_value};
+ghost use Rattle.rpg_cycle_records.specs.Matching as values;
+ghost use Rattle.rpg_cycle_records.specs.Waiting as spec;
+ghost use Rattle.rpg_cycle_records.specs.Waiting.{unread};
 
+use crate::files::KeptFile;
 use crate::levels::LastBytes;
-use crate::matching::LastValues;
-use crate::program::{control_fields, input_length};
+use crate::matching::{LastValues, MatchValue};
+use crate::program::{control_fields, file_of};
 use rpg_effect::input::InputFile;
 use rpg_verify::Verified;
 use std::alloc::{AllocError, Global};
@@ -13,7 +19,7 @@ use std::alloc::{AllocError, Global};
 /// Bytes that the control fields of a level have together, at most.
 const LONGEST_LEVEL: usize = 256;
 
-/// What earlier records left, and the record of this cycle. Its room is made at once, so that a cycle allocates nothing.
+/// What earlier records left, and the files. Its room is made at once, so that a cycle allocates nothing.
 #[derive(Drop)]
 pub struct Kept {
     /// Whether a cycle selected a record.
@@ -23,35 +29,75 @@ pub struct Kept {
     /// Of each level, L1 first.
     pub levels: Vec<LastBytes>,
     pub values: LastValues,
-    /// The record that a cycle selects, filled to its length.
-    pub record: Vec<u8>,
+    pub primary: KeptFile,
+    pub secondary: KeptFile,
 }
 
 impl Kept {
-    /// Nothing is left yet. All room is made here: 256 bytes for each of nine levels and for the match value of each file, and a record
-    /// of the primary file.
+    /// Nothing is left yet, and no file was read. All room is made here: 256 bytes for each of nine levels, and of each file for two match
+    /// values and a record.
     pub fn new(alloc: Global, program: &Verified) -> Result<Kept, AllocError>
-        ensures { IfOk result (λ k. left_of k ≡ nothing_left) }
+        ensures left { IfOk result (λ k. left_of k ≡ nothing_left) }
+        ensures inputs { IfOk result (λ k. inputs_of k ≡ unread) }
+        ensures kept { IfOk result (λ k. AreFilesKept program.now k) }
     {
         Ok(Kept {
             has_any: false,
             has_control: false,
             levels: no_levels(alloc)?,
             values: LastValues::none(alloc)?,
-            record: Vec::with_capacity(alloc, input_length(program, InputFile::Primary))?,
+            primary: KeptFile::new(alloc, program, InputFile::Primary)?,
+            secondary: KeptFile::new(alloc, program, InputFile::Secondary)?,
         })
+    }
+
+    /// The record that was taken in last from the file of a type, the first of which is 0. It is filled to its length.
+    pub fn text(&self, program: &Verified, row: usize) -> &[u8]
+        requires { row < length program.now.types }
+        ensures { result.now ≡ record_in self.now (file_of (slice_get program.now.types row)) }
+    {
+        match file_of(program, row) {
+            InputFile::Primary => &self.primary.record,
+            InputFile::Secondary => &self.secondary.record,
+        }
+    }
+
+    /// Whether a record that was selected from a file has a match: the record that waits in the other file has its match value, or the
+    /// last one that was selected from there.
+    pub fn finds_match(&self, program: &Verified, row: usize) -> bool
+        requires held { HoldsRecord program.now (file_of (slice_get program.now.types row)) (kept_at self.now (file_of (slice_get program.now.types row))) row }
+        requires kept { AreFilesKept program.now self.now }
+        ensures { result ≡ spec.finds_match program.now (left_of self.now) (inputs_of self.now) (record { type = row; text = text_in program.now self.now (Some row) }) }
+    {
+        match file_of(program, row) {
+            InputFile::Primary => {
+                is_matched(&self.primary.value, &self.secondary, &self.values.secondary)
+            }
+            InputFile::Secondary => {
+                is_matched(&self.secondary.value, &self.primary, &self.values.primary)
+            }
+        }
     }
 
     /// Notes that a record was selected, if one was: the row of its type, the first being 0.
     pub fn note(&mut self, program: &Verified, selected: Option<usize>)
         requires { ForSome selected (λ t. t < length program.now.types) }
-        ensures { left_of self.new ≡ noted program.now selected (left_of self.old) }
+        ensures left { left_of self.new ≡ noted program.now selected (left_of self.old) }
+        ensures inputs { inputs_of self.new ≡ inputs_of self.old }
+        ensures kept { AreFilesKept program.now self.old → AreFilesKept program.now self.new }
     {
         if let Some(row) = selected {
             self.has_any = true;
             self.has_control = self.has_control || !control_fields(program, row).is_empty();
         }
     }
+}
+
+/// Whether a value is that of the record that waits in a file, or the file's last one.
+fn is_matched(value: &MatchValue, other: &KeptFile, last: &MatchValue) -> bool
+    ensures { result ≡ ((is_some other.now.waiting && values.agrees (seen_value value.now) (seen_value other.now.value)) || values.agrees (seen_value value.now) (seen_value last.now)) }
+{
+    (other.waiting.is_some() && value.agrees(&other.value)) || value.agrees(last)
 }
 
 /// Nine levels that no record has had.

@@ -13,7 +13,7 @@ use std::alloc::{AllocError, Global};
 use std::cmp::Ordering;
 
 /// Bytes that the match fields of a type have together, at most.
-const LONGEST_VALUE: usize = 256;
+pub(crate) const LONGEST_VALUE: usize = 256;
 
 /// The match value of a record, which has none where its type has no match fields.
 #[derive(Drop)]

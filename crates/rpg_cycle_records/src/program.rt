@@ -57,16 +57,17 @@ pub fn control_fields(program: &Verified, row: usize) -> &[ControlField]
 }
 
 /// The match fields of a type, 9 at most; the first row is 0.
-pub(crate) fn match_fields(program: &Verified, row: usize) -> &[ControlField]
+pub fn match_fields(program: &Verified, row: usize) -> &[ControlField]
     requires { row < length program.now.types }
     ensures value { result.now ≡ earlier.match_fields program.now row }
     ensures inside { All (IsControlIn (length_of program.now (earlier.file_of (slice_get program.now.types row)))) result.now }
+    ensures few { length result.now ≤ 9 }
 {
     type_at(program, row).matches.as_slice()
 }
 
 /// The file of a type; the first row is 0.
-pub(crate) fn file_of(program: &Verified, row: usize) -> InputFile
+pub fn file_of(program: &Verified, row: usize) -> InputFile
     requires { row < length program.now.types }
     ensures { result ≡ earlier.file_of (slice_get program.now.types row) }
 {

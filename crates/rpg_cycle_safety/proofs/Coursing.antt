@@ -1,78 +1,86 @@
 -- A run of an accepted program, cycle by cycle.
-use Rattle.std.proofs.Common.{◌≡◌, ℕ, ℤ, ◌≤◌, List, [], ◌∷◌, length, None, Some, refl, subst, arith, nat_cmp}
+use Rattle.std.proofs.Common.{◌≡◌, ℕ, zero, suc, ℤ, ◌+◌, ◌<◌, ◌≤◌, ◌^◌, List, [], refl, subst, arith, nat_cmp, unsigned_abs}
 use Rattle.std.specs.FinMap as map
-use Rattle.rpg_cycle.proofs.Ending.{few_cycles, never_on}
+use Rattle.rpg_cycle.proofs.Counting.{own_count}
+use Rattle.rpg_cycle.proofs.Cycling.{at_first, keeps}
+use Rattle.rpg_cycle.proofs.Ending.{few_cycles, shorter}
 use Rattle.rpg_cycle.proofs.OneRun.{runs_same}
-use Rattle.rpg_cycle_records.specs.Earlier.{Selected, left_by, with_record}
+use Rattle.rpg_cycle.specs.Counting.{records_count, waiting_count}
 use Rattle.rpg_cycle.specs.Ends.{PhaseEnd, GoesOn, EndOfJob, Halt, Wrong}
-use Rattle.rpg_cycle.specs.Phases.{Cycle, UnderWay, begun}
-use Rattle.rpg_cycle.specs.Runs.{Course, IsRun, Runs, last_cycle, printed, stored, with_cycle}
+use Rattle.rpg_cycle.specs.Phases.{UnderWay, begun, needs_record}
+use Rattle.rpg_cycle.specs.Runs.{Course, IsRun, Records, RunsIn, last_cycle, left_behind, next_of, printed, stored, with_cycle}
 use Rattle.rpg_cycle.specs.Starting.{job_first_world, job_start}
+use Rattle.rpg_cycle_records.specs.Earlier.{Selected, with_record}
+use Rattle.rpg_cycle_records.specs.Merging as merging
+use Rattle.rpg_cycle_records.specs.Waiting.{Inputs, unread}
 use Rattle.rpg_effect.specs.Put.{Bytes}
 use Rattle.rpg_effect.specs.World.{Fields}
+use Rattle.rpg_effect.specs.declared.input.InputFile.TheVariants.{Primary, Secondary}
 use Rattle.rpg_cycle_safety.specs.Holding.{Holds}
+use Rattle.rpg_cycle_safety.specs.Waiting.{AreWaiting}
 use Rattle.rpg_machine.specs.Accepted.{IsOrderly}
 use Rattle.rpg_machine.specs.Config.{Config, Output}
 use Rattle.rpg_object_program.specs.Object.{Object}
 use Rattle.rpg_cycle_safety.proofs.Cycling.{has_cycle}
 use Rattle.rpg_cycle_safety.proofs.Dating.{start_holds}
-use Rattle.rpg_cycle_safety.specs.Coming.{CyclesWell, HasRun, IsJobEnd, RunsWell}
+use Rattle.rpg_cycle_safety.proofs.Selecting.{unread_waits}
+use Rattle.rpg_cycle_safety.specs.Coming.{CyclesWell, HasRun, IsJobEnd, RunsWell, next_cycle}
 use Rattle.rpg_verify.specs.Bound.{bound}
-use Rattle.std.proofs.Common.{◌<◌, ◌^◌, unsigned_abs}
 
--- the course of a run, which ends and stays in the bound
-record HasCourse (p : Object) (earlier : List Selected) (records : List (List ℕ)) (c : Config) : Type 0 where
+-- the course of a run of at most so many cycles, which ends and stays in the bound
+record HasCourse (n : ℕ) (p : Object) (earlier : List Selected) (records : Records) (c : Config) (i : Inputs) : Type 0 where
   pub course : Course
-  pub runs : Runs p earlier records c course
+  pub runs : RunsIn n p earlier records c i course
   pub ending : IsJobEnd course.ending
   pub few : course.most ≤ bound p
 
 module _ (p : Object) (orderly : IsOrderly p) where
-  at_file : (earlier : List Selected) (c : Config) (e : PhaseEnd) (d : UnderWay) (out : Output) → Cycle p earlier None (begun p c) e d out →
-      CyclesWell p e d → HasCourse p earlier [] c
-  at_file earlier c GoesOn d out cycle well = absurd (never_on p (left_by p earlier) c d out cycle)
-  at_file earlier c EndOfJob d out cycle well = record { course = last_cycle EndOfJob d out; runs = (EndOfJob, d, out, cycle, refl); ending = tt; few = well.few }
-  at_file earlier c (Halt k) d out cycle well = record { course = last_cycle (Halt k) d out; runs = (Halt k, d, out, cycle, refl); ending = well.ending; few = well.few }
-  at_file earlier c (Wrong f) d out cycle well = absurd well.ending
+  -- there is a run from wherever fewer records than that wait or are left
+  abbrev RunsFrom : ℕ → Type 0
+  RunsFrom n = (earlier : List Selected) (rs : Records) (c : Config) (i : Inputs) → Holds p c.world → c.cells ≡ map.empty → AreWaiting p i → merging.IsOrderly p earlier i →
+      waiting_count i + records_count rs < n → HasCourse n p earlier rs c i
 
-  -- the rest runs from wherever a cycle leads
-  abbrev RestRuns : List (List ℕ) → Type 0
-  RestRuns rs = (earlier : List Selected) (c : Config) → Holds p c.world → c.cells ≡ map.empty → HasCourse p earlier rs c
-
-  at_record : (rs : List (List ℕ)) → RestRuns rs → (earlier : List Selected) (r : List ℕ) (c : Config) (e : PhaseEnd) (d : UnderWay) (out : Output) →
-      Cycle p earlier (Some r) (begun p c) e d out → CyclesWell p e d →
-      HasCourse p earlier (r ∷ rs) c
-  at_record rs next earlier r c GoesOn d out cycle well =
-      let rest = next (with_record d.selected earlier) d.config well.values (well.no_cell refl) in
+  by_cycle : (n : ℕ) → RunsFrom n → (earlier : List Selected) (rs : Records) (c : Config) (i : Inputs) → merging.IsOrderly p earlier i → waiting_count i + records_count rs < suc n →
+      (e : PhaseEnd) (d : UnderWay) (out : Output) → next_cycle p earlier rs c i (begun p c i) e d out → CyclesWell p e d → HasCourse (suc n) p earlier rs c i
+  by_cycle n next earlier rs c i order enough GoesOn d out cycle well =
+      let fewer = shorter p earlier rs c i d out order cycle in
+      let order_kept = keeps p earlier (next_of (needs_record p c i Primary) rs.primary) (next_of (needs_record p c i Secondary) rs.secondary) c i d out order cycle in
+      let rest = next (with_record d.selected earlier) (left_behind p c i rs) d.config d.inputs well.values (well.no_cell refl) well.waiting order_kept (omega (arith, fewer, enough)) in
       let one = well.few in
       let others = rest.few in
       record { course = with_cycle d.config out rest.course; runs = (GoesOn, d, out, cycle, (rest.course, rest.runs, refl)); ending = rest.ending; few = omega (arith, one, others) }
-  at_record rs next earlier r c EndOfJob d out cycle well = record { course = last_cycle EndOfJob d out; runs = (EndOfJob, d, out, cycle, refl); ending = tt; few = well.few }
-  at_record rs next earlier r c (Halt k) d out cycle well = record { course = last_cycle (Halt k) d out; runs = (Halt k, d, out, cycle, refl); ending = well.ending; few = well.few }
-  at_record rs next earlier r c (Wrong f) d out cycle well = absurd well.ending
+  by_cycle n next earlier rs c i order enough EndOfJob d out cycle well =
+      record { course = last_cycle EndOfJob d out; runs = (EndOfJob, d, out, cycle, refl); ending = tt; few = well.few }
+  by_cycle n next earlier rs c i order enough (Halt k) d out cycle well =
+      record { course = last_cycle (Halt k) d out; runs = (Halt k, d, out, cycle, refl); ending = well.ending; few = well.few }
+  by_cycle n next earlier rs c i order enough (Wrong f) d out cycle well = absurd well.ending
 
-  courses : (records : List (List ℕ)) → RestRuns records
-  courses [] earlier c h none = let one = has_cycle p orderly earlier None c h none in at_file earlier c one.ending one.last one.output one.cycle one.well
-  courses (r ∷ rs) earlier c h none =
-      let one = has_cycle p orderly earlier (Some r) c h none in at_record rs (courses rs) earlier r c one.ending one.last one.output one.cycle one.well
+  courses : (n : ℕ) → RunsFrom n
+  courses zero earlier rs c i h none waiting order enough = absurd (omega (arith, enough))
+  courses (suc n) earlier rs c i h none waiting order enough =
+      let one = has_cycle p orderly earlier (next_of (needs_record p c i Primary) rs.primary) (next_of (needs_record p c i Secondary) rs.secondary) c i h none waiting in
+      by_cycle n (courses n) earlier rs c i order enough one.ending one.last one.output one.cycle one.well
 
   -- there is a run, on any date
-  pub has_run : (date : ℤ) (fields : Fields nat_cmp) (records : List (List ℕ)) → unsigned_abs date < 10 ^ 6 → Holds p (job_first_world fields) →
+  pub has_run : (date : ℤ) (fields : Fields nat_cmp) (records : Records) → unsigned_abs date < 10 ^ 6 → Holds p (job_first_world fields) →
       HasRun p date fields records
   has_run date fields records small h =
-      let one = courses records [] (job_start p date fields) (start_holds p orderly.program date small fields h) refl in
+      let start = job_start p date fields in
+      let n = suc (records_count records) in
+      let one = courses n [] records start unread (start_holds p orderly.program date small fields h) refl (unread_waits p) (at_first p) (omega arith) in
+      let few = few_cycles n p [] records start unread one.course (at_first p) one.runs in
       record {
         course = one.course;
         bytes = record { print = printed one.course.output; disk = stored one.course.output };
-        run = record { runs = one.runs; print = refl; disk = refl };
-        well = record { ending = one.ending; cycles = few_cycles p [] records (job_start p date fields) one.course one.runs; few = one.few };
+        run = record { runs = own_count p n [] records start unread one.course one.runs; print = refl; disk = refl };
+        well = record { ending = one.ending; cycles = omega (arith, few); few = one.few };
       }
 
   -- and each run is that one
-  pub runs_well : (date : ℤ) (fields : Fields nat_cmp) (records : List (List ℕ)) (course : Course) (bytes : Bytes) → unsigned_abs date < 10 ^ 6 →
+  pub runs_well : (date : ℤ) (fields : Fields nat_cmp) (records : Records) (course : Course) (bytes : Bytes) → unsigned_abs date < 10 ^ 6 →
       Holds p (job_first_world fields) →
-      IsRun p date fields records course bytes → RunsWell p (length records) course
+      IsRun p date fields records course bytes → RunsWell p (records_count records) course
   runs_well date fields records course bytes small h run =
       let one = has_run date fields records small h in
-      let same = runs_same p [] records (job_start p date fields) one.course course one.run.runs run.runs in
-      subst (λ (x : Course). RunsWell p (length records) x) same one.well
+      let same = runs_same one.course.cycles course.cycles p [] records (job_start p date fields) unread one.course course one.run.runs run.runs in
+      subst (λ (x : Course). RunsWell p (records_count records) x) same one.well

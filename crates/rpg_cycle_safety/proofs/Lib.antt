@@ -22,6 +22,7 @@ pub mod Stepping
 pub mod Totalling
 pub mod Turning
 pub mod Visiting
+pub mod Weighing
 pub mod Widths
 pub mod Working
 pub mod Writing

@@ -9,6 +9,7 @@ use Rattle.rpg_effect.specs.Put.{Bytes, disk_bytes, with_output}
 use Rattle.rpg_cycle_safety.proofs.Measuring.{cycle_in_output}
 use Rattle.rpg_cycle_safety.proofs.Writing.{same_fields}
 use Rattle.rpg_cycle_safety.specs.Holding.{Holds}
+use Rattle.rpg_cycle_safety.specs.Waiting.{AreWaiting}
 use Rattle.rpg_cycle_safety.specs.Measuring.{IsNear, bytes_of_step, pending}
 use Rattle.rpg_machine.specs.Accepted.{IsOrderly}
 use Rattle.rpg_machine.specs.Running.{config_on, no_bytes}
@@ -22,13 +23,13 @@ feed_short (Ended e) (Some line) = omega arith
 feed_short Failed last = omega arith
 
 -- a job from which all was taken before
-pub job_in_output : (old new : AtWork) (earlier : List Selected) (previous : Option Position) (next : Option (List ℕ)) (e : PhaseEnd) → IsOrderly old.program →
-    Holds old.program old.config.world → old.config.cells ≡ map.empty → IsNear previous (config_on previous old.config).world.here → old.output ≡ no_bytes →
-    DoesCycle old earlier previous next e new → pending new ≤ bound old.program * bytes_of_step + 1
-job_in_output old new earlier previous next e orderly h none near empty does =
+pub job_in_output : (old new : AtWork) (earlier : List Selected) (previous : Option Position) (primary secondary : Option (List ℕ)) (e : PhaseEnd) → IsOrderly old.program →
+    Holds old.program old.config.world → old.config.cells ≡ map.empty → AreWaiting old.program old.inputs → IsNear previous (config_on previous old.config).world.here → old.output ≡ no_bytes →
+    DoesCycle old earlier previous primary secondary e new → pending new ≤ bound old.program * bytes_of_step + 1
+job_in_output old new earlier previous primary secondary e orderly h none waiting near empty does =
     let c = config_on previous old.config in
     let values = same_fields old.program old.config.world c.world h refl in
-    let few = (cycle_in_output old.program orderly earlier next previous c e does.there does.out values none near does.cycle).few in
+    let few = (cycle_in_output old.program orderly earlier primary secondary previous c old.inputs e does.there does.out values none waiting near does.cycle).few in
     let feed = feed_at (stage_at e) new.last in
     let short = feed_short (stage_at e) new.last in
     let is : new.output ≡ with_feed feed (with_output previous does.out.lines does.out.records no_bytes) =

@@ -1,39 +1,42 @@
--- A record is selected, or the job ends.
-use Rattle.std.proofs.Common.{◌≡◌, ℕ, ◌+◌, ◌-◌, ◌≤◌, Bool, true, false, ◌&&◌, cond, leb, leb-true, not, List, [], ◌∷◌, length, replicate, take, slice_get, Option, None, Some, All, refl, sym, ap, ◌∙◌, subst, arith, length-append}
+-- Records are taken in, and one is selected, or the job ends.
+use Rattle.std.proofs.Common.{◌≡◌, ℕ, ◌+◌, ◌-◌, ◌≤◌, ◌<◌, Bool, true, false, ◌&&◌, cond, leb, leb-true, not, List, [], ◌∷◌, length, replicate, take, slice_get, Option, None, Some, All, refl, sym, ap, ◌∙◌, subst, arith, length-append}
 use Rattle.std.proofs.lemmas.List.{length-replicate}
 use Rattle.std.proofs.lemmas.List.Elements.{All-head, All-nil, All-tail}
-use Rattle.std.proofs.lemmas.Option.{get_or_from_slice_get, slice_get_within}
+use Rattle.std.proofs.lemmas.Option.{get_or_from_slice_get, same_Some, slice_get_within}
 use Rattle.std.specs.List.{list_all}
+use Rattle.std.specs.Option.{ForSome}
 use Rattle.rpg_cycle_records.proofs.Finding.{found_own}
 use Rattle.rpg_cycle_records.proofs.Fitting.{types_fit}
 use Rattle.rpg_cycle_records.proofs.Recording.{filled_characters}
-use Rattle.rpg_cycle.proofs.Selecting.{all_inside}
-use Rattle.rpg_cycle.proofs.Spending.{found_few, tried_few}
 use Rattle.rpg_cycle_records.proofs.Trying.{all_there, fit_file}
-use Rattle.rpg_cycle_records.specs.Earlier.{Left, Selected, control_fields, file_of, levels_of}
-use Rattle.rpg_cycle.specs.Ends.{GoesOn, Halt, Wrong}
+use Rattle.rpg_cycle.proofs.Selecting.{all_inside}
+use Rattle.rpg_cycle_records.specs.Earlier.{Left, Selected, control_fields, file_of, last_of_file, levels_of, match_fields, match_value, matches_of}
+use Rattle.rpg_cycle.specs.Ends.{PhaseEnd, GoesOn, Halt, Wrong}
 use Rattle.rpg_cycle_records.specs.Fitting.{IsControlIn, IsFilledAs, IsTypeFit, IsTypeOf}
 use Rattle.rpg_cycle_records.specs.Identifying.{Trial, IsOf, IsOfNone, Misplaced, padded, code_holds, identified, is_good_record, has_position, same_file, trial_weight}
 use Rattle.rpg_cycle_records.specs.Levels.{is_in_record}
-use Rattle.rpg_cycle.specs.Indicators.{is_on, last_record, level_indicators, with_all, with_levels, with_one, with_type}
-use Rattle.rpg_cycle.specs.Phases.{Done, broken_level, compare_levels, done, identify, read_record, select_record, take_type, type_indicator}
+use Rattle.rpg_cycle_records.specs.Matching.{exceeds}
+use Rattle.rpg_cycle_records.specs.Paying.{moved_of}
+use Rattle.rpg_cycle_records.specs.Waiting.{Inputs, over, takes_in, unread, waiting_in, with_waiting}
+use Rattle.rpg_cycle.specs.Indicators.{last_record, level_indicators, with_all, with_levels, with_one, with_type}
+use Rattle.rpg_cycle.specs.Phases.{Done, UnderWay, broken_level, compare_levels, done, identify, match_up, read_record, select_from, select_waiting, take_type, type_indicator, with_config, with_inputs}
 use Rattle.rpg_effect.specs.Ends as effects
 use Rattle.rpg_effect.specs.Input.{TypeRow}
-use Rattle.rpg_effect.specs.Weights.{types_weight}
 use Rattle.rpg_effect.specs.declared.input.InputFile.{InputFile}
-use Rattle.rpg_effect.specs.declared.input.InputFile.TheVariants.{Primary}
+use Rattle.rpg_effect.specs.declared.input.InputFile.TheVariants.{Primary, Secondary}
 use Rattle.rpg_text.specs.Texts.{is_character}
-use Rattle.rpg_cycle_safety.specs.Holding.{Holds}
+use Rattle.rpg_cycle_safety.specs.Coming.{IsCycleEnd}
+use Rattle.rpg_cycle_safety.specs.Waiting.{AreWaiting, IsWaitingIn}
 use Rattle.rpg_machine.specs.Accepted.{IsOrderly}
 use Rattle.rpg_machine.specs.Config.{Config, charged}
-use Rattle.rpg_machine.specs.Outputs.{inputs_at}
+use Rattle.rpg_machine.specs.Outputs.{inputs_of}
 use Rattle.rpg_object_program.specs.Kept.{IsCharacter}
 use Rattle.rpg_object_program.specs.Object.{Object, input_length}
-use Rattle.rpg_cycle_safety.proofs.Turning.{Still, all_still, last_still_on, still_holds, still_reach, still_then, type_still}
-use Rattle.rpg_cycle_safety.proofs.Working.{Comes, IsTaken, Works, does_work, ends, goes, its_fields, nothing, reach}
-use Rattle.std.specs.FinMap as map
+use Rattle.rpg_cycle_safety.proofs.Turning.{Still, all_still, itself, last_still_on, still_then, type_still}
+use Rattle.rpg_cycle_safety.proofs.Weighing.{moved_few, moving_weight, taken_few, taking_weight, tried_few}
+use Rattle.rpg_cycle_safety.proofs.Working.{IsTaken, its_fields}
 
--- ---- codes and control fields are on columns that are there
+-- ---- codes, match fields and control fields are on columns that are there
 
 not_misplaced : (n : ℕ) (there hold : Bool) (rest : Trial) → there ≡ true → (rest ≡ Misplaced → ⊥) → cond there (cond hold (IsOf n) rest) Misplaced ≡ Misplaced → ⊥
 not_misplaced n true true rest h more is = cc
@@ -51,10 +54,33 @@ never_misplaced f n (t ∷ ts) text fit is =
     in_file f n t text (identified f (n + 1) ts text) (same_file t.file f) refl (All-head (IsTypeOf f (length text)) t ts fit)
     (never_misplaced f (n + 1) ts text (All-tail (IsTypeOf f (length text)) t ts fit)) is
 
+fit_at : (p : Object) (row : ℕ) (t : TypeRow ℕ) → All (IsTypeFit p) p.types → slice_get p.types row ≡ Some t → IsTypeFit p t
+fit_at p row t fit is = subst (IsTypeFit p) (get_or_from_slice_get p.types row t t is) (fit row t (slice_get_within p.types row t is))
+
 levels_fit : (p : Object) (row : ℕ) (o : Option (TypeRow ℕ)) → All (IsTypeFit p) p.types → slice_get p.types row ≡ o →
     All (IsControlIn (input_length p (file_of o))) (levels_of o)
 levels_fit p row None fit is = All-nil (IsControlIn (input_length p Primary))
-levels_fit p row (Some t) fit is = (subst (IsTypeFit p) (get_or_from_slice_get p.types row t t is) (fit row t (slice_get_within p.types row t is))).levels
+levels_fit p row (Some t) fit is = (fit_at p row t fit is).levels
+
+matches_fit : (p : Object) (row : ℕ) (o : Option (TypeRow ℕ)) → All (IsTypeFit p) p.types → slice_get p.types row ≡ o →
+    All (IsControlIn (input_length p (file_of o))) (matches_of o)
+matches_fit p row None fit is = All-nil (IsControlIn (input_length p Primary))
+matches_fit p row (Some t) fit is = (fit_at p row t fit is).matches
+
+-- the row of a type that is found is there
+row_there : (n k : ℕ) (ts : List (TypeRow ℕ)) (rest : Trial) (other there hold : Bool) → (rest ≡ IsOf k → k < n + 1 + length ts) →
+    cond other rest (cond there (cond hold (IsOf n) rest) Misplaced) ≡ IsOf k → k < n + (1 + length ts)
+row_there n k ts rest true there hold more is = let h = more is in omega (arith, h)
+row_there n k ts rest false false hold more is = cc
+row_there n k ts rest false true true more is = let same : n ≡ k = cc in omega (arith, same)
+row_there n k ts rest false true false more is = let h = more is in omega (arith, h)
+
+found_there : (f : InputFile) (n : ℕ) (ts : List (TypeRow ℕ)) (text : List ℕ) (k : ℕ) → identified f n ts text ≡ IsOf k → k < n + length ts
+found_there f n [] text k is = cc
+found_there f n (t ∷ ts) text k is =
+    let h = row_there n k ts (identified f (n + 1) ts text) (not (same_file t.file f)) (list_all (has_position text) t.codes) (list_all (code_holds text) t.codes)
+    (λ more. found_there f (n + 1) ts text k more) is in
+    omega (arith, h)
 
 -- ---- the record as it is filled
 
@@ -62,128 +88,184 @@ first : (b c : Bool) → (b && c) ≡ true → b ≡ true
 first true c h = refl
 first false c h = cc
 
-filled_long : (p : Object) (text : List ℕ) → is_good_record p Primary text ≡ true → length (padded p Primary text) ≡ p.record_length
-filled_long p text good =
-    let short : length text ≤ p.record_length = leb-true (length text) p.record_length (first (leb (length text) p.record_length) (list_all is_character text) good) in
-    let long = length-append text (replicate (p.record_length - length text) 32) in
-    let blanks : length {A = ℕ} (replicate (p.record_length - length text) 32) ≡ p.record_length - length text = length-replicate (p.record_length - length text) 32 in
+filled_long : (p : Object) (f : InputFile) (text : List ℕ) → is_good_record p f text ≡ true → length (padded p f text) ≡ input_length p f
+filled_long p f text good =
+    let short : length text ≤ input_length p f = leb-true (length text) (input_length p f) (first (leb (length text) (input_length p f)) (list_all is_character text) good) in
+    let long = length-append text (replicate (input_length p f - length text) 32) in
+    let blanks : length {A = ℕ} (replicate (input_length p f - length text) 32) ≡ input_length p f - length text = length-replicate (input_length p f - length text) 32 in
     omega (arith, short, long, blanks)
 
--- ---- what stays
+-- ---- what waits
+
+nothing_waits : (p : Object) (f : InputFile) → ForSome None (λ s. IsWaitingIn p f s)
+nothing_waits p f s is = cc
+
+this_waits : (p : Object) (f : InputFile) (s : Selected) → IsWaitingIn p f s → ForSome (Some s) (λ s. IsWaitingIn p f s)
+this_waits p f s h t is = subst (λ (x : Selected). IsWaitingIn p f x) (same_Some s t is) h
+
+one_waits : (p : Object) (i : Inputs) (f : InputFile) (o : Option Selected) → AreWaiting p i → ForSome o (λ s. IsWaitingIn p f s) → AreWaiting p (with_waiting f o i)
+one_waits p i Primary o h new = record { primary = new; secondary = h.secondary }
+one_waits p i Secondary o h new = record { primary = h.primary; secondary = new }
+
+none_waits : (p : Object) (i : Inputs) (f : InputFile) → AreWaiting p i → AreWaiting p (over f i)
+none_waits p i Primary h = record { primary = nothing_waits p Primary; secondary = h.secondary }
+none_waits p i Secondary h = record { primary = h.primary; secondary = nothing_waits p Secondary }
+
+waits_in : (p : Object) (i : Inputs) (f : InputFile) → AreWaiting p i → ForSome (waiting_in i f) (λ s. IsWaitingIn p f s)
+waits_in p i Primary h = h.primary
+waits_in p i Secondary h = h.secondary
+
+filled_as : (p : Object) (f : InputFile) (s : Selected) → IsWaitingIn p f s → IsFilledAs p s.type s.text
+filled_as p f s h = h.long ∙ sym (ap (input_length p) h.own)
+
+-- the fields of a row are moved
+both_moved : (o : Option (TypeRow ℕ)) → length (levels_of o) + length (inputs_of o) ≤ moved_of o
+both_moved None = omega arith
+both_moved (Some t) = omega arith
+
+-- ---- what comes of it
 
 pub charged_still : (weight : ℕ) (c : Config) → Still weight c (charged weight c)
 charged_still weight c = record { fields = refl; form = refl; place = refl; cells = refl; steps = refl; allowance = refl }
 
--- but for indicators and steps it is the same
-abbrev pub HasStayed : Config → Done → Type 0
-HasStayed c d = (weight : ℕ) × Still weight c d.leads.config
+-- a step of phase 4: but for indicators and steps all is the same, what waits and what is selected are well kept, and so much is paid at most
+pub record Picks (p : Object) (a : ℕ) (c : UnderWay) (d : Done) : Type 0 where
+  pub weight : ℕ
+  pub still : Still weight c.config d.leads.config
+  pub named : IsCycleEnd d.end
+  pub waiting : AreWaiting p d.leads.inputs
+  pub taken : IsTaken p d.leads.selected
+  pub few : weight + its_fields p d.leads.selected ≤ its_fields p c.selected + a
 
-module _ (p : Object) (left : Left) where
-  compared_stays : (b : Bool) (text : List ℕ) (t weight : ℕ) (c d : Config) → Still weight c d →
-      HasStayed c (cond b (done GoesOn (record { config = with_levels (broken_level p left (record { type = t; text = text })) (charged (length (control_fields p t)) d); selected = Some (record { type = t; text = text }) }))
-      (done (Wrong effects.Storage) (record { config = charged (length (control_fields p t)) d; selected = None })))
-  compared_stays true text t weight c d still =
-      let more = charged (length (control_fields p t)) d in
-      let paid = still_then weight (length (control_fields p t)) c d more still (charged_still (length (control_fields p t)) d) in
-      (weight + length (control_fields p t) + 0, still_then (weight + length (control_fields p t)) 0 c more (with_levels (broken_level p left (record { type = t; text = text })) more) paid (all_still (take (broken_level p left (record { type = t; text = text })) level_indicators) true more))
-  compared_stays false text t weight c d still =
-      (weight + length (control_fields p t), still_then weight (length (control_fields p t)) c d (charged (length (control_fields p t)) d) still (charged_still (length (control_fields p t)) d))
+-- the same files and the same record, after so many steps
+stays : (p : Object) (a weight : ℕ) (c : UnderWay) (d : Config) (e : PhaseEnd) → IsCycleEnd e → AreWaiting p c.inputs → IsTaken p c.selected → Still weight c.config d → weight ≤ a →
+    Picks p a c (done e (record { config = d; inputs = c.inputs; selected = c.selected }))
+stays p a weight c d e named waiting taken still few = record { weight = weight; still = still; named = named; waiting = waiting; taken = taken; few = omega (arith, few) }
 
-  taken_stays : (text : List ℕ) (t : Trial) (weight : ℕ) (c d : Config) → Still weight c d → HasStayed c (take_type p left text t d)
-  taken_stays text (IsOf t) weight c d still =
-      let e = with_type (type_indicator (slice_get p.types t)) d in
-      compared_stays (list_all (is_in_record (length text)) (control_fields p t)) text t (weight + 0) c e (still_then weight 0 c d e still (type_still (type_indicator (slice_get p.types t)) d))
-  taken_stays text IsOfNone weight c d still = (weight, still)
-  taken_stays text Misplaced weight c d still = (weight, still)
+module _ (p : Object) (orderly : IsOrderly p) (left : Left) where
+  types_there : All (IsTypeFit p) p.types
+  types_there = types_fit p orderly.sound orderly.program
 
-  read_stays : (b : Bool) (text : List ℕ) (c : Config) → HasStayed c (cond b (identify p left (padded p Primary text) c) (done (Halt 7) (record { config = c; selected = None })))
-  read_stays true text c =
-      let weight = trial_weight Primary p.types (padded p Primary text) in
-      taken_stays (padded p Primary text) (identified Primary 0 p.types (padded p Primary text)) weight c (charged weight c) (charged_still weight c)
-  read_stays false text c = (0, all_still [] true c)
+  -- ---- taking in
 
-  next_stays : (next : Option (List ℕ)) (c : Config) → HasStayed c (read_record p left next c)
-  next_stays None c = (0, last_still_on c)
-  next_stays (Some text) c = read_stays (is_good_record p Primary text) text c
+  module _ (f : InputFile) (c : UnderWay) (waiting : AreWaiting p c.inputs) (taken : IsTaken p c.selected) where
+    abbrev Takes : Done → Type 0
+    Takes d = Picks p (taking_weight f p.types) c d
 
-  -- whatever comes of the selection of a record
-  pub selection_stays : (b : Bool) (next : Option (List ℕ)) (c : Config) →
-      HasStayed c (cond b (done GoesOn (record { config = with_all level_indicators true c; selected = None })) (read_record p left next c))
-  selection_stays true next c = (0, all_still level_indicators true c)
-  selection_stays false next c = next_stays next c
+    module _ (full : List ℕ) (long : length full ≡ input_length p f) (spelled : All IsCharacter full) where
+      abbrev tried : UnderWay
+      tried = with_config (charged (trial_weight f p.types full)) c
 
--- ---- what comes of it
+      waits : (t : ℕ) → identified f 0 p.types full ≡ IsOf t → IsWaitingIn p f (record { type = t; text = full })
+      waits t is = record { there = let h = found_there f 0 p.types full t is in omega (arith, h); own = found_own f p.types full t is; long = long; characters = spelled }
 
-module _ (p : Object) (orderly : IsOrderly p) (left : Left) (n : ℕ) where
-  abbrev Selects : Done → Type 0
-  Selects d = Comes p (its_fields p) (n + types_weight p.types) d.end d.leads
+      matched : (t : ℕ) (low : Bool) → identified f 0 p.types full ≡ IsOf t →
+          Takes (cond low (done (Halt 8) (with_config (charged (length (match_fields p t))) tried))
+          (done GoesOn (with_inputs (with_waiting f (Some (record { type = t; text = full }))) (with_config (charged (length (match_fields p t))) tried))))
+      matched t low is = by_test low
+        where
+          still : Still (trial_weight f p.types full + length (match_fields p t)) c.config (charged (length (match_fields p t)) tried.config)
+          still = still_then (trial_weight f p.types full) (length (match_fields p t)) c.config tried.config (charged (length (match_fields p t)) tried.config)
+              (charged_still (trial_weight f p.types full) c.config) (charged_still (length (match_fields p t)) tried.config)
 
-  goes_to : (weight : ℕ) (c d : Config) (s : Option Selected) → Still weight c d → Holds p c.world → c.cells ≡ map.empty → IsTaken p s → reach p c ≤ n →
-      weight + its_fields p s ≤ types_weight p.types →
-      Selects (done GoesOn (record { config = d; selected = s }))
-  goes_to weight c d s still h none taken few paid =
-      let grown = still_reach p weight c d still in
-      goes p (its_fields p) (n + types_weight p.types) (record { config = d; selected = s })
-      (record { values = still_holds p weight c d still h; no_cell = still.cells ∙ none; taken = taken; few = omega (arith, grown, few, paid) })
+          few : trial_weight f p.types full + length (match_fields p t) ≤ taking_weight f p.types
+          few = taken_few f p.types full t (found_own f p.types full t is)
 
-  halts_at : (k weight : ℕ) (c d : Config) → 1 ≤ k → k ≤ 7 → Still weight c d → Holds p c.world → reach p c ≤ n → weight ≤ types_weight p.types →
-      Selects (done (Halt k) (record { config = d; selected = None }))
-  halts_at k weight c d low high still h few paid =
-      let grown = still_reach p weight c d still in
-      ends p (its_fields p) (n + types_weight p.types) (Halt k) (record { config = d; selected = None }) (low, high) (λ is. cc) (still_holds p weight c d still h) (omega (arith, grown, few, paid))
+          by_test : (b : Bool) → Takes (cond b (done (Halt 8) (with_config (charged (length (match_fields p t))) tried))
+              (done GoesOn (with_inputs (with_waiting f (Some (record { type = t; text = full }))) (with_config (charged (length (match_fields p t))) tried))))
+          by_test true = stays p (taking_weight f p.types) (trial_weight f p.types full + length (match_fields p t)) c (charged (length (match_fields p t)) tried.config) (Halt 8) (omega arith, omega arith) waiting taken still few
+          by_test false = record {
+            weight = trial_weight f p.types full + length (match_fields p t);
+            still = still;
+            named = tt;
+            waiting = one_waits p c.inputs f (Some (record { type = t; text = full })) waiting (this_waits p f (record { type = t; text = full }) (waits t is));
+            taken = taken;
+            few = let l = few in omega (arith, l);
+          }
 
-  module _ (full : List ℕ) (long : length full ≡ p.record_length) (spelled : All IsCharacter full) (c : Config) (h : Holds p c.world) (none : c.cells ≡ map.empty) (few : reach p c ≤ n) where
-    types_there : All (IsTypeFit p) p.types
-    types_there = types_fit p orderly.sound orderly.program
+      in_columns : (t : ℕ) → identified f 0 p.types full ≡ IsOf t → list_all (is_in_record (length full)) (match_fields p t) ≡ true
+      in_columns t is =
+          all_inside (length full) (match_fields p t)
+          (subst (λ (len : ℕ). All (IsControlIn len) (match_fields p t)) (sym (filled_as p f (record { type = t; text = full }) (waits t is)))
+          (matches_fit p t (slice_get p.types t) types_there refl))
 
-    filled_as : (t : ℕ) → identified Primary 0 p.types full ≡ IsOf t → IsFilledAs p t full
-    filled_as t is = long ∙ sym (ap (input_length p) (found_own Primary p.types full t is))
+      of_type : (t : ℕ) → identified f 0 p.types full ≡ IsOf t →
+          Takes (match_up p left f (record { type = t; text = full }) (with_config (charged (length (match_fields p t))) tried))
+      of_type t is =
+          let s : Selected = record { type = t; text = full } in
+          let low = exceeds (last_of_file left f) (match_value p s) in
+          let there = with_config (charged (length (match_fields p t))) tried in
+          subst (λ (b : Bool). Takes (cond (not b) (done (Wrong effects.Storage) there) (cond low (done (Halt 8) there) (done GoesOn (with_inputs (with_waiting f (Some s)) there)))))
+          (sym (in_columns t is)) (matched t low is)
 
-    compared : (t : ℕ) → identified Primary 0 p.types full ≡ IsOf t → Selects (compare_levels p left (record { type = t; text = full }) (with_type (type_indicator (slice_get p.types t)) (charged (trial_weight Primary p.types full) c)))
-    compared t is =
-        let s : Selected = record { type = t; text = full } in
-        let fields = control_fields p t in
-        let one = charged (trial_weight Primary p.types full) c in
-        let two = with_type (type_indicator (slice_get p.types t)) one in
-        let three = charged (length fields) two in
-        let four = with_levels (broken_level p left s) three in
-        let weight = trial_weight Primary p.types full + length fields in
-        let still : Still (trial_weight Primary p.types full + 0 + length fields + 0) c four =
-        still_then (trial_weight Primary p.types full + 0 + length fields) 0 c three four
-        (still_then (trial_weight Primary p.types full + 0) (length fields) c two three
-        (still_then (trial_weight Primary p.types full) 0 c one two (charged_still (trial_weight Primary p.types full) c) (type_still (type_indicator (slice_get p.types t)) one))
-        (charged_still (length fields) two)) (all_still (take (broken_level p left s) level_indicators) true three) in
-        let found = found_few Primary 0 p.types full t is in
-        let row : t ≡ found.place = let r = found.row in omega (arith, r) in
-        let paid : trial_weight Primary p.types full + (length (control_fields p t) + length (inputs_at p t)) ≤ types_weight p.types =
-        subst (λ (k : ℕ). trial_weight Primary p.types full + (length (control_fields p k) + length (inputs_at p k)) ≤ types_weight p.types) (sym row) found.few in
-        let whole = filled_as t is in
-        let inside = all_inside (length full) fields (subst (λ (len : ℕ). All (IsControlIn len) fields) (sym whole) (levels_fit p t (slice_get p.types t) types_there refl)) in
-        let good = goes_to (trial_weight Primary p.types full + 0 + length fields + 0) c four (Some s) still h none (record { long = whole; characters = spelled }) few (omega (arith, paid)) in
-        subst (λ (b : Bool). Selects (cond b (done GoesOn (record { config = four; selected = Some s })) (done (Wrong effects.Storage) (record { config = three; selected = None })))) (sym inside) good
+      by_trial : (t : Trial) → identified f 0 p.types full ≡ t → Takes (take_type p left f full t tried)
+      by_trial (IsOf t) is = of_type t is
+      by_trial IsOfNone is =
+          stays p (taking_weight f p.types) (trial_weight f p.types full) c tried.config (Halt 3) (omega arith, omega arith) waiting taken (charged_still (trial_weight f p.types full) c.config)
+          (tried_few f p.types full)
+      by_trial Misplaced is = absurd (never_misplaced f 0 p.types full (fit_file p f (length full) p.types long types_there) is)
 
-    taken : (t : Trial) → identified Primary 0 p.types full ≡ t → Selects (take_type p left full t (charged (trial_weight Primary p.types full) c))
-    taken (IsOf t) is = compared t is
-    taken IsOfNone is = halts_at 3 (trial_weight Primary p.types full) c (charged (trial_weight Primary p.types full) c) (omega arith) (omega arith) (charged_still (trial_weight Primary p.types full) c) h few (tried_few Primary p.types full)
-    taken Misplaced is = absurd (never_misplaced Primary 0 p.types full (fit_file p Primary (length full) p.types long types_there) is)
+    read_good : (b : Bool) (text : List ℕ) → is_good_record p f text ≡ b → Takes (cond b (identify p left f (padded p f text) c) (done (Halt 7) c))
+    read_good true text good =
+        by_trial (padded p f text) (filled_long p f text good) (filled_characters p f text good) (identified f 0 p.types (padded p f text)) refl
+    read_good false text good = stays p (taking_weight f p.types) 0 c c.config (Halt 7) (omega arith, omega arith) waiting taken (itself c.config) (omega arith)
 
-  read_good : (b : Bool) (text : List ℕ) (c : Config) → is_good_record p Primary text ≡ b → Holds p c.world → c.cells ≡ map.empty → reach p c ≤ n →
-      Selects (cond b (identify p left (padded p Primary text) c) (done (Halt 7) (record { config = c; selected = None })))
-  read_good true text c good h none few =
-      taken (padded p Primary text) (filled_long p text good) (filled_characters p Primary text good) c h none few (identified Primary 0 p.types (padded p Primary text)) refl
-  read_good false text c good h none few = halts_at 7 0 c c (omega arith) (omega arith) (all_still [] true c) h few (omega arith)
+    reads : (next : Option (List ℕ)) → Takes (read_record p left f next c)
+    reads None = record { weight = 0; still = itself c.config; named = tt; waiting = none_waits p c.inputs f waiting; taken = taken; few = omega arith }
+    reads (Some text) = read_good (is_good_record p f text) text refl
 
-  reads : (next : Option (List ℕ)) (c : Config) → Holds p c.world → c.cells ≡ map.empty → reach p c ≤ n → Selects (read_record p left next c)
-  reads None c h none few = goes_to 0 c (with_all level_indicators true (with_one last_record true c)) None (last_still_on c) h none tt few (omega arith)
-  reads (Some text) c h none few = read_good (is_good_record p Primary text) text c refl h none few
+    by_need : (b : Bool) (next : Option (List ℕ)) → Takes (cond b (read_record p left f next c) (done GoesOn c))
+    by_need true next = reads next
+    by_need false next = stays p (taking_weight f p.types) 0 c c.config GoesOn tt waiting taken (itself c.config) (omega arith)
 
-  selected_by : (b : Bool) (next : Option (List ℕ)) (c : Config) → Holds p c.world → c.cells ≡ map.empty → reach p c ≤ n →
-      Selects (cond b (done GoesOn (record { config = with_all level_indicators true c; selected = None })) (read_record p left next c))
-  selected_by true next c h none few = goes_to 0 c (with_all level_indicators true c) None (all_still level_indicators true c) h none tt few (omega arith)
-  selected_by false next c h none few = reads next c h none few
+    -- a file takes a record in, or its end, or nothing
+    pub takes : (next : Option (List ℕ)) → Takes (cond (takes_in p c.inputs f) (read_record p left f next c) (done GoesOn c))
+    takes next = by_need (takes_in p c.inputs f) next
 
-pub selection_works : (p : Object) → IsOrderly p → (left : Left) (next : Option (List ℕ)) →
-    Works p (select_record p left next) nothing (its_fields p) (types_weight p.types)
-selection_works p orderly left next =
-    does_work p _ nothing (its_fields p) (types_weight p.types)
-    (λ n c r. let few = r.few in selected_by p orderly left n (is_on c.config last_record) next c.config r.values r.no_cell (omega (arith, few)))
+  -- ---- selecting
+
+  module _ (c : UnderWay) (waiting : AreWaiting p c.inputs) (taken : IsTaken p c.selected) where
+    abbrev Selects : Done → Type 0
+    Selects d = Picks p (moving_weight p.types) c d
+
+    by_levels : (f : InputFile) (s : Selected) → IsWaitingIn p f s →
+        Selects (compare_levels p left s (with_config (with_type (type_indicator (slice_get p.types s.type))) (with_inputs (with_waiting f None) c)))
+    by_levels f s h =
+        let fields = control_fields p s.type in
+        let there : UnderWay = with_config (with_type (type_indicator (slice_get p.types s.type))) (with_inputs (with_waiting f None) c) in
+        let one = with_type (type_indicator (slice_get p.types s.type)) c.config in
+        let two = charged (length fields) one in
+        let three = with_levels (broken_level p left s) two in
+        let still : Still (0 + length fields + 0) c.config three =
+        still_then (0 + length fields) 0 c.config two three
+        (still_then 0 (length fields) c.config one two (type_still (type_indicator (slice_get p.types s.type)) c.config) (charged_still (length fields) one))
+        (all_still (take (broken_level p left s) level_indicators) true two) in
+        let inside = all_inside (length s.text) fields (subst (λ (len : ℕ). All (IsControlIn len) fields) (sym (filled_as p f s h)) (levels_fit p s.type (slice_get p.types s.type) types_there refl)) in
+        let moved = both_moved (slice_get p.types s.type) in
+        let few = moved_few p.types s.type in
+        let good : Picks p (moving_weight p.types) c (done GoesOn (record { config = three; inputs = with_waiting f None c.inputs; selected = Some s })) = record {
+          weight = 0 + length fields + 0;
+          still = still;
+          named = tt;
+          waiting = one_waits p c.inputs f None waiting (nothing_waits p f);
+          taken = record { long = filled_as p f s h; characters = h.characters };
+          few = omega (arith, moved, few);
+        } in
+        subst (λ (b : Bool). Selects (cond b (done GoesOn (record { config = three; inputs = with_waiting f None c.inputs; selected = Some s })) (done (Wrong effects.Storage) (with_config (charged (length fields)) there)))) (sym inside) good
+
+    from_file : (f : InputFile) (o : Option Selected) → ForSome o (λ s. IsWaitingIn p f s) → Selects (select_waiting p left f o c)
+    from_file f None h = stays p (moving_weight p.types) 0 c c.config GoesOn tt waiting taken (itself c.config) (omega arith)
+    from_file f (Some s) h = by_levels f s (h s refl)
+
+    -- the record that waits in a file is selected, or LR and all levels go on
+    pub selects : (o : Option InputFile) → Selects (select_from p left o c)
+    selects None = stays p (moving_weight p.types) 0 c (with_all level_indicators true (with_one last_record true c.config)) GoesOn tt waiting taken (last_still_on c.config) (omega arith)
+    selects (Some f) = from_file f (waiting_in c.inputs f) (waits_in p c.inputs f waiting)
+
+-- L1 to L9 go on, where LR is on
+pub levels_alone : (p : Object) (a : ℕ) (c : UnderWay) → AreWaiting p c.inputs → IsTaken p c.selected → Picks p a c (done GoesOn (with_config (with_all level_indicators true) c))
+levels_alone p a c waiting taken = stays p a 0 c (with_all level_indicators true c.config) GoesOn tt waiting taken (all_still level_indicators true c.config) (omega arith)
+
+-- before the first record nothing waits
+pub unread_waits : (p : Object) → AreWaiting p unread
+unread_waits p = record { primary = nothing_waits p Primary; secondary = nothing_waits p Secondary }

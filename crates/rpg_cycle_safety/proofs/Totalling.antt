@@ -1,18 +1,22 @@
 -- What all cycles of a run put out together.
-use Rattle.std.proofs.Common.{◌≡◌, ℕ, ◌+◌, ◌*◌, ◌≤◌, ◌<◌, ◌^◌, ℤ, unsigned_abs, List, [], ◌∷◌, length, Option, None, Some, refl, sym, ap, ◌∙◌, subst, arith, length-append, nat_cmp}
+use Rattle.std.proofs.Common.{◌≡◌, ℕ, zero, suc, ◌+◌, ◌*◌, ◌≤◌, ◌<◌, ◌^◌, ℤ, unsigned_abs, List, [], ◌∷◌, length, Option, None, refl, sym, ap, ◌∙◌, subst, arith, length-append, nat_cmp}
 use Rattle.std.specs.FinMap as map
 use Rattle.rpg_cycle_records.specs.Earlier.{Selected, with_record}
+use Rattle.rpg_cycle_records.specs.Waiting.{Inputs, unread}
 use Rattle.rpg_cycle.specs.Ends.{PhaseEnd, GoesOn, EndOfJob, Halt, Wrong}
-use Rattle.rpg_cycle.specs.Phases.{UnderWay}
-use Rattle.rpg_cycle.specs.Runs.{Course, IsRun, Runs, ends_or, last_cycle, last_feed, with_cycle}
+use Rattle.rpg_cycle.specs.Phases.{UnderWay, needs_record}
+use Rattle.rpg_cycle.specs.Runs.{Course, IsRun, Records, RunsIn, ends_or, last_cycle, last_feed, left_behind, next_of, with_cycle}
 use Rattle.rpg_cycle.specs.Starting.{job_first_world, job_start}
 use Rattle.rpg_effect.specs.Put.{Bytes, disk_bytes}
 use Rattle.rpg_effect.specs.World.{Fields}
+use Rattle.rpg_effect.specs.declared.input.InputFile.TheVariants.{Primary, Secondary}
 use Rattle.rpg_cycle_safety.proofs.Cycling.{cycles_well}
 use Rattle.rpg_cycle_safety.proofs.Dating.{start_holds}
 use Rattle.rpg_cycle_safety.proofs.Measuring.{cycle_in_output, cycle_pays}
+use Rattle.rpg_cycle_safety.proofs.Selecting.{unread_waits}
 use Rattle.rpg_cycle_safety.proofs.Sizing.{bytes_both}
 use Rattle.rpg_cycle_safety.specs.Holding.{Holds}
+use Rattle.rpg_cycle_safety.specs.Waiting.{AreWaiting}
 use Rattle.rpg_cycle_safety.specs.Measuring.{IsNear, StaysInOutput, bytes_of_step, size}
 use Rattle.rpg_machine.specs.Accepted.{IsOrderly}
 use Rattle.rpg_machine.specs.Config.{Config, Output, with_more}
@@ -52,22 +56,25 @@ module _ (p : Object) (orderly : IsOrderly p) where
   ended_few (Halt k) previous d out Rest course stays next is = last_few previous (Halt k) d out course stays is
   ended_few (Wrong f) previous d out Rest course stays next is = last_few previous (Wrong f) d out course stays is
 
-  runs_few : (records : List (List ℕ)) (earlier : List Selected) (previous : Option Position) (c : Config) (course : Course) → Holds p c.world → c.cells ≡ map.empty →
-      IsNear previous c.world.here → Runs p earlier records c course → IsFew previous course
-  runs_few [] earlier previous c course h none near (e, d, out, cycle, ends) =
-      ended_few e previous d out (λ d rest. ⊥) course (cycle_in_output p orderly earlier None previous c e d out h none near cycle) (λ goes rest never. absurd never) ends
-  runs_few (r ∷ rs) earlier previous c course h none near (e, d, out, cycle, ends) =
-      let well = cycles_well p orderly earlier (Some r) c e d out h none cycle in
-      let pays = cycle_pays p orderly earlier (Some r) previous c e d out h none near cycle in
-      ended_few e previous d out (λ d rest. Runs p (with_record d.selected earlier) rs d.config rest) course (cycle_in_output p orderly earlier (Some r) previous c e d out h none near cycle)
-      (λ goes rest runs. runs_few rs (with_record d.selected earlier) (last_position_from previous out.lines) d.config rest well.values (well.no_cell goes) pays.near runs) ends
+  runs_few : (n : ℕ) (earlier : List Selected) (rs : Records) (previous : Option Position) (c : Config) (i : Inputs) (course : Course) → Holds p c.world → c.cells ≡ map.empty →
+      AreWaiting p i → IsNear previous c.world.here → RunsIn n p earlier rs c i course → IsFew previous course
+  runs_few zero earlier rs previous c i course h none waiting near runs = absurd runs
+  runs_few (suc n) earlier rs previous c i course h none waiting near (e, d, out, cycle, ends) =
+      let primary = next_of (needs_record p c i Primary) rs.primary in
+      let secondary = next_of (needs_record p c i Secondary) rs.secondary in
+      let well = cycles_well p orderly earlier primary secondary c i e d out h none waiting cycle in
+      let pays = cycle_pays p orderly earlier primary secondary previous c i e d out h none waiting near cycle in
+      ended_few e previous d out (λ d rest. RunsIn n p (with_record d.selected earlier) (left_behind p c i rs) d.config d.inputs rest) course
+      (cycle_in_output p orderly earlier primary secondary previous c i e d out h none waiting near cycle)
+      (λ goes rest runs. runs_few n (with_record d.selected earlier) (left_behind p c i rs) (last_position_from previous out.lines) d.config d.inputs rest well.values (well.no_cell goes) well.waiting pays.near runs) ends
 
   -- a whole run, with the line feed behind its last line
-  pub whole_few : (date : ℤ) (fields : Fields nat_cmp) (records : List (List ℕ)) (course : Course) (bytes : Bytes) → unsigned_abs date < 10 ^ 6 → Holds p (job_first_world fields) →
+  pub whole_few : (date : ℤ) (fields : Fields nat_cmp) (records : Records) (course : Course) (bytes : Bytes) → unsigned_abs date < 10 ^ 6 → Holds p (job_first_world fields) →
       IsRun p date fields records course bytes → length bytes.print + length bytes.disk ≤ course.cycles * (bound p * bytes_of_step) + 1
   whole_few date fields records course bytes small h run =
       let few : size None course.output ≤ course.cycles * (bound p * bytes_of_step) =
-      runs_few records [] None (job_start p date fields) course (start_holds p orderly.program date small fields h) refl (record { line = omega arith; page = omega arith }) run.runs in
+      runs_few course.cycles [] records None (job_start p date fields) unread course (start_holds p orderly.program date small fields h) refl (unread_waits p)
+      (record { line = omega arith; page = omega arith }) run.runs in
       let short = feed_short course.output.lines in
       let print : length bytes.print ≡ length (paper course.output.lines) + length (last_feed course.output.lines) =
       ap (λ (l : List ℕ). length l) run.print ∙ length-append (paper course.output.lines) (last_feed course.output.lines) in

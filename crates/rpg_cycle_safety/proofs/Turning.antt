@@ -19,10 +19,10 @@ pub record Still (n : ℕ) (c d : Config) : Type 0 where
   pub steps : d.steps ≡ c.steps + n
   pub allowance : d.allowance ≡ c.allowance
 
-one_still : (n : ℕ) (on : Bool) (c : Config) → Still 0 c (with_one n on c)
+pub one_still : (n : ℕ) (on : Bool) (c : Config) → Still 0 c (with_one n on c)
 one_still n on c = record { fields = refl; form = refl; place = refl; cells = refl; steps = omega arith; allowance = refl }
 
-itself : (c : Config) → Still 0 c c
+pub itself : (c : Config) → Still 0 c c
 itself c = record { fields = refl; form = refl; place = refl; cells = refl; steps = omega arith; allowance = refl }
 
 -- so many steps, and so many more

@@ -1,27 +1,34 @@
 -- Each configuration that a run comes by is steady.
-use Rattle.std.proofs.Common.{◌≡◌, ℕ, ◌+◌, Bool, true, false, ◌&&◌, ◌||◌, eqb, nat_le, nat_lt, le-leb, eq-eqb, inl, inr, List, [], ◌∷◌, Option, None, Some, All, length, refl, sym, ap, ◌∙◌, subst, cond, arith, nat_cmp, ℤ, unsigned_abs, ◌<◌, ◌^◌}
+use Rattle.std.proofs.Common.{◌≡◌, ℕ, zero, suc, ◌+◌, Bool, true, false, ◌&&◌, ◌||◌, eqb, nat_le, nat_lt, le-leb, eq-eqb, inl, inr, List, [], Option, None, Some, All, length, refl, sym, ap, ◌∙◌, subst, cond, arith, nat_cmp, ℤ, unsigned_abs, ◌<◌, ◌^◌}
 use Rattle.std.specs.FinMap as map
 use Rattle.rpg_cycle_records.specs.Earlier.{Left, Selected, left_by, with_record}
+use Rattle.rpg_cycle_records.specs.Waiting.{Inputs, chosen, has_match, takes_in, unread, waiting_in}
 use Rattle.rpg_cycle.specs.Ends.{PhaseEnd, GoesOn, EndOfJob, Halt, Wrong, phase_end}
-use Rattle.rpg_cycle.specs.Indicators.{any_on, halt_indicators, is_on, last_record}
-use Rattle.rpg_cycle.specs.Phases.{Cycle, CycleOn, Done, Phase, UnderWay, all_off, begun, by_machine, detail_calculations, detail_lines, does, done, either, end_where_last, fill_fields, fill_from, from_there, halt_where_asked, has_no_overflow, is_bypassed, output, overflow_lines, passes, section, select_record, set_off, total_time, unless, with_config, ◌before◌}
+use Rattle.rpg_cycle.specs.Indicators.{any_on, halt_indicators, is_on, last_record, level_indicators, matching_record, with_all, with_one}
+use Rattle.rpg_cycle.specs.Phases.{CycleOn, Done, Phase, UnderWay, after_selection, all_off, begun, by_machine, detail_calculations, detail_lines, does, done, either, end_where_last, fill_fields, fill_from, from_there, halt_where_asked, has_no_overflow, if_selected, is_bypassed, needs_record, output, overflow_lines, passes, read_record, section, select_from, select_one, select_record, set_off, show_match, take_in, total_time, unless, with_config, ◌before◌}
+use Rattle.rpg_cycle.specs.Runs.{Records, left_behind, next_of}
 use Rattle.rpg_cycle.specs.Starting.{job_first_world, job_start}
 use Rattle.rpg_effect.specs.Effect.{Effect}
 use Rattle.rpg_effect.specs.Ends as effects
 use Rattle.rpg_effect.specs.Forms.{form_at}
 use Rattle.rpg_effect.specs.Input.{input_fault, record_in}
 use Rattle.rpg_effect.specs.World.{Fields, World}
+use Rattle.rpg_effect.specs.declared.input.InputFile.{InputFile}
+use Rattle.rpg_effect.specs.declared.input.InputFile.TheVariants.{Primary, Secondary}
 use Rattle.rpg_cycle_safety.proofs.Accepting.{inputs_right}
 use Rattle.rpg_cycle_safety.proofs.Dating.{start_holds}
 use Rattle.rpg_cycle_safety.proofs.Filling.{record_keeps}
 use Rattle.rpg_cycle_safety.proofs.Instructing.{output_keeps}
 use Rattle.rpg_cycle_safety.proofs.Running.{stands_well}
-use Rattle.rpg_cycle_safety.proofs.Selecting.{selection_stays, selection_works}
-use Rattle.rpg_cycle_safety.proofs.Turning.{Still, off_still, still_holds}
-use Rattle.rpg_cycle_safety.proofs.Working.{IsTaken, Ready, nothing, reach}
+use Rattle.rpg_cycle_safety.proofs.Selecting.{Picks, levels_alone, selects, takes, unread_waits}
+use Rattle.rpg_cycle_safety.proofs.Turning.{Still, off_still, one_still, still_holds}
+use Rattle.rpg_cycle_safety.proofs.Weighing.{moving_weight, taking_weight}
+use Rattle.rpg_cycle_safety.proofs.Working.{IsTaken}
 use Rattle.rpg_cycle_safety.specs.Holding.{Holds, Keeps}
+use Rattle.rpg_cycle_safety.specs.Coming.{next_cycle}
 use Rattle.rpg_cycle_safety.specs.Leading.{IsSteady, StandsWell}
-use Rattle.rpg_cycle_safety.specs.Visiting.{IsOfRun, Visits, Way, along, cycle_way, end_of, phases_way, standing, total_way, within, ◌onto◌}
+use Rattle.rpg_cycle_safety.specs.Waiting.{AreWaiting}
+use Rattle.rpg_cycle_safety.specs.Visiting.{IsOfRun, Visits, Way, along, cycle_way, end_of, next_way, phases_way, standing, total_way, within, ◌onto◌}
 use Rattle.rpg_machine.proofs.Ranges.{and_true}
 use Rattle.rpg_machine.proofs.Safe.{none_set}
 use Rattle.rpg_machine.specs.Accepted.{IsOrderly}
@@ -46,21 +53,24 @@ module _ (p : Object) (orderly : IsOrderly p) where
     pub ended : has_end c.config.section ≡ true
     pub place : is_place p (here c.config) ≡ true
     pub no_cell : c.config.cells ≡ map.empty
+    pub waiting : AreWaiting p c.inputs
     pub taken : IsTaken p c.selected
 
   steady_there : (c : UnderWay) → Rests c → IsSteady p c.config
   steady_there c r = record { values = r.values; control = record { place = r.place; cells = []; chain = (r.ended, r.no_cell) } }
 
-  rests_as : (d : UnderWay) (x : Config) (s : Option Selected) → d.config ≡ x → d.selected ≡ s → Rests (record { config = x; selected = s }) → Rests d
-  rests_as d x s is same r =
-      subst (λ (o : Option Selected). Rests (record { config = d.config; selected = o })) (sym same) (subst (λ (y : Config). Rests (record { config = y; selected = s })) (sym is) r)
+  rests_as : (d : UnderWay) (x : Config) (i : Inputs) (s : Option Selected) → d.config ≡ x → d.inputs ≡ i → d.selected ≡ s → Rests (record { config = x; inputs = i; selected = s }) → Rests d
+  rests_as d x i s is files same r =
+      subst (λ (o : Option Selected). Rests (record { config = d.config; inputs = d.inputs; selected = o })) (sym same)
+      (subst (λ (j : Inputs). Rests (record { config = d.config; inputs = j; selected = s })) (sym files) (subst (λ (y : Config). Rests (record { config = y; inputs = i; selected = s })) (sym is) r))
 
-  rests_still : (n : ℕ) (c d : UnderWay) → Still n c.config d.config → IsTaken p d.selected → Rests c → Rests d
-  rests_still n c d s taken r = record {
+  rests_still : (n : ℕ) (c d : UnderWay) → Still n c.config d.config → AreWaiting p d.inputs → IsTaken p d.selected → Rests c → Rests d
+  rests_still n c d s waiting taken r = record {
     values = still_holds p n c.config d.config s r.values;
     ended = ap (λ (x : Place). has_end x.section) s.place ∙ r.ended;
     place = ap (is_place p) s.place ∙ r.place;
     no_cell = s.cells ∙ r.no_cell;
+    waiting = waiting;
     taken = taken;
   }
 
@@ -88,9 +98,9 @@ module _ (p : Object) (orderly : IsOrderly p) where
 
   effect_safely : (weight : ℕ) (effect : World nat_cmp → Effect nat_cmp) (c : UnderWay) (e : PhaseEnd) (d : UnderWay) (out : Output) → Rests c → Keeps p (effect c.config.world) →
       by_machine (ByEffect weight effect) c e d out → Leads e d
-  effect_safely weight effect c e d out r k (last, act, is, same) =
-      resting e d (rests_as d (record (charged weight c.config) { world = (effect c.config.world).world }) c.selected act.leads same
-      (record { values = k.holds; ended = r.ended; place = r.place; no_cell = r.no_cell; taken = r.taken }))
+  effect_safely weight effect c e d out r k (last, act, is, files, same) =
+      resting e d (rests_as d (record (charged weight c.config) { world = (effect c.config.world).world }) c.inputs c.selected act.leads files same
+      (record { values = k.holds; ended = r.ended; place = r.place; no_cell = r.no_cell; waiting = r.waiting; taken = r.taken }))
 
   from_safely : (Q : Phase) → IsSafePhase Q → (f : PhaseEnd) (m : UnderWay) (put : Output) (e : PhaseEnd) (d : UnderWay) (out : Output) → Leads f m → from_there Q f m put e d out → Leads e d
   from_safely Q q GoesOn m put e d out l (more, h, is) = q m e d more (l.rests refl) h
@@ -110,21 +120,22 @@ module _ (p : Object) (orderly : IsOrderly p) where
 
   -- ---- sections
 
-  ended_well : (last : effects.End) (c : UnderWay) (e : PhaseEnd) (d : UnderWay) (out : Output) → Rests c → e ≡ phase_end last → d.selected ≡ c.selected → StandsWell p (Stop last d.config out) → Leads e d
-  ended_well effects.GoesOn c e d out r is same (steady, at_end) =
+  ended_well : (last : effects.End) (c : UnderWay) (e : PhaseEnd) (d : UnderWay) (out : Output) → Rests c → e ≡ phase_end last → d.inputs ≡ c.inputs → d.selected ≡ c.selected → StandsWell p (Stop last d.config out) → Leads e d
+  ended_well effects.GoesOn c e d out r is files same (steady, at_end) =
       resting e d (record {
         values = steady.values;
         ended = (and_true (has_end d.config.section) _ at_end).0;
         place = steady.control.place;
         no_cell = none_set p d.config steady.control at_end;
+        waiting = subst (λ (i : Inputs). AreWaiting p i) (sym files) r.waiting;
         taken = subst (λ (o : Option Selected). IsTaken p o) (sym same) r.taken;
       })
-  ended_well (effects.Halt k) c e d out r is same (named, steady) = record { steady = steady; rests = λ goes. absurd (let never : Halt k ≡ GoesOn = sym is ∙ goes in cc) }
-  ended_well (effects.Wrong f) c e d out r is same h = absurd h
+  ended_well (effects.Halt k) c e d out r is files same (named, steady) = record { steady = steady; rests = λ goes. absurd (let never : Halt k ≡ GoesOn = sym is ∙ goes in cc) }
+  ended_well (effects.Wrong f) c e d out r is files same h = absurd h
 
   section_safe : (s : Section) → has_end s ≡ true → IsSafePhase (section p s)
-  section_safe s ended c e d out r (last, runs, is, same) =
-      ended_well last c e d out r is same
+  section_safe s ended c e d out r (last, runs, is, files, same) =
+      ended_well last c e d out r is files same
       (subst (λ (o : Outcome). StandsWell p o) runs.run (stands_well p orderly s runs.enough c.config ended r.no_cell r.values))
 
   -- ---- the phases
@@ -138,21 +149,38 @@ module _ (p : Object) (orderly : IsOrderly p) where
 
   off_safe : IsSafePhase (set_off p)
   off_safe c e d out r h =
-      does_safely (λ c. done GoesOn (with_config (all_off p) c)) c e d out (rests_still 0 c (with_config (all_off p) c) (off_still p c.config) r.taken r) h
+      does_safely (λ c. done GoesOn (with_config (all_off p) c)) c e d out (rests_still 0 c (with_config (all_off p) c) (off_still p c.config) r.waiting r.taken r) h
 
-  selection_safe : (left : Left) (next : Option (List ℕ)) → IsSafePhase (select_record p left next)
-  selection_safe left next c e d out r h =
-      let stays = selection_stays p left (is_on c.config last_record) next c.config in
-      let still : Still stays.0 c.config d.config = subst (λ (y : UnderWay). Still stays.0 c.config y.config) (sym h.1) stays.1 in
-      let there : UnderWay = record { config = d.config; selected = None } in
-      let ready : Ready p nothing (reach p c.config) c = record { values = r.values; no_cell = r.no_cell; taken = r.taken; few = omega arith } in
-      let one = selection_works p orderly left next (reach p c.config) c ready in
-      let ends : one.ending ≡ e = one.phase.0 ∙ sym h.0 in
-      let leads : one.leads ≡ d = one.phase.1 ∙ sym h.1 in
-      record {
-        steady = steady_there there (rests_still stays.0 c there still tt r);
-        rests = λ goes. rests_still stays.0 c d still (subst (λ (y : UnderWay). IsTaken p y.selected) leads (one.comes.ready (ends ∙ goes)).taken) r;
-      }
+  -- a step of phase 4
+  picked_safely : (a : ℕ) (f : UnderWay → Done) → ((c : UnderWay) → AreWaiting p c.inputs → IsTaken p c.selected → Picks p a c (f c)) → IsSafePhase (does f)
+  picked_safely a f picks c e d out r h =
+      let k = picks c r.waiting r.taken in
+      does_safely f c e d out (rests_still k.weight c (f c).leads k.still k.waiting k.taken r) h
+
+  taking_safe : (left : Left) (f : InputFile) (next : Option (List ℕ)) → IsSafePhase (take_in p left f next)
+  taking_safe left f next =
+      picked_safely (taking_weight f p.types) (λ c. cond (takes_in p c.inputs f) (read_record p left f next c) (done GoesOn c)) (λ c waiting taken. takes p orderly left f c waiting taken next)
+
+  selecting_safe : (left : Left) → IsSafePhase (select_one p left)
+  selecting_safe left =
+      picked_safely (moving_weight p.types) (λ c. select_from p left (chosen p (waiting_in c.inputs Primary) (waiting_in c.inputs Secondary)) c)
+      (λ c waiting taken. selects p orderly left c waiting taken (chosen p (waiting_in c.inputs Primary) (waiting_in c.inputs Secondary)))
+
+  selected_safe : (left : Left) (primary secondary : Option (List ℕ)) (b : Bool) →
+      IsSafePhase (either b (does (λ c. done GoesOn (with_config (with_all level_indicators true) c))) (take_in p left Primary primary before take_in p left Secondary secondary before select_one p left))
+  selected_safe left primary secondary true = picked_safely 0 (λ c. done GoesOn (with_config (with_all level_indicators true) c)) (λ c waiting taken. levels_alone p 0 c waiting taken)
+  selected_safe left primary secondary false =
+      both_safe (take_in p left Primary primary) (take_in p left Secondary secondary before select_one p left) (taking_safe left Primary primary)
+      (both_safe (take_in p left Secondary secondary) (select_one p left) (taking_safe left Secondary secondary) (selecting_safe left))
+
+  selection_safe : (left : Left) (primary secondary : Option (List ℕ)) → IsSafePhase (select_record p left primary secondary)
+  selection_safe left primary secondary c e d out r h = selected_safe left primary secondary (is_on c.config last_record) c e d out r h
+
+  showing_safe : (matches : Inputs → Selected → Bool) → IsSafePhase (show_match matches)
+  showing_safe matches c e d out r h =
+      let on = if_selected (matches c.inputs) c.selected in
+      does_safely (λ c. done GoesOn (with_config (with_one matching_record (if_selected (matches c.inputs) c.selected)) c)) c e d out
+      (rests_still 0 c (with_config (with_one matching_record on) c) (one_still matching_record on c.config) r.waiting r.taken r) h
 
   totals_safe : (left : Left) → IsSafePhase (total_time p left)
   totals_safe left =
@@ -165,17 +193,17 @@ module _ (p : Object) (orderly : IsOrderly p) where
   overflow_safe : IsSafePhase (overflow_lines p)
   overflow_safe = unless_safe (has_no_overflow p.overflow) (output p times.Overflow) (output_safe times.Overflow)
 
-  filled_safely : (config : Config) (s : Option Selected) (e : PhaseEnd) (d : UnderWay) (out : Output) → Rests (record { config = config; selected = s }) →
-      fill_from p s (record { config = config; selected = s }) e d out → Leads e d
-  filled_safely config None e d out r h = does_safely (done GoesOn) (record { config = config; selected = None }) e d out r h
-  filled_safely config (Some s) e d out r h =
+  filled_safely : (config : Config) (i : Inputs) (s : Option Selected) (e : PhaseEnd) (d : UnderWay) (out : Output) → Rests (record { config = config; inputs = i; selected = s }) →
+      fill_from p s (record { config = config; inputs = i; selected = s }) e d out → Leads e d
+  filled_safely config i None e d out r h = does_safely (done GoesOn) (record { config = config; inputs = i; selected = None }) e d out r h
+  filled_safely config i (Some s) e d out r h =
       let inputs = inputs_at p s.type in
       let right = subst (λ (len : ℕ). All (λ f. input_fault (form_at p.fields) len f ≡ None) inputs) (sym r.taken.long) (inputs_right p s.type orderly.sound) in
-      effect_safely (length inputs) (record_in (form_at p.fields) s.text inputs) (record { config = config; selected = Some s }) e d out r
+      effect_safely (length inputs) (record_in (form_at p.fields) s.text inputs) (record { config = config; inputs = i; selected = Some s }) e d out r
       (record_keeps p orderly.forms s.text inputs config.world right r.taken.characters r.values) h
 
   filling_safe : IsSafePhase (fill_fields p)
-  filling_safe c e d out r h = filled_safely c.config c.selected e d out r h
+  filling_safe c e d out r h = filled_safely c.config c.inputs c.selected e d out r h
 
   -- ---- what it comes by
 
@@ -213,85 +241,68 @@ module _ (p : Object) (orderly : IsOrderly p) where
 
   -- ---- cycles
 
-  module _ (left : Left) (next : Option (List ℕ)) where
-    abbrev from_filling : Phase
-    from_filling = fill_fields p before detail_calculations p
+  abbrev behind_match : Phase
+  behind_match = fill_fields p before detail_calculations p
 
-    abbrev from_overflow : Phase
-    from_overflow = overflow_lines p before from_filling
-
+  module _ (left : Left) (matches : Inputs → Selected → Bool) (primary secondary : Option (List ℕ)) where
     abbrev from_ending : Phase
-    from_ending = end_where_last before from_overflow
-
-    abbrev from_totals : Phase
-    from_totals = total_time p left before from_ending
+    from_ending = end_where_last before overflow_lines p before show_match matches before behind_match
 
     abbrev from_selection : Phase
-    from_selection = select_record p left next before from_totals
+    from_selection = select_record p left primary secondary before after_selection p left matches
 
-    abbrev from_off : Phase
-    from_off = set_off p before from_selection
-
-    abbrev from_halt : Phase
-    from_halt = halt_where_asked before from_off
-
-    cycle_safe : IsSafePhase (CycleOn p left next)
+    cycle_safe : IsSafePhase (CycleOn p left matches primary secondary)
     cycle_safe =
-        both_safe (detail_lines p) from_halt (output_safe times.Detail)
-        (both_safe halt_where_asked from_off halt_safe
+        both_safe (detail_lines p) (halt_where_asked before set_off p before from_selection) (output_safe times.Detail)
+        (both_safe halt_where_asked (set_off p before from_selection) halt_safe
         (both_safe (set_off p) from_selection off_safe
-        (both_safe (select_record p left next) from_totals (selection_safe left next)
+        (both_safe (select_record p left primary secondary) (after_selection p left matches) (selection_safe left primary secondary)
         (both_safe (total_time p left) from_ending (totals_safe left)
-        (both_safe end_where_last from_overflow end_safe
-        (both_safe (overflow_lines p) from_filling overflow_safe
-        (both_safe (fill_fields p) (detail_calculations p) filling_safe (section_safe sections.Detail refl))))))))
+        (both_safe end_where_last (overflow_lines p before show_match matches before behind_match) end_safe
+        (both_safe (overflow_lines p) (show_match matches before behind_match) overflow_safe
+        (both_safe (show_match matches) behind_match (showing_safe matches)
+        (both_safe (fill_fields p) (detail_calculations p) filling_safe (section_safe sections.Detail refl)))))))))
 
     abbrev filling_way : Way
     filling_way = fill_fields p onto within p sections.Detail
 
-    abbrev overflow_way : Way
-    overflow_way = overflow_lines p onto filling_way
-
     abbrev ending_way : Way
-    ending_way = end_where_last onto overflow_way
+    ending_way = end_where_last onto overflow_lines p onto show_match matches onto filling_way
 
     abbrev totals_way : Way
     totals_way = along (total_time p left) (total_way p left) ending_way
 
-    abbrev selection_way : Way
-    selection_way = select_record p left next onto totals_way
-
     abbrev off_way : Way
-    off_way = set_off p onto selection_way
+    off_way = set_off p onto select_record p left primary secondary onto totals_way
 
-    abbrev halt_way : Way
-    halt_way = halt_where_asked onto off_way
-
-    phases_safe : IsSafeWay (phases_way p left next)
+    phases_safe : IsSafeWay (phases_way p left matches primary secondary)
     phases_safe =
-        onto_safe (detail_lines p) halt_way (output_safe times.Detail)
+        onto_safe (detail_lines p) (halt_where_asked onto off_way) (output_safe times.Detail)
         (onto_safe halt_where_asked off_way halt_safe
-        (onto_safe (set_off p) selection_way off_safe
-        (onto_safe (select_record p left next) totals_way (selection_safe left next)
+        (onto_safe (set_off p) (select_record p left primary secondary onto totals_way) off_safe
+        (onto_safe (select_record p left primary secondary) totals_way (selection_safe left primary secondary)
         (along_safe (total_time p left) (total_way p left) ending_way (totals_safe left) (total_way_safe left)
-        (onto_safe end_where_last overflow_way end_safe
-        (onto_safe (overflow_lines p) filling_way overflow_safe
-        (onto_safe (fill_fields p) (within p sections.Detail) filling_safe (within_safe sections.Detail refl))))))))
+        (onto_safe end_where_last (overflow_lines p onto show_match matches onto filling_way) end_safe
+        (onto_safe (overflow_lines p) (show_match matches onto filling_way) overflow_safe
+        (onto_safe (show_match matches) filling_way (showing_safe matches)
+        (onto_safe (fill_fields p) (within p sections.Detail) filling_safe (within_safe sections.Detail refl)))))))))
 
-  way_safe : (earlier : List Selected) (next : Option (List ℕ)) → IsSafeWay (cycle_way p earlier next)
-  way_safe earlier next c x r (inl is) = same_steady x c.config is (steady_there c r)
-  way_safe earlier next c x r (inr h) = phases_safe (left_by p earlier) next c x r h
+  way_safe : (earlier : List Selected) (primary secondary : Option (List ℕ)) → IsSafeWay (cycle_way p earlier primary secondary)
+  way_safe earlier primary secondary c x r (inl is) = same_steady x c.config is (steady_there c r)
+  way_safe earlier primary secondary c x r (inr h) = phases_safe (left_by p earlier) (has_match p earlier) primary secondary c x r h
 
   -- ---- runs
 
-  again : (d : UnderWay) → Rests d → Rests (begun p d.config)
-  again d r = record { values = r.values; ended = r.ended; place = r.place; no_cell = r.no_cell; taken = tt }
+  again : (d : UnderWay) → Rests d → Rests (begun p d.config d.inputs)
+  again d r = record { values = r.values; ended = r.ended; place = r.place; no_cell = r.no_cell; waiting = r.waiting; taken = tt }
 
-  visits_safe : (records : List (List ℕ)) (earlier : List Selected) (c x : Config) → Rests (begun p c) → Visits p earlier records c x → IsSteady p x
-  visits_safe [] earlier c x r h = way_safe earlier None (begun p c) x r h
-  visits_safe (t ∷ ts) earlier c x r h =
-      along_safe (Cycle p earlier (Some t)) (cycle_way p earlier (Some t)) (λ d y. Visits p (with_record d.selected earlier) ts d.config y) (cycle_safe (left_by p earlier) (Some t))
-      (way_safe earlier (Some t)) (λ d y k v. visits_safe ts (with_record d.selected earlier) d.config y (again d k) v) (begun p c) x r h
+  visits_safe : (n : ℕ) (earlier : List Selected) (rs : Records) (c : Config) (i : Inputs) (x : Config) → Rests (begun p c i) → Visits n p earlier rs c i x → IsSteady p x
+  visits_safe zero earlier rs c i x r h = absurd h
+  visits_safe (suc n) earlier rs c i x r h =
+      along_safe (next_cycle p earlier rs c i) (next_way p earlier rs c i) (λ d y. Visits n p (with_record d.selected earlier) (left_behind p c i rs) d.config d.inputs y)
+      (cycle_safe (left_by p earlier) (has_match p earlier) (next_of (needs_record p c i Primary) rs.primary) (next_of (needs_record p c i Secondary) rs.secondary))
+      (way_safe earlier (next_of (needs_record p c i Primary) rs.primary) (next_of (needs_record p c i Secondary) rs.secondary))
+      (λ d y k v. visits_safe n (with_record d.selected earlier) (left_behind p c i rs) d.config d.inputs y (again d k) v) (begun p c i) x r h
 
   at_end : (n e : ℕ) → n ≡ e → (b : Bool) → nat_lt n e ≡ b → (nat_le 0 n && (nat_lt n e || (true && eqb n e))) ≡ true
   at_end n e same true t = rw (le-leb 0 n (omega arith), t)
@@ -302,8 +313,8 @@ module _ (p : Object) (orderly : IsOrderly p) where
   behind_detail = at_end (length p.detail) (0 + length p.detail) (omega arith) _ refl
 
   -- every configuration of a run
-  pub visited_steady : (date : ℤ) (fields : Fields nat_cmp) (records : List (List ℕ)) (x : Config) → unsigned_abs date < 10 ^ 6 → Holds p (job_first_world fields) →
+  pub visited_steady : (date : ℤ) (fields : Fields nat_cmp) (records : Records) (x : Config) → unsigned_abs date < 10 ^ 6 → Holds p (job_first_world fields) →
       IsOfRun p date fields records x → IsSteady p x
-  visited_steady date fields records x small h =
-      visits_safe records [] (job_start p date fields) x
-      (record { values = start_holds p orderly.program date small fields h; ended = refl; place = behind_detail; no_cell = refl; taken = tt })
+  visited_steady date fields records x small h (n, visits) =
+      visits_safe n [] records (job_start p date fields) unread x
+      (record { values = start_holds p orderly.program date small fields h; ended = refl; place = behind_detail; no_cell = refl; waiting = unread_waits p; taken = tt }) visits

@@ -15,6 +15,7 @@ use Rattle.rpg_machine.specs.Running.{Behaviour}
 use Rattle.rpg_object_program.specs.Kept.{IsCharacter}
 use Rattle.rpg_object_program.specs.Object.{Object}
 use Rattle.rpg_cycle_safety.specs.Coming.{IsCycleEnd}
+use Rattle.rpg_cycle_safety.specs.Waiting.{AreWaiting}
 use Rattle.rpg_verify.specs.Bound.{most}
 
 -- the steps used, and those that what is left of the allowance can still buy
@@ -47,6 +48,7 @@ module _ (p : Object) where
   pub record Ready (owed : Owed) (n : ℕ) (c : UnderWay) : Type 0 where
     pub values : Holds p c.config.world
     pub no_cell : c.config.cells ≡ map.empty
+    pub waiting : AreWaiting p c.inputs
     pub taken : IsTaken c.selected
     pub few : reach p c.config + owed c.selected ≤ n
 
@@ -54,6 +56,7 @@ module _ (p : Object) where
   pub record Comes (owed : Owed) (n : ℕ) (e : PhaseEnd) (d : UnderWay) : Type 0 where
     pub named : IsCycleEnd e
     pub values : Holds p d.config.world
+    pub waiting : AreWaiting p d.inputs
     pub few : reach p d.config ≤ n
     pub ready : e ≡ GoesOn → Ready owed n d
 
@@ -69,18 +72,19 @@ module _ (p : Object) where
   Works P owed left a = (n : ℕ) (c : UnderWay) → Ready owed n c → Outcome P left (n + a) c
 
   ready_more : (owed : Owed) (n m : ℕ) (c : UnderWay) → n ≤ m → Ready owed n c → Ready owed m c
-  ready_more owed n m c l r = let few = r.few in record { values = r.values; no_cell = r.no_cell; taken = r.taken; few = omega (arith, few, l) }
+  ready_more owed n m c l r = let few = r.few in record { values = r.values; no_cell = r.no_cell; waiting = r.waiting; taken = r.taken; few = omega (arith, few, l) }
 
   comes_more : (owed : Owed) (n m : ℕ) (e : PhaseEnd) (d : UnderWay) → n ≤ m → Comes owed n e d → Comes owed m e d
-  comes_more owed n m e d l r = let few = r.few in record { named = r.named; values = r.values; few = omega (arith, few, l); ready = λ is. ready_more owed n m d l (r.ready is) }
+  comes_more owed n m e d l r = let few = r.few in record { named = r.named; values = r.values; waiting = r.waiting; few = omega (arith, few, l); ready = λ is. ready_more owed n m d l (r.ready is) }
 
   -- goes on from there
   pub goes : (owed : Owed) (n : ℕ) (d : UnderWay) → Ready owed n d → Comes owed n GoesOn d
-  goes owed n d r = let few = r.few in record { named = tt; values = r.values; few = omega (arith, few); ready = λ is. r }
+  goes owed n d r = let few = r.few in record { named = tt; values = r.values; waiting = r.waiting; few = omega (arith, few); ready = λ is. r }
 
   -- ends there
-  pub ends : (owed : Owed) (n : ℕ) (e : PhaseEnd) (d : UnderWay) → IsCycleEnd e → (e ≡ GoesOn → ⊥) → Holds p d.config.world → reach p d.config ≤ n → Comes owed n e d
-  ends owed n e d named stops values few = record { named = named; values = values; few = few; ready = λ is. absurd (stops is) }
+  pub ends : (owed : Owed) (n : ℕ) (e : PhaseEnd) (d : UnderWay) → IsCycleEnd e → (e ≡ GoesOn → ⊥) → Holds p d.config.world → AreWaiting p d.inputs → reach p d.config ≤ n →
+      Comes owed n e d
+  ends owed n e d named stops values waiting few = record { named = named; values = values; waiting = waiting; few = few; ready = λ is. absurd (stops is) }
 
   -- ---- one after another
 
@@ -99,14 +103,14 @@ module _ (p : Object) where
       leads = m;
       output = put;
       phase = (EndOfJob, m, put, h, (refl, refl, refl));
-      comes = let few = comes.few in ends z (n + (a + b)) EndOfJob m tt (λ is. cc) comes.values (omega (arith, few));
+      comes = let few = comes.few in ends z (n + (a + b)) EndOfJob m tt (λ is. cc) comes.values comes.waiting (omega (arith, few));
     }
     then_by (Halt k) m put h comes second = record {
       ending = Halt k;
       leads = m;
       output = put;
       phase = (Halt k, m, put, h, (refl, refl, refl));
-      comes = let few = comes.few in ends z (n + (a + b)) (Halt k) m comes.named (λ is. cc) comes.values (omega (arith, few));
+      comes = let few = comes.few in ends z (n + (a + b)) (Halt k) m comes.named (λ is. cc) comes.values comes.waiting (omega (arith, few));
     }
     then_by (Wrong f) m put h comes second = absurd comes.named
 
@@ -160,14 +164,15 @@ module _ (p : Object) where
       let few = r.few in
       record {
         ending = phase_end o.last;
-        leads = record { config = o.leads; selected = c.selected };
+        leads = record { config = o.leads; inputs = c.inputs; selected = c.selected };
         output = o.output;
-        phase = (o.last, o.act, refl, refl);
+        phase = (o.last, o.act, refl, refl, refl);
         comes = record {
           named = o.named;
           values = o.values;
+          waiting = r.waiting;
           few = omega (arith, grown, few);
-          ready = λ is. record { values = o.values; no_cell = o.no_cell (going o.last is); taken = r.taken; few = omega (arith, grown, few) };
+          ready = λ is. record { values = o.values; no_cell = o.no_cell (going o.last is); waiting = r.waiting; taken = r.taken; few = omega (arith, grown, few) };
         };
       }
 

@@ -4,3 +4,4 @@ pub mod Holding
 pub mod Leading
 pub mod Measuring
 pub mod Visiting
+pub mod Waiting

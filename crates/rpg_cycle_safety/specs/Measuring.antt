@@ -1,13 +1,16 @@
 -- How many bytes a cycle of a run puts out, for the printer and for the disk together.
-use Rattle.std.specs.Prelude.{◌≡◌, ℕ, ◌+◌, ◌*◌, ◌≤◌, ◌⊎◌, ℤ, List, [], ◌∷◌, Option, None, Some, length}
+use Rattle.std.specs.Prelude.{◌≡◌, ℕ, ◌+◌, ◌*◌, ◌≤◌, ◌⊎◌, ℤ, zero, suc, List, [], Option, None, length}
 use Rattle.std.specs.Ordering.{nat_cmp}
 use Rattle.rpg_cycle_records.specs.Earlier.{Selected, with_record}
+use Rattle.rpg_cycle_records.specs.Waiting.{Inputs, unread}
 use Rattle.rpg_cycle.specs.Ends.{PhaseEnd, GoesOn}
 use Rattle.rpg_cycle.specs.Job.{AtWork}
-use Rattle.rpg_cycle.specs.Phases.{Cycle, UnderWay, begun}
+use Rattle.rpg_cycle.specs.Phases.{UnderWay, begun}
+use Rattle.rpg_cycle.specs.Runs.{Records, left_behind}
 use Rattle.rpg_cycle.specs.Starting.{job_start}
 use Rattle.rpg_effect.specs.Put.{disk_bytes}
 use Rattle.rpg_effect.specs.World.{Fields}
+use Rattle.rpg_cycle_safety.specs.Coming.{next_cycle}
 use Rattle.rpg_machine.specs.Config.{Config, Output}
 use Rattle.rpg_object_program.specs.Object.{Object}
 use Rattle.rpg_paper.specs.Form.{page_or_1}
@@ -43,19 +46,18 @@ pending j = length j.output.print + length j.output.disk
 
 -- ---- the cycles of a run
 
--- a cycle with the record that is next put this out, behind the line placed last
-abbrev pub IsOfCycle : Object → List Selected → Option (List ℕ) → Option Position → Config → Option Position → Output → Type 0
-IsOfCycle p earlier next previous c last out =
-    (last ≡ previous) × (e : PhaseEnd) × (d : UnderWay) × Cycle p earlier next (begun p c) e d out
+-- a run's next cycle put this out, behind the line placed last
+abbrev pub IsOfCycle : Object → List Selected → Records → Option Position → Config → Inputs → Option Position → Output → Type 0
+IsOfCycle p earlier rs previous c i last out = (last ≡ previous) × (e : PhaseEnd) × (d : UnderWay) × next_cycle p earlier rs c i (begun p c i) e d out
 
--- this cycle, or one of those behind it, over the records that are left
-abbrev pub IsOfCycles : Object → List Selected → List (List ℕ) → Option Position → Config → Option Position → Output → Type 0
-IsOfCycles p earlier [] previous c last out = IsOfCycle p earlier None previous c last out
-IsOfCycles p earlier (r ∷ rs) previous c last out =
-    IsOfCycle p earlier (Some r) previous c last out
-    ⊎ ((d : UnderWay) × (first : Output) × Cycle p earlier (Some r) (begun p c) GoesOn d first
-    × IsOfCycles p (with_record d.selected earlier) rs (last_position_from previous first.lines) d.config last out)
+-- this cycle, or one of so many, less one, that follow it, over the records that are left
+abbrev pub IsOfCycles : ℕ → Object → List Selected → Records → Option Position → Config → Inputs → Option Position → Output → Type 0
+IsOfCycles zero p earlier rs previous c i last out = ⊥
+IsOfCycles (suc n) p earlier rs previous c i last out =
+    IsOfCycle p earlier rs previous c i last out
+    ⊎ ((d : UnderWay) × (first : Output) × next_cycle p earlier rs c i (begun p c i) GoesOn d first
+    × IsOfCycles n p (with_record d.selected earlier) (left_behind p c i rs) (last_position_from previous first.lines) d.config d.inputs last out)
 
 -- what a cycle of the whole run of a program over records puts out, and the line placed last before it
-abbrev pub IsPutInRun : Object → ℤ → Fields nat_cmp → List (List ℕ) → Option Position → Output → Type 0
-IsPutInRun p date fields records last out = IsOfCycles p [] records None (job_start p date fields) last out
+abbrev pub IsPutInRun : Object → ℤ → Fields nat_cmp → Records → Option Position → Output → Type 0
+IsPutInRun p date fields records last out = (n : ℕ) × IsOfCycles n p [] records None (job_start p date fields) unread last out

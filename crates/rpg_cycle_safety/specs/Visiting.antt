@@ -1,11 +1,15 @@
 -- The configurations that a run comes by: where each cycle starts, where each of its phases leads, and all within its sections.
-use Rattle.std.specs.Prelude.{◌≡◌, ℕ, false, ◌⊎◌, ℤ, List, [], ◌∷◌, Option, None, Some}
+use Rattle.std.specs.Prelude.{◌≡◌, ℕ, zero, suc, Bool, false, ◌⊎◌, ℤ, List, [], Option}
 use Rattle.std.specs.Ordering.{nat_cmp}
 use Rattle.rpg_cycle_records.specs.Earlier.{Left, Selected, left_by, with_record}
+use Rattle.rpg_cycle_records.specs.Waiting.{Inputs, has_match, unread}
 use Rattle.rpg_cycle.specs.Ends.{PhaseEnd, GoesOn}
-use Rattle.rpg_cycle.specs.Phases.{Cycle, Phase, UnderWay, begun, detail_lines, end_where_last, fill_fields, halt_where_asked, is_bypassed, output, overflow_lines, section, select_record, set_off, total_time}
+use Rattle.rpg_cycle.specs.Phases.{Phase, UnderWay, begun, detail_lines, end_where_last, fill_fields, halt_where_asked, is_bypassed, needs_record, output, overflow_lines, section, select_record, set_off, show_match, total_time}
+use Rattle.rpg_cycle.specs.Runs.{Records, left_behind, next_of}
 use Rattle.rpg_cycle.specs.Starting.{job_start}
 use Rattle.rpg_effect.specs.World.{Fields}
+use Rattle.rpg_effect.specs.declared.input.InputFile.TheVariants.{Primary, Secondary}
+use Rattle.rpg_cycle_safety.specs.Coming.{next_cycle}
 use Rattle.rpg_machine.specs.Config.{Config, Output}
 use Rattle.rpg_machine.specs.Run.{at_first, run}
 use Rattle.rpg_machine.specs.Step.{Outcome, Next, Stop}
@@ -47,24 +51,30 @@ total_way p left c x =
     × along (section p sections.Total) (within p sections.Total) (end_of (output p times.Total)) c x
 
 -- those of a cycle behind its start
-abbrev pub phases_way : Object → Left → Option (List ℕ) → Way
-phases_way p left next =
+abbrev pub phases_way : Object → Left → (Inputs → Selected → Bool) → Option (List ℕ) → Option (List ℕ) → Way
+phases_way p left matches primary secondary =
     detail_lines p
     onto halt_where_asked
     onto set_off p
-    onto select_record p left next
-    onto along (total_time p left) (total_way p left) (end_where_last onto overflow_lines p onto fill_fields p onto within p sections.Detail)
+    onto select_record p left primary secondary
+    onto along (total_time p left) (total_way p left)
+    (end_where_last onto overflow_lines p onto show_match matches onto fill_fields p onto within p sections.Detail)
 
--- those of a cycle behind those that selected the earlier records, with the record that is next
-abbrev pub cycle_way : Object → List Selected → Option (List ℕ) → Way
-cycle_way p earlier next c x = (x ≡ c.config) ⊎ phases_way p (left_by p earlier) next c x
+-- those of a cycle behind those that selected the earlier records, with the records that are next
+abbrev pub cycle_way : Object → List Selected → Option (List ℕ) → Option (List ℕ) → Way
+cycle_way p earlier primary secondary c x = (x ≡ c.config) ⊎ phases_way p (left_by p earlier) (has_match p earlier) primary secondary c x
 
--- those of a run from a configuration, behind earlier records (the last first), over the records that are left
-abbrev pub Visits : Object → List Selected → List (List ℕ) → Config → Config → Type 0
-Visits p earlier [] c x = cycle_way p earlier None (begun p c) x
-Visits p earlier (r ∷ rs) c x =
-    along (Cycle p earlier (Some r)) (cycle_way p earlier (Some r)) (λ d y. Visits p (with_record d.selected earlier) rs d.config y) (begun p c) x
+-- those of a run's next cycle, over records
+abbrev pub next_way : Object → List Selected → Records → Config → Inputs → Way
+next_way p earlier rs c i = cycle_way p earlier (next_of (needs_record p c i Primary) rs.primary) (next_of (needs_record p c i Secondary) rs.secondary)
+
+-- those of so many cycles of a run from a configuration and files, behind earlier records (the last first), over the records that are left
+abbrev pub Visits : ℕ → Object → List Selected → Records → Config → Inputs → Config → Type 0
+Visits zero p earlier rs c i x = ⊥
+Visits (suc n) p earlier rs c i x =
+    along (next_cycle p earlier rs c i) (next_way p earlier rs c i)
+    (λ d y. Visits n p (with_record d.selected earlier) (left_behind p c i rs) d.config d.inputs y) (begun p c i) x
 
 -- those of the whole run of a program over records, on a date, with what its fields hold at first
-abbrev pub IsOfRun : Object → ℤ → Fields nat_cmp → List (List ℕ) → Config → Type 0
-IsOfRun p date fields records x = Visits p [] records (job_start p date fields) x
+abbrev pub IsOfRun : Object → ℤ → Fields nat_cmp → Records → Config → Type 0
+IsOfRun p date fields records x = (n : ℕ) × Visits n p [] records (job_start p date fields) unread x

@@ -20,6 +20,8 @@ pub enum Halt {
     IndicatorOn,
     /// A record that is too long, or has a byte that is no character.
     BadRecord,
+    /// A record whose match value is lower than the last one of its file.
+    OutOfSequence,
 }
 
 impl Halt {
@@ -35,6 +37,7 @@ impl Halt {
             Halt::AllowanceSpent => 5,
             Halt::IndicatorOn => 6,
             Halt::BadRecord => 7,
+            Halt::OutOfSequence => 8,
         }
     }
 
@@ -48,6 +51,8 @@ impl Halt {
             Halt::AllowanceSpent => "the cycle has no allowance left for a branch back or a call",
             Halt::IndicatorOn => "a halt indicator is on",
             Halt::BadRecord => "the record is too long, or a byte of it is no character",
+            Halt::OutOfSequence =>
+                "the record's match value is lower than the last one of its file",
         }
     }
 }

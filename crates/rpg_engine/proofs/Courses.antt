@@ -1,15 +1,17 @@
 -- Runs under way: what was done so far, and what is left.
-use Rattle.std.proofs.Common.{◌≡◌, ℕ, suc, ◌+◌, max, List, [], ◌∷◌, ◌++◌, length, None, Some, refl, sym, ap, ◌∙◌, subst, append_assoc, append-nil, arith}
+use Rattle.std.proofs.Common.{◌≡◌, ℕ, zero, suc, ◌+◌, ◌<◌, max, List, [], ◌++◌, refl, sym, ap, ◌∙◌, subst, append_assoc, append-nil, add-one, arith}
+use Rattle.rpg_cycle.proofs.Counting.{own_count}
+use Rattle.rpg_cycle.proofs.OneRun.{cycle_fixed}
 use Rattle.rpg_cycle_records.specs.Earlier.{Selected, left_by, with_record}
+use Rattle.rpg_cycle_records.specs.Waiting.{Inputs, has_match, unread}
+use Rattle.rpg_effect.specs.declared.input.InputFile.TheVariants.{Primary, Secondary}
 use Rattle.rpg_cycle.specs.Ends.{PhaseEnd, GoesOn, EndOfJob, Halt, Wrong}
-use Rattle.rpg_cycle.specs.Phases.{Cycle, UnderWay, begun}
-use Rattle.rpg_cycle.specs.Runs.{Course, Runs, ends_or, last_cycle, with_cycle}
+use Rattle.rpg_cycle.specs.Phases.{Cycle, UnderWay, begun, needs_record}
+use Rattle.rpg_cycle.specs.Runs.{Course, Records, Runs, RunsIn, ends_or, last_cycle, left_behind, next_of, with_cycle}
 use Rattle.rpg_paper.specs.Paper.{Placed}
 use Rattle.rpg_machine.specs.Config.{Config, Output, no_output, with_more}
 use Rattle.rpg_object_program.specs.Object.{Object}
-use Rattle.rpg_engine.specs.Streaming.{HeadCycle}
-use Rattle.rpg_engine.proofs.Determined.{cycle_sure}
-use Rattle.rpg_engine.proofs.Passing.{never_on}
+use Rattle.rpg_engine.specs.Reporting.{GoesOnFor}
 
 -- a course with cycles before it
 abbrev pub behind : ℕ → ℕ → Output → Course → Course
@@ -47,64 +49,142 @@ one_behind cycles most greater c out more course g =
     same_course course.ending course.there (cycles + (1 + course.cycles)) (cycles + 1 + course.cycles) (max most (max c.steps course.most)) (max greater course.most)
     (with_more out (with_more more course.output)) (with_more (with_more out more) course.output) (omega arith) (omega (arith, g)) (more_assoc out more course.output)
 
+-- ---- cycles that went on
+
+-- the earlier records, the records that are left, the configuration and the files of a run
+pub record Stand : Type 0 where
+  pub earlier : List Selected
+  pub rest : Records
+  pub now : Config
+  pub inputs : Inputs
+
+abbrev pub stand : List Selected → Records → Config → Inputs → Stand
+stand earlier rest now i = record { earlier = earlier; rest = rest; now = now; inputs = i }
+
+-- so many cycles went on, put this out and led there
+abbrev pub GoesOnTo : ℕ → Object → List Selected → Records → Config → Inputs → Output → Stand → Type 0
+GoesOnTo n p earlier rs c i out there = GoesOnFor n p earlier rs c i out (λ e r d j. stand e r d j ≡ there)
+
+-- one cycle more goes on from there
+record GoesOnOnce (p : Object) (s : Stand) (o : Output) (Then : List Selected → Records → Config → Inputs → Type 0) : Type 0 where
+  d : UnderWay
+  cycle : Cycle p s.earlier (next_of (needs_record p s.now s.inputs Primary) s.rest.primary) (next_of (needs_record p s.now s.inputs Secondary) s.rest.secondary) (begun p s.now s.inputs) GoesOn d o
+  then : Then (with_record d.selected s.earlier) (left_behind p s.now s.inputs s.rest) d.config d.inputs
+
+go_on_more : (n : ℕ) (p : Object) (earlier : List Selected) (rs : Records) (c : Config) (i : Inputs) (out o : Output) (there : Stand) (Then : List Selected → Records → Config → Inputs → Type 0)
+    → GoesOnOnce p there o Then → GoesOnTo n p earlier rs c i out there → GoesOnFor (suc n) p earlier rs c i (with_more out o) Then
+go_on_more zero p earlier rs c i out o there Then once (none, at) =
+    let here : GoesOnOnce p (stand earlier rs c i) o Then = subst (λ (s : Stand). GoesOnOnce p s o Then) (sym at) once in
+    (here.d, o, no_output, here.cycle, ap (λ (x : Output). with_more x o) none ∙ sym (more_none o), (refl, here.then))
+go_on_more (suc n) p earlier rs c i out o there Then once (d, first, more, cycle, is, rest) = (
+  d,
+  first,
+  with_more more o,
+  cycle,
+  ap (λ (x : Output). with_more x o) is ∙ sym (more_assoc first more o),
+  go_on_more n p (with_record d.selected earlier) (left_behind p c i rs) d.config d.inputs more o there Then once rest,
+)
+
+-- what holds there holds of what they led to
+pub goes_on_to : (n : ℕ) (p : Object) (earlier : List Selected) (rs : Records) (c : Config) (i : Inputs) (out : Output) (there : Stand) (Then : List Selected → Records → Config → Inputs → Type 0)
+    → Then there.earlier there.rest there.now there.inputs → GoesOnTo n p earlier rs c i out there → GoesOnFor n p earlier rs c i out Then
+goes_on_to zero p earlier rs c i out there Then holds (none, at) = (none, subst (λ (s : Stand). Then s.earlier s.rest s.now s.inputs) (sym at) holds)
+goes_on_to (suc n) p earlier rs c i out there Then holds (d, first, more, cycle, is, rest) =
+    (d, first, more, cycle, is, goes_on_to n p (with_record d.selected earlier) (left_behind p c i rs) d.config d.inputs more there Then holds rest)
+
 -- ---- a run under way
 
--- From the start over all records, so many cycles were done, behind which these earlier records, this configuration and these
--- records are left: a course of what is left is one of all, and each course of all comes from one of what is left.
-pub record IsUnderWay (p : Object) (start : Config) (all : List (List ℕ)) (earlier : List Selected) (now : Config) (rest : List (List ℕ)) (cycles most : ℕ) (out : Output) : Type 0 where
-  pub forth : (course : Course) → Runs p earlier rest now course → Runs p [] all start (behind cycles most out course)
-  pub back : (course : Course) → Runs p [] all start course → (later : Course) × Runs p earlier rest now later × (course ≡ behind cycles most out later)
-  pub counted : length all ≡ cycles + length rest
+-- From the start over all records, so many cycles were done, behind which these earlier records, this configuration, these files and these
+-- records are left: all these cycles went on, a course of what is left is one of all, and each course of all comes from one of what is left.
+pub record IsUnderWay (p : Object) (start : Config) (all : Records) (earlier : List Selected) (now : Config) (i : Inputs) (rest : Records) (cycles most : ℕ) (out : Output) : Type 0 where
+  pub gone : GoesOnTo cycles p [] all start unread out (stand earlier rest now i)
+  pub forth : (course : Course) → Runs p earlier rest now i course → Runs p [] all start unread (behind cycles most out course)
+  pub back : (course : Course) → Runs p [] all start unread course → (later : Course) × Runs p earlier rest now i later × (course ≡ behind cycles most out later)
 
-pub begins : (p : Object) (start : Config) (all : List (List ℕ)) → IsUnderWay p start all [] start all 0 0 no_output
+pub begins : (p : Object) (start : Config) (all : Records) → IsUnderWay p start all [] start unread all 0 0 no_output
 begins p start all = record {
-  forth = λ course runs. subst (λ c. Runs p [] all start c) (sym (none_before course)) runs;
+  gone = (refl, refl);
+  forth = λ course runs. subst (λ c. Runs p [] all start unread c) (sym (none_before course)) runs;
   back = λ course runs. (course, runs, sym (none_before course));
-  counted = omega arith;
 }
 
 -- ---- one more cycle
 
--- the first cycle of what is left is the one that was done
-first_is : (p : Object) (earlier : List Selected) (r : List ℕ) (rs : List (List ℕ)) (now : Config) (e : PhaseEnd) (d : UnderWay) (o : Output) (later : Course)
-    → Cycle p earlier (Some r) (begun p now) e d o → Runs p earlier (r ∷ rs) now later
-    → ends_or e d o (λ d rest. Runs p (with_record d.selected earlier) rs d.config rest) later
-first_is p earlier r rs now e d o later cycle runs =
-    let same = cycle_sure p (left_by p earlier) (Some r) (begun p now) runs.0 e runs.1 d runs.2 o runs.3 cycle in
-    subst (λ (x : PhaseEnd). ends_or x d o (λ d rest. Runs p (with_record d.selected earlier) rs d.config rest) later) same.end
-    (subst (λ (x : UnderWay). ends_or runs.0 x o (λ d rest. Runs p (with_record d.selected earlier) rs d.config rest) later) same.leads
-    (subst (λ (x : Output). ends_or runs.0 runs.1 x (λ d rest. Runs p (with_record d.selected earlier) rs d.config rest) later) same.out runs.4))
+-- a cycle with the first of these records in each file that needs one; where it goes on, the others are left
+pub record HeadCycle (p : Object) (earlier : List Selected) (c : Config) (i : Inputs) (e : PhaseEnd) (d : UnderWay) (out : Output) (rs after : Records) : Type 0 where
+  pub cycle : Cycle p earlier (next_of (needs_record p c i Primary) rs.primary) (next_of (needs_record p c i Secondary) rs.secondary) (begun p c i) e d out
+  pub left : e ≡ GoesOn → after ≡ left_behind p c i rs
 
--- the same at the end of the records
-last_is : (p : Object) (earlier : List Selected) (now : Config) (e : PhaseEnd) (d : UnderWay) (o : Output) (later : Course)
-    → Cycle p earlier None (begun p now) e d o → Runs p earlier [] now later → ends_or e d o (λ d rest. ⊥) later
-last_is p earlier now e d o later cycle runs =
-    let same = cycle_sure p (left_by p earlier) None (begun p now) runs.0 e runs.1 d runs.2 o runs.3 cycle in
-    subst (λ (x : PhaseEnd). ends_or x d o (λ d rest. ⊥) later) same.end
-    (subst (λ (x : UnderWay). ends_or runs.0 x o (λ d rest. ⊥) later) same.leads
-    (subst (λ (x : Output). ends_or runs.0 runs.1 x (λ d rest. ⊥) later) same.out runs.4))
+-- what follows the first cycle of a run
+abbrev Rest : Object → List Selected → Config → Inputs → Records → UnderWay → Course → Type 0
+Rest p earlier c i rs d rest = Runs p (with_record d.selected earlier) (left_behind p c i rs) d.config d.inputs rest
 
-went_on : (p : Object) (start : Config) (all : List (List ℕ)) (earlier : List Selected) (now : Config) (r : List ℕ) (rs : List (List ℕ)) (cycles most greater : ℕ) (out : Output) (d : UnderWay) (o : Output)
-    → IsUnderWay p start all earlier now (r ∷ rs) cycles most out → Cycle p earlier (Some r) (begun p now) GoesOn d o → greater ≡ max most d.config.steps
-    → IsUnderWay p start all (with_record d.selected earlier) d.config rs (cycles + 1) greater (with_more out o)
-went_on p start all earlier now r rs cycles most greater out d o u cycle g = record {
-  forth = λ course runs.
-      subst (λ c. Runs p [] all start c) (one_behind cycles most greater d.config out o course g)
-      (u.forth (with_cycle d.config o course) (GoesOn, d, o, cycle, (course, runs, refl)));
-  back = λ course runs.
-      let later = u.back course runs in
-      let rest = first_is p earlier r rs now GoesOn d o later.0 cycle later.1 in
-      (rest.0, rest.1, later.2 ∙ ap (behind cycles most out) rest.2 ∙ one_behind cycles most greater d.config out o rest.0 g);
-  counted = u.counted ∙ (let e : cycles + suc (length rs) ≡ cycles + 1 + length rs = omega arith in e);
+-- a run begins with a cycle
+record HasFirst (p : Object) (earlier : List Selected) (c : Config) (i : Inputs) (rs : Records) (course : Course) : Type 0 where
+  e : PhaseEnd
+  d : UnderWay
+  out : Output
+  cycle : Cycle p earlier (next_of (needs_record p c i Primary) rs.primary) (next_of (needs_record p c i Secondary) rs.secondary) (begun p c i) e d out
+  ends : ends_or e d out (Rest p earlier c i rs) course
+
+by_count : (p : Object) (e : PhaseEnd) (d : UnderWay) (out : Output) (P Q : UnderWay → Course → Type 0) (course : Course) → ((rest : Course) → P d rest → Q d rest) → ends_or e d out P course → ends_or e d out Q course
+by_count p GoesOn d out P Q course f h = (h.0, f h.0 h.1, h.2)
+by_count p EndOfJob d out P Q course f h = h
+by_count p (Halt k) d out P Q course f h = h
+by_count p (Wrong k) d out P Q course f h = h
+
+has_first : (n : ℕ) (p : Object) (earlier : List Selected) (c : Config) (i : Inputs) (rs : Records) (course : Course) → RunsIn n p earlier rs c i course → HasFirst p earlier c i rs course
+has_first zero p earlier c i rs course runs = absurd runs
+has_first (suc n) p earlier c i rs course (e, d, out, cycle, ends) = record {
+  e = e;
+  d = d;
+  out = out;
+  cycle = cycle;
+  ends = by_count p e d out (λ d rest. RunsIn n p (with_record d.selected earlier) (left_behind p c i rs) d.config d.inputs rest) (Rest p earlier c i rs) course
+      (λ rest runs. own_count p n (with_record d.selected earlier) (left_behind p c i rs) d.config d.inputs rest runs) ends;
 }
 
-pub one_more : (p : Object) (start : Config) (all : List (List ℕ)) (earlier : List Selected) (now : Config) (rest after : List (List ℕ)) (cycles most greater : ℕ) (out : Output) (d : UnderWay) (o : Output)
-    → IsUnderWay p start all earlier now rest cycles most out → HeadCycle p earlier now GoesOn d o rest after → greater ≡ max most d.config.steps
-    → IsUnderWay p start all (with_record d.selected earlier) d.config after (cycles + 1) greater (with_more out o)
-one_more p start all earlier now [] after cycles most greater out d o u head g = absurd (never_on p (left_by p earlier) (begun p now) d o head)
-one_more p start all earlier now (r ∷ rs) after cycles most greater out d o u head g =
-    subst (λ (left : List (List ℕ)). IsUnderWay p start all (with_record d.selected earlier) d.config left (cycles + 1) greater (with_more out o)) (sym (head.1 refl))
-    (went_on p start all earlier now r rs cycles most greater out d o u head.0 g)
+-- a run has some cycle
+pub some_cycles : (n : ℕ) (p : Object) (earlier : List Selected) (c : Config) (i : Inputs) (rs : Records) (course : Course) → RunsIn n p earlier rs c i course → 0 < n
+some_cycles zero p earlier c i rs course runs = absurd runs
+some_cycles (suc n) p earlier c i rs course runs = omega arith
+
+-- the first cycle of what is left is the one that was done
+first_is : (p : Object) (earlier : List Selected) (now : Config) (i : Inputs) (rs after : Records) (e : PhaseEnd) (d : UnderWay) (o : Output) (later : Course)
+    → HeadCycle p earlier now i e d o rs after → Runs p earlier rs now i later → ends_or e d o (Rest p earlier now i rs) later
+first_is p earlier now i rs after e d o later head runs =
+    let first = has_first later.cycles p earlier now i rs later runs in
+    let same = (cycle_fixed p (left_by p earlier) (has_match p earlier) (next_of (needs_record p now i Primary) rs.primary) (next_of (needs_record p now i Secondary) rs.secondary)).same
+    (begun p now i) first.e e first.d d first.out o first.cycle head.cycle in
+    subst (λ (x : PhaseEnd). ends_or x d o (Rest p earlier now i rs) later) same.end
+    (subst (λ (x : UnderWay). ends_or first.e x o (Rest p earlier now i rs) later) same.there
+    (subst (λ (x : Output). ends_or first.e first.d x (Rest p earlier now i rs) later) same.out first.ends))
+
+-- and a cycle with what follows it is a run
+runs_first : (p : Object) (earlier : List Selected) (now : Config) (i : Inputs) (rs after : Records) (e : PhaseEnd) (d : UnderWay) (o : Output) (n : ℕ) (later : Course)
+    → HeadCycle p earlier now i e d o rs after → ends_or e d o (λ d rest. RunsIn n p (with_record d.selected earlier) (left_behind p now i rs) d.config d.inputs rest) later
+    → Runs p earlier rs now i later
+runs_first p earlier now i rs after e d o n later head ends = own_count p (suc n) earlier rs now i later (e, d, o, head.cycle, ends)
+
+pub one_more : (p : Object) (start : Config) (all : Records) (earlier : List Selected) (now : Config) (i : Inputs) (rest after : Records) (cycles most greater : ℕ) (out : Output) (d : UnderWay) (o : Output)
+    → IsUnderWay p start all earlier now i rest cycles most out → HeadCycle p earlier now i GoesOn d o rest after → greater ≡ max most d.config.steps
+    → IsUnderWay p start all (with_record d.selected earlier) d.config d.inputs after (cycles + 1) greater (with_more out o)
+one_more p start all earlier now i rest after cycles most greater out d o u head g = record {
+  gone = subst (λ (k : ℕ). GoesOnTo k p [] all start unread (with_more out o) (stand (with_record d.selected earlier) after d.config d.inputs)) (sym (add-one cycles))
+      (go_on_more cycles p [] all start unread out o (stand earlier rest now i) (λ e r x j. stand e r x j ≡ stand (with_record d.selected earlier) after d.config d.inputs)
+      (record { d = d; cycle = head.cycle; then = ap (λ (rs : Records). stand (with_record d.selected earlier) rs d.config d.inputs) (sym (head.left refl)) }) u.gone);
+  forth = λ course runs.
+      subst (λ c. Runs p [] all start unread c) (one_behind cycles most greater d.config out o course g)
+      (u.forth (with_cycle d.config o course) (runs_first p earlier now i rest after GoesOn d o course.cycles (with_cycle d.config o course) head
+      (course, subst (λ (rs : Records). Runs p (with_record d.selected earlier) rs d.config d.inputs course) (head.left refl) runs, refl)));
+  back = λ course runs.
+      let later = u.back course runs in
+      let more = first_is p earlier now i rest after GoesOn d o later.0 head later.1 in (
+        more.0,
+        subst (λ (rs : Records). Runs p (with_record d.selected earlier) rs d.config d.inputs more.0) (sym (head.left refl)) more.1,
+        later.2 ∙ ap (behind cycles most out) more.2 ∙ one_behind cycles most greater d.config out o more.0 g,
+      );
+}
 
 -- ---- the last cycle
 
@@ -120,16 +200,12 @@ ends_here EndOfJob d o Rest last = refl
 ends_here (Halt k) d o Rest last = refl
 ends_here (Wrong f) d o Rest last = refl
 
-ends_runs : (p : Object) (earlier : List Selected) (now : Config) (rest after : List (List ℕ)) (e : PhaseEnd) (d : UnderWay) (o : Output) → HeadCycle p earlier now e d o rest after → IsLast e
-    → Runs p earlier rest now (last_cycle e d o)
-ends_runs p earlier now [] after e d o head last = (e, d, o, head, ends_here e d o _ last)
-ends_runs p earlier now (r ∷ rs) after e d o head last = (e, d, o, head.0, ends_here e d o _ last)
-
 -- the whole run
-pub ends : (p : Object) (start : Config) (all : List (List ℕ)) (earlier : List Selected) (now : Config) (rest after : List (List ℕ)) (cycles most : ℕ) (out : Output) (e : PhaseEnd) (d : UnderWay) (o : Output)
-    → IsUnderWay p start all earlier now rest cycles most out → HeadCycle p earlier now e d o rest after → IsLast e
-    → Runs p [] all start (behind cycles most out (last_cycle e d o))
-ends p start all earlier now rest after cycles most out e d o u head last = u.forth (last_cycle e d o) (ends_runs p earlier now rest after e d o head last)
+pub ends : (p : Object) (start : Config) (all : Records) (earlier : List Selected) (now : Config) (i : Inputs) (rest after : Records) (cycles most : ℕ) (out : Output) (e : PhaseEnd) (d : UnderWay) (o : Output)
+    → IsUnderWay p start all earlier now i rest cycles most out → HeadCycle p earlier now i e d o rest after → IsLast e
+    → Runs p [] all start unread (behind cycles most out (last_cycle e d o))
+ends p start all earlier now i rest after cycles most out e d o u head last =
+    u.forth (last_cycle e d o) (runs_first p earlier now i rest after e d o 0 (last_cycle e d o) head (ends_here e d o _ last))
 
 -- ---- what each run puts out
 
@@ -145,17 +221,12 @@ with_first EndOfJob d o Rest later is = record { more = no_output; output = ap (
 with_first (Halt k) d o Rest later is = record { more = no_output; output = ap (λ (c : Course). c.output) is ∙ sym (more_none o); last = λ last. refl }
 with_first (Wrong f) d o Rest later is = record { more = no_output; output = ap (λ (c : Course). c.output) is ∙ sym (more_none o); last = λ last. refl }
 
-head_first : (p : Object) (earlier : List Selected) (now : Config) (rest after : List (List ℕ)) (e : PhaseEnd) (d : UnderWay) (o : Output) (later : Course)
-    → HeadCycle p earlier now e d o rest after → Runs p earlier rest now later → GoesOnWith e later.output o
-head_first p earlier now [] after e d o later head runs = with_first e d o _ later (last_is p earlier now e d o later head runs)
-head_first p earlier now (r ∷ rs) after e d o later head runs = with_first e d o _ later (first_is p earlier r rs now e d o later head.0 runs)
-
 -- a run's output begins with that of the cycles done and of one more
-pub begins_with : (p : Object) (start : Config) (all : List (List ℕ)) (earlier : List Selected) (now : Config) (rest after : List (List ℕ)) (cycles most : ℕ) (out : Output) (e : PhaseEnd) (d : UnderWay) (o : Output) (course : Course)
-    → IsUnderWay p start all earlier now rest cycles most out → HeadCycle p earlier now e d o rest after → Runs p [] all start course → GoesOnWith e course.output (with_more out o)
-begins_with p start all earlier now rest after cycles most out e d o course u head runs =
+pub begins_with : (p : Object) (start : Config) (all : Records) (earlier : List Selected) (now : Config) (i : Inputs) (rest after : Records) (cycles most : ℕ) (out : Output) (e : PhaseEnd) (d : UnderWay) (o : Output) (course : Course)
+    → IsUnderWay p start all earlier now i rest cycles most out → HeadCycle p earlier now i e d o rest after → Runs p [] all start unread course → GoesOnWith e course.output (with_more out o)
+begins_with p start all earlier now i rest after cycles most out e d o course u head runs =
     let later = u.back course runs in
-    let first = head_first p earlier now rest after e d o later.0 head later.1 in
+    let first = with_first e d o (Rest p earlier now i rest) later.0 (first_is p earlier now i rest after e d o later.0 head later.1) in
     record {
       more = first.more;
       output = ap (λ (c : Course). c.output) later.2 ∙ ap (with_more out) first.output ∙ more_assoc out o first.more;

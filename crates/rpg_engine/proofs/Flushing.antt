@@ -5,13 +5,13 @@ use Rattle.std.specs.Io.KnownBytes.{Keeps}
 use Rattle.rpg_cycle.specs.Starting.{date_in}
 use Rattle.rpg_object_program.specs.Object.{Object}
 use Rattle.rpg_engine.proofs.Headline.{of_each}
-use Rattle.rpg_engine.specs.Inputs.{OfInput}
+use Rattle.rpg_engine.specs.Inputs.{OfInputs}
 use Rattle.rpg_engine.specs.Reporting.{Reports}
 use Rattle.rpg_engine.specs.declared.report.Report.{Report}
 
 module _ (p : Object) (report : Report) (print print' print'' disk disk' disk'' : Option (List ℕ)) (kept : Keeps print' print'') (stays : Keeps disk' disk'') where
-  reports_kept : (day : ℤ) (input : List ℕ) → Reports p day report print print' disk disk' input → Reports p day report print print'' disk disk'' input
-  reports_kept day input r = record {
+  reports_kept : (day : ℤ) (primary secondary : List ℕ) → Reports p day report print print' disk disk' primary secondary → Reports p day report print print'' disk disk'' primary secondary
+  reports_kept day primary secondary r = record {
     course = r.course;
     bytes = r.bytes;
     run = r.run;
@@ -26,6 +26,6 @@ module _ (p : Object) (report : Report) (print print' print'' disk disk' disk'' 
   }
 
   -- a run that gave a report
-  pub run_kept : (date : List ℕ) (given left : Option (List ℕ)) → ((day : ℤ) → date_in date ≡ Some day → OfInput given left (Reports p day report print print' disk disk'))
-      → (day : ℤ) → date_in date ≡ Some day → OfInput given left (Reports p day report print print'' disk disk'')
-  run_kept date given left ran day dated = of_each given left _ _ (reports_kept day) (ran day dated)
+  pub run_kept : (date : List ℕ) (given left others rest : Option (List ℕ)) → ((day : ℤ) → date_in date ≡ Some day → OfInputs given left others rest (Reports p day report print print' disk disk'))
+      → (day : ℤ) → date_in date ≡ Some day → OfInputs given left others rest (Reports p day report print print'' disk disk'')
+  run_kept date given left others rest ran day dated = of_each given left others rest _ _ (reports_kept day) (ran day dated)

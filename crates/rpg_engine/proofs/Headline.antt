@@ -1,40 +1,44 @@
 -- Each run of an accepted program ends well, and there is one.
-use Rattle.std.proofs.Common.{◌≡◌, ℕ, ◌+◌, ℤ, List, ◌++◌, Option, Some, refl, subst, sym, arith}
+use Rattle.std.proofs.Common.{ℕ, List, ◌++◌, Option, subst, sym, arith}
+use Rattle.std.specs.Prelude.{ℤ}
+use Rattle.rpg_cycle.specs.Counting.{records_count}
 use Rattle.rpg_cycle.specs.Job.{first_fields}
-use Rattle.rpg_cycle.specs.Starting.{date_in, job_first_world}
-use Rattle.rpg_cycle_safety.proofs.Accepting.{accepted_orderly}
-use Rattle.rpg_cycle_safety.proofs.Coursing.{has_run, runs_well}
-use Rattle.rpg_cycle_safety.proofs.Dating.{date_small}
-use Rattle.rpg_cycle_safety.proofs.Starting.{first_holds}
-use Rattle.rpg_cycle_safety.specs.Coming.{HasRun, IsJobEnd}
-use Rattle.rpg_files.specs.Records.{records}
-use Rattle.rpg_object_program.specs.Kept.{IsProgram}
+use Rattle.rpg_cycle.specs.Runs.{Course, IsRun, Records}
+use Rattle.rpg_cycle_safety.specs.Coming.{HasRun, IsJobEnd, RunsWell}
+use Rattle.rpg_effect.specs.Put.{Bytes}
 use Rattle.rpg_object_program.specs.Object.{Object}
-use Rattle.rpg_verify_rules.specs.Accepted.{IsAccepted}
-use Rattle.rpg_engine.specs.Inputs.{OfInput}
-use Rattle.rpg_engine.specs.Reporting.{JobEndsWell, Reports, SendsFirstParts, SendsParts}
+use Rattle.rpg_engine.specs.Inputs.{OfInputs, records_of}
+use Rattle.rpg_engine.specs.Reporting.{JobEndsWell, Reports, SendsParts}
+use Rattle.rpg_engine.specs.Streaming.{StopsEarly}
 use Rattle.rpg_engine.specs.declared.fault.RunFault.{RunFault}
 use Rattle.rpg_engine.specs.declared.report.Report.{Report}
 
--- what holds of each input that begins so
-pub of_each : (given left : Option (List ℕ)) (Fact Other : List ℕ → Type 0) → ((input : List ℕ) → Fact input → Other input) → OfInput given left Fact → OfInput given left Other
-of_each given left Fact Other each h = record { read = h.read; ended = h.ended; consumed = h.consumed; at_end = h.at_end; fact = λ more can. each (h.read ++ more) (h.fact more can) }
+-- what holds of each two inputs that begin so
+pub of_each : (given left others rest : Option (List ℕ)) (Fact Other : List ℕ → List ℕ → Type 0) → ((primary secondary : List ℕ) → Fact primary secondary → Other primary secondary)
+    → OfInputs given left others rest Fact → OfInputs given left others rest Other
+of_each given left others rest Fact Other each h = record {
+  primary = h.primary;
+  secondary = h.secondary;
+  fact = λ more behind can can_too. each (h.primary.read ++ more) (h.secondary.read ++ behind) (h.fact more behind can can_too);
+}
 
-module _ (p : Object) (date : List ℕ) (day : ℤ) (kept : IsProgram p) (accepted : IsAccepted p) (dated : date_in date ≡ Some day) where
-  run_there : (rows : List (List ℕ)) → HasRun p day (first_fields p) rows
-  run_there rows = has_run p (accepted_orderly p kept accepted) day (first_fields p) rows (date_small date day dated) (first_holds p (job_first_world (first_fields p)) kept refl)
-
-  ends_well : (report : Report) (print print' disk disk' : Option (List ℕ)) (input : List ℕ) → Reports p day report print print' disk disk' input → JobEndsWell p report input
-  ends_well report print print' disk disk' input r =
-      let well = runs_well p (accepted_orderly p kept accepted) day (first_fields p) (records input) r.course r.bytes (date_small date day dated) (first_holds p (job_first_world (first_fields p)) kept refl) r.run in
+module _ (p : Object) (day : ℤ) where
+  ends_well : (each : (rs : Records) (course : Course) (bytes : Bytes) → IsRun p day (first_fields p) rs course bytes → RunsWell p (records_count rs) course)
+      (report : Report) (print print' disk disk' : Option (List ℕ)) (primary secondary : List ℕ) → Reports p day report print print' disk disk' primary secondary → JobEndsWell p report primary secondary
+  ends_well each report print print' disk disk' primary secondary r =
+      let well = each (records_of primary secondary) r.course r.bytes r.run in
       record {
         ending = subst IsJobEnd (sym r.ending) well.ending;
         cycles = let same = r.cycles in let few = well.cycles in omega arith;
         steps = let same = r.most in let few = well.few in omega arith;
       }
 
-  pub report_ends_well : (given left : Option (List ℕ)) (report : Report) (print print' disk disk' : Option (List ℕ)) → OfInput given left (Reports p day report print print' disk disk') → OfInput given left (JobEndsWell p report)
-  report_ends_well given left report print print' disk disk' h = of_each given left _ _ (ends_well report print print' disk disk') h
+  pub report_ends_well : ((rs : Records) (course : Course) (bytes : Bytes) → IsRun p day (first_fields p) rs course bytes → RunsWell p (records_count rs) course)
+      → (given left others rest : Option (List ℕ)) (report : Report) (print print' disk disk' : Option (List ℕ)) → OfInputs given left others rest (Reports p day report print print' disk disk')
+      → OfInputs given left others rest (JobEndsWell p report)
+  report_ends_well each given left others rest report print print' disk disk' h = of_each given left others rest _ _ (ends_well each report print print' disk disk') h
 
-  pub with_run : (given left : Option (List ℕ)) (e : RunFault) (print print' disk disk' : Option (List ℕ)) → OfInput given left (SendsFirstParts p day e print print' disk disk') → OfInput given left (SendsParts p day e print print' disk disk')
-  with_run given left e print print' disk disk' h = of_each given left _ _ (λ input parts. record { run = run_there (records input); parts = parts }) h
+  pub with_run : ((rs : Records) → HasRun p day (first_fields p) rs) → (given left others rest : Option (List ℕ)) (e : RunFault) (print print' disk disk' : Option (List ℕ))
+      → OfInputs given left others rest (StopsEarly p day e print print' disk disk') → OfInputs given left others rest (SendsParts p day e print print' disk disk')
+  with_run exists given left others rest e print print' disk disk' h =
+      of_each given left others rest _ _ (λ primary secondary stops. record { run = exists (records_of primary secondary); parts = stops.parts; needs = stops.needs }) h

@@ -1,7 +1,6 @@
 -- Lemmas on cycles, on runs under way, and on what was read and sent.
 pub mod Bytes
 pub mod Courses
-pub mod Determined
 pub mod Flushing
 pub mod Headline
 pub mod Passing

@@ -2,19 +2,16 @@
 use Rattle.std.proofs.Common.{◌≡◌, ℕ, ℤ, false, List, [], Option, None, Some, Result, Ok, Err, IfErr, IfOk, refl, sym, ap, subst, arith}
 use Rattle.std.proofs.KnownBytes.{Appends-nil, Consumes-nil}
 use Rattle.rpg_effect.specs.Put.{Bytes}
-use Rattle.rpg_files.specs.Counting.{device_of, faults_of}
-use Rattle.rpg_files.specs.declared.counting.Counted.{Counted}
-use Rattle.rpg_engine.specs.Faults.{Counts, FaultsAre}
 use Rattle.rpg_files.specs.Sending.{AppendsPrefix}
 use Rattle.rpg_object_program.specs.Object.{Object}
-use Rattle.rpg_engine.specs.Inputs.{OfInput}
+use Rattle.rpg_engine.specs.Inputs.{OfInputs, WasRead}
 use Rattle.rpg_cycle.specs.Starting.{date_in}
 use Rattle.rpg_cycle.specs.Job.{AtWork, Starts, first_fields, job_started}
 use Rattle.rpg_verify_rules.specs.Accepted.{IsAccepted}
 use Rattle.rpg_engine.specs.Objects.{HasObjectFault, IsRefused, SpellsProgram}
 use Rattle.rpg_engine.specs.Refusing.{HasDay, IsJobOf, IsToldOf, IsToldOfDate, MayRun, start_fault}
-use Rattle.rpg_engine.specs.Streaming.{IsOfRun}
-use Rattle.rpg_engine.specs.Reporting.{HasParts, JobEndsWell, Reports, SendsFirstParts, SendsParts}
+use Rattle.rpg_engine.specs.Streaming.{IsOfRun, StopsEarly}
+use Rattle.rpg_engine.specs.Reporting.{HasParts, JobEndsWell, Reports, SendsParts}
 use Rattle.rpg_cycle.specs.declared.ends.StartFault.{StartFault}
 use Rattle.rpg_cycle.specs.declared.ends.StartFault.TheVariants as starting
 use Rattle.rpg_engine.specs.declared.object.ObjectFault.{ObjectFault}
@@ -26,24 +23,25 @@ use Rattle.rpg_engine.specs.declared.fault.RunFault.TheVariants as faults
 none_sent : (a : Option (List ℕ)) (bytes : List ℕ) → AppendsPrefix a a bytes
 none_sent a bytes = (0, (omega arith, Appends-nil a))
 
-at_once : (a print disk : Option (List ℕ)) (e : RunFault) (p : Object) (day : ℤ) → ((bytes : Bytes) → HasParts e print print disk disk bytes) → OfInput a a (SendsFirstParts p day e print print disk disk)
-at_once a print disk e p day parts = record {
-  read = [];
-  ended = false;
-  consumed = Consumes-nil a;
-  at_end = λ is. absurd cc;
-  fact = λ more can course bytes run. parts bytes;
+none_read : (a : Option (List ℕ)) → WasRead a a
+none_read a = record { read = []; ended = false; consumed = Consumes-nil a; at_end = λ is. absurd cc }
+
+at_once : (a b print disk : Option (List ℕ)) (e : RunFault) (p : Object) (day : ℤ) → (e ≡ faults.Read → ⊥) → ((bytes : Bytes) → HasParts e print print disk disk bytes) → OfInputs a a b b (StopsEarly p day e print print disk disk)
+at_once a b print disk e p day other parts = record {
+  primary = none_read a;
+  secondary = none_read b;
+  fact = λ more others_more can can_too. record { parts = λ course bytes run. parts bytes; needs = λ is. absurd (other is) };
 }
 
-pub object_refused : (a print disk : Option (List ℕ)) (fault : ObjectFault) (object : List ℕ) (p : Object) (day : ℤ) → HasObjectFault fault object → OfInput a a (SendsFirstParts p day (faults.Object fault) print print disk disk)
-object_refused a print disk fault object p day is = at_once a print disk (faults.Object fault) p day (λ bytes. (none_sent print bytes.print, none_sent disk bytes.disk))
+pub object_refused : (a b print disk : Option (List ℕ)) (fault : ObjectFault) (object : List ℕ) (p : Object) (day : ℤ) → HasObjectFault fault object → OfInputs a a b b (StopsEarly p day (faults.Object fault) print print disk disk)
+object_refused a b print disk fault object p day is = at_once a b print disk (faults.Object fault) p day (λ is. cc) (λ bytes. (none_sent print bytes.print, none_sent disk bytes.disk))
 
-pub not_started : (a print disk : Option (List ℕ)) (fault : StartFault) (p : Object) (day : ℤ) → OfInput a a (SendsFirstParts p day (start_fault fault) print print disk disk)
-not_started a print disk starting.BadDate p day = at_once a print disk faults.BadDate p day (λ bytes. (none_sent print bytes.print, none_sent disk bytes.disk))
-not_started a print disk starting.NoMemory p day = at_once a print disk faults.NoMemory p day (λ bytes. (none_sent print bytes.print, none_sent disk bytes.disk))
+pub not_started : (a b print disk : Option (List ℕ)) (fault : StartFault) (p : Object) (day : ℤ) → OfInputs a a b b (StopsEarly p day (start_fault fault) print print disk disk)
+not_started a b print disk starting.BadDate p day = at_once a b print disk faults.BadDate p day (λ is. cc) (λ bytes. (none_sent print bytes.print, none_sent disk bytes.disk))
+not_started a b print disk starting.NoMemory p day = at_once a b print disk faults.NoMemory p day (λ is. cc) (λ bytes. (none_sent print bytes.print, none_sent disk bytes.disk))
 
-pub no_room : (a print disk : Option (List ℕ)) (p : Object) (day : ℤ) → OfInput a a (SendsFirstParts p day faults.NoMemory print print disk disk)
-no_room a print disk p day = at_once a print disk faults.NoMemory p day (λ bytes. (none_sent print bytes.print, none_sent disk bytes.disk))
+pub no_room : (a b print disk : Option (List ℕ)) (p : Object) (day : ℤ) → OfInputs a a b b (StopsEarly p day faults.NoMemory print print disk disk)
+no_room a b print disk p day = at_once a b print disk faults.NoMemory p day (λ is. cc) (λ bytes. (none_sent print bytes.print, none_sent disk bytes.disk))
 
 -- ---- a job that began
 
@@ -56,21 +54,27 @@ same_job date p day job F holds starts dated =
     let number : starts.number ≡ day = let a = starts.spelled in cc in
     subst (λ (x : ℤ). F p x) number (subst (λ (x : Object). F x starts.number) program (holds starts.number begun))
 
-pub reports_same : (date : List ℕ) (p : Object) (day : ℤ) (job : AtWork) (a a' b b' print print' disk disk' : Option (List ℕ)) (report : Report) → a ≡ a' → b ≡ b'
-    → ((x : ℤ) → job ≡ job_started job.program x (first_fields job.program) → OfInput a b (Reports job.program x report print print' disk disk'))
-    → Starts p date (first_fields p) job → date_in date ≡ Some day → OfInput a' b' (Reports p day report print print' disk disk')
-reports_same date p day job a a' b b' print print' disk disk' report same left holds starts dated =
-    subst (λ (x : Option (List ℕ)). OfInput a' x (Reports p day report print print' disk disk')) left
-    (subst (λ (x : Option (List ℕ)). OfInput x b (Reports p day report print print' disk disk')) same
-    (same_job date p day job (λ r x. OfInput a b (Reports r x report print print' disk disk')) holds starts dated))
+-- what is said of inputs, whatever they are called
+inputs_same : (a a' b b' c c' d d' : Option (List ℕ)) (Fact : List ℕ → List ℕ → Type 0) → a ≡ a' → b ≡ b' → c ≡ c' → d ≡ d' → OfInputs a b c d Fact → OfInputs a' b' c' d' Fact
+inputs_same a a' b b' c c' d d' Fact e f g h holds =
+    subst (λ (x : Option (List ℕ)). OfInputs x b' c' d' Fact) e
+    (subst (λ (x : Option (List ℕ)). OfInputs a x c' d' Fact) f
+    (subst (λ (x : Option (List ℕ)). OfInputs a b x d' Fact) g
+    (subst (λ (x : Option (List ℕ)). OfInputs a b c x Fact) h holds)))
 
-pub parts_same : (date : List ℕ) (p : Object) (day : ℤ) (job : AtWork) (a a' b b' print print' disk disk' : Option (List ℕ)) (e : RunFault) → a ≡ a' → b ≡ b'
-    → ((x : ℤ) → job ≡ job_started job.program x (first_fields job.program) → OfInput a b (SendsFirstParts job.program x e print print' disk disk'))
-    → Starts p date (first_fields p) job → date_in date ≡ Some day → OfInput a' b' (SendsFirstParts p day e print print' disk disk')
-parts_same date p day job a a' b b' print print' disk disk' e same left holds starts dated =
-    subst (λ (x : Option (List ℕ)). OfInput a' x (SendsFirstParts p day e print print' disk disk')) left
-    (subst (λ (x : Option (List ℕ)). OfInput x b (SendsFirstParts p day e print print' disk disk')) same
-    (same_job date p day job (λ r x. OfInput a b (SendsFirstParts r x e print print' disk disk')) holds starts dated))
+pub reports_same : (date : List ℕ) (p : Object) (day : ℤ) (job : AtWork) (a a' b b' c c' d d' print print' disk disk' : Option (List ℕ)) (report : Report) → a ≡ a' → b ≡ b' → c ≡ c' → d ≡ d'
+    → ((x : ℤ) → job ≡ job_started job.program x (first_fields job.program) → OfInputs a b c d (Reports job.program x report print print' disk disk'))
+    → Starts p date (first_fields p) job → date_in date ≡ Some day → OfInputs a' b' c' d' (Reports p day report print print' disk disk')
+reports_same date p day job a a' b b' c c' d d' print print' disk disk' report e f g h holds starts dated =
+    inputs_same a a' b b' c c' d d' (Reports p day report print print' disk disk') e f g h
+    (same_job date p day job (λ r x. OfInputs a b c d (Reports r x report print print' disk disk')) holds starts dated)
+
+pub parts_same : (date : List ℕ) (p : Object) (day : ℤ) (job : AtWork) (a a' b b' c c' d d' print print' disk disk' : Option (List ℕ)) (fault : RunFault) → a ≡ a' → b ≡ b' → c ≡ c' → d ≡ d'
+    → ((x : ℤ) → job ≡ job_started job.program x (first_fields job.program) → OfInputs a b c d (StopsEarly job.program x fault print print' disk disk'))
+    → Starts p date (first_fields p) job → date_in date ≡ Some day → OfInputs a' b' c' d' (StopsEarly p day fault print print' disk disk')
+parts_same date p day job a a' b b' c c' d d' print print' disk disk' fault e f g h holds starts dated =
+    inputs_same a a' b b' c c' d d' (StopsEarly p day fault print print' disk disk') e f g h
+    (same_job date p day job (λ r x. OfInputs a b c d (StopsEarly r x fault print print' disk disk')) holds starts dated)
 
 pub told_of_run : {X : Type 0} (result : Result X RunFault) (date : List ℕ) → HasDay date → IfErr result IsOfRun → IsToldOfDate result date
 told_of_run (Ok x) date has only = has
@@ -88,29 +92,6 @@ on_err (Err e) P Q f h = f e h
 pub on_ok : {X E : Type 0} (r : Result X E) (P Q : X → Type 0) → ((x : X) → P x → Q x) → IfOk r P → IfOk r Q
 on_ok (Ok x) P Q f h = f x h
 on_ok (Err e) P Q f h = tt
-
--- whose fault it was is said of the reader before and behind, whatever they are called
-pub faults_same : {X R W1 W2 : Type 0} (result : Result X RunFault) (old new old' new' : Counted R) (print : Counted W1) (disk : Counted W2) (print' : Counted W1) (disk' : Counted W2)
-    (remaining : R → Option (List ℕ)) → old ≡ old' → new ≡ new'
-    → FaultsAre result (remaining (device_of old)) (remaining (device_of new))
-    (record { reader = faults_of old; print = faults_of print; disk = faults_of disk }) (record { reader = faults_of new; print = faults_of print'; disk = faults_of disk' })
-    → FaultsAre result (remaining (device_of old')) (remaining (device_of new'))
-    (record { reader = faults_of old'; print = faults_of print; disk = faults_of disk }) (record { reader = faults_of new'; print = faults_of print'; disk = faults_of disk' })
-faults_same {X} {R} result old new old' new' print disk print' disk' remaining same left holds =
-    subst (λ (x : Counted R). FaultsAre result (remaining (device_of old')) (remaining (device_of x))
-    (record { reader = faults_of old'; print = faults_of print; disk = faults_of disk }) (record { reader = faults_of x; print = faults_of print'; disk = faults_of disk' })) left
-    (subst (λ (x : Counted R). FaultsAre result (remaining (device_of x)) (remaining (device_of new))
-    (record { reader = faults_of x; print = faults_of print; disk = faults_of disk }) (record { reader = faults_of new; print = faults_of print'; disk = faults_of disk' })) same holds)
-
--- ---- what is told where no job began
-
-pub start_told : (fault : StartFault) (date : List ℕ) → (fault ≡ starting.BadDate → date_in date ≡ None) → IsToldOfDate {X = Report} (Err (start_fault fault)) date
-start_told starting.BadDate date dated = dated refl
-start_told starting.NoMemory date dated = tt
-
-pub start_counts : (fault : StartFault) (given left : Option (List ℕ)) (counts : Counts) → FaultsAre {X = Report} (Err (start_fault fault)) given left counts counts
-start_counts starting.BadDate given left counts = refl
-start_counts starting.NoMemory given left counts = refl
 
 -- ---- from the accepted program to the bytes that spell it
 
@@ -138,20 +119,20 @@ no_day object date p spells accepted none = undated date (date_in date) refl (λ
 of_program : (object date : List ℕ) (q p : Object) (day : ℤ) (F : Object → ℤ → Type 0) → ((x : ℤ) → date_in date ≡ Some x → F q x) → ((r : Object) → SpellsProgram object r → q ≡ r) → IsJobOf object date p day → F p day
 of_program object date q p day F holds only is = subst (λ (r : Object). F r day) (only p is.spells) (holds day is.dated)
 
-pub reports_of : (object date : List ℕ) (q p : Object) (day : ℤ) (a b print print' disk disk' : Option (List ℕ)) (report : Report)
-    → ((x : ℤ) → date_in date ≡ Some x → OfInput a b (Reports q x report print print' disk disk')) → ((r : Object) → SpellsProgram object r → q ≡ r) → IsJobOf object date p day
-    → OfInput a b (Reports p day report print print' disk disk')
-reports_of object date q p day a b print print' disk disk' report holds only is = of_program object date q p day (λ r x. OfInput a b (Reports r x report print print' disk disk')) holds only is
+pub reports_of : (object date : List ℕ) (q p : Object) (day : ℤ) (a b c d print print' disk disk' : Option (List ℕ)) (report : Report)
+    → ((x : ℤ) → date_in date ≡ Some x → OfInputs a b c d (Reports q x report print print' disk disk')) → ((r : Object) → SpellsProgram object r → q ≡ r) → IsJobOf object date p day
+    → OfInputs a b c d (Reports p day report print print' disk disk')
+reports_of object date q p day a b c d print print' disk disk' report holds only is = of_program object date q p day (λ r x. OfInputs a b c d (Reports r x report print print' disk disk')) holds only is
 
-pub headline_of : (object date : List ℕ) (q p : Object) (day : ℤ) (a b : Option (List ℕ)) (report : Report)
-    → ((x : ℤ) → date_in date ≡ Some x → OfInput a b (JobEndsWell q report)) → ((r : Object) → SpellsProgram object r → q ≡ r) → IsJobOf object date p day
-    → OfInput a b (JobEndsWell p report)
-headline_of object date q p day a b report holds only is = of_program object date q p day (λ r x. OfInput a b (JobEndsWell r report)) holds only is
+pub headline_of : (object date : List ℕ) (q p : Object) (day : ℤ) (a b c d : Option (List ℕ)) (report : Report)
+    → ((x : ℤ) → date_in date ≡ Some x → OfInputs a b c d (JobEndsWell q report)) → ((r : Object) → SpellsProgram object r → q ≡ r) → IsJobOf object date p day
+    → OfInputs a b c d (JobEndsWell p report)
+headline_of object date q p day a b c d report holds only is = of_program object date q p day (λ r x. OfInputs a b c d (JobEndsWell r report)) holds only is
 
-pub parts_of : (object date : List ℕ) (q p : Object) (day : ℤ) (a b print print' disk disk' : Option (List ℕ)) (e : RunFault)
-    → ((x : ℤ) → date_in date ≡ Some x → OfInput a b (SendsParts q x e print print' disk disk')) → ((r : Object) → SpellsProgram object r → q ≡ r) → IsJobOf object date p day
-    → OfInput a b (SendsParts p day e print print' disk disk')
-parts_of object date q p day a b print print' disk disk' e holds only is = of_program object date q p day (λ r x. OfInput a b (SendsParts r x e print print' disk disk')) holds only is
+pub parts_of : (object date : List ℕ) (q p : Object) (day : ℤ) (a b c d print print' disk disk' : Option (List ℕ)) (e : RunFault)
+    → ((x : ℤ) → date_in date ≡ Some x → OfInputs a b c d (SendsParts q x e print print' disk disk')) → ((r : Object) → SpellsProgram object r → q ≡ r) → IsJobOf object date p day
+    → OfInputs a b c d (SendsParts p day e print print' disk disk')
+parts_of object date q p day a b c d print print' disk disk' e holds only is = of_program object date q p day (λ r x. OfInputs a b c d (SendsParts r x e print print' disk disk')) holds only is
 
 -- ---- an object whose program is refused
 

@@ -2,18 +2,23 @@
 use Rattle.std.proofs.Common.{◌≡◌, ℕ, ℤ, ◌+◌, ◌<◌, ◌≤◌, ◌&&◌, ◌==◌, max, Bool, true, false, List, [], ◌∷◌, ◌++◌, length, Option, Some, None, Err, refl, sym, ap, ◌∙◌, subst, append_assoc, arith, inl, inr}
 use Rattle.std.proofs.lemmas.Bool.{cases_Bool}
 use Rattle.std.specs.Io.KnownBytes.{Appends}
-use Rattle.std.proofs.KnownBytes.{Appends-trans, Consumes-trans}
+use Rattle.std.proofs.KnownBytes.{Appends-trans}
 use Rattle.rpg_cycle.specs.Ends.{PhaseEnd}
-use Rattle.rpg_cycle.specs.Job.{AtWork, first_fields, job_started}
+use Rattle.rpg_cycle.specs.Job.{AtWork, first_fields, job_needs_record, job_started}
+use Rattle.rpg_cycle.specs.Phases.{needs_record}
 use Rattle.rpg_cycle.specs.Runs.{Course, Runs, last_cycle, printed, stored}
-use Rattle.rpg_cycle.specs.Stages.{job_end}
+use Rattle.rpg_cycle.specs.Stages.{is_going, job_end}
 use Rattle.rpg_cycle.specs.Starting.{job_start}
 use Rattle.rpg_cycle.specs.declared.ends.JobEnd.{JobEnd}
+use Rattle.rpg_cycle_records.specs.Waiting.{unread}
 use Rattle.rpg_paper.specs.Paper.{last_position, paper}
 use Rattle.rpg_effect.specs.Put.{Bytes, disk_bytes}
-use Rattle.rpg_files.specs.Counting.{device_of, faults_of}
-use Rattle.rpg_files.specs.Reading.{Advances, ReadsNext, buffered_of, count_of, has_ended, input_of, reader_of}
-use Rattle.rpg_files.specs.Records.{begins_with_line_feed, onto_first, records}
+use Rattle.rpg_effect.specs.declared.input.InputFile.{InputFile}
+use Rattle.rpg_effect.specs.declared.input.InputFile.TheVariants.{Primary, Secondary}
+use Rattle.rpg_files.specs.Counting.{faults_of}
+use Rattle.rpg_files.specs.NextLine.{CanFollow}
+use Rattle.rpg_files.specs.Reading.{Advances, Input, ReadsNext, input_of, reader_of}
+use Rattle.rpg_files.specs.Records.{begins_with_line_feed, max_records, onto_first, records}
 use Rattle.rpg_files.specs.Sending.{AppendsFirst, AppendsPrefix}
 use Rattle.rpg_files.specs.declared.reader.ReadFault.TheVariants as fault
 use Rattle.rpg_files.specs.declared.reader.RecordReader.{RecordReader}
@@ -24,15 +29,15 @@ use Rattle.rpg_object_program.specs.Object.{Object}
 use Rattle.rpg_object_program.specs.declared.section.Place.{Place}
 use Rattle.rpg_verify.specs.Bound.{bound}
 use Rattle.rpg_engine.specs.Faults.{Counts, FaultsAre}
-use Rattle.rpg_engine.specs.Inputs.{HasTooMany, OfInput}
-use Rattle.rpg_engine.specs.Reporting.{HasParts, IsRunOver, Reports, SendsFirstParts}
-use Rattle.rpg_engine.specs.Streaming.{IsOfRun, SendsSome, TakesCycle, TakesNone, ended_stage}
+use Rattle.rpg_engine.specs.Inputs.{HasTooMany, OfInputs, records_of}
+use Rattle.rpg_engine.specs.Reporting.{GoesOnFor, HasParts, IsRunOver, Reports}
+use Rattle.rpg_engine.specs.Streaming.{Fails, IsOfRun, MayBeAsked, SendsSome, StopsEarly, TakesNone, ended_stage}
 use Rattle.rpg_engine.specs.declared.fault.RunFault.{RunFault}
 use Rattle.rpg_engine.specs.declared.fault.RunFault.TheVariants as faults
 use Rattle.rpg_engine.proofs.Bytes.{BeginsWith, disk_goes_on, front_sent, part_sent, print_ends, printed_begins, printed_so_far, stored_begins, stored_so_far}
-use Rattle.rpg_engine.proofs.Courses.{GoesOnWith, IsLast, behind, begins_with, ends}
-use Rattle.rpg_engine.proofs.Streams.{Streams, is_last, output_is, reads_on, steps_are, stream_steps, was_ended}
-use Rattle.rpg_engine.proofs.Taking.{stands_still, takes_behind, told_of}
+use Rattle.rpg_engine.proofs.Courses.{GoesOnWith, IsLast, behind, begins_with, ends, goes_on_to, some_cycles, stand}
+use Rattle.rpg_engine.proofs.Streams.{Stands, Streams, head, is_last, more_read, output_is, reads_on, rest, steps_are, under_way_still, was_ended, was_read}
+use Rattle.rpg_engine.proofs.Taking.{Source, TakesNext, faults_stay, source_of, stands_still, told_of}
 
 -- ---- the start
 
@@ -44,78 +49,103 @@ start_is first day is = ap (λ (j : AtWork). config_on None j.config) is
 
 -- ---- a report
 
-pub stream_reports : {R : Type 0} (remaining : R → Option (List ℕ)) (first job mid : AtWork) (given : Option (List ℕ)) (reader reader' : RecordReader R) (cycles most greater : ℕ)
-    (print print' print'' disk disk' disk'' : Option (List ℕ)) (gone_print gone_disk most_steps : ℕ) (j : JobEnd) (place : Option Place)
-    → Streams remaining first given job reader cycles most print print' disk disk' gone_print gone_disk → TakesCycle remaining job reader mid reader'
+pub stream_reports : (first job mid : AtWork) (given others : Option (List ℕ)) (a b a' b' : Source) (cycles most greater : ℕ)
+    (print print' print'' disk disk' disk'' : Option (List ℕ)) (gone_print gone_disk most_steps : ℕ) (j : JobEnd) (place : Option Place) (e : PhaseEnd)
+    (s : Streams first given others job a b cycles most print print' disk disk' gone_print gone_disk) (t : TakesNext s.earlier (last_position s.out.lines) job a b e mid a' b')
     → mid.stage ≡ ended_stage (Some j) → greater ≡ max most mid.config.steps → Appends print' print'' mid.output.print → Appends disk' disk'' mid.output.disk
     → most_steps ≡ bound first.program → greater ≤ most_steps → place ≡ running_place mid.program mid.config → (day : ℤ) → IsStart first day
-    → OfInput given (remaining (device_of (reader_of reader'))) (Reports first.program day (record { ending = j; cycles = cycles + 1; most = greater; bound = most_steps; place = place }) print print'' disk disk'')
-stream_reports remaining first job mid given reader reader' cycles most greater print print' print'' disk disk' disk'' gone_print gone_disk most_steps j place s takes stage most_is sent_print sent_disk bounded few stands day is =
-    let took = takes_behind remaining job mid reader reader' takes s.earlier s.left (last_position s.out.lines) s.last in
-    let e = took.0 in
-    let t = took.1 in
+    → OfInputs given a'.input.remaining others b'.input.remaining (Reports first.program day (record { ending = j; cycles = cycles + 1; most = greater; bound = most_steps; place = place }) print print'' disk disk'')
+stream_reports first job mid given others a b a' b' cycles most greater print print' print'' disk disk' disk'' gone_print gone_disk most_steps j place e s t stage most_is sent_print sent_disk bounded few stands day is =
     let does = t.does in
-    let steps = stream_steps remaining first job mid given reader reader' cycles most print print' disk disk' gone_print gone_disk e s t in
     let ended : e ≡ job_end j = was_ended e j (sym does.stage ∙ stage) in
     let last : IsLast e = subst IsLast (sym ended) (is_last j) in
     let course = behind cycles most s.out (last_cycle e does.there does.out) in
-    let put = output_is job mid s.earlier s.out t.next e does s.empty in
+    let put = output_is job mid s.earlier s.out t.x t.y e does s.empty in
     let to_print : paper s.out.lines ++ mid.output.print ≡ printed (with_more s.out does.out) = ap (λ (b : Bytes). paper s.out.lines ++ b.print) put ∙ print_ends e s.out does.out last in
     let to_disk : disk_bytes s.out.records ++ mid.output.disk ≡ stored (with_more s.out does.out) = ap (λ (b : Bytes). disk_bytes s.out.records ++ b.disk) put ∙ disk_goes_on e s.out does.out in
     record {
-      read = steps.read;
-      ended = has_ended reader';
-      consumed = steps.consumed;
-      at_end = steps.at_end;
-      fact = λ more can. record {
-        course = course;
-        bytes = record { print = printed course.output; disk = stored course.output };
-        run = record {
-          runs = subst (λ (c : Config). Runs first.program [] (records (steps.read ++ more)) c course) (start_is first day is)
-              (ends first.program (config_on None first.config) (records (steps.read ++ more)) s.earlier (config_on (last_position s.out.lines) job.config) (steps.rest more) (records (buffered_of reader' ++ more)) cycles most s.out e does.there does.out
-              (steps.under_way more can) (steps.head more can) last);
-          print = refl;
-          disk = refl;
-        };
-        ending = sym ended;
-        cycles = refl;
-        most = most_is ∙ ap (max most) (sym (steps_are job mid s.earlier s.out t.next e does));
-        bound = bounded;
-        place = stands ∙ ap (λ (p : Object). running_place p mid.config) (does.program ∙ s.program) ∙ ap (running_place first.program) (sym does.config);
-        few = few;
-        printed = subst (λ (bytes : List ℕ). Appends print print'' bytes) to_print (Appends-trans print print' print'' (paper s.out.lines) mid.output.print s.sent_print sent_print);
-        stored = subst (λ (bytes : List ℕ). Appends disk disk'' bytes) to_disk (Appends-trans disk disk' disk'' (disk_bytes s.out.records) mid.output.disk s.sent_disk sent_disk);
-      };
+      primary = was_read given a'.input (more_read given a.input a'.input _ s.primary.since t.primary.input);
+      secondary = was_read others b'.input (more_read others b.input b'.input _ s.secondary.since t.secondary.input);
+      fact = λ more others_more can can_too.
+          let all = records_of ((s.primary.since.read ++ t.primary.input.read) ++ more) ((s.secondary.since.read ++ t.secondary.input.read) ++ others_more) in
+          let again = under_way_still first job given others a b cycles most print print' disk disk' gone_print gone_disk s mid a' b' e t more others_more can can_too in
+          let one = head first job given others a b cycles most print print' disk disk' gone_print gone_disk s mid a' b' e t more others_more can can_too in
+          record {
+            course = course;
+            bytes = record { print = printed course.output; disk = stored course.output };
+            run = record {
+              runs = subst (λ (c : Config). Runs first.program [] all c unread course) (start_is first day is)
+                  (ends first.program (config_on None first.config) all s.earlier (config_on (last_position s.out.lines) job.config) job.inputs _ _ cycles most s.out e does.there does.out again one last);
+              print = refl;
+              disk = refl;
+            };
+            ending = sym ended;
+            cycles = refl;
+            most = most_is ∙ ap (max most) (sym (steps_are job mid s.earlier s.out t.x t.y e does));
+            bound = bounded;
+            place = stands ∙ ap (λ (p : Object). running_place p mid.config) (does.program ∙ s.program) ∙ ap (running_place first.program) (sym does.config);
+            few = few;
+            printed = subst (λ (bytes : List ℕ). Appends print print'' bytes) to_print (Appends-trans print print' print'' (paper s.out.lines) mid.output.print s.sent_print sent_print);
+            stored = subst (λ (bytes : List ℕ). Appends disk disk'' bytes) to_disk (Appends-trans disk disk' disk'' (disk_bytes s.out.records) mid.output.disk s.sent_disk sent_disk);
+          };
     }
 
 -- ---- nothing was done with what stands next
 
-moves : {R : Type 0} (remaining : R → Option (List ℕ)) (old new : RecordReader R) (e : RunFault) → TakesNone remaining old e new → Advances (input_of remaining old) (input_of remaining new) (λ x y. Unit {0})
-moves remaining old new (faults.Object fault) none = absurd none
-moves remaining old new faults.BadDate none = absurd none
-moves remaining old new faults.Read none = told_of (input_of remaining old) (input_of remaining new) _ (λ x y. Unit {0}) (λ x y is. tt) none.1.input
-moves remaining old new (faults.Print sent) none = absurd none
-moves remaining old new (faults.Disk sent) none = absurd none
-moves {R} remaining old new faults.NoMemory (inl same) =
-    subst (λ (r : RecordReader R). Advances (input_of remaining old) (input_of remaining r) (λ x y. Unit {0})) (sym same) (stands_still (input_of remaining old) (λ x y. Unit {0}) (λ x. tt))
-moves remaining old new faults.NoMemory (inr none) = told_of (input_of remaining old) (input_of remaining new) _ (λ x y. Unit {0}) (λ x y is. tt) none.1.input
+-- some bytes were read, or none
+abbrev Moves : Input → Input → Type 0
+Moves i j = Advances i j (λ x y. Unit {0})
 
-both_parts : {R : Type 0} (remaining : R → Option (List ℕ)) (old new : RecordReader R) (e : RunFault) → TakesNone remaining old e new → (print print' disk disk' : Option (List ℕ)) (bytes : Bytes)
-    → AppendsPrefix print print' bytes.print → AppendsPrefix disk disk' bytes.disk → HasParts e print print' disk disk' bytes
-both_parts remaining old new (faults.Object fault) none print print' disk disk' bytes p d = absurd none
-both_parts remaining old new faults.BadDate none print print' disk disk' bytes p d = absurd none
-both_parts remaining old new faults.Read none print print' disk disk' bytes p d = (p, d)
-both_parts remaining old new (faults.Print sent) none print print' disk disk' bytes p d = absurd none
-both_parts remaining old new (faults.Disk sent) none print print' disk disk' bytes p d = absurd none
-both_parts remaining old new faults.NoMemory none print print' disk disk' bytes p d = (p, d)
+module _ {R : Type 0} (remaining : R → Option (List ℕ)) where
+  still : (old new : RecordReader R) → new ≡ old → Moves (input_of remaining old) (input_of remaining new)
+  still old new same = subst (λ (r : RecordReader R). Moves (input_of remaining old) (input_of remaining r)) (sym same) (stands_still (input_of remaining old) (λ x y. Unit {0}) (λ x. tt))
 
-pub none_of_run : {R : Type 0} (remaining : R → Option (List ℕ)) (old new : RecordReader R) (e : RunFault) → TakesNone remaining old e new → IsOfRun e
-none_of_run remaining old new (faults.Object fault) none = absurd none
-none_of_run remaining old new faults.BadDate none = absurd none
-none_of_run remaining old new faults.Read none = tt
-none_of_run remaining old new (faults.Print sent) none = tt
-none_of_run remaining old new (faults.Disk sent) none = tt
-none_of_run remaining old new faults.NoMemory none = tt
+  asked : (old new : RecordReader R) → MayBeAsked remaining old new → Moves (input_of remaining old) (input_of remaining new)
+  asked old new (false, answer, asks) = still old new (asks.unneeded refl).1
+  asked old new (true, answer, asks) = told_of (input_of remaining old) (input_of remaining new) _ (λ x y. Unit {0}) (λ x y is. tt) (asks.needed refl).0.input
+
+  failed : (is_needed : Bool) (old new : RecordReader R) → Fails remaining is_needed old new → Moves (input_of remaining old) (input_of remaining new)
+  failed is_needed old new fails = told_of (input_of remaining old) (input_of remaining new) _ (λ x y. Unit {0}) (λ x y is. tt) fails.2.input
+
+module _ {R S : Type 0} (remaining : R → Option (List ℕ)) (others : S → Option (List ℕ)) (job : AtWork) (primary primary' : RecordReader R) (secondary secondary' : RecordReader S) where
+  abbrev DoesNone : RunFault → Type 0
+  DoesNone e = TakesNone remaining others job primary secondary e primary' secondary'
+
+  moves : (e : RunFault) → DoesNone e → Moves (input_of remaining primary) (input_of remaining primary') × Moves (input_of others secondary) (input_of others secondary')
+  moves (faults.Object fault) none = absurd none
+  moves faults.BadDate none = absurd none
+  moves faults.Read (inl none) = (failed remaining (job_needs_record job Primary) primary primary' none.0, still others secondary secondary' none.1)
+  moves faults.Read (inr none) = (asked remaining primary primary' none.0, failed others (job_needs_record job Secondary) secondary secondary' none.1)
+  moves (faults.Print sent) none = absurd none
+  moves (faults.Disk sent) none = absurd none
+  moves faults.NoMemory none = (asked remaining primary primary' none.0, asked others secondary secondary' none.1)
+
+  both_parts : (e : RunFault) → DoesNone e → (print print' disk disk' : Option (List ℕ)) (bytes : Bytes)
+      → AppendsPrefix print print' bytes.print → AppendsPrefix disk disk' bytes.disk → HasParts e print print' disk disk' bytes
+  both_parts (faults.Object fault) none print print' disk disk' bytes p d = absurd none
+  both_parts faults.BadDate none print print' disk disk' bytes p d = absurd none
+  both_parts faults.Read none print print' disk disk' bytes p d = (p, d)
+  both_parts (faults.Print sent) none print print' disk disk' bytes p d = absurd none
+  both_parts (faults.Disk sent) none print print' disk disk' bytes p d = absurd none
+  both_parts faults.NoMemory none print print' disk disk' bytes p d = (p, d)
+
+  -- the file of the reader that failed
+  needed_of : (e : RunFault) → e ≡ faults.Read → DoesNone e → (f : InputFile) × (job_needs_record job f ≡ true)
+  needed_of (faults.Object fault) is none = absurd none
+  needed_of faults.BadDate is none = absurd none
+  needed_of faults.Read is (inl none) = (Primary, none.0.0)
+  needed_of faults.Read is (inr none) = (Secondary, none.1.0)
+  needed_of (faults.Print sent) is none = absurd none
+  needed_of (faults.Disk sent) is none = absurd none
+  needed_of faults.NoMemory is none = absurd (let never : faults.NoMemory ≡ faults.Read = is in cc)
+
+  pub none_of_run : (e : RunFault) → DoesNone e → IsOfRun e
+  none_of_run (faults.Object fault) none = absurd none
+  none_of_run faults.BadDate none = absurd none
+  none_of_run faults.Read none = tt
+  none_of_run (faults.Print sent) none = tt
+  none_of_run (faults.Disk sent) none = tt
+  none_of_run faults.NoMemory none = tt
 
 pub some_of_run : (e : RunFault) (printed stored : ℕ) (print print' disk disk' : Option (List ℕ)) (lines records : List ℕ) → SendsSome e printed stored print print' disk disk' lines records → IsOfRun e
 some_of_run (faults.Object fault) printed stored print print' disk disk' lines records some = absurd some
@@ -125,40 +155,76 @@ some_of_run (faults.Print sent) printed stored print print' disk disk' lines rec
 some_of_run (faults.Disk sent) printed stored print print' disk disk' lines records some = tt
 some_of_run faults.NoMemory printed stored print print' disk disk' lines records some = tt
 
+-- a job that needs a record goes on, and so do its files
+going_on : (p q : Bool) → (p && q) ≡ true → q ≡ true
+going_on true q h = h
+going_on false q h = absurd cc
+
 -- of a run's bytes, a part of what it printed or stored
 part_of : (a b : Option (List ℕ)) (whole bytes : List ℕ) (n : ℕ) → bytes ≡ whole → AppendsFirst a b n whole → AppendsFirst a b n bytes
 part_of a b whole bytes n is part = subst (λ (x : List ℕ). AppendsFirst a b n x) (sym is) part
 
 -- a run over these records, from where the job began
-runs_from : (first : AtWork) (day : ℤ) (input : List ℕ) (course : Course) (bytes : Bytes) → IsStart first day → IsRunOver first.program day input course bytes
-    → Runs first.program [] (records input) (config_on None first.config) course
-runs_from first day input course bytes is run = subst (λ (c : Config). Runs first.program [] (records input) c course) (sym (start_is first day is)) run.runs
+runs_from : (first : AtWork) (day : ℤ) (primary secondary : List ℕ) (course : Course) (bytes : Bytes) → IsStart first day → IsRunOver first.program day primary secondary course bytes
+    → Runs first.program [] (records_of primary secondary) (config_on None first.config) unread course
+runs_from first day primary secondary course bytes is run = subst (λ (c : Config). Runs first.program [] (records_of primary secondary) c unread course) (sym (start_is first day is)) run.runs
 
-pub stopped_reading : {R : Type 0} (remaining : R → Option (List ℕ)) (first job : AtWork) (given : Option (List ℕ)) (reader reader' : RecordReader R) (cycles most : ℕ)
-    (print print' disk disk' : Option (List ℕ)) (gone_print gone_disk : ℕ) (e : RunFault)
-    → Streams remaining first given job reader cycles most print print' disk disk' gone_print gone_disk → TakesNone remaining reader e reader'
-    → (day : ℤ) → IsStart first day → OfInput given (remaining (device_of (reader_of reader'))) (SendsFirstParts first.program day e print print' disk disk')
-stopped_reading remaining first job given reader reader' cycles most print print' disk disk' gone_print gone_disk e s none day is =
-    let adv = moves remaining reader reader' e none in
-    record {
-      read = s.read ++ adv.read;
-      ended = has_ended reader';
-      consumed = Consumes-trans given (remaining (device_of (reader_of reader))) (remaining (device_of (reader_of reader'))) s.read adv.read s.consumed adv.consumed;
-      at_end = λ ended. adv.at_end ended s.at_end;
-      fact = λ more can course bytes run.
-          let u = reads_on remaining first job given reader reader' cycles most print print' disk disk' gone_print gone_disk _ s adv more can in
-          let later = u.back course (runs_from first day ((s.read ++ adv.read) ++ more) course bytes is run) in
-          let output : course.output ≡ with_more s.out later.0.output = ap (λ (c : Course). c.output) later.2 in
-          both_parts remaining reader reader' e none print print' disk disk' bytes (
-            length (paper s.out.lines),
-            part_of print print' (printed course.output) bytes.print _ run.print
-                (front_sent print print' (printed course.output) (paper s.out.lines) (printed_so_far course.output s.out later.0.output output) s.sent_print),
-          ) (
-            length (disk_bytes s.out.records),
-            part_of disk disk' (stored course.output) bytes.disk _ run.disk
-                (front_sent disk disk' (stored course.output) (disk_bytes s.out.records) (stored_so_far course.output s.out later.0.output output) s.sent_disk),
-          );
-    }
+module _ {R S : Type 0} (remaining : R → Option (List ℕ)) (beside : S → Option (List ℕ)) (primary primary' : RecordReader R) (secondary secondary' : RecordReader S)
+    (first job : AtWork) (given others : Option (List ℕ)) (cycles most : ℕ) (print print' disk disk' : Option (List ℕ)) (gone_print gone_disk : ℕ) (e : RunFault)
+    (s : Streams first given others job (source_of remaining primary) (source_of beside secondary) cycles most print print' disk disk' gone_print gone_disk)
+    (none : TakesNone remaining beside job primary secondary e primary' secondary') where
+  pub stopped_reading : (day : ℤ) → IsStart first day
+      → OfInputs given (input_of remaining primary').remaining others (input_of beside secondary').remaining (StopsEarly first.program day e print print' disk disk')
+  stopped_reading day is =
+      let a = source_of remaining primary in
+      let b = source_of beside secondary in
+      let i = input_of remaining primary' in
+      let j = input_of beside secondary' in
+      let moved = moves remaining beside job primary primary' secondary secondary' e none in
+      let one = moved.0 in
+      let two = moved.1 in
+      record {
+        primary = was_read given i (more_read given a.input i _ s.primary.since one);
+        secondary = was_read others j (more_read others b.input j _ s.secondary.since two);
+        fact = λ more others_more can can_too.
+            let xs = (s.primary.since.read ++ one.read) ++ more in
+            let ys = (s.secondary.since.read ++ two.read) ++ others_more in
+            let u = reads_on first job given others a b cycles most print print' disk disk' gone_print gone_disk s i j _ _ one two more others_more can can_too in
+            record {
+              parts = λ course bytes run.
+                  let later = u.back course (runs_from first day xs ys course bytes is run) in
+                  let output : course.output ≡ with_more s.out later.0.output = ap (λ (c : Course). c.output) later.2 in
+                  both_parts remaining beside job primary primary' secondary secondary' e none print print' disk disk' bytes (
+                    length (paper s.out.lines),
+                    part_of print print' (printed course.output) bytes.print _ run.print
+                        (front_sent print print' (printed course.output) (paper s.out.lines) (printed_so_far course.output s.out later.0.output output) s.sent_print),
+                  ) (
+                    length (disk_bytes s.out.records),
+                    part_of disk disk' (stored course.output) bytes.disk _ run.disk
+                        (front_sent disk disk' (stored course.output) (disk_bytes s.out.records) (stored_so_far course.output s.out later.0.output output) s.sent_disk),
+                  );
+              needs = λ read.
+                  let needed = needed_of remaining beside job primary primary' secondary secondary' e read none in
+                  let now = config_on (last_position s.out.lines) job.config in
+                  let holds : needs_record first.program now job.inputs needed.0 ≡ true =
+                  subst (λ (p : Object). needs_record p now job.inputs needed.0 ≡ true) s.program (going_on (is_going job.stage) (needs_record job.program now job.inputs needed.0) needed.1) in
+                  record {
+                    cycles = cycles;
+                    out = s.out;
+                    file = needed.0;
+                    goes_on = subst (λ (c : Config). GoesOnFor cycles first.program [] (records_of xs ys) c unread s.out (λ earlier rs d k. needs_record first.program d k needed.0 ≡ true)) (start_is first day is)
+                        (goes_on_to cycles first.program [] (records_of xs ys) (config_on None first.config) unread s.out (stand s.earlier _ now job.inputs)
+                        (λ earlier rs d k. needs_record first.program d k needed.0 ≡ true) holds u.gone);
+                    printed = s.sent_print;
+                    stored = s.sent_disk;
+                    longer = λ course bytes run.
+                        let later = u.back course (runs_from first day xs ys course bytes is run) in
+                        let some = some_cycles later.0.cycles first.program s.earlier now job.inputs _ later.0 later.1 in
+                        let all : course.cycles ≡ cycles + later.0.cycles = ap (λ (c : Course). c.cycles) later.2 in
+                        omega (arith, some, all);
+                  };
+            };
+      }
 
 -- ---- a cycle's output was sent in part
 
@@ -194,32 +260,32 @@ sent_parts e (faults.Disk sent) course bytes mid out print print' print'' disk d
           (part_of disk disk'' (stored course.output) bytes.disk _ d (part_sent disk disk' disk'' (stored course.output) (disk_bytes out.records) mid.output.disk some.0 begins.disk to_disk some.3)),
     )
 
-pub stopped_sending : {R : Type 0} (remaining : R → Option (List ℕ)) (first job mid : AtWork) (given : Option (List ℕ)) (reader reader' : RecordReader R) (cycles most : ℕ)
-    (print print' print'' disk disk' disk'' : Option (List ℕ)) (gone_print gone_disk : ℕ) (fault : RunFault)
-    → Streams remaining first given job reader cycles most print print' disk disk' gone_print gone_disk → TakesCycle remaining job reader mid reader'
+pub stopped_sending : (first job mid : AtWork) (given others : Option (List ℕ)) (a b a' b' : Source) (cycles most : ℕ)
+    (print print' print'' disk disk' disk'' : Option (List ℕ)) (gone_print gone_disk : ℕ) (fault : RunFault) (e : PhaseEnd)
+    (s : Streams first given others job a b cycles most print print' disk disk' gone_print gone_disk) (t : TakesNext s.earlier (last_position s.out.lines) job a b e mid a' b')
     → SendsSome fault gone_print gone_disk print' print'' disk' disk'' mid.output.print mid.output.disk
-    → (day : ℤ) → IsStart first day → OfInput given (remaining (device_of (reader_of reader'))) (SendsFirstParts first.program day fault print print'' disk disk'')
-stopped_sending remaining first job mid given reader reader' cycles most print print' print'' disk disk' disk'' gone_print gone_disk fault s takes some day is =
-    let took = takes_behind remaining job mid reader reader' takes s.earlier s.left (last_position s.out.lines) s.last in
-    let e = took.0 in
-    let t = took.1 in
+    → (day : ℤ) → IsStart first day → OfInputs given a'.input.remaining others b'.input.remaining (StopsEarly first.program day fault print print'' disk disk'')
+stopped_sending first job mid given others a b a' b' cycles most print print' print'' disk disk' disk'' gone_print gone_disk fault e s t some day is =
     let does = t.does in
-    let steps = stream_steps remaining first job mid given reader reader' cycles most print print' disk disk' gone_print gone_disk e s t in
-    let put = output_is job mid s.earlier s.out t.next e does s.empty in
+    let put = output_is job mid s.earlier s.out t.x t.y e does s.empty in
     record {
-      read = steps.read;
-      ended = has_ended reader';
-      consumed = steps.consumed;
-      at_end = steps.at_end;
-      fact = λ more can course bytes run.
-          let goes : GoesOnWith e course.output (with_more s.out does.out) =
-          begins_with first.program (config_on None first.config) (records (steps.read ++ more)) s.earlier (config_on (last_position s.out.lines) job.config) (steps.rest more) (records (buffered_of reader' ++ more)) cycles most s.out e does.there does.out course
-          (steps.under_way more can) (steps.head more can) (runs_from first day (steps.read ++ more) course bytes is run) in
-          sent_parts e fault course bytes mid s.out print print' print'' disk disk' disk'' gone_print gone_disk run.print run.disk
-          (record {
-            print = subst (λ (b : Bytes). BeginsWith (printed course.output) (paper s.out.lines ++ b.print)) (sym put) (printed_begins e course.output s.out does.out goes);
-            disk = subst (λ (b : Bytes). BeginsWith (stored course.output) (disk_bytes s.out.records ++ b.disk)) (sym put) (stored_begins e course.output s.out does.out goes);
-          }) s.sent_print s.sent_disk s.printed s.stored some;
+      primary = was_read given a'.input (more_read given a.input a'.input _ s.primary.since t.primary.input);
+      secondary = was_read others b'.input (more_read others b.input b'.input _ s.secondary.since t.secondary.input);
+      fact = λ more others_more can can_too. record {
+        parts = λ course bytes run.
+            let goes : GoesOnWith e course.output (with_more s.out does.out) =
+            begins_with first.program (config_on None first.config) (records_of ((s.primary.since.read ++ t.primary.input.read) ++ more) ((s.secondary.since.read ++ t.secondary.input.read) ++ others_more)) s.earlier
+            (config_on (last_position s.out.lines) job.config) job.inputs _ _ cycles most s.out e does.there does.out course
+            (under_way_still first job given others a b cycles most print print' disk disk' gone_print gone_disk s mid a' b' e t more others_more can can_too)
+            (head first job given others a b cycles most print print' disk disk' gone_print gone_disk s mid a' b' e t more others_more can can_too)
+            (runs_from first day ((s.primary.since.read ++ t.primary.input.read) ++ more) ((s.secondary.since.read ++ t.secondary.input.read) ++ others_more) course bytes is run) in
+            sent_parts e fault course bytes mid s.out print print' print'' disk disk' disk'' gone_print gone_disk run.print run.disk
+            (record {
+              print = subst (λ (b : Bytes). BeginsWith (printed course.output) (paper s.out.lines ++ b.print)) (sym put) (printed_begins e course.output s.out does.out goes);
+              disk = subst (λ (b : Bytes). BeginsWith (stored course.output) (disk_bytes s.out.records ++ b.disk)) (sym put) (stored_begins e course.output s.out does.out goes);
+            }) s.sent_print s.sent_disk s.printed s.stored some;
+        needs = λ read. absurd (subst (λ (x : RunFault). SendsSome x gone_print gone_disk print' print'' disk' disk'' mid.output.print mid.output.disk) read some);
+      };
     }
 
 -- ---- whose fault that was
@@ -247,39 +313,61 @@ some_records (b ∷ bytes) some = elim (cases_Bool (b == 10)) [
     behind_return [] h = absurd (let never : false ≡ true = h in cc)
     behind_return (c ∷ rest) h = rw h (omega arith)
 
-too_many : {R : Type 0} (remaining : R → Option (List ℕ)) (first job : AtWork) (given : Option (List ℕ)) (reader reader' : RecordReader R) (cycles most : ℕ)
-    (print print' disk disk' : Option (List ℕ)) (gone_print gone_disk : ℕ)
-    → Streams remaining first given job reader cycles most print print' disk disk' gone_print gone_disk → cycles ≡ count_of reader → ReadsNext remaining reader (Err fault.TooMany) reader'
-    → OfInput given (remaining (device_of (reader_of reader'))) HasTooMany
-too_many remaining first job given reader reader' cycles most print print' disk disk' gone_print gone_disk s count reads = record {
-  read = s.read ++ reads.input.read;
-  ended = has_ended reader';
-  consumed = Consumes-trans given (remaining (device_of (reader_of reader))) (remaining (device_of (reader_of reader'))) s.read reads.input.read s.consumed reads.input.consumed;
-  at_end = λ ended. reads.input.at_end ended s.at_end;
-  fact = λ more can.
-      let u = reads_on remaining first job given reader reader' cycles most print print' disk disk' gone_print gone_disk _ s reads.input more can in
+-- whatever follows, the input has more records than it may have
+module _ {R : Type 0} (remaining : R → Option (List ℕ)) (old new : RecordReader R) (given : Option (List ℕ)) (s : Stands given (source_of remaining old)) (reads : ReadsNext remaining old (Err fault.TooMany) new) where
+  too_many : (more : List ℕ) → CanFollow (input_of remaining new).ended more → max_records < length (records ((s.since.read ++ reads.input.read) ++ more))
+  too_many more can =
       let gives = reads.input.fact more can in
-      let some = some_records (buffered_of reader ++ (reads.input.read ++ more)) gives.1 in
-      omega (arith, u.counted, some, gives.0, count);
-}
+      let some = some_records ((input_of remaining old).buffered ++ (reads.input.read ++ more)) gives.1 in
+      let all = s.counted (reads.input.read ++ more) (λ ended. let none = reads.input.none_at_end ended in ap (λ (xs : List ℕ). xs ++ more) none.0 ∙ can none.1) in
+      subst (λ (bytes : List ℕ). max_records < length (records bytes)) (sym (append_assoc s.since.read reads.input.read more)) (omega (arith, all, some, gives.0))
 
-abbrev counts : ℕ → ℕ → ℕ → Counts
-counts reader print disk = record { reader = reader; print = print; disk = disk }
+asked_faults : {R : Type 0} (remaining : R → Option (List ℕ)) (old new : RecordReader R) → MayBeAsked remaining old new → faults_of (reader_of new) ≡ faults_of (reader_of old)
+asked_faults remaining old new asks = faults_stay remaining asks.0 asks.1 old new asks.2
 
-pub reading_faults : {R : Type 0} (remaining : R → Option (List ℕ)) (first job : AtWork) (given : Option (List ℕ)) (reader reader' : RecordReader R) (cycles most : ℕ)
-    (print print' disk disk' : Option (List ℕ)) (gone_print gone_disk of_reader of_print of_print' of_disk of_disk' : ℕ) (e : RunFault) (X : Type 0)
-    → Streams remaining first given job reader cycles most print print' disk disk' gone_print gone_disk → cycles ≡ count_of reader → TakesNone remaining reader e reader'
-    → faults_of (reader_of reader) ≡ of_reader → of_print' ≡ of_print → of_disk' ≡ of_disk
-    → FaultsAre {X = X} (Err e) given (remaining (device_of (reader_of reader'))) (counts of_reader of_print of_disk) (counts (faults_of (reader_of reader')) of_print' of_disk')
-reading_faults remaining first job given reader reader' cycles most print print' disk disk' gone_print gone_disk of_reader of_print of_print' of_disk of_disk' (faults.Object fault) X s count none h p d = absurd none
-reading_faults remaining first job given reader reader' cycles most print print' disk disk' gone_print gone_disk of_reader of_print of_print' of_disk of_disk' faults.BadDate X s count none h p d = absurd none
-reading_faults remaining first job given reader reader' cycles most print print' disk disk' gone_print gone_disk of_reader of_print of_print' of_disk of_disk' (faults.Print sent) X s count none h p d = absurd none
-reading_faults remaining first job given reader reader' cycles most print print' disk disk' gone_print gone_disk of_reader of_print of_print' of_disk of_disk' (faults.Disk sent) X s count none h p d = absurd none
-reading_faults remaining first job given reader reader' cycles most print print' disk disk' gone_print gone_disk of_reader of_print of_print' of_disk of_disk' faults.Read X s count (fault.Device, reads) h p d =
-    inl (cc (reads.faults, h, p, d))
-reading_faults remaining first job given reader reader' cycles most print print' disk disk' gone_print gone_disk of_reader of_print of_print' of_disk of_disk' faults.Read X s count (fault.TooMany, reads) h p d =
-    inr (cc (reads.faults, h, p, d), too_many remaining first job given reader reader' cycles most print print' disk disk' gone_print gone_disk s count reads)
-reading_faults remaining first job given reader reader' cycles most print print' disk disk' gone_print gone_disk of_reader of_print of_print' of_disk of_disk' faults.NoMemory X s count (inl same) h p d =
-    cc (ap (λ r. faults_of (reader_of r)) same, h, p, d)
-reading_faults remaining first job given reader reader' cycles most print print' disk disk' gone_print gone_disk of_reader of_print of_print' of_disk of_disk' faults.NoMemory X s count (inr (next, reads)) h p d =
-    cc (reads.faults, h, p, d)
+abbrev counts : ℕ → ℕ → ℕ → ℕ → Counts
+counts primary secondary print disk = record { primary = primary; secondary = secondary; print = print; disk = disk }
+
+same_counts : (a b c d w x y z : ℕ) → a ≡ w → b ≡ x → c ≡ y → d ≡ z → counts a b c d ≡ counts w x y z
+same_counts a b c d w x y z e f g h = ap (λ n. counts n b c d) e ∙ ap (λ n. counts w n c d) f ∙ ap (λ n. counts w x n d) g ∙ ap (λ n. counts w x y n) h
+
+module _ {R S : Type 0} (remaining : R → Option (List ℕ)) (beside : S → Option (List ℕ)) (primary primary' : RecordReader R) (secondary secondary' : RecordReader S)
+    (given others : Option (List ℕ)) (s : Stands given (source_of remaining primary)) (t : Stands others (source_of beside secondary)) where
+  abbrev AllTooMany : Type 0
+  AllTooMany = OfInputs given (input_of remaining primary').remaining others (input_of beside secondary').remaining HasTooMany
+
+  primary_has : ReadsNext remaining primary (Err fault.TooMany) primary' → Moves (input_of beside secondary) (input_of beside secondary') → AllTooMany
+  primary_has reads moved = record {
+    primary = was_read given (input_of remaining primary') (more_read given (input_of remaining primary) (input_of remaining primary') _ s.since reads.input);
+    secondary = was_read others (input_of beside secondary') (more_read others (input_of beside secondary) (input_of beside secondary') _ t.since moved);
+    fact = λ more others_more can can_too. inl (too_many remaining primary primary' given s reads more can);
+  }
+
+  secondary_has : Moves (input_of remaining primary) (input_of remaining primary') → ReadsNext beside secondary (Err fault.TooMany) secondary' → AllTooMany
+  secondary_has moved reads = record {
+    primary = was_read given (input_of remaining primary') (more_read given (input_of remaining primary) (input_of remaining primary') _ s.since moved);
+    secondary = was_read others (input_of beside secondary') (more_read others (input_of beside secondary) (input_of beside secondary') _ t.since reads.input);
+    fact = λ more others_more can can_too. inr (too_many beside secondary secondary' others t reads others_more can_too);
+  }
+
+  pub reading_faults : (job : AtWork) (of_primary of_secondary of_print of_print' of_disk of_disk' : ℕ) (e : RunFault) (X : Type 0) → TakesNone remaining beside job primary secondary e primary' secondary'
+      → faults_of (reader_of primary) ≡ of_primary → faults_of (reader_of secondary) ≡ of_secondary → of_print' ≡ of_print → of_disk' ≡ of_disk
+      → FaultsAre {X = X} (Err e) given (input_of remaining primary').remaining others (input_of beside secondary').remaining
+      (counts of_primary of_secondary of_print of_disk) (counts (faults_of (reader_of primary')) (faults_of (reader_of secondary')) of_print' of_disk')
+  reading_faults job n m k k' l l' (faults.Object fault) X none h g p d = absurd none
+  reading_faults job n m k k' l l' faults.BadDate X none h g p d = absurd none
+  reading_faults job n m k k' l l' (faults.Print sent) X none h g p d = absurd none
+  reading_faults job n m k k' l l' (faults.Disk sent) X none h g p d = absurd none
+  reading_faults job n m k k' l l' faults.Read X (inl ((needs, fault.Device, reads), same)) h g p d =
+      inl (same_counts _ _ _ _ _ _ _ _ (reads.faults ∙ ap (λ x. x + 1) h) (ap (λ r. faults_of (reader_of r)) same ∙ g) p d)
+  reading_faults job n m k k' l l' faults.Read X (inl ((needs, fault.TooMany, reads), same)) h g p d =
+      inr (inr (
+        same_counts _ _ _ _ _ _ _ _ (reads.faults ∙ h) (ap (λ r. faults_of (reader_of r)) same ∙ g) p d,
+        primary_has reads (still beside secondary secondary' same),
+      ))
+  reading_faults job n m k k' l l' faults.Read X (inr (asks, (needs, fault.Device, reads))) h g p d =
+      inr (inl (same_counts _ _ _ _ _ _ _ _ (asked_faults remaining primary primary' asks ∙ h) (reads.faults ∙ ap (λ x. x + 1) g) p d))
+  reading_faults job n m k k' l l' faults.Read X (inr (asks, (needs, fault.TooMany, reads))) h g p d =
+      inr (inr (same_counts _ _ _ _ _ _ _ _ (asked_faults remaining primary primary' asks ∙ h) (reads.faults ∙ g) p d, secondary_has (asked remaining primary primary' asks) reads))
+  reading_faults job n m k k' l l' faults.NoMemory X (asks, asks_too) h g p d =
+      same_counts _ _ _ _ _ _ _ _ (asked_faults remaining primary primary' asks ∙ h) (asked_faults beside secondary secondary' asks_too ∙ g) p d

@@ -1,38 +1,39 @@
--- A run whose input is read, and whose output is sent, a cycle at a time.
-use Rattle.std.proofs.Common.{◌≡◌, ℕ, ◌+◌, ◌<◌, ◌≤◌, max, Bool, true, false, List, [], ◌++◌, length, Option, None, refl, sym, ap, ◌∙◌, subst, append_assoc, arith, length-append}
+-- A run whose inputs are read, and whose output is sent, a cycle at a time.
+use Rattle.std.proofs.Common.{◌≡◌, ℕ, ◌+◌, ◌≤◌, max, Bool, true, false, List, [], ◌++◌, length, Option, None, refl, sym, ap, ◌∙◌, subst, append_assoc, arith, length-append}
 use Rattle.std.specs.Io.KnownBytes.{Appends, Consumes, IsAtEnd}
 use Rattle.std.proofs.KnownBytes.{Appends-nil, Appends-trans, Consumes-nil, Consumes-trans}
-use Rattle.rpg_cycle_records.specs.Earlier.{Selected, left_by, with_record}
+use Rattle.rpg_cycle.proofs.Cycling.{at_first, keeps}
+use Rattle.rpg_cycle.specs.Counting.{waiting_count}
 use Rattle.rpg_cycle.specs.Ends.{PhaseEnd, GoesOn, EndOfJob, Halt, Wrong}
 use Rattle.rpg_cycle.specs.Job.{AtWork, DoesCycle, feed_at, job_taken, with_feed}
-use Rattle.rpg_cycle.specs.Phases.{UnderWay}
-use Rattle.rpg_cycle.specs.Stages.{Going, Ended, job_end, stage_at}
+use Rattle.rpg_cycle.specs.Phases.{Cycle, begun, needs_record}
+use Rattle.rpg_cycle.specs.Runs.{Records, left_behind, next_of}
+use Rattle.rpg_cycle.specs.Stages.{Ended, job_end, stage_at}
 use Rattle.rpg_cycle.specs.declared.ends.JobEnd.{JobEnd}
 use Rattle.rpg_cycle.specs.declared.ends.JobEnd.TheVariants as jobs
-use Rattle.rpg_paper.specs.Paper.{Position, last_position, last_position_from, paper}
+use Rattle.rpg_cycle_records.specs.Earlier.{Selected, left_by, with_record}
+use Rattle.rpg_cycle_records.specs.Merging.{IsOrderly}
+use Rattle.rpg_cycle_records.specs.Waiting.{Inputs, unread}
 use Rattle.rpg_effect.proofs.Putting.{end_from-lines}
 use Rattle.rpg_effect.specs.Put.{Bytes, disk_bytes, line_of, with_output}
-use Rattle.rpg_files.specs.Counting.{device_of}
+use Rattle.rpg_effect.specs.declared.input.InputFile.{InputFile}
+use Rattle.rpg_effect.specs.declared.input.InputFile.TheVariants.{Primary, Secondary}
 use Rattle.rpg_files.specs.NextLine.{CanFollow}
-use Rattle.rpg_files.specs.Reading.{Advances, Input, IsFresh, answer_of, buffered_of, count_of, has_ended, input_of, is_record, limit_of, reader_of}
+use Rattle.rpg_files.specs.Reading.{Advances, Input, count_of}
 use Rattle.rpg_files.specs.Records.{max_records, records}
 use Rattle.rpg_files.specs.declared.reader.RecordReader.{RecordReader}
 use Rattle.rpg_machine.specs.Config.{Config, Output, no_output, with_more}
 use Rattle.rpg_machine.specs.Running.{config_on, no_bytes}
 use Rattle.rpg_object_program.specs.Object.{Object}
+use Rattle.rpg_paper.specs.Paper.{last_position, last_position_from, paper}
 use Rattle.rpg_verify.specs.Bound.{bound}
-use Rattle.rpg_engine.specs.Streaming.{HeadCycle, TakesCycle, TakesNext, ended_stage}
+use Rattle.rpg_engine.specs.Inputs.{WasRead, records_of}
 use Rattle.rpg_engine.proofs.Bytes.{disk_goes_on, print_goes_on, put_by}
-use Rattle.rpg_engine.proofs.Courses.{IsLast, IsUnderWay, begins, one_more}
-use Rattle.rpg_engine.proofs.Taking.{takes_behind}
+use Rattle.rpg_engine.proofs.Courses.{HeadCycle, IsLast, IsUnderWay, begins, one_more}
+use Rattle.rpg_engine.proofs.Passing.{cycles_same, fewer_wait}
+use Rattle.rpg_engine.proofs.Taking.{Gives, Source, TakesNext}
 
 -- ---- how a cycle ended, by the stage that it led to
-
-pub went : (e : PhaseEnd) → stage_at e ≡ Going → e ≡ GoesOn
-went GoesOn h = refl
-went EndOfJob h = cc
-went (Halt k) h = cc
-went (Wrong f) h = cc
 
 pub was_ended : (e : PhaseEnd) (j : JobEnd) → stage_at e ≡ Ended (job_end j) → e ≡ job_end j
 was_ended GoesOn j h = cc
@@ -44,168 +45,221 @@ pub is_last : (j : JobEnd) → IsLast (job_end j)
 is_last jobs.EndOfJob = tt
 is_last (jobs.Halt k) = tt
 
+-- ---- what was read of an input since the start
+
+pub record SinceStart (given : Option (List ℕ)) (i : Input) : Type 0 where
+  pub read : List ℕ
+  pub consumed : Consumes given i.remaining read
+  pub at_end : i.ended ≡ true → IsAtEnd i.remaining
+
+abbrev pub was_read : (given : Option (List ℕ)) (i : Input) → SinceStart given i → WasRead given i.remaining
+was_read given i s = record { read = s.read; ended = i.ended; consumed = s.consumed; at_end = s.at_end }
+
+abbrev pub more_read : (given : Option (List ℕ)) (i j : Input) (F : List ℕ → List ℕ → Type 0) → SinceStart given i → Advances i j F → SinceStart given j
+more_read given i j F s adv = record {
+  read = s.read ++ adv.read;
+  consumed = Consumes-trans given i.remaining j.remaining s.read adv.read s.consumed adv.consumed;
+  at_end = λ ended. adv.at_end ended s.at_end;
+}
+
+-- what may follow what is read now may follow what was read before, with that between
+follows : (old new : Input) (F : List ℕ → List ℕ → Type 0) (adv : Advances old new F) (more : List ℕ) → CanFollow new.ended more → CanFollow old.ended (adv.read ++ more)
+follows old new F adv more can = λ ended. let none = adv.none_at_end ended in ap (λ (xs : List ℕ). xs ++ more) none.0 ∙ can none.1
+
+-- whatever follows, so many records were given, and the others are to come
+abbrev IsCounted : (given : Option (List ℕ)) (a : Source) → SinceStart given a.input → Type 0
+IsCounted given a s = (more : List ℕ) → CanFollow a.input.ended more → length (records (s.read ++ more)) ≡ a.count + length (records (a.input.buffered ++ more))
+
+-- what stands there behind it
+pub record Stands (given : Option (List ℕ)) (a : Source) : Type 0 where
+  pub since : SinceStart given a.input
+  pub counted : IsCounted given a since
+
+-- of the records to come one was given, or none, and the others are to come
+counted_on : (p : Object) (f : InputFile) (given : Option (List ℕ)) (is_needed : Bool) (x : Option (List ℕ)) (e : PhaseEnd) (a b : Source) (s : Stands given a) (g : Gives p f is_needed x e a b) → e ≡ GoesOn
+    → IsCounted given b (more_read given a.input b.input _ s.since g.input)
+counted_on p f given is_needed x e a b s g on more can =
+    let earlier = s.counted (g.input.read ++ more) (follows a.input b.input _ g.input more can) in
+    let given_one = (g.input.fact more can).counted on in
+    let count = g.count on in
+    let same : length (records ((s.since.read ++ g.input.read) ++ more)) ≡ length (records (s.since.read ++ (g.input.read ++ more))) = ap (λ (bytes : List ℕ). length (records bytes)) (append_assoc s.since.read g.input.read more) in
+    let total : length (records (s.since.read ++ (g.input.read ++ more))) ≡ b.count + length (records (b.input.buffered ++ more)) = omega (arith, earlier, given_one, count) in
+    same ∙ total
+
 -- ---- a run under way
 
 -- A job that began over the bytes that were given has done so many cycles. Its output has gone out, so many bytes of it to each
 -- writer; and whatever follows the bytes that were read, its cycles are those of the run over the records of all.
-pub record Streams {R : Type 0} (remaining : R → Option (List ℕ)) (first : AtWork) (given : Option (List ℕ)) (job : AtWork) (reader : RecordReader R) (cycles most : ℕ)
+pub record Streams (first : AtWork) (given others : Option (List ℕ)) (job : AtWork) (a b : Source) (cycles most : ℕ)
     (print print' disk disk' : Option (List ℕ)) (gone_print gone_disk : ℕ) : Type 0 where
   pub program : job.program ≡ first.program
   pub earlier : List Selected
   pub out : Output
   pub left : job.left ≡ left_by job.program earlier
+  pub orderly : IsOrderly job.program earlier job.inputs
   pub last : job.last ≡ line_of (last_position out.lines)
   pub empty : job.output ≡ no_bytes
   pub sent_print : Appends print print' (paper out.lines)
   pub sent_disk : Appends disk disk' (disk_bytes out.records)
   pub printed : gone_print ≡ length (paper out.lines)
   pub stored : gone_disk ≡ length (disk_bytes out.records)
-  pub read : List ℕ
-  pub consumed : Consumes given (remaining (device_of (reader_of reader))) read
-  pub at_end : has_ended reader ≡ true → IsAtEnd (remaining (device_of (reader_of reader)))
-  pub under_way : (more : List ℕ) → CanFollow (has_ended reader) more
-      → IsUnderWay first.program (config_on None first.config) (records (read ++ more)) earlier (config_on (last_position out.lines) job.config) (records (buffered_of reader ++ more)) cycles most out
+  pub few : cycles + waiting_count job.inputs ≤ a.count + b.count
+  pub primary : Stands given a
+  pub secondary : Stands others b
+  pub under_way : (more behind : List ℕ) → CanFollow a.input.ended more → CanFollow b.input.ended behind
+      → IsUnderWay first.program (config_on None first.config) (records_of (primary.since.read ++ more) (secondary.since.read ++ behind)) earlier (config_on (last_position out.lines) job.config) job.inputs
+      (records_of (a.input.buffered ++ more) (b.input.buffered ++ behind)) cycles most out
 
-pub stream_begins : {R : Type 0} (remaining : R → Option (List ℕ)) (first : AtWork) (reader : RecordReader R) (limit : ℕ) (print disk : Option (List ℕ))
-    → first.left ≡ left_by first.program [] → first.last ≡ None → first.output ≡ no_bytes → IsFresh limit reader
-    → Streams remaining first (remaining (device_of (reader_of reader))) first reader 0 0 print print disk disk 0 0
-stream_begins remaining first reader limit print disk left last empty fresh = record {
+pub stream_begins : (first : AtWork) (a b : Source) (print disk : Option (List ℕ))
+    → first.left ≡ left_by first.program [] → first.inputs ≡ unread → first.last ≡ None → first.output ≡ no_bytes
+    → a.input.buffered ≡ [] → a.input.ended ≡ false → a.count ≡ 0 → b.input.buffered ≡ [] → b.input.ended ≡ false → b.count ≡ 0
+    → Streams first a.input.remaining b.input.remaining first a b 0 0 print print disk disk 0 0
+stream_begins first a b print disk left none last empty front unended count front_too unended_too count_too = record {
   program = refl;
   earlier = [];
   out = no_output;
   left = left;
+  orderly = subst (λ (i : Inputs). IsOrderly first.program [] i) (sym none) (at_first first.program);
   last = last;
   empty = empty;
   sent_print = Appends-nil print;
   sent_disk = Appends-nil disk;
   printed = refl;
   stored = refl;
-  read = [];
-  consumed = Consumes-nil (remaining (device_of (reader_of reader)));
-  at_end = λ is. let never : true ≡ false = sym is ∙ fresh.ended in absurd cc;
-  under_way = λ more can.
-      subst (λ (front : List ℕ). IsUnderWay first.program (config_on None first.config) (records more) [] (config_on None first.config) (records (front ++ more)) 0 0 no_output) (sym fresh.buffered)
-      (begins first.program (config_on None first.config) (records more));
+  few = let waits : waiting_count first.inputs ≡ 0 = ap waiting_count none in omega (arith, waits);
+  primary = stands a front unended count;
+  secondary = stands b front_too unended_too count_too;
+  under_way = λ more behind can can_too.
+      subst (λ (i : Inputs). IsUnderWay first.program (config_on None first.config) (records_of more behind) [] (config_on None first.config) i (records_of (a.input.buffered ++ more) (b.input.buffered ++ behind)) 0 0 no_output) (sym none)
+      (subst (λ (x : List ℕ). IsUnderWay first.program (config_on None first.config) (records_of more behind) [] (config_on None first.config) unread (records_of (x ++ more) (b.input.buffered ++ behind)) 0 0 no_output) (sym front)
+      (subst (λ (x : List ℕ). IsUnderWay first.program (config_on None first.config) (records_of more behind) [] (config_on None first.config) unread (records_of more (x ++ behind)) 0 0 no_output) (sym front_too)
+      (begins first.program (config_on None first.config) (records_of more behind))));
 }
+  where
+    stands : (s : Source) → s.input.buffered ≡ [] → s.input.ended ≡ false → s.count ≡ 0 → Stands s.input.remaining s
+    stands s none unended zero = record {
+      since = record { read = []; consumed = Consumes-nil s.input.remaining; at_end = λ is. absurd (let never : true ≡ false = sym is ∙ unended in cc) };
+      counted = λ more can. let same : length (records more) ≡ length (records (s.input.buffered ++ more)) = ap (λ (x : List ℕ). length (records (x ++ more))) (sym none) in omega (arith, same, zero);
+    }
 
 -- ---- one more cycle
 
--- A run under way, and a cycle over what is left, whatever follows the bytes that were read by then.
-pub record Steps (p : Object) (start : Config) (given left : Option (List ℕ)) (ended : Bool) (buffered : List ℕ) (cycles most : ℕ) (earlier : List Selected) (now : Config) (out : Output)
-    (e : PhaseEnd) (d : UnderWay) (o : Output) : Type 0 where
-  pub read : List ℕ
-  pub consumed : Consumes given left read
-  pub at_end : ended ≡ true → IsAtEnd left
-  pub rest : List ℕ → List (List ℕ)
-  pub under_way : (more : List ℕ) → CanFollow ended more → IsUnderWay p start (records (read ++ more)) earlier now (rest more) cycles most out
-  pub head : (more : List ℕ) → CanFollow ended more → HeadCycle p earlier now e d o (rest more) (records (buffered ++ more))
+both_records : (a b c d : List (List ℕ)) → a ≡ b → c ≡ d → (let r : Records = record { primary = a; secondary = c } in r) ≡ (let r : Records = record { primary = b; secondary = d } in r)
+both_records a b c d h g = ap (λ x. let r : Records = record { primary = x; secondary = c } in r) h ∙ ap (λ x. let r : Records = record { primary = b; secondary = x } in r) g
 
--- what may follow what is read now may follow what was read before, with that between
-follows : (old new : Input) (F : List ℕ → List ℕ → Type 0) (adv : Advances old new F) (more : List ℕ) → CanFollow new.ended more → CanFollow old.ended (adv.read ++ more)
-follows old new F adv more can = λ ended. let none = adv.none_at_end ended in ap (λ (xs : List ℕ). xs ++ more) none.0 ∙ can none.1
+-- a run under way over two inputs, and what was read of each since
+module _ (first job : AtWork) (given others : Option (List ℕ)) (a b : Source) (cycles most : ℕ) (print print' disk disk' : Option (List ℕ)) (gone_print gone_disk : ℕ)
+    (s : Streams first given others job a b cycles most print print' disk disk' gone_print gone_disk) where
+  abbrev pub now : Config
+  now = config_on (last_position s.out.lines) job.config
 
--- the cycles so far, with what was read since
-pub reads_on : {R : Type 0} (remaining : R → Option (List ℕ)) (first job : AtWork) (given : Option (List ℕ)) (reader reader' : RecordReader R) (cycles most : ℕ) (print print' disk disk' : Option (List ℕ)) (gone_print gone_disk : ℕ)
-    (F : List ℕ → List ℕ → Type 0) (s : Streams remaining first given job reader cycles most print print' disk disk' gone_print gone_disk) (adv : Advances (input_of remaining reader) (input_of remaining reader') F)
-    → (more : List ℕ) → CanFollow (has_ended reader') more
-    → IsUnderWay first.program (config_on None first.config) (records ((s.read ++ adv.read) ++ more)) s.earlier (config_on (last_position s.out.lines) job.config) (records (buffered_of reader ++ (adv.read ++ more))) cycles most s.out
-reads_on remaining first job given reader reader' cycles most print print' disk disk' gone_print gone_disk F s adv more can =
-    subst (λ (bytes : List ℕ). IsUnderWay first.program (config_on None first.config) (records bytes) s.earlier (config_on (last_position s.out.lines) job.config) (records (buffered_of reader ++ (adv.read ++ more))) cycles most s.out)
-    (sym (append_assoc s.read adv.read more)) (s.under_way (adv.read ++ more) (follows (input_of remaining reader) (input_of remaining reader') F adv more can))
+  -- the cycles so far, with what was read since
+  pub reads_on : (i j : Input) (F G : List ℕ → List ℕ → Type 0) (adv : Advances a.input i F) (more_adv : Advances b.input j G) (more behind : List ℕ) → CanFollow i.ended more → CanFollow j.ended behind
+      → IsUnderWay first.program (config_on None first.config) (records_of ((s.primary.since.read ++ adv.read) ++ more) ((s.secondary.since.read ++ more_adv.read) ++ behind)) s.earlier now job.inputs
+      (records_of (a.input.buffered ++ (adv.read ++ more)) (b.input.buffered ++ (more_adv.read ++ behind))) cycles most s.out
+  reads_on i j F G adv more_adv more behind can can_too =
+      let rest = records_of (a.input.buffered ++ (adv.read ++ more)) (b.input.buffered ++ (more_adv.read ++ behind)) in
+      subst (λ (x : List ℕ). IsUnderWay first.program (config_on None first.config) (records_of x ((s.secondary.since.read ++ more_adv.read) ++ behind)) s.earlier now job.inputs rest cycles most s.out) (sym (append_assoc s.primary.since.read adv.read more))
+      (subst (λ (x : List ℕ). IsUnderWay first.program (config_on None first.config) (records_of (s.primary.since.read ++ (adv.read ++ more)) x) s.earlier now job.inputs rest cycles most s.out) (sym (append_assoc s.secondary.since.read more_adv.read behind))
+      (s.under_way (adv.read ++ more) (more_adv.read ++ behind) (follows a.input i F adv more can) (follows b.input j G more_adv behind can_too)))
 
-pub stream_steps : {R : Type 0} (remaining : R → Option (List ℕ)) (first job mid : AtWork) (given : Option (List ℕ)) (reader reader' : RecordReader R) (cycles most : ℕ) (print print' disk disk' : Option (List ℕ)) (gone_print gone_disk : ℕ)
-    (e : PhaseEnd) (s : Streams remaining first given job reader cycles most print print' disk disk' gone_print gone_disk) (t : TakesNext remaining s.earlier (last_position s.out.lines) job reader e mid reader')
-    → Steps first.program (config_on None first.config) given (remaining (device_of (reader_of reader'))) (has_ended reader') (buffered_of reader') cycles most s.earlier (config_on (last_position s.out.lines) job.config) s.out e t.does.there t.does.out
-stream_steps remaining first job mid given reader reader' cycles most print print' disk disk' gone_print gone_disk e s t = record {
-  read = s.read ++ t.input.read;
-  consumed = Consumes-trans given (remaining (device_of (reader_of reader))) (remaining (device_of (reader_of reader'))) s.read t.input.read s.consumed t.input.consumed;
-  at_end = λ ended. t.input.at_end ended s.at_end;
-  rest = λ more. records (buffered_of reader ++ (t.input.read ++ more));
-  under_way = reads_on remaining first job given reader reader' cycles most print print' disk disk' gone_print gone_disk _ s t.input;
-  head = λ more can.
-      subst (λ (p : Object). HeadCycle p s.earlier (config_on (last_position s.out.lines) job.config) e t.does.there t.does.out (records (buffered_of reader ++ (t.input.read ++ more))) (records (buffered_of reader' ++ more)))
-      s.program (t.input.fact more can);
-}
+  -- one more cycle
+  module _ (mid : AtWork) (a' b' : Source) (e : PhaseEnd) (t : TakesNext s.earlier (last_position s.out.lines) job a b e mid a' b') where
+    abbrev pub rest : List ℕ → List ℕ → Records
+    rest more behind = records_of (a.input.buffered ++ (t.primary.input.read ++ more)) (b.input.buffered ++ (t.secondary.input.read ++ behind))
+
+    abbrev pub after : List ℕ → List ℕ → Records
+    after more behind = records_of (a'.input.buffered ++ more) (b'.input.buffered ++ behind)
+
+    -- whatever follows, the cycle is one with the first records of what is left
+    pub head : (more behind : List ℕ) → CanFollow a'.input.ended more → CanFollow b'.input.ended behind
+        → HeadCycle first.program s.earlier now job.inputs e t.does.there t.does.out (rest more behind) (after more behind)
+    head more behind can can_too =
+        let p = job.program in
+        let one = t.primary.input.fact more can in
+        let two = t.secondary.input.fact behind can_too in
+        subst (λ (q : Object). HeadCycle q s.earlier now job.inputs e t.does.there t.does.out (rest more behind) (after more behind)) s.program (record {
+          cycle = cycles_same p s.earlier t.x (next_of (needs_record p now job.inputs Primary) (rest more behind).primary) t.y (next_of (needs_record p now job.inputs Secondary) (rest more behind).secondary)
+              one.alike two.alike (begun p now job.inputs) e t.does.there t.does.out t.does.cycle;
+          left = λ on. both_records (after more behind).primary (left_behind p now job.inputs (rest more behind)).primary (after more behind).secondary (left_behind p now job.inputs (rest more behind)).secondary
+              (one.left on) (two.left on);
+        })
+
+    pub under_way_still : (more behind : List ℕ) → CanFollow a'.input.ended more → CanFollow b'.input.ended behind
+        → IsUnderWay first.program (config_on None first.config) (records_of ((s.primary.since.read ++ t.primary.input.read) ++ more) ((s.secondary.since.read ++ t.secondary.input.read) ++ behind)) s.earlier now job.inputs
+        (rest more behind) cycles most s.out
+    under_way_still = reads_on a'.input b'.input _ _ t.primary.input t.secondary.input
 
 -- what the job puts out in this cycle
-pub output_is : (job mid : AtWork) (earlier : List Selected) (out : Output) (next : Option (List ℕ)) (e : PhaseEnd) (does : DoesCycle job earlier (last_position out.lines) next e mid) → job.output ≡ no_bytes → mid.output ≡ put_by e out does.out
-output_is job mid earlier out next e does empty =
+pub output_is : (job mid : AtWork) (earlier : List Selected) (out : Output) (x y : Option (List ℕ)) (e : PhaseEnd) (does : DoesCycle job earlier (last_position out.lines) x y e mid) → job.output ≡ no_bytes → mid.output ≡ put_by e out does.out
+output_is job mid earlier out x y e does empty =
     does.bytes
     ∙ ap (λ (last : Option ℕ). with_feed (feed_at (stage_at e) last) (with_output (last_position out.lines) does.out.lines does.out.records job.output)) does.last
     ∙ ap (λ (bytes : Bytes). with_feed (feed_at (stage_at e) (line_of (last_position_from (last_position out.lines) does.out.lines))) (with_output (last_position out.lines) does.out.lines does.out.records bytes)) empty
 
-pub steps_are : (job mid : AtWork) (earlier : List Selected) (out : Output) (next : Option (List ℕ)) (e : PhaseEnd) (does : DoesCycle job earlier (last_position out.lines) next e mid) → does.there.config.steps ≡ mid.config.steps
-steps_are job mid earlier out next e does = ap (λ (c : Config). c.steps) does.config
+pub steps_are : (job mid : AtWork) (earlier : List Selected) (out : Output) (x y : Option (List ℕ)) (e : PhaseEnd) (does : DoesCycle job earlier (last_position out.lines) x y e mid) → does.there.config.steps ≡ mid.config.steps
+steps_are job mid earlier out x y e does = ap (λ (c : Config). c.steps) does.config
 
-pub stream_goes_on : {R : Type 0} (remaining : R → Option (List ℕ)) (first job mid : AtWork) (given : Option (List ℕ)) (reader reader' : RecordReader R) (cycles most greater : ℕ)
+pub stream_goes_on : (first job mid : AtWork) (given others : Option (List ℕ)) (a b a' b' : Source) (cycles most greater : ℕ)
     (print print' print'' disk disk' disk'' : Option (List ℕ)) (gone_print gone_disk gone_print' gone_disk' : ℕ)
-    (e : PhaseEnd) (s : Streams remaining first given job reader cycles most print print' disk disk' gone_print gone_disk) (t : TakesNext remaining s.earlier (last_position s.out.lines) job reader e mid reader')
+    (e : PhaseEnd) (s : Streams first given others job a b cycles most print print' disk disk' gone_print gone_disk) (t : TakesNext s.earlier (last_position s.out.lines) job a b e mid a' b')
     → e ≡ GoesOn → greater ≡ max most mid.config.steps → Appends print' print'' mid.output.print → Appends disk' disk'' mid.output.disk
     → gone_print' ≡ gone_print + length mid.output.print → gone_disk' ≡ gone_disk + length mid.output.disk
-    → Streams remaining first given (job_taken mid) reader' (cycles + 1) greater print print'' disk disk'' gone_print' gone_disk'
-stream_goes_on remaining first job mid given reader reader' cycles most greater print print' print'' disk disk' disk'' gone_print gone_disk gone_print' gone_disk' e s t on most_is sent_print sent_disk print_more disk_more =
+    → Streams first given others (job_taken mid) a' b' (cycles + 1) greater print print'' disk disk'' gone_print' gone_disk'
+stream_goes_on first job mid given others a b a' b' cycles most greater print print' print'' disk disk' disk'' gone_print gone_disk gone_print' gone_disk' e s t on most_is sent_print sent_disk print_more disk_more =
     let does = t.does in
-    let put = output_is job mid s.earlier s.out t.next e does s.empty in
-    let steps = stream_steps remaining first job mid given reader reader' cycles most print print' disk disk' gone_print gone_disk e s t in
+    let there = does.there in
+    let put = output_is job mid s.earlier s.out t.x t.y e does s.empty in
     let line : last_position (s.out.lines ++ does.out.lines) ≡ last_position_from (last_position s.out.lines) does.out.lines = end_from-lines None s.out.lines does.out.lines in
     let to_print : paper s.out.lines ++ mid.output.print ≡ paper (s.out.lines ++ does.out.lines) =
     ap (λ (b : Bytes). paper s.out.lines ++ b.print) put ∙ ap (λ (x : PhaseEnd). paper s.out.lines ++ (put_by x s.out does.out).print) on ∙ print_goes_on s.out does.out in
     let to_disk : disk_bytes s.out.records ++ mid.output.disk ≡ disk_bytes (s.out.records ++ does.out.records) =
     ap (λ (b : Bytes). disk_bytes s.out.records ++ b.disk) put ∙ disk_goes_on e s.out does.out in
+    let c = config_on (last_position s.out.lines) job.config in
+    let p = job.program in
+    let cycle : Cycle p s.earlier t.x t.y (begun p c job.inputs) GoesOn there does.out =
+    subst (λ (k : PhaseEnd). Cycle p s.earlier t.x t.y (begun p c job.inputs) k there does.out) on does.cycle in
+    let order : IsOrderly p (with_record there.selected s.earlier) mid.inputs =
+    subst (λ (i : Inputs). IsOrderly p (with_record there.selected s.earlier) i) (sym (does.inputs on)) (keeps p s.earlier t.x t.y c job.inputs there does.out s.orderly cycle) in
+    let fewer = fewer_wait p s.earlier t.x t.y c job.inputs there does.out s.orderly t.primary.needed t.secondary.needed cycle in
+    let waits : waiting_count mid.inputs ≡ waiting_count there.inputs = ap waiting_count (does.inputs on) in
+    let start = config_on None first.config in
     record {
       program = does.program ∙ s.program;
-      earlier = with_record does.there.selected s.earlier;
+      earlier = with_record there.selected s.earlier;
       out = with_more s.out does.out;
-      left = does.left on ∙ ap (λ (p : Object). left_by p (with_record does.there.selected s.earlier)) (sym does.program);
+      left = does.left on ∙ ap (λ (p : Object). left_by p (with_record there.selected s.earlier)) (sym does.program);
+      orderly = subst (λ (q : Object). IsOrderly q (with_record there.selected s.earlier) mid.inputs) (sym does.program) order;
       last = does.last ∙ ap line_of (sym line);
       empty = refl;
       sent_print = subst (λ (bytes : List ℕ). Appends print print'' bytes) to_print (Appends-trans print print' print'' (paper s.out.lines) mid.output.print s.sent_print sent_print);
       sent_disk = subst (λ (bytes : List ℕ). Appends disk disk'' bytes) to_disk (Appends-trans disk disk' disk'' (disk_bytes s.out.records) mid.output.disk s.sent_disk sent_disk);
       printed = omega (arith, s.printed, print_more, length-append (paper s.out.lines) mid.output.print, ap length to_print);
       stored = omega (arith, s.stored, disk_more, length-append (disk_bytes s.out.records) mid.output.disk, ap length to_disk);
-      read = steps.read;
-      consumed = steps.consumed;
-      at_end = steps.at_end;
-      under_way = λ more can.
-          let head : HeadCycle first.program s.earlier (config_on (last_position s.out.lines) job.config) GoesOn does.there does.out (steps.rest more) (records (buffered_of reader' ++ more)) =
-          subst (λ (x : PhaseEnd). HeadCycle first.program s.earlier (config_on (last_position s.out.lines) job.config) x does.there does.out (steps.rest more) (records (buffered_of reader' ++ more))) on (steps.head more can) in
-          let there : does.there.config ≡ config_on (last_position (s.out.lines ++ does.out.lines)) mid.config = does.config ∙ ap (λ previous. config_on previous mid.config) (sym line) in
-          subst (λ (c : Config). IsUnderWay first.program (config_on None first.config) (records (steps.read ++ more)) (with_record does.there.selected s.earlier) c (records (buffered_of reader' ++ more)) (cycles + 1) greater (with_more s.out does.out)) there
-          (one_more first.program (config_on None first.config) (records (steps.read ++ more)) s.earlier (config_on (last_position s.out.lines) job.config) (steps.rest more) (records (buffered_of reader' ++ more)) cycles most greater s.out does.there does.out
-          (steps.under_way more can) head (most_is ∙ ap (max most) (sym (steps_are job mid s.earlier s.out t.next e does))));
+      few = omega (arith, s.few, fewer, waits, t.primary.count on, t.secondary.count on);
+      primary = record { since = more_read given a.input a'.input _ s.primary.since t.primary.input; counted = counted_on p Primary given (needs_record p c job.inputs Primary) t.x e a a' s.primary t.primary on };
+      secondary = record { since = more_read others b.input b'.input _ s.secondary.since t.secondary.input; counted = counted_on p Secondary others (needs_record p c job.inputs Secondary) t.y e b b' s.secondary t.secondary on };
+      under_way = λ more behind can can_too.
+          let rs = records_of (a.input.buffered ++ (t.primary.input.read ++ more)) (b.input.buffered ++ (t.secondary.input.read ++ behind)) in
+          let ss = records_of (a'.input.buffered ++ more) (b'.input.buffered ++ behind) in
+          let all = records_of ((s.primary.since.read ++ t.primary.input.read) ++ more) ((s.secondary.since.read ++ t.secondary.input.read) ++ behind) in
+          let one = head first job given others a b cycles most print print' disk disk' gone_print gone_disk s mid a' b' e t more behind can can_too in
+          let again = under_way_still first job given others a b cycles most print print' disk disk' gone_print gone_disk s mid a' b' e t more behind can can_too in
+          let going : HeadCycle first.program s.earlier c job.inputs GoesOn there does.out rs ss = subst (λ (x : PhaseEnd). HeadCycle first.program s.earlier c job.inputs x there does.out rs ss) on one in
+          let to : there.config ≡ config_on (last_position (s.out.lines ++ does.out.lines)) mid.config = does.config ∙ ap (λ previous. config_on previous mid.config) (sym line) in
+          subst (λ (i : Inputs). IsUnderWay first.program start all (with_record there.selected s.earlier) (config_on (last_position (s.out.lines ++ does.out.lines)) mid.config) i ss (cycles + 1) greater (with_more s.out does.out)) (sym (does.inputs on))
+          (subst (λ (x : Config). IsUnderWay first.program start all (with_record there.selected s.earlier) x there.inputs ss (cycles + 1) greater (with_more s.out does.out)) to
+          (one_more first.program start all s.earlier c job.inputs rs ss cycles most greater s.out there does.out again going (most_is ∙ ap (max most) (sym (steps_are job mid s.earlier s.out t.x t.y e does)))));
     }
 
--- the reader and the job behind a cycle that went on
-pub record HasGoneOn {R : Type 0} (job mid : AtWork) (reader reader' : RecordReader R) : Type 0 where
-  pub program : mid.program ≡ job.program
-  pub limit : limit_of reader' ≡ limit_of reader
-  pub few : count_of reader < max_records
-  pub count : count_of reader' ≡ count_of reader + 1
-  pub still : is_record (answer_of reader') ≡ true
-
-pub has_gone_on : {R : Type 0} (remaining : R → Option (List ℕ)) (job mid : AtWork) (reader reader' : RecordReader R) (previous : Option Position)
-    → job.last ≡ line_of previous → TakesCycle remaining job reader mid reader' → mid.stage ≡ ended_stage None → HasGoneOn job mid reader reader'
-has_gone_on remaining job mid reader reader' previous last takes stage =
-    let took = takes.does previous last in
-    let on : took.0 ≡ GoesOn = went took.0 (sym took.1.does.stage ∙ stage) in
-    record { program = took.1.does.program; limit = took.1.limit; few = took.1.few on; count = took.1.count on; still = took.1.still on }
-
-pub stream_on : {R : Type 0} (remaining : R → Option (List ℕ)) (first job mid : AtWork) (given : Option (List ℕ)) (reader reader' : RecordReader R) (cycles most greater : ℕ)
-    (print print' print'' disk disk' disk'' : Option (List ℕ)) (gone_print gone_disk gone_print' gone_disk' : ℕ)
-    → Streams remaining first given job reader cycles most print print' disk disk' gone_print gone_disk → TakesCycle remaining job reader mid reader' → mid.stage ≡ ended_stage None
-    → greater ≡ max most mid.config.steps → Appends print' print'' mid.output.print → Appends disk' disk'' mid.output.disk
-    → gone_print' ≡ gone_print + length mid.output.print → gone_disk' ≡ gone_disk + length mid.output.disk
-    → Streams remaining first given (job_taken mid) reader' (cycles + 1) greater print print'' disk disk'' gone_print' gone_disk'
-stream_on remaining first job mid given reader reader' cycles most greater print print' print'' disk disk' disk'' gone_print gone_disk gone_print' gone_disk' s takes stage most_is sent_print sent_disk print_more disk_more =
-    let took = takes_behind remaining job mid reader reader' takes s.earlier s.left (last_position s.out.lines) s.last in
-    stream_goes_on remaining first job mid given reader reader' cycles most greater print print' print'' disk disk' disk'' gone_print gone_disk gone_print' gone_disk' took.0 s took.1
-    (went took.0 (sym took.1.does.stage ∙ stage)) most_is sent_print sent_disk print_more disk_more
-
-pub stays_bounded : {R : Type 0} (remaining : R → Option (List ℕ)) (first job mid : AtWork) (given : Option (List ℕ)) (reader reader' : RecordReader R) (cycles most : ℕ)
-    (print print' disk disk' : Option (List ℕ)) (gone_print gone_disk : ℕ)
-    → Streams remaining first given job reader cycles most print print' disk disk' gone_print gone_disk → TakesCycle remaining job reader mid reader'
+-- the steps stay in the bound of the program
+pub stays_bounded : (first job mid : AtWork) (given others : Option (List ℕ)) (a b a' b' : Source) (cycles most : ℕ) (print print' disk disk' : Option (List ℕ)) (gone_print gone_disk : ℕ)
+    (e : PhaseEnd) (s : Streams first given others job a b cycles most print print' disk disk' gone_print gone_disk) → TakesNext s.earlier (last_position s.out.lines) job a b e mid a' b'
     → most ≤ bound first.program → mid.config.steps ≤ bound mid.program → max most mid.config.steps ≤ bound first.program
-stays_bounded remaining first job mid given reader reader' cycles most print print' disk disk' gone_print gone_disk s takes before now =
-    let took = takes.does (last_position s.out.lines) s.last in
-    let same : bound mid.program ≡ bound first.program = ap bound (took.1.does.program ∙ s.program) in
+stays_bounded first job mid given others a b a' b' cycles most print print' disk disk' gone_print gone_disk e s t small now_small =
+    let same : bound mid.program ≡ bound first.program = ap bound (t.does.program ∙ s.program) in
     omega (arith, same)
+
+-- a reader has given no more records than an input may have
+pub few_given : {R : Type 0} (r : RecordReader R) → count_of r ≤ max_records
+few_given r = r.few

@@ -1,32 +1,32 @@
--- A cycle with what a reader of records found.
-use Rattle.std.proofs.Common.{◌≡◌, ℕ, false, List, [], ◌∷◌, ◌++◌, Option, Some, None, Result, Ok, Err, IfOk, OnOk, refl, sym, ap, ◌∙◌, subst}
+-- A cycle with what two readers of records found.
+use Rattle.std.proofs.Common.{◌≡◌, ℕ, ◌+◌, ◌&&◌, Bool, true, false, List, [], ◌∷◌, ◌++◌, length, Option, Some, None, Result, Ok, refl, sym, ap, ◌∙◌, subst, arith, inl, inr}
 use Rattle.std.proofs.KnownBytes.{Consumes-nil}
 use Rattle.std.proofs.lemmas.Bool.{and_right}
-use Rattle.rpg_cycle_records.specs.Earlier.{Left, Selected, left_by, with_record}
-use Rattle.rpg_cycle.specs.Ends.{GoesOn, PhaseEnd}
+use Rattle.rpg_cycle.proofs.JobCycles.{cycles_behind}
+use Rattle.rpg_cycle.specs.Ends.{EndOfJob, GoesOn, Halt, PhaseEnd, Wrong}
+use Rattle.rpg_cycle.specs.Job.{AtWork, DoesCycle, job_needs_record}
+use Rattle.rpg_cycle.specs.Phases.{Cycle, begun, needs_record}
+use Rattle.rpg_cycle.specs.Runs.{next_of, rest_of}
+use Rattle.rpg_cycle.specs.Stages.{Going, is_going, stage_at}
+use Rattle.rpg_cycle_records.specs.Earlier.{Selected, left_by}
 use Rattle.rpg_cycle_records.specs.Identifying.{is_good_record}
-use Rattle.rpg_cycle_records.specs.Keeping.{renewed_by, noted}
-use Rattle.rpg_effect.specs.declared.input.InputFile.TheVariants.{Primary}
-use Rattle.rpg_cycle.specs.Job.{AtWork, Cycles}
-use Rattle.rpg_cycle.specs.Phases.{Cycle, CycleOn, UnderWay, begun, needs_record}
+use Rattle.rpg_cycle_records.specs.Merging.{IsOrderly}
+use Rattle.rpg_cycle_records.specs.Waiting.{Inputs, input_at}
 use Rattle.rpg_effect.specs.Put.{line_of}
-use Rattle.rpg_paper.specs.Paper.{Position}
-use Rattle.rpg_files.specs.Reading.{Advances, GivesNext, Input, ReadsNext, answer_of, count_of, input_of, is_record, limit_of, record_of}
+use Rattle.rpg_effect.specs.declared.input.InputFile.{InputFile}
+use Rattle.rpg_effect.specs.declared.input.InputFile.TheVariants.{Primary, Secondary}
+use Rattle.rpg_files.specs.Counting.{faults_of}
+use Rattle.rpg_files.specs.Reading.{Advances, GivesNext, Input, ReadsNext, answer_of, count_of, input_of, is_record, limit_of, reader_of, record_of}
 use Rattle.rpg_files.specs.Records.{records}
+use Rattle.rpg_files.specs.declared.reader.Next.{Next}
 use Rattle.rpg_files.specs.declared.reader.Next.TheVariants as next
+use Rattle.rpg_files.specs.declared.reader.ReadFault.{ReadFault}
 use Rattle.rpg_files.specs.declared.reader.RecordReader.{RecordReader}
-use Rattle.rpg_machine.specs.Config.{Config, Output}
 use Rattle.rpg_machine.specs.Running.{config_on}
-use Rattle.rpg_object_program.specs.Kept.{IsProgram}
-use Rattle.rpg_object_program.specs.Object.{Object}
-use Rattle.rpg_engine.specs.Streaming.{HeadCycle, TakesCycle, TakesNext}
-use Rattle.rpg_engine.proofs.Passing.{bad_are_one, bad_stops, never_on}
-use Rattle.rpg_cycle.proofs.JobCycles.{leaves}
-use Rattle.rpg_cycle.proofs.Unneeded.{unneeded}
-
-pub on_ok : {X E : Type 0} (r : Result X E) (P : X → Type 0) (Q : Type 0) → ((x : X) → P x → Q) → IfOk r P → OnOk r Q
-on_ok (Ok x) P Q f h = f x h
-on_ok (Err e) P Q f h = tt
+use Rattle.rpg_object_program.specs.Object.{Object, input_length}
+use Rattle.rpg_paper.specs.Paper.{Position}
+use Rattle.rpg_engine.specs.Streaming.{Asks, IsBehindRecord, TakesCycle, record_with}
+use Rattle.rpg_engine.proofs.Passing.{AreAlike, IfNeeded, IsBad, Takes, cycle_takes, in_list, needed_takes}
 
 -- what is told of the bytes to come, told otherwise
 pub told_of : (old new : Input) (F G : List ℕ → List ℕ → Type 0) → ((x y : List ℕ) → F x y → G x y) → Advances old new F → Advances old new G
@@ -48,166 +48,185 @@ stands_still i F holds = record {
   fact = λ more can. holds (i.buffered ++ more);
 }
 
--- a cycle of a job with what is next, as the written machine has it
-abbrev Does : AtWork → List Selected → Option Position → Option (List ℕ) → PhaseEnd → UnderWay → Output → Type 0
-Does job earlier previous next e d out = Cycle job.program earlier next (begun job.program (config_on previous job.config)) e d out
+-- ---- one reader
 
-not_at_end : (job : AtWork) (earlier : List Selected) (previous : Option Position) (e : PhaseEnd) (d : UnderWay) (out : Output) → Does job earlier previous None e d out → e ≡ GoesOn → ⊥
-not_at_end job earlier previous e d out cycle on =
-    never_on job.program (left_by job.program earlier) (begun job.program (config_on previous job.config)) d out
-    (subst (λ (x : PhaseEnd). Does job earlier previous None x d out) on cycle)
+-- what is still to come of a reader's input, and how many records it has given
+pub record Source : Type 0 where
+  pub input : Input
+  pub count : ℕ
 
-not_bad : (job : AtWork) (earlier : List Selected) (previous : Option Position) (r : List ℕ) (e : PhaseEnd) (d : UnderWay) (out : Output) → is_good_record job.program Primary r ≡ false
-    → Does job earlier previous (Some r) e d out → e ≡ GoesOn → ⊥
-not_bad job earlier previous r e d out bad cycle on =
-    bad_stops job.program (left_by job.program earlier) r (begun job.program (config_on previous job.config)) d out bad
-    (subst (λ (x : PhaseEnd). Does job earlier previous (Some r) x d out) on cycle)
+abbrev pub source_of : {R : Type 0} → (R → Option (List ℕ)) → RecordReader R → Source
+source_of remaining r = record { input = input_of remaining r; count = count_of r }
 
--- ---- with a record
+-- a cycle that is given this of a file does the same with the file's first record; where it goes on, the others are left
+pub record IsFirstOf (p : Object) (f : InputFile) (is_needed : Bool) (x : Option (List ℕ)) (e : PhaseEnd) (before after : List (List ℕ)) : Type 0 where
+  pub alike : AreAlike p f x (next_of is_needed before)
+  pub left : e ≡ GoesOn → after ≡ rest_of is_needed before
+  pub counted : e ≡ GoesOn → length before ≡ length (in_list x) + length after
 
-pub takes_record : {R : Type 0} (remaining : R → Option (List ℕ)) (job job' : AtWork) (old new : RecordReader R) → ReadsNext remaining old (Ok next.Record) new → answer_of new ≡ Ok next.Record
-    → Cycles job (Some (record_of new)) job' → TakesCycle remaining job old job' new
-takes_record remaining job job' old new reads answer cycles = record {
-  behind = cycles.behind;
-  does = λ previous last.
-      let earlier = cycles.behind.earlier in
-      let went = cycles.does previous last in
-      let does = went.1 in (
+-- so it is, whatever follows the bytes that were read
+pub record Gives (p : Object) (f : InputFile) (is_needed : Bool) (x : Option (List ℕ)) (e : PhaseEnd) (old new : Source) : Type 0 where
+  pub input : Advances old.input new.input (λ before after. IsFirstOf p f is_needed x e (records before) (records after))
+  pub count : e ≡ GoesOn → new.count ≡ old.count + length (in_list x)
+  pub needed : IfNeeded is_needed x
+
+no_character : (p : Object) (f : InputFile) → is_good_record p f (0 ∷ []) ≡ false
+no_character p f = and_right _ _ refl
+
+module _ {R : Type 0} (remaining : R → Option (List ℕ)) where
+  abbrev Given : Object → InputFile → PhaseEnd → RecordReader R → Bool → Next → RecordReader R → Type 0
+  Given p f e old is_needed answer new = Gives p f is_needed (record_with new answer) e (source_of remaining old) (source_of remaining new)
+
+  left_alone : (p : Object) (f : InputFile) (e : PhaseEnd) (old : RecordReader R) → Given p f e old false next.End old
+  left_alone p f e old = record {
+    input = stands_still (input_of remaining old) (λ before after. IsFirstOf p f false None e (records before) (records after))
+        (λ x. record { alike = inl refl; left = λ on. refl; counted = λ on. omega arith });
+    count = λ on. omega arith;
+    needed = λ is. refl;
+  }
+
+  with_record : (p : Object) (f : InputFile) (e : PhaseEnd) (old new : RecordReader R) → ReadsNext remaining old (Ok next.Record) new → Given p f e old true next.Record new
+  with_record p f e old new reads = record {
+    input = told_of (input_of remaining old) (input_of remaining new) (GivesNext (limit_of old) (count_of old) (record_of new) (Ok next.Record))
+        (λ before after. IsFirstOf p f true (Some (record_of new)) e (records before) (records after))
+        (λ x y gives. subst (λ (rs : List (List ℕ)). IsFirstOf p f true (Some (record_of new)) e rs (records y)) (sym gives.2)
+        (record { alike = inl refl; left = λ on. refl; counted = λ on. omega arith })) reads.input;
+    count = λ on. reads.count;
+    needed = λ is. absurd (let never : true ≡ false = is in cc);
+  }
+
+  with_bad : (p : Object) (f : InputFile) (e : PhaseEnd) (old new : RecordReader R) → limit_of old ≡ input_length p f → ReadsNext remaining old (Ok next.Bad) new → (e ≡ GoesOn → ⊥) → Given p f e old true next.Bad new
+  with_bad p f e old new limit reads never = record {
+    input = told_of (input_of remaining old) (input_of remaining new) (GivesNext (limit_of old) (count_of old) (record_of new) (Ok next.Bad))
+        (λ before after. IsFirstOf p f true (Some (0 ∷ [])) e (records before) (records after))
+        (λ x y gives.
+        let bad = gives.1 in
+        let bad_too : is_good_record p f bad.0 ≡ false = rw limit at bad.3 in
+        subst (λ (rs : List (List ℕ)). IsFirstOf p f true (Some (0 ∷ [])) e rs (records y)) (sym bad.2)
+        (record { alike = inr (no_character p f, bad_too); left = λ on. absurd (never on); counted = λ on. absurd (never on) })) reads.input;
+    count = λ on. absurd (never on);
+    needed = λ is. absurd (let no : true ≡ false = is in cc);
+  }
+
+  at_end : (p : Object) (f : InputFile) (e : PhaseEnd) (old new : RecordReader R) → ReadsNext remaining old (Ok next.End) new → Given p f e old true next.End new
+  at_end p f e old new reads = record {
+    input = told_of (input_of remaining old) (input_of remaining new) (GivesNext (limit_of old) (count_of old) (record_of new) (Ok next.End))
+        (λ before after. IsFirstOf p f true None e (records before) (records after))
+        (λ x y gives.
+        subst (λ (bytes : List ℕ). IsFirstOf p f true None e (records bytes) (records y)) (sym gives.0)
+        (subst (λ (bytes : List ℕ). IsFirstOf p f true None e [] (records bytes)) (sym gives.1)
+        (record { alike = inl refl; left = λ on. refl; counted = λ on. refl }))) reads.input;
+    count = λ on. let same = reads.count in omega arith;
+    needed = λ is. absurd (let no : true ≡ false = is in cc);
+  }
+
+  -- what a reader that was asked gives a cycle, where no cycle goes on with a bad record
+  pub gives : (p : Object) (f : InputFile) (e : PhaseEnd) (old new : RecordReader R) (is_needed : Bool) (answer : Next) → limit_of old ≡ input_length p f → Asks remaining is_needed old (Ok answer) new
+      → (e ≡ GoesOn → is_needed ≡ true → IsBad p f (record_with new answer) → ⊥) → Given p f e old is_needed answer new
+  gives p f e old new false next.Record limit asks never = absurd (let no = (asks.unneeded refl).0 in cc)
+  gives p f e old new false next.Bad limit asks never = absurd (let no = (asks.unneeded refl).0 in cc)
+  gives p f e old new false next.End limit asks never = subst (λ (r : RecordReader R). Given p f e old false next.End r) (sym (asks.unneeded refl).1) (left_alone p f e old)
+  gives p f e old new true next.Record limit asks never = with_record p f e old new (asks.needed refl).0
+  gives p f e old new true next.Bad limit asks never = with_bad p f e old new limit (asks.needed refl).0 (λ on. never on refl (no_character p f))
+  gives p f e old new true next.End limit asks never = at_end p f e old new (asks.needed refl).0
+
+  -- ---- what stays
+
+  pub limit_stays : (is_needed : Bool) (answer : Result Next ReadFault) (old new : RecordReader R) → Asks remaining is_needed old answer new → limit_of new ≡ limit_of old
+  limit_stays false answer old new asks = ap (λ (r : RecordReader R). limit_of r) (asks.unneeded refl).1
+  limit_stays true answer old new asks = (asks.needed refl).0.limit
+
+  pub faults_stay : (is_needed : Bool) (answer : Next) (old new : RecordReader R) → Asks remaining is_needed old (Ok answer) new → faults_of (reader_of new) ≡ faults_of (reader_of old)
+  faults_stay false answer old new asks = ap (λ (r : RecordReader R). faults_of (reader_of r)) (asks.unneeded refl).1
+  faults_stay true answer old new asks = (asks.needed refl).0.faults
+
+  -- of a file that isn't over the reader gave a record
+  pub record_behind : (p : Object) (f : InputFile) (job job' : AtWork) (old new : RecordReader R) (is_needed : Bool) (answer : Next) → Asks remaining is_needed old (Ok answer) new
+      → (is_needed ≡ true → IsBad p f (record_with new answer) → ⊥) → (is_needed ≡ true → record_with new answer ≡ None → (input_at job'.inputs f).is_over ≡ true)
+      → ((input_at job.inputs f).is_over ≡ true → (input_at job'.inputs f).is_over ≡ true) → IsBehindRecord job f old → IsBehindRecord job' f new
+  record_behind p f job job' old new false answer asks bad none still before = λ not_over.
+      ap (λ (r : RecordReader R). is_record (answer_of r)) (asks.unneeded refl).1 ∙ before (was_open (input_at job.inputs f).is_over refl not_over)
+    where
+      was_open : (b : Bool) → (input_at job.inputs f).is_over ≡ b → (input_at job'.inputs f).is_over ≡ false → (input_at job.inputs f).is_over ≡ false
+      was_open true is not_over = absurd (let never : true ≡ false = sym (still is) ∙ not_over in cc)
+      was_open false is not_over = is
+  record_behind p f job job' old new true next.Record asks bad none still before = λ not_over. ap is_record (asks.needed refl).1
+  record_behind p f job job' old new true next.Bad asks bad none still before = absurd (bad refl (no_character p f))
+  record_behind p f job job' old new true next.End asks bad none still before = λ not_over. absurd (let never : true ≡ false = sym (none refl refl) ∙ not_over in cc)
+
+-- ---- both
+
+-- a job behind those earlier records, and behind a line placed before, did a cycle with what stands next in both inputs
+pub record TakesNext (earlier : List Selected) (previous : Option Position) (job : AtWork) (a b : Source) (e : PhaseEnd) (job' : AtWork) (a' b' : Source) : Type 0 where
+  pub x : Option (List ℕ)
+  pub y : Option (List ℕ)
+  pub does : DoesCycle job earlier previous x y e job'
+  pub primary : Gives job.program Primary (needs_record job.program (config_on previous job.config) job.inputs Primary) x e a a'
+  pub secondary : Gives job.program Secondary (needs_record job.program (config_on previous job.config) job.inputs Secondary) y e b b'
+
+-- how a cycle ended, by the stage that it led to
+pub went : (e : PhaseEnd) → stage_at e ≡ Going → e ≡ GoesOn
+went GoesOn h = refl
+went EndOfJob h = cc
+went (Halt k) h = cc
+went (Wrong f) h = cc
+
+-- what a cycle that goes on has taken
+pub gone_on : (job job' : AtWork) (earlier : List Selected) (previous : Option Position) (x y : Option (List ℕ)) (e : PhaseEnd) → IsOrderly job.program earlier job.inputs
+    → DoesCycle job earlier previous x y e job' → e ≡ GoesOn → Takes job.program x y job.inputs job'.inputs
+gone_on job job' earlier previous x y e order does on =
+    subst (λ (i : Inputs). Takes job.program x y job.inputs i) (sym (does.inputs on))
+    (cycle_takes job.program earlier x y (config_on previous job.config) job.inputs does.there does.out order
+    (subst (λ (k : PhaseEnd). Cycle job.program earlier x y (begun job.program (config_on previous job.config) job.inputs) k does.there does.out) on does.cycle))
+
+needs_of : (job : AtWork) (f : InputFile) → is_going job.stage ≡ true → job_needs_record job f ≡ needs_record job.program job.config job.inputs f
+needs_of job f going = ap (λ b. b && needs_record job.program job.config job.inputs f) going
+
+module _ {R S : Type 0} (remaining : R → Option (List ℕ)) (others : S → Option (List ℕ)) (job job' : AtWork) (primary primary' : RecordReader R) (secondary secondary' : RecordReader S)
+    (going : is_going job.stage ≡ true) (takes : TakesCycle remaining others job primary secondary job' primary' secondary') where
+  asks_first : Asks remaining (needs_record job.program job.config job.inputs Primary) primary (Ok takes.first) primary'
+  asks_first = subst (λ (b : Bool). Asks remaining b primary (Ok takes.first) primary') (needs_of job Primary going) takes.asks_primary
+
+  asks_second : Asks others (needs_record job.program job.config job.inputs Secondary) secondary (Ok takes.second) secondary'
+  asks_second = subst (λ (b : Bool). Asks others b secondary (Ok takes.second) secondary') (needs_of job Secondary going) takes.asks_secondary
+
+  -- behind all records that leave what the job keeps
+  pub takes_next : limit_of primary ≡ job.program.record_length → limit_of secondary ≡ job.program.secondary_length → (earlier : List Selected) → job.left ≡ left_by job.program earlier
+      → IsOrderly job.program earlier job.inputs → (previous : Option Position) → job.last ≡ line_of previous
+      → (e : PhaseEnd) × TakesNext earlier previous job (source_of remaining primary) (source_of others secondary) e job' (source_of remaining primary') (source_of others secondary')
+  takes_next limit limit_too earlier leave order previous placed =
+      let x = record_with primary' takes.first in
+      let y = record_with secondary' takes.second in
+      let went = cycles_behind job job' x y takes.cycles earlier leave order previous placed in
+      let c = config_on previous job.config in (
         went.0,
         record {
-          next = Some (record_of new);
-          does = does;
-          input = told_of (input_of remaining old) (input_of remaining new) (GivesNext (limit_of old) (count_of old) (record_of new) (Ok next.Record))
-              (λ x y. HeadCycle job.program earlier (config_on previous job.config) went.0 does.there does.out (records x) (records y))
-              (λ x y gives. subst (λ (rs : List (List ℕ)). HeadCycle job.program earlier (config_on previous job.config) went.0 does.there does.out rs (records y)) (sym gives.2)
-              (does.cycle, λ on. refl)) reads.input;
-          limit = reads.limit;
-          few = λ on. (reads.input.fact [] (λ is. refl)).0;
-          count = λ on. reads.count;
-          still = λ on. ap is_record answer;
+          x = x;
+          y = y;
+          does = went.1;
+          primary = gives remaining job.program Primary went.0 primary primary' (needs_record job.program c job.inputs Primary) takes.first limit asks_first
+              (λ on needs. (gone_on job job' earlier previous x y went.0 order went.1 on).primary.no_bad (needed_takes job.program c job.inputs Primary needs));
+          secondary = gives others job.program Secondary went.0 secondary secondary' (needs_record job.program c job.inputs Secondary) takes.second limit_too asks_second
+              (λ on needs. (gone_on job job' earlier previous x y went.0 order went.1 on).secondary.no_bad (needed_takes job.program c job.inputs Secondary needs));
         },
-      );
-}
+      )
 
--- ---- where the job ends
+  -- where the job goes on the readers stand behind a record, as before
+  behind_first : Takes job.program (record_with primary' takes.first) (record_with secondary' takes.second) job.inputs job'.inputs → IsBehindRecord job Primary primary → IsBehindRecord job' Primary primary'
+  behind_first took = record_behind remaining job.program Primary job job' primary primary' (needs_record job.program job.config job.inputs Primary) takes.first asks_first
+      (λ needs. took.primary.no_bad (needed_takes job.program job.config job.inputs Primary needs))
+      (λ needs. took.primary.over_where_none (needed_takes job.program job.config job.inputs Primary needs)) took.primary.over_still
 
--- the cycle doesn't go on, and it is one with what stands next
-pub record EndsWith {R : Type 0} (remaining : R → Option (List ℕ)) (job : AtWork) (old : RecordReader R) (earlier : List Selected) (previous : Option Position) (e : PhaseEnd) (d : UnderWay) (out : Output) (new : RecordReader R) : Type 0 where
-  pub never : e ≡ GoesOn → ⊥
-  pub input : Advances (input_of remaining old) (input_of remaining new) (λ x y. HeadCycle job.program earlier (config_on previous job.config) e d out (records x) (records y))
+  behind_second : Takes job.program (record_with primary' takes.first) (record_with secondary' takes.second) job.inputs job'.inputs → IsBehindRecord job Secondary secondary → IsBehindRecord job' Secondary secondary'
+  behind_second took = record_behind others job.program Secondary job job' secondary secondary' (needs_record job.program job.config job.inputs Secondary) takes.second asks_second
+      (λ needs. took.secondary.no_bad (needed_takes job.program job.config job.inputs Secondary needs))
+      (λ needs. took.secondary.over_where_none (needed_takes job.program job.config job.inputs Secondary needs)) took.secondary.over_still
 
-ends_with : {R : Type 0} (remaining : R → Option (List ℕ)) (job job' : AtWork) (old new : RecordReader R) (with_next : Option (List ℕ)) → limit_of new ≡ limit_of old → Cycles job with_next job'
-    → ((earlier : List Selected) (previous : Option Position) (e : PhaseEnd) (d : UnderWay) (out : Output) → Does job earlier previous with_next e d out → EndsWith remaining job old earlier previous e d out new)
-    → TakesCycle remaining job old job' new
-ends_with remaining job job' old new with_next limit cycles ends = record {
-  behind = cycles.behind;
-  does = λ previous last.
-      let earlier = cycles.behind.earlier in
-      let went = cycles.does previous last in
-      let does = went.1 in
-      let is = ends earlier previous went.0 does.there does.out does.cycle in (
-        went.0,
-        record {
-          next = with_next;
-          does = does;
-          input = is.input;
-          limit = limit;
-          few = λ on. absurd (is.never on);
-          count = λ on. absurd (is.never on);
-          still = λ on. absurd (is.never on);
-        },
-      );
-}
-
-no_character : (p : Object) → is_good_record p Primary (0 ∷ []) ≡ false
-no_character p = and_right _ _ refl
-
-pub takes_bad : {R : Type 0} (remaining : R → Option (List ℕ)) (job job' : AtWork) (old new : RecordReader R) → limit_of old ≡ job.program.record_length → ReadsNext remaining old (Ok next.Bad) new
-    → Cycles job (Some (0 ∷ [])) job' → TakesCycle remaining job old job' new
-takes_bad remaining job job' old new limit reads cycles = ends_with remaining job job' old new (Some (0 ∷ [])) reads.limit cycles
-    (λ earlier previous e d out cycle.
-    let never = not_bad job earlier previous (0 ∷ []) e d out (no_character job.program) cycle in
-    record {
-      never = never;
-      input = told_of (input_of remaining old) (input_of remaining new) (GivesNext (limit_of old) (count_of old) (record_of new) (Ok next.Bad))
-          (λ x y. HeadCycle job.program earlier (config_on previous job.config) e d out (records x) (records y))
-          (λ x y gives.
-          let bad = gives.1 in
-          let bad_too : is_good_record job.program Primary bad.0 ≡ false = rw limit at bad.3 in
-          subst (λ (rs : List (List ℕ)). HeadCycle job.program earlier (config_on previous job.config) e d out rs (records y)) (sym bad.2) (
-            bad_are_one job.program (left_by job.program earlier) (0 ∷ []) bad.0 (no_character job.program) bad_too (begun job.program (config_on previous job.config)) e d out cycle,
-            λ on. absurd (never on),
-          )) reads.input;
-    })
-
-pub takes_end : {R : Type 0} (remaining : R → Option (List ℕ)) (job job' : AtWork) (old new : RecordReader R) → ReadsNext remaining old (Ok next.End) new
-    → Cycles job None job' → TakesCycle remaining job old job' new
-takes_end remaining job job' old new reads cycles = ends_with remaining job job' old new None reads.limit cycles
-    (λ earlier previous e d out cycle. record {
-      never = not_at_end job earlier previous e d out cycle;
-      input = told_of (input_of remaining old) (input_of remaining new) (GivesNext (limit_of old) (count_of old) (record_of new) (Ok next.End))
-          (λ x y. HeadCycle job.program earlier (config_on previous job.config) e d out (records x) (records y))
-          (λ x y gives. subst (λ (bytes : List ℕ). HeadCycle job.program earlier (config_on previous job.config) e d out (records bytes) (records y)) (sym gives) cycle) reads.input;
-    })
-
--- a record that isn't needed is left
-pub takes_no_record : {R : Type 0} (remaining : R → Option (List ℕ)) (job job' : AtWork) (reader : RecordReader R) → IsProgram job.program → needs_record job.config ≡ false
-    → Cycles job None job' → TakesCycle remaining job reader job' reader
-takes_no_record remaining job job' reader program needs cycles = ends_with remaining job job' reader reader None refl cycles
-    (λ earlier previous e d out cycle. record {
-      never = not_at_end job earlier previous e d out cycle;
-      input = stands_still (input_of remaining reader) (λ x y. HeadCycle job.program earlier (config_on previous job.config) e d out (records x) (records y))
-          (λ x. with_any earlier previous e d out (records x) cycle);
-    })
-  where
-    with_any : (earlier : List Selected) (previous : Option Position) (e : PhaseEnd) (d : UnderWay) (out : Output) (rs : List (List ℕ)) → Does job earlier previous None e d out
-        → HeadCycle job.program earlier (config_on previous job.config) e d out rs rs
-    with_any earlier previous e d out [] cycle = cycle
-    with_any earlier previous e d out (r ∷ rs) cycle = (
-      unneeded job.program earlier (config_on previous job.config) None (Some r) e d out program needs cycle,
-      λ on. absurd (not_at_end job earlier previous e d out cycle on),
-    )
-
--- ---- behind all records that leave what the job keeps
-
-left_with : (p : Object) (s : Option Selected) (a b : List Selected) → left_by p a ≡ left_by p b → left_by p (with_record s a) ≡ left_by p (with_record s b)
-left_with p None a b h = h
-left_with p (Some s) a b h = sym (leaves p a (Some s.type) s.text) ∙ ap (λ (l : Left). noted p (Some s.type) (renewed_by p (Some s.type) s.text l)) h ∙ leaves p b (Some s.type) s.text
-
-head_behind : (p : Object) (a b : List Selected) (c : Config) (e : PhaseEnd) (d : UnderWay) (out : Output) (rs after : List (List ℕ)) → left_by p a ≡ left_by p b
-    → HeadCycle p a c e d out rs after → HeadCycle p b c e d out rs after
-head_behind p a b c e d out [] after same h = subst (λ (l : Left). CycleOn p l None (begun p c) e d out) same h
-head_behind p a b c e d out (r ∷ rs) after same h = (subst (λ (l : Left). CycleOn p l (Some r) (begun p c) e d out) same h.0, h.1)
-
-pub takes_behind : {R : Type 0} (remaining : R → Option (List ℕ)) (job job' : AtWork) (reader reader' : RecordReader R) → TakesCycle remaining job reader job' reader'
-    → (earlier : List Selected) → job.left ≡ left_by job.program earlier → (previous : Option Position) → job.last ≡ line_of previous
-    → (e : PhaseEnd) × TakesNext remaining earlier previous job reader e job' reader'
-takes_behind remaining job job' reader reader' takes earlier is previous placed =
-    let some = takes.behind.earlier in
-    let same : left_by job.program some ≡ left_by job.program earlier = sym takes.behind.leave ∙ is in
-    let went = takes.does previous placed in
-    let does = went.1.does in (
-      went.0,
-      record {
-        next = went.1.next;
-        does = record {
-          stage = does.stage;
-          program = does.program;
-          there = does.there;
-          out = does.out;
-          cycle = subst (λ (l : Left). CycleOn job.program l went.1.next (begun job.program (config_on previous job.config)) went.0 does.there does.out) same does.cycle;
-          config = does.config;
-          left = λ on. does.left on ∙ left_with job.program does.there.selected some earlier same;
-          last = does.last;
-          bytes = does.bytes;
-        };
-        input = told_of (input_of remaining reader) (input_of remaining reader')
-            (λ x y. HeadCycle job.program some (config_on previous job.config) went.0 does.there does.out (records x) (records y))
-            (λ x y. HeadCycle job.program earlier (config_on previous job.config) went.0 does.there does.out (records x) (records y))
-            (λ x y. head_behind job.program some earlier (config_on previous job.config) went.0 does.there does.out (records x) (records y) same) went.1.input;
-        limit = went.1.limit;
-        few = went.1.few;
-        count = went.1.count;
-        still = went.1.still;
-      },
-    )
+  pub both_behind : (earlier : List Selected) → job.left ≡ left_by job.program earlier → IsOrderly job.program earlier job.inputs → (previous : Option Position) → job.last ≡ line_of previous → job'.stage ≡ Going
+      → IsBehindRecord job Primary primary → IsBehindRecord job Secondary secondary → IsBehindRecord job' Primary primary' × IsBehindRecord job' Secondary secondary'
+  both_behind earlier leave order previous placed stage one two =
+      let x = record_with primary' takes.first in
+      let y = record_with secondary' takes.second in
+      let done = cycles_behind job job' x y takes.cycles earlier leave order previous placed in
+      let took = gone_on job job' earlier previous x y done.0 order done.1 (went done.0 (sym done.1.stage ∙ stage)) in
+      (behind_first took one, behind_second took two)

@@ -1,19 +1,27 @@
 -- Whose fault it is that a run gave no report.
 use Rattle.std.specs.Prelude.{◌≡◌, ℕ, ◌+◌, ◌⊎◌, List, Option, Result, Err}
-use Rattle.rpg_engine.specs.Inputs.{HasTooMany, OfInput}
+use Rattle.rpg_files.specs.Counting.{faults_of}
+use Rattle.rpg_files.specs.declared.counting.Counted.{Counted}
+use Rattle.rpg_engine.specs.Inputs.{HasTooMany, OfInputs}
 use Rattle.rpg_engine.specs.declared.fault.RunFault.{RunFault}
 use Rattle.rpg_engine.specs.declared.fault.RunFault.TheVariants as faults
 
--- how many calls of the reader and of each writer have failed
+-- how many calls of each reader and of each writer have failed
 pub record Counts : Type 0 where
-  pub reader : ℕ
+  pub primary : ℕ
+  pub secondary : ℕ
   pub print : ℕ
   pub disk : ℕ
 
--- A fault of a writer is told exactly where its count rose by one, and one of the reader exactly where its count rose or where
--- its bytes have too many records; no other count rises.
-abbrev pub FaultsAre : {X : Type 0} → Result X RunFault → Option (List ℕ) → Option (List ℕ) → Counts → Counts → Type 0
-FaultsAre (Err (faults.Print sent)) given left old new = new ≡ record old { print = old.print + 1 }
-FaultsAre (Err (faults.Disk sent)) given left old new = new ≡ record old { disk = old.disk + 1 }
-FaultsAre (Err faults.Read) given left old new = (new ≡ record old { reader = old.reader + 1 }) ⊎ ((new ≡ old) × OfInput given left HasTooMany)
-FaultsAre result given left old new = new ≡ old
+abbrev pub counts_of : {R S P D : Type 0} → (input : Counted R) (secondary : Counted S) (print : Counted P) (disk : Counted D) → Counts
+counts_of input secondary print disk = record { primary = faults_of input; secondary = faults_of secondary; print = faults_of print; disk = faults_of disk }
+
+-- A fault of a writer is told exactly where its count rose by one, and one of a reader exactly where a reader's count rose or where
+-- the bytes of one have too many records; no other count rises.
+abbrev pub FaultsAre : {X : Type 0} → Result X RunFault → (given left others rest : Option (List ℕ)) → Counts → Counts → Type 0
+FaultsAre (Err (faults.Print sent)) given left others rest old new = new ≡ record old { print = old.print + 1 }
+FaultsAre (Err (faults.Disk sent)) given left others rest old new = new ≡ record old { disk = old.disk + 1 }
+FaultsAre (Err faults.Read) given left others rest old new =
+    (new ≡ record old { primary = old.primary + 1 }) ⊎ ((new ≡ record old { secondary = old.secondary + 1 })
+    ⊎ ((new ≡ old) × OfInputs given left others rest HasTooMany))
+FaultsAre result given left others rest old new = new ≡ old

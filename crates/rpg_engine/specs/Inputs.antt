@@ -1,18 +1,28 @@
--- What is said of an input of which some bytes were read.
-use Rattle.std.specs.Prelude.{◌≡◌, ℕ, ◌<◌, Bool, true, List, ◌++◌, length, Option}
+-- What is said of two inputs of each of which some bytes were read.
+use Rattle.std.specs.Prelude.{◌≡◌, ℕ, ◌<◌, ◌⊎◌, Bool, true, List, ◌++◌, length, Option}
 use Rattle.std.specs.Io.KnownBytes.{Consumes, IsAtEnd}
+use Rattle.rpg_cycle.specs.Runs.{Records}
 use Rattle.rpg_files.specs.NextLine.{CanFollow}
 use Rattle.rpg_files.specs.Records.{max_records, records}
 
--- These bytes were read, and Fact holds of every input that begins with them; where the input's end was seen, of that input
--- alone.
-pub record OfInput (given left : Option (List ℕ)) (Fact : List ℕ → Type 0) : Type 0 where
+-- of an input that had these bytes and has those left, these were read, and its end where that was seen
+pub record WasRead (given left : Option (List ℕ)) : Type 0 where
   pub read : List ℕ
   pub ended : Bool
   pub consumed : Consumes given left read
   pub at_end : ended ≡ true → IsAtEnd left
-  pub fact : (more : List ℕ) → CanFollow ended more → Fact (read ++ more)
 
--- more records than an input may have
-abbrev pub HasTooMany : List ℕ → Type 0
-HasTooMany bytes = max_records < length (records bytes)
+-- Such bytes were read of a primary and of a secondary input, and Fact holds of every two of which each begins with what was read of
+-- it; where the end of one was seen, of that one alone.
+pub record OfInputs (given left others rest : Option (List ℕ)) (Fact : List ℕ → List ℕ → Type 0) : Type 0 where
+  pub primary : WasRead given left
+  pub secondary : WasRead others rest
+  pub fact : (more behind : List ℕ) → CanFollow primary.ended more → CanFollow secondary.ended behind → Fact (primary.read ++ more) (secondary.read ++ behind)
+
+-- the records of both
+abbrev pub records_of : List ℕ → List ℕ → Records
+records_of primary secondary = record { primary = records primary; secondary = records secondary }
+
+-- one of them has more records than an input may have
+abbrev pub HasTooMany : List ℕ → List ℕ → Type 0
+HasTooMany primary secondary = (max_records < length (records primary)) ⊎ (max_records < length (records secondary))

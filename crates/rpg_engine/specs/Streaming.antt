@@ -1,23 +1,20 @@
--- What is done with an input a cycle at a time, and what is sent of a cycle's output.
-use Rattle.std.specs.Prelude.{◌≡◌, ℕ, ◌+◌, ◌<◌, ◌⊎◌, true, List, [], ◌∷◌, Option, None, Some, Result, Ok, Err}
+-- What is asked of two readers for a cycle, and what is sent of its output.
+use Rattle.std.specs.Prelude.{◌≡◌, ℕ, ℤ, ◌+◌, ◌⊎◌, Bool, true, false, List, [], ◌∷◌, Option, None, Some, Result, Ok, Err}
 use Rattle.std.specs.Io.KnownBytes.{Appends}
-use Rattle.rpg_cycle_records.specs.Earlier.{Selected}
-use Rattle.rpg_cycle.specs.Ends.{GoesOn, PhaseEnd}
-use Rattle.rpg_cycle.specs.Job.{AtWork, DoesCycle, IsLeft}
-use Rattle.rpg_cycle.specs.Phases.{Cycle, UnderWay, begun}
+use Rattle.rpg_cycle.specs.Job.{AtWork, Cycles, job_needs_record}
 use Rattle.rpg_cycle.specs.Stages.{Ended, Going, Stage, job_end}
 use Rattle.rpg_cycle.specs.declared.ends.JobEnd.{JobEnd}
-use Rattle.rpg_paper.specs.Paper.{Position}
-use Rattle.rpg_effect.specs.Put.{line_of}
-use Rattle.rpg_files.specs.Reading.{Advances, ReadsNext, answer_of, count_of, input_of, is_record, limit_of}
-use Rattle.rpg_files.specs.Records.{max_records, records}
+use Rattle.rpg_cycle_records.specs.Waiting.{input_at}
+use Rattle.rpg_effect.specs.declared.input.InputFile.{InputFile}
+use Rattle.rpg_effect.specs.declared.input.InputFile.TheVariants.{Primary, Secondary}
+use Rattle.rpg_files.specs.Reading.{ReadsNext, answer_of, is_record, record_of}
 use Rattle.rpg_files.specs.Sending.{AppendsFirst}
 use Rattle.rpg_files.specs.declared.reader.Next.{Next}
+use Rattle.rpg_files.specs.declared.reader.Next.TheVariants as next
 use Rattle.rpg_files.specs.declared.reader.ReadFault.{ReadFault}
 use Rattle.rpg_files.specs.declared.reader.RecordReader.{RecordReader}
-use Rattle.rpg_machine.specs.Config.{Config, Output}
-use Rattle.rpg_machine.specs.Running.{config_on}
 use Rattle.rpg_object_program.specs.Object.{Object}
+use Rattle.rpg_engine.specs.Reporting.{NeedsRecord, SendsFirstParts}
 use Rattle.rpg_engine.specs.declared.fault.RunFault.{RunFault}
 use Rattle.rpg_engine.specs.declared.fault.RunFault.TheVariants as faults
 
@@ -28,35 +25,45 @@ abbrev pub ended_stage : Option JobEnd → Stage
 ended_stage None = Going
 ended_stage (Some e) = Ended (job_end e)
 
--- a cycle with the first of these records, or with none where there is none; where it goes on, the others are left
-abbrev pub HeadCycle : Object → List Selected → Config → PhaseEnd → UnderWay → Output → List (List ℕ) → List (List ℕ) → Type 0
-HeadCycle p earlier c e d out [] left = Cycle p earlier None (begun p c) e d out
-HeadCycle p earlier c e d out (r ∷ rs) left = Cycle p earlier (Some r) (begun p c) e d out × (e ≡ GoesOn → left ≡ rs)
+-- the reader of a file that isn't over gave a record last
+abbrev pub IsBehindRecord : {R : Type 0} → AtWork → InputFile → RecordReader R → Type 0
+IsBehindRecord job f reader = (input_at job.inputs f).is_over ≡ false → is_record (answer_of reader) ≡ true
 
--- A job behind those earlier records, and behind a line placed before, did a cycle with what stands next in the input, whatever
--- follows the bytes that were read; one that goes on took a record.
-pub record TakesNext {R : Type 0} (remaining : R → Option (List ℕ)) (earlier : List Selected) (previous : Option Position) (job : AtWork)
-    (reader : RecordReader R) (e : PhaseEnd) (job' : AtWork) (reader' : RecordReader R) : Type 0 where
-  pub next : Option (List ℕ)
-  pub does : DoesCycle job earlier previous next e job'
-  pub input : Advances (input_of remaining reader) (input_of remaining reader')
-      (λ before after. HeadCycle job.program earlier (config_on previous job.config) e does.there does.out (records before) (records after))
-  pub limit : limit_of reader' ≡ limit_of reader
-  pub few : e ≡ GoesOn → count_of reader < max_records
-  pub count : e ≡ GoesOn → count_of reader' ≡ count_of reader + 1
-  pub still : e ≡ GoesOn → is_record (answer_of reader') ≡ true
+-- what a cycle is given where a reader answered so: of a bad record, one that no program can take
+abbrev pub record_with : {R : Type 0} → RecordReader R → Next → Option (List ℕ)
+record_with reader next.Record = Some (record_of reader)
+record_with reader next.Bad = Some (0 ∷ [])
+record_with reader next.End = None
 
--- the same behind the earlier records that left what the job keeps, whatever was placed before
-pub record TakesCycle {R : Type 0} (remaining : R → Option (List ℕ)) (job : AtWork) (reader : RecordReader R) (job' : AtWork)
-    (reader' : RecordReader R) : Type 0 where
-  pub behind : IsLeft job.program job.left
-  pub does : (previous : Option Position) → job.last ≡ line_of previous → (e : PhaseEnd) × TakesNext remaining behind.earlier previous job reader e job' reader'
+-- a reader answered what stands next where that was needed, and else it was left and there was nothing
+pub record Asks {R : Type 0} (remaining : R → Option (List ℕ)) (is_needed : Bool) (old : RecordReader R) (answer : Result Next ReadFault) (new : RecordReader R) : Type 0 where
+  pub needed : is_needed ≡ true → ReadsNext remaining old answer new × (answer_of new ≡ answer)
+  pub unneeded : is_needed ≡ false → (answer ≡ Ok next.End) × (new ≡ old)
 
--- no cycle was done: the reader failed, or memory ran out, before or after it was asked
-abbrev pub TakesNone : {R : Type 0} → (R → Option (List ℕ)) → RecordReader R → RunFault → RecordReader R → Type 0
-TakesNone remaining old faults.Read new = (fault : ReadFault) × ReadsNext remaining old (Err fault) new
-TakesNone remaining old faults.NoMemory new = (new ≡ old) ⊎ ((next : Next) × ReadsNext remaining old (Ok next) new)
-TakesNone remaining old e new = ⊥
+-- a job did a cycle with what the readers of the files that need a record answered
+pub record TakesCycle {R S : Type 0} (remaining : R → Option (List ℕ)) (others : S → Option (List ℕ)) (job : AtWork) (primary : RecordReader R) (secondary : RecordReader S)
+    (job' : AtWork) (primary' : RecordReader R) (secondary' : RecordReader S) : Type 0 where
+  pub first : Next
+  pub second : Next
+  pub asks_primary : Asks remaining (job_needs_record job Primary) primary (Ok first) primary'
+  pub asks_secondary : Asks others (job_needs_record job Secondary) secondary (Ok second) secondary'
+  pub cycles : Cycles job (record_with primary' first) (record_with secondary' second) job'
+
+-- a reader was asked, if it was
+abbrev pub MayBeAsked : {R : Type 0} → (R → Option (List ℕ)) → RecordReader R → RecordReader R → Type 0
+MayBeAsked remaining old new = (is_needed : Bool) × (answer : Next) × Asks remaining is_needed old (Ok answer) new
+
+-- a reader of which a record was needed failed
+abbrev pub Fails : {R : Type 0} → (R → Option (List ℕ)) → Bool → RecordReader R → RecordReader R → Type 0
+Fails remaining is_needed old new = (is_needed ≡ true) × (fault : ReadFault) × ReadsNext remaining old (Err fault) new
+
+-- no cycle was done: the primary's reader failed, or then the secondary's; or memory ran out when they had been asked
+abbrev pub TakesNone : {R S : Type 0} → (R → Option (List ℕ)) → (S → Option (List ℕ)) → AtWork → RecordReader R → RecordReader S → RunFault → RecordReader R → RecordReader S → Type 0
+TakesNone remaining others job primary secondary faults.Read primary' secondary' =
+    (Fails remaining (job_needs_record job Primary) primary primary' × (secondary' ≡ secondary))
+    ⊎ (MayBeAsked remaining primary primary' × Fails others (job_needs_record job Secondary) secondary secondary')
+TakesNone remaining others job primary secondary faults.NoMemory primary' secondary' = MayBeAsked remaining primary primary' × MayBeAsked others secondary secondary'
+TakesNone remaining others job primary secondary e primary' secondary' = ⊥
 
 -- ---- its output
 
@@ -67,6 +74,11 @@ SendsSome (faults.Print sent) printed stored print print' disk disk' lines recor
 SendsSome (faults.Disk sent) printed stored print print' disk disk' lines records =
     (n : ℕ) × (sent ≡ stored + n) × Appends print print' lines × AppendsFirst disk disk' n records
 SendsSome e printed stored print print' disk disk' lines records = ⊥
+
+-- a run stopped early: each writer has such parts of its output, and where a reader failed the job needed a record
+pub record StopsEarly (p : Object) (day : ℤ) (e : RunFault) (print print' disk disk' : Option (List ℕ)) (primary secondary : List ℕ) : Type 0 where
+  pub parts : SendsFirstParts p day e print print' disk disk' primary secondary
+  pub needs : e ≡ faults.Read → NeedsRecord p day print print' disk disk' primary secondary
 
 -- of a fault of a run that has begun
 abbrev pub IsOfRun : RunFault → Type 0

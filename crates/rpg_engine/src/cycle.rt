@@ -1,18 +1,18 @@
-//! The next cycle of a job, with what stands next in its input.
+//! The next cycle of a job, with what stands next in its files.
 
 ghost use Rattle.std.specs.Prelude.{◌≡◌, ◌-◌, ◌^◌, ◌<◌, ◌≤◌, IfErr, IfOk, OnOk, true};
 ghost use Rattle.std.specs.Option.{option_map};
 ghost use Rattle.rpg_cycle.specs.Job.{Cycles};
 ghost use Rattle.rpg_cycle.specs.Stages.{is_going};
+ghost use Rattle.rpg_effect.specs.declared.input.InputFile.TheVariants as files;
 ghost use Rattle.rpg_files.specs.Counting.{faults_of};
-ghost use Rattle.rpg_files.specs.Reading.{answer_of, is_record, limit_of, reader_of};
-ghost use Rattle.rpg_object_program.specs.Kept.{IsProgram};
+ghost use Rattle.rpg_files.specs.Reading.{answer_of, is_record, reader_of};
 ghost use Rattle.rpg_verify.specs.Bound.{bound};
-ghost use Rattle.rpg_engine.specs.Streaming.{TakesCycle, TakesNone, ended_stage};
+ghost use Rattle.rpg_engine.specs.Streaming.{Asks, IsBehindRecord, TakesCycle, TakesNone, ended_stage, record_with};
 
 use crate::fault::RunFault;
 use rpg_cycle::{CycleEnd, Job, JobEnd};
-use rpg_files::{Next, RecordReader};
+use rpg_files::{Next, ReadFault, RecordReader};
 use rpg_store::Store;
 use std::io::Read;
 
@@ -22,15 +22,16 @@ const BAD_RECORD: &[u8] = &[0];
 /// Does a cycle of a job that goes on, and answers how the job ended, if it did.
 fn cycle_with<S: Store + Drop>(
     job: &mut Job<'_, S>,
-    next: Option<&[u8]>,
+    primary: Option<&[u8]>,
+    secondary: Option<&[u8]>,
 ) -> Result<Option<JobEnd>, RunFault>
     requires { is_going job.old.stage ≡ true }
-    ensures cycle { IfOk result (λ _. Cycles job.old (option_map (λ t. t.now) next.entry) job.new) }
+    ensures cycle { IfOk result (λ _. Cycles job.old (option_map (λ t. t.now) primary.entry) (option_map (λ t. t.now) secondary.entry) job.new) }
     ensures told { IfOk result (λ e. job.new.stage ≡ ended_stage e) }
     ensures bound { OnOk result (job.new.config.steps ≤ bound job.new.program) }
     ensures memory { IfErr result (λ e. e ≡ RunFault.NoMemory) }
 {
-    match job.cycle(next)? {
+    match job.cycle(primary, secondary)? {
         CycleEnd::GoesOn => Ok(None),
         CycleEnd::EndOfJob => Ok(Some(JobEnd::EndOfJob)),
         CycleEnd::Halt(halt) => Ok(Some(JobEnd::Halt(halt))),
@@ -38,30 +39,59 @@ fn cycle_with<S: Store + Drop>(
     }
 }
 
-/// Does the next cycle, and answers how the job ended, if it did. A record is read where the cycle needs one.
-pub(crate) fn next_cycle<S: Store + Drop, R: Read>(
-    job: &mut Job<'_, S>,
-    records: &mut RecordReader<'_, R>,
-) -> Result<Option<JobEnd>, RunFault>
+/// What stands next in a file, where it is needed; else nothing is read of it.
+fn ask<R: Read>(records: &mut RecordReader<'_, R>, is_needed: bool) -> Result<Next, ReadFault>
     requires faults { faults_of (reader_of records.old) < 2 ^ 64 - 1 }
-    requires going { is_going job.old.stage ≡ true }
-    requires behind_record { is_record (answer_of records.old) ≡ true }
-    requires limit { limit_of records.old ≡ job.old.program.record_length }
-    requires program { IsProgram job.old.program }
+    requires behind_record { is_needed ≡ true → is_record (answer_of records.old) ≡ true }
     ensures same_reader { records.new.reader.ghost_name ≡ records.old.reader.ghost_name }
-    ensures cycle { OnOk result (TakesCycle R.remaining job.old records.old job.new records.new) }
+    ensures asks { Asks R.remaining is_needed records.old result records.new }
+{
+    if is_needed {
+        records.next()
+    } else {
+        Ok(Next::End)
+    }
+}
+
+/// The record for a cycle, where this stands next.
+fn record_for<'a, R>(records: &'a RecordReader<'_, R>, next: Next) -> Option<&'a [u8]>
+    ensures { option_map (λ t. t.now) result ≡ record_with records.now next }
+{
+    match next {
+        Next::Record => Some(records.record()),
+        Next::Bad => Some(BAD_RECORD),
+        Next::End => None,
+    }
+}
+
+/// Does the next cycle, and answers how the job ended, if it did. A record is read of each file that the cycle needs one from, of the
+/// primary's reader first.
+pub(crate) fn next_cycle<S: Store + Drop, R1: Read, R2: Read>(
+    job: &mut Job<'_, S>,
+    primary: &mut RecordReader<'_, R1>,
+    secondary: &mut RecordReader<'_, R2>,
+) -> Result<Option<JobEnd>, RunFault>
+    requires primary { faults_of (reader_of primary.old) < 2 ^ 64 - 1 }
+    requires secondary { faults_of (reader_of secondary.old) < 2 ^ 64 - 1 }
+    requires going { is_going job.old.stage ≡ true }
+    requires behind_primary { IsBehindRecord job.old files.Primary primary.old }
+    requires behind_secondary { IsBehindRecord job.old files.Secondary secondary.old }
+    ensures same_primary { primary.new.reader.ghost_name ≡ primary.old.reader.ghost_name }
+    ensures same_secondary { secondary.new.reader.ghost_name ≡ secondary.old.reader.ghost_name }
+    ensures alone { job.old.program.secondary_length ≡ 0 → secondary.new ≡ secondary.old }
+    ensures cycle { OnOk result (TakesCycle R1.remaining R2.remaining job.old primary.old secondary.old job.new primary.new secondary.new) }
     ensures told { IfOk result (λ e. job.new.stage ≡ ended_stage e) }
     ensures bound { OnOk result (job.new.config.steps ≤ bound job.new.program) }
-    ensures none { IfErr result (λ e. TakesNone R.remaining records.old e records.new) }
-    ensures faults { OnOk result (faults_of (reader_of records.new) ≡ faults_of (reader_of records.old)) }
+    ensures faults_primary { OnOk result (faults_of (reader_of primary.new) ≡ faults_of (reader_of primary.old)) }
+    ensures faults_secondary { OnOk result (faults_of (reader_of secondary.new) ≡ faults_of (reader_of secondary.old)) }
+    ensures none { IfErr result (λ e. TakesNone R1.remaining R2.remaining job.old primary.old secondary.old e primary.new secondary.new) }
 {
-    if !job.needs_record() {
-        return cycle_with(job, None);
-    }
-    match records.next() {
-        Ok(Next::Record) => cycle_with(job, Some(records.record())),
-        Ok(Next::Bad) => cycle_with(job, Some(BAD_RECORD)),
-        Ok(Next::End) => cycle_with(job, None),
-        Err(fault) => Err(fault.into()),
-    }
+    let need = job.needs();
+    let first = ask(primary, need.primary)?;
+    let second = ask(secondary, need.secondary)?;
+    cycle_with(
+        job,
+        record_for(primary, first),
+        record_for(secondary, second),
+    )
 }

@@ -1,12 +1,19 @@
 //! The engine: from object bytes and input bytes to the report and the output bytes.
 
-ghost use Rattle.std.specs.Prelude.{◌≡◌, ℤ, ◌-◌, ◌^◌, ◌<◌, IfErr, IfOk, IsErrOf, None, Some};
+ghost use Rattle.std.specs.Prelude.{◌≡◌, ℕ, ℤ, ◌-◌, ◌^◌, ◌<◌, IfErr, IfOk, IsErrOf, List, None, Some};
+ghost use Rattle.rpg_cycle.specs.Counting.{records_count};
 ghost use Rattle.rpg_cycle.specs.Job.{Starts, first_fields};
+ghost use Rattle.rpg_cycle.specs.Runs.{Course, IsRun, Records};
 ghost use Rattle.rpg_cycle.specs.Starting.{date_in};
+ghost use Rattle.rpg_cycle_safety.specs.Coming.{HasRun, RunsWell};
+ghost use Rattle.rpg_effect.specs.Put.{Bytes};
 ghost use Rattle.rpg_files.specs.Counting.{device_of, faults_of};
+ghost use Rattle.rpg_object_program.specs.Kept.{IsProgram};
 ghost use Rattle.rpg_object_program.specs.Object.{Object};
-ghost use Rattle.rpg_engine.specs.Faults.{FaultsAre, Counts};
-ghost use Rattle.rpg_engine.specs.Inputs.{OfInput};
+ghost use Rattle.rpg_verify_rules.specs.Accepted.{IsAccepted};
+ghost use Rattle.rpg_engine.specs.Faults.{FaultsAre, counts_of};
+ghost use Rattle.rpg_engine.specs.Inputs.{OfInputs};
+ghost use Rattle.rpg_engine.specs.Objects.{SpellsProgram};
 ghost use Rattle.rpg_engine.specs.Refusing.{IsJobOf, IsToldOf, IsToldOfDate, MayRun};
 ghost use Rattle.rpg_engine.specs.Reporting.{JobEndsWell, Reports, SendsParts};
 
@@ -15,11 +22,24 @@ use crate::object::accepted_object;
 use crate::report::Report;
 use crate::run::run;
 use rpg_cycle::{Job, StartFault};
+use rpg_cycle_safety::run_laws::runs_keep;
+use rpg_cycle_safety::step_laws::first_values_hold;
 use rpg_files::{Counted, RecordReader, RecordRoom};
 use rpg_store::{ListedStore, first_values_fit};
 use rpg_verify::Verified;
 use std::alloc::Global;
 use std::io::{Read, Write};
+
+/// An accepted program has a run over any records of both files, on any date, from its first values; and each such run ends well. It does
+/// nothing: it is called for its contract alone.
+fn runs_end_well()
+    ensures exists { (p : Object) (date : List ℕ) (day : ℤ) (rs : Records) → IsProgram p → IsAccepted p → date_in date ≡ Some day → HasRun p day (first_fields p) rs }
+    ensures each { (p : Object) (date : List ℕ) (day : ℤ) (rs : Records) (course : Course) (bytes : Bytes) → IsProgram p → IsAccepted p → date_in date ≡ Some day
+        → IsRun p day (first_fields p) rs course bytes → RunsWell p (records_count rs) course }
+{
+    first_values_hold();
+    runs_keep();
+}
 
 /// A job at its start, over the store that lists its values.
 fn first_job<'a>(
@@ -35,94 +55,119 @@ fn first_job<'a>(
     Job::start_in(alloc, program, date, store)
 }
 
-/// Runs an accepted program over the records of the input, on a date of six digits, and sends what it prints and what it writes to the
-/// disk file.
+/// Runs an accepted program over the records of a primary and of a secondary input, on a date of six digits, and sends what it prints
+/// and what it writes to the disk file.
 ///
-/// The date is read before anything else is. Then each cycle that needs a record reads one, and its output is sent before the next, the
-/// printer's first. The memory that is taken doesn't grow with the number of records.
-pub fn execute_program<R: Read, W1: Write, W2: Write>(
+/// The date is read before anything else is. Then a record is read of each file that the cycle needs one from, of the primary first, and
+/// the cycle's output is sent before the next, the printer's first. The memory that is taken doesn't grow with the number of records.
+pub fn execute_program<R1: Read, R2: Read, W1: Write, W2: Write>(
     alloc: Global,
     program: &Verified,
     date: &[u8],
-    input: &mut Counted<R>,
+    input: &mut Counted<R1>,
+    secondary: &mut Counted<R2>,
     print: &mut Counted<W1>,
     disk: &mut Counted<W2>,
 ) -> Result<Report, RunFault>
     requires input { faults_of input.old < 2 ^ 64 - 1 }
+    requires secondary { faults_of secondary.old < 2 ^ 64 - 1 }
     requires print { faults_of print.old < 2 ^ 64 - 1 }
     requires disk { faults_of disk.old < 2 ^ 64 - 1 }
 
     // A date that is none is told.
     ensures refused { IsToldOfDate result date.now }
-    // Then nothing is read and nothing written.
-    ensures untouched { date_in date.now ≡ None → (input.new ≡ input.old) × (print.new ≡ print.old) × (disk.new ≡ disk.old) }
+    // Then nothing is read and nothing written; and the secondary input is never read where the program has no such file.
+    ensures untouched { date_in date.now ≡ None → (input.new ≡ input.old) × (secondary.new ≡ secondary.old) × (print.new ≡ print.old) × (disk.new ≡ disk.old) }
+    ensures alone { program.now.secondary_length ≡ 0 → secondary.new ≡ secondary.old }
 
-    // Else the job ends, at its end or at a halt, within one cycle more than the input has records, and no cycle takes more steps than the bound.
+    // Else the job ends, at its end or at a halt, within one cycle more than both inputs have records, and no cycle takes more steps than the bound.
     ensures headline { IfOk result (λ report. (day : ℤ) → date_in date.now ≡ Some day
-        → OfInput (R.remaining (device_of input.old)) (R.remaining (device_of input.new)) (JobEndsWell program.now report)) }
-    // The report and all output are those of the run over the input's records.
+        → OfInputs (R1.remaining (device_of input.old)) (R1.remaining (device_of input.new))
+        (R2.remaining (device_of secondary.old)) (R2.remaining (device_of secondary.new)) (JobEndsWell program.now report)) }
+    // The report and all output are those of the run over the inputs' records.
     ensures report { IfOk result (λ report. (day : ℤ) → date_in date.now ≡ Some day
-        → OfInput (R.remaining (device_of input.old)) (R.remaining (device_of input.new))
+        → OfInputs (R1.remaining (device_of input.old)) (R1.remaining (device_of input.new))
+        (R2.remaining (device_of secondary.old)) (R2.remaining (device_of secondary.new))
         (Reports program.now day report (W1.contents (device_of print.old)) (W1.contents (device_of print.new))
         (W2.contents (device_of disk.old)) (W2.contents (device_of disk.new)))) }
-    // Where it stops early each writer has a first part of the run's output.
+    // Where it stops early each writer has a first part of the run's output; and where a reader failed the job still needed a record.
     ensures early { IfErr result (λ e. (day : ℤ) → date_in date.now ≡ Some day
-        → OfInput (R.remaining (device_of input.old)) (R.remaining (device_of input.new))
+        → OfInputs (R1.remaining (device_of input.old)) (R1.remaining (device_of input.new))
+        (R2.remaining (device_of secondary.old)) (R2.remaining (device_of secondary.new))
         (SendsParts program.now day e (W1.contents (device_of print.old)) (W1.contents (device_of print.new))
         (W2.contents (device_of disk.old)) (W2.contents (device_of disk.new)))) }
     // It is told whose fault that was.
-    ensures faults { let before : Counts = record { reader = faults_of input.old; print = faults_of print.old; disk = faults_of disk.old } in
-        let after : Counts = record { reader = faults_of input.new; print = faults_of print.new; disk = faults_of disk.new } in
-        FaultsAre result (R.remaining (device_of input.old)) (R.remaining (device_of input.new)) before after }
+    ensures faults { FaultsAre result (R1.remaining (device_of input.old)) (R1.remaining (device_of input.new))
+        (R2.remaining (device_of secondary.old)) (R2.remaining (device_of secondary.new))
+        (counts_of input.old secondary.old print.old disk.old) (counts_of input.new secondary.new print.new disk.new) }
 {
-    let accepted = program.program();
+    runs_end_well();
+    let rows = program.program().rows();
     let mut job = first_job(alloc, program, date)?;
-    let room = RecordRoom::new(alloc, accepted.rows().record_length)?;
-    let mut records = RecordReader::new(input, room);
-    let report = run(&mut job, &mut records, print, disk, program.bound());
-    let _reader = records.into_reader();
+    let primary_room = RecordRoom::new(alloc, rows.record_length)?;
+    let secondary_room = RecordRoom::new(alloc, rows.secondary_length)?;
+    let mut records = RecordReader::new(input, primary_room);
+    let mut others = RecordReader::new(secondary, secondary_room);
+    let report = run(
+        &mut job,
+        &mut records,
+        &mut others,
+        print,
+        disk,
+        program.bound(),
+    );
+    let _input = records.into_reader();
+    let _secondary = others.into_reader();
     report
 }
 
-/// Runs an object program over the records of the input, on a date of six digits, and sends what it prints and what it writes
-/// to the disk file.
+/// Runs an object program over the records of a primary and of a secondary input, on a date of six digits, and sends what it prints and
+/// what it writes to the disk file.
 ///
 /// The object is decoded and verified, and the date read, before anything else is read. Then it runs as `execute_program` says.
-pub fn execute<R: Read, W1: Write, W2: Write>(
+pub fn execute<R1: Read, R2: Read, W1: Write, W2: Write>(
     alloc: Global,
     object: &[u8],
     date: &[u8],
-    input: &mut Counted<R>,
+    input: &mut Counted<R1>,
+    secondary: &mut Counted<R2>,
     print: &mut Counted<W1>,
     disk: &mut Counted<W2>,
 ) -> Result<Report, RunFault>
     requires input { faults_of input.old < 2 ^ 64 - 1 }
+    requires secondary { faults_of secondary.old < 2 ^ 64 - 1 }
     requires print { faults_of print.old < 2 ^ 64 - 1 }
     requires disk { faults_of disk.old < 2 ^ 64 - 1 }
 
     // First the object is judged, then its rules, then the date.
     ensures refused { IsToldOf result object.now date.now }
-    // Where they don't make a job nothing is read and nothing written.
-    ensures untouched { (MayRun object.now date.now → ⊥) → (input.new ≡ input.old) × (print.new ≡ print.old) × (disk.new ≡ disk.old) }
+    // Where they don't make a job nothing is read and nothing written; and the secondary input is never read where the program has no such file.
+    ensures untouched { (MayRun object.now date.now → ⊥)
+        → (input.new ≡ input.old) × (secondary.new ≡ secondary.old) × (print.new ≡ print.old) × (disk.new ≡ disk.old) }
+    ensures alone { (p : Object) → SpellsProgram object.now p → p.secondary_length ≡ 0 → secondary.new ≡ secondary.old }
 
-    // Else the job ends, at its end or at a halt, within one cycle more than the input has records, and no cycle takes more steps than the bound.
+    // Else the job ends, at its end or at a halt, within one cycle more than both inputs have records, and no cycle takes more steps than the bound.
     ensures headline { IfOk result (λ report. (p : Object) (day : ℤ) → IsJobOf object.now date.now p day
-        → OfInput (R.remaining (device_of input.old)) (R.remaining (device_of input.new)) (JobEndsWell p report)) }
-    // The report and all output are those of the run over the input's records.
+        → OfInputs (R1.remaining (device_of input.old)) (R1.remaining (device_of input.new))
+        (R2.remaining (device_of secondary.old)) (R2.remaining (device_of secondary.new)) (JobEndsWell p report)) }
+    // The report and all output are those of the run over the inputs' records.
     ensures report { IfOk result (λ report. (p : Object) (day : ℤ) → IsJobOf object.now date.now p day
-        → OfInput (R.remaining (device_of input.old)) (R.remaining (device_of input.new))
+        → OfInputs (R1.remaining (device_of input.old)) (R1.remaining (device_of input.new))
+        (R2.remaining (device_of secondary.old)) (R2.remaining (device_of secondary.new))
         (Reports p day report (W1.contents (device_of print.old)) (W1.contents (device_of print.new))
         (W2.contents (device_of disk.old)) (W2.contents (device_of disk.new)))) }
-    // Where it stops early each writer has a first part of the run's output.
+    // Where it stops early each writer has a first part of the run's output; and where a reader failed the job still needed a record.
     ensures early { IfErr result (λ e. (p : Object) (day : ℤ) → IsJobOf object.now date.now p day
-        → OfInput (R.remaining (device_of input.old)) (R.remaining (device_of input.new))
+        → OfInputs (R1.remaining (device_of input.old)) (R1.remaining (device_of input.new))
+        (R2.remaining (device_of secondary.old)) (R2.remaining (device_of secondary.new))
         (SendsParts p day e (W1.contents (device_of print.old)) (W1.contents (device_of print.new))
         (W2.contents (device_of disk.old)) (W2.contents (device_of disk.new)))) }
     // It is told whose fault that was.
-    ensures faults { let before : Counts = record { reader = faults_of input.old; print = faults_of print.old; disk = faults_of disk.old } in
-        let after : Counts = record { reader = faults_of input.new; print = faults_of print.new; disk = faults_of disk.new } in
-        FaultsAre result (R.remaining (device_of input.old)) (R.remaining (device_of input.new)) before after }
+    ensures faults { FaultsAre result (R1.remaining (device_of input.old)) (R1.remaining (device_of input.new))
+        (R2.remaining (device_of secondary.old)) (R2.remaining (device_of secondary.new))
+        (counts_of input.old secondary.old print.old disk.old) (counts_of input.new secondary.new print.new disk.new) }
 {
+    runs_end_well();
     let program = accepted_object(alloc, object)?;
-    execute_program(alloc, &program, date, input, print, disk)
+    execute_program(alloc, &program, date, input, secondary, print, disk)
 }

@@ -12,10 +12,12 @@ mod sending;
 
 pub use engine::{execute, execute_program};
 pub use fault::RunFault;
-pub use object::{ObjectFault, accept, decode_object, has_disk_file, verify_bytes};
+pub use object::{
+    ObjectFault, accept, decode_object, has_disk_file, has_secondary_file, verify_bytes,
+};
 pub use report::Report;
 pub use rpg_cycle::{
-    Halt, Job, JobEnd, run_records, runs_are_one, runs_are_short, runs_stand_right,
+    Halt, Job, JobEnd, Need, run_records, runs_are_one, runs_are_short, runs_stand_right,
     unneeded_records_are_ignored,
 };
 pub use rpg_object::Code;

@@ -87,6 +87,13 @@ pub fn verify_bytes(alloc: Global, bytes: &[u8]) -> Result<u64, ObjectFault>
     Ok(verified.bound())
 }
 
+/// Whether the program reads a secondary file.
+pub fn has_secondary_file(program: &Program) -> bool
+    ensures { result ≡ nat_lt 0 program.now.secondary_length }
+{
+    program.rows().secondary_length > 0
+}
+
 /// Whether the program writes a disk file.
 pub fn has_disk_file(program: &Program) -> bool
     ensures { result ≡ nat_lt 0 program.now.disk_length }

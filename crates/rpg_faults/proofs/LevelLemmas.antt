@@ -55,22 +55,22 @@ set_next xs made level x d nine low high is done k less = by (eqb_tells k (level
     by (inr (e, other)) = get_or-set_other xs (level - 1) k x d other ∙ done k (omega arith)
 
 -- the item of one level is replaced
-pub set_level : (F G : ℕ → ℕ) (n v : ℕ) → 1 ≤ n → n ≤ 9 → v ≡ G n → ((level : ℕ) → level ≢ n → G level ≡ F level) → set (map F levels) (n - 1) v ≡ map G levels
-set_level F G n v low high new old = filled G (set (map F levels) (n - 1) v) 0 (length-set (map F levels) (n - 1) v ∙ nine) each
+pub set_level : {X : Type 0} (F G : ℕ → X) (d : X) (n : ℕ) (v : X) → 1 ≤ n → n ≤ 9 → v ≡ G n → ((level : ℕ) → level ≢ n → G level ≡ F level) → set (map F levels) (n - 1) v ≡ map G levels
+set_level F G d n v low high new old = filled G (set (map F levels) (n - 1) v) d (length-set (map F levels) (n - 1) v ∙ nine) each
   where
     nine : length (map F levels) ≡ 9
     nine = ap (λ ls. length (map F ls)) levels-is ∙ length-map-range_with_len F 1 9
 
-    each : (k : ℕ) → k < 9 → get_or (set (map F levels) (n - 1) v) k 0 ≡ G (k + 1)
+    each : (k : ℕ) → k < 9 → get_or (set (map F levels) (n - 1) v) k d ≡ G (k + 1)
     each k less = by (eqb_tells k (n - 1))
       where
-        item : get_or (map F levels) k 0 ≡ F (k + 1)
-        item = ap (λ ls. get_or (map F ls) k 0) levels-is ∙ get_or-map-range_with_len F 1 9 k (k + 1) 0 less (omega arith)
+        item : get_or (map F levels) k d ≡ F (k + 1)
+        item = ap (λ ls. get_or (map F ls) k d) levels-is ∙ get_or-map-range_with_len F 1 9 k (k + 1) d less (omega arith)
 
-        by : ((eqb k (n - 1) ≡ true) × (k ≡ n - 1)) ⊎ ((eqb k (n - 1) ≡ false) × (k ≢ n - 1)) → get_or (set (map F levels) (n - 1) v) k 0 ≡ G (k + 1)
+        by : ((eqb k (n - 1) ≡ true) × (k ≡ n - 1)) ⊎ ((eqb k (n - 1) ≡ false) × (k ≢ n - 1)) → get_or (set (map F levels) (n - 1) v) k d ≡ G (k + 1)
         by (inl (e, here)) =
             let same : n ≡ k + 1 = omega arith in
-            get_or-set_at (map F levels) (n - 1) k v 0 here (omega (arith, nine)) ∙ new ∙ ap G same
+            get_or-set_at (map F levels) (n - 1) k v d here (omega (arith, nine)) ∙ new ∙ ap G same
         by (inr (e, other)) =
             let apart : k + 1 ≢ n = omega arith in
-            get_or-set_other (map F levels) (n - 1) k v 0 other ∙ item ∙ sym (old (k + 1) apart)
+            get_or-set_other (map F levels) (n - 1) k v d other ∙ item ∙ sym (old (k + 1) apart)

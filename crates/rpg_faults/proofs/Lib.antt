@@ -3,6 +3,8 @@ pub mod EntryLemmas
 pub mod EveryLemmas
 pub mod LeastLemmas
 pub mod LevelLemmas
+pub mod MatchLemmas
 pub mod Numbering
+pub mod OpenTypes
 pub mod TypeLemmas
 mod ToldLemmas

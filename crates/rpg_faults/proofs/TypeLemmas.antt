@@ -1,18 +1,19 @@
 -- The joined lengths of record types, card by card.
-use Rattle.std.proofs.Common.{◌≡◌, ◌≢◌, ℕ, ◌+◌, ◌-◌, ◌≤◌, min, Bool, true, false, cond, List, [], ◌∷◌, ◌++◌, map, length, take, get_or, Option, None, Some, refl, sym, ap, ◌∙◌, arith, eq-eqb, ne_eqb, ◌==◌}
+use Rattle.std.proofs.Common.{◌≡◌, ◌≢◌, ℕ, ◌+◌, ◌-◌, ◌≤◌, min, Bool, true, false, cond, List, [], ◌∷◌, ◌++◌, map, length, get_or, Option, None, Some, refl, sym, ap, ◌∙◌, arith, eq-eqb, ne_eqb, ◌==◌}
 use Rattle.std.proofs.Math.ListN.{set}
-use Rattle.std.proofs.Math.Seq.{take-append-add}
 use Rattle.std.proofs.lemmas.List.Elements.{filter-append, filter_map-append}
 use Rattle.std.proofs.lemmas.List.Sums.{sum_by-append}
 use Rattle.std.specs.List.{filter, sum_by}
 use Rattle.std.specs.Option.{option_map, option_map_or, option_or}
-use Rattle.rpg_cards.proofs.GroupLemmas.{groups-heading, groups-push, groups-taken, one_if_heading, open_group-push, file_behind}
+use Rattle.rpg_cards.proofs.GroupLemmas.{one_if_heading}
 use Rattle.rpg_cards.specs.Cards.{input_field_in}
-use Rattle.rpg_cards.specs.Groups.{Apart, Follower, Group, Heading, Role, followers, groups, groups_from, input_role, open_group, opening, with_card}
+use Rattle.rpg_cards.specs.Groups.{Apart, Follower, Group, Heading, Role, followers, groups, input_role, open_group}
+use Rattle.rpg_cards.specs.Levels.{input_fields}
 use Rattle.rpg_cards.specs.declared.spec_card.SpecCard.{SpecCard}
 use Rattle.rpg_faults.proofs.LevelLemmas.{map_at_levels, same_at_levels, set_level, item_at}
+use Rattle.rpg_faults.proofs.OpenTypes.{open_apart, open_follower, open_heading, type_group, types_before, types_other, types_with}
 use Rattle.rpg_faults.specs.Lengths.{AreJoinedLengths, first_lengths, input_specs_in, lengths_of}
-use Rattle.rpg_faults.specs.Places.{first_length, input_columns, input_fields, is_at_level, joined_length, level_fields, level_length, levels}
+use Rattle.rpg_faults.specs.Places.{first_length, input_columns, is_at_level, joined_length, level_fields, level_length, levels}
 use Rattle.rpg_faults.specs.declared.lengths.JoinedLengths.{JoinedLengths}
 use Rattle.rpg_sheet_specs.specs.declared.indicator.Three.{Three}
 use Rattle.rpg_sheet_specs.specs.declared.input.InputField.{InputField}
@@ -37,37 +38,24 @@ first_length-push level [] g = or_none (level_length level g.followers)
 first_length-push level (x ∷ xs) g = ap (option_or (level_length level x.followers)) (first_length-push level xs g) ∙ or_or (level_length level x.followers) (first_length level xs) (level_length level g.followers)
 
 module _ (before : List SpecCard) (c : SpecCard) (after : List SpecCard) where
-  abbrev pub cards : List SpecCard
-  cards = before ++ c ∷ after
-
-  abbrev pub with_c : List SpecCard
-  with_c = before ++ c ∷ []
-
   abbrev pub first_before : ℕ → Option ℕ
   first_before level = first_length level (groups input_role before)
 
   -- before a type the groups are whole
-  pub first_lengths-before : (t : RecordType) → input_role c.spec ≡ Heading t t.file → first_lengths cards before ≡ map first_before levels
-  first_lengths-before t is = ap (λ gs. map (λ level. first_length level gs) levels) (groups-taken input_role before c after t t.file is)
+  pub first_lengths-before : (t : RecordType) → input_role c.spec ≡ Heading t t.file → first_lengths (before ++ c ∷ after) before ≡ map first_before levels
+  first_lengths-before t is = ap (λ gs. map (λ level. first_length level gs) levels) (types_before before c after t is)
 
   -- behind a type it counts with all its fields
-  first_lengths-type : (t : RecordType) → input_role c.spec ≡ Heading t t.file → first_lengths cards with_c ≡ map (λ level. option_or (first_before level) (level_length level (followers input_role after))) levels
+  first_lengths-type : (t : RecordType) → input_role c.spec ≡ Heading t t.file
+      → first_lengths (before ++ c ∷ after) (before ++ c ∷ []) ≡ map (λ level. option_or (first_before level) (level_length level (followers input_role after))) levels
   first_lengths-type t is =
-      ap (λ n. map (λ level. first_length level (take n (groups input_role cards))) levels) (groups-push input_role before c ∙ ap (λ (r : Role RecordType InputSpec). length (groups input_role before) + one_if_heading r) is)
-      ∙ ap (λ gs. map (λ level. first_length level (take (length (groups input_role before) + 1) gs)) levels) (groups-heading input_role None before c after t t.file is ∙ ap (λ (r : Role RecordType InputSpec). groups input_role before ++ opening r file (followers input_role after) (λ own. groups_from input_role own after)) is)
-      ∙ ap (λ gs. map (λ level. first_length level gs) levels) (take-append-add (groups input_role before) (g ∷ groups_from input_role g.file after) 1)
-      ∙ same_at_levels (λ level. first_length level (groups input_role before ++ g ∷ [])) (λ level. option_or (first_before level) (level_length level (followers input_role after))) (λ level. first_length-push level (groups input_role before) g)
-    where
-      file : Option (List ℕ)
-      file = file_behind input_role None before
-
-      g : Group RecordType InputSpec
-      g = record { heading = t; followers = followers input_role after; file = option_or t.file file }
+      ap (λ gs. map (λ level. first_length level gs) levels) (types_with before c after t is)
+      ∙ same_at_levels (λ level. first_length level (groups input_role before ++ type_group before c after t ∷ [])) (λ level. option_or (first_before level) (level_length level (followers input_role after)))
+      (λ level. first_length-push level (groups input_role before) (type_group before c after t))
 
   -- another card changes nothing
-  first_lengths-other : one_if_heading (input_role c.spec) ≡ 0 → first_lengths cards with_c ≡ first_lengths cards before
-  first_lengths-other none =
-      ap (λ n. map (λ level. first_length level (take n (groups input_role cards))) levels) (groups-push input_role before c ∙ ap (λ n. length (groups input_role before) + n) none ∙ omega arith)
+  first_lengths-other : one_if_heading (input_role c.spec) ≡ 0 → first_lengths (before ++ c ∷ after) (before ++ c ∷ []) ≡ first_lengths (before ++ c ∷ after) before
+  first_lengths-other none = ap (λ gs. map (λ level. first_length level gs) levels) (types_other before c after none)
 
 -- ---- the open type
 
@@ -93,7 +81,7 @@ lengths_of-none specs f none = sym (lengths_of-other specs (input.Field f) (λ l
 lengths_of-level : (specs : List InputSpec) (f : InputField) (lengths : List ℕ) (n columns length : ℕ) → lengths ≡ lengths_of specs → f.level ≡ Some n → 1 ≤ n → n ≤ 9 → columns ≡ input_columns f
     → length ≡ min (get_or lengths (n - 1) 0 + columns) 65535 → set lengths (n - 1) length ≡ lengths_of (specs ++ input.Field f ∷ [])
 lengths_of-level specs f lengths n columns length was at low high of is =
-    ap (λ ls. set ls (n - 1) length) was ∙ set_level (λ level. min (joined_length level specs) 65535) (λ level. min (joined_length level (specs ++ input.Field f ∷ [])) 65535) n length low high new old
+    ap (λ ls. set ls (n - 1) length) was ∙ set_level (λ level. min (joined_length level specs) 65535) (λ level. min (joined_length level (specs ++ input.Field f ∷ [])) 65535) 0 n length low high new old
   where
     here : is_at_level n f ≡ true
     here = ap (λ o. option_map_or (λ l. l == n) o false) at ∙ eq-eqb n n refl
@@ -137,16 +125,13 @@ unfolding levels
 no_lengths = refl
 
 module _ (before : List SpecCard) (c : SpecCard) (after : List SpecCard) (j : JoinedLengths) (was : AreJoinedLengths (before ++ c ∷ after) before j) where
-  open_is : (r : Role RecordType InputSpec) → input_role c.spec ≡ r → option_map lengths_of (input_specs_in (open_group input_role (before ++ c ∷ []))) ≡ option_map lengths_of (input_specs_in (with_card (open_group input_role before) r))
-  open_is r is = ap (λ o. option_map lengths_of (input_specs_in o)) (open_group-push input_role before c ∙ ap (λ (r : Role RecordType InputSpec). with_card (open_group input_role before) r) is)
-
   pub with_type : (t : RecordType) (first : List (Option ℕ)) → input_role c.spec ≡ Heading t t.file
       → first ≡ map (λ level. option_or (get_or j.first (level - 1) None) (level_length level (followers input_role after))) levels
       → AreJoinedLengths (before ++ c ∷ after) (before ++ c ∷ []) (record { first = first; open_type = Some (0 ∷ 0 ∷ 0 ∷ 0 ∷ 0 ∷ 0 ∷ 0 ∷ 0 ∷ 0 ∷ []) })
   with_type t first is made = record {
     first = made ∙ ap (λ ls. map (λ level. option_or (get_or ls (level - 1) None) (level_length level (followers input_role after))) levels) (was.first ∙ first_lengths-before before c after t is)
         ∙ map_at_levels (first_before before c after) (λ x level. option_or x (level_length level (followers input_role after))) None ∙ sym (first_lengths-type before c after t is);
-    open_type = ap (λ ls. Some ls) no_lengths ∙ sym (open_is (Heading t t.file) is);
+    open_type = ap (λ ls. Some ls) no_lengths ∙ sym (open_heading before c after lengths_of t is);
   }
 
   first_other : (r : Role RecordType InputSpec) → input_role c.spec ≡ r → one_if_heading r ≡ 0 → j.first ≡ first_lengths (before ++ c ∷ after) (before ++ c ∷ [])
@@ -157,27 +142,23 @@ module _ (before : List SpecCard) (c : SpecCard) (after : List SpecCard) (j : Jo
       → AreJoinedLengths (before ++ c ∷ after) (before ++ c ∷ []) (record { first = j.first; open_type = new })
   with_field f new is made = record {
     first = first_other (Follower (input.Field f)) is refl;
-    open_type = made (input_specs_in (open_group input_role before)) was.open_type ∙ by (open_group input_role before) ∙ sym (open_is (Follower (input.Field f)) is);
+    open_type = made (input_specs_in (open_group input_role before)) was.open_type ∙ sym (open_follower before c after lengths_of (input.Field f) is);
   }
-    where
-      by : (o : Option (Group RecordType InputSpec)) → option_map (λ fs. lengths_of (fs ++ input.Field f ∷ [])) (input_specs_in o) ≡ option_map lengths_of (input_specs_in (with_card o (Follower (input.Field f))))
-      by None = refl
-      by (Some g) = refl
 
   pub with_codes : (codes : Three (Option RecordCode)) → input_role c.spec ≡ Follower (input.And codes) → AreJoinedLengths (before ++ c ∷ after) (before ++ c ∷ []) j
   with_codes codes is = record {
     first = first_other (Follower (input.And codes)) is refl;
-    open_type = was.open_type ∙ by (open_group input_role before) ∙ sym (open_is (Follower (input.And codes)) is);
+    open_type = was.open_type ∙ by (input_specs_in (open_group input_role before)) ∙ sym (open_follower before c after lengths_of (input.And codes) is);
   }
     where
-      by : (o : Option (Group RecordType InputSpec)) → option_map lengths_of (input_specs_in o) ≡ option_map lengths_of (input_specs_in (with_card o (Follower (input.And codes))))
+      by : (o : Option (List InputSpec)) → option_map lengths_of o ≡ option_map (λ fs. lengths_of (fs ++ input.And codes ∷ [])) o
       by None = refl
-      by (Some g) = ap (λ ls. Some ls) (sym (lengths_of-other g.followers (input.And codes) (λ level. refl)))
+      by (Some fs) = ap (λ ls. Some ls) (sym (lengths_of-other fs (input.And codes) (λ level. refl)))
 
   pub with_apart : input_role c.spec ≡ Apart → AreJoinedLengths (before ++ c ∷ after) (before ++ c ∷ []) j
   with_apart is = record {
     first = first_other Apart is refl;
-    open_type = was.open_type ∙ sym (open_is Apart is);
+    open_type = was.open_type ∙ sym (open_apart before c after lengths_of is);
   }
 
 -- the joined length of a level in the open type

@@ -20,9 +20,12 @@ lengths_of specs = map (λ level. min (joined_length level specs) 65535) levels
 abbrev pub input_specs_in : Option (Group RecordType InputSpec) → Option (List InputSpec)
 input_specs_in o = option_map (λ g. g.followers) o
 
+abbrev pub AreOpenLengths : List SpecCard → JoinedLengths → Type 0
+AreOpenLengths before j = j.open_type ≡ option_map lengths_of (input_specs_in (open_group input_role before))
+
 pub record AreJoinedLengths (cards before : List SpecCard) (j : JoinedLengths) : Type 0 where
   pub first : j.first ≡ first_lengths cards before
-  pub open_type : j.open_type ≡ option_map lengths_of (input_specs_in (open_group input_role before))
+  pub open_type : AreOpenLengths before j
 
 -- ---- a level's fields, one by one
 

@@ -8,6 +8,7 @@ pub mod EverySource
 pub mod Faults
 pub mod Lengths
 pub mod Marks
+pub mod Matches
 pub mod Places
 pub mod Rules
 pub mod Seen

@@ -4,7 +4,7 @@ use Rattle.std.specs.Option.{option_map, option_map_or, option_or}
 use Rattle.rpg_cards.specs.Cards.{extension_on, input_on, output_field_on}
 use Rattle.rpg_cards.specs.Files.{file_by}
 use Rattle.rpg_cards.specs.declared.spec_card.SpecCard.{SpecCard}
-use Rattle.rpg_faults.specs.Places.{is_code_outside, outside_record, own_file}
+use Rattle.rpg_faults.specs.Places.{is_code_outside, outside_record, own_file, passes_length}
 use Rattle.rpg_faults.specs.declared.code.FaultCode.{FaultCode}
 use Rattle.rpg_faults.specs.declared.code.FaultCode.TheVariants.{F1, F2, F3, F4, F5, F6, F7, F8, F9, F10, F11, F12, F13, F14, F15, F16, F17, F18}
 use Rattle.rpg_faults_flow.specs.Columns as calculations
@@ -23,7 +23,7 @@ use Rattle.rpg_sheet_specs.specs.declared.input.InputSpec.{InputSpec}
 use Rattle.rpg_sheet_specs.specs.declared.input.InputSpec.TheVariants as input
 use Rattle.rpg_sheet_specs.specs.declared.input.RecordCode.{RecordCode}
 
--- ---- F16: the first code that is outside; of a field the column that is wrong, or its level
+-- ---- F16: the first code that is outside; of a field the column that is wrong, or its control level or match level
 
 abbrev pub code_columns : Option FileSpec → Three (Option RecordCode) → Option ColumnRange
 code_columns file codes =
@@ -32,16 +32,20 @@ code_columns file codes =
     else if is_code_outside file codes.third then Some range.ThirdCode
     else None
 
-abbrev pub field_range : Option FileSpec → InputField → ColumnRange
-field_range file f = if f.from == 0 then range.FirstColumn else if outside_record file f then range.LastColumn else range.InputLevel
+abbrev pub field_range : Option FileSpec → List SpecCard → InputField → ColumnRange
+field_range file before f =
+    if f.from == 0 then range.FirstColumn
+    else if outside_record file f then range.LastColumn
+    else if passes_length before f then range.InputLevel
+    else range.InputMatch
 
-abbrev pub place_on_input : Option FileSpec → InputSpec → Option ColumnRange
-place_on_input file (input.Type t) = code_columns file t.codes
-place_on_input file (input.And codes) = code_columns file codes
-place_on_input file (input.Field f) = Some (field_range file f)
+abbrev pub place_on_input : Option FileSpec → List SpecCard → InputSpec → Option ColumnRange
+place_on_input file before (input.Type t) = code_columns file t.codes
+place_on_input file before (input.And codes) = code_columns file codes
+place_on_input file before (input.Field f) = Some (field_range file before f)
 
 abbrev pub place_columns : List SpecCard → List SpecCard → SpecCard → Option ColumnRange
-place_columns cards before c = option_map_or (λ i. place_on_input (file_by (own_file before i) cards) i) (input_on c.spec) (option_map (λ f. range.EndPosition) (output_field_on c.spec))
+place_columns cards before c = option_map_or (λ i. place_on_input (file_by (own_file before i) cards) before i) (input_on c.spec) (option_map (λ f. range.EndPosition) (output_field_on c.spec))
 
 -- ---- F18: the entries per card, which ask for data
 

@@ -1,10 +1,12 @@
--- F16: columns outside the record or the line, fields wider than their end, control fields whose joined lengths don't agree.
-use Rattle.std.specs.Prelude.{ℕ, ◌+◌, ◌-◌, List, [], ◌∷◌, Bool, false, not, ◌&&◌, ◌||◌, ◌==◌, nat_lt, nat_le, sum_by, Option, None, Some, if◌then◌else◌}
-use Rattle.std.specs.List.{filter, filter_map, list_any, range_with_len}
+-- F16: columns outside the record or the line, fields wider than their end, control fields and match fields that don't agree.
+use Rattle.std.specs.Prelude.{ℕ, ◌+◌, ◌-◌, List, [], ◌∷◌, map, Bool, false, not, ◌&&◌, ◌||◌, ◌==◌, nat_eq, nat_lt, nat_le, sum_by, Option, None, Some, if◌then◌else◌}
+use Rattle.std.specs.Cmp.Lexicographic.{pointwise}
+use Rattle.std.specs.List.{filter, list_any, range_with_len}
 use Rattle.std.specs.Option.{option_map_or, option_or}
-use Rattle.rpg_cards.specs.Cards.{input_field_in, input_on, output_field_on}
+use Rattle.rpg_cards.specs.Cards.{input_on, output_field_on}
 use Rattle.rpg_cards.specs.Files.{file_by}
 use Rattle.rpg_cards.specs.Groups.{Group, followers, groups, input_role, open_file, open_group, output_role}
+use Rattle.rpg_cards.specs.Levels.{control_level, fields_at, fields_with, is_at, is_match_field, match_level}
 use Rattle.rpg_cards.specs.declared.spec_card.SpecCard.{SpecCard}
 use Rattle.rpg_faults_operands.specs.Editing.{width}
 use Rattle.rpg_sheet_specs.specs.declared.file.FileSpec.{FileSpec}
@@ -47,18 +49,15 @@ outside_line cards file f = f.end == 0 || (is_past file f.end || is_wider cards 
 
 -- ---- control fields: those of one level and one type are joined
 
-abbrev pub input_fields : List InputSpec → List InputField
-input_fields specs = filter_map input_field_in specs
-
-abbrev pub is_at_level : ℕ → InputField → Bool
-is_at_level level f = option_map_or (λ l. l == level) f.level false
-
 -- 0 where the columns are 0 or turned round
 abbrev pub input_columns : InputField → ℕ
 input_columns f = if f.from == 0 then 0 else f.to + 1 - f.from
 
+abbrev pub is_at_level : ℕ → InputField → Bool
+is_at_level level f = is_at control_level level f
+
 abbrev pub level_fields : ℕ → List InputSpec → List InputField
-level_fields level specs = filter (is_at_level level) (input_fields specs)
+level_fields level specs = fields_at control_level level specs
 
 -- the joined length of a level, without fields whose columns are bad
 abbrev pub joined_length : ℕ → List InputSpec → ℕ
@@ -99,10 +98,59 @@ abbrev pub passes_length : List SpecCard → InputField → Bool
 passes_length before f =
     option_map_or (λ level. nat_le (joined_length level (open_specs before)) 256 && nat_lt 256 (joined_length level (open_specs before) + input_columns f)) f.level false
 
+abbrev pub controls_badly : List SpecCard → List SpecCard → InputSpec → Bool
+controls_badly before after (input.Type t) = has_other_lengths before after
+controls_badly before after (input.And codes) = false
+controls_badly before after (input.Field f) = passes_length before f
+
+-- ---- match fields: a type has each level once, those of all its levels are joined, and each type that has some has the same
+
+abbrev pub match_fields : List InputSpec → List InputField
+match_fields specs = fields_with match_level specs
+
+-- the joined lengths of M1 to M9
+abbrev pub match_lengths : List InputField → List ℕ
+match_lengths fs = map (λ level. sum_by input_columns (filter (is_at match_level level) fs)) levels
+
+-- a field has a match level that is among these
+abbrev pub repeats : List InputField → InputField → Bool
+repeats fs f = option_map_or (λ level. list_any (is_at match_level level) fs) f.match_level false
+
+abbrev pub has_twice : List InputField → Bool
+has_twice [] = false
+has_twice (f ∷ fs) = repeats fs f || has_twice fs
+
+-- the lengths of a type that has match fields, where no level stands twice and all columns are good
+abbrev pub good_matches : List InputField → Option (List ℕ)
+good_matches [] = None
+good_matches (f ∷ fs) = if has_bad (f ∷ fs) || has_twice (f ∷ fs) then None else Some (match_lengths (f ∷ fs))
+
+-- those of the first such type
+abbrev pub first_matches : List (Group RecordType InputSpec) → Option (List ℕ)
+first_matches [] = None
+first_matches (g ∷ gs) = option_or (good_matches (match_fields g.followers)) (first_matches gs)
+
+abbrev pub matches_differ : Option (List ℕ) → Option (List ℕ) → Bool
+matches_differ first own = option_map_or (λ ms. option_map_or (λ ns. not (pointwise nat_eq ms ns)) own false) first false
+
+-- a type has other match fields than the first type that has some
+abbrev pub has_other_matches : List SpecCard → List SpecCard → Bool
+has_other_matches before after = matches_differ (first_matches (groups input_role before)) (good_matches (match_fields (followers input_role after)))
+
+abbrev pub open_matches : List SpecCard → List InputField
+open_matches before = match_fields (open_specs before)
+
+-- the match field with which the length of all match fields passes 256
+abbrev pub passes_matches : List InputField → InputField → Bool
+passes_matches fs f = is_match_field f && (nat_le (sum_by input_columns fs) 256 && nat_lt 256 (sum_by input_columns fs + input_columns f))
+
+abbrev pub matches_badly : List SpecCard → List SpecCard → InputSpec → Bool
+matches_badly before after (input.Type t) = has_other_matches before after
+matches_badly before after (input.And codes) = false
+matches_badly before after (input.Field f) = repeats (open_matches before) f || passes_matches (open_matches before) f
+
 abbrev pub joins_badly : List SpecCard → List SpecCard → InputSpec → Bool
-joins_badly before after (input.Type t) = has_other_lengths before after
-joins_badly before after (input.And codes) = false
-joins_badly before after (input.Field f) = passes_length before f
+joins_badly before after i = controls_badly before after i || matches_badly before after i
 
 -- ---- the rule
 

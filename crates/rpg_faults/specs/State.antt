@@ -3,8 +3,10 @@ use Rattle.std.specs.Prelude.{List}
 use Rattle.rpg_cards.specs.declared.spec_card.SpecCard.{SpecCard}
 use Rattle.rpg_faults.specs.Decks.{AreDecks}
 use Rattle.rpg_faults.specs.Lengths.{AreJoinedLengths}
+use Rattle.rpg_faults.specs.Matches.{AreMatches}
 use Rattle.rpg_faults.specs.declared.state.Places.{Places}
 
 pub record IsPlaces (cards before : List SpecCard) (p : Places) : Type 0 where
   pub decks : AreDecks cards before p.decks
   pub lengths : AreJoinedLengths cards before p.lengths
+  pub matches : AreMatches cards before p.matches

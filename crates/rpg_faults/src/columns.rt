@@ -15,7 +15,7 @@ use rpg_cards::{GroupFile, IndexedCards, Sheets, SpecCard};
 use rpg_faults_operands::width;
 use rpg_sheet_specs::{InputField, InputSpec, OutputField, RecordCode, Three};
 
-/// Whether columns lie outside the record or the line, a field is wider than its end, or control fields are joined to a wrong length.
+/// Whether columns lie outside the record or the line, a field is wider than its end, or control fields or match fields don't agree.
 pub fn misplaces(
     source: &IndexedCards,
     sheets: &Sheets,
@@ -32,7 +32,8 @@ pub fn misplaces(
 {
     if let Some(input) = card.input() {
         return outside_on_input(own_length(source, sheets.types.file, input), input)
-            || places.lengths.join_badly(card, after);
+            || places.lengths.join_badly(card, after)
+            || places.matches.join_badly(card, after);
     }
     match card.output_field() {
         None => false,

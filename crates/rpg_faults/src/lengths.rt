@@ -4,10 +4,10 @@ ghost use Rattle.std.specs.Prelude.{◌≡◌, ◌≤◌, ◌-◌, [], ◌∷◌
 ghost use Rattle.std.specs.List.{list_any};
 ghost use Rattle.std.specs.Option.{option_map, option_map_or, option_or};
 ghost use Rattle.rpg_cards.specs.Cards.{input_on};
-ghost use Rattle.rpg_cards.specs.Groups.{followers, input_role, open_group};
+ghost use Rattle.rpg_cards.specs.Groups.{followers, input_role};
 ghost use Rattle.rpg_cards.specs.declared.spec_card.SpecCard.{SpecCard};
 ghost use Rattle.rpg_faults.specs.Places as rules;
-ghost use Rattle.rpg_faults.specs.Lengths.{AreJoinedLengths, input_specs_in, lengths_of, some_length};
+ghost use Rattle.rpg_faults.specs.Lengths.{AreJoinedLengths, AreOpenLengths, lengths_of, some_length};
 ghost use Rattle.rpg_sheet_specs.specs.declared.input.InputSpec.{InputSpec};
 ghost use Rattle.rpg_sheet_specs.specs.declared.input.InputSpec.TheVariants as input;
 
@@ -63,7 +63,7 @@ impl JoinedLengths {
     /// Whether a type has other joined lengths than the first types with its levels, or a field's level passes the limit with it.
     pub(crate) fn join_badly(&self, card: &SpecCard, after: &[SpecCard]) -> bool
         requires { length after.now ≤ 2000 }
-        ensures { (before : List SpecCard) → AreJoinedLengths (before ++ card.now ∷ after.now) before self.now → result ≡ option_map_or (rules.joins_badly before after.now) (input_on card.now.spec) false }
+        ensures { (before : List SpecCard) → AreJoinedLengths (before ++ card.now ∷ after.now) before self.now → result ≡ option_map_or (rules.controls_badly before after.now) (input_on card.now.spec) false }
     {
         match card.input() {
             Some(InputSpec::Type(_)) => self.differ_from(after),
@@ -87,8 +87,8 @@ impl JoinedLengths {
     }
 
     /// Whether the joined length of a field's level passes its limit with it.
-    fn pass_limit_with(&self, field: &InputField) -> bool
-        ensures { (before : List SpecCard) → self.now.open_type ≡ option_map lengths_of (input_specs_in (open_group input_role before)) → result ≡ rules.passes_length before field.now }
+    pub(crate) fn pass_limit_with(&self, field: &InputField) -> bool
+        ensures { (before : List SpecCard) → AreOpenLengths before self.now → result ≡ rules.passes_length before field.now }
     {
         let Some(level) = field.level else {
             return false;
@@ -101,7 +101,7 @@ impl JoinedLengths {
     fn open_length(&self, level: u8) -> u16
         requires low { 1 ≤ level }
         requires high { level ≤ 9 }
-        ensures { (before : List SpecCard) → self.now.open_type ≡ option_map lengths_of (input_specs_in (open_group input_role before)) → result ≡ min (rules.joined_length level (rules.open_specs before)) 65535 }
+        ensures { (before : List SpecCard) → AreOpenLengths before self.now → result ≡ min (rules.joined_length level (rules.open_specs before)) 65535 }
     {
         match self.open_type {
             None => 0,
@@ -182,7 +182,7 @@ fn is_at_level(level: u8, field: &InputField) -> bool
 }
 
 /// How many columns a field has: 0 where they begin at 0 or are turned round.
-fn columns_of(field: &InputField) -> u16
+pub(crate) fn columns_of(field: &InputField) -> u16
     ensures { result ≡ rules.input_columns field.now }
 {
     if field.from == 0 {

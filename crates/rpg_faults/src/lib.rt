@@ -16,6 +16,7 @@ mod fault;
 mod least;
 mod lengths;
 mod marks;
+mod matches;
 mod seen;
 mod source;
 mod source_fault;

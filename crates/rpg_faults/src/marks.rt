@@ -1,15 +1,20 @@
 //! Which columns of a card a fault speaks of.
 
-ghost use Rattle.std.specs.Prelude.{◌≡◌, ◌∷◌, ◌++◌, Option};
+ghost use Rattle.std.specs.Prelude.{◌≡◌, ◌∷◌, ◌++◌, List, Option};
 ghost use Rattle.std.specs.Option.{option_map};
 ghost use Rattle.rpg_cards.specs.Sheets.{AreSheets};
 ghost use Rattle.rpg_faults.specs.Marks as marks;
+ghost use Rattle.rpg_faults.specs.Lengths.{AreOpenLengths};
 ghost use Rattle.rpg_faults.specs.Seen.{AreCardsSeen};
+ghost use Rattle.rpg_faults.specs.State.{IsPlaces};
+ghost use Rattle.rpg_cards.specs.declared.spec_card.SpecCard.{SpecCard};
 ghost use Rattle.rpg_sheet_specs.specs.declared.file.FileSpec.{FileSpec};
 
 use crate::code::FaultCode;
 use crate::columns::{is_outside, outside_record, own_length};
+use crate::lengths::JoinedLengths;
 use crate::seen::Seen;
+use crate::state::Places;
 use rpg_cards::{IndexedCards, Sheets, SpecCard};
 use rpg_faults_flow::Labels;
 use rpg_sheet_specs::{ColumnFault, ColumnRange, InputField, InputSpec, RecordCode, Three};
@@ -62,7 +67,7 @@ fn fault_range(
         )),
         FaultCode::F12 => order_columns(card),
         FaultCode::F15 => rpg_faults_flow::rounding_columns(card, after),
-        FaultCode::F16 => place_columns(source, &seen.sheets, before, card),
+        FaultCode::F16 => place_columns(source, &seen.sheets, &seen.places, before, card),
         FaultCode::F17 => rpg_faults_operands::editing_columns(card),
         FaultCode::F18 => deck_columns(card),
     }
@@ -97,30 +102,40 @@ fn order_columns(card: &SpecCard) -> Option<ColumnRange>
     }
 }
 
-/// F16: the first code that is outside, the column of a field that is wrong or its level, or the end of an output field.
+/// F16: the first code that is outside, the column of a field that is wrong or a level of it, or the end of an output field.
 fn place_columns(
     source: &IndexedCards,
     sheets: &Sheets,
+    places: &Places,
     before: &[SpecCard],
     card: &SpecCard,
 ) -> Option<ColumnRange>
-    requires { AreSheets source.now before.now sheets.now }
+    requires sheets { AreSheets source.now before.now sheets.now }
+    requires places { IsPlaces source.now before.now places.now }
     ensures { result ≡ marks.place_columns source.now before.now card.now }
 {
     let Some(input) = card.input() else {
         card.output_field()?;
         return Some(ColumnRange::EndPosition);
     };
-    place_on_input(own_length(source, sheets.types.file, input), input)
+    place_on_input(
+        own_length(source, sheets.types.file, input),
+        &places.lengths,
+        input,
+    )
 }
 
-fn place_on_input(length: Option<u16>, input: &InputSpec) -> Option<ColumnRange>
-    ensures { (file : Option FileSpec) → length ≡ option_map (λ f. f.record_length) file → result ≡ marks.place_on_input file input.now }
+fn place_on_input(
+    length: Option<u16>,
+    lengths: &JoinedLengths,
+    input: &InputSpec,
+) -> Option<ColumnRange>
+    ensures { (file : Option FileSpec) (before : List SpecCard) → length ≡ option_map (λ f. f.record_length) file → AreOpenLengths before lengths.now → result ≡ marks.place_on_input file before input.now }
 {
     match input {
         InputSpec::Type(record_type) => code_columns(length, &record_type.codes),
         InputSpec::And(codes) => code_columns(length, codes),
-        InputSpec::Field(field) => Some(field_range(length, field)),
+        InputSpec::Field(field) => Some(field_range(length, lengths, field)),
     }
 }
 
@@ -138,15 +153,17 @@ fn code_columns(length: Option<u16>, codes: &Three<Option<RecordCode>>) -> Optio
     }
 }
 
-fn field_range(length: Option<u16>, field: &InputField) -> ColumnRange
-    ensures { (file : Option FileSpec) → length ≡ option_map (λ f. f.record_length) file → result ≡ marks.field_range file field.now }
+fn field_range(length: Option<u16>, lengths: &JoinedLengths, field: &InputField) -> ColumnRange
+    ensures { (file : Option FileSpec) (before : List SpecCard) → length ≡ option_map (λ f. f.record_length) file → AreOpenLengths before lengths.now → result ≡ marks.field_range file before field.now }
 {
     if field.from == 0 {
         ColumnRange::FirstColumn
     } else if outside_record(length, field) {
         ColumnRange::LastColumn
-    } else {
+    } else if lengths.pass_limit_with(field) {
         ColumnRange::InputLevel
+    } else {
+        ColumnRange::InputMatch
     }
 }
 

@@ -5,13 +5,15 @@ ghost use Rattle.rpg_faults.specs.State.{IsPlaces};
 
 use crate::decks::Decks;
 use crate::lengths::JoinedLengths;
+use crate::matches::Matches;
 use rpg_cards::{IndexedCards, SpecCard};
 
-/// The decks of data that are left, and the joined lengths of control fields.
+/// The decks of data that are left, the joined lengths of control fields, and the match fields.
 #[derive(Clone, Copy)]
 pub struct Places<'a> {
     pub(crate) decks: Decks<'a>,
     pub(crate) lengths: JoinedLengths,
+    pub(crate) matches: Matches,
 }
 
 impl<'a> Places<'a> {
@@ -22,6 +24,7 @@ impl<'a> Places<'a> {
         Places {
             decks: Decks::all(source.as_slice()),
             lengths: JoinedLengths::nothing(),
+            matches: Matches::nothing(),
         }
     }
 
@@ -41,6 +44,7 @@ impl<'a> Places<'a> {
         Places {
             decks: self.decks.with(card),
             lengths: self.lengths.with(card, after),
+            matches: self.matches.with(card, after),
         }
     }
 }

@@ -1,11 +1,12 @@
 -- F7: files that are unknown, given twice or of the wrong use. F9 of lines: spaces and skips for the disk file.
 use Rattle.std.specs.Prelude.{ℕ, List, Bool, not, ◌&&◌, ◌||◌, Option, None, Some, is_none, is_some, false, true}
-use Rattle.std.specs.Option.{option_map_or, option_or}
+use Rattle.std.specs.Option.{option_and_then, option_map_or, option_or}
+use mathlib.Core.Bool.{beq}
 use Rattle.rpg_cards.specs.Cards.{file_on, output_record_on, type_on}
 use Rattle.rpg_cards.specs.Files.{file_by, file_for, file_named, file_use, is_input, is_output, same_use}
 use Rattle.rpg_cards.specs.Groups.{input_role, open_file, open_group, output_role}
 use Rattle.rpg_cards.specs.declared.files.FileUse.{FileUse}
-use Rattle.rpg_cards.specs.declared.files.FileUse.TheVariants.{Primary, Printer, Disk}
+use Rattle.rpg_cards.specs.declared.files.FileUse.TheVariants.{Primary, Secondary, Printer, Disk}
 use Rattle.rpg_cards.specs.declared.spec_card.SpecCard.{SpecCard}
 use Rattle.rpg_sheet_specs.specs.declared.file.FileSpec.{FileSpec}
 use Rattle.rpg_sheet_specs.specs.declared.output.Movement.{Movement}
@@ -17,12 +18,26 @@ use Rattle.rpg_text.specs.Texts.{is_between}
 -- the longest record or line
 abbrev pub longest_in_file : FileUse → ℕ
 longest_in_file Primary = 9999
+longest_in_file Secondary = 9999
 longest_in_file Printer = 132
 longest_in_file Disk = 9999
 
+abbrev pub other_input : FileUse → Option FileUse
+other_input Primary = Some Secondary
+other_input Secondary = Some Primary
+other_input Printer = None
+other_input Disk = None
+
+-- the job ends once both input files are at their end: both say so, or neither
+abbrev pub ends_unlike : FileSpec → FileSpec → Bool
+ends_unlike f g = not (beq f.ends_job g.ends_job)
+
+abbrev pub ends_apart : List SpecCard → FileSpec → Bool
+ends_apart before f = option_map_or (ends_unlike f) (option_and_then (λ u. file_for u before) (other_input (file_use f))) false
+
 -- one file of each use; no two of one name
 abbrev pub bad_file : List SpecCard → FileSpec → Bool
-bad_file before f = is_some (file_named f.name before) || is_some (file_for (file_use f) before) || not (is_between 1 (longest_in_file (file_use f)) f.record_length)
+bad_file before f = is_some (file_named f.name before) || is_some (file_for (file_use f) before) || ends_apart before f || not (is_between 1 (longest_in_file (file_use f)) f.record_length)
 
 -- A card names a file of this use. Only behind another card of its kind may it leave the name out.
 abbrev pub lacks_file : List SpecCard → (FileUse → Bool) → Bool → Option (List ℕ) → Bool

@@ -1,6 +1,7 @@
 -- F8: indicators that are not allowed.
 use Rattle.std.specs.Prelude.{ℕ, List, Bool, false, not, ◌&&◌, ◌||◌, ◌==◌, nat_le, Option, is_none, is_some}
 use Rattle.std.specs.Option.{option_map_or}
+use Rattle.rpg_cards.specs.Levels.{has_match_field}
 use Rattle.rpg_cards.specs.declared.spec_card.SpecCard.{SpecCard}
 use Rattle.rpg_sheet_specs.specs.declared.calculation.CalculationSpec.{CalculationSpec}
 use Rattle.rpg_sheet_specs.specs.declared.indicator.Condition.{Condition}
@@ -26,9 +27,9 @@ cannot_be_set n = (n == 100) || (n == 111) || (n == 129)
 
 -- ---- conditions
 
--- MR is for sources that match the records of two files: none do
+-- MR is for sources that match the records of their files
 abbrev pub may_ask : List SpecCard → Bool
-may_ask cards = false
+may_ask cards = has_match_field cards
 
 abbrev pub is_barred_mr : List SpecCard → ℕ → Bool
 is_barred_mr cards n = (n == 129) && not (may_ask cards)
@@ -36,11 +37,11 @@ is_barred_mr cards n = (n == 129) && not (may_ask cards)
 abbrev pub is_1p : ℕ → Bool
 is_1p n = n == 111
 
--- output asks for all but MR
+-- output asks for all, but MR only where it may
 abbrev pub bad_in_output : List SpecCard → Condition → Bool
 bad_in_output cards c = is_barred_mr cards c.indicator
 
--- calculations ask for all but 1P and MR
+-- calculations ask for all but 1P, and MR only where they may
 abbrev pub bad_in_calculation : List SpecCard → Condition → Bool
 bad_in_calculation cards c = is_1p c.indicator || is_barred_mr cards c.indicator
 

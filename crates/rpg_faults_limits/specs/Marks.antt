@@ -5,8 +5,9 @@ use Rattle.rpg_cards.specs.Cards.{output_record_on}
 use Rattle.rpg_cards.specs.Files.{file_for, file_named, file_use}
 use Rattle.rpg_cards.specs.Names.{definitions, definitions_on, sized_form}
 use Rattle.rpg_cards.specs.declared.files.FileUse.{FileUse}
-use Rattle.rpg_cards.specs.declared.files.FileUse.TheVariants.{Primary, Printer, Disk}
+use Rattle.rpg_cards.specs.declared.files.FileUse.TheVariants.{Primary, Secondary, Printer, Disk}
 use Rattle.rpg_cards.specs.declared.spec_card.SpecCard.{SpecCard}
+use Rattle.rpg_faults_limits.specs.Files.{ends_apart}
 use Rattle.rpg_faults_limits.specs.Indicators.{bad_in_calculation, bad_in_output, cannot_be_set}
 use Rattle.rpg_faults_limits.specs.Limits.{bad_entries}
 use Rattle.rpg_faults_limits.specs.Names.{bad_size_of_table, redefines_as}
@@ -72,10 +73,11 @@ size_columns (spec.Data d) = None
 abbrev pub limit_columns : SpecCard → Option ColumnRange
 limit_columns c = if bad_entries c then Some range.Entries else None
 
--- ---- F7: of an F card the name, what makes it a second one of its use, or the record length
+-- ---- F7: of an F card the name, what makes it a second one of its use, whether it ends the job, or the record length
 
 abbrev pub use_range : FileUse → ColumnRange
 use_range Primary = range.FileType
+use_range Secondary = range.FileType
 use_range Printer = range.Device
 use_range Disk = range.Device
 
@@ -83,6 +85,7 @@ abbrev pub file_range : List SpecCard → FileSpec → ColumnRange
 file_range before f =
     if is_some (file_named f.name before) then range.FileName
     else if is_some (file_for (file_use f) before) then use_range (file_use f)
+    else if ends_apart before f then range.EndsJob
     else range.RecordLength
 
 abbrev pub file_columns : List SpecCard → Spec → Option ColumnRange

@@ -10,7 +10,7 @@ ghost use Rattle.rpg_faults_limits.specs.Files as files;
 use rpg_cards::{FileUse, IndexedCards, Sheets, SpecCard, file_for, file_named, use_of};
 use rpg_sheet_specs::{FileSpec, Movement, OutputRecord, Word};
 
-/// F7, on a card: an F card whose name or use was given before, or whose records are too long; a type or record card without a file of its use.
+/// F7, on a card: an F card whose name or use was given before, whose column 17 isn't that of the other input file, or whose records are too long; a type or record card without a file of its use.
 pub fn breaks_files(
     source: &IndexedCards,
     sheets: &Sheets,
@@ -32,7 +32,7 @@ pub fn breaks_files(
     }
 }
 
-/// F7, of the source as a whole: there is no input file.
+/// F7, of the source as a whole: there is no primary file.
 pub fn lacks_input(source: &IndexedCards) -> bool
     ensures { result ≡ files.lacks_input source.now }
 {
@@ -45,7 +45,31 @@ fn is_bad_file(before: &[SpecCard], file: &FileSpec) -> bool
     let serves_as = use_of(file);
     file_named(&file.name, before).is_some()
         || file_for(serves_as, before).is_some()
+        || ends_apart(before, file)
         || !(1..=longest(serves_as)).contains(&file.record_length)
+}
+
+/// Whether the other input file is before, and only one of the two ends the job.
+pub(crate) fn ends_apart(before: &[SpecCard], file: &FileSpec) -> bool
+    ensures { result ≡ files.ends_apart before.now file.now }
+{
+    let Some(other) = other_input(use_of(file)) else {
+        return false;
+    };
+    match file_for(other, before) {
+        None => false,
+        Some(other) => file.ends_job != other.ends_job,
+    }
+}
+
+const fn other_input(serves_as: FileUse) -> Option<FileUse>
+    ensures { result ≡ files.other_input serves_as }
+{
+    match serves_as {
+        FileUse::Primary => Some(FileUse::Secondary),
+        FileUse::Secondary => Some(FileUse::Primary),
+        FileUse::Printer | FileUse::Disk => None,
+    }
 }
 
 /// The longest record or line.
@@ -53,7 +77,7 @@ const fn longest(serves_as: FileUse) -> u16
     ensures { result ≡ files.longest_in_file serves_as }
 {
     match serves_as {
-        FileUse::Primary | FileUse::Disk => 9999,
+        FileUse::Primary | FileUse::Secondary | FileUse::Disk => 9999,
         FileUse::Printer => 132,
     }
 }
@@ -63,7 +87,10 @@ fn lacks_input_file(source: &IndexedCards, is_behind: bool, name: &Option<Word<8
 {
     match name {
         None => !is_behind,
-        Some(name) => !matches!(serves_as(source, name), Some(FileUse::Primary)),
+        Some(name) => !matches!(
+            serves_as(source, name),
+            Some(FileUse::Primary | FileUse::Secondary)
+        ),
     }
 }
 

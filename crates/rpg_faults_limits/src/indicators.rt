@@ -91,7 +91,7 @@ pub(crate) fn is_never_set(indicator: Option<Indicator>) -> bool
     }
 }
 
-/// Calculations ask for all but 1P and MR.
+/// Calculations ask for all but 1P, and MR only where they may.
 pub(crate) fn is_bad_in_calculation(source: &IndexedCards, condition: Option<Condition>) -> bool
     ensures { result ≡ option_map_or (indicators.bad_in_calculation source.now) condition false }
 {
@@ -103,7 +103,7 @@ pub(crate) fn is_bad_in_calculation(source: &IndexedCards, condition: Option<Con
     }
 }
 
-/// Output asks for all but MR.
+/// Output asks for all, but MR only where it may.
 pub(crate) fn is_bad_in_output(source: &IndexedCards, condition: Option<Condition>) -> bool
     ensures { result ≡ option_map_or (indicators.bad_in_output source.now) condition false }
 {
@@ -119,9 +119,9 @@ fn is_barred_mr(source: &IndexedCards, indicator: Indicator) -> bool
     indicator.number() == 129 && !may_ask(source)
 }
 
-/// Whether conditions may ask for MR, which is for sources that match the records of two files: none do.
+/// Whether conditions may ask for MR, which is for sources that match the records of their files.
 fn may_ask(source: &IndexedCards) -> bool
     ensures { result ≡ indicators.may_ask source.now }
 {
-    false
+    source.has_match_field()
 }

@@ -6,6 +6,7 @@ ghost use Rattle.rpg_faults_limits.specs.Marks as marks;
 ghost use Rattle.rpg_faults_limits.specs.Names as names;
 ghost use Rattle.rpg_faults_limits.specs.State.{AreLimits};
 
+use crate::files::ends_apart;
 use crate::limits::has_bad_entries;
 use crate::names::{is_bad_table, is_other};
 use crate::state::Limits;
@@ -163,7 +164,7 @@ pub fn limit_columns(card: &SpecCard) -> Option<ColumnRange>
     }
 }
 
-/// F7: the name of a file, what makes it a second one of its use, or the record length.
+/// F7: the name of a file, what makes it a second one of its use, whether it ends the job, or the record length.
 pub fn file_columns(before: &[SpecCard], card: &SpecCard) -> Option<ColumnRange>
     ensures { result ≡ marks.file_columns before.now card.now.spec }
 {
@@ -182,6 +183,8 @@ fn file_range(before: &[SpecCard], file: &FileSpec) -> ColumnRange
         ColumnRange::FileName
     } else if file_for(use_of(file), before).is_some() {
         use_range(use_of(file))
+    } else if ends_apart(before, file) {
+        ColumnRange::EndsJob
     } else {
         ColumnRange::RecordLength
     }
@@ -191,7 +194,7 @@ fn use_range(serves_as: FileUse) -> ColumnRange
     ensures { result ≡ marks.use_range serves_as }
 {
     match serves_as {
-        FileUse::Primary => ColumnRange::FileType,
+        FileUse::Primary | FileUse::Secondary => ColumnRange::FileType,
         FileUse::Printer | FileUse::Disk => ColumnRange::Device,
     }
 }

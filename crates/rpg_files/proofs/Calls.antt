@@ -86,7 +86,7 @@ ends_told limit count (suc m) all bytes new r (Ok next.Bad) no_record told gives
     let bad = gives.1 in
     subst (λ (rs : List (List ℕ)). ([] ≡ given_of limit (suc m) rs) × (Ok next.Bad ≡ last_of limit (suc m) rs)) (sym bad.2) (bad_told limit m bad.0 bad.1 bad.3)
 ends_told limit count left all bytes new r (Ok next.End) no_record told gives =
-    subst (λ (xs : List ℕ). Told limit left xs [] (Ok next.End)) (sym gives) (none_told limit left)
+    subst (λ (xs : List ℕ). Told limit left xs [] (Ok next.End)) (sym gives.0) (none_told limit left)
 ends_told limit count left all bytes new r (Err fault.Device) no_record told gives = absurd cc
 ends_told limit count left all bytes new r (Err fault.TooMany) no_record told gives =
     let none : left ≡ 0 = let is = gives.0 in omega arith in

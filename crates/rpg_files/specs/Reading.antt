@@ -70,7 +70,7 @@ is_record (Err e) = false
 abbrev pub GivesNext : ℕ → ℕ → List ℕ → Result Next ReadFault → List ℕ → List ℕ → Type 0
 GivesNext limit count record_bytes (Ok next.Record) old new = (count < max_records) × (is_good limit record_bytes ≡ true) × (records old ≡ record_bytes ∷ records new)
 GivesNext limit count record_bytes (Ok next.Bad) old new = (count < max_records) × BeginsBad limit old
-GivesNext limit count record_bytes (Ok next.End) old new = old ≡ []
+GivesNext limit count record_bytes (Ok next.End) old new = (old ≡ []) × (new ≡ [])
 GivesNext limit count record_bytes (Err fault.TooMany) old new = (count ≡ max_records) × (0 < length old)
 GivesNext limit count record_bytes (Err fault.Device) old new = Unit {0}
 

@@ -59,11 +59,12 @@ impl RecordRoom {
     ghost use Rattle.std.specs.Prelude.{IfOk};
     ghost use Rattle.rpg_files.specs.Reading.{room_limit};
 
-    /// Room for records of at most `limit` bytes.
+    /// Room for records of at most `limit` bytes. One that is never read from, since its records have no bytes, takes next to none.
     pub fn new(alloc: Global, limit: u16) -> Result<RecordRoom, AllocError>
         ensures { IfOk result (λ room. room_limit room ≡ limit) }
     {
-        let buffer = Buffer::with_capacity(alloc, READ_ROOM + limit as usize + 1)?;
+        let read_room = if limit == 0 { 1 } else { READ_ROOM };
+        let buffer = Buffer::with_capacity(alloc, read_room + limit as usize + 1)?;
         Ok(RecordRoom { buffer, limit })
     }
 }

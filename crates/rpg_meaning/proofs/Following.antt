@@ -9,6 +9,7 @@ use Rattle.rpg_effect.specs.Effect.{Effect}
 use Rattle.rpg_effect.specs.Ends as effects
 use Rattle.rpg_effect.specs.World.{World}
 use Rattle.rpg_cycle_safety.specs.Holding.{Holds, IsEffectEnd, Keeps}
+use Rattle.rpg_cycle_safety.specs.Waiting.{AreWaiting}
 use Rattle.rpg_meaning.specs.Job.{Job, JobState}
 use Rattle.rpg_meaning.specs.Phases.{MeantPhase, by_effect, meant_does, meant_either, meant_passes, meant_unless, ◌andthen◌}
 use Rattle.rpg_machine.specs.Config.{Config, Output}
@@ -38,12 +39,14 @@ module _ (p : Object) (job : Job) (number : Key → ℕ) where
   pub record Same (s : JobState) (c : UnderWay) : Type 0 where
     pub world : Agree job.source.forms number s.world c.config.world
     pub allowance : c.config.allowance ≡ s.allowance
+    pub inputs : c.inputs ≡ s.inputs
     pub selected : c.selected ≡ s.selected
 
   -- between two phases
   pub record IsSettled (P : Selection) (c : UnderWay) : Type 0 where
     pub values : Holds p c.config.world
     pub no_cell : c.config.cells ≡ map.empty
+    pub waiting : AreWaiting p c.inputs
     pub selected : P c.selected
 
   pub record Followed (Q : MeantPhase) (P : Selection) (s : JobState) (e : PhaseEnd) (d : UnderWay) (out : Output) : Type 0 where
@@ -108,6 +111,10 @@ module _ (p : Object) (job : Job) (number : Key → ℕ) where
   follows_either P M Q h true = follows_pass P
   follows_either P M Q h false = h
 
+  pub follows_both : (P R : Selection) (M N : machine.Phase) (Q O : MeantPhase) → Follows P M Q R → Follows P N O R → (b : Bool) → Follows P (machine.either b M N) (meant_either b Q O) R
+  follows_both P R M N Q O first second true = first
+  follows_both P R M N Q O first second false = second
+
   pub follows_unless : (P : Selection) (test : Config → Bool) (asks : JobState → Bool) (M : machine.Phase) (Q : MeantPhase) → ((c : UnderWay) (s : JobState) → Same s c → test c.config ≡ asks s) → Follows P M Q P
       → Follows P (machine.unless test M) (meant_unless asks Q) P
   follows_unless P test asks M Q equal h c s settled same e d out met =
@@ -119,7 +126,7 @@ module _ (p : Object) (job : Job) (number : Key → ℕ) where
   pub follows_effect : (P : Selection) (weight : ℕ) (effect : World nat_cmp → Effect nat_cmp) (f : World key_cmp → Effect key_cmp)
       → ((w : World nat_cmp) → Holds p w → Keeps p (effect w)) → ((v : World key_cmp) (w : World nat_cmp) → Agree job.source.forms number v w → SameEffect job.source.forms number (f v) (effect w))
       → Follows P (machine.by_machine (ByEffect weight effect)) (by_effect f) P
-  follows_effect P weight effect f keeps equal c s settled same e d out (last, act, ends, kept) =
+  follows_effect P weight effect f keeps equal c s settled same e d out (last, act, ends, files, kept) =
       let w = c.config.world in
       let k = keeps w settled.values in
       let q = equal s.world w same.world in
@@ -130,12 +137,14 @@ module _ (p : Object) (job : Job) (number : Key → ℕ) where
         same = record {
           world = subst (Agree job.source.forms number (f s.world).world) (sym world) q.world;
           allowance = ap (λ (x : Config). x.allowance) act.leads ∙ same.allowance;
+          inputs = files ∙ same.inputs;
           selected = kept ∙ same.selected;
         };
         fine = subst IsFine (sym ends) (right_fine last (subst IsEffectEnd (sym act.ends) k.ending));
         settled = λ on. record {
           values = subst (Holds p) (sym world) k.holds;
           no_cell = ap (λ (x : Config). x.cells) act.leads ∙ settled.no_cell;
+          waiting = subst (AreWaiting p) (sym files) settled.waiting;
           selected = subst P (sym kept) settled.selected;
         };
       }

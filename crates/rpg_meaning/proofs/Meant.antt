@@ -9,7 +9,9 @@ use Rattle.rpg_effect.specs.World.{World}
 use Rattle.rpg_faults_flow.specs.Columns.{bad_calculation_columns}
 use Rattle.rpg_faults_flow.specs.Kept.{KeepsRule}
 use Rattle.rpg_cycle_safety.proofs.Accepting.{accepted_orderly}
+use Rattle.rpg_cycle_safety.proofs.Selecting.{unread_waits}
 use Rattle.rpg_cycle_safety.proofs.Starting.{first_holds}
+use Rattle.rpg_cycle_records.specs.Waiting.{unread}
 use Rattle.rpg_cycle_safety.specs.Holding.{Holds}
 use Rattle.rpg_meaning.proofs.Cycling.{runs_follow}
 use Rattle.rpg_meaning.proofs.Starting.{agrees_start, start_agrees}
@@ -26,7 +28,7 @@ use Rattle.rpg_compile_program.specs.Table.{table_of}
 
 job_is : (cards : List SpecCard) (allowance : ℕ) → KeepsRule bad_calculation_columns cards → IsProgramOf (program_of cards allowance) (job_of cards allowance) (key_numbers cards)
 unfolding program_of
-job_is cards allowance kept = record { calculations = translates cards allowance kept; same_types = refl; same_length = refl; same_allowance = refl }
+job_is cards allowance kept = record { calculations = translates cards allowance kept; same_types = refl; same_length = refl; same_secondary = refl; same_allowance = refl }
 
 pub runs_are_meant : (cards : List SpecCard) (allowance : ℕ) (text : List ℕ) (date : ℤ) → IsProgram (program_of cards allowance) → IsAccepted (program_of cards allowance) → KeepsRule bad_calculation_columns cards → date_in text ≡ Some date
     → RunsAreMeant cards allowance date
@@ -34,7 +36,7 @@ runs_are_meant cards allowance text date program accepted kept dated w start rec
     let p = program_of cards allowance in
     let agree = start_agrees cards allowance date program.values w start in
     let holds : Holds p (job_start p date (first_fields p)).world = start_holds p program date (date_small text date dated) (first_fields p) (first_holds p (job_first_world (first_fields p)) program refl) in
-    let k = runs_follow (accepted_orderly p program accepted) (job_is cards allowance kept) records [] w (job_start p date (first_fields p)) agree holds refl course run.runs in
+    let k = runs_follow (accepted_orderly p program accepted) (job_is cards allowance kept) course.cycles records [] w (job_start p date (first_fields p)) unread agree holds refl (unread_waits p) course run.runs in
     record {
       meant = k.meant;
       run = record { runs = k.runs; print = run.print ∙ ap machine.printed k.same.output; disk = run.disk ∙ ap machine.stored k.same.output };

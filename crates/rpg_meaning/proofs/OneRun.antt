@@ -1,22 +1,25 @@
 -- The cards have one run.
-use Rattle.std.proofs.Common.{◌≡◌, ◌+◌, ℕ, zero, suc, Bool, true, false, cond, List, [], ◌∷◌, Option, None, Some, refl, sym, ap, ◌∙◌, subst}
+use Rattle.std.proofs.Common.{◌≡◌, ◌+◌, ℕ, zero, suc, Bool, true, false, cond, List, [], Option, None, Some, refl, sym, ap, ◌∙◌, subst}
 use Rattle.rpg_cards.specs.Keys.{key_cmp}
 use Rattle.rpg_cycle.specs.Ends.{PhaseEnd, GoesOn, EndOfJob, Halt, Wrong}
-use Rattle.rpg_cycle.specs.Runs.{printed, stored}
+use Rattle.rpg_cycle.specs.Indicators.{last_record, level_indicators}
+use Rattle.rpg_cycle.specs.Runs.{Records, printed, stored}
 use Rattle.rpg_effect.specs.Effect.{Effect}
 use Rattle.rpg_effect.specs.Lines.{detail_output, overflow_output, total_output}
 use Rattle.rpg_effect.specs.Input.{record_in}
 use Rattle.rpg_effect.specs.Put.{Bytes}
 use Rattle.rpg_effect.specs.World.{World}
+use Rattle.rpg_effect.specs.declared.input.InputFile.TheVariants.{Primary, Secondary}
 use Rattle.rpg_meaning.specs.Cycle as cards
 use Rattle.rpg_meaning.specs.Job.{Job, JobState}
-use Rattle.rpg_meaning.specs.Phases.{Came, MeantPhase, by_effect, calculated, meant_does, meant_either, meant_from_there, meant_passes, meant_unless, ◌andthen◌}
-use Rattle.rpg_meaning.specs.Runs.{IsMeantRun, MeantCourse, MeantRuns, meant_begun, meant_ends_or}
+use Rattle.rpg_meaning.specs.Phases.{Came, MeantPhase, by_effect, calculated, meant_does, meant_either, meant_from_there, meant_passes, meant_unless, is_on_in, with_turned, ◌andthen◌}
+use Rattle.rpg_meaning.specs.Runs.{IsMeantRun, MeantCourse, MeantRunsIn, meant_begun, meant_ends_or, meant_left, meant_next}
 use Rattle.rpg_machine.specs.Config.{Output, no_output, with_more}
 use Rattle.rpg_meaning_calculations.specs.Laws as calculations
 use Rattle.rpg_meaning_calculations.specs.Meaning.{MeantOutcome, On, Over, Source, State, Stops, cards_run, cards_step, followed, is_finished, told_before}
 use Rattle.rpg_meaning_calculations.specs.Parts.{InDetail, InTotal, Part}
 use Rattle.rpg_cycle_records.specs.Earlier.{Selected, with_record}
+use Rattle.rpg_cycle_records.specs.Waiting.{Inputs, unread}
 
 -- ---- calculations come to one end
 
@@ -65,6 +68,10 @@ either_fixed : (P : MeantPhase) → IsFixed P → (b : Bool) → IsFixed (meant_
 either_fixed P fixed true = does_fixed (λ s. (GoesOn, s))
 either_fixed P fixed false = fixed
 
+either_both : (P Q : MeantPhase) → IsFixed P → IsFixed Q → (b : Bool) → IsFixed (meant_either b P Q)
+either_both P Q first second true = first
+either_both P Q first second false = second
+
 unless_fixed : (test : JobState → Bool) (P : MeantPhase) → IsFixed P → IsFixed (meant_unless test P)
 unless_fixed test P fixed s e f t u o q h k = either_fixed P fixed (test s) s e f t u o q h k
 
@@ -105,16 +112,25 @@ module _ (job : Job) where
       by None h k = does_fixed (λ s. (GoesOn, s)) s e f t u o q h k
       by (Some r) h k = effect_fixed (record_in job.source.forms r.text (cards.meant_inputs_at job r.type)) s e f t u o q h k
 
-  cycle_fixed : (earlier : List Selected) (next : Option (List ℕ)) → IsFixed (cards.MeantCycle job earlier next)
-  cycle_fixed earlier next =
+  select_fixed : (earlier : List Selected) (a b : Option (List ℕ)) → IsFixed (cards.meant_select_record job earlier a b)
+  select_fixed earlier a b s e f t u o q h k =
+      either_both (meant_does (λ s. (GoesOn, with_turned level_indicators true s)))
+      (cards.meant_take_in job earlier Primary a andthen cards.meant_take_in job earlier Secondary b andthen cards.meant_select_one job earlier) (does_fixed _)
+      (then_fixed (cards.meant_take_in job earlier Primary a) _ (does_fixed _)
+      (then_fixed (cards.meant_take_in job earlier Secondary b) (cards.meant_select_one job earlier) (does_fixed _) (does_fixed _)))
+      (is_on_in last_record s) s e f t u o q h k
+
+  cycle_fixed : (earlier : List Selected) (a b : Option (List ℕ)) → IsFixed (cards.MeantCycle job earlier a b)
+  cycle_fixed earlier a b =
       then_fixed (cards.meant_detail_lines job) _ (effect_fixed (detail_output job.source.forms job.source.words job.source.overflow job.source.lines))
       (then_fixed (cards.meant_halt_where_asked job) _ (does_fixed _)
       (then_fixed (cards.meant_set_off job) _ (does_fixed _)
-      (then_fixed (cards.meant_select_record job earlier next) _ (does_fixed _)
+      (then_fixed (cards.meant_select_record job earlier a b) _ (select_fixed earlier a b)
       (then_fixed (cards.meant_total_time job earlier) _ (unless_fixed (cards.meant_is_bypassed job earlier) _ (then_fixed (calculated job.source InTotal) _ (calculated_fixed job.source InTotal) (effect_fixed (total_output job.source.forms job.source.words job.source.overflow job.source.lines))))
       (then_fixed (cards.meant_end_where_last job) _ (does_fixed _)
       (then_fixed (cards.meant_overflow_lines job) _ (unless_fixed _ (by_effect (overflow_output job.source.forms job.source.words job.source.overflow job.source.lines)) (effect_fixed (overflow_output job.source.forms job.source.words job.source.overflow job.source.lines)))
-      (then_fixed (cards.meant_fill_fields job) (calculated job.source InDetail) fill_fixed (calculated_fixed job.source InDetail))))))))
+      (then_fixed (cards.meant_show_match job earlier) _ (does_fixed _)
+      (then_fixed (cards.meant_fill_fields job) (calculated job.source InDetail) fill_fixed (calculated_fixed job.source InDetail)))))))))
 
   -- the course of the rest with this cycle before it
   abbrev with_cycle : Output → MeantCourse → MeantCourse
@@ -124,28 +140,28 @@ module _ (job : Job) where
   abbrev Follow : Type 1
   Follow = JobState → MeantCourse → Type 0
 
-  ends_one : (e : PhaseEnd) (t : JobState) (out : Output) (Rest : Follow) (k l : MeantCourse) → ((a b : MeantCourse) → Rest t a → Rest t b → a ≡ b) → meant_ends_or e t out Rest k → meant_ends_or e t out Rest l → k ≡ l
-  ends_one GoesOn t out Rest k l one (a, h, i) (b, g, j) =
+  ends_one : (e : PhaseEnd) (t : JobState) (out : Output) (First Rest : Follow) (k l : MeantCourse) → ((a b : MeantCourse) → First t a → Rest t b → a ≡ b) → meant_ends_or e t out First k → meant_ends_or e t out Rest l → k ≡ l
+  ends_one GoesOn t out First Rest k l one (a, h, i) (b, g, j) =
       i ∙ ap (with_cycle out) (one a b h g) ∙ sym j
-  ends_one EndOfJob t out Rest k l one h g = h ∙ sym g
-  ends_one (Halt n) t out Rest k l one h g = h ∙ sym g
-  ends_one (Wrong x) t out Rest k l one h g = absurd h
+  ends_one EndOfJob t out First Rest k l one h g = h ∙ sym g
+  ends_one (Halt n) t out First Rest k l one h g = h ∙ sym g
+  ends_one (Wrong x) t out First Rest k l one h g = absurd h
 
-  pub runs_one : (records : List (List ℕ)) (earlier : List Selected) (w : World key_cmp) (k l : MeantCourse) → MeantRuns job earlier records w k → MeantRuns job earlier records w l → k ≡ l
-  runs_one [] earlier w k l (e, t, out, cycle, ends) (f, u, put, cycle', ends') =
-      let x = cycle_fixed earlier None (meant_begun job w) e f t u out put cycle cycle' in
-      let Rest : Follow = λ t rest. ⊥ in
-      ends_one e t out Rest k l (λ a b h g. absurd h) ends (subst (λ y. meant_ends_or y t out Rest l) (sym x.0) (subst (λ y. meant_ends_or f y out Rest l) (sym x.1) (subst (λ y. meant_ends_or f u y Rest l) (sym x.2) ends')))
-  runs_one (r ∷ rs) earlier w k l (e, t, out, cycle, ends) (f, u, put, cycle', ends') =
-      let x = cycle_fixed earlier (Some r) (meant_begun job w) e f t u out put cycle cycle' in
-      let Rest : Follow = λ t rest. MeantRuns job (with_record t.selected earlier) rs t.world rest in
-      ends_one e t out Rest k l (λ a b h g. runs_one rs (with_record t.selected earlier) t.world a b h g) ends
+  pub runs_one : (n m : ℕ) (earlier : List Selected) (rs : Records) (w : World key_cmp) (i : Inputs) (k l : MeantCourse) → MeantRunsIn n job earlier rs w i k → MeantRunsIn m job earlier rs w i l → k ≡ l
+  runs_one zero m earlier rs w i k l h g = absurd h
+  runs_one (suc n) zero earlier rs w i k l h g = absurd g
+  runs_one (suc n) (suc m) earlier rs w i k l (e, t, out, cycle, ends) (f, u, put, cycle', ends') =
+      let s = meant_begun job w i in
+      let x = cycle_fixed earlier (meant_next job s Primary rs.primary) (meant_next job s Secondary rs.secondary) s e f t u out put cycle cycle' in
+      let First : Follow = λ t rest. MeantRunsIn n job (with_record t.selected earlier) (meant_left job s rs) t.world t.inputs rest in
+      let Rest : Follow = λ t rest. MeantRunsIn m job (with_record t.selected earlier) (meant_left job s rs) t.world t.inputs rest in
+      ends_one e t out First Rest k l (λ a b h g. runs_one n m (with_record t.selected earlier) (meant_left job s rs) t.world t.inputs a b h g) ends
       (subst (λ y. meant_ends_or y t out Rest l) (sym x.0) (subst (λ y. meant_ends_or f y out Rest l) (sym x.1) (subst (λ y. meant_ends_or f u y Rest l) (sym x.2) ends')))
 
   same_bytes : (a b : Bytes) → a.print ≡ b.print → a.disk ≡ b.disk → a ≡ b
   same_bytes a b p q = λ i. record { print = p i; disk = q i }
 
-  pub runs_are_one : (w : World key_cmp) (records : List (List ℕ)) (k l : MeantCourse) (a b : Bytes) → IsMeantRun job w records k a → IsMeantRun job w records l b → (k ≡ l) × (a ≡ b)
+  pub runs_are_one : (w : World key_cmp) (records : Records) (k l : MeantCourse) (a b : Bytes) → IsMeantRun job w records k a → IsMeantRun job w records l b → (k ≡ l) × (a ≡ b)
   runs_are_one w records k l a b h g =
-      let same = runs_one records [] w k l h.runs g.runs in
+      let same = runs_one k.cycles l.cycles [] records w unread k l h.runs g.runs in
       (same, same_bytes a b (h.print ∙ ap (λ (x : MeantCourse). printed x.output) same ∙ sym g.print) (h.disk ∙ ap (λ (x : MeantCourse). stored x.output) same ∙ sym g.disk))

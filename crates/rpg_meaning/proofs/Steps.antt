@@ -23,6 +23,7 @@ use Rattle.rpg_cycle_safety.proofs.Instructing.{output_keeps}
 use Rattle.rpg_cycle_safety.proofs.Running.{ends_well}
 use Rattle.rpg_cycle_safety.proofs.Writing.{same_fields}
 use Rattle.rpg_cycle_safety.specs.Leading as leading
+use Rattle.rpg_cycle_safety.specs.Waiting.{AreWaiting}
 use Rattle.rpg_meaning.proofs.Following.{Followed, Follows, IsFine, IsSettled, Same, Selection, follows_does, follows_effect, follows_pass, follows_unless}
 use Rattle.rpg_meaning.specs.Cycle as cards
 use Rattle.rpg_meaning.specs.Job.{IsProgramOf, Job, JobState}
@@ -61,7 +62,7 @@ turned_append : (ms ns : List ℕ) (b : Bool) (on : set.FinSet nat_cmp) → turn
 turned_append [] ns b on = refl
 turned_append (m ∷ ms) ns b on = turned_append ms ns b (indicators_turned m b on)
 
-any_same : (ns : List ℕ) (c : Config) (on : set.FinSet nat_cmp) → c.world.on ≡ on → indicators.any_on c ns ≡ list_any (λ n. set.contains on n) ns
+pub any_same : (ns : List ℕ) (c : Config) (on : set.FinSet nat_cmp) → c.world.on ≡ on → indicators.any_on c ns ≡ list_any (λ n. set.contains on n) ns
 any_same [] c on e = refl
 any_same (n ∷ ns) c on e = λ i. set.contains (e i) n || any_same ns c on e i
 
@@ -138,7 +139,7 @@ module _ {p : Object} {job : Job} {number : Key → ℕ} (orderly : IsOrderly p)
   named_fine (effects.Wrong f) h = h
 
   pub section_follows : (P : Selection) (part : Part) → part_has_end part ≡ true → Follows p job number P (machine.section p (part_section job.source.sections part)) (calculated job.source part) P
-  section_follows P part ended c s settled same e d out (last, run, ends, kept) =
+  section_follows P part ended c s settled same e d out (last, run, ends, files, kept) =
       by m.0 (cards_run job.source m.0 (part_begun part s.world s.allowance)) refl m.1
     where
       m : (n : ℕ) × EndsAs p job.source number (cards_run job.source n (part_begun part s.world s.allowance)) last d.config out
@@ -154,7 +155,7 @@ module _ {p : Object} {job : Job} {number : Key → ℕ} (orderly : IsOrderly p)
       back (effects.Wrong f) h = absurd (let never = h in cc)
 
       settles : e ≡ GoesOn → IsSettled p job number P d
-      settles on = record { values = well.values; no_cell = well.no_cell (back last (sym ends ∙ on)); selected = subst P (sym kept) settled.selected }
+      settles on = record { values = well.values; no_cell = well.no_cell (back last (sym ends ∙ on)); waiting = subst (AreWaiting p) (sym files) settled.waiting; selected = subst P (sym kept) settled.selected }
 
       by : (n : ℕ) (x : MeantOutcome) → cards_run job.source n (part_begun part s.world s.allowance) ≡ x → EndsAs p job.source number x last d.config out → Followed p job number (calculated job.source part) P s e d out
       by n (On u o) ran (finished, goes, put, a) =
@@ -162,7 +163,7 @@ module _ {p : Object} {job : Job} {number : Key → ℕ} (orderly : IsOrderly p)
           record {
             state = state;
             meets = (n, subst (λ x. Came job.source x s e state out) (sym ran) (finished, ends ∙ ap phase_end goes, refl, put));
-            same = record { world = a.world; allowance = a.allowance; selected = kept ∙ same.selected };
+            same = record { world = a.world; allowance = a.allowance; inputs = files ∙ same.inputs; selected = kept ∙ same.selected };
             fine = subst IsFine (sym ends) (named_fine last well.ending);
             settled = settles;
           }
@@ -171,7 +172,7 @@ module _ {p : Object} {job : Job} {number : Key → ℕ} (orderly : IsOrderly p)
           record {
             state = state;
             meets = (n, subst (λ x. Came job.source x s e state out) (sym ran) (ends ∙ ap phase_end halts, refl, put));
-            same = record { world = a.world; allowance = a.allowance; selected = kept ∙ same.selected };
+            same = record { world = a.world; allowance = a.allowance; inputs = files ∙ same.inputs; selected = kept ∙ same.selected };
             fine = subst IsFine (sym ends) (named_fine last well.ending);
             settled = settles;
           }
@@ -207,17 +208,19 @@ module _ {p : Object} {job : Job} {number : Key → ℕ} (orderly : IsOrderly p)
       (sym (turned_append level_indicators (first_page ∷ []) false (turned_all (type_list job.types) false c.world.on)) ∙ sym (turned_append (type_list job.types) (level_indicators ++ first_page ∷ []) false c.world.on))
 
   -- only indicators were turned
-  pub turned_same : (ns : List ℕ) (b : Bool) (c d : UnderWay) (s : JobState) → d.config ≡ with_on (turned_all ns b) c.config → d.selected ≡ c.selected → Same p job number s c → Same p job number (with_turned ns b s) d
-  turned_same ns b c d s config selected same = record {
+  pub turned_same : (ns : List ℕ) (b : Bool) (c d : UnderWay) (s : JobState) → d.config ≡ with_on (turned_all ns b) c.config → d.inputs ≡ c.inputs → d.selected ≡ c.selected → Same p job number s c → Same p job number (with_turned ns b s) d
+  turned_same ns b c d s config inputs selected same = record {
     world = subst (λ (x : Config). Agree job.source.forms number (with_turned ns b s).world x.world) (sym config) (on_agrees job.source.forms number (turned_all ns b) s.world c.config.world same.world);
     allowance = ap (λ (x : Config). x.allowance) config ∙ same.allowance;
+    inputs = inputs ∙ same.inputs;
     selected = selected ∙ same.selected;
   }
 
-  turned_settled : (P : Selection) (ns : List ℕ) (b : Bool) (c d : UnderWay) → d.config ≡ with_on (turned_all ns b) c.config → d.selected ≡ c.selected → IsSettled p job number P c → IsSettled p job number P d
-  turned_settled P ns b c d config selected settled = record {
+  turned_settled : (P : Selection) (ns : List ℕ) (b : Bool) (c d : UnderWay) → d.config ≡ with_on (turned_all ns b) c.config → d.inputs ≡ c.inputs → d.selected ≡ c.selected → IsSettled p job number P c → IsSettled p job number P d
+  turned_settled P ns b c d config inputs selected settled = record {
     values = same_fields p c.config.world d.config.world settled.values (ap (λ (x : Config). x.world.fields) config);
     no_cell = ap (λ (x : Config). x.cells) config ∙ settled.no_cell;
+    waiting = subst (AreWaiting p) (sym inputs) settled.waiting;
     selected = subst P (sym selected) settled.selected;
   }
 
@@ -229,9 +232,9 @@ module _ {p : Object} {job : Job} {number : Key → ℕ} (orderly : IsOrderly p)
       let d = machine.with_config (machine.all_off p) c in
       record {
         ends = refl;
-        same = turned_same off_list false c d s (off_same c.config) refl same;
+        same = turned_same off_list false c d s (off_same c.config) refl refl same;
         fine = tt;
-        settled = λ on. turned_settled P off_list false c d (off_same c.config) refl settled;
+        settled = λ on. turned_settled P off_list false c d (off_same c.config) refl refl settled;
       })
 
   pub ending_follows : (P : Selection) → Follows p job number P machine.end_where_last (cards.meant_end_where_last job) P
@@ -262,7 +265,7 @@ module _ {p : Object} {job : Job} {number : Key → ℕ} (orderly : IsOrderly p)
   filled_from None c s at settled same e d out met = followed_any (follows_pass p job number (IsTaken p) c s settled same e d out met)
     where
       followed_any : Followed p job number meant_passes (IsTaken p) s e d out → Followed p job number meant_passes (λ x. Unit {0}) s e d out
-      followed_any o = record { state = o.state; meets = o.meets; same = o.same; fine = o.fine; settled = λ on. let x = o.settled on in record { values = x.values; no_cell = x.no_cell; selected = tt } }
+      followed_any o = record { state = o.state; meets = o.meets; same = o.same; fine = o.fine; settled = λ on. let x = o.settled on in record { values = x.values; no_cell = x.no_cell; waiting = x.waiting; selected = tt } }
   filled_from (Some r) c s at settled same e d out met =
       let taken = subst (IsTaken p) at settled.selected in
       let inputs = machine_outputs.inputs_at p r.type in
@@ -271,7 +274,7 @@ module _ {p : Object} {job : Job} {number : Key → ℕ} (orderly : IsOrderly p)
       (λ w h. record_keeps p orderly.forms r.text inputs w right taken.characters h)
       (λ v w a. subst (λ fs. SameEffect job.source.forms number (record_in job.source.forms r.text (cards.meant_inputs_at job r.type) v) (record_in (form_at p.fields) r.text fs w)) (sym (inputs_at_type r.type))
       (record_same is.calculations.names r.text (cards.meant_inputs_at job r.type) v w a))
-      c s (record { values = settled.values; no_cell = settled.no_cell; selected = tt }) same e d out met
+      c s (record { values = settled.values; no_cell = settled.no_cell; waiting = settled.waiting; selected = tt }) same e d out met
 
   pub filling_follows : Follows p job number (IsTaken p) (machine.fill_fields p) (cards.meant_fill_fields job) (λ x. Unit {0})
   filling_follows c s settled same e d out met =

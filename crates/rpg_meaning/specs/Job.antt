@@ -7,19 +7,23 @@ use Rattle.rpg_meaning_calculations.specs.Meaning.{Source}
 use Rattle.rpg_meaning_calculations.specs.Translation.{IsTranslation}
 use Rattle.rpg_object_program.specs.Object.{Object}
 use Rattle.rpg_cycle_records.specs.Earlier.{Selected}
+use Rattle.rpg_cycle_records.specs.Waiting.{Inputs}
 use Rattle.rpg_effect_renaming.specs.Naming.{renamed_type}
 
--- fields, lines and calculations, the record types, the length of records, and what a cycle may spend
+-- fields, lines and calculations, the record types, the lengths of the records of both files, 0 where there is no secondary file, and what a
+-- cycle may spend
 pub record Job : Type 0 where
   pub source : Source
   pub types : List (TypeRow Key)
   pub record_length : ℕ
+  pub secondary_length : ℕ
   pub allowance : ℕ
 
--- a cycle under way: the values by name and all else that it changes, what is left of the allowance, and the record that was selected
+-- a cycle under way: the values by name and all else that it changes, what is left of the allowance, the files, and the record that was selected
 pub record JobState : Type 0 where
   pub world : World key_cmp
   pub allowance : ℕ
+  pub inputs : Inputs
   pub selected : Option Selected
 
 -- the program is what the cards stand for
@@ -27,4 +31,5 @@ pub record IsProgramOf (p : Object) (job : Job) (number : Key → ℕ) : Type 0 
   pub calculations : IsTranslation p job.source number
   pub same_types : p.types ≡ map (renamed_type number) job.types
   pub same_length : p.record_length ≡ job.record_length
+  pub same_secondary : p.secondary_length ≡ job.secondary_length
   pub same_allowance : p.allowance ≡ job.allowance

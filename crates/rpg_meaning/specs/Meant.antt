@@ -20,7 +20,7 @@ use Rattle.rpg_compile_program.specs.Program.{key_numbers}
 abbrev pub RunsAsMeant : List SpecCard → ℕ → Object → ℤ → Type 0
 RunsAsMeant cards allowance p date =
     (w : World key_cmp) → IsStart cards date w
-    → (records : List (List ℕ)) (course : machine.Course) (bytes : Bytes) → machine.IsRun p date (first_fields p) records course bytes
+    → (records : machine.Records) (course : machine.Course) (bytes : Bytes) → machine.IsRun p date (first_fields p) records course bytes
     → IsMeant cards allowance w records course bytes
 
 pub record DoesAsMeant (cards : List SpecCard) (allowance : ℕ) (p : Object) : Type 0 where

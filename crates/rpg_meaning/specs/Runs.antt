@@ -1,14 +1,19 @@
--- Whole runs by cards: a cycle for each record, and one for the end of the file, until one ends the job.
-use Rattle.std.specs.Prelude.{◌≡◌, ℕ, ◌+◌, List, [], ◌∷◌, None, Some}
+-- Whole runs by cards: cycles, each with the records that are next in the files that take one in, until one ends the job.
+use Rattle.std.specs.Prelude.{◌≡◌, ℕ, zero, suc, ◌+◌, Bool, not, ◌&&◌, ◌||◌, List, [], Option, None}
 use Rattle.rpg_cards.specs.Keys.{key_cmp}
 use Rattle.rpg_cycle.specs.Ends.{PhaseEnd, GoesOn, EndOfJob, Halt, Wrong}
-use Rattle.rpg_cycle.specs.Runs.{printed, stored}
+use Rattle.rpg_cycle.specs.Indicators.{halt_indicators, last_record}
+use Rattle.rpg_cycle.specs.Runs.{Records, next_of, printed, rest_of, stored}
 use Rattle.rpg_effect.specs.Put.{Bytes}
 use Rattle.rpg_effect.specs.World.{World}
-use Rattle.rpg_meaning.specs.Cycle.{MeantCycle}
+use Rattle.rpg_effect.specs.declared.input.InputFile.{InputFile}
+use Rattle.rpg_effect.specs.declared.input.InputFile.TheVariants.{Primary, Secondary}
+use Rattle.rpg_meaning.specs.Cycle.{MeantCycle, meant_takes_in}
 use Rattle.rpg_meaning.specs.Job.{Job, JobState}
+use Rattle.rpg_meaning.specs.Phases.{any_on_in, is_on_in}
 use Rattle.rpg_machine.specs.Config.{Output, with_more}
 use Rattle.rpg_cycle_records.specs.Earlier.{Selected, with_record}
+use Rattle.rpg_cycle_records.specs.Waiting.{Inputs, unread}
 
 -- how a run ended, in how many cycles, and what was put out
 pub record MeantCourse : Type 0 where
@@ -17,8 +22,19 @@ pub record MeantCourse : Type 0 where
   pub output : Output
 
 -- the whole allowance, and nothing selected
-abbrev pub meant_begun : Job → World key_cmp → JobState
-meant_begun job w = record { world = w; allowance = job.allowance; selected = None }
+abbrev pub meant_begun : Job → World key_cmp → Inputs → JobState
+meant_begun job w i = record { world = w; allowance = job.allowance; inputs = i; selected = None }
+
+-- a file takes a record in at the next cycle, which none does where LR or one of H1 to H9 is on
+abbrev pub meant_needs : Job → JobState → InputFile → Bool
+meant_needs job s f = not (is_on_in last_record s || any_on_in halt_indicators s) && meant_takes_in job s.inputs f
+
+-- what it takes of a file's records, and the records that are left behind it
+abbrev pub meant_next : Job → JobState → InputFile → List (List ℕ) → Option (List ℕ)
+meant_next job s f rs = next_of (meant_needs job s f) rs
+
+abbrev pub meant_left : Job → JobState → Records → Records
+meant_left job s rs = record { primary = rest_of (meant_needs job s Primary) rs.primary; secondary = rest_of (meant_needs job s Secondary) rs.secondary }
 
 -- a cycle ended the job, or the rest follows
 abbrev pub meant_ends_or : PhaseEnd → JobState → Output → (JobState → MeantCourse → Type 0) → MeantCourse → Type 0
@@ -27,15 +43,20 @@ meant_ends_or EndOfJob t out Rest course = course ≡ record { ending = EndOfJob
 meant_ends_or (Halt k) t out Rest course = course ≡ record { ending = Halt k; cycles = 1; output = out }
 meant_ends_or (Wrong f) t out Rest course = ⊥
 
--- a run from a world, behind earlier records (the last first), over the records that are left
-abbrev pub MeantRuns : Job → List Selected → List (List ℕ) → World key_cmp → MeantCourse → Type 0
-MeantRuns job earlier [] w course = (e : PhaseEnd) × (t : JobState) × (out : Output) × MeantCycle job earlier None (meant_begun job w) e t out × meant_ends_or e t out (λ t rest. ⊥) course
-MeantRuns job earlier (r ∷ rs) w course =
-    (e : PhaseEnd) × (t : JobState) × (out : Output) × MeantCycle job earlier (Some r) (meant_begun job w) e t out
-    × meant_ends_or e t out (λ t rest. MeantRuns job (with_record t.selected earlier) rs t.world rest) course
+-- a run of at most so many cycles from a state before a cycle, behind earlier records (the last first), over the records that are left
+abbrev pub MeantRunsIn : ℕ → Job → List Selected → Records → World key_cmp → Inputs → MeantCourse → Type 0
+MeantRunsIn zero job earlier rs w i course = ⊥
+MeantRunsIn (suc n) job earlier rs w i course =
+    (e : PhaseEnd) × (t : JobState) × (out : Output)
+    × MeantCycle job earlier (meant_next job (meant_begun job w i) Primary rs.primary) (meant_next job (meant_begun job w i) Secondary rs.secondary) (meant_begun job w i) e t out
+    × meant_ends_or e t out (λ t rest. MeantRunsIn n job (with_record t.selected earlier) (meant_left job (meant_begun job w i) rs) t.world t.inputs rest) course
+
+-- a run, in as many cycles as it takes
+abbrev pub MeantRuns : Job → List Selected → Records → World key_cmp → Inputs → MeantCourse → Type 0
+MeantRuns job earlier rs w i course = MeantRunsIn course.cycles job earlier rs w i course
 
 -- the whole run over records from a world, with the bytes that are printed and stored
-pub record IsMeantRun (job : Job) (w : World key_cmp) (records : List (List ℕ)) (course : MeantCourse) (bytes : Bytes) : Type 0 where
-  pub runs : MeantRuns job [] records w course
+pub record IsMeantRun (job : Job) (w : World key_cmp) (records : Records) (course : MeantCourse) (bytes : Bytes) : Type 0 where
+  pub runs : MeantRuns job [] records w unread course
   pub print : bytes.print ≡ printed course.output
   pub disk : bytes.disk ≡ stored course.output

@@ -21,11 +21,12 @@ job_of cards allowance = record {
   source = source_of cards;
   types = types_on cards;
   record_length = record_length_of (file_for uses.Primary cards);
+  secondary_length = record_length_of (file_for uses.Secondary cards);
   allowance = allowance;
 }
 
 -- the run of the program is the run of the cards: one end, as many cycles, and the same bytes
-pub record IsMeant (cards : List SpecCard) (allowance : ℕ) (w : World key_cmp) (records : List (List ℕ)) (course : machine.Course) (bytes : Bytes) : Type 0 where
+pub record IsMeant (cards : List SpecCard) (allowance : ℕ) (w : World key_cmp) (records : machine.Records) (course : machine.Course) (bytes : Bytes) : Type 0 where
   pub meant : MeantCourse
   pub run : IsMeantRun (job_of cards allowance) w records meant bytes
   pub ending : course.ending ≡ meant.ending
@@ -35,9 +36,9 @@ pub record IsMeant (cards : List SpecCard) (allowance : ℕ) (w : World key_cmp)
 abbrev pub RunsAreMeant : List SpecCard → ℕ → ℤ → Type 0
 RunsAreMeant cards allowance date =
     (w : World key_cmp) → IsStart cards date w
-    → (records : List (List ℕ)) (course : machine.Course) (bytes : Bytes) → machine.IsRun (program_of cards allowance) date (first_fields (program_of cards allowance)) records course bytes
+    → (records : machine.Records) (course : machine.Course) (bytes : Bytes) → machine.IsRun (program_of cards allowance) date (first_fields (program_of cards allowance)) records course bytes
     → IsMeant cards allowance w records course bytes
 
 -- a job has one run
 abbrev pub MeantRunsAreOne : Type 0
-MeantRunsAreOne = (job : Job) (w : World key_cmp) (records : List (List ℕ)) (k l : MeantCourse) (a b : Bytes) → IsMeantRun job w records k a → IsMeantRun job w records l b → (k ≡ l) × (a ≡ b)
+MeantRunsAreOne = (job : Job) (w : World key_cmp) (records : machine.Records) (k l : MeantCourse) (a b : Bytes) → IsMeantRun job w records k a → IsMeantRun job w records l b → (k ≡ l) × (a ≡ b)

@@ -22,9 +22,12 @@ use Rattle.rpg_object_rows.proofs.Choices.{within, counted, between, few}
 
 version_rule : IsRule version_of version_number
 version_rule n x e =
-    elim (chosen (eqb n 1) (stands_for versions.One) (Err faults.Version) (stands_for x) e) [
+    elim (chosen (eqb n 1) (stands_for versions.One) (cond (eqb n 2) (stands_for versions.Two) (Err faults.Version)) (stands_for x) e) [
       | inl w ↦ ap version_number (sym (value_is versions.One x w.1)) ∙ sym (eqb-true _ _ w.0)
-      | inr w ↦ absurd (let k = w.1 in cc)
+      | inr w ↦ elim (chosen (eqb n 2) (stands_for versions.Two) (Err faults.Version) (stands_for x) w.1) [
+        | inl u ↦ ap version_number (sym (value_is versions.Two x u.1)) ∙ sym (eqb-true _ _ u.0)
+        | inr u ↦ absurd (let k = u.1 in cc)
+      ]
     ]
 
 overflow_rule : IsRule overflow_of overflow_number
@@ -122,8 +125,6 @@ pub record IsHeader (h : Header) : Type 0 where
   pub counts : AreCounts h.counts
   pub longest_secondary : h.secondary_length ≤ 9999
   pub plain : h.version ≡ versions.One → h.secondary_length ≡ 0
-  -- as yet
-  pub first_version : h.version ≡ versions.One
 
 secondary_kept : (v : Version) (n : ℕ) → (secondary_length v).Holds n → n ≤ 9999
 unfolding row_where two_bytes
@@ -135,10 +136,6 @@ unfolding row_where
 no_secondary versions.One n h one = h.0
 no_secondary versions.Two n h one = absurd cc
 
-version_kept : (v : Version) → version_of (version_number v) ≡ Ok v → v ≡ versions.One
-version_kept versions.One e = refl
-version_kept versions.Two e = absurd cc
-
 pub header_kept : (h : Header) → header_format.Holds h → IsHeader h
 unfolding header_format row pair two_bytes
 header_kept h holds = record {
@@ -146,7 +143,6 @@ header_kept h holds = record {
   counts = counts_kept h.counts holds.1.1.0;
   longest_secondary = secondary_kept h.version h.secondary_length holds.1.1.1;
   plain = no_secondary h.version h.secondary_length holds.1.1.1;
-  first_version = version_kept h.version holds.0.0;
 }
 
 -- ---- what keeps that is a header
@@ -182,9 +178,9 @@ counts_from c h =
       ),
     )
 
-version_from : (v : Version) → v ≡ versions.One → (version_of (version_number v) ≡ Ok v) × (version_number v < 2 ^ 16)
-version_from versions.One one = (refl, omega arith)
-version_from versions.Two one = absurd cc
+version_from : (v : Version) → (version_of (version_number v) ≡ Ok v) × (version_number v < 2 ^ 16)
+version_from versions.One = (refl, omega arith)
+version_from versions.Two = (refl, omega arith)
 
 secondary_from : (v : Version) (n : ℕ) → n ≤ 9999 → (v ≡ versions.One → n ≡ 0) → (secondary_length v).Holds n
 unfolding row_where two_bytes
@@ -194,7 +190,7 @@ secondary_from versions.Two n le plain = (between 0 9999 n (omega arith) le, ome
 pub header_from : (h : Header) → IsHeader h → header_format.Holds h
 unfolding header_format row pair two_bytes
 header_from h k =
-    (version_from h.version k.first_version, (settings_from h.settings k.settings, (counts_from h.counts k.counts, secondary_from h.version h.secondary_length k.longest_secondary k.plain)))
+    (version_from h.version, (settings_from h.settings k.settings, (counts_from h.counts k.counts, secondary_from h.version h.secondary_length k.longest_secondary k.plain)))
 
 -- ---- the bytes of a header
 

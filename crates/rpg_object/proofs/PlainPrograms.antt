@@ -57,7 +57,6 @@ program_kept p h =
       subroutines = subroutines_kept (length p.subroutines) (8192 - length p.detail - length p.total) p.subroutines h.1.1.1.1.1.1.1;
       few_instructions = omega arith;
       plain = plain_program p h;
-      first_version = head.first_version;
     }
 
 settings_plain : (p : Object) → IsProgram p → AreSettings (settings_of p)
@@ -89,7 +88,6 @@ header_plain p h = record {
   counts = counts_plain p h;
   longest_secondary = h.longest_secondary;
   plain = λ one. (h.plain one).secondary;
-  first_version = h.first_version;
 }
 
 types_from : (p : Object) → IsProgram p → (table (length p.types) (record_type_format p.version)).Holds p.types

@@ -13,9 +13,8 @@ use Rattle.rpg_object.specs.declared.header.Counts.{Counts}
 use Rattle.rpg_object.specs.declared.header.Header.{Header}
 use Rattle.rpg_object.specs.declared.header.Settings.{Settings}
 
--- as yet version 1 alone
 abbrev pub version_of : ℕ → Result Version Code
-version_of n = if n == 1 then Ok versions.One else Err faults.Version
+version_of n = if n == 1 then Ok versions.One else (if n == 2 then Ok versions.Two else Err faults.Version)
 
 abbrev pub version_number : Version → ℕ
 version_number versions.One = 1

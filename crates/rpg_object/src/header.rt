@@ -49,12 +49,12 @@ pub struct Header {
     pub secondary_length: u16,
 }
 
-/// As yet version 1 alone.
 fn version_of(n: u16) -> Result<Version, Code>
     ensures { result ≡ version_of n }
 {
     match n {
         1 => Ok(Version::One),
+        2 => Ok(Version::Two),
         _ => Err(Code::Version),
     }
 }

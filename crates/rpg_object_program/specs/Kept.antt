@@ -266,5 +266,3 @@ pub record IsProgram (p : Object) : Type 0 where
   pub subroutines : All IsSubroutineRow p.subroutines
   pub few_instructions : places_of p ≤ 8192
   pub plain : p.version ≡ versions.One → IsPlain p
-  -- as yet
-  pub first_version : p.version ≡ versions.One

@@ -115,7 +115,7 @@ field_card_law = values_law _ 7
     ⊛ at_law _ (lit≤ tt) (lit≤ tt)
     ⊛ at_law _ (lit≤ tt) (lit≤ tt)
     ⊛ at_law _ (lit≤ tt) (lit≤ tt)
-    ⊘ at_law _ (lit≤ tt) (lit≤ tt)
+    ⊛ at_law _ (lit≤ tt) (lit≤ tt)
     ⊘ blank_law (lit≤ tt) (lit≤ tt) (lit≤ tt)
     ⊛ indicators_law (lit≤ tt) (lit≤ tt) (lit≤ tt) (lit≤ tt) (lit≤ tt) (lit≤ tt)
     ⊘ blank_law (lit≤ tt) (lit≤ tt) (lit≤ tt)

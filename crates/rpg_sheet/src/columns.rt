@@ -233,23 +233,24 @@ impl Card {
         )
     }
 
-    /// Blank or a level.
+    /// Blank or a level behind its letter.
     #[tactic(auto, unfolding(rpg_sheet_specs::specs::Values::blank_or))]
     pub(crate) fn optional_level(
         &self,
+        letter: u8,
         first: u8,
         last: u8,
     ) -> Result<Option<Within<1, 9>>, ColumnFault>
         requires within { last ≤ 80 }
         requires counted { 1 ≤ first }
         requires ordered { first ≤ last }
-        ensures { result ≡ ok_or (values.blank_or values.level (cols first last self.now)) (column_fault first last) }
+        ensures { result ≡ ok_or (values.blank_or (values.level letter) (cols first last self.now)) (column_fault first last) }
     {
         let text = self.columns(first, last);
         at(
             first,
             last,
-            rpg_sheet_values::blank_or(text, rpg_sheet_values::level(text)),
+            rpg_sheet_values::blank_or(text, rpg_sheet_values::level(letter, text)),
         )
     }
 

@@ -67,7 +67,7 @@ impl Card {
     }
 }
 
-/// P with I, blank with O.
+/// P or S with I, blank with O.
 #[tactic(auto, unfolding(rpg_sheet_specs::specs::Tables::role))]
 fn role(card: &Card) -> Option<FileRole>
     ensures { result ≡ tables.role card.now (cols 16 16 card.now) }
@@ -75,6 +75,8 @@ fn role(card: &Card) -> Option<FileRole>
     if card.columns(15, 15) == b"I".as_slice() {
         if card.columns(16, 16) == b"P".as_slice() {
             Some(FileRole::Primary)
+        } else if card.columns(16, 16) == b"S".as_slice() {
+            Some(FileRole::Secondary)
         } else {
             None
         }

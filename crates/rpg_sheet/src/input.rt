@@ -121,8 +121,8 @@ fn field_card(card: &Card) -> Result<InputField, ColumnFault>
     let to = card.number(48, 51)?;
     let decimals = card.optional_digit(52, 52)?;
     let name = card.name(53, 58)?;
-    let level = card.optional_level(59, 60)?;
-    card.unused(61, 62)?;
+    let level = card.optional_level(b'L', 59, 60)?;
+    let match_level = card.optional_level(b'M', 61, 62)?;
     card.blank(63, 64)?;
     let indicators = indicators(card, 65)?;
     card.blank(71, 74)?;
@@ -132,6 +132,7 @@ fn field_card(card: &Card) -> Result<InputField, ColumnFault>
         decimals,
         name,
         level,
+        match_level,
         indicators,
     })
 }

@@ -8,6 +8,7 @@ unfoldable pub columns_of : ColumnRange → ColumnFault
 -- F
 columns_of range.FileName = column_fault 7 14
 columns_of range.FileType = column_fault 15 15
+columns_of range.EndsJob = column_fault 17 17
 columns_of range.RecordLength = column_fault 24 27
 columns_of range.Device = column_fault 40 46
 -- E
@@ -29,6 +30,7 @@ columns_of range.FirstColumn = column_fault 44 47
 columns_of range.LastColumn = column_fault 48 51
 columns_of range.InputName = column_fault 53 58
 columns_of range.InputLevel = column_fault 59 60
+columns_of range.InputMatch = column_fault 61 62
 columns_of range.InputPlus = column_fault 65 66
 columns_of range.InputMinus = column_fault 67 68
 columns_of range.InputZero = column_fault 69 70

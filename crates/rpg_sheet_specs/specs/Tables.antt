@@ -9,7 +9,7 @@ use Rattle.rpg_sheet_specs.specs.declared.indicator.Condition.{Condition}
 use Rattle.rpg_sheet_specs.specs.declared.header.HeaderSpec.{HeaderSpec}
 use Rattle.rpg_sheet_specs.specs.declared.file.FileSpec.{FileSpec}
 use Rattle.rpg_sheet_specs.specs.declared.file.FileRole.{FileRole}
-use Rattle.rpg_sheet_specs.specs.declared.file.FileRole.TheVariants.{Primary, Output}
+use Rattle.rpg_sheet_specs.specs.declared.file.FileRole.TheVariants.{Primary, Secondary, Output}
 use Rattle.rpg_sheet_specs.specs.declared.file.Device.{Device}
 use Rattle.rpg_sheet_specs.specs.declared.file.Device.TheVariants as device
 use Rattle.rpg_sheet_specs.specs.declared.extension.TableSpec.{TableSpec}
@@ -62,9 +62,9 @@ direction = one_of ((codes "I", tt) ∷ (codes "O", tt) ∷ [])
 abbrev pub is_read : List ℕ → Bool
 is_read card = bytes_eq (cols 15 15 card) (codes "I")
 
--- P with I, blank with O
+-- P or S with I, blank with O
 unfoldable pub role : List ℕ → List ℕ → Option FileRole
-role card = one_of (if is_read card then (codes "P", Primary) ∷ [] else (codes " ", Output) ∷ [])
+role card = one_of (if is_read card then (codes "P", Primary) ∷ (codes "S", Secondary) ∷ [] else (codes " ", Output) ∷ [])
 
 unfoldable pub device_named : List ℕ → Option Device
 device_named text = Some (if bytes_eq text (codes "PRINTER") then device.Printer else device.Disk)
@@ -165,8 +165,16 @@ type_and_card = values (λ c. c)
     ⊛ and_codes
     ⊘ blank 42 74
 
-abbrev pub input_field : ℕ → ℕ → Option ℕ → List ℕ → Option ℕ → Three (Option ℕ) → InputField
-input_field f t d n l i = record { from = f; to = t; decimals = d; name = n; level = l; indicators = i }
+abbrev pub input_field : ℕ → ℕ → Option ℕ → List ℕ → Option ℕ → Option ℕ → Three (Option ℕ) → InputField
+input_field f t d n l m i = record { from = f; to = t; decimals = d; name = n; level = l; match_level = m; indicators = i }
+
+-- L1 to L9
+abbrev pub control_field_level : List ℕ → Option ℕ
+control_field_level = level 76
+
+-- M1 to M9
+abbrev pub match_field_level : List ℕ → Option ℕ
+match_field_level = level 77
 
 unfoldable pub field_card : Columns InputField
 field_card = values input_field
@@ -175,8 +183,8 @@ field_card = values input_field
     ⊛ at 48 51 number
     ⊛ at 52 52 (blank_or digits)
     ⊛ at 53 58 (name 6)
-    ⊛ at 59 60 (blank_or level)
-    ⊘ at 61 62 unused
+    ⊛ at 59 60 (blank_or control_field_level)
+    ⊛ at 61 62 (blank_or match_field_level)
     ⊘ blank 63 64
     ⊛ indicators 65 66 67 68 69 70
     ⊘ blank 71 74

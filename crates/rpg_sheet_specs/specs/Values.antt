@@ -198,10 +198,10 @@ indicator _ = None
 unfoldable pub indicator_within : ℕ → ℕ → List ℕ → Option ℕ
 indicator_within low high text = option_and_then (λ i. when (is_between low high i) i) (indicator text)
 
--- a level, L1 to L9
-unfoldable pub level : List ℕ → Option ℕ
-level (a ∷ b ∷ []) = when ((a == 76) && is_between 49 57 b) (digit_number b)
-level _ = None
+-- a level, from 1 to 9 behind its letter
+unfoldable pub level : ℕ → List ℕ → Option ℕ
+level letter (a ∷ b ∷ []) = when ((a == letter) && is_between 49 57 b) (digit_number b)
+level letter _ = None
 
 -- blank or N, and an indicator
 unfoldable pub condition : List ℕ → Option Condition

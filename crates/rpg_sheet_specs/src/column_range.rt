@@ -12,6 +12,7 @@ pub enum ColumnRange {
     // ---- F
     FileName,
     FileType,
+    EndsJob,
     RecordLength,
     Device,
 
@@ -37,6 +38,7 @@ pub enum ColumnRange {
     LastColumn,
     InputName,
     InputLevel,
+    InputMatch,
     InputPlus,
     InputMinus,
     InputZero,
@@ -88,6 +90,7 @@ impl ColumnRange {
         match self {
             ColumnRange::FileName | ColumnRange::TypeFile | ColumnRange::LineFile => range(7, 14),
             ColumnRange::FileType => range(15, 15),
+            ColumnRange::EndsJob => range(17, 17),
             ColumnRange::RecordLength => range(24, 27),
             ColumnRange::Device => range(40, 46),
             ColumnRange::TableName => range(27, 32),
@@ -106,6 +109,7 @@ impl ColumnRange {
             ColumnRange::LastColumn => range(48, 51),
             ColumnRange::InputName => range(53, 58),
             ColumnRange::InputLevel => range(59, 60),
+            ColumnRange::InputMatch => range(61, 62),
             ColumnRange::InputPlus => range(65, 66),
             ColumnRange::InputMinus => range(67, 68),
             ColumnRange::InputZero => range(69, 70),

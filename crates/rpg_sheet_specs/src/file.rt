@@ -8,6 +8,8 @@ use crate::word::Word;
 pub enum FileRole {
     /// Records are read from it.
     Primary,
+    /// Records are read from it beside those of the primary file.
+    Secondary,
     /// Lines are put out on it.
     Output,
 }

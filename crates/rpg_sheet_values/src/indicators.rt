@@ -51,13 +51,13 @@ pub fn indicator_within<const FIRST: u8, const LAST: u8>(text: &[u8]) -> Option<
     }
 }
 
-/// L1 to L9.
+/// A level, from 1 to 9 behind its letter.
 #[tactic(auto, unfolding(rpg_sheet_specs::specs::Values::level))]
-pub fn level(text: &[u8]) -> Option<Within<1, 9>>
-    ensures { result ≡ values.level text.now }
+pub fn level(letter: u8, text: &[u8]) -> Option<Within<1, 9>>
+    ensures { result ≡ values.level letter text.now }
 {
     match text {
-        [b'L', level @ b'1'..=b'9'] => Some(Within::new(*level - b'0')),
+        [first, level @ b'1'..=b'9'] if *first == letter => Some(Within::new(*level - b'0')),
         _ => None,
     }
 }

@@ -75,9 +75,10 @@ const OF_JOBS: [Answer; 3] = [
     }),
 ];
 
-const OF_FILES: [Answer; 6] = [
+const OF_FILES: [Answer; 7] = [
     Answer::Run(RunFault::BadDate),
     Answer::DiskFileWanted,
+    Answer::SecondaryFileWanted,
     Answer::File {
         word: FileWord::Input,
         fault: FileFault::Input(Reason::Missing),

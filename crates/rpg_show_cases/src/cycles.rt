@@ -1,9 +1,9 @@
 //! Jobs cycle by cycle, and past their end.
 
-use crate::runs::{Given, record_at};
+use crate::runs::{BothRecords, Given, record_at};
 use rpg_cli::Job;
 use rpg_cycle::{CycleEnd, Output, StartFault};
-use rpg_show_lines::{Outputs, records_of};
+use rpg_show_lines::Outputs;
 use rpg_store::Store;
 use rpg_verify::Verified;
 use std::alloc::{AllocError, Global};
@@ -40,10 +40,14 @@ impl Tale {
         self.say(words.as_str())
     }
 
-    /// Tells whether the job needs a record.
+    /// Tells whether the job needs a record, of either file.
     fn tell_need<S: Store + Drop>(&mut self, job: &Job<'_, S>) -> Result<(), AllocError> {
-        if job.needs_record() {
+        let need = job.needs();
+        if need.primary {
             self.say(", wants a record")?;
+        }
+        if need.secondary {
+            self.say(", wants a secondary record")?;
         }
         Ok(())
     }
@@ -83,14 +87,15 @@ impl Tale {
     }
 }
 
-/// Does a job's cycles: one for each record, one behind the last, and two more, with the last record and with none.
+/// Does a job's cycles: one for each primary record, one behind the last, and two more, with the last record and with none. The secondary
+/// records come along.
 fn tell_cycles<S: Store + Drop>(
     alloc: Global,
     tale: &mut Tale,
     job: &mut Job<'_, S>,
-    records: &[Vec<u8>],
+    records: &BothRecords,
 ) -> Result<(), AllocError> {
-    let count = records.len();
+    let count = records.primary.len();
     tale.say("starts")?;
     tale.tell_need(job)?;
     for turn in 0..count.saturating_add(3) {
@@ -99,7 +104,9 @@ fn tell_cycles<S: Store + Drop>(
         } else {
             turn
         };
-        match job.cycle(record_at(records, place)) {
+        let primary = record_at(&records.primary, place);
+        let secondary = record_at(&records.secondary, place);
+        match job.cycle(primary, secondary) {
             Ok(end) => tale.tell_cycle(alloc, job, end)?,
             Err(_) => tale.say("; no memory")?,
         }
@@ -114,7 +121,7 @@ fn tell_job(
     program: &Verified,
     given: Given<'_>,
 ) -> Result<(), AllocError> {
-    let records = records_of(alloc, given.input)?;
+    let records = BothRecords::of(alloc, given)?;
     match Job::start(alloc, program, given.date) {
         Err(StartFault::NoMemory) => tale.say("no memory"),
         Err(StartFault::BadDate) => tale.say("bad date"),

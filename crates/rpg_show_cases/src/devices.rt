@@ -9,12 +9,13 @@ use rpg_show_lines::{Devices, Outputs};
 use std::alloc::{AllocError, Global};
 use std::io::{self, Write};
 
-fn reader(devices: Devices, left: &[u8]) -> Interrupting<ShortReader<'_>> {
+/// A reader of pieces that fails once so many bytes were read.
+fn reader(devices: Devices, until_fault: usize, left: &[u8]) -> Interrupting<ShortReader<'_>> {
     Interrupting {
         device: ShortReader {
             left,
             most: devices.pieces,
-            until_fault: devices.input,
+            until_fault,
         },
         times: devices.reads,
         interrupted: 0,
@@ -102,10 +103,19 @@ pub fn run_over(
     given: Given<'_>,
     devices: Devices,
 ) -> Result<Outputs, AllocError> {
-    let mut input = Counted::new(reader(devices, given.input));
+    let mut input = Counted::new(reader(devices, devices.input, given.input));
+    let mut secondary = Counted::new(reader(devices, devices.secondary, given.secondary));
     let mut print = Counted::new(print_writer(alloc, devices));
     let mut disk = Counted::new(disk_writer(alloc, devices));
-    let told = execute(alloc, object, given.date, &mut input, &mut print, &mut disk);
+    let told = execute(
+        alloc,
+        object,
+        given.date,
+        &mut input,
+        &mut secondary,
+        &mut print,
+        &mut disk,
+    );
     Ok(Outputs {
         answer: line_told(alloc, told)?,
         print: taken(print),

@@ -8,11 +8,32 @@ use rpg_store::{ListedStore, Store, first_values_fit};
 use rpg_verify::{Verified, verify};
 use std::alloc::{AllocError, Global};
 
-/// What an object program runs on: the date, and the bytes of the input.
+/// What an object program runs on: the date, and the bytes of its inputs.
 #[derive(Clone, Copy)]
 pub struct Given<'a> {
     pub date: &'a [u8],
     pub input: &'a [u8],
+    pub secondary: &'a [u8],
+}
+
+/// The records of both inputs.
+#[derive(Drop)]
+pub struct BothRecords {
+    pub primary: Vec<Vec<u8>>,
+    pub secondary: Vec<Vec<u8>>,
+}
+
+impl BothRecords {
+    pub fn of(alloc: Global, given: Given<'_>) -> Result<BothRecords, AllocError> {
+        Ok(BothRecords {
+            primary: records_of(alloc, given.input)?,
+            secondary: records_of(alloc, given.secondary)?,
+        })
+    }
+
+    fn count(&self) -> usize {
+        self.primary.len().saturating_add(self.secondary.len())
+    }
 }
 
 /// What `execute` answered, and what it sent.
@@ -40,9 +61,18 @@ pub fn line_of(alloc: Global, answer: &Answer) -> Result<Vec<u8>, AllocError> {
 /// Runs an object over a reader and writers.
 pub fn run_streamed(alloc: Global, object: &[u8], given: Given<'_>) -> Streamed {
     let mut input = Counted::new(given.input);
+    let mut secondary = Counted::new(given.secondary);
     let mut print = Counted::new(Vec::new(alloc));
     let mut disk = Counted::new(Vec::new(alloc));
-    let told = execute(alloc, object, given.date, &mut input, &mut print, &mut disk);
+    let told = execute(
+        alloc,
+        object,
+        given.date,
+        &mut input,
+        &mut secondary,
+        &mut print,
+        &mut disk,
+    );
     Streamed {
         answer: match told {
             Ok(report) => Answer::from(report),
@@ -67,9 +97,9 @@ pub fn record_at(records: &[Vec<u8>], turn: usize) -> Option<&[u8]> {
     }
 }
 
-/// Runs an object in the two other ways over its input's records: nothing where it is refused.
+/// Runs an object in the two other ways over its inputs' records: nothing where it is refused.
 pub fn run_listed(alloc: Global, object: &[u8], given: Given<'_>) -> Result<Listed, AllocError> {
-    let records = records_of(alloc, given.input)?;
+    let records = BothRecords::of(alloc, given)?;
     match accepted(alloc, object) {
         None => Ok(Listed {
             records: None,
@@ -83,7 +113,7 @@ fn run_in_both(
     alloc: Global,
     program: &Verified,
     date: &[u8],
-    records: &[Vec<u8>],
+    records: &BothRecords,
 ) -> Result<Listed, AllocError> {
     Ok(Listed {
         records: run_listed_records(alloc, program, date, records)?,
@@ -91,14 +121,14 @@ fn run_in_both(
     })
 }
 
-/// Runs a program over a list of records: nothing on a date that is none.
+/// Runs a program over lists of records: nothing on a date that is none.
 fn run_listed_records(
     alloc: Global,
     program: &Verified,
     date: &[u8],
-    records: &[Vec<u8>],
+    records: &BothRecords,
 ) -> Result<Option<Outputs>, AllocError> {
-    match run_records(alloc, program, date, records) {
+    match run_records(alloc, program, date, &records.primary, &records.secondary) {
         Ok(run) => {
             let report = Report {
                 ending: run.ending,
@@ -131,7 +161,7 @@ fn run_listed_values(
     alloc: Global,
     program: &Verified,
     date: &[u8],
-    records: &[Vec<u8>],
+    records: &BothRecords,
 ) -> Result<Option<Outputs>, AllocError> {
     first_values_fit(program.program());
     let store = ListedStore::new(alloc, program.program())?;
@@ -157,12 +187,19 @@ fn run_out<S: Store + Drop>(
     alloc: Global,
     bound: u64,
     job: &mut Job<'_, S>,
-    records: &[Vec<u8>],
+    records: &BothRecords,
 ) -> Result<Option<Outputs>, AllocError> {
     let mut most = 0;
-    for turn in 0..=records.len() {
-        let end = job.cycle(record_at(records, turn))?;
+    let mut primary = 0usize;
+    let mut secondary = 0usize;
+    for turn in 0..=records.count() {
+        let need = job.needs();
+        let first = record_at(&records.primary, primary);
+        let second = record_at(&records.secondary, secondary);
+        let end = job.cycle(first, second)?;
         most = job.steps().max(most);
+        primary = primary.saturating_add(usize::from(need.primary));
+        secondary = secondary.saturating_add(usize::from(need.secondary));
         if let Some(ending) = ending_of(end)? {
             let report = Report {
                 ending,

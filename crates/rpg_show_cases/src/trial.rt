@@ -85,9 +85,11 @@ fn told_over_input(
     object: Vec<u8>,
 ) -> Result<Told, AllocError> {
     let input = text_of(alloc, case.input.as_slice())?;
+    let secondary = text_of(alloc, case.secondary.as_slice())?;
     let given = Given {
         date: case.date.as_bytes(),
         input: &input,
+        secondary: &secondary,
     };
     match (task, case.devices) {
         (Task::Sweep, _) => Ok(said(sweep(alloc, &object, given)?, object, alloc)),

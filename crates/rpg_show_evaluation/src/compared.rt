@@ -60,7 +60,8 @@ fn compare(alloc: Global, made: &Made) -> Result<Comparison, AllocError> {
         return Ok(Comparison::Unverified);
     };
     let course = evaluate(alloc, &cards, ALLOWANCE, &records);
-    let run = run_records(alloc, &program, b"010576", &records);
+    let none = Vec::new(alloc);
+    let run = run_records(alloc, &program, b"010576", &records, &none);
     let (Ok(course), Ok(run)) = (course, run) else {
         return Ok(Comparison::Different);
     };

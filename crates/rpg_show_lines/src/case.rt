@@ -43,6 +43,7 @@ enum Part {
     /// What stands for this card or for the bytes from this one on.
     Change(usize),
     Input,
+    Secondary,
     Print,
     Disk,
     /// Hex of the object that the source is compiled to.
@@ -78,6 +79,8 @@ pub struct Case<'a> {
     /// Whether the case has an input: a source that has none is only compiled.
     pub is_run: bool,
     pub input: Vec<&'a str>,
+    /// What a secondary file has; nothing where the case says nothing of it.
+    pub secondary: Vec<&'a str>,
     print: Vec<&'a str>,
     disk: Vec<&'a str>,
     /// What the devices of a run do, where it isn't all that they are asked.
@@ -102,6 +105,7 @@ impl<'a> Case<'a> {
             date: "010576",
             is_run: false,
             input: Vec::new(alloc),
+            secondary: Vec::new(alloc),
             print: Vec::new(alloc),
             disk: Vec::new(alloc),
             devices: None,
@@ -139,6 +143,7 @@ impl<'a> Case<'a> {
     pub fn end_run(&mut self) {
         self.is_run = false;
         self.input.clear();
+        self.secondary.clear();
         self.print.clear();
         self.disk.clear();
         self.compiled.clear();
@@ -161,6 +166,7 @@ impl<'a> Case<'a> {
                 self.part = Part::Change(at.saturating_add(1));
             }
             Part::Input => self.input.push(line)?,
+            Part::Secondary => self.secondary.push(line)?,
             Part::Print => self.print.push(line)?,
             Part::Disk => self.disk.push(line)?,
             Part::Compiled => self.compiled.push(line)?,
@@ -181,6 +187,7 @@ impl<'a> Case<'a> {
                 self.is_run = true;
                 self.begin_part(Part::Input);
             }
+            Mark::Secondary => self.begin_part(Part::Secondary),
             Mark::Device(said) => self.take_device(said),
             Mark::Print => self.begin_part(Part::Print),
             Mark::Disk => self.begin_part(Part::Disk),

@@ -5,8 +5,9 @@
 pub struct Devices {
     /// How many bytes they give or take at once, at most.
     pub pieces: usize,
-    /// How many bytes are read until the input fails, and how many are written until the print or the disk file fails.
+    /// How many bytes are read until an input fails, and how many are written until the print or the disk file fails.
     pub input: usize,
+    pub secondary: usize,
     pub print: usize,
     pub disk: usize,
     /// How often each read is interrupted, each write of the print, and each of the disk file.
@@ -24,6 +25,7 @@ impl Devices {
         Devices {
             pieces: usize::MAX,
             input: usize::MAX,
+            secondary: usize::MAX,
             print: usize::MAX,
             disk: usize::MAX,
             reads: 0,
@@ -42,6 +44,7 @@ impl Devices {
         match word {
             "pieces" => self.pieces = count,
             "input" => self.input = count,
+            "secondary" => self.secondary = count,
             "print" => self.print = count,
             "disk" => self.disk = count,
             "reads" => self.reads = number,

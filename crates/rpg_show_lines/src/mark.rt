@@ -19,8 +19,9 @@ pub enum Mark<'a> {
     Date(&'a str),
     /// `--- device WORDS`: what the reader and the writers do.
     Device(&'a str),
-    /// `--- input`, `--- print` and `--- disk`: text follows.
+    /// `--- input`, `--- secondary`, `--- print` and `--- disk`: text follows.
     Input,
+    Secondary,
     Print,
     Disk,
     /// `--- compiled`: the object's bytes in hex follow.
@@ -46,6 +47,7 @@ fn mark_with_text<'a>(word: &str, value: &'a str) -> Mark<'a> {
         "source" => Mark::Source,
         "object" => Mark::Object,
         "input" => Mark::Input,
+        "secondary" => Mark::Secondary,
         "print" => Mark::Print,
         "disk" => Mark::Disk,
         "compiled" => Mark::Compiled,

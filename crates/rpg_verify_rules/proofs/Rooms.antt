@@ -8,7 +8,7 @@ use Rattle.rpg_effect.specs.declared.line.Editing.TheVariants.{Plain, Code, Word
 use Rattle.rpg_effect.specs.declared.line.LineField.{LineField}
 use Rattle.rpg_object_program.specs.Constants.{word_at}
 use Rattle.rpg_object_program.specs.Object.{Object}
-use Rattle.rpg_verify_rules.specs.LineRules.{form_put_out, is_field_edited, is_field_there, is_field_worded, is_word_for, lacks_room, may_have_width, names_text}
+use Rattle.rpg_verify_rules.specs.LineRules.{form_put_out, has_width, is_field_edited, is_field_there, is_field_worded, is_word_for, lacks_room, may_have_width, names_text}
 
 -- a word that fits is a text constant
 worded_text : (p : Object) (digits : ℕ) (editing : Editing ℕ) → is_word_for p digits editing ≡ true → names_text p editing ≡ true
@@ -37,3 +37,12 @@ pub lacking : (p : Object) (len : ℕ) (f : LineField ℕ) (worded : Bool) → m
 lacking p len f worded may none is =
     is ∙ sym (ap (λ b. not b && is_field_worded p f) none)
     ∙ sym (ap (λ b. b && (not (has_room (form_at p.fields) (word_at p) len f) && is_field_worded p f)) may) ∙ lacks_later p len f
+
+width_parts : (there edited worded text : Bool) → (worded ≡ true → text ≡ true) → (there && (edited && worded)) ≡ true → (there && (edited && text)) ≡ true
+width_parts true true worded text h w = h w
+width_parts true false worded text h w = w
+width_parts false edited worded text h w = w
+
+-- a field that has a width: it can be told
+pub width_told : (p : Object) (f : LineField ℕ) → has_width p f ≡ true → may_have_width p f ≡ true
+width_told p f h = width_parts (is_field_there p f) (is_field_edited p f) (is_field_worded p f) (names_text p f.editing) (worded_text p (length_of (form_put_out p f)) f.editing) h

@@ -9,7 +9,8 @@ use Rattle.rpg_effect.proofs.Rules.{right_field, right_row}
 use Rattle.rpg_effect.specs.Ends.{Fault, Storage}
 use Rattle.rpg_effect.specs.Forms.{form_at, kind_of, length_of}
 use Rattle.rpg_effect.specs.Input.{TypeRow, fits_shows, input_fault}
-use Rattle.rpg_effect.specs.LineFaults.{blanks_writable, field_fault, fits_editing, is_spacing, line_fault}
+use Rattle.rpg_effect.specs.LineFaults.{field_fault, fits_editing, is_spacing, line_fault}
+use Rattle.rpg_effect.specs.Rows.{all_used, is_writable_use}
 use Rattle.rpg_effect.specs.declared.form.FieldForm.{FieldForm}
 use Rattle.rpg_effect.specs.declared.input.InputField.{InputField}
 use Rattle.rpg_effect.specs.declared.line.Editing.{Editing}
@@ -26,12 +27,13 @@ use Rattle.rpg_object_program.specs.Sections.{body_of, first_place, has_subrouti
 use Rattle.rpg_object_program.specs.declared.section.Place.{Place}
 use Rattle.rpg_object_program.specs.declared.section.Section.{Section}
 use Rattle.rpg_object_program.specs.declared.section.Section.TheVariants.{Detail, Total, Subroutine}
+use Rattle.rpg_verify_rules.proofs.Columns.{columns_same, kinds_same, written_same}
 use Rattle.rpg_verify_rules.proofs.Kept.{body_kept, line_kept, no_stray, place_kept, type_kept}
 use Rattle.rpg_verify_rules.specs.Accepted.{IsAccepted}
-use Rattle.rpg_verify_rules.specs.LineRules.{edits_form, has_width, is_field_edited, is_field_there, is_field_worded, is_spaced_on, is_unspaced, is_word_for, lacks_room, lacks_word, line_breaks}
-use Rattle.rpg_verify_rules.specs.PlaceRules.{ends_in_return, is_own, is_return, place_breaks}
+use Rattle.rpg_verify_rules.specs.LineRules.{blanks_wrongly, edits_form, fits_line, has_width, is_field_edited, is_field_there, is_field_worded, is_spaced_on, is_unspaced, is_word_for, lacks_editing, lacks_room, lacks_word, line_breaks}
+use Rattle.rpg_verify_rules.specs.PlaceRules.{ends_in_return, holds_found, is_own, is_return, is_searched_well, place_breaks}
 use Rattle.rpg_verify_rules.specs.Sound.{IsAt, IsSound, IsSoundInstruction, IsSoundLine, IsSoundType, LeadsWell}
-use Rattle.rpg_verify_rules.specs.TypeRules.{is_code_in, is_control_in, is_input_in, is_input_shown, type_breaks}
+use Rattle.rpg_verify_rules.specs.TypeRules.{is_code_in, is_control_in, is_input_in, is_input_shown, shows_wrongly, type_breaks}
 use Rattle.rpg_verify_rules.specs.declared.rule.LineRule.{LineRule}
 use Rattle.rpg_verify_rules.specs.declared.rule.LineRule.TheVariants.{V2, V8, V10, V11, V12, V13, V14}
 use Rattle.rpg_verify_rules.specs.declared.rule.PlaceRule.{PlaceRule}
@@ -99,15 +101,20 @@ leads_well p h s k (Return n) at g = return_well p h s k n at
 instruction_sound : (p : Object) (s : Section) (i : Instruction ℕ) → ((r : PlaceRule) → place_breaks r p s i ≡ false) → LeadsWell p s i → IsSoundInstruction p s i
 unfolding place_breaks
 instruction_sound p s i g c =
+    let good = not-false _ (g V16) in
+    let kinds = sym (kinds_same p i good) ∙ not-false _ (g V17) in
+    let same = columns_same p i good kinds in
+    let written = ap (λ r. all_used (is_writable_use (form_at p.fields)) r.result) (sym same) ∙ not-false _ (g V18) in
     let marked = and_parts _ _ (not-false _ (g V19)) in
     let sought = and_parts _ _ marked.1 in
-    let found = and_parts _ _ (not-false _ (g V20)) in
+    let searched = and_parts _ _ (ap (is_searched_well p) (sym same) ∙ sought.1) in
+    let found = and_parts _ _ (ap (holds_found p) (sym (written_same p i good kinds written)) ∙ not-false _ (g V20)) in
     record {
       operands = right_row (form_at p.fields) _ (record {
-        good = not-false _ (g V16);
-        kinds = not-false _ (g V17);
-        result = not-false _ (g V18);
-        one_sided = not-true _ (and_parts _ _ sought.1).0;
+        good = good;
+        kinds = kinds;
+        result = written;
+        one_sided = not-true _ searched.0;
         tables = found.0;
         positions = found.1;
       });
@@ -167,19 +174,30 @@ editing_fits p form editings.Plain fill h g = h
 editing_fits p form (editings.Code code) fill h g = h
 editing_fits p form (editings.Word k) fill h g = and_from _ _ h g
 
-field_sound : (p : Object) (len : ℕ) (f : LineField ℕ) → is_field_there p f ≡ true → is_field_edited p f ≡ true → lacks_word p f ≡ false → lacks_room p len f ≡ false → blanks_writable (form_at p.fields) (word_at p) f ≡ true →
+-- what is refused only where something else holds
+unless_refused : (a b : Bool) → a ≡ true → (not b && a) ≡ false → b ≡ true
+unless_refused a true h g = refl
+unless_refused a false h g = absurd (true≢false (sym h ∙ g))
+
+field_sound : (p : Object) (len : ℕ) (f : LineField ℕ) → is_field_there p f ≡ true → lacks_editing p f ≡ false → lacks_word p f ≡ false → lacks_room p len f ≡ false → blanks_wrongly p len f ≡ false →
     field_fault (form_at p.fields) (word_at p) len f ≡ None
-field_sound p len f there edited word room blanked =
-    let worded : is_field_worded p f ≡ true = then_holds (is_field_edited p f) _ edited word in
+field_sound p len f there editing word room blanked =
+    let edited : is_field_edited p f ≡ true = then_holds (is_field_there p f) _ there editing in
+    let worded : is_field_worded p f ≡ true = then_holds (is_field_there p f && is_field_edited p f) _ (and_from _ _ there edited) (and_turned (is_field_there p f) (is_field_edited p f) _ ∙ word) in
     let wide : has_width p f ≡ true = and_from _ _ there (and_from _ _ edited worded) in
+    let roomy = then_holds (has_width p f) _ wide room in
     let operand = and_parts _ _ there in
     right_field (form_at p.fields) (word_at p) len f (record {
       operand = operand.0;
       source = operand.1;
       editing = editing_fits p (form_at p.fields f.operand.field) f.editing f.fill edited worded;
-      room = then_holds (has_width p f) _ wide room;
-      blanked = blanked;
+      room = roomy;
+      blanked = unless_refused (fits_line p len f) _ (and_from _ _ wide roomy) blanked;
     })
+  where
+    and_turned : (a b c : Bool) → ((a && b) && c) ≡ (a && (b && c))
+    and_turned true b c = refl
+    and_turned false b c = refl
 
 line_sound : (p : Object) (l : LineRow) → ((r : LineRule) → line_breaks r p l ≡ false) → IsSoundLine p l
 unfolding line_breaks
@@ -190,10 +208,10 @@ line_sound p l g =
       spacing = spaced;
       fields = all_by (λ f. field_fault (form_at p.fields) (word_at p) (file_length p l.file) f ≡ None) l.fields (λ k f e. field_sound p (file_length p l.file) f
           (all_at (is_field_there p) l.fields (not-false _ (g V10)) k f e)
-          (all_at (is_field_edited p) l.fields (not-false _ (g V11)) k f e)
+          (none_at (lacks_editing p) l.fields (g V11) k f e)
           (none_at (lacks_word p) l.fields (g V12) k f e)
           (none_at (lacks_room p (file_length p l.file)) l.fields (g V13) k f e)
-          (all_at (blanks_writable (form_at p.fields) (word_at p)) l.fields (not-false _ (g V14)) k f e));
+          (none_at (blanks_wrongly p (file_length p l.file)) l.fields (g V14) k f e));
     }
 
 -- ---- record types
@@ -213,14 +231,15 @@ type_sound p t g =
     let len = input_length p t.file in
     let fields = and_parts _ _ (not-false _ (g V5)) in
     let matched = and_parts _ _ (not-false _ (g V26)) in
-    let shown_at = all_at (is_input_shown p) t.inputs (not-false _ (g V7)) in
+    let in_at = all_at (is_input_in p len) t.inputs (not-false _ (g V6)) in
+    let shown_at = λ (k : ℕ) (f : InputField ℕ) (e : slice_get t.inputs k ≡ Some f). unless_refused (is_input_in p len f) _ (in_at k f e) (none_at (shows_wrongly p len) t.inputs (g V7) k f e) in
     record {
       indicator = not-false _ (g V4);
       codes = all_by (λ c. is_code_in len c ≡ true) t.codes (all_at (is_code_in len) t.codes (not-false _ (g V3)));
       levels = all_by (λ c. is_control_in len c ≡ true) t.levels (all_at (is_control_in len) t.levels fields.0);
       joined = fields.1;
       inputs = all_by (λ f. input_fault (form_at p.fields) len f ≡ None) t.inputs
-          (λ k f e. no_input_fault p len f (all_at (is_input_in p len) t.inputs (not-false _ (g V6)) k f e) (and_parts _ _ (shown_at k f e)).1);
+          (λ k f e. no_input_fault p len f (in_at k f e) (and_parts _ _ (shown_at k f e)).1);
       shown = all_by (λ f. is_input_shown p f ≡ true) t.inputs shown_at;
       file = not-false _ (g V25);
       matches = all_by (λ c. is_control_in len c ≡ true) t.matches (all_at (is_control_in len) t.matches matched.0);

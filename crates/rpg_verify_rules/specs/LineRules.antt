@@ -56,9 +56,13 @@ is_word_for p digits (Word k) = is_text_constant (form_at p.fields k) && fits_wo
 abbrev pub is_field_worded : Object → LineField ℕ → Bool
 is_field_worded p f = is_word_for p (length_of (form_put_out p f)) f.editing
 
--- it is edited as numbers are, by a word that it can't have
+-- there is such a field, and it can't be edited so
+abbrev pub lacks_editing : Object → LineField ℕ → Bool
+lacks_editing p f = is_field_there p f && not (is_field_edited p f)
+
+-- there is such a field and it is edited as numbers are, by a word that it can't have
 abbrev pub lacks_word : Object → LineField ℕ → Bool
-lacks_word p f = is_field_edited p f && not (is_field_worded p f)
+lacks_word p f = is_field_there p f && (is_field_edited p f && not (is_field_worded p f))
 
 -- there is such a field and it is edited well, so it has a width
 abbrev pub has_width : Object → LineField ℕ → Bool
@@ -78,18 +82,30 @@ may_have_width p f = is_field_there p f && (is_field_edited p f && names_text p 
 abbrev pub lacks_room : Object → ℕ → LineField ℕ → Bool
 lacks_room p len f = has_width p f && not (has_room (form_at p.fields) (word_at p) len f)
 
+-- it has a width, and begins and ends inside the line: V10 to V13 allow it
+abbrev pub fits_line : Object → ℕ → LineField ℕ → Bool
+fits_line p len f = has_width p f && has_room (form_at p.fields) (word_at p) len f
+
+-- it fits, and is blanked though it may not be written
+abbrev pub blanks_wrongly : Object → ℕ → LineField ℕ → Bool
+blanks_wrongly p len f = not (blanks_writable (form_at p.fields) (word_at p) f) && fits_line p len f
+
 abbrev pub is_field_asked : Version → LineField ℕ → Bool
 is_field_asked v f = all_asked v f.conditions
 
--- ---- whether a line breaks a rule
+-- it fits and is blanked as it may be, and asks what it may not
+abbrev pub asks_wrongly : Object → ℕ → LineField ℕ → Bool
+asks_wrongly p len f = not (is_field_asked p.version f) && (blanks_writable (form_at p.fields) (word_at p) f && fits_line p len f)
+
+-- ---- whether a line breaks a rule; of a field each of V10 to V15 is silent where a smaller one refuses it
 
 unfoldable pub line_breaks : LineRule → Object → LineRow → Bool
 line_breaks V2 p l = file_length p l.file == 0
 line_breaks V8 p l = not (is_spaced_on l.file l.spacing)
 line_breaks V9 p l = not (list_all (list_all (may_be_asked p.version)) l.alternatives)
 line_breaks V10 p l = not (list_all (is_field_there p) l.fields)
-line_breaks V11 p l = not (list_all (is_field_edited p) l.fields)
+line_breaks V11 p l = list_any (lacks_editing p) l.fields
 line_breaks V12 p l = list_any (lacks_word p) l.fields
 line_breaks V13 p l = list_any (lacks_room p (file_length p l.file)) l.fields
-line_breaks V14 p l = not (list_all (blanks_writable (form_at p.fields) (word_at p)) l.fields)
-line_breaks V15 p l = not (list_all (is_field_asked p.version) l.fields)
+line_breaks V14 p l = list_any (blanks_wrongly p (file_length p l.file)) l.fields
+line_breaks V15 p l = list_any (asks_wrongly p (file_length p l.file)) l.fields

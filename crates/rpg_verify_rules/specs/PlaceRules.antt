@@ -1,12 +1,13 @@
 -- The rules of instructions, and of the subroutines that they stand in.
-use Rattle.std.specs.Prelude.{ℕ, ◌+◌, ◌-◌, Bool, true, false, not, ◌&&◌, ◌||◌, ◌==◌, nat_lt, List, [], ◌∷◌, ◌++◌, map, length, Option, None, Some, is_some, slice_get}
+use Rattle.std.specs.Prelude.{ℕ, ◌+◌, ◌-◌, Bool, true, false, not, ◌&&◌, ◌||◌, ◌==◌, nat_lt, List, [], ◌∷◌, ◌++◌, map, length, Option, None, Some, is_some, slice_get, if◌then◌else◌}
 use Rattle.std.specs.List.{list_all, list_any}
 use Rattle.rpg_effect.specs.Control.{has_conditions}
 use Rattle.rpg_effect.specs.Forms.{form_at}
 use Rattle.rpg_effect.specs.Rows.{all_of, all_used, has_kind, holds_positions, is_current_table, is_good_operand, is_two_sided, is_writable_use}
 use Rattle.rpg_effect.specs.declared.form.FieldForm.{FieldForm}
+use Rattle.rpg_effect.specs.declared.operation.Action.TheVariants.{Compare, LookUp}
 use Rattle.rpg_effect.specs.declared.operation.Instruction.{Instruction}
-use Rattle.rpg_effect.specs.declared.operation.Instruction.TheVariants.{Branch, Call, Return}
+use Rattle.rpg_effect.specs.declared.operation.Instruction.TheVariants.{Act, Branch, Call, Return}
 use Rattle.rpg_effect.specs.declared.operation.Operand.{Operand}
 use Rattle.rpg_effect.specs.declared.row.Marks.{Marks}
 use Rattle.rpg_effect.specs.declared.row.Marks.TheVariants.{Unmarked, Shown, Wanted, Sought}
@@ -40,14 +41,13 @@ abbrev pub is_form_ascending : Option FieldForm → Bool
 is_form_ascending None = false
 is_form_ascending (Some d) = d.is_ascending
 
--- what stands in a column is in ascending sequence
-abbrev pub is_ascending : Object → Option (Use (Operand ℕ)) → Bool
-is_ascending p None = false
-is_ascending p (Some u) = is_form_ascending (form_at p.fields u.operand.field)
+-- what an operand names is in ascending sequence
+abbrev pub is_ascending : Object → Use (Operand ℕ) → Bool
+is_ascending p u = is_form_ascending (form_at p.fields u.operand.field)
 
 -- a search is for equal ones, or in one direction through what is in ascending sequence
 abbrev pub is_searched_well : Object → Row (Operand ℕ) → Bool
-is_searched_well p r = not (is_two_sided r.marks) && (not (is_ordered r.marks) || is_ascending p r.factor2)
+is_searched_well p r = not (is_two_sided r.marks) && (not (is_ordered r.marks) || all_used (is_ascending p) r.factor2)
 
 -- conditions that may be asked, for SKIP at least one
 abbrev pub are_asked : Version → Instruction ℕ → Bool
@@ -66,14 +66,53 @@ abbrev pub calls_higher : Object → Section → Instruction ℕ → Bool
 calls_higher p s (Call n) = nat_lt (level_of p s) (level_of p (Subroutine n))
 calls_higher p s i = true
 
--- ---- whether an instruction of a section breaks a rule
+-- ---- operands that no smaller rule refuses
+
+-- what stands in a column, where it passes
+abbrev pub passing : {O : Type 0} → (Use O → Bool) → Option (Use O) → Option (Use O)
+passing test None = None
+passing test (Some u) = if test u then Some u else None
+
+-- a row with the operands that pass alone
+abbrev pub those_passing : {O : Type 0} → (Use O → Bool) → Row O → Row O
+those_passing test r = record { factor1 = passing test r.factor1; factor2 = passing test r.factor2; result = passing test r.result; marks = r.marks }
+
+-- COMP and LOKUP want factor 2 of the kind of factor 1
+abbrev pub compares : Instruction ℕ → Bool
+compares (Act (Compare a b s)) = true
+compares (Act (LookUp a b r s)) = true
+compares i = false
+
+-- the kinds that are wanted are known: where factors are compared, factor 1 is good
+abbrev pub knows_kinds : Object → Instruction ℕ → Bool
+knows_kinds p i = not (compares i) || all_used (is_good_operand (form_at p.fields)) (columns p i).factor1
+
+abbrev pub has_known_kind : Object → Instruction ℕ → Use (Operand ℕ) → Bool
+has_known_kind p i u = not (knows_kinds p i) || has_kind (form_at p.fields) u
+
+-- the operands that V16 allows; of these, those that V17 allows; of these, with the result only where V18 allows it
+abbrev pub good_columns : Object → Instruction ℕ → Row (Operand ℕ)
+good_columns p i = those_passing (is_good_operand (form_at p.fields)) (columns p i)
+
+abbrev pub columns_of_kind : Object → Instruction ℕ → Row (Operand ℕ)
+columns_of_kind p i = those_passing (has_known_kind p i) (good_columns p i)
+
+abbrev pub written_columns : Object → Instruction ℕ → Row (Operand ℕ)
+written_columns p i =
+    record { factor1 = (columns_of_kind p i).factor1; factor2 = (columns_of_kind p i).factor2; result = passing (is_writable_use (form_at p.fields)) (columns_of_kind p i).result; marks = (columns_of_kind p i).marks }
+
+-- what becomes current is a table, and what a search may find fits its index field and the table
+abbrev pub holds_found : Object → Row (Operand ℕ) → Bool
+holds_found p r = all_of (is_current_table (form_at p.fields)) r && holds_positions (form_at p.fields) r
+
+-- ---- whether an instruction of a section breaks a rule; V17 to V20 are silent on an operand that a smaller rule refuses
 
 unfoldable pub place_breaks : PlaceRule → Object → Section → Instruction ℕ → Bool
 place_breaks V16 p s i = not (all_of (is_good_operand (form_at p.fields)) (columns p i))
-place_breaks V17 p s i = not (all_of (has_kind (form_at p.fields)) (columns p i))
-place_breaks V18 p s i = not (all_used (is_writable_use (form_at p.fields)) (columns p i).result)
-place_breaks V19 p s i = not (are_asked p.version i && (are_marked (columns p i).marks && is_searched_well p (columns p i)))
-place_breaks V20 p s i = not (all_of (is_current_table (form_at p.fields)) (columns p i) && holds_positions (form_at p.fields) (columns p i))
+place_breaks V17 p s i = not (all_of (has_known_kind p i) (good_columns p i))
+place_breaks V18 p s i = not (all_used (is_writable_use (form_at p.fields)) (columns_of_kind p i).result)
+place_breaks V19 p s i = not (are_asked p.version i && (are_marked (columns p i).marks && is_searched_well p (columns_of_kind p i)))
+place_breaks V20 p s i = not (holds_found p (written_columns p i))
 place_breaks V21 p s i = not (stays_inside p s i)
 place_breaks V22 p s i = not (calls_higher p s i)
 

@@ -65,6 +65,10 @@ is_input_in p len f = fits_columns len f (form_at p.fields f.field)
 abbrev pub is_input_shown : Object → InputField ℕ → Bool
 is_input_shown p f = are_settable f.shows && fits_shows (kind_of (form_at p.fields f.field)) f.shows
 
+-- its columns are such, and its indicators may not be shown: V7 is silent where V6 refuses it
+abbrev pub shows_wrongly : Object → ℕ → InputField ℕ → Bool
+shows_wrongly p len f = not (is_input_shown p f) && is_input_in p len f
+
 -- ---- match fields
 
 -- the joined lengths of levels 1 to 9
@@ -101,6 +105,6 @@ type_breaks V3 p t = not (list_all (is_code_in (input_length p t.file)) t.codes)
 type_breaks V4 p t = not (if_any is_of_type t.indicator)
 type_breaks V5 p t = not (list_all (is_control_in (input_length p t.file)) t.levels && all_measured 1 (measures p.types) t.levels)
 type_breaks V6 p t = not (list_all (is_input_in p (input_length p t.file)) t.inputs)
-type_breaks V7 p t = not (list_all (is_input_shown p) t.inputs)
+type_breaks V7 p t = list_any (shows_wrongly p (input_length p t.file)) t.inputs
 type_breaks V25 p t = not (has_file p t.file)
 type_breaks V26 p t = not (are_matches (input_length p t.file) (joined_widths (first_matches p.types)) t.matches)

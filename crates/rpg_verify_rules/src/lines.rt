@@ -57,11 +57,11 @@ fn breaks(rule: LineRule, rows: &Rows, line: &Line) -> bool
         LineRule::V8 => !is_spaced_on(line.file, line.spacing),
         LineRule::V9 => !are_alternatives_asked(rows.version, &line.alternatives),
         LineRule::V10 => !are_fields_there(rows, &line.fields),
-        LineRule::V11 => !are_fields_edited(rows, &line.fields),
+        LineRule::V11 => lack_editing(rows, &line.fields),
         LineRule::V12 => lack_words(rows, &line.fields),
         LineRule::V13 => lack_room(rows, file_length(rows, line.file), &line.fields),
-        LineRule::V14 => !are_blanked_writable(rows, &line.fields),
-        LineRule::V15 => !are_fields_asked(rows.version, &line.fields),
+        LineRule::V14 => blank_wrongly(rows, file_length(rows, line.file), &line.fields),
+        LineRule::V15 => ask_wrongly(rows, file_length(rows, line.file), &line.fields),
     }
 }
 
@@ -138,18 +138,6 @@ fn is_blanked_writable(rows: &Rows, field: &LineField<u16>) -> bool
     !field.is_blanked || may_write(form_at(rows, field.operand.field))
 }
 
-fn are_blanked_writable(rows: &Rows, fields: &[LineField<u16>]) -> bool
-    ensures { result ≡ list_all (faults.blanks_writable (forms.form_at rows.now.fields.items) (word_at (seen rows.now))) fields.now }
-{
-    fields.iter().all(|f| is_blanked_writable(rows, f))
-}
-
-fn are_fields_asked(version: Version, fields: &[LineField<u16>]) -> bool
-    ensures { result ≡ list_all (words.is_field_asked version) fields.now }
-{
-    fields.iter().all(|f| all_asked(version, f.conditions))
-}
-
 // ---- editing
 
 fn is_blank_fill(fill: Fill) -> bool
@@ -194,10 +182,16 @@ fn is_field_edited(rows: &Rows, field: &LineField<u16>) -> bool
     )
 }
 
-fn are_fields_edited(rows: &Rows, fields: &[LineField<u16>]) -> bool
-    ensures { result ≡ list_all (words.is_field_edited (seen rows.now)) fields.now }
+fn lacks_editing(rows: &Rows, field: &LineField<u16>) -> bool
+    ensures { result ≡ words.lacks_editing (seen rows.now) field.now }
 {
-    fields.iter().all(|f| is_field_edited(rows, f))
+    is_field_there(rows, field) && !is_field_edited(rows, field)
+}
+
+fn lack_editing(rows: &Rows, fields: &[LineField<u16>]) -> bool
+    ensures { result ≡ list_any (words.lacks_editing (seen rows.now)) fields.now }
+{
+    fields.iter().any(|f| lacks_editing(rows, f))
 }
 
 // ---- edit words
@@ -227,7 +221,7 @@ fn lacks_word(rows: &Rows, field: &LineField<u16>) -> bool
     requires { IsProgram (seen rows.now) }
     ensures { result ≡ words.lacks_word (seen rows.now) field.now }
 {
-    is_field_edited(rows, field) && !is_field_worded(rows, field)
+    is_field_there(rows, field) && (is_field_edited(rows, field) && !is_field_worded(rows, field))
 }
 
 fn lack_words(rows: &Rows, fields: &[LineField<u16>]) -> bool
@@ -312,4 +306,50 @@ fn lack_room(rows: &Rows, length: u16, fields: &[LineField<u16>]) -> bool
     ensures { result ≡ list_any (words.lacks_room (seen rows.now) length) fields.now }
 {
     fields.iter().any(|f| lacks_room(rows, length, f))
+}
+
+// ---- what is asked of fields that fit
+
+fn has_width(rows: &Rows, field: &LineField<u16>) -> bool
+    requires { IsProgram (seen rows.now) }
+    ensures { result ≡ words.has_width (seen rows.now) field.now }
+{
+    is_field_there(rows, field) && (is_field_edited(rows, field) && is_field_worded(rows, field))
+}
+
+/// Whether V10 to V13 allow a field of a line of that length.
+fn fits_line(rows: &Rows, length: u16, field: &LineField<u16>) -> bool
+    requires { IsProgram (seen rows.now) }
+    ensures { result ≡ words.fits_line (seen rows.now) length field.now }
+{
+    has_width(rows, field) && has_room(rows, length, field)
+}
+
+fn blanks_wrongly(rows: &Rows, length: u16, field: &LineField<u16>) -> bool
+    requires { IsProgram (seen rows.now) }
+    ensures { result ≡ words.blanks_wrongly (seen rows.now) length field.now }
+{
+    !is_blanked_writable(rows, field) && fits_line(rows, length, field)
+}
+
+fn blank_wrongly(rows: &Rows, length: u16, fields: &[LineField<u16>]) -> bool
+    requires { IsProgram (seen rows.now) }
+    ensures { result ≡ list_any (words.blanks_wrongly (seen rows.now) length) fields.now }
+{
+    fields.iter().any(|f| blanks_wrongly(rows, length, f))
+}
+
+fn asks_wrongly(rows: &Rows, length: u16, field: &LineField<u16>) -> bool
+    requires { IsProgram (seen rows.now) }
+    ensures { result ≡ words.asks_wrongly (seen rows.now) length field.now }
+{
+    !all_asked(rows.version, field.conditions)
+        && (is_blanked_writable(rows, field) && fits_line(rows, length, field))
+}
+
+fn ask_wrongly(rows: &Rows, length: u16, fields: &[LineField<u16>]) -> bool
+    requires { IsProgram (seen rows.now) }
+    ensures { result ≡ list_any (words.asks_wrongly (seen rows.now) length) fields.now }
+{
+    fields.iter().any(|f| asks_wrongly(rows, length, f))
 }

@@ -17,7 +17,7 @@ ghost use Rattle.rpg_verify_rules.specs.declared.rule.Rule.TheVariants as rule_n
 use crate::indicators::{all_asked, are_settable, has_shows};
 use crate::rule::PlaceRule;
 use rpg_effect::condition::Conditions;
-use rpg_effect::operation::{Instruction, Operand};
+use rpg_effect::operation::{Action, Instruction, Operand};
 use rpg_effect::row::{Marks, Row, Use};
 use rpg_object_program::columns::{
     columns_of, has_kind, holds_positions, is_current_table, is_good, is_writable_use,
@@ -133,13 +133,14 @@ fn breaks(rule: PlaceRule, rows: &Rows, span: Span, instruction: Instruction<u16
     let row = columns_of(rows, instruction);
     match rule {
         PlaceRule::V16 => !are_all_good(rows, row),
-        PlaceRule::V17 => !have_kinds(rows, row),
-        PlaceRule::V18 => !is_writable_if_any(rows, row.result),
+        PlaceRule::V17 => !have_kinds(rows, instruction, good_columns(rows, row)),
+        PlaceRule::V18 => !is_writable_if_any(rows, columns_of_kind(rows, instruction).result),
         PlaceRule::V19 => {
             !(are_asked(rows.version, instruction)
-                && (are_marked(row.marks) && is_searched_well(rows, row)))
+                && (are_marked(row.marks)
+                    && is_searched_well(rows, columns_of_kind(rows, instruction))))
         }
-        PlaceRule::V20 => !(are_current_tables(rows, row) && holds_positions(rows, row)),
+        PlaceRule::V20 => !holds_found(rows, written_columns(rows, instruction)),
         PlaceRule::V21 => !stays_inside(rows, span, instruction),
         PlaceRule::V22 => !calls_higher(rows, span, instruction),
     }
@@ -163,20 +164,51 @@ fn are_all_good(rows: &Rows, row: Row<Operand<u16>>) -> bool
         && (is_good_if_any(rows, row.factor2) && is_good_if_any(rows, row.result))
 }
 
-fn has_kind_if_any(rows: &Rows, used: Option<Use<Operand<u16>>>) -> bool
-    ensures { result ≡ rows_words.all_used (rows_words.has_kind (forms.form_at rows.now.fields.items)) used }
+/// Whether factor 2 is to be of the kind of factor 1.
+fn compares(instruction: Instruction<u16>) -> bool
+    ensures { result ≡ words.compares instruction }
 {
-    match used {
-        None => true,
-        Some(used) => has_kind(rows, used),
+    match instruction {
+        Instruction::Act(Action::Compare { .. } | Action::LookUp { .. }) => true,
+        Instruction::Act(_)
+        | Instruction::Except
+        | Instruction::Branch { .. }
+        | Instruction::Call { .. }
+        | Instruction::Return { .. } => false,
     }
 }
 
-fn have_kinds(rows: &Rows, row: Row<Operand<u16>>) -> bool
-    ensures { result ≡ rows_words.all_of (rows_words.has_kind (forms.form_at rows.now.fields.items)) row }
+fn knows_kinds(rows: &Rows, instruction: Instruction<u16>) -> bool
+    ensures { result ≡ words.knows_kinds (seen rows.now) instruction }
 {
-    has_kind_if_any(rows, row.factor1)
-        && (has_kind_if_any(rows, row.factor2) && has_kind_if_any(rows, row.result))
+    !compares(instruction) || is_good_if_any(rows, columns_of(rows, instruction).factor1)
+}
+
+fn has_known_kind(rows: &Rows, instruction: Instruction<u16>, used: Use<Operand<u16>>) -> bool
+    ensures { result ≡ words.has_known_kind (seen rows.now) instruction used }
+{
+    !knows_kinds(rows, instruction) || has_kind(rows, used)
+}
+
+fn has_kind_if_any(
+    rows: &Rows,
+    instruction: Instruction<u16>,
+    used: Option<Use<Operand<u16>>>,
+) -> bool
+    ensures { result ≡ rows_words.all_used (words.has_known_kind (seen rows.now) instruction) used }
+{
+    match used {
+        None => true,
+        Some(used) => has_known_kind(rows, instruction, used),
+    }
+}
+
+fn have_kinds(rows: &Rows, instruction: Instruction<u16>, row: Row<Operand<u16>>) -> bool
+    ensures { result ≡ rows_words.all_of (words.has_known_kind (seen rows.now) instruction) row }
+{
+    has_kind_if_any(rows, instruction, row.factor1)
+        && (has_kind_if_any(rows, instruction, row.factor2)
+            && has_kind_if_any(rows, instruction, row.result))
 }
 
 fn is_writable_if_any(rows: &Rows, used: Option<Use<Operand<u16>>>) -> bool
@@ -202,6 +234,101 @@ fn are_current_tables(rows: &Rows, row: Row<Operand<u16>>) -> bool
 {
     is_current_if_any(rows, row.factor1)
         && (is_current_if_any(rows, row.factor2) && is_current_if_any(rows, row.result))
+}
+
+fn holds_found(rows: &Rows, row: Row<Operand<u16>>) -> bool
+    ensures { result ≡ words.holds_found (seen rows.now) row }
+{
+    are_current_tables(rows, row) && holds_positions(rows, row)
+}
+
+// ---- operands that no smaller rule refuses
+
+fn good_or_none(rows: &Rows, used: Option<Use<Operand<u16>>>) -> Option<Use<Operand<u16>>>
+    ensures { result ≡ words.passing (rows_words.is_good_operand (forms.form_at rows.now.fields.items)) used }
+{
+    match used {
+        None => None,
+        Some(used) => {
+            if is_good(rows, used) {
+                Some(used)
+            } else {
+                None
+            }
+        }
+    }
+}
+
+/// The operands that V16 allows.
+fn good_columns(rows: &Rows, row: Row<Operand<u16>>) -> Row<Operand<u16>>
+    ensures { result ≡ words.those_passing (rows_words.is_good_operand (forms.form_at rows.now.fields.items)) row }
+{
+    Row {
+        factor1: good_or_none(rows, row.factor1),
+        factor2: good_or_none(rows, row.factor2),
+        result: good_or_none(rows, row.result),
+        marks: row.marks,
+    }
+}
+
+fn of_kind_or_none(
+    rows: &Rows,
+    instruction: Instruction<u16>,
+    used: Option<Use<Operand<u16>>>,
+) -> Option<Use<Operand<u16>>>
+    ensures { result ≡ words.passing (words.has_known_kind (seen rows.now) instruction) used }
+{
+    match used {
+        None => None,
+        Some(used) => {
+            if has_known_kind(rows, instruction, used) {
+                Some(used)
+            } else {
+                None
+            }
+        }
+    }
+}
+
+/// The operands that V16 and V17 allow.
+fn columns_of_kind(rows: &Rows, instruction: Instruction<u16>) -> Row<Operand<u16>>
+    ensures { result ≡ words.columns_of_kind (seen rows.now) instruction }
+{
+    let row = good_columns(rows, columns_of(rows, instruction));
+    Row {
+        factor1: of_kind_or_none(rows, instruction, row.factor1),
+        factor2: of_kind_or_none(rows, instruction, row.factor2),
+        result: of_kind_or_none(rows, instruction, row.result),
+        marks: row.marks,
+    }
+}
+
+fn written_or_none(rows: &Rows, used: Option<Use<Operand<u16>>>) -> Option<Use<Operand<u16>>>
+    ensures { result ≡ words.passing (rows_words.is_writable_use (forms.form_at rows.now.fields.items)) used }
+{
+    match used {
+        None => None,
+        Some(used) => {
+            if is_writable_use(rows, used) {
+                Some(used)
+            } else {
+                None
+            }
+        }
+    }
+}
+
+/// The operands that V16 to V18 allow.
+fn written_columns(rows: &Rows, instruction: Instruction<u16>) -> Row<Operand<u16>>
+    ensures { result ≡ words.written_columns (seen rows.now) instruction }
+{
+    let row = columns_of_kind(rows, instruction);
+    Row {
+        factor1: row.factor1,
+        factor2: row.factor2,
+        result: written_or_none(rows, row.result),
+        marks: row.marks,
+    }
 }
 
 // ---- indicators
@@ -257,11 +384,12 @@ fn is_ordered(marks: Marks) -> bool
     }
 }
 
-fn is_ascending(rows: &Rows, used: Option<Use<Operand<u16>>>) -> bool
-    ensures { result ≡ words.is_ascending (seen rows.now) used }
+/// Whether what stands in a column, if anything, is in ascending sequence.
+fn is_ascending_if_any(rows: &Rows, used: Option<Use<Operand<u16>>>) -> bool
+    ensures { result ≡ rows_words.all_used (words.is_ascending (seen rows.now)) used }
 {
     match used {
-        None => false,
+        None => true,
         Some(used) => match form_at(rows, used.operand.field) {
             None => false,
             Some(form) => form.is_ascending,
@@ -273,7 +401,7 @@ fn is_ascending(rows: &Rows, used: Option<Use<Operand<u16>>>) -> bool
 fn is_searched_well(rows: &Rows, row: Row<Operand<u16>>) -> bool
     ensures { result ≡ words.is_searched_well (seen rows.now) row }
 {
-    !is_two_sided(row.marks) && (!is_ordered(row.marks) || is_ascending(rows, row.factor2))
+    !is_two_sided(row.marks) && (!is_ordered(row.marks) || is_ascending_if_any(rows, row.factor2))
 }
 
 // ---- where control goes

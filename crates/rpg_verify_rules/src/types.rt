@@ -1,7 +1,7 @@
 //! V3 to V7, V25 and V26: record types.
 
 ghost use Rattle.std.specs.Prelude.{◌≡◌, ◌≤◌, ◌^◌, map};
-ghost use Rattle.std.specs.List.{list_all, position};
+ghost use Rattle.std.specs.List.{list_all, list_any, position};
 ghost use Rattle.rpg_effect.specs.Input as inputs;
 ghost use Rattle.rpg_object_program.specs.Object.{input_length as length_of, seen, type_row};
 ghost use Rattle.rpg_verify_rules.specs.Least.{first_true};
@@ -59,7 +59,7 @@ fn breaks(
                 && all_measured(measures, &record_type.levels))
         }
         TypeRule::V6 => !are_inputs_in(rows, length, &record_type.inputs),
-        TypeRule::V7 => !are_inputs_shown(rows, &record_type.inputs),
+        TypeRule::V7 => show_wrongly(rows, length, &record_type.inputs),
         TypeRule::V25 => !has_file(rows, record_type.file),
         TypeRule::V26 => !are_matches(length, widths, &record_type.matches),
     }
@@ -212,8 +212,14 @@ fn is_input_shown(rows: &Rows, field: &InputField<u16>) -> bool
     are_settable(field.shows) && fits_shows(kind_of(form_at(rows, field.field)), field.shows)
 }
 
-fn are_inputs_shown(rows: &Rows, fields: &[InputField<u16>]) -> bool
-    ensures { result ≡ list_all (words.is_input_shown (seen rows.now)) fields.now }
+fn shows_wrongly(rows: &Rows, length: u16, field: &InputField<u16>) -> bool
+    ensures { result ≡ words.shows_wrongly (seen rows.now) length field.now }
 {
-    fields.iter().all(|f| is_input_shown(rows, f))
+    !is_input_shown(rows, field) && is_input_in(rows, length, field)
+}
+
+fn show_wrongly(rows: &Rows, length: u16, fields: &[InputField<u16>]) -> bool
+    ensures { result ≡ list_any (words.shows_wrongly (seen rows.now) length) fields.now }
+{
+    fields.iter().any(|f| shows_wrongly(rows, length, f))
 }

@@ -41,7 +41,7 @@ returns-in_err-named-clause-report g c =
     let f = of_call _ c.flush_device.result _ c.in_err-named.ensures in
     rw (e.1, e.2, f.told) (
       c.in_ok-report.report,
-      run_kept c.args.program.now c.in_ok-report.report _ _ _ _ _ _ c.flush_device.ensures.bytes (Keeps-refl _) c.args.date.now _ _ c.in_ok-report.ensures.report,
+      run_kept c.args.program.now c.in_ok-report.report _ _ _ _ _ _ c.flush_device.ensures.bytes (Keeps-refl _) c.args.date.now _ _ _ _ c.in_ok-report.ensures.report,
     )
 
 pub returns-in_err-named-clause-early : goal.returns-in_err-named-clause-early
@@ -54,7 +54,7 @@ pub returns-in_err-named-clause-faults : goal.returns-in_err-named-clause-faults
 returns-in_err-named-clause-faults g c =
     let e = err_from_is_err_and c.from_residual-in_err-named.result c.from_residual-in_err-named.ensures.1 in
     let f = of_call _ c.flush_device.result _ c.in_err-named.ensures in
-    rw (e.1, e.2, f.told) (print_failed _ _ _ _ _ c.in_ok-report.ensures.faults (one_more _ _ c.flush_device.result f.fault c.flush_device.ensures.faults f.failed))
+    rw (e.1, e.2, f.told) (print_failed _ _ _ _ _ _ c.in_ok-report.ensures.faults (one_more _ _ c.flush_device.result f.fault c.flush_device.ensures.faults f.failed))
 
 pub returns-in_err-named-clause-untouched : goal.returns-in_err-named-clause-untouched
 returns-in_err-named-clause-untouched g c =
@@ -80,7 +80,7 @@ returns-in_err-named-2-clause-report g c =
     let f = of_call _ c.flush_device-2.result _ c.in_err-named-2.ensures in
     rw (e.1, e.2, f.told) (
       c.in_ok-report.report,
-      run_kept c.args.program.now c.in_ok-report.report _ _ _ _ _ _ c.flush_device.ensures.bytes c.flush_device-2.ensures.bytes c.args.date.now _ _ c.in_ok-report.ensures.report,
+      run_kept c.args.program.now c.in_ok-report.report _ _ _ _ _ _ c.flush_device.ensures.bytes c.flush_device-2.ensures.bytes c.args.date.now _ _ _ _ c.in_ok-report.ensures.report,
     )
 
 pub returns-in_err-named-2-clause-early : goal.returns-in_err-named-2-clause-early
@@ -93,7 +93,7 @@ pub returns-in_err-named-2-clause-faults : goal.returns-in_err-named-2-clause-fa
 returns-in_err-named-2-clause-faults g c =
     let e = err_from_is_err_and c.from_residual-in_err-named-2.result c.from_residual-in_err-named-2.ensures.1 in
     let f = of_call _ c.flush_device-2.result _ c.in_err-named-2.ensures in
-    rw (e.1, e.2, f.told) (disk_failed _ _ _ _ _ _ c.in_ok-report.ensures.faults
+    rw (e.1, e.2, f.told) (disk_failed _ _ _ _ _ _ _ c.in_ok-report.ensures.faults
     (no_more _ _ c.flush_device.result _ c.flush_device.ensures.faults (ended_well _ c.flush_device.result _ c.in_ok-named.ensures))
     (one_more _ _ c.flush_device-2.result f.fault c.flush_device-2.ensures.faults f.failed))
 
@@ -105,11 +105,11 @@ returns-in_err-named-2-clause-untouched g c =
 
 pub returns-clause-report : goal.returns-clause-report
 returns-clause-report g c =
-    run_kept c.args.program.now c.in_ok-report.report _ _ _ _ _ _ c.flush_device.ensures.bytes c.flush_device-2.ensures.bytes c.args.date.now _ _ c.in_ok-report.ensures.report
+    run_kept c.args.program.now c.in_ok-report.report _ _ _ _ _ _ c.flush_device.ensures.bytes c.flush_device-2.ensures.bytes c.args.date.now _ _ _ _ c.in_ok-report.ensures.report
 
 pub returns-clause-faults : goal.returns-clause-faults
 returns-clause-faults g c =
-    none_failed _ _ _ _ _ _ c.in_ok-report.ensures.faults
+    none_failed _ _ _ _ _ _ _ c.in_ok-report.ensures.faults
     (no_more _ _ c.flush_device.result _ c.flush_device.ensures.faults (ended_well _ c.flush_device.result _ c.in_ok-named.ensures))
     (no_more _ _ c.flush_device-2.result _ c.flush_device-2.ensures.faults (ended_well _ c.flush_device-2.result _ c.in_ok-named-2.ensures))
 

@@ -1,8 +1,8 @@
 use Rattle.std.proofs.Common.{ap, map}
-use Rattle.rpg_compile_layouts.proofs.Followers.{types_on_heading}
+use Rattle.rpg_compile_layouts.proofs.Followers.{types_first}
 use Rattle.rpg_compile_layouts.proofs.Rows.{all_head, all_tail, all_with_one_more, one_more_row}
 use Rattle.rpg_compile_layouts.proofs.types.types_of.Goals as goal
-use Rattle.rpg_compile_layouts.specs.Parts.{type_behind}
+use Rattle.rpg_compile_layouts.specs.Parts.{type_behind, types_from}
 use Rattle.rpg_compile_layouts.specs.Within.{IsTypeWithin}
 use Rattle.rpg_object_program.specs.Kept.{IsTypeRow}
 use Rattle.rpg_object_program.specs.Object.{type_row}
@@ -12,19 +12,27 @@ use Rattle.rpg_compile_program.specs.Types.{types_on}
 
 pub type_of-requires : goal.type_of-requires
 type_of-requires c =
+    let source = c.args.source.now in
     let behind = c.in-Some.behind.now in
     let here = c.in-Some-record_type.record_type.now in
-    let first = types_on_heading c.in-Some.card.now behind c.loop-card.rest.now here c.in-Some.ensures.cases.0 c.in-Some-record_type.ensures in
-    all_head IsTypeWithin (type_behind here behind) (types_on behind) (types_on c.loop-card.rest.now) first c.loop-card.invariant.within
+    let own = c.own_or-name.result.now in
+    let file = c.read_from-file.result in
+    let first = types_first source c.loop-card.name.now own file c.in-Some.card.now behind c.loop-card.rest.now here c.in-Some.ensures.cases.0 c.in-Some-record_type.ensures c.own_or-name.ensures c.read_from-file.ensures in
+    all_head IsTypeWithin (type_behind file here behind) (types_from source own behind) (types_from source c.loop-card.name.now c.loop-card.rest.now) first c.loop-card.invariant.within
 
 pub loop-card-preserved-in_ok-push : goal.loop-card-preserved-in_ok-push
 loop-card-preserved-in_ok-push c =
+    let source = c.args.source.now in
     let behind = c.in-Some.behind.now in
     let here = c.in-Some-record_type.record_type.now in
+    let own = c.own_or-name.result.now in
+    let file = c.read_from-file.result in
     let row = renamed_type (key_number c.args.table.now) in
-    let first = types_on_heading c.in-Some.card.now behind c.loop-card.rest.now here c.in-Some.ensures.cases.0 c.in-Some-record_type.ensures in
+    let rest = types_from source c.loop-card.name.now c.loop-card.rest.now in
+    let tail = types_from source own behind in
+    let first = types_first source c.loop-card.name.now own file c.in-Some.card.now behind c.loop-card.rest.now here c.in-Some.ensures.cases.0 c.in-Some-record_type.ensures c.own_or-name.ensures c.read_from-file.ensures in
     record {
-      so_far = one_more_row type_row c.loop-card.types.items c.push.new.self.items c.in_ok-type_of.field-0 (row (type_behind here behind)) (map row (types_on c.loop-card.rest.now)) (map row (types_on behind)) (map row (types_on c.args.cards.now)) c.in_ok-push.ensures.items c.in_ok-type_of.ensures.row (ap (map row) first) c.loop-card.invariant.so_far;
+      so_far = one_more_row type_row c.loop-card.types.items c.push.new.self.items c.in_ok-type_of.field-0 (row (type_behind file here behind)) (map row rest) (map row tail) (map row (types_on source)) c.in_ok-push.ensures.items c.in_ok-type_of.ensures.row (ap (map row) first) c.loop-card.invariant.so_far;
       rows = all_with_one_more type_row IsTypeRow c.loop-card.types.items c.push.new.self.items c.in_ok-type_of.field-0 c.in_ok-push.ensures.items c.loop-card.invariant.rows c.in_ok-type_of.ensures.kept;
-      within = all_tail IsTypeWithin (type_behind here behind) (types_on behind) (types_on c.loop-card.rest.now) first c.loop-card.invariant.within;
+      within = all_tail IsTypeWithin (type_behind file here behind) tail rest first c.loop-card.invariant.within;
     }

@@ -1,78 +1,80 @@
-use Rattle.std.proofs.Common.{ℕ, Bool, Option, None, ap, ◌∙◌, arith}
+use Rattle.std.proofs.Common.{ℕ, Option, ap, ◌∙◌, arith}
 use Rattle.std.specs.Option.{option_map}
 use Rattle.rpg_cycle.proofs.Composing.{memory_both, ok_of_err, passed_map, passed_memory}
 use Rattle.rpg_cycle.proofs.Nine.{begins, by_left, last, step, stop}
 use Rattle.rpg_cycle.proofs.Spending.{all_bounded, at_no_cost, full_reach, lines_bounded, low_here, low_left, low_right, selected_low}
 use Rattle.rpg_cycle.specs.Ends.{GoesOn}
-use Rattle.rpg_cycle_records.specs.Keeping.{left_of, selected_as}
+use Rattle.rpg_cycle.specs.Doing.{holding, unselected}
+use Rattle.rpg_cycle_records.specs.Holding.{inputs_of, text_in}
+use Rattle.rpg_cycle_records.specs.Keeping.{left_of}
+use Rattle.rpg_cycle_records.specs.Waiting.{finds_match}
 use Rattle.rpg_cycle.specs.Phases as spec
 use Rattle.rpg_cycle.specs.Phases.{◌before◌}
 use Rattle.rpg_cycle.specs.Spending.{inputs_weight, reach}
 use Rattle.rpg_cycle.specs.Stages.{job_end}
 use Rattle.rpg_machine.specs.Running.{Running}
-use Rattle.rpg_machine.specs.declared.time.OutputTime.TheVariants as times
-use Rattle.rpg_object_program.specs.declared.section.Section.TheVariants as sections
 use Rattle.rpg_cycle.proofs.cycle.run_cycle.Goals as goal
 
 pub returns-in_err-put_out_details-clause-stops : goal.returns-in_err-put_out_details-clause-stops
 returns-in_err-put_out_details-clause-stops g c =
     let p = c.args.program.now in
     let left = left_of c.args.kept.now in
-    let C = spec.CycleOn p left (option_map (λ x. x.now) c.args.next) in
-    let l0 = begins C c.args.machine.now c.refill.new.self c.refill.ensures.refilled in
-    passed_map (Unit {0}) _ c.from_residual.result c.in_err-put_out_details.field-0.0 _ _ (λ e h. (None, stop e l0 (h.each None))) c.from_residual.ensures.1 c.in_err-put_out_details.ensures.stops
+    let C = spec.CycleOn p left (finds_match p left) (option_map (λ x. x.now) c.args.primary) (option_map (λ x. x.now) c.args.secondary) in
+    let h0 = unselected (inputs_of c.args.kept.now) in
+    let l0 = begins C c.args.machine.now c.refill.new.self h0 c.refill.ensures.refilled in
+    passed_map (Unit {0}) _ c.from_residual.result c.in_err-put_out_details.field-0.0 _ _ (λ e h. (h0, stop e l0 (h.each h0))) c.from_residual.ensures.1 c.in_err-put_out_details.ensures.stops
 
 pub returns-in_err-halt_where_asked-clause-stops : goal.returns-in_err-halt_where_asked-clause-stops
 returns-in_err-halt_where_asked-clause-stops g c =
     let p = c.args.program.now in
     let left = left_of c.args.kept.now in
-    let C = spec.CycleOn p left (option_map (λ x. x.now) c.args.next) in
-    let l0 = begins C c.args.machine.now c.refill.new.self c.refill.ensures.refilled in
-    let l1 = step l0 (c.in_ok-put_out_details.ensures.goes.each None) in
-    passed_map (Unit {0}) _ c.from_residual-in_err-halt_where_asked.result c.in_err-halt_where_asked.field-0.0 _ _ (λ e h. (None, stop e l1 (h.each None))) c.from_residual-in_err-halt_where_asked.ensures.1 c.in_err-halt_where_asked.ensures.stops
+    let C = spec.CycleOn p left (finds_match p left) (option_map (λ x. x.now) c.args.primary) (option_map (λ x. x.now) c.args.secondary) in
+    let h0 = unselected (inputs_of c.args.kept.now) in
+    let l0 = begins C c.args.machine.now c.refill.new.self h0 c.refill.ensures.refilled in
+    let l1 = step l0 (c.in_ok-put_out_details.ensures.goes.each h0) in
+    passed_map (Unit {0}) _ c.from_residual-in_err-halt_where_asked.result c.in_err-halt_where_asked.field-0.0 _ _ (λ e h. (h0, stop e l1 (h.each h0))) c.from_residual-in_err-halt_where_asked.ensures.1 c.in_err-halt_where_asked.ensures.stops
 
 pub returns-in_err-selected-clause-stops : goal.returns-in_err-selected-clause-stops
 returns-in_err-selected-clause-stops g c =
     let p = c.args.program.now in
     let left = left_of c.args.kept.now in
-    let C = spec.CycleOn p left (option_map (λ x. x.now) c.args.next) in
-    let l0 = begins C c.args.machine.now c.refill.new.self c.refill.ensures.refilled in
-    let l1 = step l0 (c.in_ok-put_out_details.ensures.goes.each None) in
-    let l2 = step l1 (c.in_ok-halt_where_asked.ensures.goes.each None) in
-    let l3 = step l2 (c.set_off.ensures.goes.each None) in
-    passed_map (Option ℕ) _ c.from_residual-in_err-selected.result c.in_err-selected.field-0.0 _ _ (λ e h. (None, stop e l3 h)) c.from_residual-in_err-selected.ensures.1 c.in_err-selected.ensures.stops
+    let C = spec.CycleOn p left (finds_match p left) (option_map (λ x. x.now) c.args.primary) (option_map (λ x. x.now) c.args.secondary) in
+    let h0 = unselected (inputs_of c.args.kept.now) in
+    let l0 = begins C c.args.machine.now c.refill.new.self h0 c.refill.ensures.refilled in
+    let l1 = step l0 (c.in_ok-put_out_details.ensures.goes.each h0) in
+    let l2 = step l1 (c.in_ok-halt_where_asked.ensures.goes.each h0) in
+    let l3 = step l2 (c.set_off.ensures.goes.each h0) in
+    passed_map (Option ℕ) _ c.from_residual-in_err-selected.result c.in_err-selected.field-0.0 _ _ (λ e h. (unselected h.0, stop e l3 h.1)) c.from_residual-in_err-selected.ensures.1 c.in_err-selected.ensures.stops
 
 pub returns-in_err-take_record-clause-stops : goal.returns-in_err-take_record-clause-stops
 returns-in_err-take_record-clause-stops g c =
     let p = c.args.program.now in
     let left = left_of c.args.kept.now in
-    let C = spec.CycleOn p left (option_map (λ x. x.now) c.args.next) in
-    let l0 = begins C c.args.machine.now c.refill.new.self c.refill.ensures.refilled in
-    let l1 = step l0 (c.in_ok-put_out_details.ensures.goes.each None) in
-    let l2 = step l1 (c.in_ok-halt_where_asked.ensures.goes.each None) in
-    let l3 = step l2 (c.set_off.ensures.goes.each None) in
-    let text = c.select_record.new.kept.record.items in
-    let s = selected_as c.in_ok-selected.selected text in
+    let C = spec.CycleOn p left (finds_match p left) (option_map (λ x. x.now) c.args.primary) (option_map (λ x. x.now) c.args.secondary) in
+    let h0 = unselected (inputs_of c.args.kept.now) in
+    let l0 = begins C c.args.machine.now c.refill.new.self h0 c.refill.ensures.refilled in
+    let l1 = step l0 (c.in_ok-put_out_details.ensures.goes.each h0) in
+    let l2 = step l1 (c.in_ok-halt_where_asked.ensures.goes.each h0) in
+    let l3 = step l2 (c.set_off.ensures.goes.each h0) in
+    let text = text_in p c.select_record.new.kept c.in_ok-selected.selected in
+    let s = holding (inputs_of c.select_record.new.kept) c.in_ok-selected.selected text in
     let l4 = step l3 c.in_ok-selected.ensures.goes in
-    let rest = λ (x y : Bool). spec.unless (spec.is_bypassed p x y) (spec.section p sections.Total before spec.output p times.Total)
-    before spec.end_where_last before spec.overflow_lines p before spec.fill_fields p before spec.detail_calculations p in
-    passed_map (Unit {0}) _ c.from_residual-in_err-take_record.result c.in_err-take_record.field-0.0 _ _ (λ e h. (s, last l4 (by_left rest p c.in_ok-selected.selected text (left_of c.select_record.new.kept) left c.select_record.new.machine c.take_record.new.machine s (job_end e) c.in_ok-selected.ensures.kept h))) c.from_residual-in_err-take_record.ensures.1 c.in_err-take_record.ensures.stops
+    passed_map (Unit {0}) _ c.from_residual-in_err-take_record.result c.in_err-take_record.field-0.0 _ _ (λ e h. (s, last l4 (by_left p c.in_ok-selected.selected text (inputs_of c.select_record.new.kept) (left_of c.select_record.new.kept) left c.select_record.new.machine c.take_record.new.machine (job_end e) c.in_ok-selected.ensures.left h))) c.from_residual-in_err-take_record.ensures.1 c.in_err-take_record.ensures.stops
 
 pub returns-clause-goes : goal.returns-clause-goes
 returns-clause-goes g c =
     let p = c.args.program.now in
     let left = left_of c.args.kept.now in
-    let C = spec.CycleOn p left (option_map (λ x. x.now) c.args.next) in
-    let l0 = begins C c.args.machine.now c.refill.new.self c.refill.ensures.refilled in
-    let l1 = step l0 (c.in_ok-put_out_details.ensures.goes.each None) in
-    let l2 = step l1 (c.in_ok-halt_where_asked.ensures.goes.each None) in
-    let l3 = step l2 (c.set_off.ensures.goes.each None) in
-    let text = c.select_record.new.kept.record.items in
-    let s = selected_as c.in_ok-selected.selected text in
+    let C = spec.CycleOn p left (finds_match p left) (option_map (λ x. x.now) c.args.primary) (option_map (λ x. x.now) c.args.secondary) in
+    let h0 = unselected (inputs_of c.args.kept.now) in
+    let l0 = begins C c.args.machine.now c.refill.new.self h0 c.refill.ensures.refilled in
+    let l1 = step l0 (c.in_ok-put_out_details.ensures.goes.each h0) in
+    let l2 = step l1 (c.in_ok-halt_where_asked.ensures.goes.each h0) in
+    let l3 = step l2 (c.set_off.ensures.goes.each h0) in
+    let text = text_in p c.select_record.new.kept c.in_ok-selected.selected in
+    let s = holding (inputs_of c.select_record.new.kept) c.in_ok-selected.selected text in
     let l4 = step l3 c.in_ok-selected.ensures.goes in
-    let rest = λ (x y : Bool). spec.unless (spec.is_bypassed p x y) (spec.section p sections.Total before spec.output p times.Total)
-    before spec.end_where_last before spec.overflow_lines p before spec.fill_fields p before spec.detail_calculations p in
-    last l4 (by_left rest p c.in_ok-selected.selected text (left_of c.select_record.new.kept) left c.select_record.new.machine c.take_record.new.machine s GoesOn c.in_ok-selected.ensures.kept c.in_ok-take_record.ensures.goes)
+    last l4 (by_left p c.in_ok-selected.selected text (inputs_of c.select_record.new.kept) (left_of c.select_record.new.kept) left c.select_record.new.machine c.take_record.new.machine GoesOn c.in_ok-selected.ensures.left c.in_ok-take_record.ensures.goes)
 
 -- ---- what is spent
 
@@ -202,7 +204,7 @@ pub returns-clause-ready : goal.returns-clause-ready
 returns-clause-ready g c = c.in_ok-take_record.ensures.ready
 
 pub returns-clause-there : goal.returns-clause-there
-returns-clause-there g c = c.in_ok-selected.ensures.there
+returns-clause-there g c = λ n e. (c.in_ok-selected.ensures.held n e).there
 
 pub returns-clause-kept : goal.returns-clause-kept
 returns-clause-kept g c = c.in_ok-selected.ensures.kept
@@ -234,11 +236,26 @@ take_record-requires-clause-ready g c = c.in_ok-selected.ensures.ready
 pub select_record-requires-clause-nine : goal.select_record-requires-clause-nine
 select_record-requires-clause-nine g c = c.requires.nine
 
-pub take_record-requires-clause-there : goal.take_record-requires-clause-there
-take_record-requires-clause-there g c = c.in_ok-selected.ensures.there
+pub select_record-requires-clause-kept : goal.select_record-requires-clause-kept
+select_record-requires-clause-kept g c = c.requires.kept
 
-pub take_record-requires-clause-whole : goal.take_record-requires-clause-whole
-take_record-requires-clause-whole g c = c.in_ok-selected.ensures.whole
+pub take_record-requires-clause-kept : goal.take_record-requires-clause-kept
+take_record-requires-clause-kept g c = c.in_ok-selected.ensures.kept
 
-pub take_record-requires-clause-characters : goal.take_record-requires-clause-characters
-take_record-requires-clause-characters g c = c.in_ok-selected.ensures.characters
+pub take_record-requires-clause-held : goal.take_record-requires-clause-held
+take_record-requires-clause-held g c = c.in_ok-selected.ensures.held
+
+pub returns-clause-left : goal.returns-clause-left
+returns-clause-left g c = c.in_ok-selected.ensures.left
+
+pub returns-in_err-put_out_details-clause-left : goal.returns-in_err-put_out_details-clause-left
+returns-in_err-put_out_details-clause-left g c = ok_of_err c.from_residual.result _ _ c.from_residual.ensures.1
+
+pub returns-in_err-halt_where_asked-clause-left : goal.returns-in_err-halt_where_asked-clause-left
+returns-in_err-halt_where_asked-clause-left g c = ok_of_err c.from_residual-in_err-halt_where_asked.result _ _ c.from_residual-in_err-halt_where_asked.ensures.1
+
+pub returns-in_err-selected-clause-left : goal.returns-in_err-selected-clause-left
+returns-in_err-selected-clause-left g c = ok_of_err c.from_residual-in_err-selected.result _ _ c.from_residual-in_err-selected.ensures.1
+
+pub returns-in_err-take_record-clause-left : goal.returns-in_err-take_record-clause-left
+returns-in_err-take_record-clause-left g c = ok_of_err c.from_residual-in_err-take_record.result _ _ c.from_residual-in_err-take_record.ensures.1

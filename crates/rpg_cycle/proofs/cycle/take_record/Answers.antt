@@ -1,74 +1,83 @@
-use Rattle.std.proofs.Common.{ℕ, All, List, sym, subst}
-use Rattle.std.specs.Option.{ForSome}
 use Rattle.rpg_cycle.proofs.Composing.{memory_both, memory_map, ok_map, ok_of_err, passed_map, passed_memory, stops_map}
 use Rattle.rpg_cycle.proofs.Nine.{last, step, stop, whole}
-use Rattle.rpg_cycle.proofs.Spending.{and_less, and_then, few_steps, low_there}
-use Rattle.rpg_cycle.specs.Doing.{Does}
-use Rattle.rpg_cycle.specs.Ends.{GoesOn}
+use Rattle.rpg_cycle.proofs.Spending.{and_less, and_then, at_no_cost, few_steps, low_there}
 use Rattle.rpg_cycle.specs.Phases as spec
-use Rattle.rpg_cycle.specs.Stages.{job_end}
-use Rattle.rpg_object_program.specs.Kept.{IsCharacter}
-use Rattle.rpg_cycle_records.specs.Fitting.{IsFilledAs}
-use Rattle.rpg_cycle_records.specs.Keeping.{left_of, selected_as}
+use Rattle.rpg_cycle.specs.Doing.{holding}
+use Rattle.rpg_cycle_records.specs.Holding.{inputs_of, text_in}
+use Rattle.rpg_cycle_records.specs.Keeping.{left_of}
+use Rattle.rpg_cycle_records.specs.Waiting.{finds_match}
 use Rattle.rpg_cycle.proofs.cycle.take_record.Goals as goal
 
 pub returns-in_err-take_total_time-clause-stops : goal.returns-in_err-take_total_time-clause-stops
 returns-in_err-take_total_time-clause-stops g c =
     let p = c.args.program.now in
-    let s = selected_as c.args.selected c.args.kept.now.record.items in
-    let l0 = whole (spec.after_selection p (left_of c.args.kept.now)) c.args.machine.now s in
+    let i = inputs_of c.args.kept.now in
+    let text = text_in p c.args.kept.now c.args.selected in
+    let s = holding i c.args.selected text in
+    let l0 = whole (spec.after_selection p (left_of c.args.kept.now) (finds_match p (left_of c.args.kept.now))) c.args.machine.now s in
     passed_map (Unit {0}) _ c.from_residual.result c.in_err-take_total_time.field-0.0 _ _ (λ e h. stop e l0 (h.each s)) c.from_residual.ensures.1 c.in_err-take_total_time.ensures.stops
 
 pub returns-in_err-end_where_last-clause-stops : goal.returns-in_err-end_where_last-clause-stops
 returns-in_err-end_where_last-clause-stops g c =
     let p = c.args.program.now in
-    let s = selected_as c.args.selected c.args.kept.now.record.items in
-    let l0 = whole (spec.after_selection p (left_of c.args.kept.now)) c.args.machine.now s in
+    let i = inputs_of c.args.kept.now in
+    let text = text_in p c.args.kept.now c.args.selected in
+    let s = holding i c.args.selected text in
+    let l0 = whole (spec.after_selection p (left_of c.args.kept.now) (finds_match p (left_of c.args.kept.now))) c.args.machine.now s in
     let l1 = step l0 (c.in_ok-take_total_time.ensures.goes.each s) in
-    passed_map (Unit {0}) _ c.from_residual-in_err-end_where_last.result c.in_err-end_where_last.field-0.0 _ _ (λ e h. stop e l1 (h c.args.kept.now.record.items)) c.from_residual-in_err-end_where_last.ensures.1 c.in_err-end_where_last.ensures.stops
+    passed_map (Unit {0}) _ c.from_residual-in_err-end_where_last.result c.in_err-end_where_last.field-0.0 _ _ (λ e h. stop e l1 (h i text)) c.from_residual-in_err-end_where_last.ensures.1 c.in_err-end_where_last.ensures.stops
 
 pub returns-in_err-put_out_overflow-clause-stops : goal.returns-in_err-put_out_overflow-clause-stops
 returns-in_err-put_out_overflow-clause-stops g c =
     let p = c.args.program.now in
-    let s = selected_as c.args.selected c.args.kept.now.record.items in
-    let l0 = whole (spec.after_selection p (left_of c.args.kept.now)) c.args.machine.now s in
+    let i = inputs_of c.args.kept.now in
+    let text = text_in p c.args.kept.now c.args.selected in
+    let s = holding i c.args.selected text in
+    let l0 = whole (spec.after_selection p (left_of c.args.kept.now) (finds_match p (left_of c.args.kept.now))) c.args.machine.now s in
     let l1 = step l0 (c.in_ok-take_total_time.ensures.goes.each s) in
-    let l2 = step l1 (c.in_ok-end_where_last.ensures.goes c.args.kept.now.record.items) in
+    let l2 = step l1 (c.in_ok-end_where_last.ensures.goes i text) in
     passed_map (Unit {0}) _ c.from_residual-in_err-put_out_overflow.result c.in_err-put_out_overflow.field-0.0 _ _ (λ e h. stop e l2 (h.each s)) c.from_residual-in_err-put_out_overflow.ensures.1 c.in_err-put_out_overflow.ensures.stops
 
 pub returns-in_err-fill_fields-clause-stops : goal.returns-in_err-fill_fields-clause-stops
 returns-in_err-fill_fields-clause-stops g c =
     let p = c.args.program.now in
-    let s = selected_as c.args.selected c.args.kept.now.record.items in
-    let l0 = whole (spec.after_selection p (left_of c.args.kept.now)) c.args.machine.now s in
+    let i = inputs_of c.args.kept.now in
+    let text = text_in p c.args.kept.now c.args.selected in
+    let s = holding i c.args.selected text in
+    let l0 = whole (spec.after_selection p (left_of c.args.kept.now) (finds_match p (left_of c.args.kept.now))) c.args.machine.now s in
     let l1 = step l0 (c.in_ok-take_total_time.ensures.goes.each s) in
-    let l2 = step l1 (c.in_ok-end_where_last.ensures.goes c.args.kept.now.record.items) in
+    let l2 = step l1 (c.in_ok-end_where_last.ensures.goes i text) in
     let l3 = step l2 (c.in_ok-put_out_overflow.ensures.goes.each s) in
-    passed_map (Unit {0}) _ c.from_residual-in_err-fill_fields.result c.in_err-fill_fields.field-0.0 _ _ (λ e h. stop e l3 (subst (λ (x : List ℕ). Does (spec.fill_fields p) c.put_out_overflow.new.machine (selected_as c.args.selected x) (job_end e) c.fill_fields.new.machine (selected_as c.args.selected x)) c.deref.ensures.value h)) c.from_residual-in_err-fill_fields.ensures.1 c.in_err-fill_fields.ensures.stops
+    let l4 = step l3 c.show_match.ensures.goes in
+    passed_map (Unit {0}) _ c.from_residual-in_err-fill_fields.result c.in_err-fill_fields.field-0.0 _ _ (λ e h. stop e l4 (h i)) c.from_residual-in_err-fill_fields.ensures.1 c.in_err-fill_fields.ensures.stops
 
 pub returns-clause-goes : goal.returns-clause-goes
 returns-clause-goes g c =
     let p = c.args.program.now in
-    let s = selected_as c.args.selected c.args.kept.now.record.items in
-    let l0 = whole (spec.after_selection p (left_of c.args.kept.now)) c.args.machine.now s in
+    let i = inputs_of c.args.kept.now in
+    let text = text_in p c.args.kept.now c.args.selected in
+    let s = holding i c.args.selected text in
+    let l0 = whole (spec.after_selection p (left_of c.args.kept.now) (finds_match p (left_of c.args.kept.now))) c.args.machine.now s in
     let l1 = step l0 (c.in_ok-take_total_time.ensures.goes.each s) in
-    let l2 = step l1 (c.in_ok-end_where_last.ensures.goes c.args.kept.now.record.items) in
+    let l2 = step l1 (c.in_ok-end_where_last.ensures.goes i text) in
     let l3 = step l2 (c.in_ok-put_out_overflow.ensures.goes.each s) in
-    let filled = λ (x : List ℕ). Does (spec.fill_fields p) c.put_out_overflow.new.machine (selected_as c.args.selected x) GoesOn c.fill_fields.new.machine (selected_as c.args.selected x) in
-    let l4 = step l3 (subst filled c.deref.ensures.value c.in_ok-fill_fields.ensures.goes) in
-    ok_map c.calculate_details.result _ _ (λ x h. last l4 (h.each s)) c.calculate_details.ensures.goes
+    let l4 = step l3 c.show_match.ensures.goes in
+    let l5 = step l4 (c.in_ok-fill_fields.ensures.goes i) in
+    ok_map c.calculate_details.result _ _ (λ x h. last l5 (h.each s)) c.calculate_details.ensures.goes
 
 pub returns-clause-stops : goal.returns-clause-stops
 returns-clause-stops g c =
     let p = c.args.program.now in
-    let s = selected_as c.args.selected c.args.kept.now.record.items in
-    let l0 = whole (spec.after_selection p (left_of c.args.kept.now)) c.args.machine.now s in
+    let i = inputs_of c.args.kept.now in
+    let text = text_in p c.args.kept.now c.args.selected in
+    let s = holding i c.args.selected text in
+    let l0 = whole (spec.after_selection p (left_of c.args.kept.now) (finds_match p (left_of c.args.kept.now))) c.args.machine.now s in
     let l1 = step l0 (c.in_ok-take_total_time.ensures.goes.each s) in
-    let l2 = step l1 (c.in_ok-end_where_last.ensures.goes c.args.kept.now.record.items) in
+    let l2 = step l1 (c.in_ok-end_where_last.ensures.goes i text) in
     let l3 = step l2 (c.in_ok-put_out_overflow.ensures.goes.each s) in
-    let filled = λ (x : List ℕ). Does (spec.fill_fields p) c.put_out_overflow.new.machine (selected_as c.args.selected x) GoesOn c.fill_fields.new.machine (selected_as c.args.selected x) in
-    let l4 = step l3 (subst filled c.deref.ensures.value c.in_ok-fill_fields.ensures.goes) in
-    stops_map c.calculate_details.result _ _ (λ e h. last l4 (h.each s)) c.calculate_details.ensures.stops
+    let l4 = step l3 c.show_match.ensures.goes in
+    let l5 = step l4 (c.in_ok-fill_fields.ensures.goes i) in
+    stops_map c.calculate_details.result _ _ (λ e h. last l5 (h.each s)) c.calculate_details.ensures.stops
 
 -- ---- what is spent
 
@@ -87,13 +96,13 @@ returns-in_err-put_out_overflow-clause-spends g c =
 pub returns-in_err-fill_fields-clause-spends : goal.returns-in_err-fill_fields-clause-spends
 returns-in_err-fill_fields-clause-spends g c =
     passed_memory (Unit {0}) _ c.from_residual-in_err-fill_fields.result c.in_err-fill_fields.field-0.0 _ _
-    (λ h. and_then c.in_ok-take_total_time.ensures.spends (and_then c.in_ok-put_out_overflow.ensures.spends (and_less _ h)))
+    (λ h. and_then c.in_ok-take_total_time.ensures.spends (and_then (at_no_cost c.in_ok-put_out_overflow.ensures.spends c.show_match.ensures.spends) (and_less _ h)))
     c.from_residual-in_err-fill_fields.ensures.1 c.in_err-fill_fields.ensures.spends
 
 pub returns-clause-spends : goal.returns-clause-spends
 returns-clause-spends g c =
     memory_map c.calculate_details.result _ _
-    (λ h. and_then c.in_ok-take_total_time.ensures.spends (and_then c.in_ok-put_out_overflow.ensures.spends (and_then c.in_ok-fill_fields.ensures.spends h)))
+    (λ h. and_then c.in_ok-take_total_time.ensures.spends (and_then (at_no_cost c.in_ok-put_out_overflow.ensures.spends c.show_match.ensures.spends) (and_then c.in_ok-fill_fields.ensures.spends h)))
     c.calculate_details.ensures.spends
 
 pub put_out_overflow-requires-clause-few : goal.put_out_overflow-requires-clause-few
@@ -103,12 +112,12 @@ put_out_overflow-requires-clause-few g c =
 pub fill_fields-requires-clause-few : goal.fill_fields-requires-clause-few
 fill_fields-requires-clause-few g c =
     few_steps c.args.program.now c.args.selected c.args.machine.now _ c.requires.few c.requires.light c.requires.small
-    (and_then c.in_ok-take_total_time.ensures.spends (and_less _ c.in_ok-put_out_overflow.ensures.spends))
+    (and_then c.in_ok-take_total_time.ensures.spends (and_less _ (at_no_cost c.in_ok-put_out_overflow.ensures.spends c.show_match.ensures.spends)))
 
 pub calculate_details-requires-clause-few : goal.calculate_details-requires-clause-few
 calculate_details-requires-clause-few g c =
     few_steps c.args.program.now c.args.selected c.args.machine.now _ c.requires.few c.requires.light c.requires.small
-    (and_then c.in_ok-take_total_time.ensures.spends (and_then c.in_ok-put_out_overflow.ensures.spends (and_less _ c.in_ok-fill_fields.ensures.spends)))
+    (and_then c.in_ok-take_total_time.ensures.spends (and_then (at_no_cost c.in_ok-put_out_overflow.ensures.spends c.show_match.ensures.spends) (and_less _ c.in_ok-fill_fields.ensures.spends)))
 
 -- ---- what holds on the way
 
@@ -170,10 +179,10 @@ pub put_out_overflow-requires-clause-ready : goal.put_out_overflow-requires-clau
 put_out_overflow-requires-clause-ready g c = c.in_ok-take_total_time.ensures.ready
 
 pub fill_fields-requires-clause-program : goal.fill_fields-requires-clause-program
-fill_fields-requires-clause-program g c = c.in_ok-put_out_overflow.ensures.program
+fill_fields-requires-clause-program g c = c.show_match.ensures.program
 
 pub fill_fields-requires-clause-ready : goal.fill_fields-requires-clause-ready
-fill_fields-requires-clause-ready g c = c.in_ok-put_out_overflow.ensures.ready
+fill_fields-requires-clause-ready g c = c.show_match.ensures.ready
 
 pub calculate_details-requires-clause-program : goal.calculate_details-requires-clause-program
 calculate_details-requires-clause-program g c = c.in_ok-fill_fields.ensures.program
@@ -181,11 +190,17 @@ calculate_details-requires-clause-program g c = c.in_ok-fill_fields.ensures.prog
 pub calculate_details-requires-clause-ready : goal.calculate_details-requires-clause-ready
 calculate_details-requires-clause-ready g c = c.in_ok-fill_fields.ensures.ready
 
-pub fill_fields-requires-clause-there : goal.fill_fields-requires-clause-there
-fill_fields-requires-clause-there g c = c.requires.there
+pub show_match-requires-clause-program : goal.show_match-requires-clause-program
+show_match-requires-clause-program g c = c.in_ok-put_out_overflow.ensures.program
 
-pub fill_fields-requires-clause-whole : goal.fill_fields-requires-clause-whole
-fill_fields-requires-clause-whole g c = subst (λ (x : List ℕ). ForSome c.args.selected (λ t. IsFilledAs c.args.program.now t x)) (sym c.deref.ensures.value) c.requires.whole
+pub show_match-requires-clause-ready : goal.show_match-requires-clause-ready
+show_match-requires-clause-ready g c = c.in_ok-put_out_overflow.ensures.ready
 
-pub fill_fields-requires-clause-characters : goal.fill_fields-requires-clause-characters
-fill_fields-requires-clause-characters g c = subst (λ (x : List ℕ). ForSome c.args.selected (λ _. All IsCharacter x)) (sym c.deref.ensures.value) c.requires.characters
+pub show_match-requires-clause-kept : goal.show_match-requires-clause-kept
+show_match-requires-clause-kept g c = c.requires.kept
+
+pub show_match-requires-clause-held : goal.show_match-requires-clause-held
+show_match-requires-clause-held g c = c.requires.held
+
+pub fill_fields-requires-clause-held : goal.fill_fields-requires-clause-held
+fill_fields-requires-clause-held g c = c.requires.held

@@ -1,78 +1,74 @@
-use Rattle.std.proofs.Common.{◌+◌, max, drop, ap, sym, ◌∙◌, subst, arith}
-use Rattle.std.proofs.lemmas.List.{drop_all}
-use Rattle.rpg_cycle.proofs.Courses.{IsUnderWay, begins, one_more, ends_at_record, ends_at_file, never_going, next_text, still_low}
-use Rattle.rpg_cycle.specs.Running.{texts}
+use Rattle.std.proofs.Common.{◌+◌, max, ℕ, ap, sym, ◌∙◌, subst, arith}
+use Rattle.std.specs.Option.{option_map}
+use Rattle.rpg_effect.specs.declared.input.InputFile.TheVariants.{Primary, Secondary}
+use Rattle.rpg_cycle.proofs.Courses.{IsUnderWay, begins, ended_so, fewer_left, next_is, one_more, rest_is, still_low}
+use Rattle.rpg_cycle.specs.Running.{records_in}
+use Rattle.rpg_cycle.specs.Runs.{Records}
 use Rattle.rpg_cycle.specs.Stages.{is_going, stage_of}
 use Rattle.rpg_cycle.specs.declared.runs.Summary.{Summary}
 use Rattle.rpg_cycle.proofs.runs.run_on.Goals as goal
 
-pub loop-text-init : goal.loop-text-init
-loop-text-init g c = record { going = c.requires.going; under_way = begins c.args.job.now (texts c.args.records.now) c.requires.first c.requires.top; few = omega arith; low = omega arith }
+pub loop-progress-init : goal.loop-progress-init
+loop-progress-init g c = record {
+  going = c.requires.going;
+  under_way = begins c.args.job.now (records_in c.args.primary.now c.args.secondary.now) c.requires.first c.requires.unread c.requires.top;
+  low = omega arith;
+}
 
-pub returns-in-Ended-clause-runs : goal.returns-in-Ended-clause-runs
-returns-in-Ended-clause-runs g c =
-    ends_at_record c.args.job.now c.loop-text.job c.cycle_on.new.self (texts c.args.records.now) (texts (drop (c.loop-text.text-index + 1) c.args.records.now)) c.deref.result.now
-    c.loop-text.cycles c.loop-text.most c.in-Ended.ending _
-    (subst (λ rest. IsUnderWay c.args.job.now (texts c.args.records.now) c.loop-text.job rest c.loop-text.cycles c.loop-text.most)
-    (next_text c.args.records.now c.loop-text.text-index c.text-item.result c.deref.result.now c.loop-text-test.true c.text-item.is c.deref.ensures.value) c.loop-text.invariant.under_way)
-    c.in_ok-progress.ensures.done
-    (ap stage_of (sym c.in-Ended.is) ∙ c.in_ok-progress.ensures.stage)
-    (ap (λ n. let s : Summary = record { ending = c.in-Ended.ending; cycles = c.loop-text.cycles + 1; most = n } in s) (c.max-most.ensures ∙ ap (max c.loop-text.most) c.steps.ensures))
-
-pub loop-text-preserved : goal.loop-text-preserved
-loop-text-preserved g c =
-    let u = subst (λ rest. IsUnderWay c.args.job.now (texts c.args.records.now) c.loop-text.job rest c.loop-text.cycles c.loop-text.most)
-    (next_text c.args.records.now c.loop-text.text-index c.text-item.result c.deref.result.now c.loop-text-test.true c.text-item.is c.deref.ensures.value) c.loop-text.invariant.under_way in
+pub loop-progress-preserved : goal.loop-progress-preserved
+loop-progress-preserved g c =
+    let old = c.args.job.now in
+    let all = records_in c.args.primary.now c.args.secondary.now in
+    let mid = c.loop-progress.job in
+    let new = c.cycle_on.new.self in
+    let rest = records_in c.loop-progress.primary.now c.loop-progress.secondary.now in
+    let then = records_in c.split_needed.result.1.now c.split_needed-in-loop-progress.result.1.now in
+    let going = c.loop-progress.invariant.going in
+    let a = option_map (λ t. t.now) c.split_needed.result.0 in
+    let b = option_map (λ t. t.now) c.split_needed-in-loop-progress.result.0 in
+    let first = next_is mid Primary c.needs-need.result.primary rest.primary a going c.needs-need.ensures.primary c.split_needed.ensures.next in
+    let second = next_is mid Secondary c.needs-need.result.secondary rest.secondary b going c.needs-need.ensures.secondary c.split_needed-in-loop-progress.ensures.next in
+    let left = rest_is mid c.needs-need.result.primary c.needs-need.result.secondary rest then going c.needs-need.ensures.primary c.needs-need.ensures.secondary c.split_needed.ensures.rest
+    c.split_needed-in-loop-progress.ensures.rest in
+    let on = ap stage_of (sym c.in-Going.is) ∙ c.in_ok-progress.ensures.stage in
     record {
-      going = ap is_going (sym (ap stage_of (sym c.in-Going.is) ∙ c.in_ok-progress.ensures.stage));
-      under_way = one_more c.args.job.now c.loop-text.job c.cycle_on.new.self (texts c.args.records.now) (texts (drop (c.loop-text.text-index + 1) c.args.records.now)) c.deref.result.now
-          c.loop-text.cycles c.loop-text.most c.max-most.result u
-          c.in_ok-progress.ensures.done
-          (ap stage_of (sym c.in-Going.is) ∙ c.in_ok-progress.ensures.stage)
-          (c.max-most.ensures ∙ ap (max c.loop-text.most) c.steps.ensures);
-      few = omega (arith, c.loop-text.invariant.few);
+      going = ap is_going (sym on);
+      under_way = subst (λ (r : Records). IsUnderWay old all new r (c.loop-progress.cycles + 1) c.max-most.result) (sym left)
+          (one_more old mid new all rest a b c.loop-progress.cycles c.loop-progress.most c.max-most.result c.loop-progress.invariant.under_way first second c.in_ok-progress.ensures.done on
+          (c.max-most.ensures ∙ ap (max c.loop-progress.most) c.steps.ensures));
       low = omega (
         arith,
-        c.loop-text.invariant.low,
+        c.loop-progress.invariant.low,
         c.max-most.ensures,
         c.steps.ensures,
-        still_low c.args.job.now c.loop-text.job c.cycle_on.new.self _ _ _ c.loop-text.cycles c.loop-text.most c.loop-text.invariant.under_way c.in_ok-progress.ensures.done c.in_ok-progress.ensures.bound,
+        still_low old mid new all rest a b c.loop-progress.cycles c.loop-progress.most c.loop-progress.invariant.under_way c.in_ok-progress.ensures.done c.in_ok-progress.ensures.bound,
       );
     }
 
-pub unreachable-requires-in-Going-2 : goal.unreachable-requires-in-Going-2
-unreachable-requires-in-Going-2 g c =
-    never_going c.args.job.now c.loop-text.job c.cycle_on-2.new.self (texts c.args.records.now) c.loop-text.cycles c.loop-text.most
-    (subst (λ rest. IsUnderWay c.args.job.now (texts c.args.records.now) c.loop-text.job rest c.loop-text.cycles c.loop-text.most)
-    (ap texts (drop_all c.loop-text.text-index c.args.records.now c.loop-text-test.false)) c.loop-text.invariant.under_way)
-    c.in_ok-ending.ensures.done
-    (ap stage_of (sym c.in-Going-2.is) ∙ c.in_ok-ending.ensures.stage)
+pub loop-progress-smaller : goal.loop-progress-smaller
+loop-progress-smaller g c =
+    let mid = c.loop-progress.job in
+    let rest = records_in c.loop-progress.primary.now c.loop-progress.secondary.now in
+    let then = records_in c.split_needed.result.1.now c.split_needed-in-loop-progress.result.1.now in
+    let going = c.loop-progress.invariant.going in
+    let a = option_map (λ t. t.now) c.split_needed.result.0 in
+    let b = option_map (λ t. t.now) c.split_needed-in-loop-progress.result.0 in
+    fewer_left c.args.job.now mid c.cycle_on.new.self (records_in c.args.primary.now c.args.secondary.now) rest then a b c.loop-progress.cycles c.loop-progress.most c.loop-progress.invariant.under_way
+    (next_is mid Primary c.needs-need.result.primary rest.primary a going c.needs-need.ensures.primary c.split_needed.ensures.next)
+    (next_is mid Secondary c.needs-need.result.secondary rest.secondary b going c.needs-need.ensures.secondary c.split_needed-in-loop-progress.ensures.next)
+    (rest_is mid c.needs-need.result.primary c.needs-need.result.secondary rest then going c.needs-need.ensures.primary c.needs-need.ensures.secondary c.split_needed.ensures.rest
+    c.split_needed-in-loop-progress.ensures.rest)
+    c.in_ok-progress.ensures.done (ap stage_of (sym c.in-Going.is) ∙ c.in_ok-progress.ensures.stage)
 
-pub returns-clause-runs : goal.returns-clause-runs
-returns-clause-runs g c =
-    ends_at_file c.args.job.now c.loop-text.job c.cycle_on-2.new.self (texts c.args.records.now) c.loop-text.cycles c.loop-text.most c.in-Ended-2.ending _
-    (subst (λ rest. IsUnderWay c.args.job.now (texts c.args.records.now) c.loop-text.job rest c.loop-text.cycles c.loop-text.most)
-    (ap texts (drop_all c.loop-text.text-index c.args.records.now c.loop-text-test.false)) c.loop-text.invariant.under_way)
-    c.in_ok-ending.ensures.done
-    (ap stage_of (sym c.in-Ended-2.is) ∙ c.in_ok-ending.ensures.stage)
-    (ap (λ n. let s : Summary = record { ending = c.in-Ended-2.ending; cycles = c.loop-text.cycles + 1; most = n } in s) (c.max.ensures ∙ ap (max c.loop-text.most) c.steps-in-Ended-2.ensures))
-
-pub returns-in-Ended-clause-bound : goal.returns-in-Ended-clause-bound
-returns-in-Ended-clause-bound g c =
-    omega (
-      arith,
-      c.loop-text.invariant.low,
-      c.max-most.ensures,
-      c.steps.ensures,
-      still_low c.args.job.now c.loop-text.job c.cycle_on.new.self _ _ _ c.loop-text.cycles c.loop-text.most c.loop-text.invariant.under_way c.in_ok-progress.ensures.done c.in_ok-progress.ensures.bound,
-    )
-
-pub returns-clause-bound : goal.returns-clause-bound
-returns-clause-bound g c =
-    omega (
-      arith,
-      c.loop-text.invariant.low,
-      c.max.ensures,
-      c.steps-in-Ended-2.ensures,
-      still_low c.args.job.now c.loop-text.job c.cycle_on-2.new.self _ _ _ c.loop-text.cycles c.loop-text.most c.loop-text.invariant.under_way c.in_ok-ending.ensures.done c.in_ok-ending.ensures.bound,
-    )
+pub returns-in-Ended-clause-runs : goal.returns-in-Ended-clause-runs
+returns-in-Ended-clause-runs g c =
+    let mid = c.loop-progress.job in
+    let rest = records_in c.loop-progress.primary.now c.loop-progress.secondary.now in
+    let going = c.loop-progress.invariant.going in
+    let a = option_map (λ t. t.now) c.split_needed.result.0 in
+    let b = option_map (λ t. t.now) c.split_needed-in-loop-progress.result.0 in
+    ended_so c.args.job.now mid c.cycle_on.new.self (records_in c.args.primary.now c.args.secondary.now) rest a b c.loop-progress.cycles c.loop-progress.most c.in-Ended.ending _ c.loop-progress.invariant.under_way
+    (next_is mid Primary c.needs-need.result.primary rest.primary a going c.needs-need.ensures.primary c.split_needed.ensures.next)
+    (next_is mid Secondary c.needs-need.result.secondary rest.secondary b going c.needs-need.ensures.secondary c.split_needed-in-loop-progress.ensures.next)
+    c.in_ok-progress.ensures.done (ap stage_of (sym c.in-Ended.is) ∙ c.in_ok-progress.ensures.stage)
+    (ap (λ (n : ℕ). let s : Summary = record { ending = c.in-Ended.ending; cycles = c.loop-progress.cycles + 1; most = n } in s) (c.max-most.ensures ∙ ap (max c.loop-progress.most) c.steps.ensures))

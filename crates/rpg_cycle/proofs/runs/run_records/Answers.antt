@@ -2,18 +2,19 @@ use Rattle.std.proofs.Common.{◌≡◌, ◌≤◌, ◌++◌, List, ℕ, None, [
 use Rattle.rpg_cycle.proofs.Composing.{ok_of_err}
 use Rattle.rpg_cycle.specs.Job.{AtWork, Starts, first_fields}
 use Rattle.rpg_cycle.specs.Running.{RunsRecords, RunsWhole, course_of, summary_of}
-use Rattle.rpg_cycle.specs.Runs.{Runs, printed, stored}
+use Rattle.rpg_cycle.specs.Runs.{Records, Runs, printed, stored}
 use Rattle.rpg_cycle.specs.Stages.{is_going}
 use Rattle.rpg_cycle.specs.declared.runs.Run.{Run}
 use Rattle.rpg_cycle.specs.declared.runs.Summary.{Summary}
 use Rattle.rpg_machine.specs.Running.{config_on}
 use Rattle.rpg_object_program.specs.Object.{Object}
 use Rattle.rpg_cycle_records.specs.Earlier.{left_by}
+use Rattle.rpg_cycle_records.specs.Waiting.{unread}
 use Rattle.rpg_verify.specs.Bound.{bound}
 use Rattle.rpg_cycle.proofs.runs.run_records.Goals as goal
 
 -- a job that began on the date ran over the records
-ran_whole : (p : Object) (date : List ℕ) (j k : AtWork) (records : List (List ℕ)) (s : Summary) (r : Run) → Starts p date (first_fields p) j → RunsRecords j records s k → summary_of r ≡ s →
+ran_whole : (p : Object) (date : List ℕ) (j k : AtWork) (records : Records) (s : Summary) (r : Run) → Starts p date (first_fields p) j → RunsRecords j records s k → summary_of r ≡ s →
     r.output.print.items ≡ k.output.print → r.output.disk.items ≡ k.output.disk → RunsWhole p date records r
 ran_whole p date j k records s r starts ran same print disk = record {
   number = starts.number;
@@ -21,8 +22,8 @@ ran_whole p date j k records s r starts ran same print disk = record {
   out = ran.out;
   there = ran.there;
   run = record {
-    runs = subst (λ (x : AtWork). Runs x.program [] records (config_on None x.config) (course_of (summary_of r) ran.out ran.there)) starts.job
-        (subst (λ (x : Summary). Runs j.program [] records (config_on None j.config) (course_of x ran.out ran.there)) (sym same) ran.runs);
+    runs = subst (λ (x : AtWork). Runs x.program [] records (config_on None x.config) unread (course_of (summary_of r) ran.out ran.there)) starts.job
+        (subst (λ (x : Summary). Runs j.program [] records (config_on None j.config) unread (course_of x ran.out ran.there)) (sym same) ran.runs);
     print = print ∙ ran.print ∙ ap (λ (x : AtWork). x.output.print ++ printed ran.out) starts.job;
     disk = disk ∙ ran.disk ∙ ap (λ (x : AtWork). x.output.disk ++ stored ran.out) starts.job;
   };
@@ -35,6 +36,9 @@ pub run_on-requires-clause-first : goal.run_on-requires-clause-first
 run_on-requires-clause-first c =
     let start = c.in_ok-job.ensures.start.job in
     ap (λ (j : AtWork). j.left) start ∙ sym (ap (λ (j : AtWork). left_by j.program []) start)
+
+pub run_on-requires-clause-unread : goal.run_on-requires-clause-unread
+run_on-requires-clause-unread c = ap (λ (j : AtWork). j.inputs) c.in_ok-job.ensures.start.job
 
 pub run_on-requires-clause-top : goal.run_on-requires-clause-top
 run_on-requires-clause-top c = ap (λ (j : AtWork). j.last) c.in_ok-job.ensures.start.job

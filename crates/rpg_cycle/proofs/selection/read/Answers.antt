@@ -1,69 +1,62 @@
-use Rattle.std.proofs.Common.{◌∙◌, ℕ, List, All, sym, ap, subst, refl}
-use Rattle.rpg_cycle_records.specs.Earlier.{control_fields}
-use Rattle.rpg_cycle_records.specs.Keeping.{left_of, seen_levels}
-use Rattle.rpg_cycle.specs.Selecting.{TakesType, IsCompared}
-use Rattle.rpg_cycle.specs.declared.ends.JobEnd.TheVariants as jobs
+use Rattle.std.proofs.Common.{◌∙◌, ℕ, true, false, List, length, sym, ap, subst, refl}
+use Rattle.rpg_effect.specs.declared.input.ControlField.{ControlField}
 use Rattle.rpg_effect.specs.declared.halt.Halt.TheVariants as halts
-use Rattle.rpg_effect.specs.declared.input.InputFile.TheVariants.{Primary}
-use Rattle.rpg_cycle_records.specs.declared.levels.LastBytes.{LastBytes}
+use Rattle.rpg_cycle.specs.Selecting.{TakesType}
+use Rattle.rpg_cycle.specs.declared.ends.JobEnd.TheVariants as jobs
 use Rattle.rpg_cycle.proofs.Composing.{passed_map}
-use Rattle.rpg_cycle_records.proofs.Recording.{filled_characters}
-use Rattle.rpg_cycle.proofs.Selecting.{refused, untaken, untaken_spends, has_taken, taken_selects}
-use Rattle.rpg_object_program.specs.Kept.{IsCharacter}
-use Rattle.rpg_object_program.specs.Object.{input_length}
-use Rattle.rpg_cycle_records.specs.Fitting.{IsFilledAs}
+use Rattle.rpg_cycle.proofs.Selecting.{fields_inside, low_so, refused, taken_costs, too_low, untaken, waits, waits_so}
+use Rattle.rpg_cycle_records.specs.Earlier.{match_value}
+use Rattle.rpg_cycle_records.specs.Holding.{input_of}
+use Rattle.rpg_cycle_records.specs.Keeping.{seen_value}
+use Rattle.rpg_cycle_records.specs.Waiting.{Input, input_at}
+use Rattle.rpg_machine.specs.Running.{Running, with_charge}
 use Rattle.rpg_cycle.proofs.selection.read.Goals as goal
 
 pub returns-then-not-is_good-clause-stops : goal.returns-then-not-is_good-clause-stops
 returns-then-not-is_good-clause-stops g c =
-    refused c.args.program.now (left_of c.args.kept.now) c.args.text.now c.args.machine.now (jobs.Halt halts.BadRecord) (sym c.is_good.ensures ∙ c.if-not-is_good.true) refl
+    λ left i last. refused c.args.program.now left c.args.file c.args.text.now i c.args.machine.now (jobs.Halt halts.BadRecord) (sym c.is_good.ensures ∙ c.if-not-is_good.true) refl
 
 pub returns-in_err-row-clause-stops : goal.returns-in_err-row-clause-stops
 returns-in_err-row-clause-stops g c =
     passed_map ℕ _ c.from_residual-in_err-row.result c.in_err-row.field-0.0 _ _
-    (λ e h. untaken c.args.program.now (left_of c.args.kept.now) c.args.text.now c.deref.result.now c.args.machine.now c.take_type.new.machine e
+    (λ e h left i last. untaken c.args.program.now left c.args.file c.args.text.now c.deref.result.now i c.args.machine.now c.take_type.new.machine e
     (sym c.is_good.ensures ∙ c.if-not-is_good.false) (c.deref.ensures.value ∙ c.in_ok-fill.ensures.filled) h)
     c.from_residual-in_err-row.ensures.1 c.in_err-row.ensures.stops
 
-pub returns-in_err-row-clause-spends : goal.returns-in_err-row-clause-spends
-returns-in_err-row-clause-spends g c =
-    passed_map ℕ _ c.from_residual-in_err-row.result c.in_err-row.field-0.0 _ _
-    (λ e h. untaken_spends c.args.program.now c.deref.result.now c.args.machine.now c.take_type.new.machine e h)
-    c.from_residual-in_err-row.ensures.1 c.in_err-row.ensures.stops
+pub returns-then-not-branch-clause-stops : goal.returns-then-not-branch-clause-stops
+returns-then-not-branch-clause-stops g c =
+    let p = c.args.program.now in
+    let t = c.in_ok-row.row in
+    let full = c.fill.new.room.items in
+    let one = subst (λ (x : List ℕ). TakesType p c.args.file x c.args.machine.now t c.take_type.new.machine) c.deref.ensures.value c.in_ok-row.ensures.goes in
+    λ left i last.
+    too_low p left c.args.file c.args.text.now full i t c.args.machine.now c.take_type.new.machine c.charge.new.self (jobs.Halt halts.OutOfSequence) (sym c.is_good.ensures ∙ c.if-not-is_good.false)
+    c.in_ok-fill.ensures.filled one (fields_inside p c.args.file t full c.match_fields.result.now c.match_fields.ensures.inside c.match_fields.ensures.value c.in_ok-fill.ensures.whole one.own)
+    (c.charge.ensures.charged ∙ ap (λ (fs : List ControlField). with_charge (length fs) c.take_type.new.machine) c.match_fields.ensures.value)
+    (low_so _ (seen_value c.args.last.now) (match_value p (record { type = t; text = full })) c.in_ok-wait.field-0 false last c.in_ok-wait.ensures.waits c.if-not-branch.true) refl
+
+pub returns-then-not-branch-clause-takes : goal.returns-then-not-branch-clause-takes
+returns-then-not-branch-clause-takes g c =
+    taken_costs c.args.program.now c.args.file c.deref.result.now c.in_ok-row.row c.args.machine.now c.take_type.new.machine c.charge.new.self c.in_ok-row.ensures.goes
+    (c.charge.ensures.charged ∙ ap (λ (fs : List ControlField). with_charge (length fs) c.take_type.new.machine) c.match_fields.ensures.value)
 
 pub returns-clause-goes : goal.returns-clause-goes
 returns-clause-goes g c =
+    let p = c.args.program.now in
+    let t = c.in_ok-row.row in
     let full = c.fill.new.room.items in
-    let fields = control_fields c.args.program.now c.in_ok-row.row in
-    has_taken c.args.program.now (left_of c.args.kept.now) c.args.text.now full c.in_ok-row.row c.args.machine.now c.take_type.new.machine c.compare_levels.new.machine
-    (seen_levels c.compare_levels.new.levels) (sym c.is_good.ensures ∙ c.if-not-is_good.false) c.in_ok-fill.ensures.filled
-    (subst (λ (x : List ℕ). TakesType c.args.program.now x c.args.machine.now c.in_ok-row.row c.take_type.new.machine) c.deref.ensures.value c.in_ok-row.ensures.goes)
-    (subst (λ (x : List LastBytes). IsCompared fields full (seen_levels x) c.take_type.new.machine c.compare_levels.new.machine (seen_levels c.compare_levels.new.levels)) c.deref_mut.ensures.value
-    (subst (λ (x : List ℕ). IsCompared fields x (seen_levels c.deref_mut.result.now) c.take_type.new.machine c.compare_levels.new.machine (seen_levels c.compare_levels.new.levels)) c.deref-2.ensures.value
-    c.in_ok-compare_levels.ensures.compared))
+    let one = subst (λ (x : List ℕ). TakesType p c.args.file x c.args.machine.now t c.take_type.new.machine) c.deref.ensures.value c.in_ok-row.ensures.goes in
+    λ left i last at.
+    waits p left c.args.file c.args.text.now full i (input_of c.wait.new.self) t c.args.machine.now c.take_type.new.machine c.charge.new.self (sym c.is_good.ensures ∙ c.if-not-is_good.false)
+    c.in_ok-fill.ensures.filled one (fields_inside p c.args.file t full c.match_fields.result.now c.match_fields.ensures.inside c.match_fields.ensures.value c.in_ok-fill.ensures.whole one.own)
+    (c.charge.ensures.charged ∙ ap (λ (fs : List ControlField). with_charge (length fs) c.take_type.new.machine) c.match_fields.ensures.value)
+    (low_so _ (seen_value c.args.last.now) (match_value p (record { type = t; text = full })) c.in_ok-wait.field-0 true last c.in_ok-wait.ensures.waits c.if-not-branch.false)
+    (waits_so c.wait.new.self t full (input_at i c.args.file) (c.in_ok-wait.ensures.now c.if-not-branch.false) c.in_ok-wait.ensures.held (c.in_ok-wait.ensures.over ∙ sym (ap (λ (x : Input). x.is_over) at)))
 
-pub returns-clause-selects : goal.returns-clause-selects
-returns-clause-selects g c =
-    let full = c.fill.new.room.items in
-    let fields = control_fields c.args.program.now c.in_ok-row.row in
-    taken_selects c.args.program.now full c.in_ok-row.row (seen_levels c.deref_mut.result.now) (seen_levels c.compare_levels.new.levels) c.args.machine.now c.take_type.new.machine c.compare_levels.new.machine
-    (subst (λ (x : List ℕ). TakesType c.args.program.now x c.args.machine.now c.in_ok-row.row c.take_type.new.machine) c.deref.ensures.value c.in_ok-row.ensures.goes)
-    (subst (λ (x : List ℕ). IsCompared fields x (seen_levels c.deref_mut.result.now) c.take_type.new.machine c.compare_levels.new.machine (seen_levels c.compare_levels.new.levels)) c.deref-2.ensures.value
-    c.in_ok-compare_levels.ensures.compared)
+pub returns-clause-takes : goal.returns-clause-takes
+returns-clause-takes g c =
+    taken_costs c.args.program.now c.args.file c.deref.result.now c.in_ok-row.row c.args.machine.now c.take_type.new.machine c.charge.new.self c.in_ok-row.ensures.goes
+    (c.charge.ensures.charged ∙ ap (λ (fs : List ControlField). with_charge (length fs) c.take_type.new.machine) c.match_fields.ensures.value)
 
-pub returns-clause-characters : goal.returns-clause-characters
-returns-clause-characters g c =
-    subst (λ (xs : List ℕ). All IsCharacter xs) (sym c.in_ok-fill.ensures.filled) (filled_characters c.args.program.now Primary c.args.text.now (sym c.is_good.ensures ∙ c.if-not-is_good.false))
-
-pub compare_levels-requires-clause-whole : goal.compare_levels-requires-clause-whole
-compare_levels-requires-clause-whole g c =
-    subst (λ (x : List ℕ). IsFilledAs c.args.program.now c.in_ok-row.row x) (sym c.deref-2.ensures.value)
-    (c.in_ok-fill.ensures.whole ∙ sym (ap (input_length c.args.program.now) c.in_ok-row.ensures.goes.own))
-
-pub keep-requires-clause-filled : goal.keep-requires-clause-filled
-keep-requires-clause-filled g c =
-    subst (λ (x : List ℕ). IsFilledAs c.args.program.now c.in_ok-row.row x) (sym c.deref-3.ensures.value)
-    (c.in_ok-fill.ensures.whole ∙ sym (ap (input_length c.args.program.now) c.in_ok-row.ensures.goes.own))
-
-pub returns-clause-whole : goal.returns-clause-whole
-returns-clause-whole g c = c.in_ok-fill.ensures.whole ∙ sym (ap (input_length c.args.program.now) c.in_ok-row.ensures.goes.own)
+pub returns-clause-program : goal.returns-clause-program
+returns-clause-program g c = ap (λ (x : Running). x.program) c.charge.ensures.charged ∙ ap (λ (x : Running). x.program) c.in_ok-row.ensures.goes.machine

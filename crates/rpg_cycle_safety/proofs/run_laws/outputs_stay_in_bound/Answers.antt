@@ -11,17 +11,19 @@ returns-clause-section g = λ p section previous c e d out kept accepted ended n
     section_paid p (accepted_orderly p kept accepted) section previous c e d out ended none h near runs
 
 pub returns-clause-cycle : goal.returns-clause-cycle
-returns-clause-cycle g = λ p earlier next previous c e d out kept accepted h none near cycle.
-    let orderly = accepted_orderly p kept accepted in
-    (cycle_pays p orderly earlier next previous c e d out h none near cycle, cycle_in_output p orderly earlier next previous c e d out h none near cycle)
+returns-clause-cycle g = λ p earlier primary secondary previous c i e d out kept accepted h none waiting near cycle.
+    let orderly = accepted_orderly p kept accepted in (
+      cycle_pays p orderly earlier primary secondary previous c i e d out h none waiting near cycle,
+      cycle_in_output p orderly earlier primary secondary previous c i e d out h none waiting near cycle,
+    )
 
 pub returns-clause-run : goal.returns-clause-run
 returns-clause-run g = λ p text date fields records last out kept accepted is h put.
     run_in_output p (accepted_orderly p kept accepted) date fields records last out (date_small text date is) h put
 
 pub returns-clause-job : goal.returns-clause-job
-returns-clause-job g = λ old new earlier previous next e kept accepted h none near empty cycle.
-    job_in_output old new earlier previous next e (accepted_orderly old.program kept accepted) h none near empty cycle
+returns-clause-job g = λ old new earlier previous primary secondary e kept accepted h none waiting near empty cycle.
+    job_in_output old new earlier previous primary secondary e (accepted_orderly old.program kept accepted) h none waiting near empty cycle
 
 pub returns-clause-whole : goal.returns-clause-whole
 returns-clause-whole g = λ p text date fields records course bytes kept accepted is h run.

@@ -5,7 +5,7 @@ use Rattle.rpg_cards.specs.Cards.{input_on}
 use Rattle.rpg_cards.specs.Groups.{Heading, followers, input_role, role_on, input_card_role}
 use Rattle.rpg_faults.proofs.LevelLemmas.{any_at_levels}
 use Rattle.rpg_faults.proofs.TypeLemmas.{first_before, first_lengths-before}
-use Rattle.rpg_faults.specs.Places.{joins_badly, lengths_differ, level_length, levels}
+use Rattle.rpg_faults.specs.Places.{controls_badly, lengths_differ, level_length, levels}
 use Rattle.rpg_sheet_specs.specs.declared.input.InputSpec.{InputSpec}
 use Rattle.rpg_sheet_specs.specs.declared.input.InputSpec.TheVariants as input
 use Rattle.rpg_sheet_specs.specs.declared.input.RecordType.{RecordType}
@@ -19,4 +19,4 @@ returns-in-Some-Type c = λ before was.
     c.differ_from.ensures
     ∙ ap (λ ls. list_any (λ level. lengths_differ (get_or ls (level - 1) None) (level_length level (followers input_role c.args.after.now))) levels) (was.first ∙ first_lengths-before before c.args.card.now c.args.after.now t is)
     ∙ any_at_levels (first_before before c.args.card.now c.args.after.now) (λ x level. lengths_differ x (level_length level (followers input_role c.args.after.now))) None
-    ∙ sym (ap (λ (o : Option InputSpec). option_map_or (joins_badly before c.args.after.now) o false) on)
+    ∙ sym (ap (λ (o : Option InputSpec). option_map_or (controls_badly before c.args.after.now) o false) on)

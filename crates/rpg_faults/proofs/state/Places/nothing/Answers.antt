@@ -7,4 +7,5 @@ pub returns : goal.returns
 returns c = record {
   decks = subst (λ (cards : List SpecCard). AreDecks cards [] c.all.result) c.as_slice.ensures c.all.ensures;
   lengths = c.nothing.ensures _;
+  matches = c.nothing-2.ensures _;
 }

@@ -12,4 +12,4 @@ returns-in-Bad-clause-next g c =
 pub returns-in-End-clause-next : goal.returns-in-End-clause-next
 returns-in-End-clause-next g c =
     let none = rw c.in-End.is at c.in_ok-len.ensures.ok in
-    record { limit = refl; count = refl; faults = c.in_ok-len.ensures.faults; input = advances _ _ _ _ _ _ _ _ _ c.consume.ensures.bytes c.read_line.ensures.read (λ more can. ap₂ (◌++◌) none.0 (can none.1)) }
+    record { limit = refl; count = refl; faults = c.in_ok-len.ensures.faults; input = advances _ _ _ _ _ _ _ _ _ c.consume.ensures.bytes c.read_line.ensures.read (λ more can. let is = ap₂ (◌++◌) none.0 (can none.1) in (is, is)) }

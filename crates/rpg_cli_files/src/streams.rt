@@ -1,25 +1,31 @@
-//! Where the records of a run come from and its printed lines go: files, or the standard streams.
+//! Where records come from and printed lines go: files, or the standard streams.
 
-use rpg_cli_files::{FileFault, empty_file};
+use crate::files::{FileFault, empty_file};
 use std::io::{self, BufWriter, Printer, Read, Write};
 use std::rt::Files;
 
 /// Where records come from.
 #[derive(Drop)]
-pub(crate) enum RecordSource<F, S> {
+pub enum RecordSource<F, S> {
     File(F),
     StandardInput(S),
 }
 
 /// Where printed lines go, in large pieces.
 #[derive(Drop)]
-pub(crate) enum LineTarget<F: Write + Drop, P: Write + Drop> {
+pub enum LineTarget<F: Write + Drop, P: Write + Drop> {
     File(BufWriter<F>),
     StandardOutput(BufWriter<P>),
 }
 
+/// A file of records; where there is none there is nothing to read.
+#[derive(Drop)]
+pub struct OptionalFile<F> {
+    pub file: Option<F>,
+}
+
 /// The records of a file that is open, or of standard input where there is none.
-pub(crate) fn records<R: Files + Input>(
+pub fn records<R: Files + Input>(
     rt: &R,
     file: Option<R::File>,
 ) -> RecordSource<R::File, R::Reader> {
@@ -30,7 +36,7 @@ pub(crate) fn records<R: Files + Input>(
 }
 
 /// Empties a file that is open and gives what writes it, or what writes standard output where there is none.
-pub(crate) fn lines<R: Files + Print + AllocGlobal>(
+pub fn lines<R: Files + Print + AllocGlobal>(
     rt: &R,
     file: Option<R::File>,
 ) -> Result<LineTarget<R::File, Printer<'_, R>>, FileFault> {
@@ -48,6 +54,15 @@ impl<F: Read, S: Read> Read for RecordSource<F, S> {
         match self {
             RecordSource::File(file) => file.read(buf),
             RecordSource::StandardInput(reader) => reader.read(buf),
+        }
+    }
+}
+
+impl<F: Read> Read for OptionalFile<F> {
+    fn read(&mut self, buf: &mut [u8]) -> io::Result<usize> {
+        match &mut self.file {
+            Some(file) => file.read(buf),
+            None => Ok(0),
         }
     }
 }

@@ -1,0 +1,45 @@
+-- The fields of record types, by the control levels and match levels that they are parts of.
+use Rattle.std.specs.Prelude.{ℕ, ◌==◌, List, Bool, false, Option, is_some}
+use Rattle.std.specs.List.{filter, filter_map, list_any}
+use Rattle.std.specs.Option.{option_map_or}
+use Rattle.rpg_cards.specs.Cards.{input_field_in, input_field_on}
+use Rattle.rpg_cards.specs.declared.spec_card.SpecCard.{SpecCard}
+use Rattle.rpg_sheet_specs.specs.declared.input.InputField.{InputField}
+use Rattle.rpg_sheet_specs.specs.declared.input.InputSpec.{InputSpec}
+
+-- ---- which level of a field is meant: a word of this type is a choice
+
+abbrev pub control_level : InputField → Option ℕ
+control_level f = f.level
+
+abbrev pub match_level : InputField → Option ℕ
+match_level f = f.match_level
+
+-- ---- the fields on cards behind a type
+
+abbrev pub input_fields : List InputSpec → List InputField
+input_fields specs = filter_map input_field_in specs
+
+module _ (level_of : InputField → Option ℕ) where
+  abbrev pub is_at : ℕ → InputField → Bool
+  is_at level f = option_map_or (λ l. l == level) (level_of f) false
+
+  -- those with a level
+  abbrev pub fields_with : List InputSpec → List InputField
+  fields_with specs = filter (λ f. is_some (level_of f)) (input_fields specs)
+
+  -- those at one level
+  abbrev pub fields_at : ℕ → List InputSpec → List InputField
+  fields_at level specs = filter (is_at level) (input_fields specs)
+
+-- ---- match fields
+
+abbrev pub is_match_field : InputField → Bool
+is_match_field f = is_some f.match_level
+
+abbrev pub is_match_card : SpecCard → Bool
+is_match_card c = option_map_or is_match_field (input_field_on c.spec) false
+
+-- the source matches the records of its files
+abbrev pub has_match_field : List SpecCard → Bool
+has_match_field cards = list_any is_match_card cards

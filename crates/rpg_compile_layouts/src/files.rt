@@ -1,0 +1,66 @@
+//! The files that groups of I and O cards are of.
+
+ghost use Rattle.std.specs.Prelude.{◌≡◌};
+ghost use Rattle.std.specs.Option.{option_or};
+ghost use Rattle.rpg_cards.specs.Files as files;
+ghost use Rattle.rpg_compile_program.specs.Lines as lines;
+ghost use Rattle.rpg_compile_program.specs.Types as types;
+
+use rpg_cards::{FileUse, IndexedCards, use_of};
+use rpg_effect::input::InputFile;
+use rpg_effect::line::File;
+use rpg_sheet_specs::Word;
+
+/// The file that the first card of a group names, else the one before.
+pub(crate) fn own_or<'a>(
+    own: &'a Option<Word<8>>,
+    before: &'a Option<Word<8>>,
+) -> &'a Option<Word<8>>
+    ensures { result.now ≡ option_or own.now before.now }
+{
+    if own.is_some() { own } else { before }
+}
+
+/// The file of that name that lines are put out on; the printer where it isn't known.
+pub(crate) fn put_on(source: &IndexedCards, name: &Option<Word<8>>) -> File
+    ensures { result ≡ lines.output_file (files.file_by name.now source.now) }
+{
+    let Some(name) = name else {
+        return File::Printer;
+    };
+    match source.file_named(name) {
+        Some(file) => put_by(use_of(file)),
+        None => File::Printer,
+    }
+}
+
+fn put_by(file_use: FileUse) -> File
+    ensures { result ≡ lines.file_put file_use }
+{
+    match file_use {
+        FileUse::Primary | FileUse::Secondary | FileUse::Printer => File::Printer,
+        FileUse::Disk => File::Disk,
+    }
+}
+
+/// The file of that name that records are read from; the primary one where it isn't known.
+pub(crate) fn read_from(source: &IndexedCards, name: &Option<Word<8>>) -> InputFile
+    ensures { result ≡ types.input_file (files.file_by name.now source.now) }
+{
+    let Some(name) = name else {
+        return InputFile::Primary;
+    };
+    match source.file_named(name) {
+        Some(file) => read_by(use_of(file)),
+        None => InputFile::Primary,
+    }
+}
+
+fn read_by(file_use: FileUse) -> InputFile
+    ensures { result ≡ types.file_read file_use }
+{
+    match file_use {
+        FileUse::Secondary => InputFile::Secondary,
+        FileUse::Primary | FileUse::Printer | FileUse::Disk => InputFile::Primary,
+    }
+}

@@ -1,0 +1,17 @@
+-- How many records a run still has.
+use Rattle.std.specs.Prelude.{ℕ, ◌+◌, length, Option, None, Some}
+use Rattle.rpg_cycle_records.specs.Earlier.{Selected}
+use Rattle.rpg_cycle.specs.Runs.{Records}
+use Rattle.rpg_cycle_records.specs.Waiting.{Inputs}
+
+abbrev pub one_if : Option Selected → ℕ
+one_if None = 0
+one_if (Some s) = 1
+
+-- the records that wait
+abbrev pub waiting_count : Inputs → ℕ
+waiting_count i = one_if i.primary.waiting + one_if i.secondary.waiting
+
+-- the records of both lists
+abbrev pub records_count : Records → ℕ
+records_count rs = length rs.primary + length rs.secondary

@@ -1,0 +1,61 @@
+-- What a job keeps of its files.
+use Rattle.std.specs.Prelude.{◌≡◌, ℕ, ◌<◌, Bool, not, ◌&&◌, All, List, [], Option, None, Some, slice_get, length, is_none}
+use Rattle.std.specs.Option.{ForSome}
+use Rattle.rpg_cycle_records.specs.Earlier.{Selected, file_of, match_value}
+use Rattle.rpg_cycle_records.specs.Fitting.{IsFilledAs}
+use Rattle.rpg_cycle_records.specs.Keeping.{selected_as, seen_value}
+use Rattle.rpg_cycle_records.specs.Waiting.{Input, Inputs, has_file}
+use Rattle.rpg_cycle_records.specs.declared.files.KeptFile.{KeptFile}
+use Rattle.rpg_cycle_records.specs.declared.kept.Kept.{Kept}
+use Rattle.rpg_effect.specs.declared.input.InputFile.{InputFile}
+use Rattle.rpg_effect.specs.declared.input.InputFile.TheVariants.{Primary, Secondary}
+use Rattle.rpg_object_program.specs.Kept.{IsCharacter}
+use Rattle.rpg_object_program.specs.Object.{Object}
+
+-- the record that a file holds, as one of that type
+abbrev pub record_as : ℕ → KeptFile → Selected
+record_as t k = record { type = t; text = k.record.items }
+
+abbrev pub input_of : KeptFile → Input
+input_of k = record { waiting = selected_as k.waiting k.record.items; is_over = k.is_over }
+
+abbrev pub inputs_of : Kept → Inputs
+inputs_of k = record { primary = input_of k.primary; secondary = input_of k.secondary }
+
+-- the record that was taken in last from a file
+abbrev pub record_in : Kept → InputFile → List ℕ
+record_in k Primary = k.primary.record.items
+record_in k Secondary = k.secondary.record.items
+
+-- the record of a type that was selected, if one was
+abbrev pub text_in : Object → Kept → Option ℕ → List ℕ
+text_in p k None = []
+text_in p k (Some t) = record_in k (file_of (slice_get p.types t))
+
+abbrev pub kept_at : Kept → InputFile → KeptFile
+kept_at k Primary = k.primary
+kept_at k Secondary = k.secondary
+
+-- a file that is there, not at its end and without a waiting record takes one in
+abbrev pub takes_from : Object → InputFile → Input → Bool
+takes_from p f i = has_file p f && (not i.is_over && is_none i.waiting)
+
+-- a file holds a record of that type, with its match value
+pub record HoldsRecord (p : Object) (f : InputFile) (k : KeptFile) (t : ℕ) : Type 0 where
+  pub there : t < length p.types
+  pub own : file_of (slice_get p.types t) ≡ f
+  pub whole : IsFilledAs p t k.record.items
+  pub characters : All IsCharacter k.record.items
+  pub value : seen_value k.value ≡ match_value p (record_as t k)
+
+-- the record that waits, if one does, is held so
+abbrev pub IsFileKept : Object → InputFile → KeptFile → Type 0
+IsFileKept p f k = ForSome k.waiting (λ t. HoldsRecord p f k t)
+
+pub record AreFilesKept (p : Object) (k : Kept) : Type 0 where
+  pub primary : IsFileKept p Primary k.primary
+  pub secondary : IsFileKept p Secondary k.secondary
+
+-- what was selected, if anything was, is the record that its file holds
+abbrev pub HoldsSelected : Object → Kept → Option ℕ → Type 0
+HoldsSelected p k t = ForSome t (λ n. HoldsRecord p (file_of (slice_get p.types n)) (kept_at k (file_of (slice_get p.types n))) n)

@@ -1,0 +1,104 @@
+//! Files: the record that waits in each, and which of them is selected.
+ghost use Rattle.std.specs.Prelude.{◌≡◌, ◌<◌, ◌||◌, Some, true, false, not, length};
+ghost use Rattle.rpg_cycle_records.specs.Earlier.{match_value};
+ghost use Rattle.rpg_cycle_records.specs.Fitting.{IsFilledAs};
+ghost use Rattle.rpg_cycle_records.specs.Holding.{IsFileKept, input_of, record_as, takes_from};
+ghost use Rattle.rpg_cycle_records.specs.Keeping.{seen_value};
+ghost use Rattle.rpg_cycle_records.specs.Matching as values;
+ghost use Rattle.rpg_cycle_records.specs.Waiting as spec;
+ghost use Rattle.rpg_effect.specs.declared.input.InputFile.TheVariants as files;
+
+use crate::matching::{LONGEST_VALUE, MatchValue};
+use crate::program::{input_length, match_fields};
+use rpg_effect::input::InputFile;
+use rpg_verify::Verified;
+use std::alloc::{AllocError, Global};
+
+/// What a job keeps of a file. Its room is made at once, so that a cycle allocates nothing.
+#[derive(Drop)]
+pub struct KeptFile {
+    /// The row of the waiting record's type, the first being 0, if a record waits.
+    pub waiting: Option<usize>,
+    /// Whether the end of the file was read.
+    pub is_over: bool,
+    /// The record that was taken in last, filled to its length.
+    pub record: Vec<u8>,
+    /// The match value of that record.
+    pub value: MatchValue,
+}
+
+impl KeptFile {
+    ghost use Rattle.std.specs.Prelude.{None, IfOk, OnOk};
+
+    /// Nothing was read yet. Room is made for a record of the file and for a match value.
+    pub fn new(alloc: Global, program: &Verified, file: InputFile) -> Result<KeptFile, AllocError>
+        ensures nothing { IfOk result (λ k. k.waiting ≡ None) }
+        ensures open { IfOk result (λ k. k.is_over ≡ false) }
+    {
+        Ok(KeptFile {
+            waiting: None,
+            is_over: false,
+            record: Vec::with_capacity(alloc, input_length(program, file))?,
+            value: MatchValue::none(alloc, LONGEST_VALUE)?,
+        })
+    }
+
+    /// Whether the file takes a record in: it is there, not at its end, and no record of it waits.
+    pub fn takes_in(&self, program: &Verified, file: InputFile) -> bool
+        ensures { result ≡ takes_from program.now file (input_of self.now) }
+    {
+        input_length(program, file) != 0 && !self.is_over && self.waiting.is_none()
+    }
+
+    /// Takes the match value of the record, which is of a type, the first of which is 0. The record waits, unless its value is lower than
+    /// the file's last one; answers whether it does. It takes memory only where the room of a value is too small; on an error the value
+    /// is of no use.
+    pub fn wait(
+        &mut self,
+        program: &Verified,
+        row: usize,
+        last: &MatchValue,
+    ) -> Result<bool, AllocError>
+        requires there { row < length program.now.types }
+        requires filled { IsFilledAs program.now row self.old.record.items }
+        ensures waits { IfOk result (λ b. b ≡ not (values.exceeds (seen_value last.now) (match_value program.now (record_as row self.old)))) }
+        ensures now { IfOk result (λ b. b ≡ true → self.new.waiting ≡ Some row) }
+        ensures value { IfOk result (λ b. seen_value self.new.value ≡ match_value program.now (record_as row self.old)) }
+        ensures held { IfOk result (λ b. self.new.record.items ≡ self.old.record.items) }
+        ensures over { IfOk result (λ b. self.new.is_over ≡ self.old.is_over) }
+    {
+        self.value.take(match_fields(program, row), &self.record)?;
+        if last.exceeds(&self.value) {
+            return Ok(false);
+        }
+        self.waiting = Some(row);
+        Ok(true)
+    }
+}
+
+/// The file whose record goes first, by the match values of two records that wait.
+fn first_of(primary: &MatchValue, secondary: &MatchValue) -> InputFile
+    ensures { result ≡ spec.first_of (seen_value primary.now) (seen_value secondary.now) }
+{
+    if primary.is_there && (!secondary.is_there || primary.exceeds(secondary)) {
+        InputFile::Secondary
+    } else {
+        InputFile::Primary
+    }
+}
+
+/// The file whose record is selected, if any waits.
+#[tactic(auto, using(crate::proofs::Choosing::both_wait))]
+pub fn chosen(program: &Verified, primary: &KeptFile, secondary: &KeptFile) -> Option<InputFile>
+    requires primary { IsFileKept program.now files.Primary primary.now }
+    requires secondary { IsFileKept program.now files.Secondary secondary.now }
+    ensures { result ≡ spec.chosen program.now (input_of primary.now).waiting (input_of secondary.now).waiting }
+{
+    let _program = program;
+    match (primary.waiting, secondary.waiting) {
+        (None, None) => None,
+        (Some(_), None) => Some(InputFile::Primary),
+        (None, Some(_)) => Some(InputFile::Secondary),
+        (Some(_), Some(_)) => Some(first_of(&primary.value, &secondary.value)),
+    }
+}

@@ -1,0 +1,21 @@
+-- Records that wait in their files, well kept.
+use Rattle.std.specs.Option.{ForSome}
+use Rattle.std.specs.Prelude.{◌≡◌, ◌<◌, All, length}
+use Rattle.rpg_cycle_records.specs.Earlier.{Selected, file_at}
+use Rattle.rpg_cycle_records.specs.Waiting.{Inputs}
+use Rattle.rpg_effect.specs.declared.input.InputFile.{InputFile}
+use Rattle.rpg_effect.specs.declared.input.InputFile.TheVariants.{Primary, Secondary}
+use Rattle.rpg_object_program.specs.Kept.{IsCharacter}
+use Rattle.rpg_object_program.specs.Object.{Object, input_length}
+
+-- a record is of a type of the file, is as long as the file's records, and is characters
+pub record IsWaitingIn (p : Object) (f : InputFile) (s : Selected) : Type 0 where
+  pub there : s.type < length p.types
+  pub own : file_at p s ≡ f
+  pub long : length s.text ≡ input_length p f
+  pub characters : All IsCharacter s.text
+
+-- so is what waits in each file, where something does
+pub record AreWaiting (p : Object) (i : Inputs) : Type 0 where
+  pub primary : ForSome i.primary.waiting (λ s. IsWaitingIn p Primary s)
+  pub secondary : ForSome i.secondary.waiting (λ s. IsWaitingIn p Secondary s)

@@ -1,0 +1,41 @@
+-- What the match fields of the cards before a card come to.
+use Rattle.std.specs.Prelude.{◌≡◌, ℕ, List, [], ◌∷◌, ◌++◌, Bool, false, min, map, take, sum_by, Option, None, Some}
+use Rattle.std.specs.List.{list_any}
+use Rattle.std.specs.Option.{option_map}
+use Rattle.rpg_cards.specs.Groups.{group_count, groups, input_role, open_group}
+use Rattle.rpg_cards.specs.Levels.{is_at, match_level}
+use Rattle.rpg_cards.specs.declared.spec_card.SpecCard.{SpecCard}
+use Rattle.rpg_faults.specs.Lengths.{input_specs_in}
+use Rattle.rpg_faults.specs.Places.{first_matches, good_matches, has_bad, has_twice, input_columns, levels, match_fields}
+use Rattle.rpg_faults.specs.declared.matches.Matches.{Matches}
+use Rattle.rpg_faults.specs.declared.matches.OpenMatches.{OpenMatches}
+use Rattle.rpg_sheet_specs.specs.declared.input.InputField.{InputField}
+use Rattle.rpg_sheet_specs.specs.declared.input.InputSpec.{InputSpec}
+
+-- those of the types up to the open one, with all their fields
+abbrev pub first_of_types : List SpecCard → List SpecCard → Option (List ℕ)
+first_of_types cards before = first_matches (take (group_count input_role before) (groups input_role cards))
+
+abbrev pub has_level : List InputField → ℕ → Bool
+has_level fs level = list_any (is_at match_level level) fs
+
+-- which levels a type's match fields have, and their columns; what is more counts as 65,535
+abbrev pub matches_of : List InputSpec → OpenMatches
+matches_of specs = record { levels = map (has_level (match_fields specs)) levels; length = min (sum_by input_columns (match_fields specs)) 65535 }
+
+pub record AreMatches (cards before : List SpecCard) (m : Matches) : Type 0 where
+  pub first : m.first ≡ first_of_types cards before
+  pub open_type : m.open_type ≡ option_map matches_of (input_specs_in (open_group input_role before))
+
+-- ---- a type's match fields, one by one
+
+-- so far each level stands once, with good columns
+pub record AreGood (fs : List InputField) (found : Option (List ℕ)) : Type 0 where
+  pub columns : has_bad fs ≡ false
+  pub once : has_twice fs ≡ false
+  pub lengths : found ≡ good_matches fs
+
+-- one more, which makes them good or bad
+abbrev pub AreWith : List InputField → InputField → Option (List ℕ) → Type 0
+AreWith fs f (Some lengths) = AreGood (fs ++ f ∷ []) (Some lengths)
+AreWith fs f None = (rest : List InputField) → good_matches (fs ++ f ∷ rest) ≡ None

@@ -1,0 +1,214 @@
+//! The match fields of record types.
+
+ghost use Rattle.std.specs.Prelude.{◌≡◌, ◌+◌, ◌-◌, ◌≤◌, [], ◌∷◌, ◌++◌, ◌&&◌, ◌||◌, List, Option, Some, false, nat_le, nat_lt, slice_index_or};
+ghost use Rattle.std.specs.Option.{option_map, option_map_or};
+ghost use Rattle.rpg_cards.specs.Cards.{input_on};
+ghost use Rattle.rpg_cards.specs.Groups.{followers, input_role, open_group};
+ghost use Rattle.rpg_cards.specs.declared.spec_card.SpecCard.{SpecCard};
+ghost use Rattle.rpg_faults.specs.Lengths.{input_specs_in};
+ghost use Rattle.rpg_faults.specs.Matches.{AreGood, AreMatches, AreWith, matches_of};
+ghost use Rattle.rpg_faults.specs.Places as rules;
+ghost use Rattle.rpg_sheet_specs.specs.declared.input.InputField.{InputField};
+ghost use Rattle.rpg_sheet_specs.specs.declared.input.InputSpec.{InputSpec};
+ghost use Rattle.rpg_sheet_specs.specs.declared.input.InputSpec.TheVariants as input;
+
+use crate::lengths::columns_of;
+use rpg_cards::SpecCard;
+use rpg_sheet_specs::{InputField, InputSpec};
+
+/// The greatest length of a type's match fields together.
+const LIMIT: u16 = 256;
+
+/// The match fields of a type so far.
+#[derive(Clone, Copy)]
+pub(crate) struct OpenMatches {
+    /// Whether one has the level, M1 first.
+    levels: [bool; 9],
+    /// The columns of all; what is more counts as `u16::MAX`.
+    length: u16,
+}
+
+/// The match fields of record types.
+#[derive(Clone, Copy)]
+pub(crate) struct Matches {
+    /// The lengths of M1 to M9 in the first type that has match fields, all of them good.
+    first: Option<[u16; 9]>,
+    open_type: Option<OpenMatches>,
+}
+
+impl OpenMatches {
+    /// Before the fields of a type.
+    const NONE: OpenMatches = OpenMatches {
+        levels: [false; 9],
+        length: 0,
+    };
+
+    fn with(self, field: &InputField) -> Self
+        ensures { (specs : List InputSpec) → self ≡ matches_of specs → result ≡ matches_of (specs ++ input.Field field.now ∷ []) }
+    {
+        match field.match_level {
+            None => self,
+            Some(level) => {
+                let mut levels = self.levels;
+                levels[level.number() as usize - 1] = true;
+                OpenMatches {
+                    levels,
+                    length: self.length.saturating_add(columns_of(field)),
+                }
+            }
+        }
+    }
+
+    /// Whether a match field has a level that is there, or all of them are too long with it.
+    fn refuse(self, field: &InputField) -> bool
+        ensures { (specs : List InputSpec) → let fs = rules.match_fields specs in self ≡ matches_of specs → result ≡ (rules.repeats fs field.now || rules.passes_matches fs field.now) }
+    {
+        match field.match_level {
+            None => false,
+            Some(level) => self.has(level.number()) || self.pass_limit_with(columns_of(field)),
+        }
+    }
+
+    fn has(self, level: u8) -> bool
+        requires low { 1 ≤ level }
+        requires high { level ≤ 9 }
+        ensures { result ≡ slice_index_or self.levels (level - 1) false }
+    {
+        self.levels[level as usize - 1]
+    }
+
+    /// Whether the length passes its limit with so many columns.
+    fn pass_limit_with(self, columns: u16) -> bool
+        ensures { result ≡ (nat_le self.length 256 && nat_lt 256 (self.length + columns)) }
+    {
+        self.length <= LIMIT && self.length.saturating_add(columns) > LIMIT
+    }
+}
+
+impl Matches {
+    /// Before all cards.
+    pub(crate) fn nothing() -> Self
+        ensures { (cards : List SpecCard) → AreMatches cards [] result }
+    {
+        Matches {
+            first: None,
+            open_type: None,
+        }
+    }
+
+    /// With one more card, before those behind it.
+    pub(crate) fn with(self, card: &SpecCard, after: &[SpecCard]) -> Self
+        ensures { (before : List SpecCard) → let cards = before ++ card.now ∷ after.now in AreMatches cards before self → AreMatches cards (before ++ card.now ∷ []) result }
+    {
+        let first = self.first;
+        match card.input() {
+            Some(InputSpec::Type(_)) => {
+                let own = good_matches(after);
+                let first = first.or(own);
+                Matches {
+                    first,
+                    open_type: Some(OpenMatches::NONE),
+                }
+            }
+            Some(InputSpec::Field(field)) => Matches {
+                first,
+                open_type: with_field(self.open_type, field),
+            },
+            Some(InputSpec::And(_)) => self,
+            None => self,
+        }
+    }
+
+    /// Whether a type has other match fields than the first type with some, or a field's match level is there or the fields are too long with it.
+    pub(crate) fn join_badly(&self, card: &SpecCard, after: &[SpecCard]) -> bool
+        ensures { (before : List SpecCard) → AreMatches (before ++ card.now ∷ after.now) before self.now → result ≡ option_map_or (rules.matches_badly before after.now) (input_on card.now.spec) false }
+    {
+        match card.input() {
+            Some(InputSpec::Type(_)) => {
+                let own = good_matches(after);
+                are_other(self.first, own)
+            }
+            Some(InputSpec::Field(field)) => {
+                let matches = self.of_open_type();
+                matches.refuse(field)
+            }
+            _ => false,
+        }
+    }
+
+    /// Those of the open type: none where no type is open.
+    fn of_open_type(&self) -> OpenMatches
+        ensures { (before : List SpecCard) → self.now.open_type ≡ option_map matches_of (input_specs_in (open_group input_role before)) → result ≡ matches_of (rules.open_specs before) }
+    {
+        match self.open_type {
+            None => OpenMatches::NONE,
+            Some(matches) => matches,
+        }
+    }
+}
+
+/// The match fields of the open type with a further field.
+fn with_field(open_type: Option<OpenMatches>, field: &InputField) -> Option<OpenMatches>
+    ensures { (specs : Option (List InputSpec)) → open_type ≡ option_map matches_of specs → result ≡ option_map (λ fs. matches_of (fs ++ input.Field field.now ∷ [])) specs }
+{
+    Some(open_type?.with(field))
+}
+
+fn are_other(first: Option<[u16; 9]>, own: Option<[u16; 9]>) -> bool
+    ensures { result ≡ rules.matches_differ first own }
+{
+    match (first, own) {
+        (Some(first), Some(own)) => first != own,
+        _ => false,
+    }
+}
+
+/// The lengths of M1 to M9 up to the next record type: none without a match field, with a level that stands twice, or with bad columns.
+fn good_matches(after: &[SpecCard]) -> Option<[u16; 9]>
+    ensures { result ≡ rules.good_matches (rules.match_fields (followers input_role after.now)) }
+{
+    matches_behind(None, after)
+}
+
+/// The same with the lengths of match fields that stand before.
+fn matches_behind(found: Option<[u16; 9]>, after: &[SpecCard]) -> Option<[u16; 9]>
+    ensures { (fs : List InputField) → AreGood fs found → result ≡ rules.good_matches (fs ++ rules.match_fields (followers input_role after.now)) }
+{
+    let Some((card, rest)) = after.split_first() else {
+        return found;
+    };
+    match card.input() {
+        Some(InputSpec::Type(_)) => found,
+        Some(InputSpec::Field(field)) => match field.match_level {
+            None => matches_behind(found, rest),
+            Some(level) => {
+                let columns = columns_of(field);
+                let number = level.number();
+                let lengths = lengths_with(found, number, columns)?;
+                matches_behind(Some(lengths), rest)
+            }
+        },
+        Some(InputSpec::And(_)) => matches_behind(found, rest),
+        None => matches_behind(found, rest),
+    }
+}
+
+/// The lengths with a field of a level: none where the level is there, or the columns are bad.
+fn lengths_with(found: Option<[u16; 9]>, level: u8, columns: u16) -> Option<[u16; 9]>
+    requires low { 1 ≤ level }
+    requires high { level ≤ 9 }
+    ensures { (fs : List InputField) (f : InputField) → AreGood fs found → f.match_level ≡ Some level → columns ≡ rules.input_columns f → AreWith fs f result }
+{
+    let mut lengths = found.unwrap_or([0; 9]);
+    let i = level as usize - 1;
+    if columns == 0 {
+        return None;
+    }
+    let before = lengths[i];
+    if before == 0 {
+        lengths[i] = columns;
+        Some(lengths)
+    } else {
+        None
+    }
+}
