@@ -1,6 +1,7 @@
 //! A source as a person reads it: `rpg2 list`.
 #![tactic(auto)]
 
+mod blocks;
 mod cards;
 mod chart;
 mod deck;

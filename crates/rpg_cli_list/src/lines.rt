@@ -1,7 +1,8 @@
 //! Lines: when each is put out, how it looks, and where its fields stand.
 
+use crate::blocks::{followers, put_heading};
 use crate::chart::{Chart, first_place};
-use crate::files::{DescribedFile, FileIndex};
+use crate::files::{DescribedFile, FileIndex, length_words};
 use crate::picture::{fill_of, picture};
 use crate::words::put_when;
 use rpg_cards::{FileUse, IndexedCards, SpecCard};
@@ -10,7 +11,7 @@ use rpg_cli_show_fields::{code_letter, fill_words, put_spacing, quoted, time_wor
 use rpg_edit_marks::Fill;
 use rpg_effect::line::{Spacing, Time};
 use rpg_sheet_specs::{
-    Entry, EntryIndex, LineTime, Movement, OutputField, OutputRecord, OutputSpec, Word,
+    Entry, EntryIndex, LineTime, Movement, OutputField, OutputRecord, OutputSpec,
 };
 use std::alloc::{AllocError, Global};
 use std::fmt::Write;
@@ -49,37 +50,6 @@ fn spacing_of(movement: Movement) -> Spacing {
             skip_after: skip_after.map_or(0, |line| line.number()),
             space_after: space_after.map_or(0, |lines| lines.number()),
         },
-    }
-}
-
-/// The cards of a line behind its first.
-fn followers(behind: &[SpecCard]) -> &[SpecCard] {
-    let end = behind.iter().position(|card| card.line().is_some());
-    match end {
-        Some(end) => behind.get(..end).unwrap_or(&[]),
-        None => behind,
-    }
-}
-
-/// The file of the lines behind, where a card names it.
-fn put_file(
-    alloc: Global,
-    out: &mut String,
-    name: Option<&Word<8>>,
-    file: Option<DescribedFile>,
-) -> Result<(), AllocError> {
-    out.push_str("\nLINES")?;
-    if let Some(name) = name {
-        let name = name_text(alloc, name.as_slice())?;
-        write!(out, " OF {name}")?;
-    }
-    match file {
-        Some(file) => {
-            let length = file.record_length;
-            let words = crate::files::length_words(file.serves_as);
-            writeln!(out, ", {length} {words}")
-        }
-        None => out.push('\n'),
     }
 }
 
@@ -251,10 +221,12 @@ pub(crate) fn put_lines(
             file = files.named(name);
         }
         if is_first || record.file.is_some() {
-            put_file(alloc, out, record.file.as_ref(), file)?;
+            let length = file.map(|file| (file.record_length, length_words(file.serves_as)));
+            put_heading(alloc, out, "LINES", record.file.as_ref(), length)?;
         }
         is_first = false;
-        let behind = followers(cards.get(place.saturating_add(1)..).unwrap_or(&[]));
+        let behind = cards.get(place.saturating_add(1)..).unwrap_or(&[]);
+        let behind = followers(behind, behind.iter().position(|card| card.line().is_some()));
         put_head(out, card.number, record, file, behind)?;
         put_line(alloc, out, source, file, behind)?;
     }

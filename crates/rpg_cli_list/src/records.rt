@@ -1,43 +1,14 @@
 //! Record types with their codes and fields.
 
+use crate::blocks::{followers, put_heading};
 use crate::chart::{Chart, MOST_DRAWN};
 use crate::files::{DescribedFile, FileIndex};
 use rpg_cards::{SpecCard, number_of};
 use rpg_cli_list_names::name_text;
 use rpg_cli_show_fields::{Indicator, put_shown, quoted};
-use rpg_sheet_specs::{InputField, InputSpec, RecordCode, RecordType, Three, Word};
+use rpg_sheet_specs::{InputField, InputSpec, RecordCode, RecordType, Three};
 use std::alloc::{AllocError, Global};
 use std::fmt::Write;
-
-/// The cards of a type behind its first.
-fn followers(behind: &[SpecCard]) -> &[SpecCard] {
-    let end = behind.iter().position(|card| card.record_type().is_some());
-    match end {
-        Some(end) => behind.get(..end).unwrap_or(&[]),
-        None => behind,
-    }
-}
-
-/// The file of the types behind, where a card names it.
-fn put_file(
-    alloc: Global,
-    out: &mut String,
-    name: Option<&Word<8>>,
-    file: Option<DescribedFile>,
-) -> Result<(), AllocError> {
-    out.push_str("\nRECORDS")?;
-    if let Some(name) = name {
-        let name = name_text(alloc, name.as_slice())?;
-        write!(out, " OF {name}")?;
-    }
-    match file {
-        Some(file) => {
-            let length = file.record_length;
-            writeln!(out, ", {length} columns")
-        }
-        None => out.push('\n'),
-    }
-}
 
 /// Which type it is, and what it turns on.
 fn put_head(
@@ -220,10 +191,12 @@ pub(crate) fn put_records(
             file = files.named(name);
         }
         if is_first || record_type.file.is_some() {
-            put_file(alloc, out, record_type.file.as_ref(), file)?;
+            let length = file.map(|file| (file.record_length, "columns"));
+            put_heading(alloc, out, "RECORDS", record_type.file.as_ref(), length)?;
         }
         is_first = false;
-        let behind = followers(cards.get(place.saturating_add(1)..).unwrap_or(&[]));
+        let behind = cards.get(place.saturating_add(1)..).unwrap_or(&[]);
+        let behind = followers(behind, behind.iter().position(|card| card.record_type().is_some()));
         put_type(alloc, out, file, card.number, record_type, behind)?;
     }
     Ok(())

@@ -39,23 +39,23 @@ factor_digits cards f = option_and_then (λ x. digits_of (form_of_factor x cards
 abbrev pub result_digits : List SpecCard → Option Entry → Option ℕ
 result_digits cards r = option_and_then (λ (e : Entry). digits_of (form_of_name e.name cards)) r
 
-abbrev pub greatest : Option ℕ → Option ℕ → Option ℕ
-greatest (Some a) (Some b) = Some (if nat_le a b then b else a)
-greatest (Some a) None = Some a
-greatest None b = b
+abbrev pub greater_of : Option ℕ → Option ℕ → Option ℕ
+greater_of (Some a) (Some b) = Some (if nat_le a b then b else a)
+greater_of (Some a) None = Some a
+greater_of None b = b
 
 -- a product with a fraction is mostly the shorter
 abbrev pub is_fraction : Option ℕ → Bool
 is_fraction n = option_map_or (λ x. x == 0) n false
 
 abbrev pub product_digits : Option ℕ → Option ℕ → Option ℕ
-product_digits a b = if is_fraction a || is_fraction b then None else greatest a b
+product_digits a b = if is_fraction a || is_fraction b then None else greater_of a b
 
 abbrev pub wanted_by : Option Operation → Option ℕ → Option ℕ → Option ℕ
-wanted_by (Some operation.Add) a b = greatest a b
-wanted_by (Some operation.Subtract) a b = greatest a b
-wanted_by (Some operation.ZeroAdd) a b = greatest a b
-wanted_by (Some operation.ZeroSubtract) a b = greatest a b
+wanted_by (Some operation.Add) a b = greater_of a b
+wanted_by (Some operation.Subtract) a b = greater_of a b
+wanted_by (Some operation.ZeroAdd) a b = greater_of a b
+wanted_by (Some operation.ZeroSubtract) a b = greater_of a b
 wanted_by (Some operation.Multiply) a b = product_digits a b
 wanted_by o a b = None
 

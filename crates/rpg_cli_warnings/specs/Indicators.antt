@@ -26,28 +26,28 @@ output_conditions (output.And t) = t
 output_conditions (output.Or t) = t
 output_conditions (output.Field f) = f.conditions
 
-abbrev pub conditions_on : Spec → Option (Three (Option Condition))
-conditions_on (spec.Header h) = None
-conditions_on (spec.File f) = None
-conditions_on (spec.Extension e) = None
-conditions_on (spec.Input i) = None
-conditions_on (spec.Calculation k) = Some k.conditions
-conditions_on (spec.Output o) = Some (output_conditions o)
-conditions_on (spec.Data d) = None
+abbrev pub asked_on : Spec → Option (Three (Option Condition))
+asked_on (spec.Header h) = None
+asked_on (spec.File f) = None
+asked_on (spec.Extension e) = None
+asked_on (spec.Input i) = None
+asked_on (spec.Calculation k) = Some k.conditions
+asked_on (spec.Output o) = Some (output_conditions o)
+asked_on (spec.Data d) = None
 
 -- the first of a card's nine columns of conditions
 abbrev pub conditions_begin : Spec → ℕ
 conditions_begin (spec.Calculation k) = 9
 conditions_begin s = 23
 
-abbrev pub is_of : ℕ → Option Condition → Bool
-is_of n c = option_map_or (λ x. x.indicator == n) c false
+abbrev pub one_asks : ℕ → Option Condition → Bool
+one_asks n c = option_map_or (λ x. x.indicator == n) c false
 
 abbrev pub any_asks : ℕ → Three (Option Condition) → Bool
-any_asks n t = is_of n t.first || is_of n t.second || is_of n t.third
+any_asks n t = one_asks n t.first || one_asks n t.second || one_asks n t.third
 
 abbrev pub asks : ℕ → SpecCard → Bool
-asks n c = option_map_or (any_asks n) (conditions_on c.spec) false
+asks n c = option_map_or (any_asks n) (asked_on c.spec) false
 
 -- the place of the first of three that is so, of which each takes so many columns
 abbrev pub place_of : {X : Type 0} → (X → Bool) → ℕ → Three X → ℕ
@@ -57,7 +57,7 @@ abbrev pub columns_from : ℕ → ℕ → ColumnFault
 columns_from column more = record { column = column; last = column + more }
 
 abbrev pub asked_columns : ℕ → SpecCard → ColumnFault
-asked_columns n c = columns_from (conditions_begin c.spec + option_map_or (place_of (is_of n) 3) (conditions_on c.spec) 6) 2
+asked_columns n c = columns_from (conditions_begin c.spec + option_map_or (place_of (one_asks n) 3) (asked_on c.spec) 6) 2
 
 -- ---- turning on
 

@@ -46,8 +46,8 @@ noted_beside placed field None = placed ++ field ∷ []
 noted_beside placed field (Some below) = placed
 
 -- these fields, and one more that lies over none of them
-abbrev pub noted : List Placed → Placed → List Placed
-noted placed field = noted_beside placed field (find (meet field) placed)
+abbrev pub noted_field : List Placed → Placed → List Placed
+noted_field placed field = noted_beside placed field (find (meet field) placed)
 
 -- a line begins with no field
 abbrev pub at_card : SpecCard → List Placed → List Placed
@@ -59,7 +59,7 @@ warned_on placed (Some field) = warned placed field
 
 abbrev pub noted_on : List Placed → Option Placed → List Placed
 noted_on placed None = placed
-noted_on placed (Some field) = noted placed field
+noted_on placed (Some field) = noted_field placed field
 
 -- the fields over each other on these cards, where these fields stand on the line so far
 abbrev pub overlaps_from : List SpecCard → List Placed → List SpecCard → List Warning

@@ -7,8 +7,8 @@ use rpg_cards::SpecCard;
 use rpg_sheet_specs::{ColumnFault, Condition, OutputSpec, Spec, Three};
 
 /// The conditions of a card.
-fn conditions_on(card: &SpecCard) -> Option<Three<Option<Condition>>>
-    ensures { result ≡ indicators.conditions_on card.now.spec }
+fn asked_on(card: &SpecCard) -> Option<Three<Option<Condition>>>
+    ensures { result ≡ indicators.asked_on card.now.spec }
 {
     match &card.spec {
         Spec::Calculation(calculation) => Some(calculation.conditions),
@@ -35,7 +35,7 @@ fn conditions_begin(card: &SpecCard) -> u8
 }
 
 fn names(condition: Option<Condition>, indicator: u8) -> bool
-    ensures { result ≡ indicators.is_of indicator condition }
+    ensures { result ≡ indicators.one_asks indicator condition }
 {
     match condition {
         None => false,
@@ -47,7 +47,7 @@ fn names(condition: Option<Condition>, indicator: u8) -> bool
 pub(crate) fn asks(card: &SpecCard, indicator: u8) -> bool
     ensures { result ≡ indicators.asks indicator card.now }
 {
-    match conditions_on(card) {
+    match asked_on(card) {
         None => false,
         Some(conditions) => {
             names(conditions.first, indicator)
@@ -62,7 +62,7 @@ pub(crate) fn asked_columns(card: &SpecCard, indicator: u8) -> ColumnFault
     ensures { result ≡ indicators.asked_columns indicator card.now }
 {
     let begin = conditions_begin(card);
-    let place = match conditions_on(card) {
+    let place = match asked_on(card) {
         Some(conditions) if names(conditions.first, indicator) => 0,
         Some(conditions) if names(conditions.second, indicator) => 3,
         _ => 6,

@@ -53,8 +53,8 @@ fn result_digits(source: &IndexedCards, result_field: &Option<Entry>) -> Option<
     }
 }
 
-fn greatest(a: Option<u16>, b: Option<u16>) -> Option<u16>
-    ensures { result ≡ digits.greatest a b }
+fn greater_of(a: Option<u16>, b: Option<u16>) -> Option<u16>
+    ensures { result ≡ digits.greater_of a b }
 {
     match (a, b) {
         (Some(a), Some(b)) => Some(if a <= b { b } else { a }),
@@ -79,7 +79,7 @@ fn product_digits(a: Option<u16>, b: Option<u16>) -> Option<u16>
     if is_fraction(a) || is_fraction(b) {
         None
     } else {
-        greatest(a, b)
+        greater_of(a, b)
     }
 }
 
@@ -91,7 +91,7 @@ fn wanted_digits(source: &IndexedCards, calculation: &CalculationSpec) -> Option
     let b = factor_digits(source, &calculation.factor_2);
     match calculation.operation {
         Some(Operation::Add | Operation::Subtract | Operation::ZeroAdd | Operation::ZeroSubtract) =>
-            greatest(a, b),
+            greater_of(a, b),
         Some(Operation::Multiply) => product_digits(a, b),
         _ => None,
     }

@@ -72,7 +72,7 @@ fn note(
     field: Placed,
 ) -> Result<(), AllocError>
     ensures warnings { OnOk result (warnings.new.items ≡ warnings.old.items ++ overlaps.warned placed.old.items field) }
-    ensures placed { OnOk result (placed.new.items ≡ overlaps.noted placed.old.items field) }
+    ensures placed { OnOk result (placed.new.items ≡ overlaps.noted_field placed.old.items field) }
 {
     match first_below(placed, &field) {
         Some(below) => warnings.push(Warning {

@@ -88,7 +88,11 @@ insert_keeps eq P known (x ∷ xs) h g = insert_keeps eq P (insert_key eq known 
     by true = h
     by false = each_append P known (x ∷ []) h (g.0, tt)
 
+-- no constant of a program is out of its range
+pub all_constants : (cards : List SpecCard) → AreCards cards → Each IsConstant (constants cards)
+all_constants cards h = insert_keeps is_same IsConstant [] (constants_in cards) tt (on_cards cards h)
+
 pub constants_fit : (cards : List SpecCard) → AreCards cards → AreValuesOf (map constant_form (constants cards)) (map constant_values (constants cards))
 constants_fit cards h =
     all_fit constant_form constant_values (constants cards)
-    (each_map IsConstant (λ c. AreEntriesOf (constant_form c) (constant_values c)) (constants cards) constant_fits (insert_keeps is_same IsConstant [] (constants_in cards) tt (on_cards cards h)))
+    (each_map IsConstant (λ c. AreEntriesOf (constant_form c) (constant_values c)) (constants cards) constant_fits (all_constants cards h))

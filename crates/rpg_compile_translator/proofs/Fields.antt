@@ -2,15 +2,14 @@
 use Rattle.std.proofs.Common.{◌≡◌, ℕ, ◌+◌, ◌-◌, ◌≤◌, Bool, true, false, cond, leb, List, [], ◌∷◌, ◌++◌, length, map, Option, None, Some, refl, subst, arith}
 use Rattle.std.proofs.lemmas.Bool.{and_parts, leb-true}
 use Rattle.std.specs.Cmp.Lexicographic.{pointwise}
-use Rattle.std.specs.List.{flat_map, list_any}
+use Rattle.std.specs.List.{flat_map}
 use Rattle.std.specs.Map.{lookup}
 use Rattle.std.specs.Option.{ForSome, option_and_then, option_map, option_to_list}
-use Rattle.std.specs.Prelude.{All, ◌&&◌, is_none, is_some, nat_eq, nat_le}
-use Rattle.indexmap.specs.IndexSet.{insert_all, insert_key}
+use Rattle.std.specs.Prelude.{All, ◌&&◌, is_some, nat_eq, nat_le}
 use Rattle.rpg_cards.specs.Keys.{Named}
 use Rattle.rpg_cards.specs.Plain.{Each}
 use Rattle.rpg_cards.specs.Cards.{calculation_on, extension_on, input_field_on}
-use Rattle.rpg_cards.specs.Constants.{IsConstant, constant_form, constants, constants_in, constants_on, factor_constant, is_same, text_constant}
+use Rattle.rpg_cards.specs.Constants.{IsConstant, constant_form, constants}
 use Rattle.rpg_cards.specs.Names.{definition_by, definition_in, definition_of, definitions, definitions_on, form_with, is_table_name, sized, sized_form, tables_on}
 use Rattle.rpg_cards.specs.declared.constants.Constant.{Constant}
 use Rattle.rpg_cards.specs.declared.constants.Constant.TheVariants as constant
@@ -22,19 +21,15 @@ use Rattle.rpg_effect.specs.declared.form.Class.TheVariants as class
 use Rattle.rpg_effect.specs.declared.form.FieldForm.{FieldForm}
 use Rattle.rpg_object_program.specs.Kept.{IsFieldRow, may_have_entries}
 use Rattle.rpg_compile_translator.proofs.Walks.{all_of}
+use Rattle.rpg_compile_translator.proofs.Constants.{all_constants}
 use Rattle.rpg_sheet_specs.specs.declared.calculation.CalculationSpec.{CalculationSpec}
 use Rattle.rpg_sheet_specs.specs.declared.entry.Entry.{Entry}
 use Rattle.rpg_sheet_specs.specs.declared.extension.ExtensionSpec.{ExtensionSpec}
 use Rattle.rpg_sheet_specs.specs.declared.extension.TableSpec.{TableSpec}
 use Rattle.rpg_sheet_specs.specs.declared.input.InputField.{InputField}
-use Rattle.rpg_sheet_specs.specs.declared.literal.Factor.{Factor}
-use Rattle.rpg_sheet_specs.specs.declared.literal.Factor.TheVariants as factor
-use Rattle.rpg_sheet_specs.specs.declared.output.OutputField.{OutputField}
-use Rattle.rpg_sheet_specs.specs.declared.output.OutputSpec.TheVariants as output
-use Rattle.rpg_sheet_specs.specs.declared.spec.Spec.{Spec}
 use Rattle.rpg_sheet_specs.specs.declared.spec.Spec.TheVariants as spec
 use Rattle.rpg_symbols.specs.Fields.{NamedForms, defined_form, given}
-use Rattle.rpg_compile_program.specs.Ranges.{AreCards, IsConstantText, IsFactor, IsInRange}
+use Rattle.rpg_compile_program.specs.Ranges.{AreCards}
 use Rattle.rpg_compile_program.specs.Table.{defined_fields, forms, key_form, name_forms, table_of, with_definition, with_definitions, with_form}
 
 -- ---- forms
@@ -170,50 +165,6 @@ constant_form_kept (constant.Number n) h =
     record { shortest = h.0; longest = h.1; decimals = (h.2, h.3); date = λ is. absurd cc; fewest = omega arith; most = omega arith; single = λ is. refl; unordered = λ is. refl }
 constant_form_kept (constant.Text text) h =
     record { shortest = h.0; longest = let most = h.1 in omega arith; decimals = refl; date = λ is. absurd cc; fewest = omega arith; most = omega arith; single = λ is. refl; unordered = λ is. refl }
-
-literal_kept : (o : Option Factor) → ForSome o IsFactor → Each IsConstant (option_to_list (option_and_then factor_constant o))
-literal_kept None h = tt
-literal_kept (Some (factor.Entry e)) h = tt
-literal_kept (Some (factor.Literal l)) h = (h (factor.Literal l) refl, tt)
-
-text_kept : (f : OutputField) → ForSome f.text IsConstantText → Each IsConstant (option_to_list (text_constant f))
-text_kept f h = by f.code f.text h
-  where
-    by : {X : Type 0} (c : Option X) (t : Option (List ℕ)) → ForSome t IsConstantText → Each IsConstant (option_to_list (cond (is_none c) (option_map (λ x. constant.Text x) t) None))
-    by None None h = tt
-    by None (Some x) h = (h x refl, tt)
-    by (Some c) t h = tt
-
-constants_on_kept : (s : Spec) → IsInRange s → Each IsConstant (constants_on s)
-constants_on_kept (spec.Header x) h = tt
-constants_on_kept (spec.File x) h = tt
-constants_on_kept (spec.Extension x) h = tt
-constants_on_kept (spec.Input x) h = tt
-constants_on_kept (spec.Calculation k) h =
-    let first = option_to_list (option_and_then factor_constant k.factor_1) in
-    let second = option_to_list (option_and_then factor_constant k.factor_2) in
-    each_append IsConstant (first ++ second) [] (each_append IsConstant first second (literal_kept k.factor_1 h.factor_1) (literal_kept k.factor_2 h.factor_2)) tt
-constants_on_kept (spec.Output (output.Record r)) h = tt
-constants_on_kept (spec.Output (output.And t)) h = tt
-constants_on_kept (spec.Output (output.Or t)) h = tt
-constants_on_kept (spec.Output (output.Field f)) h = text_kept f h.text
-constants_on_kept (spec.Data x) h = tt
-
-constants_in_kept : (cards : List SpecCard) → AreCards cards → Each IsConstant (constants_in cards)
-constants_in_kept [] h = tt
-constants_in_kept (c ∷ cs) h = each_append IsConstant (constants_on c.spec) (constants_in cs) (constants_on_kept c.spec h.0) (constants_in_kept cs h.1)
-
--- those that are kept are those that were given
-each_inserted : {X : Type 0} (P : X → Type 0) (same : X → X → Bool) (known xs : List X) → Each P known → Each P xs → Each P (insert_all same known xs)
-each_inserted P same known [] h g = h
-each_inserted P same known (x ∷ xs) h g = each_inserted P same (insert_key same known x) xs (by (list_any (same x) known)) g.1
-  where
-    by : (b : Bool) → Each P (cond b known (known ++ x ∷ []))
-    by true = h
-    by false = each_append P known (x ∷ []) h (g.0, tt)
-
-all_constants : (cards : List SpecCard) → AreCards cards → Each IsConstant (constants cards)
-all_constants cards ranges = each_inserted IsConstant is_same [] (constants_in cards) tt (constants_in_kept cards ranges)
 
 -- ---- all fields
 

@@ -2,8 +2,6 @@
 use Rattle.std.proofs.Common.{◌≡◌, ℕ, zero, suc, ◌+◌, ◌<◌, ◌≤◌, Bool, true, false, List, [], ◌∷◌, ◌++◌, length, length-append, append_assoc, map, take, fold, Option, None, Some, refl, sym, ◌∙◌, subst, arith}
 use Rattle.std.proofs.lemmas.Bool.{leb-true}
 use Rattle.std.proofs.lemmas.List.{length-map, take-append-le, take_all}
-use Rattle.std.specs.List.{filter_map}
-use Rattle.std.specs.Option.{option_len}
 use Rattle.std.specs.Prelude.{All, count_by, nat_le}
 use Rattle.rpg_cards.specs.Calculations.{condition_of, standing}
 use Rattle.rpg_cards.specs.Keys.{Key}
@@ -19,7 +17,7 @@ use Rattle.rpg_compile_layouts.specs.Within.{AreFew, HasIndexRow, IsLineWithin}
 use Rattle.rpg_faults_limits.specs.Limits.{alternative_count, condition_count, conditions_with, is_or_line, is_output_field, of_line, output_field_count}
 use Rattle.rpg_sheet_specs.specs.Three.{filled_count}
 use Rattle.rpg_compile_translator.proofs.Indices.{HasGoodIndex, good_on_cards}
-use Rattle.rpg_compile_translator.proofs.Walks.{all_of, at_open, one_more, unpassed}
+use Rattle.rpg_compile_translator.proofs.Walks.{all_of, at_open, one_more, three_count, unpassed}
 use Rattle.rpg_effect_renaming.specs.Naming.{renamed_field}
 use Rattle.rpg_sheet_specs.specs.declared.indicator.Condition as sheet
 use Rattle.rpg_sheet_specs.specs.declared.indicator.Three.{Three}
@@ -35,17 +33,7 @@ use Rattle.rpg_compile_program.specs.Table.{key_number, table_of}
 -- ---- what the cards of a line come to
 
 standing_count : (t : Three (Option sheet.Condition)) → length (standing t) ≡ filled_count t
-standing_count t = by t.first t.second t.third
-  where
-    by : (a b c : Option sheet.Condition) → length (map condition_of (filter_map (λ o. o) (a ∷ b ∷ c ∷ []))) ≡ option_len a + option_len b + option_len c
-    by None None None = refl
-    by None None (Some z) = refl
-    by None (Some y) None = refl
-    by None (Some y) (Some z) = refl
-    by (Some x) None None = refl
-    by (Some x) None (Some z) = refl
-    by (Some x) (Some y) None = refl
-    by (Some x) (Some y) (Some z) = refl
+standing_count t = three_count condition_of t.first t.second t.third
 
 all_alternatives : (so_far : List Condition) (os : List OutputSpec) → length (line_alternatives so_far os) ≡ 1 + count_by is_or_line os
 all_alternatives so_far [] = refl

@@ -1,14 +1,11 @@
 -- The program of cards that keep its limits keeps all that the object format asks.
-use Rattle.std.proofs.Common.{◌≡◌, ℕ, suc, ◌+◌, ◌<◌, ◌≤◌, List, [], ◌∷◌, length, map, Option, None, Some, refl, ap, arith}
+use Rattle.std.proofs.Common.{◌≡◌, ℕ, suc, ◌+◌, ◌<◌, ◌≤◌, List, [], ◌∷◌, length, map, Option, refl, ap, arith}
 use Rattle.std.proofs.lemmas.List.{length-map}
 use Rattle.std.specs.Option.{option_and_then}
 use Rattle.std.specs.Prelude.{All}
-use Rattle.rpg_cards.specs.Groups.{Group, groups, input_role}
 use Rattle.rpg_cards.specs.Keys.{Key, Name}
-use Rattle.rpg_cards.specs.Plain.{Each}
 use Rattle.rpg_cards.specs.Sections.{Subroutine}
-use Rattle.rpg_cards.specs.Files.{file_by, file_for, file_use}
-use Rattle.rpg_cards.specs.declared.files.FileUse.{FileUse}
+use Rattle.rpg_cards.specs.Files.{file_for}
 use Rattle.rpg_cards.specs.declared.files.FileUse.TheVariants as uses
 use Rattle.rpg_cards.specs.declared.spec_card.SpecCard.{SpecCard}
 use Rattle.rpg_compile_program.specs.Code.{sizes, subroutines_code}
@@ -20,20 +17,17 @@ use Rattle.rpg_effect.specs.declared.input.InputFile.TheVariants.{Primary}
 use Rattle.rpg_effect.specs.declared.form.FieldForm.{FieldForm}
 use Rattle.rpg_effect.specs.declared.operation.Instruction.{Instruction}
 use Rattle.rpg_compile_code.specs.Marked.{IsMarked, IsMarkedRow}
-use Rattle.rpg_object_program.specs.Kept.{AreValuesOf, IsLineRow, IsPlainType, IsProgram, IsTypeRow}
+use Rattle.rpg_object_program.specs.Kept.{AreValuesOf, IsLineRow, IsProgram, IsTypeRow}
 use Rattle.rpg_object_program.specs.Object.{LineRow, Object, SubroutineRow}
 use Rattle.rpg_object_program.specs.declared.row.Version.{Version}
 use Rattle.rpg_object_program.specs.declared.section.Section.TheVariants as section
-use Rattle.rpg_sheet_specs.specs.declared.file.FileSpec.{FileSpec}
-use Rattle.rpg_sheet_specs.specs.declared.input.InputSpec.{InputSpec}
-use Rattle.rpg_sheet_specs.specs.declared.input.RecordType.{RecordType}
 use Rattle.rpg_compile_translator.specs.Limits.{KeepsLimits}
 use Rattle.rpg_verify_rules.specs.Accepted.{IsAccepted}
 use Rattle.rpg_compile_program.specs.Data.{values_of}
 use Rattle.rpg_compile_program.specs.Lines.{lines_on, record_length_of}
 use Rattle.rpg_compile_program.specs.Program.{key_numbers, line_rows, numbered_line, program_of, sections, types_of, version_for}
 use Rattle.rpg_compile_program.specs.Table.{forms, table_of}
-use Rattle.rpg_compile_program.specs.Types.{card_type, file_read, input_file, types_on}
+use Rattle.rpg_compile_program.specs.Types.{types_on}
 use Rattle.rpg_effect_renaming.specs.Naming.{renamed_type}
 use Rattle.rpg_compile_translator.proofs.Instructions as instructions
 use Rattle.rpg_compile_translator.proofs.Versions.{plain}

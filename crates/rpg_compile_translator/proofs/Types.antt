@@ -3,7 +3,7 @@ use Rattle.std.proofs.Common.{◌≡◌, ℕ, ◌+◌, ◌≤◌, cond, List, []
 use Rattle.std.proofs.lemmas.List.{length-map}
 use Rattle.std.proofs.lemmas.List.Sums.{sum_by-cons}
 use Rattle.std.specs.List.{cons_option, filter_map, flat_map}
-use Rattle.std.specs.Option.{option_len, option_map}
+use Rattle.std.specs.Option.{option_map}
 use Rattle.std.specs.Prelude.{All, count_by, is_some}
 use Rattle.rpg_cards.specs.Groups.{Group, group_count, groups, input_role, open_group}
 use Rattle.rpg_cards.specs.declared.spec_card.SpecCard.{SpecCard}
@@ -11,7 +11,7 @@ use Rattle.rpg_compile_program.proofs.Each.{each_row}
 use Rattle.rpg_compile_layouts.specs.Within.{IsTypeWithin}
 use Rattle.rpg_faults_limits.specs.Limits.{code_count, codes_on, field_count, is_input_field_card, is_level_field, level_count, of_type}
 use Rattle.rpg_sheet_specs.specs.Three.{filled_count}
-use Rattle.rpg_compile_translator.proofs.Walks.{all_of, at_open, one_more, unpassed}
+use Rattle.rpg_compile_translator.proofs.Walks.{all_of, at_open, one_more, three_count, unpassed}
 use Rattle.rpg_sheet_specs.specs.declared.indicator.Three.{Three}
 use Rattle.rpg_sheet_specs.specs.declared.input.InputSpec.{InputSpec}
 use Rattle.rpg_sheet_specs.specs.declared.input.InputSpec.TheVariants as input
@@ -28,17 +28,7 @@ use Rattle.rpg_compile_program.specs.Types.{and_card_codes, card_type, codes_of,
 -- ---- what the cards of a type come to
 
 codes_count : (t : Three (Option RecordCode)) → length (codes_of t) ≡ filled_count t
-codes_count t = by t.first t.second t.third
-  where
-    by : (a b c : Option RecordCode) → length (map record_code_of (filter_map (λ o. o) (a ∷ b ∷ c ∷ []))) ≡ option_len a + option_len b + option_len c
-    by None None None = refl
-    by None None (Some z) = refl
-    by None (Some y) None = refl
-    by None (Some y) (Some z) = refl
-    by (Some x) None None = refl
-    by (Some x) None (Some z) = refl
-    by (Some x) (Some y) None = refl
-    by (Some x) (Some y) (Some z) = refl
+codes_count t = three_count record_code_of t.first t.second t.third
 
 further_count : (i : InputSpec) → length (and_card_codes i) ≡ codes_on i
 further_count (input.Type t) = refl

@@ -1,13 +1,13 @@
 -- The version of the program of cards: one without a secondary file and match fields is of version 1, and has neither.
-use Rattle.std.proofs.Common.{◌≡◌, ℕ, Bool, true, false, cond, ◌||◌, List, [], ◌∷◌, map, Option, None, Some, refl, sym, ap, ◌∙◌, subst}
+use Rattle.std.proofs.Common.{◌≡◌, ℕ, Bool, true, false, cond, List, [], ◌∷◌, map, Option, None, Some, refl, sym, ap, ◌∙◌}
 use Rattle.std.proofs.lemmas.Bool.{or_parts}
-use Rattle.std.specs.List.{cons_option, filter_map, list_any}
+use Rattle.std.specs.List.{cons_option, list_any}
 use Rattle.std.specs.Option.{option_map, option_map_or}
 use Rattle.std.specs.Prelude.{find, is_some, nat_eq}
 use Rattle.std.specs.Cmp.Lexicographic.{pointwise}
 use Rattle.rpg_cards.specs.Cards.{input_field_on}
 use Rattle.rpg_cards.specs.Files.{file_by, file_for, file_named, file_use, files, same_use}
-use Rattle.rpg_cards.specs.Groups.{Follower, Group, groups, input_role}
+use Rattle.rpg_cards.specs.Groups.{Group, groups, input_role}
 use Rattle.rpg_cards.specs.Keys.{Key}
 use Rattle.rpg_cards.specs.Levels.{has_match_field, is_match_card, is_match_field}
 use Rattle.rpg_cards.specs.Plain.{Each}
@@ -15,7 +15,7 @@ use Rattle.rpg_cards.specs.declared.files.FileUse.{FileUse}
 use Rattle.rpg_cards.specs.declared.files.FileUse.TheVariants.{Disk, Primary, Printer, Secondary}
 use Rattle.rpg_cards.specs.declared.spec_card.SpecCard.{SpecCard}
 use Rattle.rpg_compile_program.proofs.InputTypes.{follower_on}
-use Rattle.rpg_compile_program.proofs.Matched.{Matches, Rows}
+use Rattle.rpg_compile_program.proofs.Matched.{Rows}
 use Rattle.rpg_compile_program.proofs.OpenGroups.{HasGood, InGroup, each_good}
 use Rattle.rpg_compile_program.specs.Lines.{record_length_of}
 use Rattle.rpg_compile_program.specs.Program.{key_numbers, program_of, types_of, version_for, version_with}

@@ -1,8 +1,10 @@
 -- No card of a source without a fault passes a limit, so what its cards come to stays within the limits.
-use Rattle.std.proofs.Common.{◌≡◌, ℕ, ◌+◌, ◌≤◌, Bool, false, List, [], ◌∷◌, Option, Some, cond, subst}
+use Rattle.std.proofs.Common.{◌≡◌, ℕ, ◌+◌, ◌≤◌, Bool, false, List, [], ◌∷◌, length, map, Option, None, Some, cond, refl, subst}
 use Rattle.std.proofs.lemmas.List.Elements.{All-cons, All-nil}
 use Rattle.std.proofs.lemmas.List.Sums.{sum_by-cons}
 use Rattle.std.specs.Prelude.{All, count_by}
+use Rattle.std.specs.List.{filter_map}
+use Rattle.std.specs.Option.{option_len}
 use Rattle.rpg_cards.specs.Plain.{Each}
 use Rattle.rpg_cards.specs.Groups.{Group, group_count, input_role, output_role}
 use Rattle.rpg_cards.specs.declared.spec_card.SpecCard.{SpecCard}
@@ -20,6 +22,17 @@ all_of P (x ∷ xs) h = All-cons P x xs h.0 (all_of P xs h.1)
 
 pub one_more : {X : Type 0} (test : X → Bool) (x : X) (xs : List X) → count_by test (x ∷ xs) ≡ cond (test x) 1 0 + count_by test xs
 one_more test x xs = sum_by-cons (λ y. cond (test y) 1 0) x xs
+
+-- as many stand in a list as stand in three places
+pub three_count : {X Y : Type 0} (f : X → Y) (a b c : Option X) → length (map f (filter_map (λ o. o) (a ∷ b ∷ c ∷ []))) ≡ option_len a + option_len b + option_len c
+three_count f None None None = refl
+three_count f None None (Some z) = refl
+three_count f None (Some y) None = refl
+three_count f None (Some y) (Some z) = refl
+three_count f (Some x) None None = refl
+three_count f (Some x) None (Some z) = refl
+three_count f (Some x) (Some y) None = refl
+three_count f (Some x) (Some y) (Some z) = refl
 
 -- ---- the open group
 

@@ -1,7 +1,5 @@
-//! What a compiler of whole sources may write: the program of a source without a fault is accepted.
-//! What the fields of whole sources hold before the first cycle: the values of a source without a fault fit its fields.
-//! What an object program may have, of sources: the program of a source without a fault keeps the limits of the object format.
-//! The object program of the cards of a source: the code that writes it.
+//! The object program of the cards of a source: the code that writes it, and laws of sources without a fault: their programs keep the limits of the
+//! object format, their first values fit their fields, and they are accepted.
 #![tactic(auto)]
 
 mod acceptance;
