@@ -1,6 +1,5 @@
 -- Input fields with which nothing is wrong.
 use Rattle.std.proofs.Common.{◌≡◌, ℕ, ◌+◌, ◌-◌, ◌≤◌, Bool, true, false, not, ◌&&◌, cond, eqb-true, nat_le, leb-true, List, [], ◌∷◌, length, Option, None, Some, refl, sym, ap, ◌∙◌, arith}
-use Rattle.std.specs.FinMap as map
 use Rattle.std.specs.Ordering.{nat_cmp}
 use Rattle.rpg_paper.specs.Paper.{Position}
 use Rattle.rpg_effect.specs.Effect.{Effect, after_output, go_on, then_go, unless_wrong}
@@ -8,7 +7,6 @@ use Rattle.rpg_effect.specs.Ends.{End, Fault, GoesOn, Halt, Wrong}
 use Rattle.rpg_effect.specs.Forms.{form_at, is_plain, kind_of, length_of}
 use Rattle.rpg_effect.specs.Input.{field_in, fits_columns, fits_shows, input_fault, record_in, record_part, value_read}
 use Rattle.rpg_effect.specs.Put.{on_paper}
-use Rattle.rpg_effect.specs.Values.{Text}
 use Rattle.rpg_effect.specs.World.{World}
 use Rattle.rpg_effect.specs.declared.form.FieldForm.{FieldForm}
 use Rattle.rpg_effect.specs.declared.form.Kind.{Kind}
@@ -17,11 +15,8 @@ use Rattle.rpg_effect.specs.declared.input.InputField.{InputField}
 use Rattle.rpg_machine.proofs.OnPaper.{effect_on, or_halt_on, unless_on}
 use Rattle.rpg_machine.proofs.Ranges.{and_true}
 use Rattle.rpg_machine.specs.Inputs.{filled_field}
-use Rattle.rpg_machine_operations.proofs.Entries.{text_in_form}
-use Rattle.rpg_machine_operations.proofs.Values.{form_there, length_high, length_low, text_fits}
-use Rattle.rpg_machine_operations.specs.Good.{AreForms, IsValue}
-use Rattle.rpg_store.specs.Fits.{Fits}
-use Rattle.rpg_store.specs.Store.{Currents, Values}
+use Rattle.rpg_store.proofs.Values.{length_high, length_low}
+use Rattle.rpg_store.specs.Fields.{AreForms, IsValue}
 
 pub ruleset numbers = (length_low, length_high)
 
@@ -71,13 +66,6 @@ value_there forms len f k good fits is = record {
 
 pub long_there : (forms : List FieldForm) (len n : ℕ) (f : InputField ℕ) → FitsField forms len f → n ≡ f.to + 1 - f.from → n ≡ length_of (form_at forms f.field)
 long_there forms len n f fits is = is ∙ fits.long ∙ ap length_of (sym fits.there)
-
--- there is a text that is as long
-pub text_there : (forms : List FieldForm) (values : Values) (current : Currents) (field : ℕ) (text : List ℕ) → Fits forms values current → IsValue forms kinds.Text field 1 → length text ≡ length_of (form_at forms field) →
-    (old : List ℕ) × (map.get values (field, 1) ≡ Some (Text old)) × (length text ≡ length old)
-text_there forms values current field text fits v long =
-    let m = text_in_form v.form.length _ (form_there forms values current kinds.Text field 1 fits v) in
-    (m.0, m.1, long ∙ sym (text_fits forms values current field 1 m.0 fits v m.1))
 
 -- ---- what is done
 
