@@ -1,13 +1,13 @@
 //! Fields of lines: how they are edited, their text in the line, PAGE, and blank after.
-ghost use Rattle.std.specs.Prelude.{◌≡◌, ◌≤◌, ◌<◌, ◌^◌, length, unsigned_abs, replicate, true, Some};
+ghost use Rattle.std.specs.Prelude.{◌≡◌, ◌≤◌, ◌<◌, ◌^◌, length, unsigned_abs, replicate, true};
 ghost use Rattle.rpg_edit_marks.specs.How.{edited, width_of, IsFit};
 ghost use Rattle.rpg_effect.specs.Editing as edits;
 ghost use Rattle.rpg_effect.specs.Forms as forms;
 ghost use Rattle.rpg_effect.specs.LineFaults as faults;
 ghost use Rattle.rpg_effect.specs.Lines as lines;
-ghost use Rattle.rpg_machine_lines.specs.Drafts.{text_in, with_fields};
+ghost use Rattle.rpg_machine_lines.specs.Drafts.{counted_in, text_in, with_fields};
 ghost use Rattle.rpg_machine_lines.specs.Entries.{AreFieldEntries, IsEditableForm, IsFieldEntry};
-ghost use Rattle.rpg_machine_lines.specs.Right.{IsRightField};
+ghost use Rattle.rpg_machine_lines.specs.Right.{FitsEditing, IsRightField};
 ghost use Rattle.rpg_object_program.specs.Constants as constants;
 ghost use Rattle.rpg_object_program.specs.Object.{seen};
 ghost use Rattle.rpg_store.specs.Memory.{forms_in};
@@ -27,7 +27,7 @@ use rpg_store::store::Store;
 #[tactic(auto, using(crate::proofs::Fields::fitting))]
 fn how_of(rows: &Rows, form: FieldForm, editing: Editing<u16>, fill: Fill) -> How
     requires numeric { IsEditableForm form }
-    requires fits { faults.fits_editing (forms.form_at rows.now.fields.items) (constants.word_at (seen rows.now)) (Some form) editing fill ≡ true }
+    requires fits { FitsEditing (seen rows.now) form editing fill }
     ensures how { result ≡ edits.how_of (constants.word_at (seen rows.now)) editing fill }
     ensures fit { IsFit form.length form.decimals result }
 {
@@ -106,7 +106,7 @@ fn next_page(n: i64) -> i64
 pub fn count_page<S: Store + Drop>(memory: &mut Memory<'_, S>, field: &LineField<u16>, entry: u16)
     requires source { faults.fits_source field.now.source (forms_in memory.old field.now.operand.field) ≡ true }
     requires entry { IsFieldEntry memory.old.program.fields field.now.operand.field entry }
-    ensures { memory.new ≡ with_fields (lines.counted field.now.source (field.now.operand.field, entry) memory.old.world.fields) memory.old }
+    ensures { memory.new ≡ counted_in memory.old field.now entry }
 {
     match field.source {
         Source::Value => {}

@@ -3,7 +3,7 @@ ghost use Rattle.std.specs.Prelude.{◌≡◌, ◌≤◌, ◌+◌, ◌++◌, ◌
 ghost use Rattle.rpg_effect.specs.Ends.{GoesOn};
 ghost use Rattle.rpg_effect.specs.LineFaults.{is_spacing};
 ghost use Rattle.rpg_effect.specs.Lines as lines;
-ghost use Rattle.rpg_machine_lines.specs.Outputs.{Puts};
+ghost use Rattle.rpg_machine_lines.specs.Outputs.{Puts, form_moved};
 ghost use Rattle.rpg_machine_lines.specs.Ready.{IsNear};
 
 use crate::bytes::Output;
@@ -23,7 +23,7 @@ fn move_form<S: Store + Drop>(
     requires line { line ≤ 66 }
     requires spaces { spaces ≤ 3 }
     requires near { IsNear memory.old.world.here }
-    ensures moved { memory.new ≡ record memory.old { world = lines.after_space overflow spaces (lines.after_skip overflow line memory.old.world) } }
+    ensures moved { memory.new ≡ form_moved overflow line spaces memory.old }
     ensures few { memory.new.world.here.page ≤ memory.old.world.here.page + 2 }
 {
     memory.skip(overflow, line);

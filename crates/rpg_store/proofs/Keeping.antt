@@ -1,5 +1,5 @@
 -- Writes keep the values fit.
-use Rattle.std.proofs.Common.{◌≡◌, ℕ, ℤ, ◌≤◌, ◌<◌, ◌^◌, List, Option, Some, refl, sym, ap, ◌∙◌, subst, unsigned_abs, length}
+use Rattle.std.proofs.Common.{◌≡◌, ℕ, ℤ, ◌≤◌, ◌<◌, ◌^◌, List, Option, Some, sym, ap, ◌∙◌, subst, unsigned_abs, length}
 use Rattle.std.specs.Prelude.{All}
 use Rattle.std.proofs.lemmas.Option.{same_Some}
 use Rattle.std.specs.FinMap as maps

@@ -1,5 +1,5 @@
 -- What a memory stands for.
-use Rattle.std.specs.Prelude.{◌≡◌, ℕ, pos, List, [], ◌∷◌, Option, None, Some, false, is_some, if◌then◌else◌}
+use Rattle.std.specs.Prelude.{◌≡◌, ℕ, pos, Bool, List, [], ◌∷◌, Option, None, Some, false, is_some, if◌then◌else◌}
 use Rattle.std.specs.FinSet as set
 use Rattle.std.specs.Ordering.{nat_cmp}
 use Rattle.rpg_decimal_words.specs.Fraction.{Fraction, with_decimals}
@@ -63,6 +63,10 @@ behind_line w = record w { last = Some w.world.here.line; world = record w.world
 
 abbrev pub with_on : set.FinSet nat_cmp → World nat_cmp → World nat_cmp
 with_on on w = record w { on = on }
+
+-- one indicator on or off
+abbrev pub indicator_turned : ℕ → Bool → World nat_cmp → World nat_cmp
+indicator_turned n is_on w = with_on (if is_on then set.insert w.on n else set.remove w.on n) w
 
 abbrev pub with_remainder : Fraction → World nat_cmp → World nat_cmp
 with_remainder p w = record w { remainder = p }

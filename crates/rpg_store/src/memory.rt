@@ -6,12 +6,12 @@ ghost use Rattle.rpg_effect.specs.Values.{Number, Text};
 ghost use Rattle.rpg_effect.specs.World.{characters_at, current_in, number_at, set_current, set_value};
 ghost use Rattle.rpg_effect.specs.declared.form.Kind.TheVariants as kinds;
 ghost use Rattle.rpg_store.specs.Fields.{AreForms, IsValue};
-ghost use Rattle.rpg_store.specs.Memory.{forms_in, rest_value, loaded, with_on, with_remainder};
+ghost use Rattle.rpg_store.specs.Memory.{forms_in, indicator_turned, rest_value, loaded, with_on, with_remainder};
 ghost use Rattle.rpg_object_program.specs.Kept.{IsCharacter, IsProgram};
 ghost use Rattle.rpg_object_program.specs.Object.{seen};
 ghost use Rattle.rpg_store.specs.Fits.{Fits};
 ghost use Rattle.std.specs.FinSet as set;
-ghost use Rattle.std.specs.Prelude.{[], ◌∷◌, if◌then◌else◌};
+ghost use Rattle.std.specs.Prelude.{[], ◌∷◌};
 
 use crate::indicators::Indicators;
 use crate::showing;
@@ -196,7 +196,7 @@ impl<'a, S: Store + Drop> Memory<'a, S> {
     }
 
     pub fn turn(&mut self, number: u8, is_on: bool)
-        ensures { self.new ≡ record self.old { world = with_on (if is_on then set.insert self.old.world.on number else set.remove self.old.world.on number) self.old.world } }
+        ensures { self.new ≡ record self.old { world = indicator_turned number is_on self.old.world } }
     {
         self.on.turn(number, is_on);
     }
