@@ -14,7 +14,7 @@ use Rattle.rpg_effect.specs.declared.form.FieldForm.{FieldForm}
 use Rattle.rpg_cycle_safety.proofs.Acting.{read_fits}
 use Rattle.rpg_cycle_safety.specs.Holding.{Holds}
 use Rattle.rpg_machine_lines.proofs.Operands.{row_at}
-use Rattle.rpg_machine_operations.proofs.Entries.{and_true}
+use Rattle.rpg_store.proofs.Entries.{and_true}
 use Rattle.rpg_object_program.specs.Kept.{IsProgram}
 use Rattle.rpg_object_program.specs.Object.{Object}
 use Rattle.rpg_store.proofs.Fitting.{constants-insert}

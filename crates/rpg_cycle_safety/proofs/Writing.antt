@@ -12,10 +12,11 @@ use Rattle.rpg_effect.specs.declared.form.Class.TheVariants as classes
 use Rattle.rpg_effect.specs.declared.form.FieldForm.{FieldForm}
 use Rattle.rpg_effect.specs.declared.form.Kind.TheVariants as kinds
 use Rattle.rpg_cycle_safety.specs.Holding.{Holds, IsEffectEnd, Keeps}
-use Rattle.rpg_machine_operations.proofs.Entries.{and_true, text_in_form}
-use Rattle.rpg_machine_operations.proofs.Keeping.{fits_current, fits_number, fits_text}
-use Rattle.rpg_machine_operations.proofs.Values.{form_there}
-use Rattle.rpg_machine_operations.specs.Good.{IsValue}
+use Rattle.rpg_store.proofs.Entries.{and_true, text_in_form}
+use Rattle.rpg_store.proofs.Fitting.{fits-current}
+use Rattle.rpg_store.proofs.Keeping.{fits_number, fits_text}
+use Rattle.rpg_store.proofs.Values.{form_there}
+use Rattle.rpg_store.specs.Fields.{IsValue}
 use Rattle.rpg_object_program.specs.Kept.{IsCharacter}
 use Rattle.rpg_object_program.specs.Object.{Object}
 use Rattle.rpg_store.proofs.Fitting.{constants-insert}
@@ -83,7 +84,7 @@ module _ (p : Object) where
 
   -- one of its entries becomes current in a table
   pub current_set : (w : World nat_cmp) (table n : ℕ) → Holds p w → 1 ≤ n → n ≤ entries_of (form_at p.fields table) → Holds p (set_current w table n)
-  current_set w table n h low high = record { fits = fits_current p.fields w.fields.values w.fields.current table n h.fits low high; constants = h.constants }
+  current_set w table n h low high = record { fits = fits-current p.fields w.fields.values w.fields.current table n h.fits low high; constants = h.constants }
 
   -- ---- what stands in a text field
 

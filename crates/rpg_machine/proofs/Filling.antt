@@ -1,27 +1,25 @@
 -- Input fields with which nothing is wrong.
-use Rattle.std.proofs.Common.{◌≡◌, ℕ, ◌+◌, ◌-◌, ◌≤◌, Bool, true, false, not, ◌&&◌, cond, eqb-true, nat_le, leb-true, List, [], ◌∷◌, length, Option, None, Some, refl, sym, ap, ◌∙◌, arith}
-use Rattle.std.specs.FinMap as map
+use Rattle.std.proofs.Common.{◌≡◌, ℕ, ◌+◌, ◌-◌, ◌<◌, ◌≤◌, Bool, true, false, not, ◌&&◌, cond, eqb-true, nat_le, leb-true, List, [], ◌∷◌, drop, length, get_or, Option, None, Some, refl, sym, ap, ◌∙◌, arith}
 use Rattle.std.specs.Ordering.{nat_cmp}
 use Rattle.rpg_paper.specs.Paper.{Position}
-use Rattle.rpg_effect.specs.Effect.{Effect, after_output, go_on, then_go, unless_wrong}
-use Rattle.rpg_effect.specs.Ends.{End, Fault, GoesOn, Halt, Wrong}
+use Rattle.rpg_effect.specs.Effect.{Effect, after_output, go_on, quiet, then_go, unless_wrong}
+use Rattle.rpg_effect.specs.Ends.{End, Fault, GoesOn, Halt, Wrong, end_of}
 use Rattle.rpg_effect.specs.Forms.{form_at, is_plain, kind_of, length_of}
 use Rattle.rpg_effect.specs.Input.{field_in, fits_columns, fits_shows, input_fault, record_in, record_part, value_read}
 use Rattle.rpg_effect.specs.Put.{on_paper}
-use Rattle.rpg_effect.specs.Values.{Text}
 use Rattle.rpg_effect.specs.World.{World}
 use Rattle.rpg_effect.specs.declared.form.FieldForm.{FieldForm}
 use Rattle.rpg_effect.specs.declared.form.Kind.{Kind}
-use Rattle.rpg_effect.specs.declared.form.Kind.TheVariants as kinds
 use Rattle.rpg_effect.specs.declared.input.InputField.{InputField}
+use Rattle.rpg_effect.specs.declared.outcome.End as rust
+use Rattle.rpg_effect.specs.declared.outcome.End.TheVariants as answers
 use Rattle.rpg_machine.proofs.OnPaper.{effect_on, or_halt_on, unless_on}
 use Rattle.rpg_machine.proofs.Ranges.{and_true}
 use Rattle.rpg_machine.specs.Inputs.{filled_field}
-use Rattle.rpg_machine_operations.proofs.Entries.{text_in_form}
-use Rattle.rpg_machine_operations.proofs.Values.{form_there, length_high, length_low, text_fits}
-use Rattle.rpg_machine_operations.specs.Good.{AreForms, IsValue}
-use Rattle.rpg_store.specs.Fits.{Fits}
-use Rattle.rpg_store.specs.Store.{Currents, Values}
+use Rattle.rpg_machine_lines.proofs.Left.{from_item}
+use Rattle.rpg_store.proofs.Values.{length_high, length_low}
+use Rattle.rpg_store.specs.Fields.{AreForms, IsValue}
+use Rattle.rpg_store.specs.Memory.{Loaded, forms_in}
 
 pub ruleset numbers = (length_low, length_high)
 
@@ -72,13 +70,6 @@ value_there forms len f k good fits is = record {
 pub long_there : (forms : List FieldForm) (len n : ℕ) (f : InputField ℕ) → FitsField forms len f → n ≡ f.to + 1 - f.from → n ≡ length_of (form_at forms f.field)
 long_there forms len n f fits is = is ∙ fits.long ∙ ap length_of (sym fits.there)
 
--- there is a text that is as long
-pub text_there : (forms : List FieldForm) (values : Values) (current : Currents) (field : ℕ) (text : List ℕ) → Fits forms values current → IsValue forms kinds.Text field 1 → length text ≡ length_of (form_at forms field) →
-    (old : List ℕ) × (map.get values (field, 1) ≡ Some (Text old)) × (length text ≡ length old)
-text_there forms values current field text fits v long =
-    let m = text_in_form v.form.length _ (form_there forms values current kinds.Text field 1 fits v) in
-    (m.0, m.1, long ∙ sym (text_fits forms values current field 1 m.0 fits v m.1))
-
 -- ---- what is done
 
 -- one field with which nothing is wrong
@@ -89,6 +80,19 @@ field_filled forms text part f k w right kind is =
     ap (λ x. filled_field k f x w) is
     ∙ ap (λ l. filled_field l f (record_part f text) w) kind
     ∙ sym (ap (λ o. unless_wrong o w (filled_field (kind_of (form_at forms f.field)) f (record_part f text) w)) right)
+
+-- one field went on, over a memory that differs in its world alone: what is left of a record is done behind it
+pub field_next : (m w : Loaded) (text : List ℕ) (fs : List (InputField ℕ)) (i : ℕ) (f : InputField ℕ) (r : rust.End) (v : World nat_cmp) →
+    w ≡ record m { world = w.world } → i < length fs → r ≡ answers.GoesOn → quiet (end_of r) v ≡ field_in (forms_in w) text (get_or fs i f) w.world →
+    record_in (forms_in m) text (drop (i + 1) fs) v ≡ record_in (forms_in m) text (drop i fs) w.world
+unfolding record_in
+field_next m w text fs i f r v same low goes h =
+    let item : InputField ℕ = get_or fs i f in
+    let rest : World nat_cmp → Effect nat_cmp = record_in (forms_in m) text (drop (i + 1) fs) in
+    let one : quiet GoesOn v ≡ field_in (forms_in m) text item w.world =
+    ap (λ x. quiet (end_of x) v) (sym goes) ∙ h ∙ ap (λ (x : Loaded). field_in (forms_in x) text item w.world) same in
+    let step : rest v ≡ record_in (forms_in m) text (item ∷ drop (i + 1) fs) w.world = ap (λ (x : Effect nat_cmp). then_go x rest) one in
+    step ∙ ap (λ (xs : List (InputField ℕ)). record_in (forms_in m) text xs w.world) (sym (from_item fs i f low))
 
 -- the same on every page
 module _ (forms : ℕ → Option FieldForm) (previous : Option Position) where

@@ -36,13 +36,15 @@ use Rattle.rpg_effect.specs.declared.operation.Side.TheVariants.{Right, Left}
 use Rattle.rpg_machine.specs.Laws.{FitsIn, GoesRight}
 use Rattle.rpg_machine_operations.proofs.Characters.{over_characters, zoned_characters}
 use Rattle.rpg_machine_operations.proofs.Doing.{assign_entries, compute_entries, cross_entries, divide_entries, look_entries, look_positions, look_reads, move_entries, remainder_entries}
-use Rattle.rpg_machine_operations.proofs.Entries.{text_in_form}
-use Rattle.rpg_machine_operations.proofs.Finding.{first_fits, found_fits, has_position, held, holds_index, index_value, no_position_fault}
-use Rattle.rpg_machine_operations.proofs.Keeping.{fits_current, fits_number, fits_text}
+use Rattle.rpg_store.proofs.Entries.{index_value, text_in_form}
+use Rattle.rpg_machine_operations.proofs.Finding.{first_fits, found_fits, has_position, held, holds_index, no_position_fault}
+use Rattle.rpg_store.proofs.Fitting.{fits-current}
+use Rattle.rpg_store.proofs.Keeping.{fits_number, fits_text}
 use Rattle.rpg_machine_operations.proofs.Overlays.{over_length}
 use Rattle.rpg_machine_operations.proofs.Rights.{entries_if}
-use Rattle.rpg_machine_operations.proofs.Values.{form_there, length_low, text_fits, text_is}
-use Rattle.rpg_machine_operations.specs.Good.{AreForms, AreOperandEntries, FitsPosition, HasPosition, IsRightAction, IsValue, reads_index}
+use Rattle.rpg_store.proofs.Values.{form_there, length_low, text_fits, text_is}
+use Rattle.rpg_machine_operations.specs.Good.{AreOperandEntries, FitsPosition, HasPosition, IsRightAction}
+use Rattle.rpg_store.specs.Fields.{AreForms, IsValue, reads_index}
 use Rattle.rpg_object_program.specs.Kept.{IsCharacter}
 
 -- ---- digits of characters
@@ -132,7 +134,7 @@ module _ (forms : List FieldForm) (good : AreForms forms) where
   index_fits (Field k) n w reads holds fits = fits_number forms w.fields.values w.fields.current k 1 (pos n) fits (index_value forms k good reads) (held forms k n holds)
 
   current_by : (b : Bool) (k n : ℕ) (w : World nat_cmp) → 1 ≤ n → n ≤ entries_of (form_at forms k) → FitsIn forms w → FitsIn forms (cond {A = World nat_cmp} b (set_current w k n) w)
-  current_by true k n w low high fits = fits_current forms w.fields.values w.fields.current k n fits low high
+  current_by true k n w low high fits = fits-current forms w.fields.values w.fields.current k n fits low high
   current_by false k n w low high fits = fits
 
   current_if_any : (o : Option ℕ) (n : ℕ) (w : World nat_cmp) → 1 ≤ n → HasPosition forms o n → FitsIn forms w → FitsIn forms (made_current_if_any (form_at forms) o n w)

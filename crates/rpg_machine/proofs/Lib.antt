@@ -21,5 +21,6 @@ pub mod Runs
 pub mod Safe
 pub mod Standing
 pub mod Starting
+pub mod Staying
 pub mod Steps
 pub mod Work

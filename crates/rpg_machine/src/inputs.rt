@@ -1,16 +1,15 @@
 //! The columns of a record that become values of fields. No field is tested here: the rules have tested them all.
 ghost use Rattle.std.specs.List.{list_all};
 ghost use Rattle.std.specs.Prelude.{◌≡◌, ◌+◌, ◌-◌, ◌≤◌, ◌==◌, All, length, true, None};
-ghost use Rattle.rpg_effect.specs.Effect.{quiet};
 ghost use Rattle.rpg_effect.specs.Ends.{end_of};
-ghost use Rattle.rpg_effect.specs.Forms.{form_at, kind_of, length_of};
+ghost use Rattle.rpg_effect.specs.Forms.{length_of};
 ghost use Rattle.rpg_effect.specs.Input as of;
 ghost use Rattle.rpg_effect.specs.declared.form.Kind.TheVariants as kinds;
 ghost use Rattle.rpg_machine.specs.Inputs.{filled_field, order_of_text};
-ghost use Rattle.rpg_store.specs.Memory.{world_of};
-ghost use Rattle.rpg_machine_operations.specs.Good.{IsValue};
-ghost use Rattle.rpg_machine_operations.specs.Ready.{IsMemoryReady};
+ghost use Rattle.rpg_machine_operations.specs.Words.{DidEffect};
 ghost use Rattle.rpg_object_program.specs.Kept.{IsCharacter};
+ghost use Rattle.rpg_store.specs.Fields.{IsValue};
+ghost use Rattle.rpg_store.specs.Memory.{forms_in};
 
 use rpg_decimal::read_zoned;
 use rpg_effect::form::Kind;
@@ -19,11 +18,9 @@ use rpg_effect::input::InputField;
 use rpg_effect::operation::{Entry, Index};
 use rpg_effect::outcome::End;
 use rpg_machine_operations::arithmetic::store;
-use rpg_machine_operations::showing::show_if_any;
 use rpg_object_program::forms;
-use rpg_object_program::row::Rows;
 use rpg_store::memory::Memory;
-use rpg_store::store::{Store, set_text};
+use rpg_store::store::Store;
 use std::cmp::Ordering;
 
 /// The columns of a record that an input field takes.
@@ -62,19 +59,15 @@ fn order_of_text(text: &[u8]) -> Option<Ordering>
 /// Puts the number that digits spell into a field, if they spell one.
 #[tactic(auto, using(crate::proofs::Filling::numbers), unfolding(rpg_effect::specs::Showing::shown_if_any))]
 fn fill_number<S: Store + Drop>(
-    rows: &Rows,
-    memory: &mut Memory<S>,
+    memory: &mut Memory<'_, S>,
     input: InputField<u16>,
     digits: &[u8],
 ) -> End
-    requires ready { IsMemoryReady S.forms S.contents S.currents rows.now.fields.items memory.old }
-    requires field { IsValue rows.now.fields.items kinds.Number input.field 1 }
-    requires long { length digits.now ≡ length_of (form_at rows.now.fields.items input.field) }
-    ensures done { quiet (end_of result) (world_of S.contents S.currents memory.new) ≡
-        filled_field kinds.Number input digits.now (world_of S.contents S.currents memory.old) }
-    ensures ready { IsMemoryReady S.forms S.contents S.currents rows.now.fields.items memory.new }
-    ensures form { memory.new.form ≡ memory.old.form }
+    requires field { IsValue memory.old.program.fields kinds.Number input.field 1 }
+    requires long { length digits.now ≡ length_of (forms_in memory.old input.field) }
+    ensures { DidEffect (filled_field kinds.Number input digits.now memory.old.world) memory.old (end_of result) memory.new }
 {
+    memory.is_kept();
     match read_zoned(digits) {
         Ok(n) => {
             let to = Entry {
@@ -82,7 +75,8 @@ fn fill_number<S: Store + Drop>(
                 index: Index::Blank,
                 position: 1,
             };
-            store(rows, memory, to, input.shows, n)
+            store(memory, to, input.shows, n);
+            End::GoesOn
         }
         Err(_) => End::Halt(Halt::BadDigit),
     }
@@ -90,65 +84,47 @@ fn fill_number<S: Store + Drop>(
 
 /// Puts characters into a field.
 fn fill_text<S: Store + Drop>(
-    rows: &Rows,
-    memory: &mut Memory<S>,
+    memory: &mut Memory<'_, S>,
     input: InputField<u16>,
     text: &[u8],
 ) -> End
-    requires ready { IsMemoryReady S.forms S.contents S.currents rows.now.fields.items memory.old }
-    requires field { IsValue rows.now.fields.items kinds.Text input.field 1 }
-    requires long { length text.now ≡ length_of (form_at rows.now.fields.items input.field) }
+    requires field { IsValue memory.old.program.fields kinds.Text input.field 1 }
+    requires long { length text.now ≡ length_of (forms_in memory.old input.field) }
     requires characters { All IsCharacter text.now }
-    ensures done { quiet (end_of result) (world_of S.contents S.currents memory.new) ≡
-        filled_field kinds.Text input text.now (world_of S.contents S.currents memory.old) }
-    ensures ready { IsMemoryReady S.forms S.contents S.currents rows.now.fields.items memory.new }
-    ensures form { memory.new.form ≡ memory.old.form }
+    ensures { DidEffect (filled_field kinds.Text input text.now memory.old.world) memory.old (end_of result) memory.new }
 {
-    set_text(&mut memory.store, input.field, 1, text);
-    show_if_any(&mut memory.on, input.shows, order_of_text(text));
+    memory.set_text(input.field, 1, text);
+    memory.show_if_any(input.shows, order_of_text(text));
     End::GoesOn
 }
 
 /// Fills one field.
-fn fill_one<S: Store + Drop>(
-    rows: &Rows,
-    memory: &mut Memory<S>,
-    text: &[u8],
-    input: InputField<u16>,
-) -> End
-    requires ready { IsMemoryReady S.forms S.contents S.currents rows.now.fields.items memory.old }
-    requires right { of.input_fault (form_at rows.now.fields.items) (length text.now) input ≡ None }
+fn fill_one<S: Store + Drop>(memory: &mut Memory<'_, S>, text: &[u8], input: InputField<u16>) -> End
+    requires right { of.input_fault (forms_in memory.old) (length text.now) input ≡ None }
     requires characters { All IsCharacter text.now }
-    ensures done { quiet (end_of result) (world_of S.contents S.currents memory.new) ≡
-        of.field_in (form_at rows.now.fields.items) text.now input (world_of S.contents S.currents memory.old) }
-    ensures ready { IsMemoryReady S.forms S.contents S.currents rows.now.fields.items memory.new }
-    ensures form { memory.new.form ≡ memory.old.form }
+    ensures { DidEffect (of.field_in (forms_in memory.old) text.now input memory.old.world) memory.old (end_of result) memory.new }
 {
+    memory.is_kept();
     let part = columns_of(text, input);
-    match forms::kind_of(forms::form_at(rows, input.field)) {
-        Kind::Number => fill_number(rows, memory, input, part),
-        Kind::Text => fill_text(rows, memory, input, part),
+    match forms::kind_of(forms::form_at(memory.rows(), input.field)) {
+        Kind::Number => fill_number(memory, input, part),
+        Kind::Text => fill_text(memory, input, part),
     }
 }
 
 /// Fills the fields of a record, in order, until one halts.
 #[tactic(auto, unfolding(rpg_effect::specs::Input::record_in))]
 pub(crate) fn fill_all<S: Store + Drop>(
-    rows: &Rows,
-    memory: &mut Memory<S>,
+    memory: &mut Memory<'_, S>,
     text: &[u8],
     inputs: &[InputField<u16>],
 ) -> End
-    requires ready { IsMemoryReady S.forms S.contents S.currents rows.now.fields.items memory.old }
-    requires right { All (λ f. of.input_fault (form_at rows.now.fields.items) (length text.now) f ≡ None) inputs.now }
+    requires right { All (λ f. of.input_fault (forms_in memory.old) (length text.now) f ≡ None) inputs.now }
     requires characters { All IsCharacter text.now }
-    ensures done { quiet (end_of result) (world_of S.contents S.currents memory.new) ≡
-        of.record_in (form_at rows.now.fields.items) text.now inputs.now (world_of S.contents S.currents memory.old) }
-    ensures ready { IsMemoryReady S.forms S.contents S.currents rows.now.fields.items memory.new }
-    ensures form { memory.new.form ≡ memory.old.form }
+    ensures { DidEffect (of.record_in (forms_in memory.old) text.now inputs.now memory.old.world) memory.old (end_of result) memory.new }
 {
     'fields: for input in inputs {
-        match fill_one(rows, memory, text, *input) {
+        match fill_one(memory, text, *input) {
             End::GoesOn => {}
             End::Halt(halt) => return End::Halt(halt),
         }

@@ -3,10 +3,7 @@ ghost use Rattle.std.specs.Prelude.{◌≡◌, ◌≤◌, length, IfOk};
 ghost use Rattle.rpg_machine.specs.Running as of;
 ghost use Rattle.rpg_machine_lines.specs.Right.{HasLineRoom};
 ghost use Rattle.rpg_machine.specs.State.{running_of};
-ghost use Rattle.rpg_object_program.specs.Kept.{IsProgram};
 ghost use Rattle.rpg_object_program.specs.Object.{seen};
-ghost use Rattle.std.specs.FinSet as set;
-ghost use Rattle.std.specs.Prelude.{[], ◌∷◌};
 
 use crate::accepted::Accepted;
 use crate::cells::Cells;
@@ -15,24 +12,15 @@ use crate::output::{put_out, weight_of};
 use crate::section::run_section;
 use crate::state::{State, Writer};
 use crate::time::OutputTime;
-use rpg_decimal::{Rest, Scale};
 use rpg_effect::outcome::End;
 use rpg_machine_lines::{Entries, Output};
 use rpg_object_program::row::Rows;
 use rpg_object_program::section::{Place, Section};
-use rpg_paper::Form;
-use rpg_store::indicators::Indicators;
 use rpg_store::memory::Memory;
 use rpg_store::store::Store;
 use rpg_verify::Verified;
 use std::alloc::{AllocError, Global};
 use std::marker::Model;
-
-/// The indicator L0, which is on from the start.
-const LEVEL_ZERO: u8 = 100;
-
-/// The indicator 1P, which is on until the first record.
-const FIRST_PAGE: u8 = 111;
 
 /// An accepted program that is run, with the output since it was taken.
 ///
@@ -41,7 +29,7 @@ const FIRST_PAGE: u8 = 111;
 pub struct Machine<'a, S: Store + Drop> {
     alloc: Global,
     program: Accepted<'a>,
-    state: State<S>,
+    state: State<'a, S>,
 }
 
 impl<'a, S: Store + Drop> Model for Machine<'a, S> {
@@ -55,19 +43,9 @@ impl<'a, S: Store + Drop> Model for Machine<'a, S> {
 
     ghost use Rattle.rpg_machine.specs.State.{IsStateOf, running_of};
 
-    ghost view = { λ m. running_of S.contents S.currents m.program m.state };
+    ghost view = { λ m. running_of m.program m.state };
 
-    ghost invariant = { λ m. IsStateOf S.forms m.program m.state };
-}
-
-/// L0 and 1P.
-fn first_on() -> Indicators
-    ensures { result ≡ set.from_list (100 ∷ 111 ∷ []) }
-{
-    let mut on = Indicators::new();
-    on.turn(FIRST_PAGE, true);
-    on.turn(LEVEL_ZERO, true);
-    on
+    ghost invariant = { λ m. IsStateOf m.program m.state };
 }
 
 /// Room for a line of either file.
@@ -79,31 +57,19 @@ fn line_room(alloc: Global, rows: &Rows) -> Result<Vec<u8>, AllocError>
     Ok(text)
 }
 
-/// What a program starts with, over the values in a store: behind detail calculations, as it is before every cycle.
-fn first_state<S: Store + Drop>(
+/// What a program starts with: behind detail calculations, as it is before every cycle.
+fn first_state<'a, S: Store + Drop>(
     alloc: Global,
-    rows: &Rows,
-    store: S,
-) -> Result<State<S>, AllocError>
-    requires { IsProgram (seen rows.now) }
-    ensures start { IfOk result (λ s. running_of S.contents S.currents (seen rows.now) s ≡
-        of.started (seen rows.now) (record { values = S.contents store; current = S.currents store })) }
-    ensures room { IfOk result (λ s. HasLineRoom (seen rows.now) s.writer.text.items) }
-    ensures store { IfOk result (λ s. s.memory.store ≡ store) }
+    memory: Memory<'a, S>,
+) -> Result<State<'a, S>, AllocError>
+    ensures start { IfOk result (λ s. running_of memory.entry.program s ≡ of.begun memory.entry) }
+    ensures own { IfOk result (λ s. s.memory.program ≡ memory.entry.program) }
+    ensures room { IfOk result (λ s. HasLineRoom memory.entry.program s.writer.text.items) }
 {
+    let rows = memory.rows();
     let text = line_room(alloc, rows)?;
     Ok(State {
-        memory: Memory {
-            store,
-            on: first_on(),
-            remainder: Rest {
-                value: 0,
-                dec: Scale { value: 0 },
-            },
-            form: Form::new(),
-            was_overflow: false,
-            has_turned_on: false,
-        },
+        memory,
         writer: Writer {
             output: Output {
                 print: Vec::new(alloc),
@@ -143,7 +109,8 @@ impl<'a, S: Store + Drop> Machine<'a, S> {
         ensures ready { IfOk result (λ m. IsReady m) }
     {
         let accepted = Accepted::new(alloc, program)?;
-        let state = first_state(alloc, accepted.rows(), store)?;
+        accepted.is_orderly();
+        let state = first_state(alloc, Memory::new(program.program(), store))?;
         Ok(Machine {
             alloc,
             program: accepted,
@@ -161,7 +128,9 @@ impl<'a, S: Store + Drop> Machine<'a, S> {
         ensures bound { OnOk result (PaysForSection section self.old self.new) }
     {
         self.program.is_orderly();
-        run_section(&self.program, &mut self.state, section)
+        let end = run_section(&self.program, &mut self.state, section)?;
+        self.state.memory.is_kept();
+        Ok(end)
     }
 
     /// Puts out the lines of a time that are asked for.
@@ -173,7 +142,10 @@ impl<'a, S: Store + Drop> Machine<'a, S> {
     {
         let rows = self.program.rows();
         self.state.steps += u64::from(weight_of(rows, time));
-        put_out(rows, &mut self.state.memory, &mut self.state.writer, time)
+        let state = &mut self.state;
+        let end = put_out(&mut state.memory, &mut state.writer, time)?;
+        self.state.memory.is_kept();
+        Ok(end)
     }
 
     /// Fills the fields of a record type, the first of which is 0, from a record that has all columns of its file's records.
@@ -189,7 +161,9 @@ impl<'a, S: Store + Drop> Machine<'a, S> {
         let rows = self.program.rows();
         let inputs = &rows.types[row].inputs;
         self.state.steps += inputs.len() as u64;
-        fill_all(rows, &mut self.state.memory, text, inputs)
+        let end = fill_all(&mut self.state.memory, text, inputs);
+        self.state.memory.is_kept();
+        end
     }
 
     /// The allowance full, and no steps.
@@ -232,7 +206,7 @@ impl<'a, S: Store + Drop> Machine<'a, S> {
         requires high { n ≤ 129 }
         ensures { result ≡ set.contains self.now.config.world.on n }
     {
-        self.state.memory.on.is_on(n)
+        self.state.memory.on().is_on(n)
     }
 
     pub fn set_indicator(&mut self, n: u8, on: bool)
@@ -241,14 +215,14 @@ impl<'a, S: Store + Drop> Machine<'a, S> {
         ensures set { self.new ≡ of.with_indicator n on self.old }
         ensures ready { IsReady self.old → IsReady self.new }
     {
-        self.state.memory.on.turn(n, on);
+        self.state.memory.turn(n, on);
     }
 
     /// Ends the last line on the printer.
     pub fn finish(&mut self) -> Result<(), AllocError>
         ensures { OnOk result (self.new ≡ of.finished self.old) }
     {
-        if self.state.memory.form.last().is_some() {
+        if self.state.memory.last().is_some() {
             self.state.writer.output.print.push(b'\n')?;
         }
         Ok(())

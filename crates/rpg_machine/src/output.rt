@@ -1,13 +1,11 @@
 //! The outputs of a cycle.
 ghost use Rattle.std.specs.Prelude.{◌≡◌, ◌≤◌, length, IfOk, OnOk};
 ghost use Rattle.rpg_effect.specs.Ends.{end_of};
-ghost use Rattle.rpg_effect.specs.Put.{IsDone};
 ghost use Rattle.rpg_machine.specs.Accepted.{IsOrderly};
 ghost use Rattle.rpg_machine.specs.Outputs as spec;
-ghost use Rattle.rpg_machine_lines.specs.Outputs.{output_of};
-ghost use Rattle.rpg_machine_lines.specs.Right.{HasLineRoom};
-ghost use Rattle.rpg_machine.specs.State.{IsAble};
-ghost use Rattle.rpg_store.specs.Memory.{held_of};
+ghost use Rattle.rpg_machine_lines.specs.Outputs.{PutsOwn};
+ghost use Rattle.rpg_machine_lines.specs.Ready.{IsNear};
+ghost use Rattle.rpg_machine_lines.specs.Right.{AreRightLines, HasLineRoom};
 ghost use Rattle.rpg_object_program.specs.Object.{seen};
 
 use crate::state::Writer;
@@ -35,26 +33,24 @@ pub(crate) fn weight_of(rows: &Rows, time: OutputTime) -> u32
 
 /// Puts out the lines of a time.
 pub(crate) fn put_out<S: Store + Drop>(
-    rows: &Rows,
-    memory: &mut Memory<S>,
+    memory: &mut Memory<'_, S>,
     writer: &mut Writer,
     time: OutputTime,
 ) -> Result<End, AllocError>
-    requires orderly { IsOrderly (seen rows.now) }
-    requires able { IsAble S.forms S.contents S.currents (seen rows.now) memory.old }
-    requires room { HasLineRoom (seen rows.now) writer.old.text.items }
-    ensures done { IfOk result (λ e. IsDone (spec.output_effect (seen rows.now) time) (held_of S.contents S.currents memory.old) (output_of writer.old.output)
-        (end_of e) (held_of S.contents S.currents memory.new) (output_of writer.new.output)) }
-    ensures able { OnOk result (IsAble S.forms S.contents S.currents (seen rows.now) memory.new) }
-    ensures own { S.forms memory.new.store ≡ S.forms memory.old.store }
+    requires lines { AreRightLines memory.old.program }
+    requires near { IsNear memory.old.world.here }
+    requires room { HasLineRoom memory.old.program writer.old.text.items }
+    ensures done { IfOk result (λ e. PutsOwn (λ p. spec.output_effect p time) memory.old writer.old.output (end_of e) memory.new writer.new.output) }
+    ensures near { OnOk result (IsNear memory.new.world.here) }
+    ensures own { memory.new.program ≡ memory.old.program }
     ensures room { length writer.new.text.items ≡ length writer.old.text.items }
 {
     let output = &mut writer.output;
     let text = &mut writer.text;
     let to_blank = &mut writer.to_blank;
     match time {
-        OutputTime::Detail => put_details(rows, memory, output, text, to_blank),
-        OutputTime::Total => put_totals(rows, memory, output, text, to_blank),
-        OutputTime::Overflow => put_overflow(rows, memory, output, text, to_blank),
+        OutputTime::Detail => put_details(memory, output, text, to_blank),
+        OutputTime::Total => put_totals(memory, output, text, to_blank),
+        OutputTime::Overflow => put_overflow(memory, output, text, to_blank),
     }
 }

@@ -16,8 +16,8 @@ pub(crate) struct Writer {
 
 /// Where a program is and all that it has changed.
 #[derive(Drop)]
-pub(crate) struct State<S: Store + Drop> {
-    pub memory: Memory<S>,
+pub(crate) struct State<'a, S: Store + Drop> {
+    pub memory: Memory<'a, S>,
     pub writer: Writer,
     pub section: Section,
     pub place: u16,

@@ -13,13 +13,13 @@ use Rattle.rpg_effect.specs.declared.form.FieldForm.{FieldForm}
 use Rattle.rpg_effect.specs.declared.form.Kind.{Kind}
 use Rattle.rpg_effect.specs.declared.form.Kind.TheVariants as kinds
 use Rattle.rpg_effect.specs.declared.line.Source.TheVariants as sources
-use Rattle.rpg_machine_lines.proofs.Operands.{and_true, kinds_same, value_there}
+use Rattle.rpg_machine_lines.proofs.Operands.{AreFit, as_value, value_there}
 use Rattle.rpg_machine_lines.specs.Entries.{IsFieldEntry}
-use Rattle.rpg_machine_lines.specs.Ready.{AreFit, HasFields, fields_of}
 use Rattle.rpg_object_program.specs.Kept.{IsCharacter}
+use Rattle.rpg_store.proofs.Entries.{and_true, kinds_same}
 use Rattle.rpg_store.proofs.Fitting.{fits-insert}
+use Rattle.rpg_store.specs.Fields.{IsValue}
 use Rattle.rpg_store.specs.Fits.{HasForm}
-use Rattle.rpg_store.specs.Store.{Currents, Values}
 
 -- a value of the field's form may be stored in an entry
 fits_one : (forms : List FieldForm) (fields : Fields nat_cmp) (f e : ℕ) (v : Value) → AreFit forms fields → (i : IsFieldEntry forms f e) →
@@ -79,6 +79,15 @@ page_room forms own f n m same h small is =
     let low : unsigned_abs m < 10000 = subst (λ (x : ℤ). unsigned_abs x < 10000) (sym is) (next_fits n small) in
     subst (λ (l : ℕ). unsigned_abs m < 10 ^ l) (sym four) low
 
+-- the same by the number of a PAGE that was read
+pub page_value : (forms : List FieldForm) (f e : ℕ) → IsFieldEntry forms f e → fits_source sources.Page (form_at forms f) ≡ true → IsValue forms kinds.Number f e
+page_value forms f e i h = as_value forms kinds.Number f e i (page_kind (form_at forms f) h).0
+
+pub page_below : (forms : List FieldForm) (f : ℕ) (n : ℤ) → fits_source sources.Page (form_at forms f) ≡ true → unsigned_abs n < 10 ^ length_of (form_at forms f) → unsigned_abs n < 10000
+page_below forms f n h low = subst (λ (l : ℕ). unsigned_abs n < 10 ^ l) (page_kind (form_at forms f) h).1 low
+
+pub ruleset pages = (page_value, page_below)
+
 has_number : (k : Kind) (len : ℕ) (m : ℤ) → k ≡ kinds.Number → unsigned_abs m < 10 ^ len → HasForm k len (Some (Number m))
 has_number kinds.Number len m k h = h
 has_number kinds.Text len m k h = cc
@@ -102,7 +111,7 @@ blank_has kinds.Text len (Some (Number n)) h = absurd h
 blank_has kinds.Number len None h = absurd h
 blank_has kinds.Text len None h = absurd h
 
-blank_characters : (n : ℕ) → All IsCharacter (replicate n 32)
+pub blank_characters : (n : ℕ) → All IsCharacter (replicate n 32)
 blank_characters n k d low =
     let same : get_or (replicate n 32) k d ≡ 32 = get_or-replicate n k 32 d (subst (λ (m : ℕ). k < m) (length-replicate n 32) low) in
     subst IsCharacter (sym same) (record { lowest = omega arith; highest = omega arith })
@@ -130,33 +139,18 @@ blanked_number forms fields f e fits i k =
     ap (λ (v : Value). with_value (f, e) v fields)
     (zero_blanked i.form.kind i.form.length _ (ap kind_of (sym i.there) ∙ k) (value_there forms fields fits f e i))
 
+blanks_are : (k : Kind) (len : ℕ) (v : Option Value) → k ≡ kinds.Text → HasForm k len v → Text (replicate len 32) ≡ blanked v
+blanks_are kinds.Text len (Some (Text t)) is h = ap (λ (n : ℕ). Text (replicate n 32)) (sym h)
+blanks_are kinds.Text len (Some (Number n)) is h = absurd h
+blanks_are kinds.Text len None is h = absurd h
+blanks_are kinds.Number len v is h = cc
+
 -- a text becomes blanks
-pub blanked_text : (fields : Fields nat_cmp) (f e : ℕ) (t : List ℕ) → value_in fields (f, e) ≡ Some (Text t) →
-    with_value (f, e) (Text (replicate (length t) 32)) fields ≡ blanked_at (f, e) fields
-blanked_text fields f e t h = ap (λ (v : Option Value). with_value (f, e) (blanked v) fields) (sym h)
+pub blanked_text : (forms : List FieldForm) (fields : Fields nat_cmp) (f e : ℕ) → AreFit forms fields → IsFieldEntry forms f e →
+    kind_of (form_at forms f) ≡ kinds.Text → with_value (f, e) (Text (replicate (length_of (form_at forms f)) 32)) fields ≡ blanked_at (f, e) fields
+blanked_text forms fields f e fits i k =
+    ap (λ (v : Value). with_value (f, e) v fields)
+    (ap (λ (o : Option FieldForm). Text (replicate (length_of o) 32)) i.there
+    ∙ blanks_are i.form.kind i.form.length _ (ap kind_of (sym i.there) ∙ k) (value_there forms fields fits f e i))
 
--- ---- stores
-
--- values and current entries that are known
-pub fields_are : {S : Type 0} (contents : S → Values) (currents : S → Currents) (t : S) (fields : Fields nat_cmp) →
-    contents t ≡ fields.values → currents t ≡ fields.current → fields_of contents currents t ≡ fields
-fields_are contents currents t fields h k = rw (h, k) refl
-
-module _ {S : Type 0} (store_forms : S → List FieldForm) (contents : S → Values) (currents : S → Currents) (forms : List FieldForm) (s t : S)
-    (has : HasFields store_forms contents currents forms s) (own : store_forms t ≡ store_forms s) where
-  -- a store with other values
-  kept : (fields : Fields nat_cmp) → fields_of contents currents t ≡ fields → AreFit forms fields → HasFields store_forms contents currents forms t
-  kept fields is fits = record { rows = has.rows; own = own ∙ has.own; fits = subst (λ (x : Fields nat_cmp). AreFit forms x) (sym is) fits }
-
-  -- PAGE was counted
-  pub kept-counted : (f e : ℕ) (n m : ℤ) → IsFieldEntry forms f e → fits_source sources.Page (form_at forms f) ≡ true →
-      value_in (fields_of contents currents s) (f, e) ≡ Some (Number n) → m ≡ next_page n →
-      fields_of contents currents t ≡ with_value (f, e) (Number m) (fields_of contents currents s) → HasFields store_forms contents currents forms t
-  kept-counted f e n m i h read k is =
-      let fields = fields_of contents currents s in
-      kept _ is (page_counted forms fields f e n m has.fits i h (page_small forms fields f e n has.fits i h read) k)
-
-  -- an entry was blanked
-  pub kept-blanked : (f e : ℕ) → IsFieldEntry forms f e → fields_of contents currents t ≡ blanked_at (f, e) (fields_of contents currents s) →
-      HasFields store_forms contents currents forms t
-  kept-blanked f e i is = kept _ is (fits-blanked forms (fields_of contents currents s) f e has.fits i)
+pub ruleset blanking = (as_value, blanked_number, blanked_text, blank_characters)

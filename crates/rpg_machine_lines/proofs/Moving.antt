@@ -1,9 +1,10 @@
 -- Movements of the form.
-use Rattle.std.proofs.Common.{◌≡◌, ℕ, ◌+◌, ◌-◌, ◌≤◌, Bool, true, false, cond, ◌&&◌, nat_le, leb-true, refl, arith}
+use Rattle.std.proofs.Common.{◌≡◌, ℕ, ◌+◌, ◌-◌, ◌≤◌, Bool, true, false, cond, nat_le, leb-true, arith}
 use Rattle.rpg_paper.specs.Paper.{Position, spaced, skipped}
 use Rattle.rpg_effect.proofs.Printing.{print_done}
 use Rattle.rpg_effect.specs.LineFaults.{is_spacing}
 use Rattle.rpg_effect.specs.declared.line.Spacing.{Spacing}
+use Rattle.rpg_store.proofs.Entries.{and_true}
 
 few_by : (b : Bool) (page line other : ℕ) → (cond {A = Position} b (record { page = page; line = line }) (record { page = page + 1; line = other })).page ≤ page + 1
 few_by true page line other = omega arith
@@ -17,10 +18,6 @@ pub skipped_few : (line : ℕ) (p : Position) → (skipped line p).page ≤ p.pa
 skipped_few line p = few_by (nat_le p.line line) p.page line line
 
 pub ruleset moving = (spaced_few, skipped_few)
-
-and_true : (a b : Bool) → (a && b) ≡ true → (a ≡ true) × (b ≡ true)
-and_true true b h = (refl, h)
-and_true false b h = (h, cc)
 
 -- the movements of a line with nothing wrong
 pub space_before : (m : Spacing) → is_spacing m ≡ true → m.space_before ≤ 3

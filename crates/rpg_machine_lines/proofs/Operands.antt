@@ -2,9 +2,9 @@
 use Rattle.std.proofs.Common.{◌≡◌, ℕ, zero, suc, ℤ, pos, negsuc, ◌≤◌, All, Bool, true, false, not, ◌&&◌, ◌||◌, cond, nat_le, List, Option, None, Some, refl, sym, ap, ◌∙◌, subst, arith, leb-true, IfSome, nat_cmp}
 use Rattle.std.proofs.lemmas.Option.{cond_some, get_or_from_slice_get, same_Some, slice_get_within}
 use Rattle.rpg_effect.specs.Entries.{in_range, position_by, position_of}
-use Rattle.rpg_effect.specs.Forms.{entries_of, form_at, is_array, is_index_form, is_table_form, kind_of, same_kind}
+use Rattle.rpg_effect.specs.Forms.{entries_of, form_at, is_array, is_index_form, is_table_form, kind_of}
 use Rattle.rpg_effect.specs.Rows.{has_entry, has_index, has_operand, is_one, is_one_entry, is_shaped}
-use Rattle.rpg_effect.specs.Values.{Value, Number, Text, number_of}
+use Rattle.rpg_effect.specs.Values.{number_of}
 use Rattle.rpg_effect.specs.World.{Fields, current_in, value_in}
 use Rattle.rpg_effect.specs.declared.form.FieldForm.{FieldForm}
 use Rattle.rpg_effect.specs.declared.form.Kind.{Kind}
@@ -14,20 +14,10 @@ use Rattle.rpg_effect.specs.declared.operation.Index.TheVariants as indexed
 use Rattle.rpg_effect.specs.declared.operation.Operand.{Operand}
 use Rattle.rpg_effect.specs.declared.row.Shape.TheVariants as shapes
 use Rattle.rpg_machine_lines.specs.Entries.{IsFieldEntry}
-use Rattle.rpg_machine_lines.specs.Ready.{AreFit}
 use Rattle.rpg_object_program.specs.Kept.{IsFieldRow}
-use Rattle.rpg_store.specs.Fits.{HasForm}
-use Rattle.rpg_store.specs.Store.{IsNumber}
-
-pub and_true : (a b : Bool) → (a && b) ≡ true → (a ≡ true) × (b ≡ true)
-and_true true b h = (refl, h)
-and_true false b h = (h, cc)
-
-pub kinds_same : (k l : Kind) → same_kind k l ≡ true → k ≡ l
-kinds_same kinds.Number kinds.Number h = refl
-kinds_same kinds.Text kinds.Text h = refl
-kinds_same kinds.Number kinds.Text h = cc
-kinds_same kinds.Text kinds.Number h = cc
+use Rattle.rpg_store.proofs.Entries.{and_true, index_value}
+use Rattle.rpg_store.specs.Fields.{AreForms, IsValue}
+use Rattle.rpg_store.specs.Fits.{Fits, HasForm}
 
 not_true : (b : Bool) → b ≡ true → not b ≡ false
 not_true true h = refl
@@ -36,6 +26,10 @@ not_true false h = cc
 or_true : (a b : Bool) → (a || b) ≡ true → a ≡ false → b ≡ true
 or_true true b h e = cc
 or_true false b h e = h
+
+-- values and current entries that these fields may have
+abbrev pub AreFit : List FieldForm → Fields nat_cmp → Type 0
+AreFit forms fields = Fits forms fields.values fields.current
 
 -- the row of a field that is there
 pub row_at : (forms : List FieldForm) (n : ℕ) (d : FieldForm) → All IsFieldRow forms → form_at forms n ≡ Some d → IsFieldRow d
@@ -51,7 +45,7 @@ range_some entries (pos n) e h =
     let is : n ≡ e = found.1 in (omega arith, omega arith)
 range_some entries (negsuc n) e h = cc
 
-module _ (forms : List FieldForm) (fields : Fields nat_cmp) (rows : All IsFieldRow forms) (fits : AreFit forms fields) where
+module _ (forms : List FieldForm) (fields : Fields nat_cmp) (some : (field : ℕ) (d : FieldForm) → form_at forms field ≡ Some d → 1 ≤ d.entries) (fits : AreFit forms fields) where
   blank_in : (b : Bool) (field : ℕ) (d : FieldForm) (e : ℕ) → form_at forms field ≡ Some d → is_table_form (form_at forms field) ≡ b →
       Some (cond b (current_in fields field) 1) ≡ Some e → (1 ≤ e) × (e ≤ d.entries)
   blank_in true field d e is t h =
@@ -60,7 +54,7 @@ module _ (forms : List FieldForm) (fields : Fields nat_cmp) (rows : All IsFieldR
       (subst (λ (n : ℕ). 1 ≤ n) at (fits.low field t), subst (λ (n : ℕ). n ≤ d.entries) at high)
   blank_in false field d e is t h =
       let at : 1 ≡ e = same_Some 1 e h in
-      let few = (row_at forms field d rows is).fewest in
+      let few = some field d is in
       (omega arith, omega (arith, few))
 
   entry_in : (field : ℕ) (index : Index ℕ) (d : FieldForm) (e : ℕ) → form_at forms field ≡ Some d →
@@ -100,41 +94,31 @@ value_there forms fields fits field e i = fits.each field i.form i.there e i.low
 pub entry_there : (forms : List FieldForm) (fields : Fields nat_cmp) (o : Operand ℕ) (e : Option ℕ) → e ≡ position_of (form_at forms) fields o →
     All IsFieldRow forms → AreFit forms fields → has_entry (form_at forms) o ≡ true → is_one_entry (form_at forms) o ≡ true →
     IfSome e (λ n. IsFieldEntry forms o.field n)
-entry_there forms fields o e h rows fits s k = some_there forms fields rows fits o e s k (sym h)
+entry_there forms fields o e h rows fits s k = some_there forms fields (λ field d is. (row_at forms field d rows is).fewest) fits o e s k (sym h)
 
-pub ruleset entries = (entry_there)
+-- the same of forms that every memory has
+pub entry_named : (forms : List FieldForm) (fields : Fields nat_cmp) (o : Operand ℕ) (e : Option ℕ) → e ≡ position_of (form_at forms) fields o →
+    AreForms forms → AreFit forms fields → has_entry (form_at forms) o ≡ true → is_one_entry (form_at forms) o ≡ true →
+    IfSome e (λ n. IsFieldEntry forms o.field n)
+entry_named forms fields o e h good fits s k = some_there forms fields good.some fits o e s k (sym h)
 
-is_number : (k : Kind) (n : ℕ) (v : Option Value) → k ≡ kinds.Number → HasForm k n v → IsNumber v
-is_number kinds.Number n (Some (Number m)) e h = tt
-is_number kinds.Number n (Some (Text t)) e h = absurd h
-is_number kinds.Number n None e h = absurd h
-is_number kinds.Text n v e h = cc
+pub ruleset entries = (entry_named)
 
-kind_is : (forms : List FieldForm) (field e : ℕ) (k : Kind) → (i : IsFieldEntry forms field e) → kind_of (form_at forms field) ≡ k → i.form.kind ≡ k
-kind_is forms field e k i h = ap kind_of (sym i.there) ∙ h
+-- an entry of a field of that kind
+pub as_value : (forms : List FieldForm) (k : Kind) (f e : ℕ) → IsFieldEntry forms f e → kind_of (form_at forms f) ≡ k → IsValue forms k f e
+as_value forms k f e i is = record { form = i.form; there = i.there; kind = ap kind_of (sym i.there) ∙ is; low = i.low; high = i.high }
 
-number_there : (forms : List FieldForm) (fields : Fields nat_cmp) (field e : ℕ) → AreFit forms fields → IsFieldEntry forms field e →
-    kind_of (form_at forms field) ≡ kinds.Number → IsNumber (value_in fields (field, e))
-number_there forms fields field e fits i k =
-    is_number i.form.kind i.form.length _ (kind_is forms field e kinds.Number i k) (value_there forms fields fits field e i)
-
-plain_entry : (forms : List FieldForm) (k : ℕ) (form : Option FieldForm) → All IsFieldRow forms → form_at forms k ≡ form →
-    is_index_form form ≡ true → IsFieldEntry forms k 1
-plain_entry forms k None rows is h = cc
-plain_entry forms k (Some d) rows is h = record { form = d; there = is; low = omega arith; high = (row_at forms k d rows is).fewest }
-
-index_there : (forms : List FieldForm) (fields : Fields nat_cmp) (form : Option FieldForm) (index : Index ℕ) (k : ℕ) →
-    All IsFieldRow forms → AreFit forms fields → is_shaped (form_at forms) form shapes.One index ≡ true →
-    index ≡ indexed.Field k → IsNumber (value_in fields (k, 1))
-index_there forms fields None index k rows fits h is = cc
-index_there forms fields (Some d) index k rows fits h is =
-    let plain = (and_true _ (is_index_form (form_at forms k)) (ap (is_one (form_at forms) d) (sym is) ∙ h)).1 in
-    number_there forms fields k 1 fits (plain_entry forms k (form_at forms k) rows refl plain) (kinds_same _ kinds.Number (and_true _ _ plain).0)
+index_there : (forms : List FieldForm) (form : Option FieldForm) (index : Index ℕ) (k : ℕ) → AreForms forms → is_shaped (form_at forms) form shapes.One index ≡ true →
+    index ≡ indexed.Field k → IsValue forms kinds.Number k 1
+index_there forms None index k good h is = cc
+index_there forms (Some d) index k good h is =
+    index_value forms k good (and_true _ (is_index_form (form_at forms k)) (ap (is_one (form_at forms) d) (sym is) ∙ h)).1
 
 -- an index field has a number
-pub index_number : (forms : List FieldForm) (fields : Fields nat_cmp) (o : Operand ℕ) (k : ℕ) → All IsFieldRow forms →
-    AreFit forms fields → is_one_entry (form_at forms) o ≡ true →
-    o.index ≡ indexed.Field k → IsNumber (value_in fields (k, 1))
-index_number forms fields o k rows fits h is = index_there forms fields (form_at forms o.field) o.index k rows fits h is
+pub index_number : (forms : List FieldForm) (o : Operand ℕ) (k : ℕ) → AreForms forms → is_one_entry (form_at forms) o ≡ true →
+    o.index ≡ indexed.Field k → IsValue forms kinds.Number k 1
+index_number forms o k good h is = index_there forms (form_at forms o.field) o.index k good h is
 
 pub ruleset indexes = (index_number)
+
+pub ruleset values = (as_value)

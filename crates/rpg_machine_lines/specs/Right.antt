@@ -1,9 +1,11 @@
 -- Lines with nothing wrong, and room for them.
-use Rattle.std.specs.Prelude.{◌≡◌, All, ℕ, ◌≤◌, true, List, Option, None, length}
+use Rattle.std.specs.Prelude.{◌≡◌, All, ℕ, ◌≤◌, true, List, Option, None, Some, length}
+use Rattle.rpg_edit_marks.specs.declared.code.Fill.{Fill}
 use Rattle.rpg_effect.specs.Forms.{form_at}
 use Rattle.rpg_effect.specs.LineFaults.{AreRight, field_width, fits_editing, fits_source, line_fault}
 use Rattle.rpg_effect.specs.Rows.{has_entry, is_one_entry}
 use Rattle.rpg_effect.specs.declared.form.FieldForm.{FieldForm}
+use Rattle.rpg_effect.specs.declared.line.Editing.{Editing}
 use Rattle.rpg_effect.specs.declared.line.LineField.{LineField}
 use Rattle.rpg_object_program.specs.Constants.{word_at}
 use Rattle.rpg_object_program.specs.Object.{LineRow, Object, file_length}
@@ -16,6 +18,10 @@ pub record IsRightField (forms : ℕ → Option FieldForm) (words : ℕ → List
   pub index : is_one_entry forms f.operand ≡ true
   pub editing : fits_editing forms words (forms f.operand.field) f.editing f.fill ≡ true
   pub source : fits_source f.source (forms f.operand.field) ≡ true
+
+-- nothing is wrong with how a field of that form is edited
+abbrev pub FitsEditing : Object → FieldForm → Editing ℕ → Fill → Type 0
+FitsEditing p form editing fill = fits_editing (form_at p.fields) (word_at p) (Some form) editing fill ≡ true
 
 -- nothing is wrong with the line and its fields, and they are no more than a line may have
 pub record IsRightLine (p : Object) (l : LineRow) : Type 0 where

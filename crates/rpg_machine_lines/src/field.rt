@@ -1,16 +1,16 @@
 //! Fields of lines: how they are edited, their text in the line, PAGE, and blank after.
-ghost use Rattle.std.specs.Prelude.{◌≡◌, ◌≤◌, ◌<◌, ◌^◌, length, unsigned_abs, replicate, true, Some};
+ghost use Rattle.std.specs.Prelude.{◌≡◌, ◌≤◌, ◌<◌, ◌^◌, length, unsigned_abs, replicate, true};
 ghost use Rattle.rpg_edit_marks.specs.How.{edited, width_of, IsFit};
 ghost use Rattle.rpg_effect.specs.Editing as edits;
 ghost use Rattle.rpg_effect.specs.Forms as forms;
 ghost use Rattle.rpg_effect.specs.LineFaults as faults;
 ghost use Rattle.rpg_effect.specs.Lines as lines;
-ghost use Rattle.rpg_effect.specs.World.{value_in};
+ghost use Rattle.rpg_machine_lines.specs.Drafts.{counted_in, text_in, with_fields};
 ghost use Rattle.rpg_machine_lines.specs.Entries.{AreFieldEntries, IsEditableForm, IsFieldEntry};
-ghost use Rattle.rpg_machine_lines.specs.Ready.{HasFields, fields_of};
-ghost use Rattle.rpg_machine_lines.specs.Right.{IsRightField};
+ghost use Rattle.rpg_machine_lines.specs.Right.{FitsEditing, IsRightField};
 ghost use Rattle.rpg_object_program.specs.Constants as constants;
 ghost use Rattle.rpg_object_program.specs.Object.{seen};
+ghost use Rattle.rpg_store.specs.Memory.{forms_in};
 
 use rpg_edit::edit_at_end;
 use rpg_edit_marks::Fill;
@@ -20,13 +20,14 @@ use rpg_effect::line::{Editing, LineField, Source};
 use rpg_object_program::forms::{form_at, kind_of};
 use rpg_object_program::row::Rows;
 use rpg_object_program::words::word_at;
+use rpg_store::memory::Memory;
 use rpg_store::store::Store;
 
 /// How a number field is edited.
 #[tactic(auto, using(crate::proofs::Fields::fitting))]
 fn how_of(rows: &Rows, form: FieldForm, editing: Editing<u16>, fill: Fill) -> How
     requires numeric { IsEditableForm form }
-    requires fits { faults.fits_editing (forms.form_at rows.now.fields.items) (constants.word_at (seen rows.now)) (Some form) editing fill ≡ true }
+    requires fits { FitsEditing (seen rows.now) form editing fill }
     ensures how { result ≡ edits.how_of (constants.word_at (seen rows.now)) editing fill }
     ensures fit { IsFit form.length form.decimals result }
 {
@@ -66,31 +67,28 @@ fn lay_text(text: &mut [u8], end: u16, part: &[u8])
 }
 
 /// Lays the value of an entry over the line; `form` is that of its field.
-pub fn lay_value<S: Store>(
-    rows: &Rows,
-    store: &S,
+#[tactic(auto, using(crate::proofs::Operands::values))]
+pub fn lay_value<S: Store + Drop>(
+    memory: &Memory<'_, S>,
     text: &mut [u8],
     field: &LineField<u16>,
     form: Option<FieldForm>,
     entry: u16,
 )
-    requires fields { HasFields S.forms S.contents S.currents rows.now.fields.items store.now }
-    requires right { IsRightField (forms.form_at rows.now.fields.items) (constants.word_at (seen rows.now)) (length text.old) field.now }
-    requires form { form ≡ forms.form_at rows.now.fields.items field.now.operand.field }
-    requires entry { IsFieldEntry rows.now.fields.items field.now.operand.field entry }
-    ensures text { text.new ≡ lines.laid_over text.old field.now.end
-        (edits.text_of (forms.form_at rows.now.fields.items field.now.operand.field)
-        (edits.how_of (constants.word_at (seen rows.now)) field.now.editing field.now.fill)
-        (value_in (fields_of S.contents S.currents store.now) (field.now.operand.field, entry))) }
+    requires right { IsRightField (forms_in memory.now) (constants.word_at memory.now.program) (length text.old) field.now }
+    requires form { form ≡ forms_in memory.now field.now.operand.field }
+    requires entry { IsFieldEntry memory.now.program.fields field.now.operand.field entry }
+    ensures text { text.new ≡ lines.laid_over text.old field.now.end (text_in memory.now field.now entry) }
 {
+    memory.is_kept();
     let number = field.operand.field;
     let Some(form) = form else { unreachable!() };
     match form.kind {
         Kind::Number => {
-            let how = how_of(rows, form, field.editing, field.fill);
-            lay_number(text, field.end, store.number(number, entry), form, &how);
+            let how = how_of(memory.rows(), form, field.editing, field.fill);
+            lay_number(text, field.end, memory.number(number, entry), form, &how);
         }
-        Kind::Text => lay_text(text, field.end, store.text(number, entry)),
+        Kind::Text => lay_text(text, field.end, memory.text(number, entry)),
     }
 }
 
@@ -104,70 +102,61 @@ fn next_page(n: i64) -> i64
 }
 
 /// PAGE is made one more before it is printed.
-pub fn count_page<S: Store>(rows: &Rows, store: &mut S, field: &LineField<u16>, entry: u16)
-    requires fields { HasFields S.forms S.contents S.currents rows.now.fields.items store.old }
-    requires source { faults.fits_source field.now.source (forms.form_at rows.now.fields.items field.now.operand.field) ≡ true }
-    requires entry { IsFieldEntry rows.now.fields.items field.now.operand.field entry }
-    ensures counted { fields_of S.contents S.currents store.new ≡ lines.counted field.now.source (field.now.operand.field, entry) (fields_of S.contents S.currents store.old) }
-    ensures fields { HasFields S.forms S.contents S.currents rows.now.fields.items store.new }
+#[tactic(auto, using(crate::proofs::Keeping::pages))]
+pub fn count_page<S: Store + Drop>(memory: &mut Memory<'_, S>, field: &LineField<u16>, entry: u16)
+    requires source { faults.fits_source field.now.source (forms_in memory.old field.now.operand.field) ≡ true }
+    requires entry { IsFieldEntry memory.old.program.fields field.now.operand.field entry }
+    ensures { memory.new ≡ counted_in memory.old field.now entry }
 {
     match field.source {
         Source::Value => {}
         Source::Page => {
-            let n = store.number(field.operand.field, entry);
-            store.set_number(field.operand.field, entry, next_page(n));
+            let n = memory.number(field.operand.field, entry);
+            memory.set_number(field.operand.field, entry, next_page(n));
         }
     }
 }
 
 /// Blanks in every place.
-pub fn blank_text(text: &mut [u8])
+pub fn fill_blanks(text: &mut [u8])
     ensures { text.new ≡ replicate (length text.old) 32 }
 {
     text.fill(b' ');
 }
 
-fn blank_number_entry<S: Store>(rows: &Rows, store: &mut S, entry: (u16, u16))
-    requires fields { HasFields S.forms S.contents S.currents rows.now.fields.items store.old }
-    requires entry { IsFieldEntry rows.now.fields.items entry.0 entry.1 }
-    requires number { forms.kind_of (forms.form_at rows.now.fields.items entry.0) ≡ Kind.Number }
-    ensures blanked { fields_of S.contents S.currents store.new ≡ lines.blanked_at (entry.0, entry.1) (fields_of S.contents S.currents store.old) }
-    ensures fields { HasFields S.forms S.contents S.currents rows.now.fields.items store.new }
+/// A text entry becomes blank.
+#[tactic(auto, using(crate::proofs::Keeping::blanking))]
+fn blank_text<S: Store + Drop>(memory: &mut Memory<'_, S>, entry: (u16, u16))
+    requires entry { IsFieldEntry memory.old.program.fields entry.0 entry.1 }
+    requires text { forms.kind_of (forms_in memory.old entry.0) ≡ Kind.Text }
+    ensures { memory.new ≡ with_fields (lines.blanked_at (entry.0, entry.1) memory.old.world.fields) memory.old }
 {
-    store.set_number(entry.0, entry.1, 0);
-}
-
-fn blank_text_entry<S: Store>(rows: &Rows, store: &mut S, entry: (u16, u16))
-    requires fields { HasFields S.forms S.contents S.currents rows.now.fields.items store.old }
-    requires entry { IsFieldEntry rows.now.fields.items entry.0 entry.1 }
-    requires text { forms.kind_of (forms.form_at rows.now.fields.items entry.0) ≡ Kind.Text }
-    ensures blanked { fields_of S.contents S.currents store.new ≡ lines.blanked_at (entry.0, entry.1) (fields_of S.contents S.currents store.old) }
-    ensures fields { HasFields S.forms S.contents S.currents rows.now.fields.items store.new }
-{
-    blank_text(store.text_mut(entry.0, entry.1));
+    memory.is_kept();
+    let mut places = [0; 256];
+    let text = &mut places[..memory.text(entry.0, entry.1).len()];
+    fill_blanks(text);
+    memory.set_text(entry.0, entry.1, text);
 }
 
 /// An entry becomes zero or blank.
-fn blank<S: Store>(rows: &Rows, store: &mut S, entry: (u16, u16))
-    requires fields { HasFields S.forms S.contents S.currents rows.now.fields.items store.old }
-    requires entry { IsFieldEntry rows.now.fields.items entry.0 entry.1 }
-    ensures blanked { fields_of S.contents S.currents store.new ≡ lines.blanked_at (entry.0, entry.1) (fields_of S.contents S.currents store.old) }
-    ensures fields { HasFields S.forms S.contents S.currents rows.now.fields.items store.new }
+#[tactic(auto, using(crate::proofs::Keeping::blanking))]
+fn blank<S: Store + Drop>(memory: &mut Memory<'_, S>, entry: (u16, u16))
+    requires { IsFieldEntry memory.old.program.fields entry.0 entry.1 }
+    ensures { memory.new ≡ with_fields (lines.blanked_at (entry.0, entry.1) memory.old.world.fields) memory.old }
 {
-    match kind_of(form_at(rows, entry.0)) {
-        Kind::Number => blank_number_entry(rows, store, entry),
-        Kind::Text => blank_text_entry(rows, store, entry),
+    memory.is_kept();
+    match kind_of(form_at(memory.rows(), entry.0)) {
+        Kind::Number => memory.set_number(entry.0, entry.1, 0),
+        Kind::Text => blank_text(memory, entry),
     }
 }
 
 /// The entries become zero or blank, in order.
-pub fn blank_all<S: Store>(rows: &Rows, store: &mut S, entries: &[(u16, u16)])
-    requires fields { HasFields S.forms S.contents S.currents rows.now.fields.items store.old }
-    requires entries { AreFieldEntries rows.now.fields.items entries.now }
-    ensures blanked { fields_of S.contents S.currents store.new ≡ lines.blanked_all entries.now (fields_of S.contents S.currents store.old) }
-    ensures fields { HasFields S.forms S.contents S.currents rows.now.fields.items store.new }
+pub fn blank_all<S: Store + Drop>(memory: &mut Memory<'_, S>, entries: &[(u16, u16)])
+    requires { AreFieldEntries memory.old.program.fields entries.now }
+    ensures { memory.new ≡ with_fields (lines.blanked_all entries.now memory.old.world.fields) memory.old }
 {
     'entries: for entry in entries {
-        blank(rows, store, *entry);
+        blank(memory, *entry);
     }
 }

@@ -14,8 +14,9 @@ use Rattle.rpg_effect.specs.declared.operation.Side.{Side}
 use Rattle.rpg_effect.specs.declared.form.Kind.{Kind}
 use Rattle.rpg_effect.specs.declared.row.Shape.{Shape}
 use Rattle.rpg_effect.specs.declared.row.Shape.TheVariants as shapes
-use Rattle.rpg_machine_operations.specs.Good.{AreOperandEntries, AreResolved, IsOperandEntry, IsResolved, IsValue, reads_index, resolved_entry}
-use Rattle.rpg_machine_operations.specs.declared.resolved.Resolved.{Resolved}
+use Rattle.rpg_store.specs.Fields.{IsResolved, IsValue, resolved_entry, reads_index}
+use Rattle.rpg_machine_operations.specs.Good.{AreOperandEntries, AreResolved, IsOperandEntry}
+use Rattle.rpg_store.specs.declared.resolved.Resolved.{Resolved}
 use Rattle.rpg_machine_operations.proofs.Rights.{reads_shape}
 use Rattle.rpg_effect.specs.Forms.{form_at}
 

@@ -2,30 +2,27 @@
 use Rattle.std.proofs.Common.{◌≡◌, ℕ, zero, suc, pos, ◌+◌, ◌-◌, ◌≤◌, ◌<◌, ◌^◌, unsigned_abs, Bool, true, false, ◌&&◌, cond, nat_le, List, reverse, Option, None, Some, IfSome, Ordering, nat_cmp, Less, Equal, Greater, refl, sym, ap, ◌∙◌, subst, arith, leb-true}
 use Rattle.std.proofs.Math.Nat.{pow-le-pow_right}
 use Rattle.std.proofs.lemmas.Option.{same_Some}
-use Rattle.std.specs.FinMap as map
 use Rattle.std.specs.List.{find, range_with_len}
-use Rattle.rpg_effect.specs.Act.{found_in, found_shown, looked_up, order_at, position_fault, search_start, with_found}
+use Rattle.rpg_effect.specs.Act.{found_in, found_shown, looked_up, with_found, position_fault, order_at, search_start}
 use Rattle.rpg_effect.specs.Effect.{quiet}
-use Rattle.rpg_effect.specs.Forms.{entries_of, is_index_form, length_of}
+use Rattle.rpg_effect.specs.Forms.{entries_of, length_of}
 use Rattle.rpg_effect.specs.Rows.{can_hold, holds_position}
 use Rattle.rpg_effect.specs.Search.{first_one, found_as, if_asked, last_one, nearest, or_else, positions, search_of, stands}
 use Rattle.rpg_effect.specs.World.{World}
 use Rattle.rpg_effect.specs.declared.form.FieldForm.{FieldForm}
 use Rattle.rpg_effect.specs.declared.form.Kind.{Kind}
-use Rattle.rpg_effect.specs.declared.form.Kind.TheVariants as kinds
 use Rattle.rpg_effect.specs.declared.operation.Entry.{Entry}
 use Rattle.rpg_effect.specs.declared.operation.Found.{Found}
 use Rattle.rpg_effect.specs.declared.operation.Index.{Index}
 use Rattle.rpg_effect.specs.declared.operation.Index.TheVariants.{Blank, Literal, Field}
 use Rattle.rpg_effect.specs.declared.operation.Shows.{Shows}
 use Rattle.rpg_effect.specs.Ends.{Fault, GoesOn}
-use Rattle.rpg_machine_operations.specs.Good.{AreForms, FitsPosition, HasPosition, IsValue, reads_index}
-use Rattle.rpg_store.specs.Fits.{Fits}
-use Rattle.rpg_machine_operations.proofs.Entries.{and_true, kinds_same}
+use Rattle.rpg_store.specs.Fields.{AreForms, IsValue, reads_index}
+use Rattle.rpg_machine_operations.specs.Good.{FitsPosition, HasPosition}
+use Rattle.rpg_store.proofs.Entries.{index_value, and_true}
 use Rattle.rpg_effect.proofs.Searches.{reverse_more}
-use Rattle.rpg_machine_operations.proofs.Values.{length_low, number_there}
+use Rattle.rpg_store.proofs.Values.{length_low}
 use Rattle.rpg_effect.specs.Forms.{form_at}
-use Rattle.rpg_store.specs.Store.{Values, Currents, IsNumber}
 
 pub record Between (from last p : ℕ) : Type 0 where
   pub low : from ≤ p
@@ -144,14 +141,6 @@ no_position_fault forms b table (Some f) h = no_fault _ _ h.holds
 
 -- ---- index fields
 
-index_value_at : (forms : List FieldForm) (k : ℕ) (o : Option FieldForm) → AreForms forms → form_at forms k ≡ o → is_index_form o ≡ true → IsValue forms kinds.Number k 1
-index_value_at forms k None good is h = cc
-index_value_at forms k (Some d) good is h =
-    record { form = d; there = is; kind = kinds_same d.kind kinds.Number (and_true _ _ h).0; low = omega arith; high = good.some k d is }
-
-pub index_value : (forms : List FieldForm) (k : ℕ) → AreForms forms → reads_index forms (Field k) ≡ true → IsValue forms kinds.Number k 1
-index_value forms k good h = index_value_at forms k (form_at forms k) good refl h
-
 pub held : (forms : List FieldForm) (k n : ℕ) → can_hold (form_at forms) (Field k) n ≡ true → unsigned_abs (pos n) < 10 ^ length_of (form_at forms k)
 held forms k n h = leb-true (suc n) _ h
 
@@ -168,11 +157,6 @@ first_fits forms (Literal n) good h = refl
 first_fits forms (Field k) good h =
     let low : 1 < 10 ^ length_of (form_at forms k) = ten_above _ (length_low forms k 1 good (index_value forms k good h)) in
     grind arith
-
-pub index_there : (forms : List FieldForm) (values : Values) (current : Currents) (k : ℕ) → AreForms forms → Fits forms values current → reads_index forms (Field k) ≡ true → IsNumber (map.get values (k, 1))
-index_there forms values current k good fits h = number_there forms values current k 1 fits (index_value forms k good h)
-
-pub ruleset indexing = (index_there, held)
 
 pub has_position : (forms : List FieldForm) (b : Entry ℕ) (table : Option ℕ) (n : ℕ) → FitsPosition forms b table n → HasPosition forms table n
 has_position forms b None n h = tt

@@ -1,9 +1,6 @@
 pub mod Characters
 pub mod Doing
-pub mod Entries
 pub mod Finding
-pub mod Keeping
 pub mod Overlays
-pub mod Programs
 pub mod Rights
-pub mod Values
+pub mod Sums

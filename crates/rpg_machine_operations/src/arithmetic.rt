@@ -1,47 +1,30 @@
 //! Arithmetic: what a result is, and what becomes of it.
-ghost use Rattle.std.specs.Prelude.{◌≡◌, ◌≢◌, ◌<◌, ◌≤◌, ◌^◌, ℤ, pos, false, None, if◌then◌else◌, unsigned_abs, IfSome};
-ghost use Rattle.std.specs.Option.{option_map};
-ghost use Rattle.rpg_decimal_words.specs.Fraction.{stored_number, with_decimals};
+ghost use Rattle.std.specs.Prelude.{◌≡◌, ◌≢◌, ◌<◌, ◌≤◌, ◌^◌, pos, false, None, if◌then◌else◌, unsigned_abs, IfSome};
+ghost use Rattle.rpg_decimal_words.specs.Fraction.{stored_number};
 ghost use Rattle.rpg_decimal.specs.Num.{value_of};
 ghost use Rattle.rpg_effect.specs.Act as acts;
-ghost use Rattle.rpg_effect.specs.Forms as forms_of;
+ghost use Rattle.rpg_effect.specs.Forms.{length_of};
 ghost use Rattle.rpg_effect.specs.World.{number_at};
 ghost use Rattle.rpg_effect.specs.declared.form.Kind.TheVariants as kinds;
-ghost use Rattle.rpg_effect.specs.Ends.{end_of, GoesOn};
-ghost use Rattle.rpg_machine_operations.specs.Good.{IsResolved, IsValue};
-ghost use Rattle.rpg_store.specs.Memory.{rest_value, world_of};
-ghost use Rattle.rpg_machine_operations.specs.Ready.{IsMemoryReady, forms_in};
+ghost use Rattle.rpg_store.specs.Fields.{IsValue};
+ghost use Rattle.rpg_store.specs.Memory.{NamesNumber, forms_in, rest_value};
+ghost use Rattle.rpg_machine_operations.specs.Words.{FitsResult, assigned_in, computed_in, quotient_in, stored_value_in, with_remainder_of};
 
-use crate::reading::{number_at, target_of};
-use crate::resolved::Resolved;
-use crate::showing::show;
 use rpg_decimal::{Num, Rest, Scale, Target, add, div, keep, mult, remainder, sub};
 use rpg_effect::operation::{Entry, Operator, Shows};
-use rpg_effect::outcome::End;
-use rpg_object_program::row::Rows;
 use rpg_store::memory::Memory;
+use rpg_store::numbers::{number_at, target_of};
+use rpg_store::resolved::Resolved;
 use rpg_store::store::Store;
 
 /// Stores a number, and lets the indicators follow it.
-#[tactic(auto, using(crate::proofs::Values::numbers))]
-pub fn store<S: Store + Drop>(
-    rows: &Rows,
-    memory: &mut Memory<S>,
-    to: Entry<u16>,
-    shows: Shows,
-    n: i64,
-) -> End
-    requires ready { IsMemoryReady S.forms S.contents S.currents rows.now.fields.items memory.old }
-    requires to { IsValue rows.now.fields.items kinds.Number to.field to.position }
-    requires length { unsigned_abs n < 10 ^ forms_of.length_of (forms_in rows.now to.field) }
-    ensures goes { end_of result ≡ GoesOn }
-    ensures world { world_of S.contents S.currents memory.new ≡ acts.store (world_of S.contents S.currents memory.old) to shows n }
-    ensures ready { IsMemoryReady S.forms S.contents S.currents rows.now.fields.items memory.new }
-    ensures form { memory.new.form ≡ memory.old.form }
+pub fn store<S: Store + Drop>(memory: &mut Memory<'_, S>, to: Entry<u16>, shows: Shows, n: i64)
+    requires to { IsValue memory.old.program.fields kinds.Number to.field to.position }
+    requires length { unsigned_abs n < 10 ^ length_of (forms_in memory.old to.field) }
+    ensures { memory.new ≡ record memory.old { world = acts.store memory.old.world to shows n } }
 {
-    memory.store.set_number(to.field, to.position, n);
-    show(&mut memory.on, shows, n.cmp(&0));
-    End::GoesOn
+    memory.set_number(to.field, to.position, n);
+    memory.show(shows, n.cmp(&0));
 }
 
 /// What an operator makes of two numbers.
@@ -58,47 +41,43 @@ fn operated(operator: Operator, a: Num, b: Num, target: Target) -> i64
 
 /// The result of ADD, SUB and MULT.
 pub fn computed<S: Store + Drop>(
-    rows: &Rows,
-    memory: &Memory<S>,
+    memory: &Memory<'_, S>,
     operator: Operator,
     half: bool,
     factor1: Resolved,
     factor2: Resolved,
     to: Resolved,
 ) -> i64
-    requires ready { IsMemoryReady S.forms S.contents S.currents rows.now.fields.items memory.now }
-    requires factor1 { IsResolved rows.now.fields.items kinds.Number factor1 }
-    requires factor2 { IsResolved rows.now.fields.items kinds.Number factor2 }
-    requires to { IsResolved rows.now.fields.items kinds.Number to }
-    ensures value { result ≡ acts.stored_value half (forms_in rows.now to.entry.field) (acts.computed operator (acts.exact (forms_in rows.now) (world_of S.contents S.currents memory.now) factor1.entry) (acts.exact (forms_in rows.now) (world_of S.contents S.currents memory.now) factor2.entry)) }
-    ensures length { unsigned_abs result < 10 ^ forms_of.length_of (forms_in rows.now to.entry.field) }
+    requires factor1 { NamesNumber memory.now factor1 }
+    requires factor2 { NamesNumber memory.now factor2 }
+    requires to { NamesNumber memory.now to }
+    ensures value { result ≡ computed_in memory.now operator half factor1 factor2 to }
+    ensures length { FitsResult memory.now to result }
 {
-    let a = number_at(rows, memory, factor1);
-    let b = number_at(rows, memory, factor2);
-    operated(operator, a, b, target_of(rows, to, half))
+    let a = number_at(memory, factor1);
+    let b = number_at(memory, factor2);
+    operated(operator, a, b, target_of(memory, to, half))
 }
 
 /// The result of Z-ADD and Z-SUB.
 pub fn assigned<S: Store + Drop>(
-    rows: &Rows,
-    memory: &Memory<S>,
+    memory: &Memory<'_, S>,
     is_negated: bool,
     half: bool,
     factor2: Resolved,
     to: Resolved,
 ) -> i64
-    requires ready { IsMemoryReady S.forms S.contents S.currents rows.now.fields.items memory.now }
-    requires factor2 { IsResolved rows.now.fields.items kinds.Number factor2 }
-    requires to { IsResolved rows.now.fields.items kinds.Number to }
-    ensures value { result ≡ acts.stored_value half (forms_in rows.now to.entry.field) (with_decimals (acts.assigned is_negated (number_at (world_of S.contents S.currents memory.now) factor2.entry.field factor2.entry.position)) (forms_of.decimals_of (forms_in rows.now factor2.entry.field))) }
-    ensures length { unsigned_abs result < 10 ^ forms_of.length_of (forms_in rows.now to.entry.field) }
+    requires factor2 { NamesNumber memory.now factor2 }
+    requires to { NamesNumber memory.now to }
+    ensures value { result ≡ stored_value_in memory.now half to (assigned_in memory.now is_negated factor2) }
+    ensures length { FitsResult memory.now to result }
 {
-    let b = number_at(rows, memory, factor2);
+    let b = number_at(memory, factor2);
     let scale = Scale { value: b.dec };
     keep(
         signed(is_negated, b.value),
         scale,
-        target_of(rows, to, half),
+        target_of(memory, to, half),
     )
 }
 
@@ -138,43 +117,39 @@ fn left_after(before: Rest, half: bool, a: Num, b: Num, dec: u8) -> Rest
 
 /// Divides: the quotient as the result field keeps it, and the remainder kept. None by a zero divisor.
 pub fn divide<S: Store + Drop>(
-    rows: &Rows,
-    memory: &mut Memory<S>,
+    memory: &mut Memory<'_, S>,
     half: bool,
     factor1: Resolved,
     factor2: Resolved,
     to: Resolved,
 ) -> Option<i64>
-    requires ready { IsMemoryReady S.forms S.contents S.currents rows.now.fields.items memory.old }
-    requires factor1 { IsResolved rows.now.fields.items kinds.Number factor1 }
-    requires factor2 { IsResolved rows.now.fields.items kinds.Number factor2 }
-    requires to { IsResolved rows.now.fields.items kinds.Number to }
-    ensures quotient { result ≡ option_map (acts.stored_value half (forms_in rows.now to.entry.field)) (acts.divided (acts.exact (forms_in rows.now) (world_of S.contents S.currents memory.old) factor1.entry) (acts.exact (forms_in rows.now) (world_of S.contents S.currents memory.old) factor2.entry)) }
-    ensures length { IfSome result (λ n. unsigned_abs n < 10 ^ forms_of.length_of (forms_in rows.now to.entry.field)) }
-    ensures world { IfSome result (λ n. world_of S.contents S.currents memory.new ≡ record (world_of S.contents S.currents memory.old) { remainder = acts.remainder_after (forms_in rows.now) half (world_of S.contents S.currents memory.old) factor1.entry factor2.entry to.entry }) }
+    requires factor1 { NamesNumber memory.old factor1 }
+    requires factor2 { NamesNumber memory.old factor2 }
+    requires to { NamesNumber memory.old to }
+    ensures quotient { result ≡ quotient_in memory.old half factor1 factor2 to }
+    ensures length { IfSome result (λ n. FitsResult memory.old to n) }
+    ensures left { IfSome result (λ n. memory.new ≡ record memory.old { world = with_remainder_of memory.old half factor1 factor2 to }) }
     ensures none { result ≡ None → memory.new ≡ memory.old }
-    ensures ready { IsMemoryReady S.forms S.contents S.currents rows.now.fields.items memory.new }
-    ensures form { memory.new.form ≡ memory.old.form }
 {
-    let a = number_at(rows, memory, factor1);
-    let b = number_at(rows, memory, factor2);
-    let target = target_of(rows, to, half);
+    let a = number_at(memory, factor1);
+    let b = number_at(memory, factor2);
+    let target = target_of(memory, to, half);
     match div(a, b, target) {
         Err(_) => None,
         Ok(quotient) => {
-            memory.remainder = left_after(memory.remainder, half, a, b, target.dec);
+            let left = left_after(memory.remainder(), half, a, b, target.dec);
+            memory.set_remainder(left);
             Some(quotient)
         }
     }
 }
 
 /// The result of MVR: what the last division left.
-pub fn kept_remainder<S: Store + Drop>(rows: &Rows, memory: &Memory<S>, to: Resolved) -> i64
-    requires ready { IsMemoryReady S.forms S.contents S.currents rows.now.fields.items memory.now }
-    requires to { IsResolved rows.now.fields.items kinds.Number to }
-    ensures value { result ≡ acts.stored_value false (forms_in rows.now to.entry.field) (world_of S.contents S.currents memory.now).remainder }
-    ensures length { unsigned_abs result < 10 ^ forms_of.length_of (forms_in rows.now to.entry.field) }
+pub fn kept_remainder<S: Store + Drop>(memory: &Memory<'_, S>, to: Resolved) -> i64
+    requires { NamesNumber memory.now to }
+    ensures value { result ≡ stored_value_in memory.now false to memory.now.world.remainder }
+    ensures length { FitsResult memory.now to result }
 {
-    let rest = memory.remainder;
-    keep(rest.value, rest.dec, target_of(rows, to, false))
+    let rest = memory.remainder();
+    keep(rest.value, rest.dec, target_of(memory, to, false))
 }

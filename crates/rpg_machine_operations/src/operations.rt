@@ -1,24 +1,18 @@
 //! Operations: their weight, and what they do to values, current entries and indicators.
 ghost use Rattle.std.specs.Prelude.{◌≡◌};
-ghost use Rattle.rpg_effect.specs.Act as acts;
-ghost use Rattle.rpg_effect.specs.Effect.{quiet};
-ghost use Rattle.rpg_effect.specs.Operate as of;
-ghost use Rattle.rpg_effect.specs.Forms as forms_of;
-ghost use Rattle.rpg_effect.specs.Weights as weights;
+ghost use Rattle.rpg_effect.specs.Ends.{end_of};
+ghost use Rattle.rpg_effect.specs.Forms.{form_at};
 ghost use Rattle.rpg_effect.specs.Rows as rows_of;
-ghost use Rattle.rpg_effect.specs.Showing.{shown};
-ghost use Rattle.rpg_effect.specs.Ends.{end_of, GoesOn};
-ghost use Rattle.rpg_machine_operations.specs.Good.{AreResolved, IsResolved, IsRightAction, IsRightEnd, resolved_entry};
-ghost use Rattle.rpg_store.specs.Memory.{world_of};
-ghost use Rattle.rpg_machine_operations.specs.Ready.{IsMemoryReady, forms_in};
+ghost use Rattle.rpg_effect.specs.Weights as weights;
+ghost use Rattle.rpg_store.specs.Memory.{NamesLike};
+ghost use Rattle.rpg_machine_operations.specs.Good.{AreResolved, IsRightAction};
+ghost use Rattle.rpg_machine_operations.specs.Words.{DidEffect, act_in, compared_in, operate_in};
 
 use crate::arithmetic::{assigned, computed, divide, kept_remainder, store};
 use crate::comparing::compared;
 use crate::places::move_places;
-use crate::resolved::Resolved;
 use crate::resolving::resolved;
 use crate::searching::look_up;
-use crate::showing::{set, show};
 use crate::summing::summed;
 use rpg_effect::halt::Halt;
 use rpg_effect::operation::{Action, Operand, Shows};
@@ -26,12 +20,13 @@ use rpg_effect::outcome::End;
 use rpg_object_program::forms::{entries_of, form_at};
 use rpg_object_program::row::Rows;
 use rpg_store::memory::Memory;
+use rpg_store::resolved::Resolved;
 use rpg_store::store::Store;
 
 /// The weight of an operation: one, and the entries that XFOOT and LOKUP go through.
 #[tactic(auto, unfolding(rpg_effect::specs::Weights::row_weight, rpg_effect::specs::Rows::row_of))]
 pub fn weight(rows: &Rows, action: &Action<Operand<u16>>) -> u32
-    ensures { result ≡ weights.row_weight (forms_in rows.now) (rows_of.row_of (rows_of.form_of (forms_in rows.now)) action.now) }
+    ensures { result ≡ weights.row_weight (form_at rows.now.fields.items) (rows_of.row_of (rows_of.form_of (form_at rows.now.fields.items)) action.now) }
 {
     match action {
         Action::CrossFoot { factor2, .. } => 1
@@ -49,34 +44,24 @@ pub fn weight(rows: &Rows, action: &Action<Operand<u16>>) -> u32
 
 /// COMP.
 fn compare<S: Store + Drop>(
-    rows: &Rows,
-    memory: &mut Memory<S>,
+    memory: &mut Memory<'_, S>,
     factor1: Resolved,
     factor2: Resolved,
     shows: Shows,
-) -> End
-    requires ready { IsMemoryReady S.forms S.contents S.currents rows.now.fields.items memory.old }
-    requires factor1 { IsResolved rows.now.fields.items (forms_of.kind_of (forms_in rows.now factor1.entry.field)) factor1 }
-    requires factor2 { IsResolved rows.now.fields.items (forms_of.kind_of (forms_in rows.now factor1.entry.field)) factor2 }
-    ensures goes { end_of result ≡ GoesOn }
-    ensures world { world_of S.contents S.currents memory.new ≡ record (world_of S.contents S.currents memory.old) { on = shown shows (acts.order_by (forms_in rows.now) (forms_of.kind_of (forms_in rows.now factor1.entry.field)) (world_of S.contents S.currents memory.old) factor1.entry factor2.entry) (world_of S.contents S.currents memory.old).on } }
-    ensures ready { IsMemoryReady S.forms S.contents S.currents rows.now.fields.items memory.new }
-    ensures form { memory.new.form ≡ memory.old.form }
+)
+    requires factor1 { NamesLike memory.old factor1 factor1 }
+    requires factor2 { NamesLike memory.old factor1 factor2 }
+    ensures { memory.new ≡ record memory.old { world = compared_in memory.old factor1 factor2 shows } }
 {
-    let order = compared(rows, memory, factor1.form.kind, factor1, factor2);
-    show(&mut memory.on, shows, order);
-    End::GoesOn
+    let order = compared(memory, factor1.form.kind, factor1, factor2);
+    memory.show(shows, order);
 }
 
 /// Does an operation on entries.
 #[tactic(auto, unfolding(rpg_effect::specs::Act::act))]
-pub fn act<S: Store + Drop>(rows: &Rows, memory: &mut Memory<S>, action: Action<Resolved>) -> End
-    requires ready { IsMemoryReady S.forms S.contents S.currents rows.now.fields.items memory.old }
-    requires entries { AreResolved rows.now.fields.items action }
-    ensures done { quiet (end_of result) (world_of S.contents S.currents memory.new) ≡ acts.act (forms_in rows.now) (of.with_operands resolved_entry action) (world_of S.contents S.currents memory.old) }
-    ensures ends { IsRightEnd (end_of result) }
-    ensures ready { IsMemoryReady S.forms S.contents S.currents rows.now.fields.items memory.new }
-    ensures form { memory.new.form ≡ memory.old.form }
+pub fn act<S: Store + Drop>(memory: &mut Memory<'_, S>, action: Action<Resolved>) -> End
+    requires entries { AreResolved memory.old.program.fields action }
+    ensures { DidEffect (act_in memory.old action) memory.old (end_of result) memory.new }
 {
     match action {
         Action::Compute {
@@ -87,8 +72,9 @@ pub fn act<S: Store + Drop>(rows: &Rows, memory: &mut Memory<S>, action: Action<
             result: to,
             shows,
         } => {
-            let n = computed(rows, memory, operator, half, factor1, factor2, to);
-            store(rows, memory, to.entry, shows, n)
+            let n = computed(memory, operator, half, factor1, factor2, to);
+            store(memory, to.entry, shows, n);
+            End::GoesOn
         }
         Action::Divide {
             half,
@@ -96,9 +82,12 @@ pub fn act<S: Store + Drop>(rows: &Rows, memory: &mut Memory<S>, action: Action<
             factor2,
             result: to,
             shows,
-        } => match divide(rows, memory, half, factor1, factor2, to) {
+        } => match divide(memory, half, factor1, factor2, to) {
             None => End::Halt(Halt::ZeroDivisor),
-            Some(quotient) => store(rows, memory, to.entry, shows, quotient),
+            Some(quotient) => {
+                store(memory, to.entry, shows, quotient);
+                End::GoesOn
+            }
         },
         Action::Assign {
             is_negated,
@@ -107,12 +96,14 @@ pub fn act<S: Store + Drop>(rows: &Rows, memory: &mut Memory<S>, action: Action<
             result: to,
             shows,
         } => {
-            let n = assigned(rows, memory, is_negated, half, factor2, to);
-            store(rows, memory, to.entry, shows, n)
+            let n = assigned(memory, is_negated, half, factor2, to);
+            store(memory, to.entry, shows, n);
+            End::GoesOn
         }
         Action::TakeRemainder { result: to, shows } => {
-            let n = kept_remainder(rows, memory, to);
-            store(rows, memory, to.entry, shows, n)
+            let n = kept_remainder(memory, to);
+            store(memory, to.entry, shows, n);
+            End::GoesOn
         }
         Action::CrossFoot {
             half,
@@ -120,27 +111,31 @@ pub fn act<S: Store + Drop>(rows: &Rows, memory: &mut Memory<S>, action: Action<
             result: to,
             shows,
         } => {
-            let n = summed(rows, memory, half, factor2, to);
-            store(rows, memory, to.entry, shows, n)
+            let n = summed(memory, half, factor2, to);
+            store(memory, to.entry, shows, n);
+            End::GoesOn
         }
         Action::Compare {
             factor1,
             factor2,
             shows,
-        } => compare(rows, memory, factor1, factor2, shows),
+        } => {
+            compare(memory, factor1, factor2, shows);
+            End::GoesOn
+        }
         Action::LookUp {
             factor1,
             factor2,
             result: to,
             shows,
-        } => look_up(rows, memory, factor1, factor2, to, shows),
+        } => look_up(memory, factor1, factor2, to, shows),
         Action::Move {
             side,
             factor2,
             result: to,
-        } => move_places(rows, memory, side, factor2, to),
+        } => move_places(memory, side, factor2, to),
         Action::SetIndicators { is_on, named } => {
-            set(&mut memory.on, is_on, named);
+            memory.set_indicators(is_on, named);
             End::GoesOn
         }
     }
@@ -148,20 +143,12 @@ pub fn act<S: Store + Drop>(rows: &Rows, memory: &mut Memory<S>, action: Action<
 
 /// Does an operation of a right program: halt 2 where an index is out of range.
 #[tactic(auto, unfolding(rpg_effect::specs::Operate::operate))]
-pub fn operate<S: Store + Drop>(
-    rows: &Rows,
-    memory: &mut Memory<S>,
-    action: &Action<Operand<u16>>,
-) -> End
-    requires ready { IsMemoryReady S.forms S.contents S.currents rows.now.fields.items memory.old }
-    requires right { IsRightAction rows.now.fields.items action.now }
-    ensures done { quiet (end_of result) (world_of S.contents S.currents memory.new) ≡ of.operate (forms_in rows.now) action.now (world_of S.contents S.currents memory.old) }
-    ensures ends { IsRightEnd (end_of result) }
-    ensures ready { IsMemoryReady S.forms S.contents S.currents rows.now.fields.items memory.new }
-    ensures form { memory.new.form ≡ memory.old.form }
+pub fn operate<S: Store + Drop>(memory: &mut Memory<'_, S>, action: &Action<Operand<u16>>) -> End
+    requires right { IsRightAction memory.old.program.fields action.now }
+    ensures { DidEffect (operate_in memory.old action.now) memory.old (end_of result) memory.new }
 {
-    match resolved(rows, memory, action) {
+    match resolved(memory, action) {
         None => End::Halt(Halt::BadIndex),
-        Some(action) => act(rows, memory, action),
+        Some(action) => act(memory, action),
     }
 }

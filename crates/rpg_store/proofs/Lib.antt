@@ -3,6 +3,7 @@ pub mod ByPart
 pub mod BySlot
 pub mod Bytes
 pub mod Currents
+pub mod Entries
 pub mod Filling
 pub mod FirstArea
 pub mod FirstFits
@@ -10,9 +11,12 @@ pub mod FirstSlots
 pub mod FirstValues
 pub mod Fitting
 pub mod InArea
+pub mod Keeping
 pub mod Listing
 pub mod MarkedLemmas
 pub mod Places
+pub mod Programs
 pub mod Reading
 pub mod Storage
+pub mod Values
 pub mod Zeros

@@ -1,6 +1,8 @@
 pub mod Area
 pub mod Characters
+pub mod Codes
 pub mod Contents
+pub mod Fields
 pub mod Filling
 pub mod First
 pub mod Fits

@@ -1,5 +1,6 @@
 //! Laws of the definitions.
 ghost use Rattle.rpg_store.specs.First.{first_contents, first_currents};
+ghost use Rattle.rpg_store.specs.Fields.{AreForms};
 ghost use Rattle.rpg_store.specs.Fits.{Fits, KeepsConstants};
 
 use rpg_object_program::Program;
@@ -11,4 +12,12 @@ pub fn first_values_fit(program: &Program)
     ensures constants { KeepsConstants program.now (first_contents program.now) }
 {
     let _kept = program.rows();
+}
+
+/// The forms of every object program are such that operations may work on them.
+#[tactic(auto, using(crate::proofs::Programs::programs))]
+pub fn forms_are_good(program: &Program)
+    ensures { AreForms program.now.fields }
+{
+    let _ = program.rows();
 }

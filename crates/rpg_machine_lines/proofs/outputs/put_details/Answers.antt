@@ -1,4 +1,4 @@
-use Rattle.std.proofs.Common.{ap}
+use Rattle.std.proofs.Common.{ap, ◌∙◌}
 use Rattle.rpg_effect.proofs.Putting.{quiet_done}
 use Rattle.rpg_effect.specs.Effect.{Leaves}
 use Rattle.rpg_effect.specs.Ends.{GoesOn}
@@ -7,28 +7,27 @@ use Rattle.rpg_effect.specs.Put.{on_paper}
 use Rattle.rpg_effect.specs.declared.line.Pass.TheVariants as passes
 use Rattle.rpg_machine_lines.proofs.Following.{halted, went_on}
 use Rattle.rpg_machine_lines.specs.Outputs.{output_of, passage_effect}
-use Rattle.rpg_store.specs.Memory.{held_of}
-use Rattle.rpg_object_program.specs.Object.{seen}
+use Rattle.rpg_object_program.specs.Object.{Object}
+use Rattle.rpg_store.specs.Memory.{Loaded, held_of}
 use Rattle.rpg_machine_lines.proofs.outputs.put_details.Goals as goal
 
 pub returns-clause-done : goal.returns-clause-done
 returns-clause-done g c =
-    let p = seen c.args.rows.now in
-    let held = held_of g.S.Store.contents g.S.Store.currents in
-    let w = held c.args.memory.now in
-    let v = held c.put_lines.new.memory in
+    let p = c.args.memory.now.program in
+    let w = held_of c.args.memory.now in
+    let v = held_of c.put_lines.new.memory in
     let q = output_of c.args.output.now in
     let o = output_of c.put_lines.new.output in
-    let u = held c.settle.new.memory in
+    let u = held_of c.settle.new.self in
     went_on (passage_effect p passes.Detail) (λ x. Leaves (settled p.overflow x)) w v q o _ c.in_ok-put_lines.ensures.done u o GoesOn c.in-GoesOn.is
-    (quiet_done (settled p.overflow) GoesOn v u o (ap (λ f. f.last) c.settle.ensures.form) (λ x. ap (on_paper x) c.settle.ensures.world))
+    (quiet_done (settled p.overflow) GoesOn v u o (ap (λ (m : Loaded). m.last) c.settle.ensures)
+    (λ x. ap (λ (m : Loaded). on_paper x m.world) c.settle.ensures ∙ ap (λ (p : Object). on_paper x (settled p.overflow v.world)) c.rows-rows.ensures.same))
 
 pub returns-in-Halt-clause-done : goal.returns-in-Halt-clause-done
 returns-in-Halt-clause-done g c =
-    let p = seen c.args.rows.now in
-    let held = held_of g.S.Store.contents g.S.Store.currents in
-    let w = held c.args.memory.now in
-    let v = held c.put_lines.new.memory in
+    let p = c.args.memory.now.program in
+    let w = held_of c.args.memory.now in
+    let v = held_of c.put_lines.new.memory in
     let q = output_of c.args.output.now in
     let o = output_of c.put_lines.new.output in
     halted (passage_effect p passes.Detail) (λ x. Leaves (settled p.overflow x)) w v q o _ c.in_ok-put_lines.ensures.done c.in-Halt.halt c.in-Halt.is

@@ -8,7 +8,7 @@ use Rattle.rpg_decimal.specs.declared.num.Target.{Target}
 use Rattle.rpg_effect.specs.Act.{divided, stored_value}
 use Rattle.rpg_effect.specs.Forms.{decimals_of, length_of}
 use Rattle.rpg_effect.specs.declared.form.FieldForm.{FieldForm}
-use Rattle.rpg_machine_operations.specs.Ready.{forms_in}
+use Rattle.rpg_store.specs.Memory.{forms_in}
 use Rattle.rpg_machine_operations.proofs.arithmetic.divide.Goals as goal
 
 not_zero : (n : ℤ) → (n ≡ pos 0 → ⊥) → int_eq n (pos 0) ≡ false
@@ -24,4 +24,4 @@ returns-in-Ok-clause-quotient g c =
     let t = c.target_of-target in
     let some : c.number_at-b.result.value ≡ pos 0 → ⊥ = λ e. let both = sym c.in-Ok.is ∙ c.div.ensures.zero.1 e in cc in
     rw (read, ← c.number_at-a.ensures.value, ← c.number_at-a.ensures.decimals, ← c.number_at-b.ensures.value, ← c.number_at-b.ensures.decimals)
-    (quotient_kept c.args.half (forms_in c.args.rows.now c.args.to.entry.field) t.result (value_of c.number_at-a.result) (value_of c.number_at-b.result) c.in-Ok.quotient t.ensures.length t.ensures.decimals t.ensures.half some c.in-Ok.ensures.value)
+    (quotient_kept c.args.half (forms_in c.args.memory.now c.args.to.entry.field) t.result (value_of c.number_at-a.result) (value_of c.number_at-b.result) c.in-Ok.quotient t.ensures.length t.ensures.decimals t.ensures.half some c.in-Ok.ensures.value)

@@ -1,11 +1,10 @@
 use Rattle.std.proofs.Common.{◌≡◌, ◌-◌}
 use Rattle.rpg_effect.specs.Act.{order_at}
 use Rattle.rpg_effect.specs.Search.{last_one, positions}
-use Rattle.rpg_store.specs.Memory.{world_of}
 use Rattle.rpg_machine_operations.proofs.searching.last_one.Given as goal
 use Rattle.rpg_effect.specs.Forms.{form_at}
 
 abbrev pub invariant-positions : goal.invariant-positions
 invariant-positions g l =
-    let s = order_at (form_at l.rows.fields.items) (world_of g.S.Store.contents g.S.Store.currents l.memory) l.factor1.entry l.factor2.entry in
+    let s = order_at (form_at l.memory.program.fields) l.memory.world l.factor1.entry l.factor2.entry in
     last_one s l.order (positions l.from (l.last - l.back)) ≡ last_one s l.order (positions l.from l.last)

@@ -1,11 +1,10 @@
 use Rattle.std.proofs.Common.{◌≡◌, ◌≤◌, ◌-◌, ◌*◌, ◌^◌, unsigned_abs}
 use Rattle.rpg_effect.specs.Act.{sum_to}
 use Rattle.rpg_effect.specs.World.{number_at}
-use Rattle.rpg_store.specs.Memory.{world_of}
 use Rattle.rpg_machine_operations.proofs.summing.sum.Given as goal
 
 abbrev pub invariant-entries : goal.invariant-entries
 invariant-entries g l = record {
-  sum : l.total ≡ sum_to (number_at (world_of g.S.Store.contents g.S.Store.currents l.memory) l.array.entry.field) (l.position - 1);
+  sum : l.total ≡ sum_to (number_at l.memory.world l.array.entry.field) (l.position - 1);
   small : unsigned_abs l.total ≤ (l.position - 1) * 10 ^ 15;
 }

@@ -2,24 +2,28 @@ use Rattle.std.proofs.Common.{◌≡◌, ℕ, ◌+◌, ◌<◌, List, All, lengt
 use Rattle.std.proofs.lemmas.List.{length-map}
 use Rattle.std.proofs.lemmas.Option.{slice_get-get_or, slice_get-map}
 use Rattle.std.specs.Option.{option_map, option_map_or}
-use Rattle.rpg_paper.specs.Form.{Standing}
 use Rattle.rpg_effect.specs.Ends.{end_of}
 use Rattle.rpg_effect.specs.Forms.{form_at}
 use Rattle.rpg_effect.specs.Input.{TypeRow, input_fault, record_in}
 use Rattle.rpg_effect.specs.declared.input.InputField.{InputField}
 use Rattle.rpg_effect.specs.declared.input.InputFile.TheVariants.{Primary}
 use Rattle.rpg_machine.proofs.Records.{record_filled}
+use Rattle.rpg_machine.proofs.Staying.{record_stays, same_place}
+use Rattle.rpg_machine.specs.Ready.{IsReady}
+use Rattle.rpg_machine_lines.specs.Ready.{IsNear}
+use Rattle.rpg_paper.specs.Paper.{Position}
+use Rattle.rpg_store.specs.Fits.{Fits}
 use Rattle.rpg_machine.specs.Outputs.{FillsFields, length_at}
 use Rattle.rpg_machine.specs.Running.{Did, Running}
 use Rattle.rpg_machine.specs.State.{running_of}
-use Rattle.rpg_store.specs.Memory.{held_of}
+use Rattle.rpg_store.specs.Memory.{Loaded, forms_in, held_of}
 use Rattle.rpg_object_program.specs.Object.{Object, input_length, seen, type_row}
 use Rattle.rpg_verify_rules.proofs.Values.{one_of_all}
 use Rattle.rpg_verify_rules.specs.Sound.{IsSound, IsSoundType}
 use Rattle.rpg_machine.proofs.machine.Machine.fill_fields.Goals as goal
 
-pub fill_all-requires-clause-right : goal.fill_all-requires-clause-right
-fill_all-requires-clause-right g c =
+pub fill_all-end-requires-clause-right : goal.fill_all-end-requires-clause-right
+fill_all-end-requires-clause-right g c =
     let rows = c.rows-rows.result.now in
     let types = rows.types.items in
     let t = c.index.result.now in
@@ -32,12 +36,12 @@ fill_all-requires-clause-right g c =
     let inputs = (one_of_all (IsSoundType (seen rows)) (seen rows).types c.args.row (type_row t) sound.types there).inputs in
     let long : input_length (seen rows) t.file ≡ length c.args.text.now =
     sym (ap (λ (o : Option (TypeRow ℕ)). input_length (seen rows) (option_map_or (λ (r : TypeRow ℕ). r.file) o Primary)) there) ∙ ap (λ (p : Object). length_at p c.args.row) (same ∙ own) ∙ sym c.requires.filled in
-    subst (λ (fs : List (InputField ℕ)). All (λ f. input_fault (form_at rows.fields.items) (length c.args.text.now) f ≡ None) fs) (sym c.deref.ensures.value)
-    (subst (λ (n : ℕ). All (λ f. input_fault (form_at rows.fields.items) n f ≡ None) t.inputs.items) long inputs)
+    let there = subst (λ (fs : List (InputField ℕ)). All (λ f. input_fault (form_at rows.fields.items) (length c.args.text.now) f ≡ None) fs) (sym c.deref.ensures.value)
+    (subst (λ (n : ℕ). All (λ f. input_fault (form_at rows.fields.items) n f ≡ None) t.inputs.items) long inputs) in
+    subst (λ (p : Object). All (λ f. input_fault (form_at p.fields) (length c.args.text.now) f ≡ None) c.deref.result.now) (same ∙ sym c.self.invariant.own) there
 
 pub returns-clause-done : goal.returns-clause-done
 returns-clause-done g c =
-    let S = g.S.Store in
     let rows = c.rows-rows.result.now in
     let types = rows.types.items in
     let t = c.index.result.now in
@@ -47,14 +51,28 @@ returns-clause-done g c =
     let all = length-map types type_row in
     let low : c.args.row < length types = omega (arith, ap (λ (p : Object). length p.types) (same ∙ own), all, c.requires.row) in
     let there = slice_get-map type_row types c.args.row ∙ ap (option_map type_row) (slice_get-get_or types c.args.row t low ∙ ap Some (sym c.index.ensures)) in
-    let old = running_of S.contents S.currents c.self.inside.program c.self.inside.state in
-    let held = held_of S.contents S.currents c.fill_all.new.memory in
+    let old = running_of c.self.inside.program c.self.inside.state in
+    let held = held_of c.fill_all-end.new.memory in
     let steps = c.self.inside.state.steps + c.len.result in
     let new : Running = record { program = c.self.inside.program; config = record old.config { steps = steps; world = held.world }; last = held.last; output = old.output } in
-    let e = end_of c.fill_all.result in
+    let e = end_of c.fill_all-end.result in
     let counted : steps ≡ c.self.inside.state.steps + length t.inputs.items = omega (arith, c.len.ensures) in
-    let last = ap (λ (f : Standing). f.last) c.fill_all.ensures.form in
-    let done = c.fill_all.ensures.done ∙ ap (λ (fs : List (InputField ℕ)). record_in (form_at rows.fields.items) text fs old.config.world) c.deref.ensures.value in
+    let mine = same ∙ sym c.self.invariant.own in
+    let last = ap (λ (m : Loaded). m.last) c.fill_all-end.ensures.rest in
+    let done = c.fill_all-end.ensures.leaves ∙ ap (λ (p : Object). record_in (form_at p.fields) text c.deref.result.now old.config.world) (sym mine) ∙ ap (λ (fs : List (InputField ℕ)). record_in (form_at rows.fields.items) text fs old.config.world) c.deref.ensures.value in
     let filled = record_filled (seen rows) c.args.row text (type_row t) steps e old held there counted last done in
     subst (λ (r : Running). Did (FillsFields r.program c.args.row text) r e new) c.self.view_is
     (subst (λ (p : Object). Did (FillsFields p c.args.row text) old e new) same filled)
+
+pub returns-clause-ready : goal.returns-clause-ready
+returns-clause-ready g c =
+    let m = c.self.inside.state.memory in
+    let same = same_place (end_of c.fill_all-end.result) m.world c.fill_all-end.new.memory.world _ c.fill_all-end.ensures.leaves (record_stays (forms_in m) c.args.text.now c.deref.result.now m.world) in
+    let ready = subst (λ (r : Running). IsReady r) (sym c.self.view_is) c.requires.ready in
+    let own = ap (λ (x : Loaded). x.program) c.fill_all-end.ensures.rest ∙ c.self.invariant.own in
+    λ is. record {
+      fits = subst (λ (o : Object). Fits o.fields c.fill_all-end.new.memory.world.fields.values c.fill_all-end.new.memory.world.fields.current) own c.is_kept.ensures.fits;
+      no_cell = ready.no_cell;
+      few_spends = ready.few_spends;
+      few_pages = subst (λ (x : Position). IsNear x) (sym same) ready.few_pages;
+    }

@@ -2,8 +2,8 @@
 ghost use Rattle.std.specs.Prelude.{◌≡◌};
 ghost use Rattle.rpg_effect.specs.Showing as of;
 
+use crate::indicators::{Indicators, turn_off, turn_on};
 use rpg_effect::operation::Shows;
-use rpg_store::indicators::{Indicators, turn_off, turn_on};
 use std::cmp::Ordering;
 
 /// The indicator for a result that stands so to zero, or a factor 1 that stands so to factor 2.

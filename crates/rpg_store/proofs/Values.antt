@@ -1,17 +1,15 @@
 -- The values of entries.
-use Rattle.std.proofs.Common.{◌≡◌, ℕ, zero, suc, ◌+◌, ◌-◌, ◌*◌, ℤ, ◌+ℤ◌, ◌<◌, ◌≤◌, ◌^◌, List, Option, Some, refl, sym, ap, ◌∙◌, subst, arith, length, unsigned_abs}
-use Rattle.std.proofs.lemmas.Int.{ints}
+use Rattle.std.proofs.Common.{◌≡◌, ℕ, ℤ, ◌<◌, ◌≤◌, ◌^◌, List, Option, Some, refl, sym, ap, ◌∙◌, subst, arith, length, unsigned_abs}
 use Rattle.std.proofs.Math.Nat.{pow-le-pow_right}
 use Rattle.std.specs.FinMap as map
-use Rattle.rpg_effect.specs.Act.{sum_to}
 use Rattle.rpg_effect.specs.Forms.{decimals_of, entries_of, length_of}
-use Rattle.rpg_effect.specs.Values.{Value, Number, Text, characters_of, number_of}
+use Rattle.rpg_effect.specs.Values.{Value, Number, Text, characters_of}
 use Rattle.rpg_effect.specs.declared.form.FieldForm.{FieldForm}
 use Rattle.rpg_effect.specs.declared.form.Kind.{Kind}
 use Rattle.rpg_effect.specs.declared.form.Kind.TheVariants as kinds
-use Rattle.rpg_machine_operations.specs.Good.{AreForms, IsValue}
+use Rattle.rpg_store.specs.Fields.{AreForms, IsValue}
 use Rattle.rpg_store.specs.Fits.{Fits, HasForm}
-use Rattle.rpg_machine_operations.proofs.Entries.{number_in_form, text_in_form}
+use Rattle.rpg_store.proofs.Entries.{number_in_form, text_in_form}
 use Rattle.rpg_effect.specs.Forms.{form_at}
 use Rattle.rpg_store.specs.Store.{Values, Currents, IsNumber, IsText}
 
@@ -29,7 +27,7 @@ text_there forms values current field n fits v =
     let m = text_in_form v.form.length _ (form_there forms values current kinds.Text field n fits v) in
     subst (λ (o : Option Value). IsText o) (sym m.1) tt
 
--- the number at an entry has the digits of its field
+-- the number at an entry has the lowest_digits of its field
 pub number_fits : (forms : List FieldForm) (values : Values) (current : Currents) (field n : ℕ) (m : ℤ) → Fits forms values current → IsValue forms kinds.Number field n → map.get values (field, n) ≡ Some (Number m) →
     unsigned_abs m < 10 ^ length_of (form_at forms field)
 number_fits forms values current field n m fits v is =
@@ -64,29 +62,6 @@ other_value forms k field n m v low high =
 
 pub ruleset numbers = (number_there, number_fits, length_low, length_high, decimals_high, number_small, text_there)
 
-number_is : (o : Option Value) (n : ℤ) → o ≡ Some (Number n) → n ≡ number_of o
-number_is o n h = rw h refl
-
--- one more entry is added to a sum
-pub sum_next : (forms : List FieldForm) (values : Values) (current : Currents) (field first p : ℕ) (total n : ℤ) → Fits forms values current → AreForms forms → IsValue forms kinds.Number field first → 1 ≤ p → p ≤ entries_of (form_at forms field) →
-    total ≡ sum_to (λ m. number_of (map.get values (field, m))) (p - 1) → unsigned_abs total ≤ (p - 1) * 10 ^ 15 → map.get values (field, p) ≡ Some (Number n) →
-    (total +ℤ n ≡ sum_to (λ m. number_of (map.get values (field, m))) (p + 1 - 1)) × (unsigned_abs (total +ℤ n) ≤ (p + 1 - 1) * 10 ^ 15)
-sum_next forms values current field first zero total n fits good v low high sum small is = absurd (omega arith)
-sum_next forms values current field first (suc q) total n fits good v low high sum small is =
-    let one : suc q - 1 ≡ q = omega arith in
-    let two : suc q + 1 - 1 ≡ suc q = omega arith in
-    let few = number_small forms values current field (suc q) n good fits (other_value forms kinds.Number field first (suc q) v low high) is in
-    let s : total ≡ sum_to (λ m. number_of (map.get values (field, m))) q = rw one at sum in
-    let l : unsigned_abs total ≤ q * 10 ^ 15 = rw one at small in
-    let m : n ≡ number_of (map.get values (field, suc q)) = number_is _ n is in
-    let grown = abs_sum total n (q * 10 ^ 15) (10 ^ 15) l (omega (arith, few)) in
-    rw two (ap (λ (x : ℤ). x +ℤ n) s ∙ ap (λ (x : ℤ). sum_to (λ k. number_of (map.get values (field, k))) q +ℤ x) m, omega (arith, grown))
-  where
-    abs_sum : (a b : ℤ) (x y : ℕ) → unsigned_abs a ≤ x → unsigned_abs b ≤ y → unsigned_abs (a +ℤ b) ≤ y + x
-    abs_sum a b x y h k = omega (arith, ints)
-
-pub ruleset sums = (number_there, number_small, entries_high, other_value)
-
 pub ruleset texts = (text_there)
 
 -- the text at an entry has the characters of its field
@@ -98,3 +73,10 @@ text_fits forms values current field n t fits v is =
 
 pub text_is : (o : Option Value) (t : List ℕ) → o ≡ Some (Text t) → characters_of o ≡ t
 text_is o t h = rw h refl
+
+-- a text of an entry, and its length
+pub old_text : (forms : List FieldForm) (values : Values) (current : Currents) (field n len : ℕ) → Fits forms values current → IsValue forms kinds.Text field n → len ≡ length_of (form_at forms field) →
+    (t : List ℕ) × (map.get values (field, n) ≡ Some (Text t)) × (len ≡ length t)
+old_text forms values current field n len fits v long =
+    let m = text_in_form v.form.length _ (form_there forms values current kinds.Text field n fits v) in
+    (m.0, m.1, long ∙ ap length_of v.there ∙ sym m.2)

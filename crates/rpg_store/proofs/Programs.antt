@@ -6,7 +6,7 @@ use Rattle.rpg_effect.specs.Forms.{form_at}
 use Rattle.rpg_effect.specs.declared.form.FieldForm.{FieldForm}
 use Rattle.rpg_effect.specs.declared.form.Kind.{Kind}
 use Rattle.rpg_effect.specs.declared.form.Kind.TheVariants as kinds
-use Rattle.rpg_machine_operations.specs.Good.{AreForms}
+use Rattle.rpg_store.specs.Fields.{AreForms}
 use Rattle.rpg_object_program.specs.Kept.{AreDecimals, IsFieldRow, IsProgram, length_limit}
 use Rattle.rpg_object_program.specs.Object.{Object}
 
@@ -17,9 +17,9 @@ row_at forms (suc n) d all h =
     let same : slice_index_or forms n d ≡ d = same_Some (slice_index_or forms n d) d (sym (slice_get-get_or forms n d inside) ∙ h) in
     subst (λ (x : FieldForm). IsFieldRow x) same (all n d inside)
 
-few_decimals : (k : Kind) (digits decimals : ℕ) → k ≡ kinds.Number → AreDecimals k digits decimals → decimals ≤ 9
-few_decimals kinds.Number digits decimals e h = h.0
-few_decimals kinds.Text digits decimals e h = cc
+few_decimals : (k : Kind) (lowest_digits decimals : ℕ) → k ≡ kinds.Number → AreDecimals k lowest_digits decimals → decimals ≤ 9
+few_decimals kinds.Number lowest_digits decimals e h = h.0
+few_decimals kinds.Text lowest_digits decimals e h = cc
 
 pub program_forms : (p : Object) → IsProgram p → AreForms p.fields
 program_forms p kept = record {
