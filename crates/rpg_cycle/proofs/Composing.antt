@@ -6,7 +6,7 @@ use Rattle.rpg_paper.proofs.Papers.{bytes_from-append}
 use Rattle.rpg_paper.specs.Paper.{Placed, Position, bytes_from, last_position_from}
 use Rattle.rpg_effect.proofs.Putting.{disk-append, end_from-lines}
 use Rattle.rpg_effect.specs.Put.{Bytes, disk_bytes, line_of, with_output}
-use Rattle.rpg_cycle.specs.Doing.{Does, DoesBehind, Held, Passes, under_way}
+use Rattle.rpg_cycle.specs.Doing.{Does, DoesBehind, Held, DoesAlone, under_way}
 use Rattle.rpg_cycle.specs.Ends.{PhaseEnd, GoesOn, EndOfJob, Halt}
 use Rattle.rpg_effect.specs.Halts.{halt_number}
 use Rattle.rpg_cycle.specs.Phases.{Done, Phase, UnderWay, does, done, either, passes, unless, ◌before◌}
@@ -96,14 +96,14 @@ quietly f a b s t e d h is = subst (λ (r : Running). Does (does f) a s e r t) (
 
 -- ---- phases that select nothing
 
-pub passes_goes : {P Q : Phase} {a b c : Running} {e : PhaseEnd} → Passes P a GoesOn b → Passes Q b e c → Passes (P before Q) a e c
+pub passes_goes : {P Q : Phase} {a b c : Running} {e : PhaseEnd} → DoesAlone P a GoesOn b → DoesAlone Q b e c → DoesAlone (P before Q) a e c
 passes_goes h g = record { each = λ s. goes (h.each s) (g.each s) }
 
-pub passes_ends : {P Q : Phase} {a b : Running} (e : JobEnd) → Passes P a (job_end e) b → Passes (P before Q) a (job_end e) b
+pub passes_ends : {P Q : Phase} {a b : Running} (e : JobEnd) → DoesAlone P a (job_end e) b → DoesAlone (P before Q) a (job_end e) b
 passes_ends e h = record { each = λ s. ends e (h.each s) }
 
 -- a phase that is left out
-pub left_out : (test : Config → Bool) (P : Phase) (a : Running) → ((previous : Option Position) → test (config_on previous a.config) ≡ true) → Passes (unless test P) a GoesOn a
+pub left_out : (test : Config → Bool) (P : Phase) (a : Running) → ((previous : Option Position) → test (config_on previous a.config) ≡ true) → DoesAlone (unless test P) a GoesOn a
 left_out test P a h = record {
   each = λ s. record {
     program = refl;
@@ -117,7 +117,7 @@ left_out test P a h = record {
 }
 
 -- a phase that isn't
-pub not_left_out : (test : Config → Bool) (P : Phase) (a b : Running) (e : PhaseEnd) → ((previous : Option Position) → test (config_on previous a.config) ≡ false) → Passes P a e b → Passes (unless test P) a e b
+pub not_left_out : (test : Config → Bool) (P : Phase) (a b : Running) (e : PhaseEnd) → ((previous : Option Position) → test (config_on previous a.config) ≡ false) → DoesAlone P a e b → DoesAlone (unless test P) a e b
 not_left_out test P a b e h d = record {
   each = λ s. record {
     program = (d.each s).program;

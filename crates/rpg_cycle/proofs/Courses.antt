@@ -17,7 +17,7 @@ use Rattle.rpg_cycle.specs.Counting.{records_count, waiting_count}
 use Rattle.rpg_cycle.specs.Ends.{PhaseEnd, GoesOn, EndOfJob, Halt, Wrong}
 use Rattle.rpg_cycle.specs.Job.{AtWork, Cycles, DoesCycle, feed_at, job_needs_record, with_feed}
 use Rattle.rpg_cycle.specs.Phases.{Cycle, UnderWay, begun, needs_record}
-use Rattle.rpg_cycle.specs.Running.{RunsRecords}
+use Rattle.rpg_cycle.specs.RunAnswers.{RunsRecords}
 use Rattle.rpg_cycle.specs.Runs.{Course, Records, Runs, ends_or, last_cycle, last_feed, left_behind, next_of, rest_of, with_cycle}
 use Rattle.rpg_cycle.specs.Stages.{Ended, Going, is_going, job_end, stage_at}
 use Rattle.rpg_cycle.specs.declared.ends.JobEnd.{JobEnd}

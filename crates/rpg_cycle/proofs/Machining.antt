@@ -1,7 +1,7 @@
 -- Phases that are the machine's.
 use Rattle.std.proofs.Common.{◌≡◌, ℕ, List, Option, None, Some, refl, sym, subst}
 use Rattle.rpg_effect.specs.Ends as effects
-use Rattle.rpg_cycle.specs.Doing.{Does, Held, Passes, holding}
+use Rattle.rpg_cycle.specs.Doing.{Does, Held, DoesAlone, holding}
 use Rattle.rpg_cycle_records.specs.Waiting.{Inputs}
 use Rattle.rpg_cycle.specs.Ends.{GoesOn, PhaseEnd, phase_end}
 use Rattle.rpg_cycle.specs.Phases.{by_machine, fill_fields, output, section}
@@ -24,13 +24,13 @@ machine_does P a b last s d = record {
 ended_so : (P : Behaviour) (a b : Running) (last : effects.End) (e : PhaseEnd) (s : Held) → phase_end last ≡ e → Did P a last b → Does (by_machine P) a s e b s
 ended_so P a b last e s is d = subst (λ (x : PhaseEnd). Does (by_machine P) a s x b s) is (machine_does P a b last s d)
 
-pub put_out : (p : Object) (time : OutputTime) (a b : Running) (last : effects.End) (e : PhaseEnd) → a.program ≡ p → phase_end last ≡ e → Did (PutsOut a.program time) a last b → Passes (output p time) a e b
+pub put_out : (p : Object) (time : OutputTime) (a b : Running) (last : effects.End) (e : PhaseEnd) → a.program ≡ p → phase_end last ≡ e → Did (PutsOut a.program time) a last b → DoesAlone (output p time) a e b
 put_out p time a b last e same is d = record {
   each = λ s.
       subst (λ (q : Object). Does (output q time) a s e b s) same (ended_so (PutsOut a.program time) a b last e s is d);
 }
 
-pub calculated : (p : Object) (s : Section) (a b : Running) (last : effects.End) (e : PhaseEnd) → a.program ≡ p → phase_end last ≡ e → Did (RunsTo a.program s) a last b → Passes (section p s) a e b
+pub calculated : (p : Object) (s : Section) (a b : Running) (last : effects.End) (e : PhaseEnd) → a.program ≡ p → phase_end last ≡ e → Did (RunsTo a.program s) a last b → DoesAlone (section p s) a e b
 calculated p s a b last e same is d = record {
   each = λ x.
       subst (λ (q : Object). Does (section q s) a x e b x) same (ended_so (RunsTo a.program s) a b last e x is d);

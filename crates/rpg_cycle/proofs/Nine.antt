@@ -27,9 +27,6 @@ pub record Leads (C : Phase) (old : Running) (s : Held) (Q : Phase) (mid : Runni
 pub begins : (C : Phase) (a b : Running) (s : Held) → b ≡ refilled a → Leads C (refilled a) s C b s
 begins C a b s is = record { rest = λ e new u d. subst (λ (r : Running). Does C r s e new u) is d }
 
-pub whole : (C : Phase) (a : Running) (s : Held) → Leads C a s C a s
-whole C a s = record { rest = λ e new u d. d }
-
 -- one phase more went on
 pub step : {C P Q : Phase} {old mid new : Running} {s t u : Held} → Leads C old s (P before Q) mid t → Does P mid t GoesOn new u → Leads C old s Q new u
 step l d = record { rest = λ e last v r. l.rest e last v (goes d r) }
@@ -89,12 +86,16 @@ tested p left s u a b h k e agree d = record {
 }
 
 -- the phases behind the selection with what was kept before the record
-pub by_left : (p : Object) (t : Option ℕ) (text : List ℕ) (i : Inputs) (now old : Left) (a b : Running) (e : PhaseEnd) → now ≡ renewed_by p t text old →
-    Does (after_selection p now (finds_match p now)) a (holding i t text) e b (holding i t text) → Does (after_selection p old (finds_match p old)) a (holding i t text) e b (holding i t text)
-by_left p t text i now old a b e h d =
+by_left : (p : Object) (t : Option ℕ) (text : List ℕ) (i : Inputs) (now old : Left) (a b : Running) (e : PhaseEnd) (k : Held) → now ≡ renewed_by p t text old →
+    Does (after_selection p now (finds_match p now)) a (holding i t text) e b k → Does (after_selection p old (finds_match p old)) a (holding i t text) e b k
+by_left p t text i now old a b e k h d =
     let s = holding i t text in
     let F = λ (x y : Bool). unless (is_bypassed p x y) (section p sections.Total before output p times.Total)
     before end_where_last before overflow_lines p before show_match (finds_match p now) before fill_fields p before detail_calculations p in
-    tested p old (finds_match p now) (finds_match p old) a b s s e (match_of p t text i now old h)
-    (subst (λ (x : Bool). Does (F x old.control) a s e b s) (ap (λ (l : Left). l.any) h ∙ kept_any p t text old)
-    (subst (λ (x : Bool). Does (F now.any x) a s e b s) (ap (λ (l : Left). l.control) h ∙ kept_control p t text old) d))
+    tested p old (finds_match p now) (finds_match p old) a b s k e (match_of p t text i now old h)
+    (subst (λ (x : Bool). Does (F x old.control) a s e b k) (ap (λ (l : Left). l.any) h ∙ kept_any p t text old)
+    (subst (λ (x : Bool). Does (F now.any x) a s e b k) (ap (λ (l : Left). l.control) h ∙ kept_control p t text old) d))
+
+pub by_renewed : {C : Phase} {a b : Running} {s : Held} (p : Object) (t : Option ℕ) (text : List ℕ) (i : Inputs) (now old : Left) → now ≡ renewed_by p t text old →
+    Leads C a s (after_selection p old (finds_match p old)) b (holding i t text) → Leads C a s (after_selection p now (finds_match p now)) b (holding i t text)
+by_renewed {b} p t text i now old h l = record { rest = λ e new u d. l.rest e new u (by_left p t text i now old b new e u h d) }

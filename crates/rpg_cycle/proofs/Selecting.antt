@@ -25,7 +25,7 @@ use Rattle.rpg_cycle_records.specs.declared.files.KeptFile.{KeptFile}
 use Rattle.rpg_cycle_records.specs.declared.kept.Kept.{Kept}
 use Rattle.rpg_cycle.specs.Phases.{broken_level, does, done, either, read_record, select_from, select_one, select_record, select_waiting, take_in, type_indicator, with_config, ◌before◌}
 use Rattle.rpg_cycle.specs.Selecting.{HasRead, HasSelected, IsCompared, IsUntaken, TakesType}
-use Rattle.rpg_cycle.specs.Spending.{Spends, TakesIn}
+use Rattle.rpg_cycle.specs.Spending.{Spends, SpendsTakingIn}
 use Rattle.rpg_cycle.specs.Stages.{job_end}
 use Rattle.rpg_cycle.specs.declared.ends.JobEnd.{JobEnd}
 use Rattle.rpg_machine.specs.Config.{Config, charged}
@@ -184,10 +184,10 @@ ends p left f next i x y a is h none e =
     (ap (λ (o : Option Selected). let z : Input = record { waiting = o; is_over = true } in z) (sym (none_there (has_file p f) x h)) ∙ sym e)
     (asked p left f next None i (over f i) a a GoesOn (ap (takes_from p f) is ∙ h) none (at_end p left f i a))
 
-pub costs_nothing : (p : Object) (f : InputFile) (a : Running) → TakesIn p f a a
+pub costs_nothing : (p : Object) (f : InputFile) (a : Running) → SpendsTakingIn p f a a
 costs_nothing p f a = record { text = []; row = None; own = of_none (λ t. file_of (slice_get p.types t) ≡ f); few = omega arith }
 
-pub untaken_costs : (p : Object) (f : InputFile) (full : List ℕ) (a b : Running) (e : JobEnd) → IsUntaken p f full a e b → TakesIn p f a b
+pub untaken_costs : (p : Object) (f : InputFile) (full : List ℕ) (a b : Running) (e : JobEnd) → IsUntaken p f full a e b → SpendsTakingIn p f a b
 untaken_costs p f full a b e u = record {
   text = full;
   row = None;
@@ -195,7 +195,7 @@ untaken_costs p f full a b e u = record {
   few = omega (arith, ap (λ (x : Running). x.config.steps) u.machine, ap (λ (x : Running). x.config.allowance * most p) u.machine);
 }
 
-pub taken_costs : (p : Object) (f : InputFile) (full : List ℕ) (t : ℕ) (a b c : Running) → TakesType p f full a t b → c ≡ record b { config = charged (length (match_fields p t)) b.config } → TakesIn p f a c
+pub taken_costs : (p : Object) (f : InputFile) (full : List ℕ) (t : ℕ) (a b c : Running) → TakesType p f full a t b → c ≡ record b { config = charged (length (match_fields p t)) b.config } → SpendsTakingIn p f a c
 taken_costs p f full t a b c one two =
     let m = charged_so p f full t a b c one two in
     record {
@@ -215,7 +215,7 @@ few_steps p f full t a b c one two few =
 pub nothing_waits : (p : Object) (left : Left) (f : InputFile) (i : Inputs) (x : Input) (text : List ℕ) (a : Running) → input_at i f ≡ x → x.waiting ≡ None → HasSelected p left f i a None text a (with_input f x i)
 nothing_waits p left f i x text a is none = record {
   config = a.config;
-  read = λ previous.
+  leads = λ previous.
       ap (λ (o : Option Selected). select_waiting p left f o (under_way (config_on previous a.config) (unselected i))) (ap (λ (y : Input). y.waiting) is ∙ none)
       ∙ ap (λ (j : Inputs). done GoesOn (under_way (config_on previous a.config) (unselected j))) (sym (put_back f i) ∙ ap (λ (y : Input). with_input f y i) is);
   machine = refl;
@@ -242,7 +242,7 @@ pub one_waits : (p : Object) (left : Left) (f : InputFile) (i : Inputs) (x y : I
     HasSelected p left f i a (Some t) text b (with_input f y i)
 one_waits p left f i x y t text a b now is waits e h = record {
   config = compared_so p left t text a.config;
-  read = λ previous.
+  leads = λ previous.
       ap (λ (o : Option Selected). select_waiting p left f o (under_way (config_on previous a.config) (unselected i))) (ap (λ (z : Input). z.waiting) is ∙ waits)
       ∙ selects_it p left f i t text (config_on previous a.config) (all_inside (length text) (control_fields p t) h.inside)
       ∙ ap (λ (c : Config). done GoesOn (under_way c (holding (with_waiting f None i) (Some t) text))) (sym (compared_on previous p left t text a.config))
@@ -265,7 +265,7 @@ pub picks : (p : Object) (left : Left) (f : InputFile) (i j : Inputs) (t : Optio
     HasSelected p left f i a t text b j → Does (select_one p left) a (unselected i) GoesOn b (holding j t text)
 picks p left f i j t text a b is h =
     quietly (λ c. select_from p left (chosen p (waiting_in c.inputs Primary) (waiting_in c.inputs Secondary)) c) a b (unselected i) (holding j t text) GoesOn h.config
-    (λ previous. ap (λ (o : Option InputFile). select_from p left o (under_way (config_on previous a.config) (unselected i))) is ∙ h.read previous) h.machine
+    (λ previous. ap (λ (o : Option InputFile). select_from p left o (under_way (config_on previous a.config) (unselected i))) is ∙ h.leads previous) h.machine
 
 pub picks_none : (p : Object) (left : Left) (i : Inputs) (a b : Running) → chosen p (waiting_in i Primary) (waiting_in i Secondary) ≡ None →
     b ≡ record a { config = with_all level_indicators true (with_one last_record true a.config) } → Does (select_one p left) a (unselected i) GoesOn b (unselected i)

@@ -20,7 +20,7 @@ use Rattle.rpg_effect.specs.declared.input.InputFile.TheVariants.{Primary, Secon
 use Rattle.rpg_cycle_records.specs.Identifying.{IsOf, Misplaced, code_holds, has_position, identified, same_file, trial_weight}
 use Rattle.rpg_effect.specs.declared.input.InputFile.{InputFile}
 use Rattle.rpg_cycle.specs.Phases.{all_off}
-use Rattle.rpg_cycle.specs.Spending.{Selects, Spends, TakesIn, compared_weight, cycle_weight, inputs_weight, matched_weight, reach, record_weight, section_cost}
+use Rattle.rpg_cycle.specs.Spending.{SpendsSelecting, Spends, SpendsTakingIn, compared_weight, cycle_weight, fields_weight, matched_weight, reach, record_weight, section_cost}
 use Rattle.rpg_machine.specs.Config.{Config, charged}
 use Rattle.rpg_machine.specs.Potential.{PaysForSection}
 use Rattle.rpg_machine.specs.Outputs.{FillsFields, PutsOut, inputs_at, inputs_of, output_weight}
@@ -109,9 +109,9 @@ low_there x h = omega (arith, h)
 pub low_here : (x y : ℕ) → x ≤ y → y < 2 ^ 48 → x ≤ 2 ^ 49
 low_here x y h l = omega (arith, h, l)
 
-pub few_steps : (p : Object) (t : Option ℕ) (a b : Running) → reach p a ≤ 2 ^ 49 → cycle_weight p ≤ 2 ^ 48 → inputs_weight p t ≤ 2 ^ 49 → Spends p (record_weight p t) a b → b.config.steps ≤ 2 ^ 60
+pub few_steps : (p : Object) (t : Option ℕ) (a b : Running) → reach p a ≤ 2 ^ 49 → cycle_weight p ≤ 2 ^ 48 → fields_weight p t ≤ 2 ^ 49 → Spends p (record_weight p t) a b → b.config.steps ≤ 2 ^ 60
 few_steps p t a b low light small h =
-    few_left b.config.steps (reach p a) (reach p b) (b.config.allowance * most p) (inputs_weight p t) (p.allowance * most p) _ _ _ _ _ low (same_n _) h.few light small
+    few_left b.config.steps (reach p a) (reach p b) (b.config.allowance * most p) (fields_weight p t) (p.allowance * most p) _ _ _ _ _ low (same_n _) h.few light small
 
 -- ---- the trying of types
 
@@ -173,12 +173,12 @@ moved_is : (o : Option (TypeRow ℕ)) → length (levels_of o) + length (inputs_
 moved_is None = refl
 moved_is (Some t) = refl
 
-moved_row : (p : Object) (t : Option ℕ) → compared_weight p t + inputs_weight p t ≤ moved_sum p.types
+moved_row : (p : Object) (t : Option ℕ) → compared_weight p t + fields_weight p t ≤ moved_sum p.types
 moved_row p None = omega arith
 moved_row p (Some t) = let h = row_moved p.types t in let e = moved_is (slice_get p.types t) in omega (arith, h, e)
 
 -- the primary's record was taken in
-pub taken_paid : (p : Object) (a b : Running) → TakesIn p Primary a b → Spends p (types_weight p.types) a b
+pub taken_paid : (p : Object) (a b : Running) → SpendsTakingIn p Primary a b → Spends p (types_weight p.types) a b
 taken_paid p a b x =
     let m = matched_both p x.row None x.own (of_none (λ t. file_of (slice_get p.types t) ≡ Secondary)) in
     let w = all_paid p.types x.text [] in
@@ -188,7 +188,7 @@ taken_paid p a b x =
     paid r s x y m n v w h g k = omega (arith, h, g, k)
 
 -- those of both files were
-pub both_taken : (p : Object) (a b c : Running) → TakesIn p Primary a b → TakesIn p Secondary b c → Spends p (types_weight p.types) a c
+pub both_taken : (p : Object) (a b c : Running) → SpendsTakingIn p Primary a b → SpendsTakingIn p Secondary b c → Spends p (types_weight p.types) a c
 both_taken p a b c x y =
     let m = matched_both p x.row y.row x.own y.own in
     let w = all_paid p.types x.text y.text in
@@ -198,7 +198,7 @@ both_taken p a b c x y =
     paid r s t x y v z m n w h g k l = omega (arith, h, g, k, l)
 
 -- and one was selected
-pub both_paid : (p : Object) (t : Option ℕ) (a b c d : Running) → TakesIn p Primary a b → TakesIn p Secondary b c → Spends p (compared_weight p t) c d → Selects p t a d
+pub both_paid : (p : Object) (t : Option ℕ) (a b c d : Running) → SpendsTakingIn p Primary a b → SpendsTakingIn p Secondary b c → Spends p (compared_weight p t) c d → SpendsSelecting p t a d
 both_paid p t a b c d x y z =
     let m = matched_both p x.row y.row x.own y.own in
     let w = all_paid p.types x.text y.text in
@@ -212,7 +212,7 @@ both_paid p t a b c d x y z =
 pub keeps_reach : (p : Object) (n : ℕ) (a b : Running) (d : Config) → b ≡ record a { config = d } → Keeps (charged n a.config) d → Spends p n a b
 keeps_reach p n a b d is k = reach_of p n a b (ap (λ (r : Running). r.config.steps) is ∙ k.steps) (ap (λ (r : Running). r.config.allowance) is ∙ k.allowance)
 
-pub none_selected : (p : Object) (a b : Running) → Spends p 0 a b → Selects p None a b
+pub none_selected : (p : Object) (a b : Running) → Spends p 0 a b → SpendsSelecting p None a b
 none_selected p a b h = record { few = omega (arith, h.few) }
 
 -- ---- all phases
@@ -276,11 +276,11 @@ module _ (p : Object) (r0 : Running) (full : reach p r0 ≡ p.allowance * most p
   pub lines_bounded : (b : Running) → Spends p (output_weight p spoken.Detail) r0 b → b.config.steps ≤ bound p
   lines_bounded b h = in_first b.config.steps (reach p r0) (reach p b) (b.config.allowance * most p) (p.allowance * most p) _ _ _ _ _ (bound p) full (same_n _) h.few (within_bound p)
 
-  pub all_bounded : (t : Option ℕ) (a b c : Running) → Spends p (output_weight p spoken.Detail) r0 a → Selects p t a b → Spends p (record_weight p t) b c → c.config.steps ≤ bound p
-  all_bounded t a b c h g f = in_all c.config.steps (reach p r0) (reach p a) (reach p b) (reach p c) (inputs_weight p t) (c.config.allowance * most p) (p.allowance * most p) _ _ _ _ _ (bound p) full (same_n _) f.few g.few h.few (within_bound p)
+  pub all_bounded : (t : Option ℕ) (a b c : Running) → Spends p (output_weight p spoken.Detail) r0 a → SpendsSelecting p t a b → Spends p (record_weight p t) b c → c.config.steps ≤ bound p
+  all_bounded t a b c h g f = in_all c.config.steps (reach p r0) (reach p a) (reach p b) (reach p c) (fields_weight p t) (c.config.allowance * most p) (p.allowance * most p) _ _ _ _ _ (bound p) full (same_n _) f.few g.few h.few (within_bound p)
 
-  pub selected_low : (t : Option ℕ) (a b : Running) → bound p < 2 ^ 48 → Spends p (output_weight p spoken.Detail) r0 a → Selects p t a b → reach p b + inputs_weight p t ≤ 2 ^ 48
-  selected_low t a b low h g = in_bits (reach p r0) (reach p a) (reach p b) (inputs_weight p t) (p.allowance * most p) _ _ _ _ _ (bound p) full g.few h.few (within_bound p) low
+  pub selected_low : (t : Option ℕ) (a b : Running) → bound p < 2 ^ 48 → Spends p (output_weight p spoken.Detail) r0 a → SpendsSelecting p t a b → reach p b + fields_weight p t ≤ 2 ^ 48
+  selected_low t a b low h g = in_bits (reach p r0) (reach p a) (reach p b) (fields_weight p t) (p.allowance * most p) _ _ _ _ _ (bound p) full g.few h.few (within_bound p) low
 
 pub low_left : (x y : ℕ) → x + y ≤ 2 ^ 48 → x ≤ 2 ^ 49
 low_left x y h = omega (arith, h)

@@ -5,7 +5,7 @@ use Rattle.std.specs.Option.{ForSome}
 use Rattle.rpg_paper.specs.Paper.{Position}
 use Rattle.rpg_effect.specs.Input.{TypeRow}
 use Rattle.rpg_cycle.proofs.Composing.{quietly}
-use Rattle.rpg_cycle.specs.Doing.{Does, Held, Passes, under_way}
+use Rattle.rpg_cycle.specs.Doing.{Does, Held, DoesAlone, under_way}
 use Rattle.rpg_cycle_records.specs.Earlier.{Selected}
 use Rattle.rpg_cycle_records.specs.Waiting.{Inputs}
 use Rattle.rpg_cycle.specs.Ends.{GoesOn}
@@ -86,7 +86,7 @@ off_keeps p c =
 
 -- ---- the phase in which all goes off
 
-pub sets_off : (p : Object) (a b : Running) → b ≡ record a { config = all_off p a.config } → Passes (set_off p) a GoesOn b
+pub sets_off : (p : Object) (a b : Running) → b ≡ record a { config = all_off p a.config } → DoesAlone (set_off p) a GoesOn b
 sets_off p a b is = record {
   each = λ s. quietly (λ c. done GoesOn (with_config (all_off p) c)) a b s s GoesOn (all_off p a.config)
       (λ previous. ap (λ (d : Config). done GoesOn (under_way d s)) (sym (off_on previous p a.config))) is;

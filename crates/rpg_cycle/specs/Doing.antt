@@ -1,5 +1,7 @@
 -- That a machine did a phase, in the words of its calls.
-use Rattle.std.specs.Prelude.{◌≡◌, ℕ, List, Option, None}
+use Rattle.std.specs.Prelude.{◌≡◌, ℕ, Bool, List, Option, None}
+use Rattle.std.specs.Option.{option_map}
+use denote.Bor.{Bor}
 use Rattle.rpg_paper.specs.Paper.{Position, last_position_from}
 use Rattle.rpg_effect.specs.Put.{line_of, with_output}
 use Rattle.rpg_cycle_records.specs.Earlier.{Selected}
@@ -7,11 +9,15 @@ use Rattle.rpg_cycle_records.specs.Holding.{inputs_of, text_in}
 use Rattle.rpg_cycle_records.specs.Keeping.{left_of, selected_as}
 use Rattle.rpg_cycle_records.specs.Waiting.{Inputs, finds_match}
 use Rattle.rpg_cycle_records.specs.declared.kept.Kept.{Kept}
-use Rattle.rpg_cycle.specs.Ends.{PhaseEnd}
-use Rattle.rpg_cycle.specs.Phases.{CycleOn, Phase, UnderWay, after_selection}
+use Rattle.rpg_cycle.specs.Ends.{GoesOn, PhaseEnd}
+use Rattle.rpg_cycle.specs.Phases.{CycleOn, Phase, UnderWay, if_selected}
 use Rattle.rpg_machine.specs.Config.{Config, Output}
-use Rattle.rpg_machine.specs.Running.{Running, config_on}
+use Rattle.rpg_machine.specs.Running.{Running, config_on, refilled}
 use Rattle.rpg_object_program.specs.Object.{Object}
+
+-- the text of the record that is next in a file, if there is one
+abbrev pub next_text : Option (Bor (List ℕ)) → Option (List ℕ)
+next_text next = option_map (λ (text : Bor (List ℕ)). text.now) next
 
 -- what a cycle has beside the machine: the files, and the record that was selected
 pub record Held : Type 0 where
@@ -26,16 +32,25 @@ holding i t text = record { inputs = i; selected = selected_as t text }
 abbrev pub unselected : Inputs → Held
 unselected i = record { inputs = i; selected = None }
 
--- the files that are kept, and the record of that type that they hold, if one was selected
+-- the record of that type that its file holds, if one was selected
+abbrev pub selected_in : Object → Kept → Option ℕ → Option Selected
+selected_in p k t = selected_as t (text_in p k t)
+
+-- the files that are kept, and that record
 abbrev pub holding_kept : Object → Kept → Option ℕ → Held
 holding_kept p k t = holding (inputs_of k) t (text_in p k t)
 
--- a cycle by what is kept of earlier records, and what follows its selection
-abbrev pub cycle_by : Object → Kept → Option (List ℕ) → Option (List ℕ) → Phase
-cycle_by p k primary secondary = CycleOn p (left_of k) (finds_match p (left_of k)) primary secondary
+-- whether a record has a match, by what is kept of earlier records
+abbrev pub match_by : Object → Kept → Inputs → Selected → Bool
+match_by p k = finds_match p (left_of k)
 
-abbrev pub rest_by : Object → Kept → Phase
-rest_by p k = after_selection p (left_of k) (finds_match p (left_of k))
+-- whether the selected record has one, if one was selected
+abbrev pub is_matched : Object → Kept → Option ℕ → Bool
+is_matched p k t = if_selected (match_by p k (inputs_of k)) (selected_in p k t)
+
+-- a cycle by what is kept of earlier records
+abbrev pub cycle_by : Object → Kept → Option (List ℕ) → Option (List ℕ) → Phase
+cycle_by p k primary secondary = CycleOn p (left_of k) (match_by p k) primary secondary
 
 abbrev pub under_way : Config → Held → UnderWay
 under_way c h = record { config = c; inputs = h.inputs; selected = h.selected }
@@ -52,6 +67,25 @@ pub record Does (P : Phase) (old : Running) (before : Held) (e : PhaseEnd) (new 
   pub program : new.program ≡ old.program
   pub behind : (previous : Option Position) → old.last ≡ line_of previous → DoesBehind P previous old before e new after
 
--- a machine did a phase that reads and selects nothing
-pub record Passes (P : Phase) (old : Running) (e : PhaseEnd) (new : Running) : Type 0 where
-  pub each : (h : Held) → Does P old h e new h
+-- a machine did a phase that left the files and the selected record as they were
+abbrev pub DoesHolding : Phase → Held → Running → PhaseEnd → Running → Type 0
+DoesHolding P h old e new = Does P old h e new h
+
+-- with this record selected, whatever the files
+abbrev pub DoesWith : Phase → Option Selected → Running → PhaseEnd → Running → Type 0
+DoesWith P s old e new = (i : Inputs) → DoesHolding P (record { inputs = i; selected = s }) old e new
+
+-- a machine did a phase that neither reads nor selects, whatever the files and the selected record
+pub record DoesAlone (P : Phase) (old : Running) (e : PhaseEnd) (new : Running) : Type 0 where
+  pub each : (h : Held) → DoesHolding P h old e new
+
+-- With what is kept of earlier records and of its files, and with the record that is next in each, a machine did a cycle that goes on, and
+-- selected the record of that type, if one was selected.
+abbrev pub CycleGoesOn : Object → Kept → (primary secondary : Option (Bor (List ℕ))) → Running → Option ℕ → Kept → Running → Type 0
+CycleGoesOn p k primary secondary old t k' new =
+    Does (cycle_by p k (next_text primary) (next_text secondary)) (refilled old) (unselected (inputs_of k)) GoesOn new (holding_kept p k' t)
+
+-- a cycle that ended the job
+abbrev pub CycleEnds : Object → Kept → (primary secondary : Option (Bor (List ℕ))) → Running → PhaseEnd → Running → Type 0
+CycleEnds p k primary secondary old e new =
+    (h : Held) × Does (cycle_by p k (next_text primary) (next_text secondary)) (refilled old) (unselected (inputs_of k)) e new h

@@ -5,8 +5,9 @@ pub mod Doing
 pub mod Ends
 pub mod Indicators
 pub mod Job
+pub mod Laws
 pub mod Phases
-pub mod Running
+pub mod RunAnswers
 pub mod Runs
 pub mod Selecting
 pub mod Spending

@@ -182,8 +182,15 @@ has_control_fields (t ∷ ts) = is_any t.levels || has_control_fields ts
 abbrev pub is_bypassed : Object → Bool → Bool → Config → Bool
 is_bypassed p any control c = not (is_on c last_record) && (not any || (has_control_fields p.types && not control))
 
+abbrev pub totals : Object → Phase
+totals p = section p sections.Total before output p times.Total
+
+-- by whether there were earlier records, and one with control fields
+abbrev pub total_time_by : Object → Bool → Bool → Phase
+total_time_by p any control = unless (is_bypassed p any control) (totals p)
+
 abbrev pub total_time : Object → Left → Phase
-total_time p left = unless (is_bypassed p left.any left.control) (section p sections.Total before output p times.Total)
+total_time p left = total_time_by p left.any left.control
 
 -- ---- 6 the job ends where LR is on, or where no record was selected
 
@@ -224,7 +231,21 @@ detail_calculations p = section p sections.Detail
 
 -- ---- the cycle
 
--- what follows the selection of a record, with what earlier records leave and with a test of matching records
+-- with what earlier records leave, with a test of matching records, and with the record that is next in each file, or none at its end
+abbrev pub CycleOn : Object → Left → (Inputs → Selected → Bool) → Option (List ℕ) → Option (List ℕ) → Phase
+CycleOn p left matches primary secondary =
+    detail_lines p
+    before halt_where_asked
+    before set_off p
+    before select_record p left primary secondary
+    before total_time p left
+    before end_where_last
+    before overflow_lines p
+    before show_match matches
+    before fill_fields p
+    before detail_calculations p
+
+-- what of it follows the selection of a record
 abbrev pub after_selection : Object → Left → (Inputs → Selected → Bool) → Phase
 after_selection p left matches =
     total_time p left
@@ -233,15 +254,6 @@ after_selection p left matches =
     before show_match matches
     before fill_fields p
     before detail_calculations p
-
--- a cycle with these
-abbrev pub CycleOn : Object → Left → (Inputs → Selected → Bool) → Option (List ℕ) → Option (List ℕ) → Phase
-CycleOn p left matches primary secondary =
-    detail_lines p
-    before halt_where_asked
-    before set_off p
-    before select_record p left primary secondary
-    before after_selection p left matches
 
 -- a cycle behind those that selected the earlier records, the last of these first, with the record that is next in each file, or none at
 -- its end
@@ -252,6 +264,10 @@ Cycle p earlier primary secondary = CycleOn p (left_by p earlier) (has_match p e
 abbrev pub begun : Object → Config → Inputs → UnderWay
 begun p c i = record { config = record c { allowance = p.allowance; steps = 0 }; inputs = i; selected = None }
 
--- of a job that goes on: whether a file takes a record in at its next cycle, which none does where LR or one of H1 to H9 is on
+-- a cycle takes records in, unless LR or one of H1 to H9 is on
+abbrev pub takes_records : Config → Bool
+takes_records c = not (is_on c last_record || any_on c halt_indicators)
+
+-- of a job that goes on: whether a file takes a record in at its next cycle
 abbrev pub needs_record : Object → Config → Inputs → InputFile → Bool
-needs_record p c i f = not (is_on c last_record || any_on c halt_indicators) && takes_in p i f
+needs_record p c i f = takes_records c && takes_in p i f

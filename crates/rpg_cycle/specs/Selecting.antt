@@ -1,17 +1,23 @@
 -- What the parts of taking records in, and of selecting one, do.
-use Rattle.std.specs.Prelude.{◌≡◌, ℕ, ◌<◌, ◌≤◌, All, List, length, slice_get, Option}
-use Rattle.rpg_cycle_records.specs.Earlier.{Left, file_of}
-use Rattle.rpg_cycle.specs.Doing.{holding, unselected, under_way}
+use Rattle.std.specs.Prelude.{◌≡◌, ℕ, ◌<◌, ◌≤◌, All, List, length, slice_get, Option, Some}
+use Rattle.std.specs.Option.{ForSome}
+use denote.Bor.{Bor}
+use Rattle.rpg_cycle_records.specs.Earlier.{Left, control_fields, file_of, last_of_file}
+use Rattle.rpg_cycle.specs.Doing.{Does, DoesHolding, holding, holding_kept, next_text, unselected, under_way}
 use Rattle.rpg_cycle.specs.Ends.{GoesOn, Halt, PhaseEnd}
 use Rattle.rpg_cycle_records.specs.Fitting.{IsControlIn}
 use Rattle.rpg_cycle_records.specs.Identifying.{IsOf, IsOfNone, identified, trial_weight}
 use Rattle.rpg_cycle.specs.Indicators.{with_levels, with_type}
-use Rattle.rpg_cycle_records.specs.Keeping.{renewed, seen_levels, seen_value}
+use Rattle.rpg_cycle_records.specs.Holding.{HoldsRecord, input_of, inputs_of, text_in}
+use Rattle.rpg_cycle_records.specs.Keeping.{left_of, renewed, renewed_by, seen_levels, seen_value}
 use Rattle.rpg_cycle_records.specs.Levels.{broken_in}
-use Rattle.rpg_cycle_records.specs.Waiting.{Inputs, waiting_in}
+use Rattle.rpg_cycle_records.specs.Waiting.{Inputs, input_at, waiting_in, with_input}
+use Rattle.rpg_cycle_records.specs.declared.files.KeptFile.{KeptFile}
+use Rattle.rpg_cycle_records.specs.declared.kept.Kept.{Kept}
 use Rattle.rpg_cycle_records.specs.declared.levels.LastBytes.{LastBytes}
 use Rattle.rpg_cycle_records.specs.declared.matching.LastValues.{LastValues}
-use Rattle.rpg_cycle.specs.Phases.{done, read_record, select_waiting}
+use Rattle.rpg_cycle_records.specs.declared.matching.MatchValue.{MatchValue}
+use Rattle.rpg_cycle.specs.Phases.{done, read_record, select_one, select_record, select_waiting, take_in, type_indicator}
 use Rattle.rpg_cycle.specs.Stages.{job_end}
 use Rattle.rpg_cycle.specs.declared.ends.JobEnd.{JobEnd}
 use Rattle.rpg_paper.specs.Paper.{Position}
@@ -51,9 +57,72 @@ pub record HasRead (p : Object) (left : Left) (f : InputFile) (next : Option (Li
 -- the record that waits in a file, if one does, was selected: what is then under way, wherever the form is
 pub record HasSelected (p : Object) (left : Left) (f : InputFile) (before : Inputs) (old : Running) (t : Option ℕ) (text : List ℕ) (new : Running) (after : Inputs) : Type 0 where
   pub config : Config
-  pub read : (previous : Option Position) → select_waiting p left f (waiting_in before f) (under_way (config_on previous old.config) (unselected before)) ≡ done GoesOn (under_way (config_on previous config) (holding after t text))
+  pub leads : (previous : Option Position) → select_waiting p left f (waiting_in before f) (under_way (config_on previous old.config) (unselected before)) ≡ done GoesOn (under_way (config_on previous config) (holding after t text))
   pub machine : new ≡ record old { config = config }
 
 -- what earlier records leave, with these bytes of levels and these match values
 abbrev pub with_seen : List LastBytes → LastValues → Left → Left
 with_seen levels values l = record l { bytes = seen_levels levels; primary = seen_value values.primary; secondary = seen_value values.secondary }
+
+-- ---- the same of what a job keeps, whatever else earlier records left, and whatever the other file has
+
+-- a file with this last match value was asked for a record, and gave this one or none
+abbrev pub Reads : Object → InputFile → MatchValue → Option (List ℕ) → KeptFile → Running → PhaseEnd → KeptFile → Running → Type 0
+Reads p f last next k old e k' new =
+    (left : Left) (i : Inputs) → last_of_file left f ≡ seen_value last → input_at i f ≡ input_of k
+    → HasRead p left f next i old e new (with_input f (input_of k') i)
+
+-- with this record of the file the job ended, and the files were left as they were
+abbrev pub EndsAtRecord : Object → InputFile → MatchValue → List ℕ → Running → PhaseEnd → Running → Type 0
+EndsAtRecord p f last text old e new =
+    (left : Left) (i : Inputs) → last_of_file left f ≡ seen_value last → HasRead p left f (Some text) i old e new i
+
+-- a file with this last match value took in the record that was next, if it takes one in
+abbrev pub TakesIn : Object → InputFile → MatchValue → Option (Bor (List ℕ)) → KeptFile → Running → KeptFile → Running → Type 0
+TakesIn p f last next k old k' new =
+    (left : Left) (i : Inputs) → last_of_file left f ≡ seen_value last → input_at i f ≡ input_of k
+    → Does (take_in p left f (next_text next)) old (unselected i) GoesOn new (unselected (with_input f (input_of k') i))
+
+-- there the job ended, and the files were left as they were
+abbrev pub EndsTakingIn : Object → InputFile → MatchValue → Option (Bor (List ℕ)) → KeptFile → Running → PhaseEnd → Running → Type 0
+EndsTakingIn p f last next k old e new =
+    (left : Left) (i : Inputs) → last_of_file left f ≡ seen_value last → input_at i f ≡ input_of k
+    → DoesHolding (take_in p left f (next_text next)) (unselected i) old e new
+
+-- the control fields of a type were compared with the last bytes of their levels, and are kept
+abbrev pub ComparesLevels : Object → ℕ → List ℕ → List LastBytes → Running → List LastBytes → Running → Type 0
+ComparesLevels p t text levels old levels' new =
+    IsCompared (type_indicator (slice_get p.types t)) (control_fields p t) text (seen_levels levels) old new (seen_levels levels')
+
+-- the record that waits in a file, if one does, is held as one of its type's file
+abbrev pub HoldsWaiting : Object → KeptFile → Type 0
+HoldsWaiting p k = ForSome k.waiting (λ t. HoldsRecord p (file_of (slice_get p.types t)) k t)
+
+-- the record of that type that waits in a file, if one does, was selected
+abbrev pub SelectsWaiting : Object → List LastBytes → LastValues → KeptFile → Running → Option ℕ → KeptFile → Running → Type 0
+SelectsWaiting p levels values k old t k' new =
+    (f : InputFile) (left : Left) (i : Inputs) → input_at i f ≡ input_of k
+    → HasSelected p (with_seen levels values left) f i old t k'.record.items new (with_input f (input_of k') i)
+
+-- levels and match values were renewed by a record of that type, if one was selected
+abbrev pub RenewsSeen : Object → Option ℕ → List ℕ → List LastBytes → LastValues → List LastBytes → LastValues → Type 0
+RenewsSeen p t text levels values levels' values' =
+    (left : Left) → with_seen levels' values' left ≡ renewed_by p t text (with_seen levels values left)
+
+-- what is kept of earlier records was renewed by the selected one, if one was selected
+abbrev pub RenewsLeft : Object → Option ℕ → Kept → Kept → Type 0
+RenewsLeft p t k k' = left_of k' ≡ renewed_by p t (text_in p k' t) (left_of k)
+
+-- one of the records that wait was selected, or none; and then it is the one of that type
+abbrev pub SelectsOne : Object → Kept → Running → Option ℕ → Kept → Running → Type 0
+SelectsOne p k old t k' new = Does (select_one p (left_of k)) old (unselected (inputs_of k)) GoesOn new (holding_kept p k' t)
+
+-- Records were taken in, of those that are next in the files, and the one of that type was selected, or none.
+abbrev pub SelectsRecord : Object → Kept → (primary secondary : Option (Bor (List ℕ))) → Running → Option ℕ → Kept → Running → Type 0
+SelectsRecord p k primary secondary old t k' new =
+    Does (select_record p (left_of k) (next_text primary) (next_text secondary)) old (unselected (inputs_of k)) GoesOn new (holding_kept p k' t)
+
+-- there the job ended, and none was selected
+abbrev pub EndsSelecting : Object → Kept → (primary secondary : Option (Bor (List ℕ))) → Running → PhaseEnd → Running → Type 0
+EndsSelecting p k primary secondary old e new =
+    (i : Inputs) × Does (select_record p (left_of k) (next_text primary) (next_text secondary)) old (unselected (inputs_of k)) e new (unselected i)

@@ -28,9 +28,9 @@ abbrev pub section_cost : Object → Section → ℕ
 section_cost p s = cost p (record { section = s; number = first_place p s })
 
 -- the fields that a selected record fills
-abbrev pub inputs_weight : Object → Option ℕ → ℕ
-inputs_weight p None = 0
-inputs_weight p (Some t) = length (inputs_at p t)
+abbrev pub fields_weight : Object → Option ℕ → ℕ
+fields_weight p None = 0
+fields_weight p (Some t) = length (inputs_at p t)
 
 -- the control fields of the selected record's type
 abbrev pub compared_weight : Object → Option ℕ → ℕ
@@ -38,8 +38,8 @@ compared_weight p None = 0
 compared_weight p (Some t) = length (control_fields p t)
 
 -- a record was selected, and filling its fields is still to be paid
-pub record Selects (p : Object) (t : Option ℕ) (old new : Running) : Type 0 where
-  pub few : reach p new + inputs_weight p t ≤ reach p old + types_weight p.types
+pub record SpendsSelecting (p : Object) (t : Option ℕ) (old new : Running) : Type 0 where
+  pub few : reach p new + fields_weight p t ≤ reach p old + types_weight p.types
 
 -- the match fields of a row, if there is one
 abbrev pub matched_weight : Object → Option ℕ → ℕ
@@ -47,7 +47,7 @@ matched_weight p None = 0
 matched_weight p (Some t) = matches_at p.types t
 
 -- what the taking in of a file's record cost at most: the trying of its types on a text, and the match fields of one of them, or of none
-pub record TakesIn (p : Object) (f : InputFile) (old new : Running) : Type 0 where
+pub record SpendsTakingIn (p : Object) (f : InputFile) (old new : Running) : Type 0 where
   pub text : List ℕ
   pub row : Option ℕ
   pub own : ForSome row (λ t. file_of (slice_get p.types t) ≡ f)
@@ -63,7 +63,7 @@ totals_weight p = section_cost p sections.Total + output_weight p times.Total
 
 -- the phases behind the selection of a record, or of none
 abbrev pub record_weight : Object → Option ℕ → ℕ
-record_weight p t = totals_weight p + (full_page_weight p + (inputs_weight p t + section_cost p sections.Detail))
+record_weight p t = totals_weight p + (full_page_weight p + (fields_weight p t + section_cost p sections.Detail))
 
 -- all phases of a cycle, and what the allowance can lead to
 abbrev pub cycle_weight : Object → ℕ

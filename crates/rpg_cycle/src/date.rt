@@ -1,8 +1,8 @@
 //! The date of a job.
 ghost use Rattle.std.specs.Prelude.{◌≡◌, ◌<◌, ◌^◌, Some, option_map, unsigned_abs};
 ghost use Rattle.std.specs.List.{list_all};
-ghost use Rattle.rpg_cycle.specs.Starting.{date_in, dated};
-ghost use Rattle.rpg_cycle.specs.Dating.{fields_with, with_date};
+ghost use Rattle.rpg_cycle.specs.Starting.{date_in};
+ghost use Rattle.rpg_cycle.specs.Dating.{PutsDate, with_date};
 ghost use Rattle.rpg_decimal_words.specs.Zoned.{is_digit};
 ghost use Rattle.rpg_effect.specs.Forms.{form_at, is_date};
 ghost use Rattle.rpg_object_program.specs.Kept.{IsFieldRow};
@@ -73,7 +73,7 @@ pub(crate) fn put_date<S: Store>(store: &mut S, program: &Verified, date: i64)
     requires date { unsigned_abs date < 10 ^ 6 }
     requires own { S.forms store.old ≡ program.now.fields }
     requires fits { Fits program.now.fields (S.contents store.old) (S.currents store.old) }
-    ensures fields { fields_with (S.contents store.new) (S.currents store.new) ≡ dated date 1 program.now.fields (fields_with (S.contents store.old) (S.currents store.old)) }
+    ensures fields { PutsDate S.contents S.currents date program.now.fields store.old store.new }
     ensures own { S.forms store.new ≡ program.now.fields }
     ensures fits { Fits program.now.fields (S.contents store.new) (S.currents store.new) }
 {

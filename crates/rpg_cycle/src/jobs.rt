@@ -94,11 +94,12 @@ impl<'a> Job<'a, FlatStore> {
 }
 
 impl<'a, S: Store + Drop> Job<'a, S> {
-    ghost use Rattle.std.specs.Prelude.{◌≤◌, ◌&&◌, ◌||◌, not, true, false, ◌↔◌, None, IfOk, OnErr, IsOk, IsErrOf};
-    ghost use Rattle.std.specs.Option.{option_map};
-    ghost use Rattle.rpg_cycle.specs.Indicators.{any_on, halt_indicators, is_on, last_record};
+    ghost use Rattle.std.specs.Prelude.{◌≤◌, ◌&&◌, true, false, ◌↔◌, None, IfOk, OnErr, IsOk, IsErrOf};
+    ghost use Rattle.rpg_cycle.specs.Dating.{fields_with};
+    ghost use Rattle.rpg_cycle.specs.Doing.{next_text};
     ghost use Rattle.rpg_effect.specs.declared.input.InputFile.TheVariants as files;
     ghost use Rattle.rpg_cycle.specs.Job as of;
+    ghost use Rattle.rpg_cycle.specs.Phases.{takes_records};
     ghost use Rattle.rpg_cycle.specs.Stages.{Failed, is_going, told};
     ghost use Rattle.rpg_cycle.specs.Starting.{date_in};
     ghost use Rattle.rpg_machine.specs.Run.{running_place};
@@ -114,7 +115,7 @@ impl<'a, S: Store + Drop> Job<'a, S> {
     ) -> Result<Job<'a, S>, StartFault>
         requires own { S.forms store ≡ program.now.fields }
         requires fits { Fits program.now.fields (S.contents store) (S.currents store) }
-        ensures start { IfOk result (λ j. of.Starts program.now date.now (record { values = S.contents store; current = S.currents store }) j) }
+        ensures start { IfOk result (λ j. of.Starts program.now date.now (fields_with (S.contents store) (S.currents store)) j) }
         ensures date { IsErrOf result StartFault.BadDate ↔ (date_in date.now ≡ None) }
     {
         let Some(date) = Date::read(date) else {
@@ -132,7 +133,7 @@ impl<'a, S: Store + Drop> Job<'a, S> {
     ) -> Result<Job<'a, S>, AllocError>
         requires own { S.forms store ≡ program.now.fields }
         requires fits { Fits program.now.fields (S.contents store) (S.currents store) }
-        ensures { IfOk result (λ j. j ≡ of.job_started program.now date.value (record { values = S.contents store; current = S.currents store })) }
+        ensures { IfOk result (λ j. j ≡ of.job_started program.now date.value (fields_with (S.contents store) (S.currents store))) }
     {
         put_date(&mut store, program, date.value);
         let machine = Machine::new(alloc, program, store)?;
@@ -160,7 +161,7 @@ impl<'a, S: Store + Drop> Job<'a, S> {
 
     /// Whether the job goes on, and neither LR nor one of H1 to H9 is on.
     fn takes_records(&self) -> bool
-        ensures { result ≡ is_going self.now.stage && not (is_on self.now.config last_record || any_on self.now.config halt_indicators) }
+        ensures { result ≡ is_going self.now.stage && takes_records self.now.config }
     {
         match self.progress {
             Progress::Going => {
@@ -177,7 +178,7 @@ impl<'a, S: Store + Drop> Job<'a, S> {
         primary: Option<&[u8]>,
         secondary: Option<&[u8]>,
     ) -> Result<CycleEnd, AllocError>
-        ensures going { is_going self.old.stage ≡ true → IfOk result (λ _. of.Cycles self.old (option_map (λ t. t.now) primary.entry) (option_map (λ t. t.now) secondary.entry) self.new) }
+        ensures going { is_going self.old.stage ≡ true → IfOk result (λ _. of.Cycles self.old (next_text primary.entry) (next_text secondary.entry) self.new) }
         ensures told { IfOk result (λ e. told e ≡ self.new.stage) }
         ensures over { is_going self.old.stage ≡ false → IsOk result × (self.new ≡ self.old) }
         ensures failed { OnErr result (self.new.stage ≡ Failed) }
@@ -200,7 +201,7 @@ impl<'a, S: Store + Drop> Job<'a, S> {
         secondary: Option<&[u8]>,
     ) -> Result<Progress, AllocError>
         requires { is_going self.old.stage ≡ true }
-        ensures done { IfOk result (λ _. of.Cycles self.old (option_map (λ t. t.now) primary.entry) (option_map (λ t. t.now) secondary.entry) self.new) }
+        ensures done { IfOk result (λ _. of.Cycles self.old (next_text primary.entry) (next_text secondary.entry) self.new) }
         ensures stage { IfOk result (λ g. stage_of g ≡ self.new.stage) }
         ensures ran { IfOk result (λ g. stage_of g ≡ Failed → ⊥) }
         ensures failed { OnErr result (self.new.stage ≡ Failed) }

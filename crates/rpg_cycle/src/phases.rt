@@ -1,17 +1,15 @@
 //! The phases of a cycle that select no record.
 ghost use Rattle.std.specs.Prelude.{◌≡◌, ℕ, ◌+◌, ◌^◌, ◌<◌, ◌≤◌, All, IfOk, List, length, map, true};
 ghost use Rattle.std.specs.Option.{ForSome};
-ghost use Rattle.rpg_cycle.specs.Doing.{Does, Passes, holding, holding_kept};
+ghost use Rattle.rpg_cycle.specs.Doing.{DoesAlone, DoesHolding, DoesWith, holding_kept, is_matched, match_by, selected_in};
 ghost use Rattle.rpg_cycle.specs.Ends as ends;
 ghost use Rattle.rpg_cycle.specs.Ends.{GoesOn};
 ghost use Rattle.rpg_cycle.specs.Indicators as lights;
-ghost use Rattle.rpg_cycle_records.specs.Holding.{AreFilesKept, HoldsSelected, inputs_of, text_in};
-ghost use Rattle.rpg_cycle_records.specs.Keeping.{left_of};
-ghost use Rattle.rpg_cycle_records.specs.Waiting.{Inputs, finds_match};
+ghost use Rattle.rpg_cycle_records.specs.Holding.{AreFilesKept, HoldsSelected};
+ghost use Rattle.rpg_cycle_records.specs.Keeping.{selected_as};
 ghost use Rattle.rpg_machine.specs.Ready.{IsReady};
 ghost use Rattle.rpg_cycle.specs.Phases as spec;
-ghost use Rattle.rpg_cycle.specs.Phases.{◌before◌};
-ghost use Rattle.rpg_cycle.specs.Spending.{Spends, section_cost, inputs_weight, reach, full_page_weight, totals_weight};
+ghost use Rattle.rpg_cycle.specs.Spending.{Spends, section_cost, fields_weight, reach, full_page_weight, totals_weight};
 ghost use Rattle.rpg_cycle.specs.Stages.{IfStops, UnlessNoMemory, job_end};
 ghost use Rattle.rpg_effect.specs.Ends as effects;
 ghost use Rattle.rpg_machine.specs.Outputs.{output_weight};
@@ -57,8 +55,8 @@ fn put_out<S: Store + Drop>(
     requires program { machine.old.program ≡ program.now }
     requires ready { IsReady machine.old }
     requires few { machine.old.config.steps ≤ 2 ^ 60 }
-    ensures goes { IfOk result (λ _. Passes (spec.output program.now time) machine.old GoesOn machine.new) }
-    ensures stops { IfStops result (λ e. Passes (spec.output program.now time) machine.old (job_end e) machine.new) }
+    ensures goes { IfOk result (λ _. DoesAlone (spec.output program.now time) machine.old GoesOn machine.new) }
+    ensures stops { IfStops result (λ e. DoesAlone (spec.output program.now time) machine.old (job_end e) machine.new) }
     ensures program { IfOk result (λ _. machine.new.program ≡ program.now) }
     ensures ready { IfOk result (λ _. IsReady machine.new) }
     ensures spends { UnlessNoMemory result (Spends program.now (output_weight program.now time) machine.old machine.new) }
@@ -77,8 +75,8 @@ fn calculate<S: Store + Drop>(
     requires section { has_end section ≡ true }
     requires ready { IsReady machine.old }
     requires few { machine.old.config.steps ≤ 2 ^ 60 }
-    ensures goes { IfOk result (λ _. Passes (spec.section program.now section) machine.old GoesOn machine.new) }
-    ensures stops { IfStops result (λ e. Passes (spec.section program.now section) machine.old (job_end e) machine.new) }
+    ensures goes { IfOk result (λ _. DoesAlone (spec.section program.now section) machine.old GoesOn machine.new) }
+    ensures stops { IfStops result (λ e. DoesAlone (spec.section program.now section) machine.old (job_end e) machine.new) }
     ensures program { IfOk result (λ _. machine.new.program ≡ program.now) }
     ensures ready { IfOk result (λ _. IsReady machine.new) }
     ensures spends { UnlessNoMemory result (Spends program.now (section_cost program.now section) machine.old machine.new) }
@@ -95,8 +93,8 @@ pub(crate) fn put_out_details<S: Store + Drop>(
     requires program { machine.old.program ≡ program.now }
     requires ready { IsReady machine.old }
     requires few { machine.old.config.steps ≤ 2 ^ 60 }
-    ensures goes { IfOk result (λ _. Passes (spec.detail_lines program.now) machine.old GoesOn machine.new) }
-    ensures stops { IfStops result (λ e. Passes (spec.detail_lines program.now) machine.old (job_end e) machine.new) }
+    ensures goes { IfOk result (λ _. DoesAlone (spec.detail_lines program.now) machine.old GoesOn machine.new) }
+    ensures stops { IfStops result (λ e. DoesAlone (spec.detail_lines program.now) machine.old (job_end e) machine.new) }
     ensures program { IfOk result (λ _. machine.new.program ≡ program.now) }
     ensures ready { IfOk result (λ _. IsReady machine.new) }
     ensures spends { UnlessNoMemory result (Spends program.now (output_weight program.now times.Detail) machine.old machine.new) }
@@ -106,8 +104,8 @@ pub(crate) fn put_out_details<S: Store + Drop>(
 
 /// 2. Halt 6 where a halt indicator is on.
 pub(crate) fn halt_where_asked<S: Store + Drop>(machine: &Machine<S>) -> Result<(), Stop>
-    ensures goes { IfOk result (λ _. Passes spec.halt_where_asked machine.now GoesOn machine.now) }
-    ensures stops { IfStops result (λ e. Passes spec.halt_where_asked machine.now (job_end e) machine.now) }
+    ensures goes { IfOk result (λ _. DoesAlone spec.halt_where_asked machine.now GoesOn machine.now) }
+    ensures stops { IfStops result (λ e. DoesAlone spec.halt_where_asked machine.now (job_end e) machine.now) }
 {
     if is_halt_asked(machine) {
         return Err(Stop::Ends(JobEnd::Halt(Halt::IndicatorOn)));
@@ -140,7 +138,7 @@ fn turn_off<S: Store + Drop>(program: &Verified, machine: &mut Machine<S>)
 pub(crate) fn set_off<S: Store + Drop>(program: &Verified, machine: &mut Machine<S>)
     requires program { machine.old.program ≡ program.now }
     requires ready { IsReady machine.old }
-    ensures goes { Passes (spec.set_off program.now) machine.old GoesOn machine.new }
+    ensures goes { DoesAlone (spec.set_off program.now) machine.old GoesOn machine.new }
     ensures program { machine.new.program ≡ program.now }
     ensures ready { IsReady machine.new }
     ensures spends { Spends program.now 0 machine.old machine.new }
@@ -178,8 +176,8 @@ fn do_totals<S: Store + Drop>(program: &Verified, machine: &mut Machine<S>) -> R
     requires program { machine.old.program ≡ program.now }
     requires ready { IsReady machine.old }
     requires few { reach program.now machine.old ≤ 2 ^ 59 }
-    ensures goes { IfOk result (λ _. Passes (spec.section program.now sections.Total before spec.output program.now times.Total) machine.old GoesOn machine.new) }
-    ensures stops { IfStops result (λ e. Passes (spec.section program.now sections.Total before spec.output program.now times.Total) machine.old (job_end e) machine.new) }
+    ensures goes { IfOk result (λ _. DoesAlone (spec.totals program.now) machine.old GoesOn machine.new) }
+    ensures stops { IfStops result (λ e. DoesAlone (spec.totals program.now) machine.old (job_end e) machine.new) }
     ensures program { IfOk result (λ _. machine.new.program ≡ program.now) }
     ensures ready { IfOk result (λ _. IsReady machine.new) }
     ensures spends { UnlessNoMemory result (Spends program.now (totals_weight program.now) machine.old machine.new) }
@@ -199,8 +197,8 @@ pub(crate) fn take_total_time<S: Store + Drop>(
     requires program { machine.old.program ≡ program.now }
     requires ready { IsReady machine.old }
     requires few { reach program.now machine.old ≤ 2 ^ 59 }
-    ensures goes { IfOk result (λ _. Passes (spec.unless (spec.is_bypassed program.now has_any has_control) (spec.section program.now sections.Total before spec.output program.now times.Total)) machine.old GoesOn machine.new) }
-    ensures stops { IfStops result (λ e. Passes (spec.unless (spec.is_bypassed program.now has_any has_control) (spec.section program.now sections.Total before spec.output program.now times.Total)) machine.old (job_end e) machine.new) }
+    ensures goes { IfOk result (λ _. DoesAlone (spec.total_time_by program.now has_any has_control) machine.old GoesOn machine.new) }
+    ensures stops { IfStops result (λ e. DoesAlone (spec.total_time_by program.now has_any has_control) machine.old (job_end e) machine.new) }
     ensures program { IfOk result (λ _. machine.new.program ≡ program.now) }
     ensures ready { IfOk result (λ _. IsReady machine.new) }
     ensures spends { UnlessNoMemory result (Spends program.now (totals_weight program.now) machine.old machine.new) }
@@ -216,8 +214,8 @@ pub(crate) fn end_where_last<S: Store + Drop>(
     machine: &Machine<S>,
     selected: Option<usize>,
 ) -> Result<(), Stop>
-    ensures goes { IfOk result (λ _. (i : Inputs) (text : List ℕ) → Does spec.end_where_last machine.now (holding i selected text) GoesOn machine.now (holding i selected text)) }
-    ensures stops { IfStops result (λ e. (i : Inputs) (text : List ℕ) → Does spec.end_where_last machine.now (holding i selected text) (job_end e) machine.now (holding i selected text)) }
+    ensures goes { IfOk result (λ _. (text : List ℕ) → DoesWith spec.end_where_last (selected_as selected text) machine.now GoesOn machine.now) }
+    ensures stops { IfStops result (λ e. (text : List ℕ) → DoesWith spec.end_where_last (selected_as selected text) machine.now (job_end e) machine.now) }
 {
     if machine.indicator(LAST_RECORD) || selected.is_none() {
         return Err(Stop::Ends(JobEnd::EndOfJob));
@@ -244,8 +242,8 @@ pub(crate) fn put_out_overflow<S: Store + Drop>(
     requires program { machine.old.program ≡ program.now }
     requires ready { IsReady machine.old }
     requires few { machine.old.config.steps ≤ 2 ^ 60 }
-    ensures goes { IfOk result (λ _. Passes (spec.overflow_lines program.now) machine.old GoesOn machine.new) }
-    ensures stops { IfStops result (λ e. Passes (spec.overflow_lines program.now) machine.old (job_end e) machine.new) }
+    ensures goes { IfOk result (λ _. DoesAlone (spec.overflow_lines program.now) machine.old GoesOn machine.new) }
+    ensures stops { IfStops result (λ e. DoesAlone (spec.overflow_lines program.now) machine.old (job_end e) machine.new) }
     ensures program { IfOk result (λ _. machine.new.program ≡ program.now) }
     ensures ready { IfOk result (λ _. IsReady machine.new) }
     ensures spends { UnlessNoMemory result (Spends program.now (full_page_weight program.now) machine.old machine.new) }
@@ -260,7 +258,7 @@ pub(crate) fn put_out_overflow<S: Store + Drop>(
 fn has_match(program: &Verified, kept: &Kept, selected: Option<usize>) -> bool
     requires kept { AreFilesKept program.now kept.now }
     requires held { HoldsSelected program.now kept.now selected }
-    ensures { result ≡ spec.if_selected (finds_match program.now (left_of kept.now) (inputs_of kept.now)) (holding_kept program.now kept.now selected).selected }
+    ensures { result ≡ is_matched program.now kept.now selected }
 {
     match selected {
         None => false,
@@ -279,7 +277,7 @@ pub(crate) fn show_match<S: Store + Drop>(
     requires ready { IsReady machine.old }
     requires kept { AreFilesKept program.now kept.now }
     requires held { HoldsSelected program.now kept.now selected }
-    ensures goes { let h = holding_kept program.now kept.now selected in Does (spec.show_match (finds_match program.now (left_of kept.now))) machine.old h GoesOn machine.new h }
+    ensures goes { DoesHolding (spec.show_match (match_by program.now kept.now)) (holding_kept program.now kept.now selected) machine.old GoesOn machine.new }
     ensures program { machine.new.program ≡ program.now }
     ensures ready { IsReady machine.new }
     ensures spends { Spends program.now 0 machine.old machine.new }
@@ -299,11 +297,11 @@ pub(crate) fn fill_fields<S: Store + Drop>(
     requires ready { IsReady machine.old }
     requires few { machine.old.config.steps ≤ 2 ^ 60 }
     requires held { HoldsSelected program.now kept.now selected }
-    ensures goes { IfOk result (λ _. (i : Inputs) → let h = holding i selected (text_in program.now kept.now selected) in Does (spec.fill_fields program.now) machine.old h GoesOn machine.new h) }
-    ensures stops { IfStops result (λ e. (i : Inputs) → let h = holding i selected (text_in program.now kept.now selected) in Does (spec.fill_fields program.now) machine.old h (job_end e) machine.new h) }
+    ensures goes { IfOk result (λ _. DoesWith (spec.fill_fields program.now) (selected_in program.now kept.now selected) machine.old GoesOn machine.new) }
+    ensures stops { IfStops result (λ e. DoesWith (spec.fill_fields program.now) (selected_in program.now kept.now selected) machine.old (job_end e) machine.new) }
     ensures program { IfOk result (λ _. machine.new.program ≡ program.now) }
     ensures ready { IfOk result (λ _. IsReady machine.new) }
-    ensures spends { UnlessNoMemory result (Spends program.now (inputs_weight program.now selected) machine.old machine.new) }
+    ensures spends { UnlessNoMemory result (Spends program.now (fields_weight program.now selected) machine.old machine.new) }
 {
     match selected {
         None => Ok(()),
@@ -322,8 +320,8 @@ pub(crate) fn calculate_details<S: Store + Drop>(
     requires program { machine.old.program ≡ program.now }
     requires ready { IsReady machine.old }
     requires few { machine.old.config.steps ≤ 2 ^ 60 }
-    ensures goes { IfOk result (λ _. Passes (spec.detail_calculations program.now) machine.old GoesOn machine.new) }
-    ensures stops { IfStops result (λ e. Passes (spec.detail_calculations program.now) machine.old (job_end e) machine.new) }
+    ensures goes { IfOk result (λ _. DoesAlone (spec.detail_calculations program.now) machine.old GoesOn machine.new) }
+    ensures stops { IfStops result (λ e. DoesAlone (spec.detail_calculations program.now) machine.old (job_end e) machine.new) }
     ensures program { IfOk result (λ _. machine.new.program ≡ program.now) }
     ensures ready { IfOk result (λ _. IsReady machine.new) }
     ensures spends { UnlessNoMemory result (Spends program.now (section_cost program.now sections.Detail) machine.old machine.new) }

@@ -2,7 +2,7 @@
 ghost use Rattle.std.specs.Prelude.{◌≡◌, ◌↔◌, ◌≤◌, ◌+◌, None, IfOk, IsErrOf, [], length, true};
 ghost use Rattle.rpg_cycle_records.specs.Earlier.{left_by};
 ghost use Rattle.std.specs.Option.{option_map};
-ghost use Rattle.rpg_cycle.specs.Running.{RunsRecords, RunsWhole, records_in, texts};
+ghost use Rattle.rpg_cycle.specs.RunAnswers.{RunsRecords, RunsWhole, records_in, texts};
 ghost use Rattle.rpg_cycle.specs.Runs.{next_of, rest_of};
 ghost use Rattle.rpg_cycle_records.specs.Waiting.{unread};
 ghost use Rattle.rpg_cycle.specs.Stages.{is_going};

@@ -1,23 +1,14 @@
 //! Records are taken in, and one is selected.
-ghost use Rattle.std.specs.Prelude.{◌≡◌, ◌+◌, ◌^◌, ◌<◌, ◌≤◌, All, IfOk, OnOk, Some, None, length, slice_get, true};
-ghost use Rattle.std.specs.Option.{ForSome, option_map};
-ghost use Rattle.rpg_cycle.specs.Doing.{Does, holding_kept, unselected};
-ghost use Rattle.rpg_cycle_records.specs.Earlier as earlier;
-ghost use Rattle.rpg_cycle_records.specs.Earlier.{Left};
+ghost use Rattle.std.specs.Prelude.{◌≡◌, ◌+◌, ◌^◌, ◌<◌, ◌≤◌, IfOk, OnOk, Some, None, length};
 ghost use Rattle.rpg_cycle.specs.Ends.{GoesOn};
-ghost use Rattle.rpg_cycle_records.specs.Fitting.{IsFilledAs};
-ghost use Rattle.rpg_cycle_records.specs.Holding.{AreFilesKept, HoldsRecord, HoldsSelected, IsFileKept, input_of, inputs_of, text_in};
-ghost use Rattle.rpg_cycle_records.specs.Identifying.{is_good_record};
 ghost use Rattle.rpg_cycle.specs.Indicators as lights;
-ghost use Rattle.rpg_cycle_records.specs.Keeping.{left_of, renewed_by, seen_levels, seen_value};
-ghost use Rattle.rpg_cycle_records.specs.Waiting.{Inputs, input_at, with_input};
-ghost use Rattle.rpg_machine.specs.Ready.{IsReady};
-ghost use Rattle.rpg_cycle.specs.Phases as spec;
-ghost use Rattle.rpg_cycle.specs.Selecting.{HasRead, HasSelected, IsCompared, IsUntaken, TakesType, with_seen};
-ghost use Rattle.rpg_cycle.specs.Spending.{Selects, Spends, TakesIn, compared_weight};
+ghost use Rattle.rpg_cycle.specs.Selecting.{ComparesLevels, EndsAtRecord, EndsSelecting, EndsTakingIn, HoldsWaiting, IsUntaken, Reads, RenewsLeft, RenewsSeen, SelectsOne, SelectsRecord, SelectsWaiting, TakesIn, TakesType};
+ghost use Rattle.rpg_cycle.specs.Spending.{Spends, SpendsSelecting, SpendsTakingIn, compared_weight};
 ghost use Rattle.rpg_cycle.specs.Stages.{IfStops, UnlessNoMemory, job_end};
+ghost use Rattle.rpg_cycle_records.specs.Fitting.{IsFilledAs};
+ghost use Rattle.rpg_cycle_records.specs.Holding.{AreFilesKept, HoldsSelected, IsFileKept};
 ghost use Rattle.rpg_effect.specs.Weights.{types_weight};
-ghost use Rattle.rpg_object_program.specs.Kept.{IsCharacter};
+ghost use Rattle.rpg_machine.specs.Ready.{IsReady};
 ghost use Rattle.rpg_object_program.specs.Object.{input_length};
 
 use crate::ends::{JobEnd, Stop};
@@ -74,11 +65,11 @@ fn read<S: Store + Drop>(
     text: &[u8],
 ) -> Result<(), Stop>
     requires few { machine.old.config.steps ≤ 2 ^ 50 }
-    ensures goes { IfOk result (λ _. (left : Left) (i : Inputs) → earlier.last_of_file left file ≡ seen_value last.now → input_at i file ≡ input_of kept.old → HasRead program.now left file (Some text.now) i machine.old GoesOn machine.new (with_input file (input_of kept.new) i)) }
-    ensures stops { IfStops result (λ e. (left : Left) (i : Inputs) → earlier.last_of_file left file ≡ seen_value last.now → HasRead program.now left file (Some text.now) i machine.old (job_end e) machine.new i) }
+    ensures goes { IfOk result (λ _. Reads program.now file last.now (Some text.now) kept.old machine.old GoesOn kept.new machine.new) }
+    ensures stops { IfStops result (λ e. EndsAtRecord program.now file last.now text.now machine.old (job_end e) machine.new) }
     ensures ready { IfOk result (λ _. IsReady machine.old → IsReady machine.new) }
     ensures program { IfOk result (λ _. machine.new.program ≡ machine.old.program) }
-    ensures takes { UnlessNoMemory result (TakesIn program.now file machine.old machine.new) }
+    ensures takes { UnlessNoMemory result (SpendsTakingIn program.now file machine.old machine.new) }
     ensures few { IfOk result (λ _. machine.new.config.steps ≤ machine.old.config.steps + 20009) }
     ensures kept { IfOk result (λ _. IsFileKept program.now file kept.new) }
 {
@@ -105,11 +96,11 @@ fn take_in<S: Store + Drop>(
 ) -> Result<(), Stop>
     requires few { machine.old.config.steps ≤ 2 ^ 50 }
     requires kept { IsFileKept program.now file kept.old }
-    ensures goes { IfOk result (λ _. (left : Left) (i : Inputs) → earlier.last_of_file left file ≡ seen_value last.now → input_at i file ≡ input_of kept.old → Does (spec.take_in program.now left file (option_map (λ x. x.now) next.entry)) machine.old (unselected i) GoesOn machine.new (unselected (with_input file (input_of kept.new) i))) }
-    ensures stops { IfStops result (λ e. (left : Left) (i : Inputs) → earlier.last_of_file left file ≡ seen_value last.now → input_at i file ≡ input_of kept.old → Does (spec.take_in program.now left file (option_map (λ x. x.now) next.entry)) machine.old (unselected i) (job_end e) machine.new (unselected i)) }
+    ensures goes { IfOk result (λ _. TakesIn program.now file last.now next.entry kept.old machine.old kept.new machine.new) }
+    ensures stops { IfStops result (λ e. EndsTakingIn program.now file last.now next.entry kept.old machine.old (job_end e) machine.new) }
     ensures ready { IfOk result (λ _. IsReady machine.old → IsReady machine.new) }
     ensures program { IfOk result (λ _. machine.new.program ≡ machine.old.program) }
-    ensures takes { UnlessNoMemory result (TakesIn program.now file machine.old machine.new) }
+    ensures takes { UnlessNoMemory result (SpendsTakingIn program.now file machine.old machine.new) }
     ensures few { IfOk result (λ _. machine.new.config.steps ≤ machine.old.config.steps + 20009) }
     ensures kept { IfOk result (λ _. IsFileKept program.now file kept.new) }
 {
@@ -135,7 +126,7 @@ fn compare_levels<S: Store + Drop>(
     requires nine { length levels.old ≡ 9 }
     requires there { row < length program.now.types }
     requires whole { IsFilledAs program.now row text.now }
-    ensures compared { OnOk result (IsCompared (spec.type_indicator (slice_get program.now.types row)) (earlier.control_fields program.now row) text.now (seen_levels levels.old) machine.old machine.new (seen_levels levels.new)) }
+    ensures compared { OnOk result (ComparesLevels program.now row text.now levels.old machine.old levels.new machine.new) }
     ensures ready { OnOk result (IsReady machine.old → IsReady machine.new) }
 {
     turn_type_on(machine, indicator_of(program, row));
@@ -146,7 +137,7 @@ fn compare_levels<S: Store + Drop>(
     Ok(())
 }
 
-/// Selects the record that waits in a file: it waits no longer.
+/// SpendsSelecting the record that waits in a file: it waits no longer.
 fn select_waiting<S: Store + Drop>(
     program: &Verified,
     machine: &mut Machine<S>,
@@ -156,14 +147,14 @@ fn select_waiting<S: Store + Drop>(
 ) -> Result<Option<usize>, AllocError>
     requires few { machine.old.config.steps ≤ 2 ^ 51 }
     requires nine { length levels.old ≡ 9 }
-    requires held { ForSome kept.old.waiting (λ t. HoldsRecord program.now (earlier.file_of (slice_get program.now.types t)) kept.old t) }
-    ensures goes { IfOk result (λ t. (file : InputFile) (left : Left) (i : Inputs) → input_at i file ≡ input_of kept.old → HasSelected program.now (with_seen levels.old values.old left) file i machine.old t kept.new.record.items machine.new (with_input file (input_of kept.new) i)) }
+    requires held { HoldsWaiting program.now kept.old }
+    ensures goes { IfOk result (λ t. SelectsWaiting program.now levels.old values.old kept.old machine.old t kept.new machine.new) }
     ensures row { IfOk result (λ t. t ≡ kept.old.waiting) }
     ensures file { IfOk result (λ _. kept.new ≡ record kept.old { waiting = None }) }
     ensures program { IfOk result (λ _. machine.new.program ≡ machine.old.program) }
     ensures ready { IfOk result (λ _. IsReady machine.old → IsReady machine.new) }
     ensures spends { IfOk result (λ t. Spends program.now (compared_weight program.now t) machine.old machine.new) }
-    ensures left { IfOk result (λ t. (l : Left) → with_seen levels.new values.new l ≡ renewed_by program.now t kept.new.record.items (with_seen levels.old values.old l)) }
+    ensures left { IfOk result (λ t. RenewsSeen program.now t kept.new.record.items levels.old values.old levels.new values.new) }
 {
     let Some(row) = kept.waiting else {
         return Ok(None);
@@ -174,7 +165,7 @@ fn select_waiting<S: Store + Drop>(
     Ok(Some(row))
 }
 
-/// Selects one of the records that wait; where none does, LR and L1 to L9 go on.
+/// SpendsSelecting one of the records that wait; where none does, LR and L1 to L9 go on.
 fn select_one<S: Store + Drop>(
     program: &Verified,
     machine: &mut Machine<S>,
@@ -183,13 +174,13 @@ fn select_one<S: Store + Drop>(
     requires few { machine.old.config.steps ≤ 2 ^ 51 }
     requires nine { length kept.old.levels.items ≡ 9 }
     requires kept { AreFilesKept program.now kept.old }
-    ensures goes { IfOk result (λ t. Does (spec.select_one program.now (left_of kept.old)) machine.old (unselected (inputs_of kept.old)) GoesOn machine.new (holding_kept program.now kept.new t)) }
+    ensures goes { IfOk result (λ t. SelectsOne program.now kept.old machine.old t kept.new machine.new) }
     ensures program { IfOk result (λ _. machine.new.program ≡ machine.old.program) }
     ensures ready { IfOk result (λ _. IsReady machine.old → IsReady machine.new) }
     ensures spends { IfOk result (λ t. Spends program.now (compared_weight program.now t) machine.old machine.new) }
     ensures held { IfOk result (λ t. HoldsSelected program.now kept.new t) }
     ensures kept { IfOk result (λ t. AreFilesKept program.now kept.new) }
-    ensures left { IfOk result (λ t. left_of kept.new ≡ renewed_by program.now t (text_in program.now kept.new t) (left_of kept.old)) }
+    ensures left { IfOk result (λ t. RenewsLeft program.now t kept.old kept.new) }
 {
     match chosen(program, &kept.primary, &kept.secondary) {
         None => {
@@ -223,15 +214,15 @@ pub(crate) fn select_record<S: Store + Drop>(
     requires program { machine.old.program ≡ program.now }
     requires nine { length kept.old.levels.items ≡ 9 }
     requires kept { AreFilesKept program.now kept.old }
-    ensures goes { IfOk result (λ t. Does (spec.select_record program.now (left_of kept.old) (option_map (λ x. x.now) primary.entry) (option_map (λ x. x.now) secondary.entry)) machine.old (unselected (inputs_of kept.old)) GoesOn machine.new (holding_kept program.now kept.new t)) }
-    ensures stops { IfStops result (λ e. (i : Inputs) × Does (spec.select_record program.now (left_of kept.old) (option_map (λ x. x.now) primary.entry) (option_map (λ x. x.now) secondary.entry)) machine.old (unselected (inputs_of kept.old)) (job_end e) machine.new (unselected i)) }
+    ensures goes { IfOk result (λ t. SelectsRecord program.now kept.old primary.entry secondary.entry machine.old t kept.new machine.new) }
+    ensures stops { IfStops result (λ e. EndsSelecting program.now kept.old primary.entry secondary.entry machine.old (job_end e) machine.new) }
     ensures program { IfOk result (λ _. machine.new.program ≡ program.now) }
     ensures ready { IfOk result (λ _. IsReady machine.new) }
     ensures spends { IfStops result (λ _. Spends program.now (types_weight program.now.types) machine.old machine.new) }
-    ensures selects { IfOk result (λ t. Selects program.now t machine.old machine.new) }
+    ensures selects { IfOk result (λ t. SpendsSelecting program.now t machine.old machine.new) }
     ensures held { IfOk result (λ t. HoldsSelected program.now kept.new t) }
     ensures kept { IfOk result (λ t. AreFilesKept program.now kept.new) }
-    ensures left { IfOk result (λ t. left_of kept.new ≡ renewed_by program.now t (text_in program.now kept.new t) (left_of kept.old)) }
+    ensures left { IfOk result (λ t. RenewsLeft program.now t kept.old kept.new) }
 {
     if machine.indicator(LAST_RECORD) {
         turn_all(machine, &LEVELS, true);

@@ -1,12 +1,14 @@
 -- What a job keeps of its files.
-use Rattle.std.specs.Prelude.{◌≡◌, ℕ, ◌<◌, Bool, not, ◌&&◌, All, List, [], Option, None, Some, slice_get, length, is_none}
+use Rattle.std.specs.Prelude.{◌≡◌, ℕ, ◌<◌, Bool, not, ◌&&◌, ◌||◌, All, List, [], Option, None, Some, slice_get, length, is_none, is_some}
 use Rattle.std.specs.Option.{ForSome}
 use Rattle.rpg_cycle_records.specs.Earlier.{Selected, file_of, match_value}
 use Rattle.rpg_cycle_records.specs.Fitting.{IsFilledAs}
 use Rattle.rpg_cycle_records.specs.Keeping.{selected_as, seen_value}
+use Rattle.rpg_cycle_records.specs.Matching.{agrees}
 use Rattle.rpg_cycle_records.specs.Waiting.{Input, Inputs, has_file}
 use Rattle.rpg_cycle_records.specs.declared.files.KeptFile.{KeptFile}
 use Rattle.rpg_cycle_records.specs.declared.kept.Kept.{Kept}
+use Rattle.rpg_cycle_records.specs.declared.matching.MatchValue.{MatchValue}
 use Rattle.rpg_effect.specs.declared.input.InputFile.{InputFile}
 use Rattle.rpg_effect.specs.declared.input.InputFile.TheVariants.{Primary, Secondary}
 use Rattle.rpg_object_program.specs.Kept.{IsCharacter}
@@ -32,6 +34,10 @@ abbrev pub text_in : Object → Kept → Option ℕ → List ℕ
 text_in p k None = []
 text_in p k (Some t) = record_in k (file_of (slice_get p.types t))
 
+-- the record that a type's file holds, as one of that type
+abbrev pub record_of_type : Object → Kept → ℕ → Selected
+record_of_type p k t = record { type = t; text = text_in p k (Some t) }
+
 abbrev pub kept_at : Kept → InputFile → KeptFile
 kept_at k Primary = k.primary
 kept_at k Secondary = k.secondary
@@ -39,6 +45,10 @@ kept_at k Secondary = k.secondary
 -- a file that is there, not at its end and without a waiting record takes one in
 abbrev pub takes_from : Object → InputFile → Input → Bool
 takes_from p f i = has_file p f && (not i.is_over && is_none i.waiting)
+
+-- a match value is that of the record that waits in a file, or the file's last one
+abbrev pub matches_file : MatchValue → KeptFile → MatchValue → Bool
+matches_file v k last = (is_some k.waiting && agrees (seen_value v) (seen_value k.value)) || agrees (seen_value v) (seen_value last)
 
 -- a file holds a record of that type, with its match value
 pub record HoldsRecord (p : Object) (f : InputFile) (k : KeptFile) (t : ℕ) : Type 0 where

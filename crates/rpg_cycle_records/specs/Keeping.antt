@@ -6,6 +6,7 @@ use Rattle.rpg_cycle_records.specs.declared.kept.Kept.{Kept}
 use Rattle.rpg_cycle_records.specs.declared.levels.LastBytes.{LastBytes}
 use Rattle.rpg_cycle_records.specs.declared.matching.MatchValue.{MatchValue}
 use Rattle.rpg_effect.specs.declared.input.ControlField.{ControlField}
+use Rattle.rpg_effect.specs.declared.input.InputFile.{InputFile}
 use Rattle.rpg_effect.specs.declared.input.InputFile.TheVariants.{Primary, Secondary}
 use Rattle.rpg_object_program.specs.Object.{Object}
 
@@ -36,6 +37,10 @@ renewed fs text (suc n) bytes = slice_set (renewed fs text n bytes) n (or_before
 abbrev pub selected_as : Option ℕ → List ℕ → Option Selected
 selected_as None text = None
 selected_as (Some t) text = Some (record { type = t; text = text })
+
+-- the last match value of a file, renewed by a record of a type where it is of that file and has one
+abbrev pub value_behind : Object → InputFile → ℕ → List ℕ → Option (List ℕ) → Option (List ℕ)
+value_behind p f t text before = or_before before (value_from p f (record { type = t; text = text }))
 
 -- the match value of its file renewed by a record that has one
 abbrev pub with_value : Object → Selected → Left → Left

@@ -3,9 +3,9 @@ use Rattle.std.specs.Prelude.{◌≡◌, ℕ, Bool, false, not, ◌&&◌, ◌||�
 use Rattle.rpg_effect.specs.declared.input.InputFile.{InputFile}
 use Rattle.rpg_effect.specs.declared.input.InputFile.TheVariants.{Primary, Secondary}
 use Rattle.rpg_object_program.specs.Object.{Object}
-use Rattle.rpg_cycle_records.specs.Earlier.{Selected, file_at, last_value, match_value, or_before}
+use Rattle.rpg_cycle_records.specs.Earlier.{Selected, file_at, last_value, left_by, match_value, or_before}
 use Rattle.rpg_cycle_records.specs.Matching.{exceeds}
-use Rattle.rpg_cycle_records.specs.Waiting.{Input, Inputs, has_file, value_of}
+use Rattle.rpg_cycle_records.specs.Waiting.{Input, Inputs, finds_match, has_file, has_match, value_of}
 
 -- A value, where there is one, is no greater than this one; and where this one is missing, so is the value.
 abbrev pub IsUpTo : Option (List ℕ) → Option (List ℕ) → Type 0
@@ -50,3 +50,9 @@ pub record IsOrderly (p : Object) (earlier : List Selected) (i : Inputs) : Type 
   pub merged : IsMerged p earlier
   pub primary : IsFileOrderly p earlier Primary i.primary
   pub secondary : IsFileOrderly p earlier Secondary i.secondary
+
+-- The law: where match values were selected in their order, the test by the last values is the test over all records that were taken in.
+abbrev pub LastValuesTellMatches : Type 0
+LastValuesTellMatches =
+    (p : Object) (earlier : List Selected) (i : Inputs) (s : Selected)
+    → IsMerged p earlier → IsTopIfAny p (match_value p s) earlier → has_match p earlier i s ≡ finds_match p (left_by p earlier) i s

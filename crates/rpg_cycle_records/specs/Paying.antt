@@ -1,7 +1,11 @@
 -- What is charged of record types besides the trying of their codes.
-use Rattle.std.specs.Prelude.{ℕ, ◌+◌, List, length, slice_get, Option, None, Some}
-use Rattle.rpg_cycle_records.specs.Earlier.{matches_of}
+use Rattle.std.specs.Prelude.{◌≡◌, ◌≤◌, ℕ, ◌+◌, List, length, slice_get, Option, None, Some}
+use Rattle.rpg_cycle_records.specs.Earlier.{file_of, matches_of}
+use Rattle.rpg_cycle_records.specs.Identifying.{trial_weight}
 use Rattle.rpg_effect.specs.Input.{TypeRow}
+use Rattle.rpg_effect.specs.Weights.{types_weight}
+use Rattle.rpg_effect.specs.declared.input.InputFile.{InputFile}
+use Rattle.rpg_effect.specs.declared.input.InputFile.TheVariants.{Primary, Secondary}
 
 -- the match fields of a row
 abbrev pub matches_at : List (TypeRow ℕ) → ℕ → ℕ
@@ -11,3 +15,13 @@ matches_at ts k = length (matches_of (slice_get ts k))
 abbrev pub moved_of : Option (TypeRow ℕ) → ℕ
 moved_of None = 0
 moved_of (Some t) = length t.levels + length t.inputs
+
+-- a record of a file is taken in: its types are tried on a text, and it is of that row
+abbrev pub taken_weight : List (TypeRow ℕ) → InputFile → List ℕ → ℕ → ℕ
+taken_weight ts f text k = trial_weight f ts text + matches_at ts k
+
+-- The law: a record taken in from each file, and one of them selected and its fields filled, weigh no more than all types.
+abbrev pub TypesArePaid : Type 0
+TypesArePaid =
+    (ts : List (TypeRow ℕ)) (x y : List ℕ) (j k n : ℕ) → file_of (slice_get ts j) ≡ Primary → file_of (slice_get ts k) ≡ Secondary
+    → taken_weight ts Primary x j + taken_weight ts Secondary y k + moved_of (slice_get ts n) ≤ types_weight ts

@@ -1,10 +1,9 @@
 //! What a job keeps from cycle to cycle.
-ghost use Rattle.std.specs.Prelude.{◌≡◌, ◌<◌, ◌&&◌, ◌||◌, IfOk, None, Some, is_some, length, replicate, slice_get};
+ghost use Rattle.std.specs.Prelude.{◌≡◌, ◌<◌, IfOk, None, length, replicate, slice_get};
 ghost use Rattle.rpg_cycle_records.specs.Earlier.{file_of};
 ghost use Rattle.std.specs.Option.{ForSome};
-ghost use Rattle.rpg_cycle_records.specs.Holding.{AreFilesKept, HoldsRecord, inputs_of, kept_at, record_in, text_in};
-ghost use Rattle.rpg_cycle_records.specs.Keeping.{left_of, noted, nothing_left, seen_levels, seen_value};
-ghost use Rattle.rpg_cycle_records.specs.Matching as values;
+ghost use Rattle.rpg_cycle_records.specs.Holding.{AreFilesKept, HoldsRecord, inputs_of, kept_at, matches_file, record_in, record_of_type};
+ghost use Rattle.rpg_cycle_records.specs.Keeping.{left_of, noted, nothing_left, seen_levels};
 ghost use Rattle.rpg_cycle_records.specs.Waiting as spec;
 ghost use Rattle.rpg_cycle_records.specs.Waiting.{unread};
 
@@ -67,7 +66,7 @@ impl Kept {
     pub fn finds_match(&self, program: &Verified, row: usize) -> bool
         requires held { HoldsRecord program.now (file_of (slice_get program.now.types row)) (kept_at self.now (file_of (slice_get program.now.types row))) row }
         requires kept { AreFilesKept program.now self.now }
-        ensures { result ≡ spec.finds_match program.now (left_of self.now) (inputs_of self.now) (record { type = row; text = text_in program.now self.now (Some row) }) }
+        ensures { result ≡ spec.finds_match program.now (left_of self.now) (inputs_of self.now) (record_of_type program.now self.now row) }
     {
         match file_of(program, row) {
             InputFile::Primary => {
@@ -95,7 +94,7 @@ impl Kept {
 
 /// Whether a value is that of the record that waits in a file, or the file's last one.
 fn is_matched(value: &MatchValue, other: &KeptFile, last: &MatchValue) -> bool
-    ensures { result ≡ ((is_some other.now.waiting && values.agrees (seen_value value.now) (seen_value other.now.value)) || values.agrees (seen_value value.now) (seen_value last.now)) }
+    ensures { result ≡ matches_file value.now other.now last.now }
 {
     (other.waiting.is_some() && value.agrees(&other.value)) || value.agrees(last)
 }

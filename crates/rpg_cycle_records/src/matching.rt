@@ -75,8 +75,8 @@ pub struct LastValues {
 
 impl LastValues {
     ghost use Rattle.std.specs.Prelude.{◌<◌, IfOk, None};
-    ghost use Rattle.rpg_cycle_records.specs.Earlier.{or_before, value_from};
     ghost use Rattle.rpg_cycle_records.specs.Fitting.{IsFilledAs};
+    ghost use Rattle.rpg_cycle_records.specs.Keeping.{value_behind};
     ghost use Rattle.rpg_effect.specs.declared.input.InputFile.TheVariants as files;
 
     /// No values, with room for 256 bytes each.
@@ -95,10 +95,8 @@ impl LastValues {
     pub fn keep(&mut self, program: &Verified, row: usize, text: &[u8]) -> Result<(), AllocError>
         requires there { row < length program.now.types }
         requires filled { IsFilledAs program.now row text.now }
-        ensures primary { OnOk result (seen_value self.new.primary ≡ or_before (seen_value self.old.primary)
-            (value_from program.now files.Primary (record { type = row; text = text.now }))) }
-        ensures secondary { OnOk result (seen_value self.new.secondary ≡ or_before (seen_value self.old.secondary)
-            (value_from program.now files.Secondary (record { type = row; text = text.now }))) }
+        ensures primary { OnOk result (seen_value self.new.primary ≡ value_behind program.now files.Primary row text.now (seen_value self.old.primary)) }
+        ensures secondary { OnOk result (seen_value self.new.secondary ≡ value_behind program.now files.Secondary row text.now (seen_value self.old.secondary)) }
     {
         let fields = match_fields(program, row);
         if fields.is_empty() {

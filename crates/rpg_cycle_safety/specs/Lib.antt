@@ -3,5 +3,7 @@ pub mod Coming
 pub mod Holding
 pub mod Leading
 pub mod Measuring
+pub mod RunLaws
+pub mod StepLaws
 pub mod Visiting
 pub mod Waiting

@@ -6,7 +6,7 @@ use Rattle.rpg_cycle.proofs.Machining.{filled, nothing_filled}
 use Rattle.rpg_cycle.proofs.Spending.{fields_spend}
 use Rattle.rpg_cycle_records.specs.Holding.{text_in}
 use Rattle.rpg_cycle.specs.Ends.{GoesOn, phase_end}
-use Rattle.rpg_cycle.specs.Spending.{Spends, inputs_weight}
+use Rattle.rpg_cycle.specs.Spending.{Spends, fields_weight}
 use Rattle.rpg_cycle.specs.Stages.{job_end}
 use Rattle.rpg_effect.specs.Ends as effects
 use Rattle.rpg_effect.specs.declared.outcome.End as answers
@@ -39,7 +39,7 @@ returns-in-Some-clause-stops g c =
 pub returns-in-Some-clause-spends : goal.returns-in-Some-clause-spends
 returns-in-Some-clause-spends g c =
     memory_both c.go_on.result _
-    (subst (λ (o : Option ℕ). Spends c.args.program.now (inputs_weight c.args.program.now o) c.args.machine.now c.fill_fields-end.new.self) (sym c.in-Some.is)
+    (subst (λ (o : Option ℕ). Spends c.args.program.now (fields_weight c.args.program.now o) c.args.machine.now c.fill_fields-end.new.self) (sym c.in-Some.is)
     (fields_spend c.args.program.now c.in-Some.row c.text.result.now _ c.args.machine.now c.fill_fields-end.new.self c.requires.program c.fill_fields-end.ensures.done))
 
 pub text-requires : goal.text-requires

@@ -1,7 +1,7 @@
 use Rattle.std.proofs.Common.{◌≡◌, ◌≤◌, ◌++◌, List, ℕ, None, [], refl, sym, ap, ◌∙◌, subst}
 use Rattle.rpg_cycle.proofs.Composing.{ok_of_err}
 use Rattle.rpg_cycle.specs.Job.{AtWork, Starts, first_fields}
-use Rattle.rpg_cycle.specs.Running.{RunsRecords, RunsWhole, course_of, summary_of}
+use Rattle.rpg_cycle.specs.RunAnswers.{RunsRecords, RunsWhole, course_of, summary_of}
 use Rattle.rpg_cycle.specs.Runs.{Records, Runs, printed, stored}
 use Rattle.rpg_cycle.specs.Stages.{is_going}
 use Rattle.rpg_cycle.specs.declared.runs.Run.{Run}

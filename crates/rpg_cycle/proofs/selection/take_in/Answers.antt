@@ -1,7 +1,7 @@
-use Rattle.std.proofs.Common.{◌∙◌, ℕ, List, Option, Some, sym, ap, Bor}
-use Rattle.std.specs.Option.{option_map}
+use Rattle.std.proofs.Common.{◌∙◌, Some, sym, ap}
 use Rattle.rpg_cycle.proofs.Composing.{ok_map, stops_map}
 use Rattle.rpg_cycle.proofs.Selecting.{asked}
+use Rattle.rpg_cycle.specs.Doing.{next_text}
 use Rattle.rpg_cycle.specs.Ends.{GoesOn}
 use Rattle.rpg_cycle.specs.Stages.{job_end}
 use Rattle.rpg_cycle_records.specs.Holding.{input_of, takes_from}
@@ -13,8 +13,8 @@ returns-clause-goes g c =
     let p = c.args.program.now in
     let f = c.args.file in
     ok_map c.read.result _ _
-    (λ x h left i last at. asked p left f (option_map (λ (y : Bor (List ℕ)). y.now) c.args.next) (Some c.in-Some.text.now) i (with_input f (input_of c.read.new.kept) i) c.args.machine.now c.read.new.machine GoesOn
-    (ap (takes_from p f) at ∙ sym c.takes_in.ensures ∙ c.if-not-takes_in.false) (ap (λ (o : Option (Bor (List ℕ))). option_map (λ (y : Bor (List ℕ)). y.now) o) c.in-Some.is) (h left i last at))
+    (λ x h left i last at. asked p left f (next_text c.args.next) (Some c.in-Some.text.now) i (with_input f (input_of c.read.new.kept) i) c.args.machine.now c.read.new.machine GoesOn
+    (ap (takes_from p f) at ∙ sym c.takes_in.ensures ∙ c.if-not-takes_in.false) (ap next_text c.in-Some.is) (h left i last at))
     c.read.ensures.goes
 
 pub returns-clause-stops : goal.returns-clause-stops
@@ -22,6 +22,6 @@ returns-clause-stops g c =
     let p = c.args.program.now in
     let f = c.args.file in
     stops_map c.read.result _ _
-    (λ e h left i last at. asked p left f (option_map (λ (y : Bor (List ℕ)). y.now) c.args.next) (Some c.in-Some.text.now) i i c.args.machine.now c.read.new.machine (job_end e)
-    (ap (takes_from p f) at ∙ sym c.takes_in.ensures ∙ c.if-not-takes_in.false) (ap (λ (o : Option (Bor (List ℕ))). option_map (λ (y : Bor (List ℕ)). y.now) o) c.in-Some.is) (h left i last))
+    (λ e h left i last at. asked p left f (next_text c.args.next) (Some c.in-Some.text.now) i i c.args.machine.now c.read.new.machine (job_end e)
+    (ap (takes_from p f) at ∙ sym c.takes_in.ensures ∙ c.if-not-takes_in.false) (ap next_text c.in-Some.is) (h left i last))
     c.read.ensures.stops

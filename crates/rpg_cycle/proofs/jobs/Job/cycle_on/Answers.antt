@@ -1,7 +1,7 @@
 use Rattle.std.proofs.Common.{sym, ap, ◌∙◌, subst}
-use Rattle.std.specs.Option.{option_map}
 use Rattle.rpg_cycle.proofs.JobCycles.{job, goes_on, ends, one_more}
 use Rattle.rpg_cycle.proofs.Spending.{some_before}
+use Rattle.rpg_cycle.specs.Doing.{next_text}
 use Rattle.rpg_cycle.specs.Ends.{GoesOn}
 use Rattle.rpg_cycle.specs.Job as of
 use Rattle.rpg_cycle_records.specs.Holding.{inputs_of, text_in}
@@ -14,8 +14,8 @@ pub returns-in-Ok-clause-done : goal.returns-in-Ok-clause-done
 returns-in-Ok-clause-done g c =
     let i = c.self.inside in
     let p = i.program.now in
-    let x = option_map (λ t. t.now) c.args.primary in
-    let y = option_map (λ t. t.now) c.args.secondary in
+    let x = next_text c.args.primary in
+    let y = next_text c.args.secondary in
     let going = ap (λ (r : of.AtWork). is_going r.stage) c.self.view_is ∙ c.requires in
     let behind = c.self.invariant.behind going in
     let t = c.in-Ok.selected in
@@ -36,8 +36,8 @@ pub returns-in_ok-finish-in-Err-Ends-clause-done : goal.returns-in_ok-finish-in-
 returns-in_ok-finish-in-Err-Ends-clause-done g c =
     let i = c.self.inside in
     let p = i.program.now in
-    let x = option_map (λ t. t.now) c.args.primary in
-    let y = option_map (λ t. t.now) c.args.secondary in
+    let x = next_text c.args.primary in
+    let y = next_text c.args.secondary in
     let e = c.in-Err-Ends.end in
     let d = rw c.in-Err-Ends.field-0-is at c.in-Err-Ends.ensures.stops in
     let going = ap (λ (r : of.AtWork). is_going r.stage) c.self.view_is ∙ c.requires in
@@ -57,8 +57,8 @@ pub invariant_of-self : goal.invariant_of-self
 invariant_of-self g c =
     let i = c.self.inside in
     let p = i.program.now in
-    let x = option_map (λ t. t.now) c.args.primary in
-    let y = option_map (λ t. t.now) c.args.secondary in
+    let x = next_text c.args.primary in
+    let y = next_text c.args.secondary in
     let going = ap (λ (r : of.AtWork). is_going r.stage) c.self.view_is ∙ c.requires in
     let behind = c.self.invariant.behind going in
     let t = c.in-Ok.selected in

@@ -1,4 +1,4 @@
--- What the code's runs are.
+-- What `run_records` answers.
 use Rattle.std.specs.Prelude.{◌≡◌, ℕ, ℤ, List, [], ◌++◌, None, Some, map}
 use Rattle.std.specs.Global.{Vec}
 use Rattle.rpg_cycle_records.specs.Waiting.{unread}
