@@ -4,7 +4,7 @@
 use crate::answer::Answer;
 use crate::told::Listener;
 use rpg_cli_files::{FileFault, identity_at, input_file};
-use rpg_cli_halts::{HaltedCycle, HaltedSource, halt_message};
+use rpg_cli_halts::{HaltedCycle, HaltedSource, InputNames, halt_message};
 use rpg_cli_refusals::{bytes_message, put_shown, rule_message};
 use rpg_cli_words::{FileWord, Request, RunWords};
 use rpg_engine::{JobEnd, ObjectFault, Report, RunFault, Verified, accept, decode_object};
@@ -167,7 +167,11 @@ fn halted_message<R: Files + AllocGlobal>(
         _ => None,
     };
     let record = line.as_ref().map(|line| line.as_bytes());
-    halt_message(rt.alloc(), words.input, program, halted, record, source)
+    let names = InputNames {
+        primary: words.input,
+        secondary: words.secondary,
+    };
+    halt_message(rt.alloc(), names, program, halted, record, source)
 }
 
 /// The halt of a report, if its job halted.

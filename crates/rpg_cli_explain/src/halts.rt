@@ -56,7 +56,7 @@ const HALT_8: Page = Page {
     given: ALONE,
     breaks: "- a record with match fields whose value is lower than that of the record before it in its\n  file, as B1 and then A1 by a match field of columns 1 to 2",
     keeps: "- both files sorted by their match fields, equal values side by side",
-    advice: "sort the file by its match fields, M9 before M8 and so on, in the order that\ndocs/format/MACHINE.md has for characters",
+    advice: "sort the file by its match fields, M9 before M8 and so on, in the order that\ndocs/format/MACHINE.md has for characters. In its file the record stands behind the one whose\ndetail lines were put out last",
 };
 
 /// The page of a code.

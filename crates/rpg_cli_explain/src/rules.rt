@@ -61,8 +61,8 @@ const V8: Page = Page {
 
 const V9: Page = Page {
     given: ROWS,
-    breaks: "- an alternative that asks MR",
-    keeps: "- an alternative that asks H9",
+    breaks: "- in a program of version 1, an alternative that asks MR",
+    keeps: "- an alternative that asks H9; in version 2, one that asks MR",
     advice: ANEW,
 };
 
@@ -103,8 +103,8 @@ const V14: Page = Page {
 
 const V15: Page = Page {
     given: ROWS,
-    breaks: "- a field that is put out where MR is on",
-    keeps: "- a field that is put out where H9 is on",
+    breaks: "- in a program of version 1, a field that is put out where MR is on",
+    keeps: "- a field that is put out where H9 is on; in version 2, one where MR is on",
     advice: ANEW,
 };
 

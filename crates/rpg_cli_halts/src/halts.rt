@@ -45,9 +45,33 @@ impl HaltedCycle {
     }
 }
 
+/// The names of the files that a job reads, by which it is told which of them a record may be of.
+#[derive(Clone, Copy)]
+pub struct InputNames<'a> {
+    pub primary: &'a str,
+    /// That of the secondary file, if the words tell one. A program without such a file doesn't read it.
+    pub secondary: Option<&'a str>,
+}
+
 /// Whether a program has a secondary file.
 fn has_two_files(program: &Verified) -> bool {
     program.program().rows().secondary_length > 0
+}
+
+/// The names of all input files of the program.
+fn put_names(
+    out: &mut String,
+    program: &Verified,
+    names: InputNames<'_>,
+) -> Result<(), AllocError> {
+    put_shown(out, names.primary)?;
+    match names.secondary {
+        Some(secondary) if has_two_files(program) => {
+            out.push_str(" and ")?;
+            put_shown(out, secondary)
+        }
+        _ => Ok(()),
+    }
 }
 
 /// Foreign characters.
@@ -146,11 +170,11 @@ fn put_before(alloc: Global, out: &mut String, cycles: u64) -> Result<(), AllocE
     out.push_str(text.as_str())
 }
 
-/// What is told of a halt of a job by this program over the records of the file that `path` names. The record that the halt is about makes it
-/// known which of its columns were no number, and the program's source which card it was.
+/// What is told of a halt of a job by this program over the records of these files. The record that the halt is about makes it known which of
+/// its columns were no number, and the program's source which card it was.
 pub fn halt_message(
     alloc: Global,
-    path: &str,
+    names: InputNames<'_>,
     program: &Verified,
     halted: HaltedCycle,
     record: Option<&[u8]>,
@@ -163,7 +187,7 @@ pub fn halt_message(
         }
         _ => None,
     };
-    put_shown(&mut out, path)?;
+    put_names(&mut out, program, names)?;
     if let Some(record) = halted.record(program) {
         out.push_str(format!(in alloc; ":{record}")?.as_str())?;
     }
@@ -180,7 +204,7 @@ pub fn halt_message(
         let bad = found.map(|(bad, _)| bad);
         put_source(alloc, &mut out, program, halted, bad, source)?;
     }
-    put_shown(&mut out, path)?;
+    put_names(&mut out, program, names)?;
     out.push_str(": ")?;
     put_cycle(alloc, &mut out, program, halted)?;
     put_before(alloc, &mut out, halted.cycles)?;

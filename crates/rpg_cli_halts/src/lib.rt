@@ -6,5 +6,5 @@ mod halts;
 mod lines;
 mod source;
 
-pub use halts::{HaltedCycle, halt_message};
+pub use halts::{HaltedCycle, InputNames, halt_message};
 pub use source::HaltedSource;
