@@ -1,23 +1,19 @@
 -- The instructions of a source without a fault break none of the rules on operands, results, indicators and tables.
-use Rattle.std.proofs.Common.{◌≡◌, ℕ, Bool, true, false, cond, ◌||◌, List, [], ◌∷◌, ◌++◌, Option, None, Some, refl, sym, ap, ◌∙◌, subst}
-use Rattle.std.proofs.lemmas.Bool.{or_left, or_parts, or_right}
-use Rattle.std.proofs.lemmas.List.Folds.{list_any-append}
+use Rattle.std.proofs.Common.{◌≡◌, ℕ, Bool, true, false, cond, List, [], ◌∷◌, ◌++◌, Option, None, Some, refl, sym, ap, ◌∙◌, subst}
+use Rattle.std.proofs.lemmas.Bool.{or_parts}
 use Rattle.std.specs.List.{list_any}
 use Rattle.std.specs.Option.{ForSome, option_and_then, option_map_or, option_to_list}
 use Rattle.rpg_cards.specs.Calculations.{CalculationGroup, alone, calculations, card_ending, goes_on, last_card, open_calculation_group}
 use Rattle.rpg_cards.specs.Deeds.{Calculation, deed_of}
-use Rattle.rpg_cards.specs.Keys.{Fixed, Key, Named}
+use Rattle.rpg_cards.specs.Keys.{Key, Named}
 use Rattle.rpg_cards.specs.Plain.{Each}
 use Rattle.rpg_cards.specs.Sections.{is_detail, is_subroutine, is_total, of_control}
-use Rattle.rpg_cards.proofs.InsertLemmas.{among}
-use Rattle.rpg_cards.proofs.ItemLemmas.{constants_in-append}
 use Rattle.rpg_cards.specs.Cards.{calculation_on, output_field_on}
-use Rattle.rpg_cards.specs.Constants.{constant_form, constant_of, constants_in, constants_on, factor_constant, is_same, text_constant}
+use Rattle.rpg_cards.specs.Constants.{constant_of, constants_on, factor_constant, is_same, text_constant}
 use Rattle.rpg_cards.specs.Names.{form_in, form_of_name}
-use Rattle.rpg_cards.specs.SameConstants.{is_same_equiv}
 use Rattle.rpg_cards.specs.declared.constants.Constant.{Constant}
 use Rattle.rpg_cards.specs.declared.spec_card.SpecCard.{SpecCard}
-use Rattle.rpg_compile_program.proofs.Each.{each_append}
+use Rattle.rpg_compile_program.proofs.Each.{each_append, each_at}
 use Rattle.rpg_compile_program.specs.Levels.{subroutine_level}
 use Rattle.rpg_effect.specs.Forms.{has_field}
 use Rattle.rpg_effect.specs.declared.form.FieldForm.{FieldForm}
@@ -53,6 +49,8 @@ use Rattle.rpg_compile_program.proofs.RightRows.{IsRightDeed}
 use Rattle.rpg_compile_program.specs.Program.{key_numbers, program_of, sections, version_for}
 use Rattle.rpg_compile_program.specs.Ranges.{AreCards, IsCalculation, IsCard, IsControl, IsInRange}
 use Rattle.rpg_compile_program.specs.Table.{key_form, table_of}
+use Rattle.rpg_compile_program.proofs.Lists.{none_first}
+use Rattle.rpg_compile_program.proofs.Names.{behind, constant_there, in_front, stands_in}
 
 -- ---- what stands on a calculation card
 
@@ -73,32 +71,6 @@ indicators_on cards (spec.Input i) k is right = cc
 indicators_on cards (spec.Calculation j) k is right = let same : j ≡ k = cc in subst (λ x. bad_on_calculation cards x ≡ false) same right
 indicators_on cards (spec.Output o) k is right = cc
 indicators_on cards (spec.Data d) k is right = cc
-
-each_at : {X : Type 0} (P : X → Type 0) (before : List X) (x : X) (after : List X) → Each P (before ++ x ∷ after) → P x
-each_at P [] x after h = h.0
-each_at P (y ∷ ys) x after h = each_at P ys x after h.1
-
-none_in_front : {X : Type 0} (test : X → Bool) (xs ys : List X) → list_any test (xs ++ ys) ≡ false → list_any test xs ≡ false
-none_in_front test xs ys e = (or_parts _ _ (sym (list_any-append test xs ys) ∙ e)).0
-
--- ---- the constants of cards have forms
-
-stands_in : (x : Constant) (o : Option Constant) → o ≡ Some x → list_any (is_same x) (option_to_list o) ≡ true
-stands_in x o e = ap (λ (p : Option Constant). list_any (is_same x) (option_to_list p)) e ∙ ap (λ b. b || false) ((is_same_equiv).refl x)
-
-in_front : (x : Constant) (xs ys : List Constant) → list_any (is_same x) xs ≡ true → list_any (is_same x) (xs ++ ys) ≡ true
-in_front x xs ys e = list_any-append (is_same x) xs ys ∙ or_left _ _ e
-
-behind : (x : Constant) (xs ys : List Constant) → list_any (is_same x) ys ≡ true → list_any (is_same x) (xs ++ ys) ≡ true
-behind x xs ys e = list_any-append (is_same x) xs ys ∙ or_right (list_any (is_same x) xs) _ e
-
-pub constant_there : (cards before : List SpecCard) (c : SpecCard) (after : List SpecCard) (x : Constant) → cards ≡ before ++ c ∷ after → list_any (is_same x) (constants_on c.spec) ≡ true
-    → key_form (table_of cards) (Fixed x) ≡ Some (constant_form x)
-constant_there cards before c after x split e =
-    let here : list_any (is_same x) (constants_in cards) ≡ true =
-    ap (λ cs. list_any (is_same x) (constants_in cs)) split ∙ ap (list_any (is_same x)) (constants_in-append before (c ∷ after))
-    ∙ behind x (constants_in before) (constants_in (c ∷ after)) (in_front x (constants_on c.spec) (constants_in after) e) in
-    ap (λ b. cond b (Some (constant_form x)) None) (among is_same is_same_equiv x [] (constants_in cards) ∙ here)
 
 module _ (cards : List SpecCard) (allowance : ℕ) where
   -- what a source keeps whose calculations have no fault
@@ -171,7 +143,7 @@ module _ (cards : List SpecCard) (allowance : ℕ) where
         none_of_operands : (test : Operand → Bool) → list_any test (operands_listed (operands_ending c after) ++ option_to_list (output_operand_on c)) ≡ false → list_any test (operands_listed (operands_of k)) ≡ false
         none_of_operands test e =
             subst (λ (o : Option CalculationSpec). list_any test (operands_listed (option_map_or operands_of o no_operands)) ≡ false) ending_is
-            (none_in_front test (operands_listed (operands_ending c after)) (option_to_list (output_operand_on c)) e)
+            (none_first test (operands_listed (operands_ending c after)) (option_to_list (output_operand_on c)) e)
 
         card_fit : IsCardFit cards forms h.named h.good k
         card_fit = record {

@@ -1,6 +1,6 @@
 -- Each definition of a source without a fault has a form.
-use Rattle.std.proofs.Common.{◌≡◌, ℕ, ◌+◌, ◌-◌, Bool, true, false, not, cond, ◌||◌, List, [], ◌∷◌, ◌++◌, map, Option, None, Some, refl}
-use Rattle.std.proofs.lemmas.Bool.{le-leb, ltb-false}
+use Rattle.std.proofs.Common.{◌≡◌, ℕ, ◌+◌, ◌-◌, Bool, true, false, not, cond, ◌||◌, List, [], ◌∷◌, ◌++◌, map, Option, None, Some}
+use Rattle.std.proofs.lemmas.Bool.{le-leb, ltb-false, not-false}
 use Rattle.std.specs.List.{flat_map, list_any}
 use Rattle.std.specs.Option.{option_and_then, option_map, option_map_or, option_to_list}
 use Rattle.std.specs.Prelude.{◌&&◌, is_none, nat_le, nat_lt}
@@ -51,14 +51,10 @@ when : (b : Bool) (o : Option FieldForm) → b ≡ true → IsForm o → IsForm 
 when true o e h = h
 when false o e h = cc
 
-not_false : (b : Bool) → not b ≡ false → b ≡ true
-not_false true e = refl
-not_false false e = cc
-
 tables_there : (e : ExtensionSpec) (ts : List TableSpec) → bad_entries_of e ≡ false → list_any bad_size_of_table ts ≡ false → Each HasForm (map (definition_in e) ts)
 tables_there e [] few size = tt
 tables_there e (t ∷ ts) few size = (
-  when (is_between 1 9999 e.entries) _ (not_false _ few) (sized_there (form_with (table_class t.name) t.ascending e.entries) t.length t.decimals (or_first (bad_size_of_table t) _ size)),
+  when (is_between 1 9999 e.entries) _ (not-false _ few) (sized_there (form_with (table_class t.name) t.ascending e.entries) t.length t.decimals (or_first (bad_size_of_table t) _ size)),
   tables_there e ts few (or_second (bad_size_of_table t) _ size),
 )
 

@@ -1,7 +1,8 @@
 -- What holds of each element of a list, as a chain of pairs.
-use Rattle.std.proofs.Common.{◌≡◌, zero, suc, Bool, true, false, List, [], ◌∷◌, ◌++◌, map, refl}
+use Rattle.std.proofs.Common.{◌≡◌, zero, suc, Bool, true, false, List, [], ◌∷◌, ◌++◌, map, Option, None, Some, refl}
 use Rattle.std.proofs.lemmas.Bool.{and_from, or_from}
-use Rattle.std.specs.List.{list_all, list_any}
+use Rattle.std.specs.List.{filter_map, list_all, list_any}
+use Rattle.std.specs.Option.{option_to_list}
 use Rattle.rpg_verify_rules.proofs.Kept.{NoneTrue}
 use Rattle.rpg_cards.specs.Plain.{Each}
 
@@ -39,3 +40,22 @@ pub none_in_both : (xs ys : List Bool) → NoneTrue xs → NoneTrue ys → NoneT
 none_in_both [] ys h g k e = g k e
 none_in_both (x ∷ xs) ys h g zero e = h zero e
 none_in_both (x ∷ xs) ys h g (suc k) e = none_in_both xs ys (λ k. h (suc k)) g k e
+
+pub each_at : {X : Type 0} (P : X → Type 0) (before : List X) (x : X) (after : List X) → Each P (before ++ x ∷ after) → P x
+each_at P [] x after h = h.0
+each_at P (y ∷ ys) x after h = each_at P ys x after h.1
+
+pub three_of : {X Y : Type 0} (P : X → Type 0) (f : Y → X) (a b c : Option Y) → Each P (map f (option_to_list a)) → Each P (map f (option_to_list b)) → Each P (map f (option_to_list c))
+    → Each P (map f (filter_map (λ o. o) (a ∷ b ∷ c ∷ [])))
+three_of P f None None None p q r = tt
+three_of P f None None (Some z) p q r = r
+three_of P f None (Some y) None p q r = q
+three_of P f None (Some y) (Some z) p q r = (q.0, r)
+three_of P f (Some x) None None p q r = p
+three_of P f (Some x) None (Some z) p q r = (p.0, r)
+three_of P f (Some x) (Some y) None p q r = (p.0, q)
+three_of P f (Some x) (Some y) (Some z) p q r = (p.0, (q.0, r))
+
+pub each_front : {X : Type 0} (P : X → Type 0) (xs ys : List X) → Each P (xs ++ ys) → Each P xs
+each_front P [] ys h = tt
+each_front P (x ∷ xs) ys h = (h.0, each_front P xs ys h.1)

@@ -69,7 +69,7 @@ last_of_three true false c x y e = cc
 last_of_three false b c x y e = cc
 
 -- a field that is there has a form
-some_form : (o : Option FieldForm) → has_field o ≡ true → (d : FieldForm) × (o ≡ Some d)
+pub some_form : (o : Option FieldForm) → has_field o ≡ true → (d : FieldForm) × (o ≡ Some d)
 some_form None h = cc
 some_form (Some d) h = (d, refl)
 

@@ -1,8 +1,8 @@
 -- Levels of subroutines: 1 to the number of subroutines, and rising with each call where no call comes back.
 use Rattle.std.proofs.Common.{◌≡◌, ℕ, zero, suc, ◌+◌, ◌-◌, ◌≤◌, ◌<◌, Bool, true, false, cond, ◌||◌, List, [], ◌∷◌, ◌++◌, length, Option, None, Some, take, length-take, refl, sym, ap, ◌∙◌, arith, ◌⊎◌, inl, inr}
 use Rattle.std.specs.Prelude.{◌==◌, max, nat_eq, nat_lt}
-use Rattle.std.proofs.lemmas.Bool.{eq-eqb, eqb-true, ltb-true, ltb-false, or_parts}
-use Rattle.std.specs.List.{AllByRecursion, IsDistinct, list_any}
+use Rattle.std.proofs.lemmas.Bool.{eq-eqb, eqb-true, ltb-true, ltb-false}
+use Rattle.std.specs.List.{list_any}
 use Rattle.std.proofs.lemmas.Map.Steps.{length-le_from_distinct_below}
 use Rattle.rpg_compile_program.proofs.Each.{each_map}
 use Rattle.rpg_compile_program.proofs.Whole.{callee_there}
@@ -12,6 +12,7 @@ use Rattle.rpg_cards.specs.Plain.{Each, IsCallAmong, IsChainAmong, IsFound, None
 use Rattle.rpg_cards.specs.Sections.{Subroutine, callee}
 use Rattle.rpg_compile_program.specs.Levels.{greatest, level_within, subroutine_level}
 use Rattle.rpg_compile_program.specs.Sound.{CallsUp}
+use Rattle.rpg_faults_flow.proofs.Reaching.{distinct_chain, take_chain}
 
 -- ---- bounds
 
@@ -106,15 +107,6 @@ callee_above ps n a b h short =
 abbrev pub CallersBelow : ℕ → List Pair → Type 0
 CallersBelow n ps = (a b : ℕ) → IsCallAmong a b ps → a < n
 
-none_equal : (s : ℕ) (xs : List ℕ) → list_any (nat_eq s) xs ≡ false → AllByRecursion (λ y. nat_eq s y ≡ false) xs
-none_equal s [] e = tt
-none_equal s (x ∷ xs) e = let h = or_parts (nat_eq s x) (list_any (nat_eq s) xs) e in (h.0, none_equal s xs h.1)
-
-pub distinct_chain : (ps : List Pair) (most : ℕ) → NoneComesBack most ps → (s : ℕ) (chain : List ℕ) → length chain ≤ most → IsChainAmong ps s chain → IsDistinct nat_eq (s ∷ chain)
-unfolding IsDistinct
-distinct_chain ps most none s [] few h = (tt, tt)
-distinct_chain ps most none s (a ∷ chain) few h = (none_equal s (a ∷ chain) (none s (a ∷ chain) few h), distinct_chain ps most none a chain (omega arith) h.1)
-
 below_chain : (ps : List Pair) (n : ℕ) → CallersBelow n ps → (s : ℕ) (chain : List ℕ) → s < n → IsChainAmong ps s chain → (q : ℕ) → list_any (nat_eq q) (s ∷ chain) ≡ true → q < n
 below_chain ps n callers s chain low h q e = by_first (nat_eq q s) refl e
   where
@@ -129,11 +121,6 @@ below_chain ps n callers s chain low h q e = by_first (nat_eq q s) refl e
     by_first : (b : Bool) → nat_eq q s ≡ b → (b || list_any (nat_eq q) chain) ≡ true → q < n
     by_first true f e = let same = eqb-true q s f in omega arith
     by_first false f e = rest s chain h e
-
-pub take_chain : (ps : List Pair) (n s : ℕ) (chain : List ℕ) → IsChainAmong ps s chain → IsChainAmong ps s (take n chain)
-take_chain ps zero s chain h = tt
-take_chain ps (suc n) s [] h = tt
-take_chain ps (suc n) s (a ∷ chain) h = (h.0, take_chain ps n a chain h.1)
 
 -- so chains have fewer calls than there are subroutines
 few_short : (ps : List Pair) (n : ℕ) → NoneComesBack n ps → CallersBelow n ps → (s : ℕ) (chain : List ℕ) → s < n → length chain ≤ n → IsChainAmong ps s chain → length chain < n

@@ -1,8 +1,7 @@
 -- The record types of a source without a fault break no rule.
-use Rattle.std.proofs.Common.{◌≡◌, ℕ, ◌+◌, ◌-◌, ◌≤◌, Bool, true, false, not, cond, ◌||◌, ◌&&◌, List, [], ◌∷◌, ◌++◌, map, Option, None, Some, refl, sym, ap, ◌∙◌, subst, arith}
-use Rattle.std.proofs.lemmas.Bool.{and_from, eqb-false, le-leb, leb-false, ltb-false}
+use Rattle.std.proofs.Common.{◌≡◌, ℕ, ◌+◌, ◌-◌, ◌≤◌, Bool, true, false, not, cond, ◌||◌, ◌&&◌, List, ◌∷◌, ◌++◌, map, Option, None, Some, refl, sym, ap, ◌∙◌, subst, arith}
+use Rattle.std.proofs.lemmas.Bool.{and_from, eqb-false, le-leb, ltb-false}
 use Rattle.std.proofs.lemmas.Option.{same_Some}
-use Rattle.std.specs.List.{filter_map}
 use Rattle.std.specs.Option.{ForSome, option_map_or, option_or, option_to_list}
 use Rattle.std.specs.Prelude.{is_none, is_some, nat_le, nat_lt, ◌==◌}
 use Rattle.rpg_cards.specs.Deeds.{shows_of}
@@ -21,10 +20,10 @@ use Rattle.rpg_effect.specs.declared.form.Kind.{Kind}
 use Rattle.rpg_effect.specs.declared.form.Kind.TheVariants as kind
 use Rattle.rpg_effect.specs.declared.input.RecordCode as row_code
 use Rattle.rpg_faults_limits.specs.Files.{bad_file, lacks_file}
-use Rattle.rpg_faults_limits.specs.Indicators.{any_of, bad_on, bad_on_field, bad_on_input, cannot_be_set, cannot_mark_type}
+use Rattle.rpg_faults_limits.specs.Indicators.{bad_on, bad_on_field, bad_on_input, cannot_mark_type}
 use Rattle.rpg_faults.specs.Places.{bad_codes, is_code_outside, is_past, outside_on_input, outside_record, own_file, joins_badly}
 use Rattle.rpg_object_program.specs.Kept.{IsIndicator}
-use Rattle.rpg_verify_rules.specs.Indicators.{are_settable, if_any, is_of_type, is_settable, is_within}
+use Rattle.rpg_verify_rules.specs.Indicators.{if_any, is_of_type, is_within}
 use Rattle.rpg_verify_rules.specs.TypeRules.{is_code_in}
 use Rattle.rpg_sheet_specs.specs.declared.file.FileSpec.{FileSpec}
 use Rattle.rpg_sheet_specs.specs.declared.indicator.Three.{Three}
@@ -48,6 +47,7 @@ use Rattle.rpg_compile_program.specs.Ranges.{AreCards, InThree, IsCard, IsCode, 
 use Rattle.rpg_compile_program.specs.Rules.{KeepsCardRules}
 use Rattle.rpg_compile_program.specs.Table.{key_form, table_of}
 use Rattle.rpg_compile_program.specs.Types.{codes_of, record_code_of}
+use Rattle.rpg_compile_program.proofs.Each.{three_of, each_at}
 
 -- ---- what stands on an input card
 
@@ -80,10 +80,6 @@ heading_on (spec.Input (input.Type u)) t name e =
     let file : u.file ≡ name = cc in
     record { on = ap (λ x. spec.Input (input.Type x)) same; file = sym file ∙ ap (λ (x : RecordType). x.file) same }
 
-pub each_at : {X : Type 0} (P : X → Type 0) (before : List X) (x : X) (after : List X) → Each P (before ++ x ∷ after) → P x
-each_at P [] x after h = h.0
-each_at P (y ∷ ys) x after h = each_at P ys x after h.1
-
 -- ---- record codes
 
 abbrev IsCodeIn : ℕ → row_code.RecordCode → Type 0
@@ -99,17 +95,6 @@ code_in len file f is long (Some c) e =
     let high : c.position ≤ len = subst (λ n. c.position ≤ n) long within in
     (and_from _ _ (le-leb 1 c.position low) (le-leb c.position len high), tt)
 
-pub three_of : {X Y : Type 0} (P : X → Type 0) (f : Y → X) (a b c : Option Y) → Each P (map f (option_to_list a)) → Each P (map f (option_to_list b)) → Each P (map f (option_to_list c))
-    → Each P (map f (filter_map (λ o. o) (a ∷ b ∷ c ∷ [])))
-three_of P f None None None p q r = tt
-three_of P f None None (Some z) p q r = r
-three_of P f None (Some y) None p q r = q
-three_of P f None (Some y) (Some z) p q r = (q.0, r)
-three_of P f (Some x) None None p q r = p
-three_of P f (Some x) None (Some z) p q r = (p.0, r)
-three_of P f (Some x) (Some y) None p q r = (p.0, q)
-three_of P f (Some x) (Some y) (Some z) p q r = (p.0, (q.0, r))
-
 pub codes_in : (len : ℕ) (file : Option FileSpec) (f : FileSpec) → file ≡ Some f → f.record_length ≡ len → (t : Three (Option RecordCode)) → bad_codes file t ≡ false → Each (IsCodeIn len) (codes_of t)
 codes_in len file f is long t e =
     let rest = or_second (is_code_outside file t.first) (is_code_outside file t.second || is_code_outside file t.third) e in
@@ -117,42 +102,6 @@ codes_in len file f is long t e =
     (code_in len file f is long t.second (or_first (is_code_outside file t.second) (is_code_outside file t.third) rest)) (code_in len file f is long t.third (or_second (is_code_outside file t.second) (is_code_outside file t.third) rest))
 
 -- ---- indicators
-
--- 1 to 129, and none of those that can't be set
-settable_one : (o : Option ℕ) → option_map_or cannot_be_set o false ≡ false → ForSome o IsIndicator → if_any is_settable o ≡ true
-settable_one None e range = refl
-settable_one (Some n) e range =
-    let low = (range n refl).lowest in
-    let high = (range n refl).highest in
-    let two = or_first (n == 100 || n == 111) (n == 129) e in
-    let l0 = eqb-false n 100 (or_first (n == 100) (n == 111) two) in
-    let p1 = eqb-false n 111 (or_second (n == 100) (n == 111) two) in
-    let mr = eqb-false n 129 (or_second (n == 100 || n == 111) (n == 129) e) in
-    by (nat_le n 99) refl (nat_le n 110) refl low high l0 p1 mr
-  where
-    yes : (a b : Bool) → b ≡ true → (a || b) ≡ true
-    yes true b e = refl
-    yes false b e = e
-
-    first_yes : (a b : Bool) → a ≡ true → (a || b) ≡ true
-    first_yes true b e = refl
-    first_yes false b e = cc
-
-    by : (a : Bool) → nat_le n 99 ≡ a → (b : Bool) → nat_le n 110 ≡ b → 1 ≤ n → n ≤ 129 → (n ≡ 100 → ⊥) → (n ≡ 111 → ⊥) → (n ≡ 129 → ⊥) → is_settable n ≡ true
-    by true p b q low high x y z = first_yes (is_within 1 99 n) _ (and_from _ _ (le-leb 1 n low) p)
-    by false p true q low high x y z =
-        let above = leb-false n 99 p in
-        yes (is_within 1 99 n) _ (first_yes (is_within 101 110 n) _ (and_from _ _ (le-leb 101 n (omega (arith, x))) q))
-    by false p false q low high x y z =
-        let above = leb-false n 110 q in
-        yes (is_within 1 99 n) _ (yes (is_within 101 110 n) _ (and_from _ _ (le-leb 112 n (omega (arith, y))) (le-leb n 128 (omega (arith, z)))))
-
-pub settable : (t : Three (Option ℕ)) → any_of cannot_be_set t ≡ false → InThree IsIndicator t → are_settable (shows_of t) ≡ true
-settable t e range =
-    let two = or_first (option_map_or cannot_be_set t.first false || option_map_or cannot_be_set t.second false) (option_map_or cannot_be_set t.third false) e in
-    and_from _ _ (settable_one t.first (or_first (option_map_or cannot_be_set t.first false) (option_map_or cannot_be_set t.second false) two) range.first)
-    (and_from _ _ (settable_one t.second (or_second (option_map_or cannot_be_set t.first false) (option_map_or cannot_be_set t.second false) two) range.second)
-    (settable_one t.third (or_second (option_map_or cannot_be_set t.first false || option_map_or cannot_be_set t.second false) (option_map_or cannot_be_set t.third false) e) range.third))
 
 -- a type's
 pub marks_type : (o : Option ℕ) → option_map_or cannot_mark_type o false ≡ false → ForSome o IsIndicator → if_any is_of_type o ≡ true

@@ -1,6 +1,6 @@
 -- The instructions of calculations with nothing wrong break none of the rules on operands, results, indicators and tables.
 use Rattle.std.proofs.Common.{◌≡◌, ℕ, suc, ◌+◌, ◌≤◌, Bool, true, false, not, cond, ◌||◌, List, [], ◌∷◌, ◌++◌, length, map, Option, None, Some, refl, sym, ap, ◌∙◌, subst, arith, nat_cmp}
-use Rattle.std.proofs.lemmas.Bool.{and_from, le-leb, not_from_false, not_from_true}
+use Rattle.std.proofs.lemmas.Bool.{and_from, not_from_false, not_from_true}
 use Rattle.std.specs.Option.{ForSome}
 use Rattle.std.specs.Prelude.{is_some}
 use Rattle.rpg_cards.specs.Deeds.{Acts, Begins, Calculation, Deed, Ends, Executes, GoesTo, Marks, Nothing, PutsOut, tests}

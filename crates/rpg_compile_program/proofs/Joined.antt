@@ -1,6 +1,6 @@
 -- Control levels: what F16 says of the joined lengths of record types, and what the verifier's rule asks of them.
 use Rattle.std.proofs.Common.{◌≡◌, ℕ, ◌+◌, ◌-◌, ◌≤◌, Bool, true, false, not, cond, ◌||◌, ◌&&◌, List, [], ◌∷◌, ◌++◌, map, filter, Option, None, Some, refl, sym, ap, ◌∙◌, arith}
-use Rattle.std.proofs.lemmas.Bool.{and_from, eq-eqb, eqb-true, le-leb, ne_eqb}
+use Rattle.std.proofs.lemmas.Bool.{and_from, eq-eqb, eqb-true, le-leb, ne_eqb, not-false}
 use Rattle.std.proofs.lemmas.List.Sums.{sum_by-cons}
 use Rattle.std.specs.List.{cons_option, filter_map, list_any}
 use Rattle.std.specs.Option.{option_map, option_map_or, option_or}
@@ -126,10 +126,6 @@ first_behind level (g ∷ gs) behind = by (Joined level g == 0) refl (first_behi
     by true e r = r
     by false e r = sym (ap (λ b. cond b (first_joined level behind) (Joined level g)) e)
 
-not_false : (b : Bool) → not b ≡ false → b ≡ true
-not_false true e = refl
-not_false false e = cc
-
 -- as long as in the first type with the level, and 256 at most
 pub measured : (level : ℕ) (front : List (Group RecordType InputSpec)) (g : Group RecordType InputSpec) (behind : List (Group RecordType InputSpec)) → Each InGroup front → InGroup g → Joined level g ≤ 256
     → lengths_differ (first_length level front) (level_length level g.followers) ≡ false → is_measured (first_joined level (front ++ g ∷ behind)) (Joined level g) ≡ true
@@ -141,7 +137,7 @@ measured level front g behind h good few same = by (Joined level g == 0) refl
     own : (b : Bool) → (first_joined level front == 0) ≡ b → (Joined level g == 0) ≡ false → (Joined level g == first_joined level (front ++ g ∷ behind)) ≡ true
     own true f e = eq-eqb (Joined level g) _ (sym (first_behind level front (g ∷ behind) ∙ ap (λ b. cond b (first_joined level (g ∷ behind)) (first_joined level front)) f ∙ ap (λ b. cond b (first_joined level behind) (Joined level g)) e))
     own false f e =
-        let equal : (first_joined level front == Joined level g) ≡ true = not_false _ (sym (λ i. lengths_differ (cond (f i) None (Some (first_joined level front))) (cond (e i) None (Some (Joined level g)))) ∙ alike) in
+        let equal : (first_joined level front == Joined level g) ≡ true = not-false _ (sym (λ i. lengths_differ (cond (f i) None (Some (first_joined level front))) (cond (e i) None (Some (Joined level g)))) ∙ alike) in
         eq-eqb (Joined level g) _ (sym (eqb-true (first_joined level front) (Joined level g) equal) ∙ sym (first_behind level front (g ∷ behind) ∙ ap (λ b. cond b (first_joined level (g ∷ behind)) (first_joined level front)) f))
 
     by : (b : Bool) → (Joined level g == 0) ≡ b → (b || (nat_le (Joined level g) 256 && (Joined level g == first_joined level (front ++ g ∷ behind)))) ≡ true
@@ -156,10 +152,6 @@ none_each test (n ∷ ns) e = (or_first (test n) (list_any test ns) e, none_each
 
 pub each_level : (test : ℕ → Bool) → list_any test levels ≡ false → Each (λ n. test n ≡ false) levels
 each_level test e = none_each test levels e
-
-pub each_map : {X : Type 0} (P Q : X → Type 0) (xs : List X) → ((x : X) → P x → Q x) → Each P xs → Each Q xs
-each_map P Q [] f h = tt
-each_map P Q (x ∷ xs) f h = (f x h.0, each_map P Q xs f h.1)
 
 pub all_nine : (ts : List (TypeRow ℕ)) (cs : List ControlField) → Each (λ level. is_measured (measure level ts) (row.joined_width level cs) ≡ true) levels → all_measured 1 (measures ts) cs ≡ true
 unfolding levels

@@ -5,6 +5,8 @@ use Rattle.std.specs.Cmp.Lexicographic.{pointwise}
 use Rattle.std.specs.List.{list_any}
 use Rattle.std.specs.Option.{option_or, option_to_list}
 use Rattle.std.specs.Prelude.{is_some, nat_eq}
+use Rattle.std.proofs.lemmas.Bool.{or_left, or_right}
+use Rattle.std.proofs.lemmas.List.Folds.{list_any-append}
 use Rattle.rpg_compile_program.proofs.Definitions.{AreDefined, HasForm, IsForm}
 use Rattle.rpg_cards.specs.Keys.{Fixed, Named}
 use Rattle.rpg_cards.specs.Plain.{Each}
@@ -95,34 +97,21 @@ module _ (cards : List SpecCard) (defined : AreDefined cards) where
   pub name_there : (name : List ℕ) → is_missing (form_of_name name cards) ≡ false → (form : FieldForm) × (form_of_name name cards ≡ Good form)
   name_there name e = there (form_of_name name cards) (unless_good (defined_form given name) (first_form name (definitions cards)) (good_in name (definitions cards) defined)) e
 
--- ---- constants
+-- ---- the constants of cards have forms
 
-or_left : (a b : Bool) → a ≡ true → (a || b) ≡ true
-or_left true b e = refl
-or_left false b e = cc
+pub stands_in : (x : Constant) (o : Option Constant) → o ≡ Some x → list_any (is_same x) (option_to_list o) ≡ true
+stands_in x o e = ap (λ (p : Option Constant). list_any (is_same x) (option_to_list p)) e ∙ ap (λ b. b || false) ((is_same_equiv).refl x)
 
-or_right : (a b : Bool) → b ≡ true → (a || b) ≡ true
-or_right true b e = refl
-or_right false b e = e
+pub in_front : (x : Constant) (xs ys : List Constant) → list_any (is_same x) xs ≡ true → list_any (is_same x) (xs ++ ys) ≡ true
+in_front x xs ys e = list_any-append (is_same x) xs ys ∙ or_left _ _ e
 
-any_append : {X : Type 0} (test : X → Bool) (xs ys : List X) → list_any test (xs ++ ys) ≡ (list_any test xs || list_any test ys)
-any_append test [] ys = refl
-any_append test (x ∷ xs) ys = ap (λ b. test x || b) (any_append test xs ys) ∙ by (test x)
-  where
-    by : (b : Bool) → (b || (list_any test xs || list_any test ys)) ≡ ((b || list_any test xs) || list_any test ys)
-    by true = refl
-    by false = refl
+pub behind : (x : Constant) (xs ys : List Constant) → list_any (is_same x) ys ≡ true → list_any (is_same x) (xs ++ ys) ≡ true
+behind x xs ys e = list_any-append (is_same x) xs ys ∙ or_right (list_any (is_same x) xs) _ e
 
-stands_here : (x : Constant) (before : List SpecCard) (c : SpecCard) (after : List SpecCard) → list_any (is_same x) (constants_on c.spec) ≡ true → list_any (is_same x) (constants_in (before ++ c ∷ after)) ≡ true
-stands_here x before c after e =
-    ap (list_any (is_same x)) (constants_in-append before (c ∷ after)) ∙ any_append (is_same x) (constants_in before) (constants_in (c ∷ after))
-    ∙ or_right (list_any (is_same x) (constants_in before)) _ (any_append (is_same x) (constants_on c.spec) (constants_in after) ∙ or_left (list_any (is_same x) (constants_on c.spec)) _ e)
-
-pub constant_there : (cards before : List SpecCard) (c : SpecCard) (after : List SpecCard) (x : Constant) → cards ≡ before ++ c ∷ after → list_any (is_same x) (constants_on c.spec) ≡ true → key_form (table_of cards) (Fixed x) ≡ Some (constant_form x)
+pub constant_there : (cards before : List SpecCard) (c : SpecCard) (after : List SpecCard) (x : Constant) → cards ≡ before ++ c ∷ after → list_any (is_same x) (constants_on c.spec) ≡ true
+    → key_form (table_of cards) (Fixed x) ≡ Some (constant_form x)
 constant_there cards before c after x split e =
-    ap (λ b. cond b (Some (constant_form x)) None)
-    (among is_same is_same_equiv x [] (constants_in cards) ∙ ap (λ cs. list_any (is_same x) (constants_in cs)) split ∙ stands_here x before c after e)
-
--- the constants of a card: of factor 1, of factor 2, of an output field
-stands_itself : (x : Constant) (o : Option Constant) → o ≡ Some x → list_any (is_same x) (option_to_list o) ≡ true
-stands_itself x o e = ap (λ (p : Option Constant). list_any (is_same x) (option_to_list p)) e ∙ ap (λ b. b || false) ((is_same_equiv).refl x)
+    let here : list_any (is_same x) (constants_in cards) ≡ true =
+    ap (λ cs. list_any (is_same x) (constants_in cs)) split ∙ ap (list_any (is_same x)) (constants_in-append before (c ∷ after))
+    ∙ behind x (constants_in before) (constants_in (c ∷ after)) (in_front x (constants_on c.spec) (constants_in after) e) in
+    ap (λ b. cond b (Some (constant_form x)) None) (among is_same is_same_equiv x [] (constants_in cards) ∙ here)

@@ -49,6 +49,7 @@ use Rattle.rpg_sheet_specs.specs.declared.literal.Factor.TheVariants as factor
 use Rattle.rpg_compile_program.proofs.Entries as entries
 use Rattle.rpg_compile_program.proofs.Entries.{shape_of}
 use Rattle.rpg_compile_program.proofs.RightRows.{IsRightAct, IsRightDeed, IsRightUse, right_row}
+use Rattle.rpg_compile_program.proofs.Lists.{none_in_option}
 
 -- ---- Booleans, lists
 
@@ -71,10 +72,6 @@ some_shown t e = by t.first t.second t.third e
     by None (Some y) c e = refl
     by (Some x) b c e = refl
 
-lone : {X : Type 0} (test : X → Bool) (o : Option X) → list_any test (option_to_list o) ≡ false → option_map_or test o false ≡ false
-lone test None e = refl
-lone test (Some x) e = (or_parts _ _ e).0
-
 none_in_both : {X : Type 0} (test : X → Bool) (xs ys : List X) → list_any test (xs ++ ys) ≡ false → (list_any test xs ≡ false) × (list_any test ys ≡ false)
 none_in_both test xs ys e = or_parts _ _ (sym (list_any-append test xs ys) ∙ e)
 
@@ -88,7 +85,7 @@ none_of_three : (test : operands.Operand → Bool) (t : Three (Option operands.O
 none_of_three test t e =
     let two = none_in_both test (option_to_list t.first ++ option_to_list t.second) (option_to_list t.third) e in
     let one = none_in_both test (option_to_list t.first) (option_to_list t.second) two.0 in
-    record { first = lone test t.first one.0; second = lone test t.second one.1; third = lone test t.third two.1 }
+    record { first = none_in_option test t.first one.0; second = none_in_option test t.second one.1; third = none_in_option test t.third two.1 }
 
 module _ (cards : List SpecCard) (forms : Key → Option FieldForm)
     (named : (name : List ℕ) → forms (Named name) ≡ form_in (form_of_name name cards))

@@ -41,11 +41,7 @@ use Rattle.rpg_sheet_specs.specs.declared.indicator.Condition.{Condition}
 use Rattle.rpg_sheet_specs.specs.declared.indicator.Three.{Three}
 use Rattle.rpg_sheet_specs.specs.declared.output.OutputField.{OutputField}
 use Rattle.rpg_compile_program.specs.Lines.{fill_by, line_field_of, names_page}
-
--- a field that is there has a form
-some_form : (o : Option FieldForm) → has_field o ≡ true → (d : FieldForm) × (o ≡ Some d)
-some_form None h = cc
-some_form (Some d) h = (d, refl)
+use Rattle.rpg_compile_program.proofs.Entries.{some_form}
 
 module _ (cards : List SpecCard) (forms : Key → Option FieldForm) (words : Key → List ℕ)
     (named : (name : List ℕ) → forms (Named name) ≡ form_in (form_of_name name cards))

@@ -1,20 +1,17 @@
 -- The lines of faultless cards break no rule.
-use Rattle.std.proofs.Common.{◌≡◌, ℕ, zero, suc, ◌≤◌, Bool, true, false, not, cond, ◌||◌, List, [], ◌∷◌, ◌++◌, map, Option, None, Some, refl, sym, ap, ◌∙◌, subst, arith, slice_get}
-use Rattle.std.proofs.lemmas.Bool.{and_from, and_parts, eqb-false, le-leb, ltb-false, ne_eqb, not_from_true, or_from, or_left, or_parts, or_right}
+use Rattle.std.proofs.Common.{◌≡◌, ℕ, zero, suc, ◌≤◌, Bool, true, false, not, cond, List, [], ◌∷◌, ◌++◌, map, Option, None, Some, refl, sym, ap, ◌∙◌, subst, arith, slice_get}
+use Rattle.std.proofs.lemmas.Bool.{and_from, and_parts, le-leb, ltb-false, ne_eqb, not_from_true, or_parts, or_right}
 use Rattle.std.proofs.lemmas.List.Folds.{list_any-append}
-use Rattle.std.specs.List.{filter_map, list_all, list_any}
+use Rattle.std.specs.List.{list_all, list_any}
 use Rattle.std.specs.Option.{ForSome, option_and_then, option_map, option_map_or, option_or, option_to_list}
 use Rattle.std.specs.Prelude.{◌==◌, ◌&&◌, is_none, is_some, nat_le, nat_lt, unwrap_or}
 use Rattle.rpg_cards.specs.Calculations.{condition_of, in_places, standing}
 use Rattle.rpg_cards.specs.Keys.{Fixed, Key}
 use Rattle.rpg_cards.specs.Plain.{Each}
-use Rattle.rpg_cards.proofs.InsertLemmas.{among}
 use Rattle.rpg_cards.specs.Cards.{calculation_on, file_on, output_field_in, output_field_on, output_on, output_record_in, output_record_on}
-use Rattle.rpg_cards.specs.Constants.{constant_form, constants, constants_in, constants_on, factor_constant, is_same, text_constant}
+use Rattle.rpg_cards.specs.Constants.{constant_form, constants, constants_on, factor_constant, is_same, text_constant}
 use Rattle.rpg_cards.specs.Files.{file_by, file_for, file_use, is_output, same_use}
 use Rattle.rpg_cards.specs.Groups.{Follower, Group, Heading, groups, open_file, open_group, output_role}
-use Rattle.rpg_cards.specs.SameConstants.{is_same_equiv}
-use Rattle.rpg_cards.specs.declared.constants.Constant.{Constant}
 use Rattle.rpg_cards.specs.declared.constants.Constant.TheVariants as constant
 use Rattle.rpg_cards.specs.declared.files.FileUse.{FileUse}
 use Rattle.rpg_cards.specs.declared.files.FileUse.TheVariants as uses
@@ -66,6 +63,9 @@ use Rattle.rpg_compile_program.specs.Lines as words
 use Rattle.rpg_compile_program.specs.Program.{key_numbers, numbered_line, program_of, version_for}
 use Rattle.rpg_compile_program.specs.Ranges.{AreCards, InThree, IsCard, IsCondition, IsInRange, IsLine, IsMovement, IsOutput, IsOutputField, IsSkip, IsSpace}
 use Rattle.rpg_compile_program.specs.Table.{key_form, key_word, table_of}
+use Rattle.rpg_compile_program.proofs.Each.{each_append, three_of, each_at, each_passes, none_passes}
+use Rattle.rpg_compile_program.proofs.Lists.{none_in_option}
+use Rattle.rpg_compile_program.proofs.Names.{constant_there, stands_in}
 use Rattle.rpg_sheet_specs.specs.declared.output.Movement.{Movement}
 use Rattle.rpg_sheet_specs.specs.declared.file.FileSpec.{FileSpec}
 use Rattle.rpg_sheet_specs.specs.declared.indicator.Condition as sheet
@@ -119,13 +119,8 @@ indicators_on cards (spec.Calculation x) o e good = cc
 indicators_on cards (spec.Data x) o e good = cc
 indicators_on cards (spec.Output p) o e good = let same : p ≡ o = cc in subst (λ x. bad_on_output cards x ≡ false) same good
 
--- the one of a list of one at most
-lone : {X : Type 0} (test : X → Bool) (o : Option X) → list_any test (option_to_list o) ≡ false → option_map_or test o false ≡ false
-lone test None e = refl
-lone test (Some x) e = (or_parts _ _ e).0
-
 behind_all : {X : Type 0} (test : X → Bool) (xs : List X) (o : Option X) → list_any test (xs ++ option_to_list o) ≡ false → option_map_or test o false ≡ false
-behind_all test xs o e = lone test o ((or_parts _ _ (sym (list_any-append test xs (option_to_list o)) ∙ e)).1)
+behind_all test xs o e = none_in_option test o ((or_parts _ _ (sym (list_any-append test xs (option_to_list o)) ∙ e)).1)
 
 -- an output field of a card is outside its line
 abbrev pub ends_outside : List SpecCard → List SpecCard → SpecCard → Bool
@@ -140,10 +135,6 @@ ranges_on (spec.Calculation x) o e good = cc
 ranges_on (spec.Data x) o e good = cc
 ranges_on (spec.Output p) o e good = let same : p ≡ o = cc in subst IsOutput same good
 
-each_at : {X : Type 0} (P : X → Type 0) (before : List X) (x : X) (after : List X) → Each P (before ++ x ∷ after) → P x
-each_at P [] x after h = h.0
-each_at P (y ∷ ys) x after h = each_at P ys x after h.1
-
 -- ---- conditions
 
 -- it may be asked in that version
@@ -153,21 +144,6 @@ IsAsked v c = may_be_asked v c ≡ true
 asked_one : (cards : List SpecCard) (o : Option sheet.Condition) → option_map_or (bad_in_output cards) o false ≡ false → ForSome o IsCondition → Each (IsAsked (version_for cards)) (map condition_of (option_to_list o))
 asked_one cards None good range = tt
 asked_one cards (Some c) good range = (asked_number cards c.indicator good (range c refl).highest, tt)
-
-each_append : {X : Type 0} (P : X → Type 0) (xs ys : List X) → Each P xs → Each P ys → Each P (xs ++ ys)
-each_append P [] ys h g = g
-each_append P (x ∷ xs) ys h g = (h.0, each_append P xs ys h.1 g)
-
-three_of : {X : Type 0} (P : X → Type 0) {Y : Type 0} (f : Y → X) (a b c : Option Y) → Each P (map f (option_to_list a)) → Each P (map f (option_to_list b)) → Each P (map f (option_to_list c)) →
-    Each P (map f (filter_map (λ o. o) (a ∷ b ∷ c ∷ [])))
-three_of P f None None None p q r = tt
-three_of P f None None (Some z) p q r = r
-three_of P f None (Some y) None p q r = q
-three_of P f None (Some y) (Some z) p q r = (q.0, r)
-three_of P f (Some x) None None p q r = p
-three_of P f (Some x) None (Some z) p q r = (p.0, r)
-three_of P f (Some x) (Some y) None p q r = (p.0, q)
-three_of P f (Some x) (Some y) (Some z) p q r = (p.0, (q.0, r))
 
 pub asked_three : (cards : List SpecCard) (t : Three (Option sheet.Condition)) → any_of (bad_in_output cards) t ≡ false → InThree IsCondition t → Each (IsAsked (version_for cards)) (standing t)
 asked_three cards t good range =
@@ -182,14 +158,6 @@ asked_place v (c ∷ cs) (suc k) h = asked_place v cs k h.1
 
 pub asked_places : (v : Version) (cs : List Condition) → Each (IsAsked v) cs → all_asked v (in_places cs) ≡ true
 asked_places v cs h = and_from _ _ (asked_place v cs 0 h) (and_from _ _ (asked_place v cs 1 h) (asked_place v cs 2 h))
-
-each_passes : {X : Type 0} (test : X → Bool) (xs : List X) → Each (λ x. test x ≡ true) xs → list_all test xs ≡ true
-each_passes test [] h = refl
-each_passes test (x ∷ xs) h = and_from (test x) (list_all test xs) h.0 (each_passes test xs h.1)
-
-none_passes : {X : Type 0} (test : X → Bool) (xs : List X) → Each (λ x. test x ≡ false) xs → list_any test xs ≡ false
-none_passes test [] h = refl
-none_passes test (x ∷ xs) h = or_from (test x) (list_any test xs) h.0 (none_passes test xs h.1)
 
 -- the conditions of AND and OR cards
 module _ (v : Version) where
@@ -348,19 +316,6 @@ module _ (cards : List SpecCard) (allowance : ℕ) where
 
     -- ---- the cards behind it
 
-    stands_here : (x : Constant) (before : List SpecCard) (c : SpecCard) (after : List SpecCard) → list_any (is_same x) (constants_on c.spec) ≡ true → list_any (is_same x) (constants_in (before ++ c ∷ after)) ≡ true
-    stands_here x [] c after e = list_any-append (is_same x) (constants_on c.spec) (constants_in after) ∙ or_left (list_any (is_same x) (constants_on c.spec)) _ e
-    stands_here x (d ∷ ds) c after e =
-        list_any-append (is_same x) (constants_on d.spec) (constants_in (ds ++ c ∷ after)) ∙ or_right (list_any (is_same x) (constants_on d.spec)) _ (stands_here x ds c after e)
-
-    constant_there : (before : List SpecCard) (c : SpecCard) (after : List SpecCard) (x : Constant) → cards ≡ before ++ c ∷ after → list_any (is_same x) (constants_on c.spec) ≡ true → forms (Fixed x) ≡ Some (constant_form x)
-    constant_there before c after x split e =
-        ap (λ b. cond b (Some (constant_form x)) None)
-        (among is_same is_same_equiv x [] (constants_in cards) ∙ ap (λ cs. list_any (is_same x) (constants_in cs)) split ∙ stands_here x before c after e)
-
-    itself : (x : Constant) (o : Option Constant) → o ≡ Some x → list_any (is_same x) (option_to_list o) ≡ true
-    itself x o e = ap (λ (p : Option Constant). list_any (is_same x) (option_to_list p)) e ∙ ap (λ b. b || false) ((is_same_equiv).refl x)
-
     text_on : (s : Spec) (f : OutputField) (x : List ℕ) → output_field_on s ≡ Some f → f.code ≡ None → f.text ≡ Some x → list_any (is_same (constant.Text x)) (constants_on s) ≡ true
     text_on s f x on code text =
         let first = option_to_list (option_and_then (λ k. option_and_then factor_constant k.factor_1) (calculation_on s)) in
@@ -368,7 +323,7 @@ module _ (cards : List SpecCard) (allowance : ℕ) where
         let third : option_and_then text_constant (output_field_on s) ≡ Some (constant.Text x) =
         ap (option_and_then text_constant) on ∙ ap (λ o. cond (is_none o) (option_map constant.Text f.text) None) code ∙ ap (option_map constant.Text) text in
         list_any-append (is_same (constant.Text x)) (first ++ second) (option_to_list (option_and_then text_constant (output_field_on s)))
-        ∙ or_right (list_any (is_same (constant.Text x)) (first ++ second)) _ (itself (constant.Text x) (option_and_then text_constant (output_field_on s)) third)
+        ∙ or_right (list_any (is_same (constant.Text x)) (first ++ second)) _ (stands_in (constant.Text x) (option_and_then text_constant (output_field_on s)) third)
 
     pub record IsFieldGood (name : Option (List ℕ)) (f : OutputField) : Type 0 where
       pub asked : Each (IsAsked (version_for cards)) (standing f.conditions)
@@ -405,7 +360,7 @@ module _ (cards : List SpecCard) (allowance : ℕ) where
           editing = of_field before c after f on_field (edits_badly cards) (h.editing before c after split);
           narrow = one.1;
           inside = within;
-          listed = λ x code text. constant_there before c after (constant.Text x) split (text_on c.spec f x on_field code text);
+          listed = λ x code text. constant_there cards before c after (constant.Text x) split (text_on c.spec f x on_field code text);
         } in
         record {
           asked = asked_three cards f.conditions asks range.conditions;

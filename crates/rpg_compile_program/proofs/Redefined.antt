@@ -2,6 +2,7 @@
 use Rattle.std.proofs.Common.{◌≡◌, ℕ, Bool, true, false, not, cond, List, [], ◌∷◌, ◌++◌, Option, None, Some, refl, sym, ap, ◌∙◌, subst, append_assoc}
 use Rattle.std.proofs.lemmas.Cmp.{nat_list_eq_equiv}
 use Rattle.std.specs.Option.{option_map_or}
+use Rattle.std.proofs.lemmas.Bool.{not-false}
 use Rattle.rpg_cards.specs.Keys.{Named}
 use Rattle.rpg_cards.specs.Plain.{Each}
 use Rattle.rpg_cards.proofs.ItemLemmas.{definitions-append}
@@ -19,6 +20,7 @@ use Rattle.rpg_compile_program.proofs.Known.{defined, name_known}
 use Rattle.rpg_compile_program.proofs.Lists.{or_first, or_second}
 use Rattle.rpg_compile_program.specs.Rules.{KeepsCardRules}
 use Rattle.rpg_compile_program.specs.Table.{key_form, table_of}
+use Rattle.rpg_compile_program.proofs.Each.{each_front}
 
 -- ---- the first definition decides
 
@@ -49,10 +51,6 @@ never_bad name (d ∷ ds) h e = by (is_of name d) d.form h.0 (never_bad name ds 
     by true (Some form) h later e = absurd cc
     by false (Some form) h later e = later e
 
-not_false : (b : Bool) → not b ≡ false → b ≡ true
-not_false true e = refl
-not_false false e = cc
-
 -- a definition that isn't another form has the form of its name
 pub stays : (xs : List Definition) (d : Definition) (ys : List Definition) (form : FieldForm) → Each HasForm xs → redefines_as xs d ≡ false → d.form ≡ Some form → form_by d.name (xs ++ d ∷ ys) ≡ Good form
 unfolding first_of
@@ -64,10 +62,10 @@ stays xs d ys form good same e = by_given (defined_form given d.name) alike
     by_first : (o : Defined) → first_form d.name xs ≡ o → option_map_or (λ first. not (same_form first form)) (form_in o) false ≡ false → first_of o (first_form d.name (d ∷ ys)) ≡ Good form
     by_first Missing is h = itself d form ys e
     by_first Bad is h = absurd (never_bad d.name xs good is)
-    by_first (Good first) is h = ap Good (same_form-equal first form (not_false _ h))
+    by_first (Good first) is h = ap Good (same_form-equal first form (not-false _ h))
 
     by_given : (o : Option FieldForm) → option_map_or (λ first. not (same_form first form)) (form_in (unless_given o (first_form d.name xs))) false ≡ false → unless_given o (first_form d.name (xs ++ d ∷ ys)) ≡ Good form
-    by_given (Some g) h = ap Good (same_form-equal g form (not_false _ h))
+    by_given (Some g) h = ap Good (same_form-equal g form (not-false _ h))
     by_given None h = first_form-append d.name xs (d ∷ ys) ∙ by_first (first_form d.name xs) refl h
 
 -- ---- of a card
@@ -76,14 +74,10 @@ stays xs d ys form good same e = by_given (defined_form given d.name) alike
 abbrev pub HasName : List SpecCard → Definition → Type 0
 HasName cards d = (form : FieldForm) → d.form ≡ Some form → form_of_name d.name cards ≡ Good form
 
-each_first : {X : Type 0} (P : X → Type 0) (xs ys : List X) → Each P (xs ++ ys) → Each P xs
-each_first P [] ys h = tt
-each_first P (x ∷ xs) ys h = (h.0, each_first P xs ys h.1)
-
 each_stays : (cards : List SpecCard) (xs ds ys : List Definition) → definitions cards ≡ xs ++ (ds ++ ys) → Each HasForm (definitions cards) → redefine xs ds ≡ false → Each (HasName cards) ds
 each_stays cards xs [] ys split good same = tt
 each_stays cards xs (d ∷ ds) ys split good same = (
-  λ form e. ap (form_by d.name) split ∙ stays xs d (ds ++ ys) form (each_first HasForm xs (d ∷ (ds ++ ys)) (subst (Each HasForm) split good)) (or_first (redefines_as xs d) (redefine (xs ++ d ∷ []) ds) same) e,
+  λ form e. ap (form_by d.name) split ∙ stays xs d (ds ++ ys) form (each_front HasForm xs (d ∷ (ds ++ ys)) (subst (Each HasForm) split good)) (or_first (redefines_as xs d) (redefine (xs ++ d ∷ []) ds) same) e,
   each_stays cards (xs ++ d ∷ []) ds ys (split ∙ sym (append_assoc xs (d ∷ []) (ds ++ ys))) good (or_second (redefines_as xs d) (redefine (xs ++ d ∷ []) ds) same),
 )
 
@@ -103,5 +97,5 @@ module _ (cards : List SpecCard) (rules : KeepsCardRules cards) where
   -- and has one
   pub card_has_forms : (before : List SpecCard) (c : SpecCard) (after : List SpecCard) → cards ≡ before ++ c ∷ after → Each HasForm (definitions_on c.spec)
   card_has_forms before c after split =
-      each_first HasForm (definitions_on c.spec) (definitions after)
+      each_front HasForm (definitions_on c.spec) (definitions after)
       (each_second HasForm (definitions before) (definitions_on c.spec ++ definitions after) (subst (Each HasForm) (ap definitions split ∙ definitions-append before (c ∷ after)) (defined cards rules)))

@@ -42,7 +42,7 @@ use Rattle.rpg_sheet_specs.specs.declared.input.InputSpec.{InputSpec}
 use Rattle.rpg_sheet_specs.specs.declared.input.InputSpec.TheVariants as input
 use Rattle.rpg_sheet_specs.specs.declared.input.RecordType.{RecordType}
 use Rattle.rpg_sheet_specs.specs.declared.spec.Spec.TheVariants as spec
-use Rattle.rpg_compile_program.proofs.InputTypes.{InFile, IsFieldGood, IsInputGood, codes_in, each_type, follower_on, form_of_field, heading_on, marks_type, outside_kept, settable, shown_so}
+use Rattle.rpg_compile_program.proofs.InputTypes.{InFile, IsFieldGood, IsInputGood, codes_in, each_type, follower_on, form_of_field, heading_on, marks_type, outside_kept, shown_so}
 use Rattle.rpg_compile_program.proofs.Joined as levelled
 use Rattle.rpg_compile_program.proofs.Joined.{HasColumns, Joined, all_nine, each_level, first_joined, first_same, measured, same_sum}
 use Rattle.rpg_compile_program.proofs.LevelSums.{IsOfNine, at_most_nine, sum_of_widths}
@@ -56,6 +56,7 @@ use Rattle.rpg_compile_program.specs.Ranges.{AreCards}
 use Rattle.rpg_compile_program.specs.Rules.{KeepsCardRules}
 use Rattle.rpg_compile_program.specs.Table.{key_form, table_of}
 use Rattle.rpg_compile_program.specs.Types.{and_card_codes, card_type, codes_of, control_field, field_at_level, file_read, input_fields_in, input_file, input_row}
+use Rattle.rpg_compile_program.proofs.Conditions.{all_settable}
 
 -- ---- columns
 
@@ -415,7 +416,7 @@ module _ (cards : List SpecCard) (rules : KeepsCardRules cards) (ranges : AreCar
       shown_right : (f : InputField) → IsFieldGood cards rules ranges g.file f → is_input_shown p (renamed_input (key_numbers cards) (input_row f)) ≡ true
       shown_right f x =
           let form = form_of_field f x.form x.is in
-          and_from _ _ (settable f.indicators (or_first (any_of cannot_be_set f.indicators) _ x.shown) x.range.indicators)
+          and_from _ _ (all_settable f.indicators (or_first (any_of cannot_be_set f.indicators) _ x.shown) x.range.indicators)
           (ap (λ o. fits_shows (kind_of o) (shows_of f.indicators)) (form_is f x.form x.known) ∙ ap (λ k. fits_shows k (shows_of f.indicators)) form.kind ∙ shown_so f.decimals f.indicators (or_second (any_of cannot_be_set f.indicators) _ x.shown))
 
       inputs_each : (P : row.InputField ℕ → Type 0) → ((f : InputField) → IsFieldGood cards rules ranges g.file f → P (renamed_input (key_numbers cards) (input_row f))) → Each P (row_type g).inputs

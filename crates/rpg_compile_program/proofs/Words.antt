@@ -32,6 +32,7 @@ use Rattle.rpg_compile_program.proofs.Numbers.{constant_found, forms_same, get_b
 use Rattle.rpg_compile_program.specs.Data.{constant_values, field_values, loaded, values_of}
 use Rattle.rpg_compile_program.specs.Program.{program_of}
 use Rattle.rpg_compile_program.specs.Table.{Table, constant_number, defined_fields, key_form, key_number, key_word, table_of, with_definition, with_definitions, with_form}
+use Rattle.rpg_compile_program.proofs.Each.{each_append}
 
 -- ---- no name is a constant
 
@@ -40,10 +41,6 @@ IsNoConstant form = is_constant form.class ≡ false
 
 abbrev AreNoConstants : NamedForms → Type 0
 AreNoConstants fields = Each (λ (f : List ℕ × FieldForm). IsNoConstant f.1) fields
-
-each_append : {X : Type 0} (P : X → Type 0) (xs ys : List X) → Each P xs → Each P ys → Each P (xs ++ ys)
-each_append P [] ys h g = g
-each_append P (x ∷ xs) ys h g = (h.0, each_append P xs ys h.1 g)
 
 abbrev IsIfAny : Option FieldForm → Type 0
 IsIfAny None = Unit {0}

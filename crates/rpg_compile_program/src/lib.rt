@@ -1,4 +1,3 @@
-//! The instructions of calculations.
 //! The object program that the cards of a source stand for: definitions (in specs/), and what is always so of them.
 #![tactic(auto)]
 
