@@ -196,7 +196,10 @@ pub(crate) fn put_records(
         }
         is_first = false;
         let behind = cards.get(place.saturating_add(1)..).unwrap_or(&[]);
-        let behind = followers(behind, behind.iter().position(|card| card.record_type().is_some()));
+        let behind = followers(
+            behind,
+            behind.iter().position(|card| card.record_type().is_some()),
+        );
         put_type(alloc, out, file, card.number, record_type, behind)?;
     }
     Ok(())
