@@ -113,7 +113,7 @@ RenewsSeen p t text levels values levels' values' =
 abbrev pub RenewsLeft : Object → Option ℕ → Kept → Kept → Type 0
 RenewsLeft p t k k' = left_of k' ≡ renewed_by p t (text_in p k' t) (left_of k)
 
--- one of the records that wait was selected, or none; and then it is the one of that type
+-- of the records that wait the one of that type was selected, or none
 abbrev pub SelectsOne : Object → Kept → Running → Option ℕ → Kept → Running → Type 0
 SelectsOne p k old t k' new = Does (select_one p (left_of k)) old (unselected (inputs_of k)) GoesOn new (holding_kept p k' t)
 

@@ -137,7 +137,7 @@ fn compare_levels<S: Store + Drop>(
     Ok(())
 }
 
-/// SpendsSelecting the record that waits in a file: it waits no longer.
+/// Selects the record that waits in a file: it waits no longer.
 fn select_waiting<S: Store + Drop>(
     program: &Verified,
     machine: &mut Machine<S>,
@@ -165,7 +165,7 @@ fn select_waiting<S: Store + Drop>(
     Ok(Some(row))
 }
 
-/// SpendsSelecting one of the records that wait; where none does, LR and L1 to L9 go on.
+/// Selects one of the records that wait; where none does, LR and L1 to L9 go on.
 fn select_one<S: Store + Drop>(
     program: &Verified,
     machine: &mut Machine<S>,

@@ -39,7 +39,7 @@ CyclesAreThere =
     (p : Object) (earlier : List Selected) (primary secondary : Option (List ℕ)) (c : Config) (i : Inputs)
     → IsProgram p → IsAccepted p → Holds p c.world → c.cells ≡ map.empty → AreWaiting p i → HasCycle p earlier primary secondary c i
 
--- each cycle from there comes to what it should
+-- each cycle from there ends well: never wrong, with values that hold, within the bound
 abbrev pub CyclesEndWell : Type 0
 CyclesEndWell =
     (p : Object) (earlier : List Selected) (primary secondary : Option (List ℕ)) (c : Config) (i : Inputs) (e : PhaseEnd) (d : UnderWay) (out : Output)
@@ -60,7 +60,7 @@ RunsAreThere =
     (p : Object) (text : List ℕ) (date : ℤ) (fields : Fields nat_cmp) (records : Records)
     → IsProgram p → IsAccepted p → date_in text ≡ Some date → Holds p (job_first_world fields) → HasRun p date fields records
 
--- each run from there comes to what it should
+-- each run from there ends at the end of the job or at a halt, within one cycle more than there are records and within the bound
 abbrev pub RunsEndWell : Type 0
 RunsEndWell =
     (p : Object) (text : List ℕ) (date : ℤ) (fields : Fields nat_cmp) (records : Records) (course : Course) (bytes : Bytes)
