@@ -118,6 +118,13 @@ impl<'a, S: Store + Drop> Machine<'a, S> {
         })
     }
 
+    /// The program that is run.
+    pub fn program(&self) -> &'a Verified
+        ensures { result.now ≡ self.now.program }
+    {
+        self.program.program()
+    }
+
     /// Runs detail or total calculations from their first place.
     pub fn section(&mut self, section: Section) -> Result<End, AllocError>
         requires ready { IsReady self.old }
