@@ -22,12 +22,11 @@ pub const HALT_INDICATORS: [u8; 9] = [120, 121, 122, 123, 124, 125, 126, 127, 12
 pub(crate) fn is_halt_asked<S: Store + Drop>(machine: &Machine<S>) -> bool
     ensures { result ≡ spec.any_on machine.now.config spec.halt_indicators }
 {
+    let mut is_asked = false;
     for number in HALT_INDICATORS {
-        if machine.indicator(number) {
-            return true;
-        }
+        is_asked |= machine.indicator(number);
     }
-    false
+    is_asked
 }
 
 /// Turns indicators on or off, in order.

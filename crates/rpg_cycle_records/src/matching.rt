@@ -41,7 +41,11 @@ impl MatchValue {
         requires { All (IsControlIn (length text.now)) fields.now }
         ensures { OnOk result (seen_value self.new ≡ spec.value_in fields.now text.now) }
     {
-        self.is_there = !fields.is_empty();
+        if fields.is_empty() {
+            self.is_there = false;
+            return Ok(());
+        }
+        self.is_there = true;
         self.bytes.clear();
         join_down(&mut self.bytes, fields, text)
     }

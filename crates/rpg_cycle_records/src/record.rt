@@ -29,8 +29,11 @@ pub fn fill(
     ensures filled { IfOk result (λ _. room.new.items ≡ spec.padded program.now file text.now) }
     ensures whole { IfOk result (λ _. length room.new.items ≡ length_of program.now file) }
 {
+    let length = input_length(program, file);
     room.clear();
     room.extend_from_slice(text)?;
-    room.resize(input_length(program, file), b' ')?;
+    if text.len() < length {
+        room.resize(length, b' ')?;
+    }
     Ok(())
 }

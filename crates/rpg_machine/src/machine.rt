@@ -8,7 +8,7 @@ ghost use Rattle.rpg_object_program.specs.Object.{seen};
 use crate::accepted::Accepted;
 use crate::cells::Cells;
 use crate::inputs::fill_all;
-use crate::output::{put_out, weight_of};
+use crate::output::put_out;
 use crate::section::run_section;
 use crate::state::{State, Writer};
 use crate::time::OutputTime;
@@ -147,8 +147,8 @@ impl<'a, S: Store + Drop> Machine<'a, S> {
         ensures done { IfOk result (λ e. Did (PutsOut self.old.program time) self.old (end_of e) self.new) }
         ensures ready { IfOk result (λ e. e ≡ End.GoesOn → IsReady self.new) }
     {
-        let rows = self.program.rows();
-        self.state.steps += u64::from(weight_of(rows, time));
+        self.program.is_orderly();
+        self.state.steps += u64::from(self.program.weight_of(time));
         let state = &mut self.state;
         let end = put_out(&mut state.memory, &mut state.writer, time)?;
         self.state.memory.is_kept();

@@ -6,7 +6,7 @@ use Rattle.rpg_object_program.specs.Object.{Object}
 use Rattle.rpg_machine.proofs.machine.Machine.output.Goals as goal
 
 pub put_out-requires-clause-lines : goal.put_out-requires-clause-lines
-put_out-requires-clause-lines g c = subst (λ (o : Object). AreRightLines o) (sym c.self.invariant.own) c.rows-rows.ensures.orderly.lines
+put_out-requires-clause-lines g c = subst (λ (o : Object). AreRightLines o) (sym c.self.invariant.own) c.is_orderly.ensures.lines
 
 pub put_out-requires-clause-near : goal.put_out-requires-clause-near
 put_out-requires-clause-near g c = subst (λ (r : Running). IsNear r.config.world.here) (sym c.self.view_is) c.requires.ready.few_pages
