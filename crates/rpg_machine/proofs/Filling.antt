@@ -19,7 +19,7 @@ use Rattle.rpg_machine.specs.Inputs.{filled_field}
 use Rattle.rpg_machine_lines.proofs.Left.{from_item}
 use Rattle.rpg_store.proofs.Values.{length_high, length_low}
 use Rattle.rpg_store.specs.Fields.{AreForms, IsValue}
-use Rattle.rpg_store.specs.Memory.{Loaded, forms_in}
+use Rattle.rpg_store.specs.Memory.{Working, forms_in}
 
 pub ruleset numbers = (length_low, length_high)
 
@@ -82,7 +82,7 @@ field_filled forms text part f k w right kind is =
     ∙ sym (ap (λ o. unless_wrong o w (filled_field (kind_of (form_at forms f.field)) f (record_part f text) w)) right)
 
 -- one field went on, over a memory that differs in its world alone: what is left of a record is done behind it
-pub field_next : (m w : Loaded) (text : List ℕ) (fs : List (InputField ℕ)) (i : ℕ) (f : InputField ℕ) (r : rust.End) (v : World nat_cmp) →
+pub field_next : (m w : Working) (text : List ℕ) (fs : List (InputField ℕ)) (i : ℕ) (f : InputField ℕ) (r : rust.End) (v : World nat_cmp) →
     w ≡ record m { world = w.world } → i < length fs → r ≡ answers.GoesOn → quiet (end_of r) v ≡ field_in (forms_in w) text (get_or fs i f) w.world →
     record_in (forms_in m) text (drop (i + 1) fs) v ≡ record_in (forms_in m) text (drop i fs) w.world
 unfolding record_in
@@ -90,7 +90,7 @@ field_next m w text fs i f r v same low goes h =
     let item : InputField ℕ = get_or fs i f in
     let rest : World nat_cmp → Effect nat_cmp = record_in (forms_in m) text (drop (i + 1) fs) in
     let one : quiet GoesOn v ≡ field_in (forms_in m) text item w.world =
-    ap (λ x. quiet (end_of x) v) (sym goes) ∙ h ∙ ap (λ (x : Loaded). field_in (forms_in x) text item w.world) same in
+    ap (λ x. quiet (end_of x) v) (sym goes) ∙ h ∙ ap (λ (x : Working). field_in (forms_in x) text item w.world) same in
     let step : rest v ≡ record_in (forms_in m) text (item ∷ drop (i + 1) fs) w.world = ap (λ (x : Effect nat_cmp). then_go x rest) one in
     step ∙ ap (λ (xs : List (InputField ℕ)). record_in (forms_in m) text xs w.world) (sym (from_item fs i f low))
 

@@ -6,16 +6,14 @@ use Rattle.rpg_machine.specs.Running.{Running}
 use Rattle.rpg_machine.specs.State.{IsAble, running_of}
 use Rattle.rpg_machine.specs.declared.state.State.{State}
 use Rattle.rpg_object_program.specs.Object.{Object}
-use Rattle.rpg_store.specs.Fits.{Fits}
 
 module _ {S : Type 0} where
   pub able_of : (p : Object) (s : State S) (r : Running) → running_of p s ≡ r → IsReady r → s.memory.program ≡ p → IsAble p s.memory
   able_of p s r is ready own = record { own = own; near = subst (λ (x : Running). x.config.world.here.page ≤ 2) (sym is) ready.few_pages }
 
-  pub ready_of : (p : Object) (s : State S) → Fits s.memory.program.fields s.memory.world.fields.values s.memory.world.fields.current → IsAble p s.memory →
+  pub ready_of : (p : Object) (s : State S) → IsAble p s.memory →
       s.cells ≡ map.empty → s.allowance < 2 ^ 16 → IsReady (running_of p s)
-  ready_of p s fits able none few = record {
-    fits = subst (λ (o : Object). Fits o.fields s.memory.world.fields.values s.memory.world.fields.current) able.own fits;
+  ready_of p s able none few = record {
     no_cell = none;
     few_spends = few;
     few_pages = able.near;

@@ -2,12 +2,9 @@
 use Rattle.std.specs.Prelude.{◌≡◌, ◌≤◌, ◌<◌, ◌^◌}
 use Rattle.std.specs.FinMap as map
 use Rattle.rpg_machine.specs.Running.{Running}
-use Rattle.rpg_store.specs.Fits.{Fits}
 
--- the values fit the fields of the program, no subroutine runs, the allowance is a number of the object format, and few pages were
--- begun since the line placed last
+-- no subroutine runs, the allowance is a number of the object format, and few pages were begun since the line placed last
 pub record IsReady (r : Running) : Type 0 where
-  pub fits : Fits r.program.fields r.config.world.fields.values r.config.world.fields.current
   pub no_cell : r.config.cells ≡ map.empty
   pub few_spends : r.config.allowance < 2 ^ 16
   pub few_pages : r.config.world.here.page ≤ 2

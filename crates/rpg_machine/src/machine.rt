@@ -62,7 +62,7 @@ fn first_state<'a, S: Store + Drop>(
     alloc: Global,
     memory: Memory<'a, S>,
 ) -> Result<State<'a, S>, AllocError>
-    ensures start { IfOk result (λ s. running_of memory.entry.program s ≡ of.begun memory.entry) }
+    ensures start { IfOk result (λ s. running_of memory.entry.program s ≡ of.at_start memory.entry) }
     ensures own { IfOk result (λ s. s.memory.program ≡ memory.entry.program) }
     ensures room { IfOk result (λ s. HasLineRoom memory.entry.program s.writer.text.items) }
 {
@@ -136,7 +136,6 @@ impl<'a, S: Store + Drop> Machine<'a, S> {
     {
         self.program.is_orderly();
         let end = run_section(&self.program, &mut self.state, section)?;
-        self.state.memory.is_kept();
         Ok(end)
     }
 
@@ -151,7 +150,6 @@ impl<'a, S: Store + Drop> Machine<'a, S> {
         self.state.steps += u64::from(self.program.weight_of(time));
         let state = &mut self.state;
         let end = put_out(&mut state.memory, &mut state.writer, time)?;
-        self.state.memory.is_kept();
         Ok(end)
     }
 
@@ -169,7 +167,6 @@ impl<'a, S: Store + Drop> Machine<'a, S> {
         let inputs = &rows.types[row].inputs;
         self.state.steps += inputs.len() as u64;
         let end = fill_all(&mut self.state.memory, text, inputs);
-        self.state.memory.is_kept();
         end
     }
 

@@ -18,8 +18,8 @@ use Rattle.rpg_store.proofs.Entries.{and_true}
 use Rattle.rpg_machine_lines.specs.Drafts.{draft_of}
 
 -- the same with other fields
-abbrev pub with_fields : Fields nat_cmp → Held → Held
-with_fields fields w = record { last = w.last; world = record w.world { fields = fields } }
+abbrev pub fields_replaced : Fields nat_cmp → Held → Held
+fields_replaced fields w = record { last = w.last; world = record w.world { fields = fields } }
 
 module _ (forms : ℕ → Option FieldForm) (words : ℕ → List ℕ) (overflow : Option ℕ) (l : Line ℕ) (w : Held) (q : Bytes) where
   -- the line's fields were assembled to this draft
@@ -40,7 +40,7 @@ module _ (forms : ℕ → Option FieldForm) (words : ℕ → List ℕ) (overflow
       ∙ ap (λ (y : Drafted nat_cmp). put_out forms words overflow l x y.ending y.draft) (sym a)
 
   -- a field halted
-  pub line_halted : (k : ℕ) (d : Draft nat_cmp) (v : Held) → line_fault l.len l.spacing ≡ None → IsDrafted (Halt k) d → v ≡ with_fields d.fields w →
+  pub line_halted : (k : ℕ) (d : Draft nat_cmp) (v : Held) → line_fault l.len l.spacing ≡ None → IsDrafted (Halt k) d → v ≡ fields_replaced d.fields w →
       IsDone (line_out forms words overflow l) w q (Halt k) v q
   line_halted k d v h a is =
       let last = ap (λ (x : Held). x.last) is in
@@ -51,13 +51,13 @@ module _ (forms : ℕ → Option FieldForm) (words : ℕ → List ℕ) (overflow
 
   -- the line was put on its file, and its entries were blanked
   pub line_placed : (d : Draft nat_cmp) (v u : Held) (o : Bytes) → line_fault l.len l.spacing ≡ None → IsDrafted GoesOn d →
-      IsDone (put_on overflow l.file l.spacing d.text) (with_fields d.fields w) q GoesOn v o →
+      IsDone (put_on overflow l.file l.spacing d.text) (fields_replaced d.fields w) q GoesOn v o →
       u.last ≡ v.last → u.world ≡ record v.world { fields = blanked_all d.to_blank v.world.fields } →
       IsDone (line_out forms words overflow l) w q GoesOn u o
   line_placed d v u o h a put last world =
       let blank : World nat_cmp → World nat_cmp = λ x. record x { fields = blanked_all d.to_blank x.fields } in
       let cleared : IsDone (λ x. Leaves (blank x)) v o GoesOn u o = quiet_done blank GoesOn v u o last (λ p. ap (on_paper p) world) in
-      let both = then_done (put_on overflow l.file l.spacing d.text) (λ x. Leaves (blank x)) (with_fields d.fields w) v u q o o GoesOn put cleared in
+      let both = then_done (put_on overflow l.file l.spacing d.text) (λ x. Leaves (blank x)) (fields_replaced d.fields w) v u q o o GoesOn put cleared in
       record {
         behind = λ previous e. subst (λ (x : Effect nat_cmp). IsLeft previous x q GoesOn u o) (sym (line_is previous GoesOn d h a)) (both.behind previous e);
       }

@@ -4,7 +4,7 @@ ghost use Rattle.arrayvec.specs.ArrayVec.{array_vec_len};
 ghost use Rattle.rpg_effect.specs.Ends.{end_of};
 ghost use Rattle.rpg_effect.specs.LineFaults as faults;
 ghost use Rattle.rpg_effect.specs.Lines as lines;
-ghost use Rattle.rpg_machine_lines.specs.Drafts.{assembled_in, drafted_in, with_field_in, with_fields};
+ghost use Rattle.rpg_machine_lines.specs.Drafts.{assembled_in, drafted_in, with_field_in, fields_replaced};
 ghost use Rattle.rpg_machine_lines.specs.Entries.{AreFieldEntries, IsFieldEntry};
 ghost use Rattle.rpg_object_program.specs.Constants.{word_at};
 ghost use Rattle.rpg_store.specs.Memory.{forms_in};
@@ -58,7 +58,7 @@ fn with_field<S: Store + Drop>(
     requires room { array_vec_len to_blank.old < 200 }
     requires entries { AreFieldEntries memory.old.program.fields to_blank.old.items }
     ensures drafted { drafted_in (end_of result) memory.new text.new to_blank.new.items ≡ with_field_in memory.old text.old to_blank.old.items field.now }
-    ensures rest { memory.new ≡ with_fields memory.new.world.fields memory.old }
+    ensures rest { memory.new ≡ fields_replaced memory.new.world.fields memory.old }
     ensures entries { AreFieldEntries memory.old.program.fields to_blank.new.items }
     ensures few { array_vec_len to_blank.new ≤ array_vec_len to_blank.old + 1 }
 {
@@ -94,7 +94,7 @@ pub fn assemble<S: Store + Drop>(
     requires room { array_vec_len to_blank.old + length fields.now ≤ 200 }
     requires entries { AreFieldEntries memory.old.program.fields to_blank.old.items }
     ensures drafted { drafted_in (end_of result) memory.new text.new to_blank.new.items ≡ assembled_in memory.old text.old to_blank.old.items fields.now }
-    ensures rest { memory.new ≡ with_fields memory.new.world.fields memory.old }
+    ensures rest { memory.new ≡ fields_replaced memory.new.world.fields memory.old }
     ensures entries { AreFieldEntries memory.old.program.fields to_blank.new.items }
 {
     'fields: for field in fields {

@@ -5,7 +5,7 @@ ghost use Rattle.rpg_effect.specs.Editing as edits;
 ghost use Rattle.rpg_effect.specs.Forms as forms;
 ghost use Rattle.rpg_effect.specs.LineFaults as faults;
 ghost use Rattle.rpg_effect.specs.Lines as lines;
-ghost use Rattle.rpg_machine_lines.specs.Drafts.{counted_in, text_in, with_fields};
+ghost use Rattle.rpg_machine_lines.specs.Drafts.{counted_in, field_text_in, fields_replaced};
 ghost use Rattle.rpg_machine_lines.specs.Entries.{AreFieldEntries, IsEditableForm, IsFieldEntry};
 ghost use Rattle.rpg_machine_lines.specs.Right.{FitsEditing, IsRightField};
 ghost use Rattle.rpg_object_program.specs.Constants as constants;
@@ -78,7 +78,7 @@ pub fn lay_value<S: Store + Drop>(
     requires right { IsRightField (forms_in memory.now) (constants.word_at memory.now.program) (length text.old) field.now }
     requires form { form ≡ forms_in memory.now field.now.operand.field }
     requires entry { IsFieldEntry memory.now.program.fields field.now.operand.field entry }
-    ensures text { text.new ≡ lines.laid_over text.old field.now.end (text_in memory.now field.now entry) }
+    ensures text { text.new ≡ lines.laid_over text.old field.now.end (field_text_in memory.now field.now entry) }
 {
     memory.is_kept();
     let number = field.operand.field;
@@ -129,7 +129,7 @@ pub fn fill_blanks(text: &mut [u8])
 fn blank_text<S: Store + Drop>(memory: &mut Memory<'_, S>, entry: (u16, u16))
     requires entry { IsFieldEntry memory.old.program.fields entry.0 entry.1 }
     requires text { forms.kind_of (forms_in memory.old entry.0) ≡ Kind.Text }
-    ensures { memory.new ≡ with_fields (lines.blanked_at (entry.0, entry.1) memory.old.world.fields) memory.old }
+    ensures { memory.new ≡ fields_replaced (lines.blanked_at (entry.0, entry.1) memory.old.world.fields) memory.old }
 {
     memory.is_kept();
     let mut places = [0; 256];
@@ -142,7 +142,7 @@ fn blank_text<S: Store + Drop>(memory: &mut Memory<'_, S>, entry: (u16, u16))
 #[tactic(auto, using(crate::proofs::Keeping::blanking))]
 fn blank<S: Store + Drop>(memory: &mut Memory<'_, S>, entry: (u16, u16))
     requires { IsFieldEntry memory.old.program.fields entry.0 entry.1 }
-    ensures { memory.new ≡ with_fields (lines.blanked_at (entry.0, entry.1) memory.old.world.fields) memory.old }
+    ensures { memory.new ≡ fields_replaced (lines.blanked_at (entry.0, entry.1) memory.old.world.fields) memory.old }
 {
     memory.is_kept();
     match kind_of(form_at(memory.rows(), entry.0)) {
@@ -154,7 +154,7 @@ fn blank<S: Store + Drop>(memory: &mut Memory<'_, S>, entry: (u16, u16))
 /// The entries become zero or blank, in order.
 pub fn blank_all<S: Store + Drop>(memory: &mut Memory<'_, S>, entries: &[(u16, u16)])
     requires { AreFieldEntries memory.old.program.fields entries.now }
-    ensures { memory.new ≡ with_fields (lines.blanked_all entries.now memory.old.world.fields) memory.old }
+    ensures { memory.new ≡ fields_replaced (lines.blanked_all entries.now memory.old.world.fields) memory.old }
 {
     'entries: for entry in entries {
         blank(memory, *entry);

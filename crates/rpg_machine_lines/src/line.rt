@@ -31,14 +31,13 @@ pub fn put_line<S: Store + Drop>(
     ensures near { OnOk result (IsNear memory.new.world.here) }
     ensures program { memory.new.program ≡ memory.old.program }
 {
-    let rows = memory.rows();
     fill_blanks(text);
     to_blank.clear();
     match assemble(memory, text, to_blank, &line.fields) {
         End::GoesOn => {}
         End::Halt(halt) => return Ok(End::Halt(halt)),
     }
-    put_on(memory, output, rows.overflow, line.file, line.spacing, text)?;
+    put_on(memory, output, line.file, line.spacing, text)?;
     blank_all(memory, to_blank);
     Ok(End::GoesOn)
 }

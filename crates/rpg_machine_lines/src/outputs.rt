@@ -28,12 +28,11 @@ pub fn put_details<S: Store + Drop>(
     ensures near { OnOk result (IsNear memory.new.world.here) }
     ensures program { memory.new.program ≡ memory.old.program }
 {
-    let rows = memory.rows();
     match put_lines(memory, output, text, to_blank, Pass::Detail)? {
         End::GoesOn => {}
         End::Halt(halt) => return Ok(End::Halt(halt)),
     }
-    memory.settle(rows.overflow);
+    memory.settle();
     Ok(End::GoesOn)
 }
 

@@ -14,20 +14,15 @@ use std::alloc::AllocError;
 
 /// The form moves: a skip, and then a space.
 #[tactic(auto, using(crate::proofs::Moving::moving), unfolding(rpg_effect::specs::Lines::after_movement))]
-fn move_form<S: Store + Drop>(
-    memory: &mut Memory<'_, S>,
-    overflow: Option<u8>,
-    line: u8,
-    spaces: u8,
-)
+fn move_form<S: Store + Drop>(memory: &mut Memory<'_, S>, line: u8, spaces: u8)
     requires line { line ≤ 66 }
     requires spaces { spaces ≤ 3 }
     requires near { IsNear memory.old.world.here }
-    ensures moved { memory.new ≡ form_moved overflow line spaces memory.old }
+    ensures moved { memory.new ≡ form_moved line spaces memory.old }
     ensures few { memory.new.world.here.page ≤ memory.old.world.here.page + 2 }
 {
-    memory.skip(overflow, line);
-    memory.space(overflow, spaces);
+    memory.skip(line);
+    memory.space(spaces);
 }
 
 /// The form moves, the line is placed, the form moves.
@@ -35,19 +30,18 @@ fn move_form<S: Store + Drop>(
 fn print_line<S: Store + Drop>(
     memory: &mut Memory<'_, S>,
     output: &mut Output,
-    overflow: Option<u8>,
     spacing: Spacing,
     text: &[u8],
 ) -> Result<(), AllocError>
     requires spacing { is_spacing spacing ≡ true }
     requires near { IsNear memory.old.world.here }
-    ensures done { OnOk result (Puts (lines.put_on overflow File.Printer spacing text.now) memory.old output.old GoesOn memory.new output.new) }
+    ensures done { OnOk result (Puts (lines.put_on memory.old.program.overflow File.Printer spacing text.now) memory.old output.old GoesOn memory.new output.new) }
     ensures near { OnOk result (IsNear memory.new.world.here) }
     ensures program { memory.new.program ≡ memory.old.program }
 {
-    move_form(memory, overflow, spacing.skip_before, spacing.space_before);
+    move_form(memory, spacing.skip_before, spacing.space_before);
     memory.place(text, &mut output.print)?;
-    move_form(memory, overflow, spacing.skip_after, spacing.space_after);
+    move_form(memory, spacing.skip_after, spacing.space_after);
     Ok(())
 }
 
@@ -64,11 +58,10 @@ fn append_record(disk: &mut Vec<u8>, text: &[u8]) -> Result<(), AllocError>
 fn write_record<S: Store + Drop>(
     memory: &Memory<'_, S>,
     output: &mut Output,
-    overflow: Option<u8>,
     spacing: Spacing,
     text: &[u8],
 ) -> Result<(), AllocError>
-    ensures done { OnOk result (Puts (lines.put_on overflow File.Disk spacing text.now) memory.now output.old GoesOn memory.now output.new) }
+    ensures done { OnOk result (Puts (lines.put_on memory.now.program.overflow File.Disk spacing text.now) memory.now output.old GoesOn memory.now output.new) }
 {
     append_record(&mut output.disk, text)?;
     Ok(())
@@ -78,19 +71,18 @@ fn write_record<S: Store + Drop>(
 pub fn put_on<S: Store + Drop>(
     memory: &mut Memory<'_, S>,
     output: &mut Output,
-    overflow: Option<u8>,
     file: File,
     spacing: Spacing,
     text: &[u8],
 ) -> Result<(), AllocError>
     requires spacing { is_spacing spacing ≡ true }
     requires near { IsNear memory.old.world.here }
-    ensures done { OnOk result (Puts (lines.put_on overflow file spacing text.now) memory.old output.old GoesOn memory.new output.new) }
+    ensures done { OnOk result (Puts (lines.put_on memory.old.program.overflow file spacing text.now) memory.old output.old GoesOn memory.new output.new) }
     ensures near { OnOk result (IsNear memory.new.world.here) }
     ensures program { memory.new.program ≡ memory.old.program }
 {
     match file {
-        File::Printer => print_line(memory, output, overflow, spacing, text),
-        File::Disk => write_record(memory, output, overflow, spacing, text),
+        File::Printer => print_line(memory, output, spacing, text),
+        File::Disk => write_record(memory, output, spacing, text),
     }
 }

@@ -8,7 +8,7 @@ ghost use Rattle.rpg_effect.specs.World.{number_at};
 ghost use Rattle.rpg_effect.specs.declared.form.Kind.TheVariants as kinds;
 ghost use Rattle.rpg_effect.specs.declared.operation.Side.TheVariants as sides;
 ghost use Rattle.rpg_store.specs.Memory.{NamesLike, NamesNumber, NamesText, forms_in};
-ghost use Rattle.rpg_machine_operations.specs.Words.{DidEffect, FitsResult, kind_in, moved_in, number_moved, number_over, source_in};
+ghost use Rattle.rpg_machine_operations.specs.Words.{DidEffect, FitsResult, kind_in, moved_in, number_moved, number_after_in, source_in};
 ghost use Rattle.rpg_object_program.specs.Kept.{IsCharacter};
 
 use rpg_decimal::{Figure, Source, move_left, move_left_text, move_right, move_right_text};
@@ -39,8 +39,8 @@ fn source_at<'m, S: Store + Drop>(memory: &'m Memory<'_, S>, factor2: Resolved) 
     requires { NamesLike memory.now factor2 factor2 }
     ensures text { sources.source_characters result ≡ source_in memory.now factor2 }
     ensures characters { All IsCharacter (sources.source_characters result) }
-    ensures right { (len : ℕ) (old : ℤ) → sources.moved_right result len old ≡ number_over memory.now sides.Right factor2 len old }
-    ensures left { (len : ℕ) (old : ℤ) → sources.moved_left result len old ≡ number_over memory.now sides.Left factor2 len old }
+    ensures right { (len : ℕ) (old : ℤ) → sources.moved_right result len old ≡ number_after_in memory.now sides.Right factor2 len old }
+    ensures left { (len : ℕ) (old : ℤ) → sources.moved_left result len old ≡ number_after_in memory.now sides.Left factor2 len old }
 {
     match factor2.form.kind {
         Kind::Number => Source::Number(figure_at(memory, factor2)),

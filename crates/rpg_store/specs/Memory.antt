@@ -20,7 +20,7 @@ use Rattle.rpg_store.specs.Fits.{Fits}
 use Rattle.rpg_store.specs.Store.{Values, Currents}
 
 -- a program that runs: the line placed last, and the world, whose pages are counted from there
-pub record Loaded : Type 0 where
+pub record Working : Type 0 where
   pub program : Object
   pub last : Option ℕ
   pub world : World nat_cmp
@@ -41,24 +41,24 @@ first_world fields = record {
   has_turned_on = false;
 }
 
-abbrev pub loaded : Object → Fields nat_cmp → Loaded
-loaded p fields = record { program = p; last = None; world = first_world fields }
+abbrev pub first_working : Object → Fields nat_cmp → Working
+first_working p fields = record { program = p; last = None; world = first_world fields }
 
 -- ---- words on what a memory stands for
 
 -- what it holds of the paper, with its world
-abbrev pub held_of : Loaded → Held
+abbrev pub held_of : Working → Held
 held_of w = record { last = w.last; world = w.world }
 
-abbrev pub forms_in : Loaded → ℕ → Option FieldForm
+abbrev pub forms_in : Working → ℕ → Option FieldForm
 forms_in w field = form_at w.program.fields field
 
 -- where the form stands
-abbrev pub standing_of : Loaded → Standing
+abbrev pub standing_of : Working → Standing
 standing_of w = record { last = w.last; begun = w.world.here.page; line = w.world.here.line }
 
 -- a line was placed there: pages are counted from it
-abbrev pub behind_line : Loaded → Loaded
+abbrev pub behind_line : Working → Working
 behind_line w = record w { last = Some w.world.here.line; world = record w.world { here = record { page = 0; line = w.world.here.line } } }
 
 abbrev pub with_on : set.FinSet nat_cmp → World nat_cmp → World nat_cmp
@@ -72,20 +72,20 @@ abbrev pub with_remainder : Fraction → World nat_cmp → World nat_cmp
 with_remainder p w = record w { remainder = p }
 
 -- the position that an operand names now, and the entry, where it names one
-abbrev pub position_in : Loaded → Operand ℕ → Option ℕ
+abbrev pub position_in : Working → Operand ℕ → Option ℕ
 position_in w o = position_of (forms_in w) w.world.fields o
 
-abbrev pub entry_if_in_range : Loaded → Operand ℕ → Option (Entry ℕ)
+abbrev pub entry_if_in_range : Working → Operand ℕ → Option (Entry ℕ)
 entry_if_in_range w o = if is_some (position_in w o) then Some (entry_of (forms_in w) w.world.fields o) else None
 
--- an operand that was resolved is a number, or of the kind of another
-abbrev pub NamesNumber : Loaded → Resolved → Type 0
+-- an operand was resolved to an entry of a number field, of a text field, or of a field of the kind of another operand's
+abbrev pub NamesNumber : Working → Resolved → Type 0
 NamesNumber w r = IsResolved w.program.fields kinds.Number r
 
-abbrev pub NamesText : Loaded → Resolved → Type 0
+abbrev pub NamesText : Working → Resolved → Type 0
 NamesText w r = IsResolved w.program.fields kinds.Text r
 
-abbrev pub NamesLike : Loaded → Resolved → Resolved → Type 0
+abbrev pub NamesLike : Working → Resolved → Resolved → Type 0
 NamesLike w a r = IsResolved w.program.fields (kind_of (forms_in w a.entry.field)) r
 
 -- ---- what every memory keeps

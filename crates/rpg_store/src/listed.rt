@@ -1,5 +1,5 @@
 //! A store that lists its values.
-ghost use Rattle.std.specs.Prelude.{◌≡◌, ℕ, ◌≤◌, ◌++◌, map as along, IfOk, OnOk, Some};
+ghost use Rattle.std.specs.Prelude.{◌≡◌, ◌++◌, map as along, IfOk, OnOk, Some};
 ghost use Rattle.std.specs.Borrow.{Lends, sem, Array, u8 as byte};
 ghost use Rattle.rpg_effect.specs.Values.{Number, Text, held};
 ghost use Rattle.rpg_effect.specs.contracts.value.Value.{the_row as value_row};

@@ -1,12 +1,12 @@
 //! What operations and output read and change.
-ghost use Rattle.std.specs.Prelude.{◌≡◌, ◌<◌, ◌≤◌, ◌^◌, All, length, true, pos, unsigned_abs};
+ghost use Rattle.std.specs.Prelude.{◌≡◌, ◌<◌, ◌≤◌, ◌^◌, All, length, true, unsigned_abs};
 ghost use Rattle.rpg_effect.specs.Forms.{entries_of, is_table_form, length_of};
 ghost use Rattle.rpg_effect.specs.Showing as showing;
 ghost use Rattle.rpg_effect.specs.Values.{Number, Text};
 ghost use Rattle.rpg_effect.specs.World.{characters_at, current_in, number_at, set_current, set_value};
 ghost use Rattle.rpg_effect.specs.declared.form.Kind.TheVariants as kinds;
 ghost use Rattle.rpg_store.specs.Fields.{AreForms, IsValue};
-ghost use Rattle.rpg_store.specs.Memory.{forms_in, indicator_turned, rest_value, loaded, with_on, with_remainder};
+ghost use Rattle.rpg_store.specs.Memory.{forms_in, indicator_turned, rest_value, first_working, with_on, with_remainder};
 ghost use Rattle.rpg_object_program.specs.Kept.{IsCharacter, IsProgram};
 ghost use Rattle.rpg_object_program.specs.Object.{seen};
 ghost use Rattle.rpg_store.specs.Fits.{Fits};
@@ -36,7 +36,7 @@ pub struct Memory<'a, S: Store + Drop> {
     pub(crate) program: &'a Program,
     pub(crate) store: S,
     pub(crate) on: Indicators,
-    /// What the division left that was last done without half adjust.
+    /// What the last division without half adjust left; 0 before the first.
     pub(crate) remainder: Rest,
     pub(crate) form: Form,
     /// Whether the last cycle did an overflow output.
@@ -49,9 +49,9 @@ impl<'a, S: Store + Drop> Model for Memory<'a, S> {
     ghost use Rattle.std.specs.Coded.{codes};
     ghost use Rattle.rpg_paper.specs.Form.{here_of};
     ghost use Rattle.rpg_store.specs.Codes.{world_code};
-    ghost use Rattle.rpg_store.specs.Memory.{HoldsFields, Loaded, stored_fields, rest_value};
+    ghost use Rattle.rpg_store.specs.Memory.{HoldsFields, Working, stored_fields, rest_value};
 
-    ghost Value = { Loaded };
+    ghost Value = { Working };
 
     ghost coded = { Prim.hlevel (codes, world_code) };
 
@@ -87,7 +87,7 @@ impl<'a, S: Store + Drop> Memory<'a, S> {
     pub fn new(program: &'a Program, store: S) -> Memory<'a, S>
         requires own { S.forms store ≡ program.now.fields }
         requires fits { Fits program.now.fields (S.contents store) (S.currents store) }
-        ensures { result ≡ loaded program.now (record { values = S.contents store; current = S.currents store }) }
+        ensures { result ≡ first_working program.now (record { values = S.contents store; current = S.currents store }) }
     {
         let _ = program.rows();
         Memory {

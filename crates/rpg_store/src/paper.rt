@@ -1,5 +1,5 @@
 //! Movements of the printed form, and the indicator that they turn on.
-ghost use Rattle.std.specs.Prelude.{◌≡◌, ◌<◌, ◌≤◌, ◌++◌, OnErr, OnOk, Some};
+ghost use Rattle.std.specs.Prelude.{◌≡◌, ◌<◌, ◌≤◌, ◌++◌, OnErr, OnOk};
 ghost use Rattle.rpg_paper.specs.Form.{way_of};
 ghost use Rattle.rpg_text.specs.Texts.{trimmed};
 ghost use Rattle.rpg_effect.specs.Lines as lines;
@@ -11,13 +11,21 @@ use crate::store::Store;
 use std::alloc::AllocError;
 
 impl<'a, S: Store + Drop> Memory<'a, S> {
+    /// The overflow indicator of its program.
+    fn overflow(&self) -> Option<u8>
+        ensures { result ≡ self.now.program.overflow }
+    {
+        self.rows().overflow
+    }
+
     /// The form moves some lines on.
     #[tactic(auto, unfolding(rpg_effect::specs::Lines::after_movement))]
-    pub fn space(&mut self, overflow: Option<u8>, spaces: u8)
+    pub fn space(&mut self, spaces: u8)
         requires spaces { spaces ≤ 3 }
         requires few { self.old.world.here.page < 1000 }
-        ensures { self.new ≡ record self.old { world = lines.after_space overflow spaces self.old.world } }
+        ensures { self.new ≡ record self.old { world = lines.after_space self.old.program.overflow spaces self.old.world } }
     {
+        let overflow = self.overflow();
         if self.form.space(spaces) {
             turn_on(&mut self.on, overflow);
             self.has_turned_on = true;
@@ -26,11 +34,12 @@ impl<'a, S: Store + Drop> Memory<'a, S> {
 
     /// The form moves to a line; 0 is no skip.
     #[tactic(auto, unfolding(rpg_effect::specs::Lines::after_movement))]
-    pub fn skip(&mut self, overflow: Option<u8>, line: u8)
+    pub fn skip(&mut self, line: u8)
         requires line { line ≤ 66 }
         requires few { self.old.world.here.page < 1000 }
-        ensures { self.new ≡ record self.old { world = lines.after_skip overflow line self.old.world } }
+        ensures { self.new ≡ record self.old { world = lines.after_skip self.old.program.overflow line self.old.world } }
     {
+        let overflow = self.overflow();
         if line != 0 && self.form.skip(line) {
             turn_on(&mut self.on, overflow);
             self.has_turned_on = true;
@@ -38,9 +47,10 @@ impl<'a, S: Store + Drop> Memory<'a, S> {
     }
 
     /// The overflow indicator goes off where an overflow output has been done and no movement since has turned it on.
-    pub fn settle(&mut self, overflow: Option<u8>)
-        ensures { self.new ≡ record self.old { world = lines.settled overflow self.old.world } }
+    pub fn settle(&mut self)
+        ensures { self.new ≡ record self.old { world = lines.settled self.old.program.overflow self.old.world } }
     {
+        let overflow = self.overflow();
         if self.was_overflow && !self.has_turned_on {
             turn_off(&mut self.on, overflow);
         }

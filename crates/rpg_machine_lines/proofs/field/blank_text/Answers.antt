@@ -3,7 +3,7 @@ use Rattle.rpg_effect.specs.Forms.{length_of}
 use Rattle.rpg_effect.specs.Values.{Text}
 use Rattle.rpg_effect.specs.World.{Fields, with_value}
 use Rattle.std.specs.Ordering.{nat_cmp}
-use Rattle.rpg_machine_lines.specs.Drafts.{with_fields}
+use Rattle.rpg_machine_lines.specs.Drafts.{fields_replaced}
 use Rattle.rpg_store.specs.Memory.{forms_in}
 use Rattle.rpg_machine_lines.proofs.Keeping.{blanked_text}
 use Rattle.rpg_machine_lines.proofs.field.blank_text.Goals as goal
@@ -16,5 +16,5 @@ returns g c =
     let long : length c.fill_blanks.new.text ≡ length_of (forms_in m f) = search rules in
     let blank = c.fill_blanks.ensures ∙ ap (λ (n : ℕ). replicate n 32) (sym c.fill_blanks.auto.text ∙ long) in
     c.set_text.ensures
-    ∙ ap (λ (fields : Fields nat_cmp). with_fields fields m)
+    ∙ ap (λ (fields : Fields nat_cmp). fields_replaced fields m)
     (ap (λ (t : List ℕ). with_value (f, e) (Text t) m.world.fields) blank ∙ blanked_text m.program.fields m.world.fields f e c.is_kept.ensures.fits c.requires.entry c.requires.text)

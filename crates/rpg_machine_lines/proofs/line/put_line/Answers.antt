@@ -5,11 +5,11 @@ use Rattle.rpg_effect.specs.Halts.{halt_number}
 use Rattle.rpg_effect.specs.Lines.{blanked_all, put_on}
 use Rattle.rpg_effect.specs.Put.{IsDone}
 use Rattle.rpg_machine_lines.proofs.OneLine.{assembled_from, line_halted, line_placed, right_moves}
-use Rattle.rpg_machine_lines.specs.Drafts.{draft_in, with_fields}
+use Rattle.rpg_machine_lines.specs.Drafts.{draft_in, fields_replaced}
 use Rattle.rpg_machine_lines.specs.Outputs.{output_of}
 use Rattle.rpg_object_program.specs.Constants.{word_at}
-use Rattle.rpg_object_program.specs.Object.{Object, line_row, program_line}
-use Rattle.rpg_store.specs.Memory.{Loaded, held_of}
+use Rattle.rpg_object_program.specs.Object.{line_row, program_line}
+use Rattle.rpg_store.specs.Memory.{Working, held_of}
 use Rattle.rpg_machine_lines.proofs.line.put_line.Goals as goal
 
 pub put_on-requires-clause-spacing : goal.put_on-requires-clause-spacing
@@ -41,12 +41,10 @@ returns-clause-done g c =
     GoesOn d _ l.len c.deref.result.now l.fields _ _
     (ap end_of c.in-GoesOn.is) long c.deref.ensures.value blank c.clear.ensures c.assemble.ensures.drafted in
     let placed = c.put_on.new.memory in
-    let over = ap (λ (x : Object). x.overflow) c.rows-rows.ensures.same in
     let drafted = c.assemble.ensures.rest in
-    let put = subst (λ x. IsDone (put_on x l.file l.spacing d.text) (held_of (with_fields d.fields m)) (output_of c.args.output.now) GoesOn (held_of placed) (output_of c.put_on.new.output)) over
-    (subst (λ (x : Loaded). IsDone (put_on c.rows-rows.result.now.overflow l.file l.spacing d.text) (held_of x) (output_of c.args.output.now) GoesOn (held_of placed) (output_of c.put_on.new.output)) drafted
-    c.in_ok-put_on.ensures.done) in
-    let blanked = c.blank_all.ensures ∙ ap (λ (es : List (ℕ × ℕ)). with_fields (blanked_all es placed.world.fields) placed) c.deref-2.ensures.0 in
+    let put = subst (λ (x : Working). IsDone (put_on x.program.overflow l.file l.spacing d.text) (held_of x) (output_of c.args.output.now) GoesOn (held_of placed) (output_of c.put_on.new.output)) drafted
+    c.in_ok-put_on.ensures.done in
+    let blanked = c.blank_all.ensures ∙ ap (λ (es : List (ℕ × ℕ)). fields_replaced (blanked_all es placed.world.fields) placed) c.deref-2.ensures.0 in
     line_placed (form_at p.fields) (word_at p) p.overflow l (held_of m) (output_of c.args.output.now) d (held_of placed)
     (held_of c.blank_all.new.memory) (output_of c.put_on.new.output) c.requires.right.fault a put
-    (ap (λ (x : Loaded). x.last) blanked) (ap (λ (x : Loaded). x.world) blanked)
+    (ap (λ (x : Working). x.last) blanked) (ap (λ (x : Working). x.world) blanked)

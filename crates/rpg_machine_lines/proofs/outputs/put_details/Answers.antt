@@ -8,7 +8,7 @@ use Rattle.rpg_effect.specs.declared.line.Pass.TheVariants as passes
 use Rattle.rpg_machine_lines.proofs.Following.{halted, went_on}
 use Rattle.rpg_machine_lines.specs.Outputs.{output_of, passage_effect}
 use Rattle.rpg_object_program.specs.Object.{Object}
-use Rattle.rpg_store.specs.Memory.{Loaded, held_of}
+use Rattle.rpg_store.specs.Memory.{Working, held_of}
 use Rattle.rpg_machine_lines.proofs.outputs.put_details.Goals as goal
 
 pub returns-clause-done : goal.returns-clause-done
@@ -20,8 +20,8 @@ returns-clause-done g c =
     let o = output_of c.put_lines.new.output in
     let u = held_of c.settle.new.self in
     went_on (passage_effect p passes.Detail) (λ x. Leaves (settled p.overflow x)) w v q o _ c.in_ok-put_lines.ensures.done u o GoesOn c.in-GoesOn.is
-    (quiet_done (settled p.overflow) GoesOn v u o (ap (λ (m : Loaded). m.last) c.settle.ensures)
-    (λ x. ap (λ (m : Loaded). on_paper x m.world) c.settle.ensures ∙ ap (λ (p : Object). on_paper x (settled p.overflow v.world)) c.rows-rows.ensures.same))
+    (quiet_done (settled p.overflow) GoesOn v u o (ap (λ (m : Working). m.last) c.settle.ensures)
+    (λ x. ap (λ (m : Working). on_paper x m.world) c.settle.ensures ∙ ap (λ (p : Object). on_paper x (settled p.overflow v.world)) c.put_lines.ensures.program))
 
 pub returns-in-Halt-clause-done : goal.returns-in-Halt-clause-done
 returns-in-Halt-clause-done g c =

@@ -7,7 +7,7 @@ use Rattle.rpg_effect.specs.Put.{on_paper}
 use Rattle.rpg_effect.specs.declared.line.Pass.TheVariants as passes
 use Rattle.rpg_machine_lines.proofs.Following.{halted, went_on}
 use Rattle.rpg_machine_lines.specs.Outputs.{output_of, passage_effect}
-use Rattle.rpg_store.specs.Memory.{Loaded, held_of}
+use Rattle.rpg_store.specs.Memory.{Working, held_of}
 use Rattle.rpg_machine_lines.proofs.outputs.put_overflow_details.Goals as goal
 
 pub returns-clause-done : goal.returns-clause-done
@@ -19,7 +19,7 @@ returns-clause-done g c =
     let o = output_of c.put_lines.new.output in
     let u = held_of c.watch_movements.new.self in
     went_on (passage_effect p passes.OverflowDetail) (λ x. Leaves (movements_watched x)) w v q o _ c.in_ok-put_lines.ensures.done u o GoesOn c.in-GoesOn.is
-    (quiet_done (movements_watched) GoesOn v u o (ap (λ (m : Loaded). m.last) c.watch_movements.ensures) (λ x. ap (λ (m : Loaded). on_paper x m.world) c.watch_movements.ensures))
+    (quiet_done (movements_watched) GoesOn v u o (ap (λ (m : Working). m.last) c.watch_movements.ensures) (λ x. ap (λ (m : Working). on_paper x m.world) c.watch_movements.ensures))
 
 pub returns-in-Halt-clause-done : goal.returns-in-Halt-clause-done
 returns-in-Halt-clause-done g c =

@@ -2,8 +2,10 @@ use Rattle.std.proofs.Common.{◌≡◌, ◌++◌, Some, refl, ap, ◌∙◌, ar
 use Rattle.rpg_paper.specs.Form.{way_of}
 use Rattle.rpg_text.specs.Texts.{trimmed}
 use Rattle.rpg_effect.proofs.Printing.{from_line, print_done}
+use Rattle.rpg_effect.specs.Lines.{after_skip, after_space}
 use Rattle.rpg_machine_lines.specs.Outputs.{output_of}
-use Rattle.rpg_store.specs.Memory.{Loaded, held_of, standing_of}
+use Rattle.rpg_object_program.specs.Object.{Object}
+use Rattle.rpg_store.specs.Memory.{Working, held_of, standing_of}
 use Rattle.rpg_machine_lines.proofs.printer.print_line.Goals as goal
 
 pub returns : goal.returns
@@ -11,16 +13,18 @@ returns g c =
     let before = c.move_form.ensures.moved in
     let placed = c.in_ok-place.ensures.placed in
     let after = c.move_form-2.ensures.moved in
-    let first : c.place.new.self.world.here.page ≡ 0 = ap (λ (m : Loaded). m.world.here.page) placed in
+    let own = ap (λ (m : Working). m.program) placed ∙ ap (λ (m : Working). m.program) before in
+    let first : c.place.new.self.world.here.page ≡ 0 = ap (λ (m : Working). m.world.here.page) placed in
     record {
-      done = print_done c.args.overflow c.args.spacing c.args.text.now (held_of c.args.memory.now) (held_of c.place.new.self) (held_of c.move_form-2.new.memory)
+      done = print_done c.args.memory.now.program.overflow c.args.spacing c.args.text.now (held_of c.args.memory.now) (held_of c.place.new.self) (held_of c.move_form-2.new.memory)
           (output_of c.args.output.now) (record { print = c.place.new.print.items; disk = c.args.output.now.disk.items })
-          (ap (λ (m : Loaded). m.world) placed ∙ ap (λ (m : Loaded). from_line m.world) before)
-          (ap (λ (m : Loaded). m.last) placed ∙ ap (λ (m : Loaded). Some m.world.here.line) before)
-          (ap (λ (m : Loaded). m.world) after)
-          (ap (λ (m : Loaded). m.last) after)
-          (c.in_ok-place.ensures.bytes ∙ ap (λ (m : Loaded). c.args.output.now.print.items ++ way_of (standing_of m) ++ trimmed c.args.text.now) before)
+          (ap (λ (m : Working). m.world) placed ∙ ap (λ (m : Working). from_line m.world) before)
+          (ap (λ (m : Working). m.last) placed ∙ ap (λ (m : Working). Some m.world.here.line) before)
+          (ap (λ (m : Working). m.world) after
+          ∙ ap (λ (p : Object). after_space p.overflow c.args.spacing.space_after (after_skip p.overflow c.args.spacing.skip_after c.place.new.self.world)) own)
+          (ap (λ (m : Working). m.last) after)
+          (c.in_ok-place.ensures.bytes ∙ ap (λ (m : Working). c.args.output.now.print.items ++ way_of (standing_of m) ++ trimmed c.args.text.now) before)
           refl;
       near = omega (arith, first, c.move_form-2.ensures.few);
-      program = ap (λ (m : Loaded). m.program) after ∙ ap (λ (m : Loaded). m.program) placed ∙ ap (λ (m : Loaded). m.program) before;
+      program = ap (λ (m : Working). m.program) after ∙ own;
     }

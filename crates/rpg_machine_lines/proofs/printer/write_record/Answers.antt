@@ -6,6 +6,6 @@ use Rattle.rpg_machine_lines.proofs.printer.write_record.Goals as goal
 
 pub returns : goal.returns
 returns g c = record {
-  done = record_done c.args.overflow c.args.spacing c.args.text.now (held_of c.args.memory.now) (output_of c.args.output.now)
+  done = record_done c.args.memory.now.program.overflow c.args.spacing c.args.text.now (held_of c.args.memory.now) (output_of c.args.output.now)
       (record { print = c.args.output.now.print.items; disk = c.append_record.new.disk.items }) refl c.in_ok-append_record.ensures;
 }

@@ -3,7 +3,7 @@ use Rattle.rpg_effect.specs.Act.{found_shown}
 use Rattle.rpg_effect.specs.Forms.{entries_of, kind_of}
 use Rattle.rpg_effect.specs.Rows.{holds_position}
 use Rattle.rpg_effect.specs.Showing.{shown_if_any}
-use Rattle.rpg_store.specs.Memory.{Loaded, with_on}
+use Rattle.rpg_store.specs.Memory.{Working, with_on}
 use Rattle.rpg_machine_operations.proofs.Finding.{found_fits, looked}
 use Rattle.rpg_machine_operations.proofs.searching.look_up.Goals as goal
 use Rattle.rpg_effect.specs.Forms.{form_at}
@@ -25,8 +25,8 @@ returns g c =
     record {
       leaves = rw (← c.field_of.ensures, ← c.search-found.ensures)
           (looked forms w _ c.args.factor2.entry c.field_of.result c.args.shows c.search-found.result fits
-          (ap (λ (m : Loaded). m.world) c.show_if_any.ensures ∙ ap (λ r. with_on (shown_if_any c.args.shows r u.on) u) c.order_of.ensures
-          ∙ ap (λ (m : Loaded). found_shown (form_at forms) c.args.shows c.search-found.result m.world) c.place.ensures));
+          (ap (λ (m : Working). m.world) c.show_if_any.ensures ∙ ap (λ r. with_on (shown_if_any c.args.shows r u.on) u) c.order_of.ensures
+          ∙ ap (λ (m : Working). found_shown (form_at forms) c.args.shows c.search-found.result m.world) c.place.ensures));
       right = tt;
       rest = rw (c.show_if_any.ensures, c.place.ensures) refl;
     }

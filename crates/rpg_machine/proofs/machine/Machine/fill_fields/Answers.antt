@@ -12,11 +12,10 @@ use Rattle.rpg_machine.proofs.Staying.{record_stays, same_place}
 use Rattle.rpg_machine.specs.Ready.{IsReady}
 use Rattle.rpg_machine_lines.specs.Ready.{IsNear}
 use Rattle.rpg_paper.specs.Paper.{Position}
-use Rattle.rpg_store.specs.Fits.{Fits}
 use Rattle.rpg_machine.specs.Outputs.{FillsFields, length_at}
 use Rattle.rpg_machine.specs.Running.{Did, Running}
 use Rattle.rpg_machine.specs.State.{running_of}
-use Rattle.rpg_store.specs.Memory.{Loaded, forms_in, held_of}
+use Rattle.rpg_store.specs.Memory.{Working, forms_in, held_of}
 use Rattle.rpg_object_program.specs.Object.{Object, input_length, seen, type_row}
 use Rattle.rpg_verify_rules.proofs.Values.{one_of_all}
 use Rattle.rpg_verify_rules.specs.Sound.{IsSound, IsSoundType}
@@ -58,7 +57,7 @@ returns-clause-done g c =
     let e = end_of c.fill_all-end.result in
     let counted : steps ≡ c.self.inside.state.steps + length t.inputs.items = omega (arith, c.len.ensures) in
     let mine = same ∙ sym c.self.invariant.own in
-    let last = ap (λ (m : Loaded). m.last) c.fill_all-end.ensures.rest in
+    let last = ap (λ (m : Working). m.last) c.fill_all-end.ensures.rest in
     let done = c.fill_all-end.ensures.leaves ∙ ap (λ (p : Object). record_in (form_at p.fields) text c.deref.result.now old.config.world) (sym mine) ∙ ap (λ (fs : List (InputField ℕ)). record_in (form_at rows.fields.items) text fs old.config.world) c.deref.ensures.value in
     let filled = record_filled (seen rows) c.args.row text (type_row t) steps e old held there counted last done in
     subst (λ (r : Running). Did (FillsFields r.program c.args.row text) r e new) c.self.view_is
@@ -69,9 +68,7 @@ returns-clause-ready g c =
     let m = c.self.inside.state.memory in
     let same = same_place (end_of c.fill_all-end.result) m.world c.fill_all-end.new.memory.world _ c.fill_all-end.ensures.leaves (record_stays (forms_in m) c.args.text.now c.deref.result.now m.world) in
     let ready = subst (λ (r : Running). IsReady r) (sym c.self.view_is) c.requires.ready in
-    let own = ap (λ (x : Loaded). x.program) c.fill_all-end.ensures.rest ∙ c.self.invariant.own in
     λ is. record {
-      fits = subst (λ (o : Object). Fits o.fields c.fill_all-end.new.memory.world.fields.values c.fill_all-end.new.memory.world.fields.current) own c.is_kept.ensures.fits;
       no_cell = ready.no_cell;
       few_spends = ready.few_spends;
       few_pages = subst (λ (x : Position). IsNear x) (sym same) ready.few_pages;

@@ -11,7 +11,7 @@ run_section-requires-clause-able g c = able_of c.self.inside.program c.self.insi
 pub returns-clause-ready : goal.returns-clause-ready
 returns-clause-ready g c =
     let before : c.self.inside.state.allowance < 2 ^ 16 = subst (λ (r : Running). r.config.allowance < 2 ^ 16) (sym c.self.view_is) c.requires.ready.few_spends in
-    λ is. ready_of c.self.inside.program c.run_section.new.state c.is_kept.ensures.fits c.in_ok-end.ensures.able (c.in_ok-end.ensures.no_cell_is_left is)
+    λ is. ready_of c.self.inside.program c.run_section.new.state c.in_ok-end.ensures.able (c.in_ok-end.ensures.no_cell_is_left is)
     (omega (arith, before, c.run_section.ensures.spent))
 
 pub returns-clause-bound : goal.returns-clause-bound
