@@ -1,5 +1,5 @@
 -- What is reported of a run, and what each writer has of its output.
-use Rattle.std.specs.Prelude.{◌≡◌, ℕ, zero, suc, ◌+◌, ◌<◌, ◌≤◌, ℤ, true, List, [], Option}
+use Rattle.std.specs.Prelude.{◌≡◌, ℕ, zero, suc, ◌+◌, ◌<◌, ◌≤◌, ℤ, true, List, [], Option, Some}
 use Rattle.std.specs.Io.KnownBytes.{Appends}
 use Rattle.rpg_cycle.specs.Counting.{records_count}
 use Rattle.rpg_cycle.specs.Ends.{GoesOn}
@@ -7,19 +7,21 @@ use Rattle.rpg_cycle.specs.Job.{first_fields}
 use Rattle.rpg_cycle.specs.Phases.{Cycle, UnderWay, begun, needs_record}
 use Rattle.rpg_cycle.specs.Runs.{Course, IsRun, Records, left_behind, next_of}
 use Rattle.rpg_cycle.specs.Stages.{job_end}
-use Rattle.rpg_cycle.specs.Starting.{job_start}
+use Rattle.rpg_cycle.specs.Starting.{date_in, job_start}
 use Rattle.rpg_cycle_records.specs.Earlier.{Selected, with_record}
 use Rattle.rpg_cycle_records.specs.Waiting.{Inputs, unread}
-use Rattle.rpg_cycle_safety.specs.Coming.{HasRun, IsJobEnd}
+use Rattle.rpg_cycle_safety.specs.Coming.{HasRun, IsJobEnd, RunsWell}
 use Rattle.rpg_effect.specs.Put.{Bytes, disk_bytes}
 use Rattle.rpg_effect.specs.declared.input.InputFile.{InputFile}
 use Rattle.rpg_effect.specs.declared.input.InputFile.TheVariants.{Primary, Secondary}
 use Rattle.rpg_files.specs.Sending.{AppendsFirst, AppendsPrefix}
 use Rattle.rpg_machine.specs.Config.{Config, Output, no_output, with_more}
 use Rattle.rpg_machine.specs.Run.{running_place}
+use Rattle.rpg_object_program.specs.Kept.{IsProgram}
 use Rattle.rpg_object_program.specs.Object.{Object}
 use Rattle.rpg_paper.specs.Paper.{paper}
 use Rattle.rpg_verify.specs.Bound.{bound}
+use Rattle.rpg_verify_rules.specs.Accepted.{IsAccepted}
 use Rattle.rpg_engine.specs.Inputs.{records_of}
 use Rattle.rpg_engine.specs.declared.fault.RunFault.{RunFault}
 use Rattle.rpg_engine.specs.declared.fault.RunFault.TheVariants as faults
@@ -49,6 +51,15 @@ pub record JobEndsWell (p : Object) (report : Report) (primary secondary : List 
   pub ending : IsJobEnd (job_end report.ending)
   pub cycles : report.cycles ≤ records_count (records_of primary secondary) + 1
   pub steps : report.most ≤ bound p
+
+-- an accepted program has a run over any records of both files, on any date, from its first values
+abbrev pub HasRunOnAnyDay : Object → Type 0
+HasRunOnAnyDay p = (date : List ℕ) (day : ℤ) (rs : Records) → IsProgram p → IsAccepted p → date_in date ≡ Some day → HasRun p day (first_fields p) rs
+
+-- and each such run ends well
+abbrev pub EachRunEndsWell : Object → Type 0
+EachRunEndsWell p = (date : List ℕ) (day : ℤ) (rs : Records) (course : Course) (bytes : Bytes) → IsProgram p → IsAccepted p → date_in date ≡ Some day
+    → IsRun p day (first_fields p) rs course bytes → RunsWell p (records_count rs) course
 
 -- The writer that failed has as many bytes of its output as the fault says, and every other a first part.
 abbrev pub HasParts : RunFault → Option (List ℕ) → Option (List ℕ) → Option (List ℕ) → Option (List ℕ) → Bytes → Type 0

@@ -1,21 +1,14 @@
 //! The engine: from object bytes and input bytes to the report and the output bytes.
 
-ghost use Rattle.std.specs.Prelude.{◌≡◌, ℕ, ℤ, ◌-◌, ◌^◌, ◌<◌, IfErr, IfOk, IsErrOf, List, None, Some};
-ghost use Rattle.rpg_cycle.specs.Counting.{records_count};
+ghost use Rattle.std.specs.Prelude.{◌≡◌, ◌-◌, ◌^◌, ◌<◌, IfErr, IfOk, IsErrOf, None};
 ghost use Rattle.rpg_cycle.specs.Job.{Starts, first_fields};
-ghost use Rattle.rpg_cycle.specs.Runs.{Course, IsRun, Records};
 ghost use Rattle.rpg_cycle.specs.Starting.{date_in};
-ghost use Rattle.rpg_cycle_safety.specs.Coming.{HasRun, RunsWell};
-ghost use Rattle.rpg_effect.specs.Put.{Bytes};
-ghost use Rattle.rpg_files.specs.Counting.{device_of, faults_of};
-ghost use Rattle.rpg_object_program.specs.Kept.{IsProgram};
+ghost use Rattle.rpg_files.specs.Counting.{faults_of};
 ghost use Rattle.rpg_object_program.specs.Object.{Object};
-ghost use Rattle.rpg_verify_rules.specs.Accepted.{IsAccepted};
-ghost use Rattle.rpg_engine.specs.Faults.{FaultsAre, counts_of};
-ghost use Rattle.rpg_engine.specs.Inputs.{OfInputs};
+ghost use Rattle.rpg_engine.specs.Devices.{EndsWellOn, JobEndedWell, ReportsJob, ReportsOn, SendsPartsOfJob, SendsPartsOn, TellsWhoseFault};
 ghost use Rattle.rpg_engine.specs.Objects.{SpellsProgram};
-ghost use Rattle.rpg_engine.specs.Refusing.{IsJobOf, IsToldOf, IsToldOfDate, MayRun};
-ghost use Rattle.rpg_engine.specs.Reporting.{JobEndsWell, Reports, SendsParts};
+ghost use Rattle.rpg_engine.specs.Refusing.{IsToldOf, IsToldOfDate, MayRun};
+ghost use Rattle.rpg_engine.specs.Reporting.{EachRunEndsWell, HasRunOnAnyDay};
 
 use crate::fault::RunFault;
 use crate::object::accepted_object;
@@ -33,9 +26,8 @@ use std::io::{Read, Write};
 /// An accepted program has a run over any records of both files, on any date, from its first values; and each such run ends well. It does
 /// nothing: it is called for its contract alone.
 fn runs_end_well()
-    ensures exists { (p : Object) (date : List ℕ) (day : ℤ) (rs : Records) → IsProgram p → IsAccepted p → date_in date ≡ Some day → HasRun p day (first_fields p) rs }
-    ensures each { (p : Object) (date : List ℕ) (day : ℤ) (rs : Records) (course : Course) (bytes : Bytes) → IsProgram p → IsAccepted p → date_in date ≡ Some day
-        → IsRun p day (first_fields p) rs course bytes → RunsWell p (records_count rs) course }
+    ensures exists { (p : Object) → HasRunOnAnyDay p }
+    ensures each { (p : Object) → EachRunEndsWell p }
 {
     first_values_hold();
     runs_keep();
@@ -81,25 +73,13 @@ pub fn execute_program<R1: Read, R2: Read, W1: Write, W2: Write>(
     ensures alone { program.now.secondary_length ≡ 0 → secondary.new ≡ secondary.old }
 
     // Else the job ends, at its end or at a halt, within one cycle more than both inputs have records, and no cycle takes more steps than the bound.
-    ensures headline { IfOk result (λ report. (day : ℤ) → date_in date.now ≡ Some day
-        → OfInputs (R1.remaining (device_of input.old)) (R1.remaining (device_of input.new))
-        (R2.remaining (device_of secondary.old)) (R2.remaining (device_of secondary.new)) (JobEndsWell program.now report)) }
+    ensures headline { IfOk result (EndsWellOn R1.remaining R2.remaining program.now date.now input secondary) }
     // The report and all output are those of the run over the inputs' records.
-    ensures report { IfOk result (λ report. (day : ℤ) → date_in date.now ≡ Some day
-        → OfInputs (R1.remaining (device_of input.old)) (R1.remaining (device_of input.new))
-        (R2.remaining (device_of secondary.old)) (R2.remaining (device_of secondary.new))
-        (Reports program.now day report (W1.contents (device_of print.old)) (W1.contents (device_of print.new))
-        (W2.contents (device_of disk.old)) (W2.contents (device_of disk.new)))) }
+    ensures report { IfOk result (ReportsOn R1.remaining R2.remaining W1.contents W2.contents program.now date.now input secondary print disk) }
     // Where it stops early each writer has a first part of the run's output; and where a reader failed the job still needed a record.
-    ensures early { IfErr result (λ e. (day : ℤ) → date_in date.now ≡ Some day
-        → OfInputs (R1.remaining (device_of input.old)) (R1.remaining (device_of input.new))
-        (R2.remaining (device_of secondary.old)) (R2.remaining (device_of secondary.new))
-        (SendsParts program.now day e (W1.contents (device_of print.old)) (W1.contents (device_of print.new))
-        (W2.contents (device_of disk.old)) (W2.contents (device_of disk.new)))) }
+    ensures early { IfErr result (SendsPartsOn R1.remaining R2.remaining W1.contents W2.contents program.now date.now input secondary print disk) }
     // It is told whose fault that was.
-    ensures faults { FaultsAre result (R1.remaining (device_of input.old)) (R1.remaining (device_of input.new))
-        (R2.remaining (device_of secondary.old)) (R2.remaining (device_of secondary.new))
-        (counts_of input.old secondary.old print.old disk.old) (counts_of input.new secondary.new print.new disk.new) }
+    ensures faults { TellsWhoseFault R1.remaining R2.remaining input secondary print disk result }
 {
     runs_end_well();
     let rows = program.program().rows();
@@ -147,25 +127,13 @@ pub fn execute<R1: Read, R2: Read, W1: Write, W2: Write>(
     ensures alone { (p : Object) → SpellsProgram object.now p → p.secondary_length ≡ 0 → secondary.new ≡ secondary.old }
 
     // Else the job ends, at its end or at a halt, within one cycle more than both inputs have records, and no cycle takes more steps than the bound.
-    ensures headline { IfOk result (λ report. (p : Object) (day : ℤ) → IsJobOf object.now date.now p day
-        → OfInputs (R1.remaining (device_of input.old)) (R1.remaining (device_of input.new))
-        (R2.remaining (device_of secondary.old)) (R2.remaining (device_of secondary.new)) (JobEndsWell p report)) }
+    ensures headline { IfOk result (JobEndedWell R1.remaining R2.remaining object.now date.now input secondary) }
     // The report and all output are those of the run over the inputs' records.
-    ensures report { IfOk result (λ report. (p : Object) (day : ℤ) → IsJobOf object.now date.now p day
-        → OfInputs (R1.remaining (device_of input.old)) (R1.remaining (device_of input.new))
-        (R2.remaining (device_of secondary.old)) (R2.remaining (device_of secondary.new))
-        (Reports p day report (W1.contents (device_of print.old)) (W1.contents (device_of print.new))
-        (W2.contents (device_of disk.old)) (W2.contents (device_of disk.new)))) }
+    ensures report { IfOk result (ReportsJob R1.remaining R2.remaining W1.contents W2.contents object.now date.now input secondary print disk) }
     // Where it stops early each writer has a first part of the run's output; and where a reader failed the job still needed a record.
-    ensures early { IfErr result (λ e. (p : Object) (day : ℤ) → IsJobOf object.now date.now p day
-        → OfInputs (R1.remaining (device_of input.old)) (R1.remaining (device_of input.new))
-        (R2.remaining (device_of secondary.old)) (R2.remaining (device_of secondary.new))
-        (SendsParts p day e (W1.contents (device_of print.old)) (W1.contents (device_of print.new))
-        (W2.contents (device_of disk.old)) (W2.contents (device_of disk.new)))) }
+    ensures early { IfErr result (SendsPartsOfJob R1.remaining R2.remaining W1.contents W2.contents object.now date.now input secondary print disk) }
     // It is told whose fault that was.
-    ensures faults { FaultsAre result (R1.remaining (device_of input.old)) (R1.remaining (device_of input.new))
-        (R2.remaining (device_of secondary.old)) (R2.remaining (device_of secondary.new))
-        (counts_of input.old secondary.old print.old disk.old) (counts_of input.new secondary.new print.new disk.new) }
+    ensures faults { TellsWhoseFault R1.remaining R2.remaining input secondary print disk result }
 {
     runs_end_well();
     let program = accepted_object(alloc, object)?;

@@ -2,13 +2,11 @@
 
 ghost use Rattle.std.specs.Prelude.{◌≡◌, ℤ, ◌-◌, ◌^◌, ◌<◌, IfErr, IfOk};
 ghost use Rattle.rpg_cycle.specs.Job.{first_fields, job_started};
-ghost use Rattle.rpg_files.specs.Counting.{device_of, faults_of};
+ghost use Rattle.rpg_files.specs.Counting.{faults_of};
 ghost use Rattle.rpg_files.specs.Reading.{IsFresh, reader_of};
 ghost use Rattle.rpg_verify.specs.Bound as words;
-ghost use Rattle.rpg_engine.specs.Faults.{FaultsAre, counts_of};
-ghost use Rattle.rpg_engine.specs.Inputs.{OfInputs};
-ghost use Rattle.rpg_engine.specs.Reporting.{Reports};
-ghost use Rattle.rpg_engine.specs.Streaming.{IsOfRun, StopsEarly};
+ghost use Rattle.rpg_engine.specs.Devices.{ReportsFrom, StopsFrom, TellsWhoseFaultOf};
+ghost use Rattle.rpg_engine.specs.Streaming.{IsOfRun};
 
 use crate::cycle::next_cycle;
 use crate::fault::RunFault;
@@ -39,21 +37,10 @@ pub(crate) fn run<S: Store + Drop, R1: Read, R2: Read, W1: Write, W2: Write>(
     ensures same_primary { primary.new.reader.ghost_name ≡ primary.old.reader.ghost_name }
     ensures same_secondary { secondary.new.reader.ghost_name ≡ secondary.old.reader.ghost_name }
     ensures alone { job.old.program.secondary_length ≡ 0 → secondary.new ≡ secondary.old }
-    ensures report { IfOk result (λ report. (day : ℤ) → job.old ≡ job_started job.old.program day (first_fields job.old.program)
-        → OfInputs (R1.remaining (device_of (reader_of primary.old))) (R1.remaining (device_of (reader_of primary.new)))
-        (R2.remaining (device_of (reader_of secondary.old))) (R2.remaining (device_of (reader_of secondary.new)))
-        (Reports job.old.program day report (W1.contents (device_of print.old)) (W1.contents (device_of print.new))
-        (W2.contents (device_of disk.old)) (W2.contents (device_of disk.new)))) }
-    ensures early { IfErr result (λ e. (day : ℤ) → job.old ≡ job_started job.old.program day (first_fields job.old.program)
-        → OfInputs (R1.remaining (device_of (reader_of primary.old))) (R1.remaining (device_of (reader_of primary.new)))
-        (R2.remaining (device_of (reader_of secondary.old))) (R2.remaining (device_of (reader_of secondary.new)))
-        (StopsEarly job.old.program day e (W1.contents (device_of print.old)) (W1.contents (device_of print.new))
-        (W2.contents (device_of disk.old)) (W2.contents (device_of disk.new)))) }
+    ensures report { IfOk result (ReportsFrom R1.remaining R2.remaining W1.contents W2.contents job.old primary secondary print disk) }
+    ensures early { IfErr result (StopsFrom R1.remaining R2.remaining W1.contents W2.contents job.old primary secondary print disk) }
     ensures only { IfErr result IsOfRun }
-    ensures faults { FaultsAre result (R1.remaining (device_of (reader_of primary.old))) (R1.remaining (device_of (reader_of primary.new)))
-        (R2.remaining (device_of (reader_of secondary.old))) (R2.remaining (device_of (reader_of secondary.new)))
-        (counts_of (reader_of primary.old) (reader_of secondary.old) print.old disk.old)
-        (counts_of (reader_of primary.new) (reader_of secondary.new) print.new disk.new) }
+    ensures faults { TellsWhoseFaultOf R1.remaining R2.remaining primary secondary print disk result }
 {
     let mut cycles = 0u64;
     let mut most = 0u64;

@@ -3,7 +3,8 @@
 ghost use Rattle.std.specs.Prelude.{◌≡◌, ◌+◌, ◌-◌, ◌^◌, ◌<◌, ◌≤◌, length, OnOk, IfErr};
 ghost use Rattle.std.specs.Io.KnownBytes.{Appends};
 ghost use Rattle.rpg_files.specs.Counting.{device_of, faults_of};
-ghost use Rattle.rpg_engine.specs.Streaming.{SendsSome, WriterFaults};
+ghost use Rattle.rpg_engine.specs.Devices.{SendsSomeTo};
+ghost use Rattle.rpg_engine.specs.Streaming.{WriterFaults};
 
 use crate::fault::RunFault;
 use rpg_cycle::Output;
@@ -32,8 +33,7 @@ pub(crate) fn send_output<W1: Write, W2: Write>(
     ensures stored { OnOk result (Appends (W2.contents (device_of disk.old)) (W2.contents (device_of disk.new)) output.now.disk.items) }
     ensures sent_print { OnOk result (sent.new.print ≡ sent.old.print + length output.now.print.items) }
     ensures sent_disk { OnOk result (sent.new.disk ≡ sent.old.disk + length output.now.disk.items) }
-    ensures some { IfErr result (λ e. SendsSome e sent.old.print sent.old.disk (W1.contents (device_of print.old)) (W1.contents (device_of print.new))
-        (W2.contents (device_of disk.old)) (W2.contents (device_of disk.new)) output.now.print.items output.now.disk.items) }
+    ensures some { IfErr result (SendsSomeTo W1.contents W2.contents print disk sent.old.print sent.old.disk output.now.print.items output.now.disk.items) }
     ensures faults { WriterFaults result (faults_of print.old) (faults_of print.new) (faults_of disk.old) (faults_of disk.new) }
 {
     if let Err(fault) = send(print, &output.print) {
