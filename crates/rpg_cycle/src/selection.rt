@@ -211,12 +211,10 @@ pub(crate) fn select_record<S: Store + Drop>(
 ) -> Result<Option<usize>, Stop>
     requires ready { IsReady machine.old }
     requires few { machine.old.config.steps ≤ 2 ^ 49 }
-    requires program { machine.old.program ≡ program.now }
     requires nine { length kept.old.levels.items ≡ 9 }
     requires kept { AreFilesKept program.now kept.old }
     ensures goes { IfOk result (λ t. SelectsRecord program.now kept.old primary.entry secondary.entry machine.old t kept.new machine.new) }
     ensures stops { IfStops result (λ e. EndsSelecting program.now kept.old primary.entry secondary.entry machine.old (job_end e) machine.new) }
-    ensures program { IfOk result (λ _. machine.new.program ≡ program.now) }
     ensures ready { IfOk result (λ _. IsReady machine.new) }
     ensures spends { IfStops result (λ _. Spends program.now (types_weight program.now.types) machine.old machine.new) }
     ensures selects { IfOk result (λ t. SpendsSelecting program.now t machine.old machine.new) }
