@@ -150,12 +150,6 @@ asked p left f next given i j a b e h is r =
 pub at_end : (p : Object) (left : Left) (f : InputFile) (i : Inputs) (a : Running) → HasRead p left f None i a GoesOn a (over f i)
 at_end p left f i a = record { config = a.config; read = λ previous. refl; machine = refl }
 
--- what was kept of the selected record
-pub renews : (p : Object) (t : ℕ) (text : List ℕ) (old : Left) (bytes : List (Option (List ℕ))) (a b : Option (List ℕ)) → bytes ≡ renewed (control_fields p t) text 9 old.bytes →
-    a ≡ or_before old.primary (value_from p Primary (record { type = t; text = text })) → b ≡ or_before old.secondary (value_from p Secondary (record { type = t; text = text })) →
-    record { any = old.any; control = old.control; bytes = bytes; primary = a; secondary = b } ≡ renewed_by p (Some t) text old
-renews p t text old bytes a b e f g = rw e (rw f (rw g refl))
-
 -- ---- what is kept of a file, put in its place
 
 put_back : (f : InputFile) (i : Inputs) → with_input f (input_at i f) i ≡ i

@@ -212,9 +212,6 @@ both_paid p t a b c d x y z =
 pub keeps_reach : (p : Object) (n : ℕ) (a b : Running) (d : Config) → b ≡ record a { config = d } → Keeps (charged n a.config) d → Spends p n a b
 keeps_reach p n a b d is k = reach_of p n a b (ap (λ (r : Running). r.config.steps) is ∙ k.steps) (ap (λ (r : Running). r.config.allowance) is ∙ k.allowance)
 
-pub none_selected : (p : Object) (a b : Running) → Spends p 0 a b → SpendsSelecting p None a b
-none_selected p a b h = record { few = omega (arith, h.few) }
-
 -- ---- all phases
 
 line_split : (time : Time) (w d t o : ℕ) → d + t ≡ o → (cond (is_at_detail time) w 0 + d) + (cond (is_at_total time) w 0 + t) ≡ cond (is_in_cycle time) w 0 + o

@@ -45,8 +45,8 @@ abbrev pub match_by : Object → Kept → Inputs → Selected → Bool
 match_by p k = finds_match p (left_of k)
 
 -- whether the selected record has one, if one was selected
-abbrev pub is_matched : Object → Kept → Option ℕ → Bool
-is_matched p k t = if_selected (match_by p k (inputs_of k)) (selected_in p k t)
+abbrev pub selected_has_match : Object → Kept → Option ℕ → Bool
+selected_has_match p k t = if_selected (match_by p k (inputs_of k)) (selected_in p k t)
 
 -- a cycle by what is kept of earlier records
 abbrev pub cycle_by : Object → Kept → Option (List ℕ) → Option (List ℕ) → Phase

@@ -1,7 +1,7 @@
 //! The phases of a cycle that select no record.
 ghost use Rattle.std.specs.Prelude.{◌≡◌, ℕ, ◌+◌, ◌^◌, ◌<◌, ◌≤◌, All, IfOk, List, length, map, true};
 ghost use Rattle.std.specs.Option.{ForSome};
-ghost use Rattle.rpg_cycle.specs.Doing.{DoesAlone, DoesOwn, DoesWith, FillsSelected, ShowsMatch, is_matched};
+ghost use Rattle.rpg_cycle.specs.Doing.{DoesAlone, DoesOwn, DoesWith, FillsSelected, ShowsMatch, selected_has_match};
 ghost use Rattle.rpg_cycle.specs.Ends as ends;
 ghost use Rattle.rpg_cycle.specs.Ends.{GoesOn};
 ghost use Rattle.rpg_cycle.specs.Indicators as lights;
@@ -221,10 +221,10 @@ pub(crate) fn put_out_overflow<S: Store + Drop>(machine: &mut Machine<S>) -> Res
 }
 
 /// Whether the selected record has a match, if one was selected.
-fn has_match(program: &Verified, kept: &Kept, selected: Option<usize>) -> bool
+fn finds_match_of(program: &Verified, kept: &Kept, selected: Option<usize>) -> bool
     requires kept { AreFilesKept program.now kept.now }
     requires held { HoldsSelected program.now kept.now selected }
-    ensures { result ≡ is_matched program.now kept.now selected }
+    ensures { result ≡ selected_has_match program.now kept.now selected }
 {
     match selected {
         None => false,
@@ -246,8 +246,8 @@ pub(crate) fn show_match<S: Store + Drop>(
     ensures spends { Spends machine.old.program 0 machine.old machine.new }
 {
     let program = machine.program();
-    let is_matched = has_match(program, kept, selected);
-    machine.set_indicator(MATCHING_RECORD, is_matched);
+    let is_found = finds_match_of(program, kept, selected);
+    machine.set_indicator(MATCHING_RECORD, is_found);
 }
 
 /// 8. The columns of the selected record become values of fields.
