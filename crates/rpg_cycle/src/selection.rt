@@ -2,7 +2,7 @@
 ghost use Rattle.std.specs.Prelude.{◌≡◌, ◌+◌, ◌^◌, ◌<◌, ◌≤◌, IfOk, OnOk, Some, None, length};
 ghost use Rattle.rpg_cycle.specs.Ends.{GoesOn};
 ghost use Rattle.rpg_cycle.specs.Indicators as lights;
-ghost use Rattle.rpg_cycle.specs.Selecting.{ComparesLevels, EndsAtRecord, EndsSelecting, EndsTakingIn, HoldsWaiting, IsUntaken, Reads, RenewsLeft, RenewsSeen, SelectsOne, SelectsRecord, SelectsWaiting, TakesIn, TakesType};
+ghost use Rattle.rpg_cycle.specs.Selecting.{ComparesLevels, EndsAtRecord, EndsSelecting, EndsTakingIn, HoldsWaiting, IsUntaken, ReadsRecord, RenewsLeft, RenewsSeen, SelectsOne, SelectsRecord, SelectsWaiting, TakesIn, TakesType};
 ghost use Rattle.rpg_cycle.specs.Spending.{Spends, SpendsSelecting, SpendsTakingIn, compared_weight};
 ghost use Rattle.rpg_cycle.specs.Stages.{IfStops, UnlessNoMemory, job_end};
 ghost use Rattle.rpg_cycle_records.specs.Fitting.{IsFilledAs};
@@ -65,7 +65,7 @@ fn read<S: Store + Drop>(
     text: &[u8],
 ) -> Result<(), Stop>
     requires few { machine.old.config.steps ≤ 2 ^ 50 }
-    ensures goes { IfOk result (λ _. Reads program.now file last.now (Some text.now) kept.old machine.old GoesOn kept.new machine.new) }
+    ensures goes { IfOk result (λ _. ReadsRecord program.now file last.now (Some text.now) kept.old machine.old GoesOn kept.new machine.new) }
     ensures stops { IfStops result (λ e. EndsAtRecord program.now file last.now text.now machine.old (job_end e) machine.new) }
     ensures ready { IfOk result (λ _. IsReady machine.old → IsReady machine.new) }
     ensures program { IfOk result (λ _. machine.new.program ≡ machine.old.program) }
