@@ -6,7 +6,9 @@ use Rattle.rpg_paper.proofs.Papers.{bytes_from-append}
 use Rattle.rpg_paper.specs.Paper.{Placed, Position, bytes_from, last_position_from}
 use Rattle.rpg_effect.proofs.Putting.{disk-append, end_from-lines}
 use Rattle.rpg_effect.specs.Put.{Bytes, disk_bytes, line_of, with_output}
-use Rattle.rpg_cycle.specs.Doing.{Does, DoesBehind, Held, DoesAlone, under_way}
+use Rattle.rpg_cycle.specs.Doing.{Does, DoesBehind, Held, DoesAlone, under_way, unselected}
+use Rattle.rpg_cycle_records.specs.Waiting.{unread}
+use Rattle.rpg_object_program.specs.Object.{Object}
 use Rattle.rpg_cycle.specs.Ends.{PhaseEnd, GoesOn, EndOfJob, Halt}
 use Rattle.rpg_effect.specs.Halts.{halt_number}
 use Rattle.rpg_cycle.specs.Phases.{Done, Phase, UnderWay, does, done, either, passes, unless, ◌before◌}
@@ -94,10 +96,22 @@ quietly f a b s t e d h is = subst (λ (r : Running). Does (does f) a s e r t) (
   };
 })
 
+-- a phase of a program that is the machine's own
+pub own : (F : Object → Phase) {p : Object} {a b : Running} {s t : Held} {e : PhaseEnd} → a.program ≡ p → Does (F a.program) a s e b t → Does (F p) a s e b t
+own F {p} {a} {b} {s} {t} {e} same h = subst (λ (q : Object). Does (F q) a s e b t) same h
+
 -- ---- phases that select nothing
 
 pub passes_goes : {P Q : Phase} {a b c : Running} {e : PhaseEnd} → DoesAlone P a GoesOn b → DoesAlone Q b e c → DoesAlone (P before Q) a e c
 passes_goes h g = record { each = λ s. goes (h.each s) (g.each s) }
+
+-- the program is the same behind it
+pub same_program : {P : Phase} {a b : Running} {e : PhaseEnd} → DoesAlone P a e b → b.program ≡ a.program
+same_program h = (h.each (unselected unread)).program
+
+-- and then one of the machine's own program
+pub goes_own : {P : Phase} (F : Object → Phase) {a b c : Running} {e : PhaseEnd} → DoesAlone P a GoesOn b → DoesAlone (F b.program) b e c → DoesAlone (P before F a.program) a e c
+goes_own F {a} {b} {c} {e} h g = passes_goes h (subst (λ (p : Object). DoesAlone (F p) b e c) (same_program h) g)
 
 pub passes_ends : {P Q : Phase} {a b : Running} (e : JobEnd) → DoesAlone P a (job_end e) b → DoesAlone (P before Q) a (job_end e) b
 passes_ends e h = record { each = λ s. ends e (h.each s) }

@@ -36,10 +36,6 @@ value_other p f s e = ap (λ g. cond (same_file g (other_file f)) (match_value p
 
 -- ---- what is on top
 
-pub up_itself : (m : Option (List ℕ)) → IsUpTo m m
-up_itself None = refl
-up_itself (Some v) = not_self v
-
 pub none_up : (v : Option (List ℕ)) → IsUpTo v None
 none_up None = refl
 none_up (Some v) = refl

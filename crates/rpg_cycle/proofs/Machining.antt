@@ -24,17 +24,11 @@ machine_does P a b last s d = record {
 ended_so : (P : Behaviour) (a b : Running) (last : effects.End) (e : PhaseEnd) (s : Held) → phase_end last ≡ e → Did P a last b → Does (by_machine P) a s e b s
 ended_so P a b last e s is d = subst (λ (x : PhaseEnd). Does (by_machine P) a s x b s) is (machine_does P a b last s d)
 
-pub put_out : (p : Object) (time : OutputTime) (a b : Running) (last : effects.End) (e : PhaseEnd) → a.program ≡ p → phase_end last ≡ e → Did (PutsOut a.program time) a last b → DoesAlone (output p time) a e b
-put_out p time a b last e same is d = record {
-  each = λ s.
-      subst (λ (q : Object). Does (output q time) a s e b s) same (ended_so (PutsOut a.program time) a b last e s is d);
-}
+pub put_out : (time : OutputTime) (a b : Running) (last : effects.End) (e : PhaseEnd) → phase_end last ≡ e → Did (PutsOut a.program time) a last b → DoesAlone (output a.program time) a e b
+put_out time a b last e is d = record { each = λ s. ended_so (PutsOut a.program time) a b last e s is d }
 
-pub calculated : (p : Object) (s : Section) (a b : Running) (last : effects.End) (e : PhaseEnd) → a.program ≡ p → phase_end last ≡ e → Did (RunsTo a.program s) a last b → DoesAlone (section p s) a e b
-calculated p s a b last e same is d = record {
-  each = λ x.
-      subst (λ (q : Object). Does (section q s) a x e b x) same (ended_so (RunsTo a.program s) a b last e x is d);
-}
+pub calculated : (s : Section) (a b : Running) (last : effects.End) (e : PhaseEnd) → phase_end last ≡ e → Did (RunsTo a.program s) a last b → DoesAlone (section a.program s) a e b
+calculated s a b last e is d = record { each = λ x. ended_so (RunsTo a.program s) a b last e x is d }
 
 -- fields were filled from a record
 filled_fields : (p : Object) (i : Inputs) (t : ℕ) (text : List ℕ) (a b : Running) (e : PhaseEnd) → (let s : Held = holding i (Some t) text in
@@ -44,12 +38,12 @@ filled_fields p i t text a b e h = record {
   behind = λ previous l. let x = h.behind previous l in record { out = x.out; phase = x.phase; last = x.last; bytes = x.bytes };
 }
 
-pub filled : (p : Object) (i : Inputs) (o : Option ℕ) (t : ℕ) (text : List ℕ) (a b : Running) (last : effects.End) (e : PhaseEnd) → o ≡ Some t → a.program ≡ p → phase_end last ≡ e → Did (FillsFields a.program t text) a last b →
-    Does (fill_fields p) a (holding i o text) e b (holding i o text)
-filled p i o t text a b last e there same is d =
+pub filled : (i : Inputs) (o : Option ℕ) (t : ℕ) (text : List ℕ) (a b : Running) (last : effects.End) (e : PhaseEnd) → o ≡ Some t → phase_end last ≡ e → Did (FillsFields a.program t text) a last b →
+    Does (fill_fields a.program) a (holding i o text) e b (holding i o text)
+filled i o t text a b last e there is d =
     let s : Held = holding i (Some t) text in
-    subst (λ (x : Option ℕ). Does (fill_fields p) a (holding i x text) e b (holding i x text)) (sym there)
-    (filled_fields p i t text a b e (subst (λ (q : Object). Does (by_machine (FillsFields q t text)) a s e b s) same (ended_so (FillsFields a.program t text) a b last e s is d)))
+    subst (λ (x : Option ℕ). Does (fill_fields a.program) a (holding i x text) e b (holding i x text)) (sym there)
+    (filled_fields a.program i t text a b e (ended_so (FillsFields a.program t text) a b last e s is d))
 
 -- no record was selected
 pub nothing_filled : (p : Object) (i : Inputs) (o : Option ℕ) (text : List ℕ) (a : Running) → o ≡ None → Does (fill_fields p) a (holding i o text) GoesOn a (holding i o text)

@@ -150,12 +150,6 @@ asked p left f next given i j a b e h is r =
 pub at_end : (p : Object) (left : Left) (f : InputFile) (i : Inputs) (a : Running) → HasRead p left f None i a GoesOn a (over f i)
 at_end p left f i a = record { config = a.config; read = λ previous. refl; machine = refl }
 
--- what was kept of the selected record
-pub renews : (p : Object) (t : ℕ) (text : List ℕ) (old : Left) (bytes : List (Option (List ℕ))) (a b : Option (List ℕ)) → bytes ≡ renewed (control_fields p t) text 9 old.bytes →
-    a ≡ or_before old.primary (value_from p Primary (record { type = t; text = text })) → b ≡ or_before old.secondary (value_from p Secondary (record { type = t; text = text })) →
-    record { any = old.any; control = old.control; bytes = bytes; primary = a; secondary = b } ≡ renewed_by p (Some t) text old
-renews p t text old bytes a b e f g = rw e (rw f (rw g refl))
-
 -- ---- what is kept of a file, put in its place
 
 put_back : (f : InputFile) (i : Inputs) → with_input f (input_at i f) i ≡ i
@@ -183,17 +177,6 @@ ends p left f next i x y a is h none e =
     subst (λ (z : Input). Does (take_in p left f next) a (unselected i) GoesOn a (unselected (with_input f z i)))
     (ap (λ (o : Option Selected). let z : Input = record { waiting = o; is_over = true } in z) (sym (none_there (has_file p f) x h)) ∙ sym e)
     (asked p left f next None i (over f i) a a GoesOn (ap (takes_from p f) is ∙ h) none (at_end p left f i a))
-
-pub costs_nothing : (p : Object) (f : InputFile) (a : Running) → SpendsTakingIn p f a a
-costs_nothing p f a = record { text = []; row = None; own = of_none (λ t. file_of (slice_get p.types t) ≡ f); few = omega arith }
-
-pub untaken_costs : (p : Object) (f : InputFile) (full : List ℕ) (a b : Running) (e : JobEnd) → IsUntaken p f full a e b → SpendsTakingIn p f a b
-untaken_costs p f full a b e u = record {
-  text = full;
-  row = None;
-  own = of_none (λ t. file_of (slice_get p.types t) ≡ f);
-  few = omega (arith, ap (λ (x : Running). x.config.steps) u.machine, ap (λ (x : Running). x.config.allowance * most p) u.machine);
-}
 
 pub taken_costs : (p : Object) (f : InputFile) (full : List ℕ) (t : ℕ) (a b c : Running) → TakesType p f full a t b → c ≡ record b { config = charged (length (match_fields p t)) b.config } → SpendsTakingIn p f a c
 taken_costs p f full t a b c one two =
@@ -266,14 +249,6 @@ pub picks : (p : Object) (left : Left) (f : InputFile) (i j : Inputs) (t : Optio
 picks p left f i j t text a b is h =
     quietly (λ c. select_from p left (chosen p (waiting_in c.inputs Primary) (waiting_in c.inputs Secondary)) c) a b (unselected i) (holding j t text) GoesOn h.config
     (λ previous. ap (λ (o : Option InputFile). select_from p left o (under_way (config_on previous a.config) (unselected i))) is ∙ h.leads previous) h.machine
-
-pub picks_none : (p : Object) (left : Left) (i : Inputs) (a b : Running) → chosen p (waiting_in i Primary) (waiting_in i Secondary) ≡ None →
-    b ≡ record a { config = with_all level_indicators true (with_one last_record true a.config) } → Does (select_one p left) a (unselected i) GoesOn b (unselected i)
-picks_none p left i a b none is =
-    quietly (λ c. select_from p left (chosen p (waiting_in c.inputs Primary) (waiting_in c.inputs Secondary)) c) a b (unselected i) (unselected i) GoesOn
-    (with_all level_indicators true (with_one last_record true a.config))
-    (λ previous. ap (λ (o : Option InputFile). select_from p left o (under_way (config_on previous a.config) (unselected i))) none
-    ∙ ap (λ (c : Config). done GoesOn (under_way c (unselected i))) (sym (all_on previous level_indicators true (with_one last_record true a.config)))) is
 
 -- the text that is kept of the record
 text_of_file : (p : Object) (k : Kept) (f : InputFile) (t : Option ℕ) → ForSome t (λ n. file_of (slice_get p.types n) ≡ f) → selected_as t (text_in p k t) ≡ selected_as t (record_in k f)

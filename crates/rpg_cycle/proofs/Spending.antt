@@ -53,28 +53,28 @@ some_before None = (None, refl)
 some_before (Some n) = (Some (record { page = 1; line = n }), refl)
 
 -- a section, which keeps within its bound
-pub section_spends : (p : Object) (s : Section) (a b : Running) → a.program ≡ p → PaysForSection s a b → Spends p (section_cost p s) a b
-section_spends p s a b same low = subst (λ q. Spends q (section_cost q s) a b) same (record { few = in_order a.config.steps (section_cost a.program s) (a.config.allowance * most a.program) (reach a.program b) low })
+pub section_spends : (s : Section) (a b : Running) → PaysForSection s a b → Spends a.program (section_cost a.program s) a b
+section_spends s a b low = record { few = in_order a.config.steps (section_cost a.program s) (a.config.allowance * most a.program) (reach a.program b) low }
   where
     in_order : (x y z n : ℕ) → n ≤ x + y + z → n ≤ x + z + y
     in_order x y z n h = omega (arith, h)
 
 -- what the machine puts out, and the fields that it fills
-pub output_spends : (p : Object) (time : OutputTime) (e : effects.End) (a b : Running) → a.program ≡ p → Did (PutsOut a.program time) a e b → Spends p (output_weight p time) a b
-output_spends p time e a b same d =
+pub output_spends : (time : OutputTime) (e : effects.End) (a b : Running) → Did (PutsOut a.program time) a e b → Spends a.program (output_weight a.program time) a b
+output_spends time e a b d =
     let o = some_before a.last in
     let x = (d.behind o.0 o.1).act.leads in
-    reach_of p (output_weight p time) a b
-    (ap (λ (c : Config). c.steps) x ∙ ap (λ (q : Object). a.config.steps + output_weight q time) same)
-    (ap (λ (c : Config). c.allowance) x)
+    reach_of a.program (output_weight a.program time) a b (ap (λ (c : Config). c.steps) x) (ap (λ (c : Config). c.allowance) x)
 
-pub fields_spend : (p : Object) (t : ℕ) (text : List ℕ) (e : effects.End) (a b : Running) → a.program ≡ p → Did (FillsFields a.program t text) a e b → Spends p (length (inputs_at p t)) a b
-fields_spend p t text e a b same d =
+pub fields_spend : (t : ℕ) (text : List ℕ) (e : effects.End) (a b : Running) → Did (FillsFields a.program t text) a e b → Spends a.program (length (inputs_at a.program t)) a b
+fields_spend t text e a b d =
     let o = some_before a.last in
     let x = (d.behind o.0 o.1).act.leads in
-    reach_of p (length (inputs_at p t)) a b
-    (ap (λ (c : Config). c.steps) x ∙ ap (λ (q : Object). a.config.steps + length (inputs_at q t)) same)
-    (ap (λ (c : Config). c.allowance) x)
+    reach_of a.program (length (inputs_at a.program t)) a b (ap (λ (c : Config). c.steps) x) (ap (λ (c : Config). c.allowance) x)
+
+-- what a machine spent of its own program is spent of one that is the same
+pub of_same : (w : Object → ℕ) {p : Object} {a b : Running} → a.program ≡ p → Spends a.program (w a.program) a b → Spends p (w p) a b
+of_same w {p} {a} {b} same h = subst (λ (q : Object). Spends q (w q) a b) same h
 
 -- ---- one phase behind another
 
@@ -212,9 +212,6 @@ both_paid p t a b c d x y z =
 pub keeps_reach : (p : Object) (n : ℕ) (a b : Running) (d : Config) → b ≡ record a { config = d } → Keeps (charged n a.config) d → Spends p n a b
 keeps_reach p n a b d is k = reach_of p n a b (ap (λ (r : Running). r.config.steps) is ∙ k.steps) (ap (λ (r : Running). r.config.allowance) is ∙ k.allowance)
 
-pub none_selected : (p : Object) (a b : Running) → Spends p 0 a b → SpendsSelecting p None a b
-none_selected p a b h = record { few = omega (arith, h.few) }
-
 -- ---- all phases
 
 line_split : (time : Time) (w d t o : ℕ) → d + t ≡ o → (cond (is_at_detail time) w 0 + d) + (cond (is_at_total time) w 0 + t) ≡ cond (is_in_cycle time) w 0 + o
@@ -272,12 +269,22 @@ in_all s r0 r1 r2 r3 i x full d t f o c b e h1 h2 h3 h4 h = omega (arith, e, h1,
 in_bits : (r0 r1 r2 i full d t f o c b : ℕ) → r0 ≡ full → r2 + i ≤ r1 + t → r1 ≤ r0 + d → full + d + t + f + o + c ≤ b → b < 2 ^ 48 → r2 + i ≤ 2 ^ 48
 in_bits r0 r1 r2 i full d t f o c b e h1 h2 h low = omega (arith, e, h1, h2, h, low)
 
+none_left : (x y n : ℕ) → y ≤ x + n → y + 0 ≤ x + n
+none_left x y n h = omega (arith, h)
+
+no_more : (x n : ℕ) → x ≤ x + n
+no_more x n = omega arith
+
 module _ (p : Object) (r0 : Running) (full : reach p r0 ≡ p.allowance * most p) where
   pub lines_bounded : (b : Running) → Spends p (output_weight p spoken.Detail) r0 b → b.config.steps ≤ bound p
   lines_bounded b h = in_first b.config.steps (reach p r0) (reach p b) (b.config.allowance * most p) (p.allowance * most p) _ _ _ _ _ (bound p) full (same_n _) h.few (within_bound p)
 
   pub all_bounded : (t : Option ℕ) (a b c : Running) → Spends p (output_weight p spoken.Detail) r0 a → SpendsSelecting p t a b → Spends p (record_weight p t) b c → c.config.steps ≤ bound p
   all_bounded t a b c h g f = in_all c.config.steps (reach p r0) (reach p a) (reach p b) (reach p c) (fields_weight p t) (c.config.allowance * most p) (p.allowance * most p) _ _ _ _ _ (bound p) full (same_n _) f.few g.few h.few (within_bound p)
+
+  -- where the job ends as records are taken in
+  pub taken_bounded : (a b : Running) → Spends p (output_weight p spoken.Detail) r0 a → Spends p (types_weight p.types) a b → b.config.steps ≤ bound p
+  taken_bounded a b h g = all_bounded None a b b h (record { few = none_left (reach p a) (reach p b) (types_weight p.types) g.few }) (record { few = no_more (reach p b) (record_weight p None) })
 
   pub selected_low : (t : Option ℕ) (a b : Running) → bound p < 2 ^ 48 → Spends p (output_weight p spoken.Detail) r0 a → SpendsSelecting p t a b → reach p b + fields_weight p t ≤ 2 ^ 48
   selected_low t a b low h g = in_bits (reach p r0) (reach p a) (reach p b) (fields_weight p t) (p.allowance * most p) _ _ _ _ _ (bound p) full g.few h.few (within_bound p) low

@@ -67,8 +67,8 @@ with_seen levels values l = record l { bytes = seen_levels levels; primary = see
 -- ---- the same of what a job keeps, whatever else earlier records left, and whatever the other file has
 
 -- a file with this last match value was asked for a record, and gave this one or none
-abbrev pub Reads : Object → InputFile → MatchValue → Option (List ℕ) → KeptFile → Running → PhaseEnd → KeptFile → Running → Type 0
-Reads p f last next k old e k' new =
+abbrev pub ReadsRecord : Object → InputFile → MatchValue → Option (List ℕ) → KeptFile → Running → PhaseEnd → KeptFile → Running → Type 0
+ReadsRecord p f last next k old e k' new =
     (left : Left) (i : Inputs) → last_of_file left f ≡ seen_value last → input_at i f ≡ input_of k
     → HasRead p left f next i old e new (with_input f (input_of k') i)
 

@@ -18,40 +18,37 @@ use crate::selection::select_record;
 use rpg_cycle_records::Kept;
 use rpg_machine::Machine;
 use rpg_store::Store;
-use rpg_verify::Verified;
 
 /// One cycle, with the record that is next in each file, or none at its end: its nine phases. Answers the selected record's type.
 pub(crate) fn run_cycle<S: Store + Drop>(
-    program: &Verified,
     machine: &mut Machine<S>,
     kept: &mut Kept,
     primary: Option<&[u8]>,
     secondary: Option<&[u8]>,
 ) -> Result<Option<usize>, Stop>
-    requires program { machine.old.program ≡ program.now }
     requires ready { IsReady machine.old }
     requires nine { length kept.old.levels.items ≡ 9 }
-    requires kept { AreFilesKept program.now kept.old }
-    ensures goes { IfOk result (λ t. CycleGoesOn program.now kept.old primary.entry secondary.entry machine.old t kept.new machine.new) }
-    ensures stops { IfStops result (λ e. CycleEnds program.now kept.old primary.entry secondary.entry machine.old (job_end e) machine.new) }
-    ensures program { IfOk result (λ _. machine.new.program ≡ program.now) }
+    requires kept { AreFilesKept machine.old.program kept.old }
+    ensures goes { IfOk result (λ t. CycleGoesOn machine.old.program kept.old primary.entry secondary.entry machine.old t kept.new machine.new) }
+    ensures stops { IfStops result (λ e. CycleEnds machine.old.program kept.old primary.entry secondary.entry machine.old (job_end e) machine.new) }
     ensures ready { IfOk result (λ _. IsReady machine.new) }
-    ensures few { UnlessNoMemory result (machine.new.config.steps ≤ bound program.now) }
-    ensures there { IfOk result (λ t. ForSome t (λ t. t < length program.now.types)) }
-    ensures left { IfOk result (λ t. RenewsLeft program.now t kept.old kept.new) }
-    ensures kept { IfOk result (λ t. AreFilesKept program.now kept.new) }
+    ensures few { UnlessNoMemory result (machine.new.config.steps ≤ bound machine.old.program) }
+    ensures there { IfOk result (λ t. ForSome t (λ t. t < length machine.old.program.types)) }
+    ensures left { IfOk result (λ t. RenewsLeft machine.old.program t kept.old kept.new) }
+    ensures kept { IfOk result (λ t. AreFilesKept machine.old.program kept.new) }
 {
+    let program = machine.program();
     is_bounded(program);
     machine.refill();
-    put_out_details(program, machine)?;
+    put_out_details(machine)?;
     halt_where_asked(machine)?;
-    set_off(program, machine);
+    set_off(machine);
     let selected = select_record(program, machine, kept, primary, secondary)?;
-    take_total_time(program, machine, kept.has_any, kept.has_control)?;
+    take_total_time(machine, kept.has_any, kept.has_control)?;
     end_where_last(machine, selected)?;
-    put_out_overflow(program, machine)?;
-    show_match(program, machine, kept, selected);
-    fill_fields(program, machine, kept, selected)?;
-    calculate_details(program, machine)?;
+    put_out_overflow(machine)?;
+    show_match(machine, kept, selected);
+    fill_fields(machine, kept, selected)?;
+    calculate_details(machine)?;
     Ok(selected)
 }

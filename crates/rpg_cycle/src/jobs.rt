@@ -209,7 +209,7 @@ impl<'a, S: Store + Drop> Job<'a, S> {
     {
         self.progress = Progress::Failed;
         let (machine, kept) = (&mut self.machine, &mut self.kept);
-        match run_cycle(self.program, machine, kept, primary, secondary) {
+        match run_cycle(machine, kept, primary, secondary) {
             Ok(selected) => {
                 self.kept.note(self.program, selected);
                 self.progress = Progress::Going;

@@ -1,7 +1,7 @@
 //! The phases of a cycle that select no record.
 ghost use Rattle.std.specs.Prelude.{◌≡◌, ℕ, ◌+◌, ◌^◌, ◌<◌, ◌≤◌, All, IfOk, List, length, map, true};
 ghost use Rattle.std.specs.Option.{ForSome};
-ghost use Rattle.rpg_cycle.specs.Doing.{DoesAlone, DoesHolding, DoesWith, holding_kept, is_matched, match_by, selected_in};
+ghost use Rattle.rpg_cycle.specs.Doing.{DoesAlone, DoesOwn, DoesWith, FillsSelected, ShowsMatch, selected_has_match};
 ghost use Rattle.rpg_cycle.specs.Ends as ends;
 ghost use Rattle.rpg_cycle.specs.Ends.{GoesOn};
 ghost use Rattle.rpg_cycle.specs.Indicators as lights;
@@ -47,59 +47,42 @@ fn go_on(end: End) -> Result<(), Stop>
 }
 
 /// The lines of a time.
-fn put_out<S: Store + Drop>(
-    program: &Verified,
-    machine: &mut Machine<S>,
-    time: OutputTime,
-) -> Result<(), Stop>
-    requires program { machine.old.program ≡ program.now }
+fn put_out<S: Store + Drop>(machine: &mut Machine<S>, time: OutputTime) -> Result<(), Stop>
     requires ready { IsReady machine.old }
     requires few { machine.old.config.steps ≤ 2 ^ 60 }
-    ensures goes { IfOk result (λ _. DoesAlone (spec.output program.now time) machine.old GoesOn machine.new) }
-    ensures stops { IfStops result (λ e. DoesAlone (spec.output program.now time) machine.old (job_end e) machine.new) }
-    ensures program { IfOk result (λ _. machine.new.program ≡ program.now) }
+    ensures goes { IfOk result (λ _. DoesAlone (spec.output machine.old.program time) machine.old GoesOn machine.new) }
+    ensures stops { IfStops result (λ e. DoesAlone (spec.output machine.old.program time) machine.old (job_end e) machine.new) }
     ensures ready { IfOk result (λ _. IsReady machine.new) }
-    ensures spends { UnlessNoMemory result (Spends program.now (output_weight program.now time) machine.old machine.new) }
+    ensures spends { UnlessNoMemory result (Spends machine.old.program (output_weight machine.old.program time) machine.old machine.new) }
 {
     let end = machine.output(time)?;
     go_on(end)
 }
 
 /// A section of calculations.
-fn calculate<S: Store + Drop>(
-    program: &Verified,
-    machine: &mut Machine<S>,
-    section: Section,
-) -> Result<(), Stop>
-    requires program { machine.old.program ≡ program.now }
+fn calculate<S: Store + Drop>(machine: &mut Machine<S>, section: Section) -> Result<(), Stop>
     requires section { has_end section ≡ true }
     requires ready { IsReady machine.old }
     requires few { machine.old.config.steps ≤ 2 ^ 60 }
-    ensures goes { IfOk result (λ _. DoesAlone (spec.section program.now section) machine.old GoesOn machine.new) }
-    ensures stops { IfStops result (λ e. DoesAlone (spec.section program.now section) machine.old (job_end e) machine.new) }
-    ensures program { IfOk result (λ _. machine.new.program ≡ program.now) }
+    ensures goes { IfOk result (λ _. DoesAlone (spec.section machine.old.program section) machine.old GoesOn machine.new) }
+    ensures stops { IfStops result (λ e. DoesAlone (spec.section machine.old.program section) machine.old (job_end e) machine.new) }
     ensures ready { IfOk result (λ _. IsReady machine.new) }
-    ensures spends { UnlessNoMemory result (Spends program.now (section_cost program.now section) machine.old machine.new) }
+    ensures spends { UnlessNoMemory result (Spends machine.old.program (section_cost machine.old.program section) machine.old machine.new) }
 {
     let end = machine.section(section)?;
     go_on(end)
 }
 
 /// 1. Heading and detail lines.
-pub(crate) fn put_out_details<S: Store + Drop>(
-    program: &Verified,
-    machine: &mut Machine<S>,
-) -> Result<(), Stop>
-    requires program { machine.old.program ≡ program.now }
+pub(crate) fn put_out_details<S: Store + Drop>(machine: &mut Machine<S>) -> Result<(), Stop>
     requires ready { IsReady machine.old }
     requires few { machine.old.config.steps ≤ 2 ^ 60 }
-    ensures goes { IfOk result (λ _. DoesAlone (spec.detail_lines program.now) machine.old GoesOn machine.new) }
-    ensures stops { IfStops result (λ e. DoesAlone (spec.detail_lines program.now) machine.old (job_end e) machine.new) }
-    ensures program { IfOk result (λ _. machine.new.program ≡ program.now) }
+    ensures goes { IfOk result (λ _. DoesOwn spec.detail_lines machine.old GoesOn machine.new) }
+    ensures stops { IfStops result (λ e. DoesOwn spec.detail_lines machine.old (job_end e) machine.new) }
     ensures ready { IfOk result (λ _. IsReady machine.new) }
-    ensures spends { UnlessNoMemory result (Spends program.now (output_weight program.now times.Detail) machine.old machine.new) }
+    ensures spends { UnlessNoMemory result (Spends machine.old.program (output_weight machine.old.program times.Detail) machine.old machine.new) }
 {
-    put_out(program, machine, OutputTime::Detail)
+    put_out(machine, OutputTime::Detail)
 }
 
 /// 2. Halt 6 where a halt indicator is on.
@@ -125,25 +108,23 @@ fn turn_types_off<S: Store + Drop>(machine: &mut Machine<S>, types: &[RecordType
 }
 
 /// Turns the indicators of record types, L1 to L9 and 1P off.
-fn turn_off<S: Store + Drop>(program: &Verified, machine: &mut Machine<S>)
-    ensures turned { machine.new ≡ record machine.old { config = spec.all_off program.now machine.old.config } }
+fn turn_off<S: Store + Drop>(machine: &mut Machine<S>)
+    ensures turned { machine.new ≡ record machine.old { config = spec.all_off machine.old.program machine.old.config } }
     ensures ready { IsReady machine.old → IsReady machine.new }
 {
-    turn_types_off(machine, types_of(program));
+    turn_types_off(machine, types_of(machine.program()));
     turn_all(machine, &LEVELS, false);
     machine.set_indicator(FIRST_PAGE, false);
 }
 
 /// 3. The indicators of record types, L1 to L9 and 1P go off.
-pub(crate) fn set_off<S: Store + Drop>(program: &Verified, machine: &mut Machine<S>)
-    requires program { machine.old.program ≡ program.now }
+pub(crate) fn set_off<S: Store + Drop>(machine: &mut Machine<S>)
     requires ready { IsReady machine.old }
-    ensures goes { DoesAlone (spec.set_off program.now) machine.old GoesOn machine.new }
-    ensures program { machine.new.program ≡ program.now }
+    ensures goes { DoesOwn spec.set_off machine.old GoesOn machine.new }
     ensures ready { IsReady machine.new }
-    ensures spends { Spends program.now 0 machine.old machine.new }
+    ensures spends { Spends machine.old.program 0 machine.old machine.new }
 {
-    turn_off(program, machine);
+    turn_off(machine);
 }
 
 /// Whether types have control fields.
@@ -159,54 +140,44 @@ fn has_control_fields(types: &[RecordType]) -> bool
 }
 
 /// Whether total time is bypassed.
-fn is_bypassed<S: Store + Drop>(
-    program: &Verified,
-    machine: &Machine<S>,
-    has_any: bool,
-    has_control: bool,
-) -> bool
-    ensures { result ≡ spec.is_bypassed program.now has_any has_control machine.now.config }
+fn is_bypassed<S: Store + Drop>(machine: &Machine<S>, has_any: bool, has_control: bool) -> bool
+    ensures { result ≡ spec.is_bypassed machine.now.program has_any has_control machine.now.config }
 {
     !machine.indicator(LAST_RECORD)
-        && (!has_any || (!has_control && has_control_fields(types_of(program))))
+        && (!has_any || (!has_control && has_control_fields(types_of(machine.program()))))
 }
 
 /// Total calculations and total lines.
-fn do_totals<S: Store + Drop>(program: &Verified, machine: &mut Machine<S>) -> Result<(), Stop>
-    requires program { machine.old.program ≡ program.now }
+fn do_totals<S: Store + Drop>(machine: &mut Machine<S>) -> Result<(), Stop>
     requires ready { IsReady machine.old }
-    requires few { reach program.now machine.old ≤ 2 ^ 59 }
-    ensures goes { IfOk result (λ _. DoesAlone (spec.totals program.now) machine.old GoesOn machine.new) }
-    ensures stops { IfStops result (λ e. DoesAlone (spec.totals program.now) machine.old (job_end e) machine.new) }
-    ensures program { IfOk result (λ _. machine.new.program ≡ program.now) }
+    requires few { reach machine.old.program machine.old ≤ 2 ^ 59 }
+    ensures goes { IfOk result (λ _. DoesOwn spec.totals machine.old GoesOn machine.new) }
+    ensures stops { IfStops result (λ e. DoesOwn spec.totals machine.old (job_end e) machine.new) }
     ensures ready { IfOk result (λ _. IsReady machine.new) }
-    ensures spends { UnlessNoMemory result (Spends program.now (totals_weight program.now) machine.old machine.new) }
+    ensures spends { UnlessNoMemory result (Spends machine.old.program (totals_weight machine.old.program) machine.old machine.new) }
 {
-    is_bounded(program);
-    calculate(program, machine, Section::Total)?;
-    put_out(program, machine, OutputTime::Total)
+    is_bounded(machine.program());
+    calculate(machine, Section::Total)?;
+    put_out(machine, OutputTime::Total)
 }
 
 /// 5. Total calculations and total lines, unless they are bypassed.
 pub(crate) fn take_total_time<S: Store + Drop>(
-    program: &Verified,
     machine: &mut Machine<S>,
     has_any: bool,
     has_control: bool,
 ) -> Result<(), Stop>
-    requires program { machine.old.program ≡ program.now }
     requires ready { IsReady machine.old }
-    requires few { reach program.now machine.old ≤ 2 ^ 59 }
-    ensures goes { IfOk result (λ _. DoesAlone (spec.total_time_by program.now has_any has_control) machine.old GoesOn machine.new) }
-    ensures stops { IfStops result (λ e. DoesAlone (spec.total_time_by program.now has_any has_control) machine.old (job_end e) machine.new) }
-    ensures program { IfOk result (λ _. machine.new.program ≡ program.now) }
+    requires few { reach machine.old.program machine.old ≤ 2 ^ 59 }
+    ensures goes { IfOk result (λ _. DoesAlone (spec.total_time_by machine.old.program has_any has_control) machine.old GoesOn machine.new) }
+    ensures stops { IfStops result (λ e. DoesAlone (spec.total_time_by machine.old.program has_any has_control) machine.old (job_end e) machine.new) }
     ensures ready { IfOk result (λ _. IsReady machine.new) }
-    ensures spends { UnlessNoMemory result (Spends program.now (totals_weight program.now) machine.old machine.new) }
+    ensures spends { UnlessNoMemory result (Spends machine.old.program (totals_weight machine.old.program) machine.old machine.new) }
 {
-    if is_bypassed(program, machine, has_any, has_control) {
+    if is_bypassed(machine, has_any, has_control) {
         return Ok(());
     }
-    do_totals(program, machine)
+    do_totals(machine)
 }
 
 /// 6. The job ends where LR is on, or where no record was selected.
@@ -235,30 +206,25 @@ fn has_no_overflow<S: Store + Drop>(machine: &Machine<S>, overflow: Option<u8>) 
 }
 
 /// 7. All lines of a new page, where the overflow indicator is on.
-pub(crate) fn put_out_overflow<S: Store + Drop>(
-    program: &Verified,
-    machine: &mut Machine<S>,
-) -> Result<(), Stop>
-    requires program { machine.old.program ≡ program.now }
+pub(crate) fn put_out_overflow<S: Store + Drop>(machine: &mut Machine<S>) -> Result<(), Stop>
     requires ready { IsReady machine.old }
     requires few { machine.old.config.steps ≤ 2 ^ 60 }
-    ensures goes { IfOk result (λ _. DoesAlone (spec.overflow_lines program.now) machine.old GoesOn machine.new) }
-    ensures stops { IfStops result (λ e. DoesAlone (spec.overflow_lines program.now) machine.old (job_end e) machine.new) }
-    ensures program { IfOk result (λ _. machine.new.program ≡ program.now) }
+    ensures goes { IfOk result (λ _. DoesOwn spec.overflow_lines machine.old GoesOn machine.new) }
+    ensures stops { IfStops result (λ e. DoesOwn spec.overflow_lines machine.old (job_end e) machine.new) }
     ensures ready { IfOk result (λ _. IsReady machine.new) }
-    ensures spends { UnlessNoMemory result (Spends program.now (full_page_weight program.now) machine.old machine.new) }
+    ensures spends { UnlessNoMemory result (Spends machine.old.program (full_page_weight machine.old.program) machine.old machine.new) }
 {
-    if has_no_overflow(machine, overflow_of(program)) {
+    if has_no_overflow(machine, overflow_of(machine.program())) {
         return Ok(());
     }
-    put_out(program, machine, OutputTime::Overflow)
+    put_out(machine, OutputTime::Overflow)
 }
 
 /// Whether the selected record has a match, if one was selected.
-fn has_match(program: &Verified, kept: &Kept, selected: Option<usize>) -> bool
+fn finds_match_of(program: &Verified, kept: &Kept, selected: Option<usize>) -> bool
     requires kept { AreFilesKept program.now kept.now }
     requires held { HoldsSelected program.now kept.now selected }
-    ensures { result ≡ is_matched program.now kept.now selected }
+    ensures { result ≡ selected_has_match program.now kept.now selected }
 {
     match selected {
         None => false,
@@ -268,63 +234,54 @@ fn has_match(program: &Verified, kept: &Kept, selected: Option<usize>) -> bool
 
 /// 8. MR shows whether the selected record has a match.
 pub(crate) fn show_match<S: Store + Drop>(
-    program: &Verified,
     machine: &mut Machine<S>,
     kept: &Kept,
     selected: Option<usize>,
 )
-    requires program { machine.old.program ≡ program.now }
     requires ready { IsReady machine.old }
-    requires kept { AreFilesKept program.now kept.now }
-    requires held { HoldsSelected program.now kept.now selected }
-    ensures goes { DoesHolding (spec.show_match (match_by program.now kept.now)) (holding_kept program.now kept.now selected) machine.old GoesOn machine.new }
-    ensures program { machine.new.program ≡ program.now }
+    requires kept { AreFilesKept machine.old.program kept.now }
+    requires held { HoldsSelected machine.old.program kept.now selected }
+    ensures goes { ShowsMatch kept.now selected machine.old machine.new }
     ensures ready { IsReady machine.new }
-    ensures spends { Spends program.now 0 machine.old machine.new }
+    ensures spends { Spends machine.old.program 0 machine.old machine.new }
 {
-    let is_matched = has_match(program, kept, selected);
-    machine.set_indicator(MATCHING_RECORD, is_matched);
+    let program = machine.program();
+    let is_found = finds_match_of(program, kept, selected);
+    machine.set_indicator(MATCHING_RECORD, is_found);
 }
 
 /// 8. The columns of the selected record become values of fields.
 pub(crate) fn fill_fields<S: Store + Drop>(
-    program: &Verified,
     machine: &mut Machine<S>,
     kept: &Kept,
     selected: Option<usize>,
 ) -> Result<(), Stop>
-    requires program { machine.old.program ≡ program.now }
     requires ready { IsReady machine.old }
     requires few { machine.old.config.steps ≤ 2 ^ 60 }
-    requires held { HoldsSelected program.now kept.now selected }
-    ensures goes { IfOk result (λ _. DoesWith (spec.fill_fields program.now) (selected_in program.now kept.now selected) machine.old GoesOn machine.new) }
-    ensures stops { IfStops result (λ e. DoesWith (spec.fill_fields program.now) (selected_in program.now kept.now selected) machine.old (job_end e) machine.new) }
-    ensures program { IfOk result (λ _. machine.new.program ≡ program.now) }
+    requires held { HoldsSelected machine.old.program kept.now selected }
+    ensures goes { IfOk result (λ _. FillsSelected kept.now selected machine.old GoesOn machine.new) }
+    ensures stops { IfStops result (λ e. FillsSelected kept.now selected machine.old (job_end e) machine.new) }
     ensures ready { IfOk result (λ _. IsReady machine.new) }
-    ensures spends { UnlessNoMemory result (Spends program.now (fields_weight program.now selected) machine.old machine.new) }
+    ensures spends { UnlessNoMemory result (Spends machine.old.program (fields_weight machine.old.program selected) machine.old machine.new) }
 {
     match selected {
         None => Ok(()),
         Some(row) => {
-            let end = machine.fill_fields(row, kept.text(program, row));
+            let text = kept.text(machine.program(), row);
+            let end = machine.fill_fields(row, text);
             go_on(end)
         }
     }
 }
 
 /// 9. Detail calculations.
-pub(crate) fn calculate_details<S: Store + Drop>(
-    program: &Verified,
-    machine: &mut Machine<S>,
-) -> Result<(), Stop>
-    requires program { machine.old.program ≡ program.now }
+pub(crate) fn calculate_details<S: Store + Drop>(machine: &mut Machine<S>) -> Result<(), Stop>
     requires ready { IsReady machine.old }
     requires few { machine.old.config.steps ≤ 2 ^ 60 }
-    ensures goes { IfOk result (λ _. DoesAlone (spec.detail_calculations program.now) machine.old GoesOn machine.new) }
-    ensures stops { IfStops result (λ e. DoesAlone (spec.detail_calculations program.now) machine.old (job_end e) machine.new) }
-    ensures program { IfOk result (λ _. machine.new.program ≡ program.now) }
+    ensures goes { IfOk result (λ _. DoesOwn spec.detail_calculations machine.old GoesOn machine.new) }
+    ensures stops { IfStops result (λ e. DoesOwn spec.detail_calculations machine.old (job_end e) machine.new) }
     ensures ready { IfOk result (λ _. IsReady machine.new) }
-    ensures spends { UnlessNoMemory result (Spends program.now (section_cost program.now sections.Detail) machine.old machine.new) }
+    ensures spends { UnlessNoMemory result (Spends machine.old.program (section_cost machine.old.program sections.Detail) machine.old machine.new) }
 {
-    calculate(program, machine, Section::Detail)
+    calculate(machine, Section::Detail)
 }

@@ -2,7 +2,7 @@
 ghost use Rattle.std.specs.Prelude.{◌≡◌, ◌+◌, ◌^◌, ◌<◌, ◌≤◌, IfOk, OnOk, Some, None, length};
 ghost use Rattle.rpg_cycle.specs.Ends.{GoesOn};
 ghost use Rattle.rpg_cycle.specs.Indicators as lights;
-ghost use Rattle.rpg_cycle.specs.Selecting.{ComparesLevels, EndsAtRecord, EndsSelecting, EndsTakingIn, HoldsWaiting, IsUntaken, Reads, RenewsLeft, RenewsSeen, SelectsOne, SelectsRecord, SelectsWaiting, TakesIn, TakesType};
+ghost use Rattle.rpg_cycle.specs.Selecting.{ComparesLevels, EndsAtRecord, EndsSelecting, EndsTakingIn, HoldsWaiting, IsUntaken, ReadsRecord, RenewsLeft, RenewsSeen, SelectsOne, SelectsRecord, SelectsWaiting, TakesIn, TakesType};
 ghost use Rattle.rpg_cycle.specs.Spending.{Spends, SpendsSelecting, SpendsTakingIn, compared_weight};
 ghost use Rattle.rpg_cycle.specs.Stages.{IfStops, UnlessNoMemory, job_end};
 ghost use Rattle.rpg_cycle_records.specs.Fitting.{IsFilledAs};
@@ -65,7 +65,7 @@ fn read<S: Store + Drop>(
     text: &[u8],
 ) -> Result<(), Stop>
     requires few { machine.old.config.steps ≤ 2 ^ 50 }
-    ensures goes { IfOk result (λ _. Reads program.now file last.now (Some text.now) kept.old machine.old GoesOn kept.new machine.new) }
+    ensures goes { IfOk result (λ _. ReadsRecord program.now file last.now (Some text.now) kept.old machine.old GoesOn kept.new machine.new) }
     ensures stops { IfStops result (λ e. EndsAtRecord program.now file last.now text.now machine.old (job_end e) machine.new) }
     ensures ready { IfOk result (λ _. IsReady machine.old → IsReady machine.new) }
     ensures program { IfOk result (λ _. machine.new.program ≡ machine.old.program) }
@@ -211,12 +211,10 @@ pub(crate) fn select_record<S: Store + Drop>(
 ) -> Result<Option<usize>, Stop>
     requires ready { IsReady machine.old }
     requires few { machine.old.config.steps ≤ 2 ^ 49 }
-    requires program { machine.old.program ≡ program.now }
     requires nine { length kept.old.levels.items ≡ 9 }
     requires kept { AreFilesKept program.now kept.old }
     ensures goes { IfOk result (λ t. SelectsRecord program.now kept.old primary.entry secondary.entry machine.old t kept.new machine.new) }
     ensures stops { IfStops result (λ e. EndsSelecting program.now kept.old primary.entry secondary.entry machine.old (job_end e) machine.new) }
-    ensures program { IfOk result (λ _. machine.new.program ≡ program.now) }
     ensures ready { IfOk result (λ _. IsReady machine.new) }
     ensures spends { IfStops result (λ _. Spends program.now (types_weight program.now.types) machine.old machine.new) }
     ensures selects { IfOk result (λ t. SpendsSelecting program.now t machine.old machine.new) }

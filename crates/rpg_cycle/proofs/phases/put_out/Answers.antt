@@ -4,4 +4,4 @@ use Rattle.rpg_cycle.proofs.phases.put_out.Goals as goal
 
 pub returns-clause-spends : goal.returns-clause-spends
 returns-clause-spends g c =
-    memory_both c.go_on.result _ (output_spends c.args.program.now c.args.time _ c.args.machine.now c.output.new.self c.requires.program c.in_ok-end.ensures.done)
+    memory_both c.go_on.result _ (output_spends c.args.time _ c.args.machine.now c.output.new.self c.in_ok-end.ensures.done)

@@ -1,13 +1,16 @@
-use Rattle.std.proofs.Common.{sym, ap, ◌∙◌, subst}
+use Rattle.std.proofs.Common.{◌≤◌, sym, ap, ◌∙◌, subst}
 use Rattle.rpg_cycle.proofs.JobCycles.{job, goes_on, ends, one_more}
 use Rattle.rpg_cycle.proofs.Spending.{some_before}
-use Rattle.rpg_cycle.specs.Doing.{next_text}
+use Rattle.rpg_cycle.specs.Doing.{CycleEnds, CycleGoesOn, next_text}
 use Rattle.rpg_cycle.specs.Ends.{GoesOn}
 use Rattle.rpg_cycle.specs.Job as of
-use Rattle.rpg_cycle_records.specs.Holding.{inputs_of, text_in}
+use Rattle.rpg_cycle_records.specs.Holding.{AreFilesKept, inputs_of, text_in}
 use Rattle.rpg_cycle_records.specs.Keeping.{left_of, noted}
 use Rattle.rpg_cycle_records.specs.Waiting.{Inputs}
+use Rattle.rpg_cycle.specs.Selecting.{RenewsLeft}
 use Rattle.rpg_cycle.specs.Stages.{Going, Ended, is_going, job_end, stage_of}
+use Rattle.rpg_object_program.specs.Object.{Object}
+use Rattle.rpg_verify.specs.Bound.{bound}
 use Rattle.rpg_cycle.proofs.jobs.Job.cycle_on.Goals as goal
 
 pub returns-in-Ok-clause-done : goal.returns-in-Ok-clause-done
@@ -18,8 +21,11 @@ returns-in-Ok-clause-done g c =
     let y = next_text c.args.secondary in
     let going = ap (λ (r : of.AtWork). is_going r.stage) c.self.view_is ∙ c.requires in
     let behind = c.self.invariant.behind going in
+    let same = c.self.invariant.program going in
     let t = c.in-Ok.selected in
     let kept = c.run_cycle.new.kept in
+    let went = subst (λ (o : Object). CycleGoesOn o i.kept c.args.primary c.args.secondary i.machine t kept c.run_cycle.new.machine) same c.in-Ok.ensures.goes in
+    let renewed = subst (λ (o : Object). RenewsLeft o t i.kept kept) same c.in-Ok.ensures.left in
     let was = job p i.machine (left_of i.kept) (inputs_of i.kept) (stage_of i.progress) in
     let new = job p c.run_cycle.new.machine (left_of c.note.new.self) (inputs_of c.note.new.self) Going in
     subst (λ (old : of.AtWork). of.Cycles old x y new) c.self.view_is (record {
@@ -28,7 +34,7 @@ returns-in-Ok-clause-done g c =
         GoesOn,
         subst (λ (j : Inputs). of.DoesCycle was behind.earlier previous x y GoesOn (job p c.run_cycle.new.machine (left_of c.note.new.self) j Going)) (sym c.note.ensures.inputs)
             (goes_on p behind.earlier previous x y i.machine c.run_cycle.new.machine (left_of i.kept) (left_of c.note.new.self) (inputs_of i.kept) (inputs_of kept) (stage_of i.progress) t (text_in p kept t)
-            (c.self.invariant.program going) behind.leave behind.orderly l (c.note.ensures.left ∙ ap (noted p t) c.in-Ok.ensures.left) c.in-Ok.ensures.goes),
+            same behind.leave behind.orderly l (c.note.ensures.left ∙ ap (noted p t) renewed) went),
       );
     })
 
@@ -39,17 +45,18 @@ returns-in_ok-finish-in-Err-Ends-clause-done g c =
     let x = next_text c.args.primary in
     let y = next_text c.args.secondary in
     let e = c.in-Err-Ends.end in
-    let d = rw c.in-Err-Ends.field-0-is at c.in-Err-Ends.ensures.stops in
     let going = ap (λ (r : of.AtWork). is_going r.stage) c.self.view_is ∙ c.requires in
     let behind = c.self.invariant.behind going in
+    let same = c.self.invariant.program going in
     let kept = c.run_cycle.new.kept in
+    let d = subst (λ (o : Object). CycleEnds o i.kept c.args.primary c.args.secondary i.machine (job_end e) c.run_cycle.new.machine) same (rw c.in-Err-Ends.field-0-is at c.in-Err-Ends.ensures.stops) in
     let new = job p c.finish.new.self (left_of kept) (inputs_of kept) (Ended (job_end e)) in
     subst (λ (old : of.AtWork). of.Cycles old x y new) c.self.view_is (record {
       behind = behind;
       does = λ previous l. (
         job_end e,
         ends p behind.earlier previous x y i.machine c.run_cycle.new.machine c.finish.new.self (left_of i.kept) (left_of kept) (inputs_of i.kept) (inputs_of kept) (stage_of i.progress) d.0 e
-            (c.self.invariant.program going) behind.leave behind.orderly l d.1 c.in_ok-finish-in-Err-Ends.ensures,
+            same behind.leave behind.orderly l d.1 c.in_ok-finish-in-Err-Ends.ensures,
       );
     })
 
@@ -61,17 +68,25 @@ invariant_of-self g c =
     let y = next_text c.args.secondary in
     let going = ap (λ (r : of.AtWork). is_going r.stage) c.self.view_is ∙ c.requires in
     let behind = c.self.invariant.behind going in
+    let same = c.self.invariant.program going in
     let t = c.in-Ok.selected in
     let kept = c.run_cycle.new.kept in
+    let went = subst (λ (o : Object). CycleGoesOn o i.kept c.args.primary c.args.secondary i.machine t kept c.run_cycle.new.machine) same c.in-Ok.ensures.goes in
+    let renewed = subst (λ (o : Object). RenewsLeft o t i.kept kept) same c.in-Ok.ensures.left in
     let o = some_before i.machine.last in
     let old = job p i.machine (left_of i.kept) (inputs_of i.kept) (stage_of i.progress) in
     let done = goes_on p behind.earlier o.0 x y i.machine c.run_cycle.new.machine (left_of i.kept) (left_of c.note.new.self) (inputs_of i.kept) (inputs_of kept) (stage_of i.progress) t (text_in p kept t)
-    (c.self.invariant.program going) behind.leave behind.orderly o.1 (c.note.ensures.left ∙ ap (noted p t) c.in-Ok.ensures.left) c.in-Ok.ensures.goes in
+    same behind.leave behind.orderly o.1 (c.note.ensures.left ∙ ap (noted p t) renewed) went in
     record {
-      program = λ on. c.in-Ok.ensures.program;
+      program = λ on. c.in-Ok.ensures.goes.program ∙ same;
       ready = λ on. c.in-Ok.ensures.ready;
       behind = λ on. subst (λ (j : Inputs). of.IsBehind p (left_of c.note.new.self) j) (sym c.note.ensures.inputs)
           (one_more old (job p c.run_cycle.new.machine (left_of c.note.new.self) (inputs_of kept) Going) behind.earlier o.0 x y behind.orderly done);
-      files = λ on. c.note.ensures.kept c.in-Ok.ensures.kept;
-      few = λ on. c.in-Ok.ensures.few;
+      files = λ on. c.note.ensures.kept (subst (λ (o : Object). AreFilesKept o kept) same c.in-Ok.ensures.kept);
+      few = λ on. subst (λ (o : Object). c.run_cycle.new.machine.config.steps ≤ bound o) same c.in-Ok.ensures.few;
     }
+
+pub run_cycle-requires-clause-kept : goal.run_cycle-requires-clause-kept
+run_cycle-requires-clause-kept g c =
+    let going = ap (λ (r : of.AtWork). is_going r.stage) c.self.view_is ∙ c.requires in
+    subst (λ (o : Object). AreFilesKept o c.self.inside.kept) (sym (c.self.invariant.program going)) (c.self.invariant.files going)
