@@ -93,6 +93,7 @@ impl Kept {
 }
 
 /// Whether a value is that of the record that waits in a file, or the file's last one.
+#[inline(always)]
 fn is_matched(value: &MatchValue, other: &KeptFile, last: &MatchValue) -> bool
     ensures { result ≡ matches_file value.now other.now last.now }
 {
