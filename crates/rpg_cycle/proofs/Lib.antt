@@ -1,3 +1,4 @@
+pub mod AfterSelection
 pub mod Composing
 pub mod Counting
 pub mod Courses

@@ -9,7 +9,8 @@ use Rattle.rpg_cycle_records.specs.Matching.{agrees}
 use Rattle.rpg_cycle_records.specs.Waiting.{Inputs, finds_match, other_file, value_of, waiting_in}
 use Rattle.rpg_cycle.specs.Ends.{GoesOn, PhaseEnd}
 use Rattle.rpg_cycle_records.specs.Keeping.{renewed, renewed_by, selected_as}
-use Rattle.rpg_cycle.specs.Phases.{Phase, after_selection, detail_calculations, end_where_last, fill_fields, is_bypassed, output, overflow_lines, section, show_match, unless, ◌before◌}
+use Rattle.rpg_cycle.specs.Phases.{Phase, detail_calculations, end_where_last, fill_fields, is_bypassed, output, overflow_lines, section, show_match, unless, ◌before◌}
+use Rattle.rpg_cycle.proofs.AfterSelection.{after_selection}
 use Rattle.rpg_cycle.specs.Stages.{job_end}
 use Rattle.rpg_cycle.specs.declared.ends.JobEnd.{JobEnd}
 use Rattle.rpg_effect.specs.declared.input.InputFile.{InputFile}

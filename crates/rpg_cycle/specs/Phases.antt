@@ -245,16 +245,6 @@ CycleOn p left matches primary secondary =
     before fill_fields p
     before detail_calculations p
 
--- what of it follows the selection of a record
-abbrev pub after_selection : Object → Left → (Inputs → Selected → Bool) → Phase
-after_selection p left matches =
-    total_time p left
-    before end_where_last
-    before overflow_lines p
-    before show_match matches
-    before fill_fields p
-    before detail_calculations p
-
 -- a cycle behind those that selected the earlier records, the last of these first, with the record that is next in each file, or none at
 -- its end
 abbrev pub Cycle : Object → List Selected → Option (List ℕ) → Option (List ℕ) → Phase

@@ -1,5 +1,5 @@
 //! The phases of a cycle that select no record.
-ghost use Rattle.std.specs.Prelude.{◌≡◌, ℕ, ◌+◌, ◌^◌, ◌<◌, ◌≤◌, All, IfOk, List, length, map, true};
+ghost use Rattle.std.specs.Prelude.{◌≡◌, ℕ, ◌+◌, ◌^◌, ◌≤◌, All, IfOk, List, map, true};
 ghost use Rattle.std.specs.Option.{ForSome};
 ghost use Rattle.rpg_cycle.specs.Doing.{DoesAlone, DoesOwn, DoesWith, FillsSelected, ShowsMatch, selected_has_match};
 ghost use Rattle.rpg_cycle.specs.Ends as ends;
