@@ -6,7 +6,7 @@ use Rattle.rpg_paper.proofs.Papers.{bytes_from-append}
 use Rattle.rpg_paper.specs.Paper.{Placed, Position, bytes_from, last_position_from}
 use Rattle.rpg_effect.proofs.Putting.{disk-append, end_from-lines}
 use Rattle.rpg_effect.specs.Put.{Bytes, disk_bytes, line_of, with_output}
-use Rattle.rpg_cycle.specs.Doing.{Does, DoesBehind, Held, DoesAlone, under_way, unselected}
+use Rattle.rpg_cycle.specs.Doing.{Does, DoesBehind, Beside, DoesAlone, under_way, unselected}
 use Rattle.rpg_cycle_records.specs.Waiting.{unread}
 use Rattle.rpg_object_program.specs.Object.{Object}
 use Rattle.rpg_cycle.specs.Ends.{PhaseEnd, GoesOn, EndOfJob, Halt}
@@ -38,7 +38,7 @@ output_none previous p = bytes_are _ _ (sym (append-nil p.print)) (sym (append-n
 
 -- ---- two phases
 
-both_behind : (P Q : Phase) (previous : Option Position) (a b c : Running) (s t u : Held) (e : PhaseEnd) (x : DoesBehind P previous a s GoesOn b t) →
+both_behind : (P Q : Phase) (previous : Option Position) (a b c : Running) (s t u : Beside) (e : PhaseEnd) (x : DoesBehind P previous a s GoesOn b t) →
     DoesBehind Q (last_position_from previous x.out.lines) b t e c u → DoesBehind (P before Q) previous a s e c u
 both_behind P Q previous a b c s t u e x y =
     let ends = end_from-lines previous x.out.lines y.out.lines in
@@ -57,7 +57,7 @@ both_behind P Q previous a b c s t u e x y =
     }
 
 -- the one phase went on, and then the other was done
-pub goes : {P Q : Phase} {a b c : Running} {s t u : Held} {e : PhaseEnd} → Does P a s GoesOn b t → Does Q b t e c u → Does (P before Q) a s e c u
+pub goes : {P Q : Phase} {a b c : Running} {s t u : Beside} {e : PhaseEnd} → Does P a s GoesOn b t → Does Q b t e c u → Does (P before Q) a s e c u
 goes {P} {Q} {a} {b} {c} {s} {t} {u} {e} h g = record {
   program = g.program ∙ h.program;
   behind = λ previous l.
@@ -66,7 +66,7 @@ goes {P} {Q} {a} {b} {c} {s} {t} {u} {e} h g = record {
 }
 
 -- the one phase ended the job
-ends_behind : (P Q : Phase) (previous : Option Position) (a b : Running) (s t : Held) (e : JobEnd) → DoesBehind P previous a s (job_end e) b t → DoesBehind (P before Q) previous a s (job_end e) b t
+ends_behind : (P Q : Phase) (previous : Option Position) (a b : Running) (s t : Beside) (e : JobEnd) → DoesBehind P previous a s (job_end e) b t → DoesBehind (P before Q) previous a s (job_end e) b t
 ends_behind P Q previous a b s t jobs.EndOfJob x = record {
   out = x.out;
   phase = (EndOfJob, under_way (config_on (last_position_from previous x.out.lines) b.config) t, x.out, x.phase, (refl, refl, refl));
@@ -80,11 +80,11 @@ ends_behind P Q previous a b s t (jobs.Halt k) x = record {
   bytes = x.bytes;
 }
 
-pub ends : {P Q : Phase} {a b : Running} {s t : Held} (e : JobEnd) → Does P a s (job_end e) b t → Does (P before Q) a s (job_end e) b t
+pub ends : {P Q : Phase} {a b : Running} {s t : Beside} (e : JobEnd) → Does P a s (job_end e) b t → Does (P before Q) a s (job_end e) b t
 ends {P} {Q} {a} {b} {s} {t} e h = record { program = h.program; behind = λ previous l. ends_behind P Q previous a b s t e (h.behind previous l) }
 
 -- a phase that puts nothing out and leaves the form where it is
-pub quietly : (f : UnderWay → Done) (a b : Running) (s t : Held) (e : PhaseEnd) (d : Config) →
+pub quietly : (f : UnderWay → Done) (a b : Running) (s t : Beside) (e : PhaseEnd) (d : Config) →
     ((previous : Option Position) → f (under_way (config_on previous a.config) s) ≡ done e (under_way (config_on previous d) t)) → b ≡ record a { config = d } → Does (does f) a s e b t
 quietly f a b s t e d h is = subst (λ (r : Running). Does (does f) a s e r t) (sym is) (record {
   program = refl;
@@ -97,7 +97,7 @@ quietly f a b s t e d h is = subst (λ (r : Running). Does (does f) a s e r t) (
 })
 
 -- a phase of a program that is the machine's own
-pub own : (F : Object → Phase) {p : Object} {a b : Running} {s t : Held} {e : PhaseEnd} → a.program ≡ p → Does (F a.program) a s e b t → Does (F p) a s e b t
+pub own : (F : Object → Phase) {p : Object} {a b : Running} {s t : Beside} {e : PhaseEnd} → a.program ≡ p → Does (F a.program) a s e b t → Does (F p) a s e b t
 own F {p} {a} {b} {s} {t} {e} same h = subst (λ (q : Object). Does (F q) a s e b t) same h
 
 -- ---- phases that select nothing

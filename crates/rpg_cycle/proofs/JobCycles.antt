@@ -3,7 +3,7 @@ use Rattle.std.proofs.Common.{◌≡◌, ℕ, List, [], Option, None, Some, refl
 use Rattle.rpg_paper.specs.Paper.{Position, last_position_from}
 use Rattle.rpg_effect.specs.Put.{Bytes, line_of, with_output}
 use Rattle.rpg_cycle.proofs.Cycling.{from_last, keeps, to_last}
-use Rattle.rpg_cycle.specs.Doing.{Does, Held, holding, under_way, unselected}
+use Rattle.rpg_cycle.specs.Doing.{Does, Beside, holding, under_way, unselected}
 use Rattle.rpg_cycle_records.specs.Earlier.{Left, Selected, left_by, with_record}
 use Rattle.rpg_cycle_records.specs.Merging.{IsOrderly}
 use Rattle.rpg_cycle_records.specs.Waiting.{Inputs, finds_match}
@@ -111,7 +111,7 @@ ended jobs.EndOfJob = refl
 ended (jobs.Halt k) = refl
 
 -- the job ends, and so does the last line
-pub ends : (p : Object) (earlier : List Selected) (previous : Option Position) (x y : Option (List ℕ)) (m b c : Running) (left now : Left) (i j : Inputs) (stage : Stage) (s : Held) (e : JobEnd) → m.program ≡ p →
+pub ends : (p : Object) (earlier : List Selected) (previous : Option Position) (x y : Option (List ℕ)) (m b c : Running) (left now : Left) (i j : Inputs) (stage : Stage) (s : Beside) (e : JobEnd) → m.program ≡ p →
     left ≡ left_by p earlier → IsOrderly p earlier i → m.last ≡ line_of previous → Does (CycleBy p left x y) (refilled m) (unselected i) (job_end e) b s → c ≡ finished b →
     DoesCycle (job p m left i stage) earlier previous x y (job_end e) (job p c now j (Ended (job_end e)))
 ends p earlier previous x y m b c left now i j stage s e same is order placed d done =

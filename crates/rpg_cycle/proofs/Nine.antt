@@ -2,7 +2,7 @@
 use Rattle.std.proofs.Common.{◌≡◌, ℕ, Bool, cond, ◌||◌, List, Option, None, Some, refl, ap, ◌∙◌, subst}
 use Rattle.rpg_cycle.proofs.Composing.{goes, ends}
 use Rattle.rpg_cycle.proofs.Cycling.{Test, by_totals}
-use Rattle.rpg_cycle.specs.Doing.{Does, Held, holding, under_way}
+use Rattle.rpg_cycle.specs.Doing.{Does, Beside, holding, under_way}
 use Rattle.rpg_cycle_records.specs.Earlier.{Left, Selected, control_fields, file_at, last_of_file, match_value, or_before}
 use Rattle.rpg_cycle_records.specs.Identifying.{same_file}
 use Rattle.rpg_cycle_records.specs.Matching.{agrees}
@@ -22,22 +22,22 @@ use Rattle.rpg_object_program.specs.declared.section.Section.TheVariants as sect
 use Rattle.rpg_paper.specs.Paper.{last_position_from}
 
 -- whatever the phases that are left lead to from there, the whole leads to from where it began
-pub record Leads (C : Phase) (old : Running) (s : Held) (Q : Phase) (mid : Running) (t : Held) : Type 0 where
-  pub rest : (e : PhaseEnd) (new : Running) (u : Held) → Does Q mid t e new u → Does C old s e new u
+pub record Leads (C : Phase) (old : Running) (s : Beside) (Q : Phase) (mid : Running) (t : Beside) : Type 0 where
+  pub rest : (e : PhaseEnd) (new : Running) (u : Beside) → Does Q mid t e new u → Does C old s e new u
 
-pub begins : (C : Phase) (a b : Running) (s : Held) → b ≡ refilled a → Leads C (refilled a) s C b s
+pub begins : (C : Phase) (a b : Running) (s : Beside) → b ≡ refilled a → Leads C (refilled a) s C b s
 begins C a b s is = record { rest = λ e new u d. subst (λ (r : Running). Does C r s e new u) is d }
 
 -- one phase more went on
-pub step : {C P Q : Phase} {old mid new : Running} {s t u : Held} → Leads C old s (P before Q) mid t → Does P mid t GoesOn new u → Leads C old s Q new u
+pub step : {C P Q : Phase} {old mid new : Running} {s t u : Beside} → Leads C old s (P before Q) mid t → Does P mid t GoesOn new u → Leads C old s Q new u
 step l d = record { rest = λ e last v r. l.rest e last v (goes d r) }
 
 -- the next phase ended the job
-pub stop : {C P Q : Phase} {old mid new : Running} {s t u : Held} (e : JobEnd) → Leads C old s (P before Q) mid t → Does P mid t (job_end e) new u → Does C old s (job_end e) new u
+pub stop : {C P Q : Phase} {old mid new : Running} {s t u : Beside} (e : JobEnd) → Leads C old s (P before Q) mid t → Does P mid t (job_end e) new u → Does C old s (job_end e) new u
 stop {new} {u} e l d = l.rest (job_end e) new u (ends e d)
 
 -- the last phase was done
-pub last : {C P : Phase} {old mid new : Running} {s t u : Held} {e : PhaseEnd} → Leads C old s P mid t → Does P mid t e new u → Does C old s e new u
+pub last : {C P : Phase} {old mid new : Running} {s t u : Beside} {e : PhaseEnd} → Leads C old s P mid t → Does P mid t e new u → Does C old s e new u
 last {new} {u} {e} l d = l.rest e new u d
 
 -- what is kept beside the levels
@@ -73,7 +73,7 @@ match_of p (Some t) text i now old h x e =
     (ap (λ (l : Left). finds_match p l i (record { type = t; text = text })) h ∙ same_match p t text i old)
 
 -- by another test that agrees on the selected record
-tested : (p : Object) (left : Left) (s u : Test) (a b : Running) (h k : Held) (e : PhaseEnd) → ((x : Selected) → h.selected ≡ Some x → s h.inputs x ≡ u h.inputs x) →
+tested : (p : Object) (left : Left) (s u : Test) (a b : Running) (h k : Beside) (e : PhaseEnd) → ((x : Selected) → h.selected ≡ Some x → s h.inputs x ≡ u h.inputs x) →
     Does (after_selection p left s) a h e b k → Does (after_selection p left u) a h e b k
 tested p left s u a b h k e agree d = record {
   program = d.program;
@@ -87,7 +87,7 @@ tested p left s u a b h k e agree d = record {
 }
 
 -- the phases behind the selection with what was kept before the record
-by_left : (p : Object) (t : Option ℕ) (text : List ℕ) (i : Inputs) (now old : Left) (a b : Running) (e : PhaseEnd) (k : Held) → now ≡ renewed_by p t text old →
+by_left : (p : Object) (t : Option ℕ) (text : List ℕ) (i : Inputs) (now old : Left) (a b : Running) (e : PhaseEnd) (k : Beside) → now ≡ renewed_by p t text old →
     Does (after_selection p now (finds_match p now)) a (holding i t text) e b k → Does (after_selection p old (finds_match p old)) a (holding i t text) e b k
 by_left p t text i now old a b e k h d =
     let s = holding i t text in
@@ -97,6 +97,6 @@ by_left p t text i now old a b e k h d =
     (subst (λ (x : Bool). Does (F x old.control) a s e b k) (ap (λ (l : Left). l.any) h ∙ kept_any p t text old)
     (subst (λ (x : Bool). Does (F now.any x) a s e b k) (ap (λ (l : Left). l.control) h ∙ kept_control p t text old) d))
 
-pub by_renewed : {C : Phase} {a b : Running} {s : Held} (p : Object) (t : Option ℕ) (text : List ℕ) (i : Inputs) (now old : Left) → now ≡ renewed_by p t text old →
+pub by_renewed : {C : Phase} {a b : Running} {s : Beside} (p : Object) (t : Option ℕ) (text : List ℕ) (i : Inputs) (now old : Left) → now ≡ renewed_by p t text old →
     Leads C a s (after_selection p old (finds_match p old)) b (holding i t text) → Leads C a s (after_selection p now (finds_match p now)) b (holding i t text)
 by_renewed {b} p t text i now old h l = record { rest = λ e new u d. l.rest e new u (by_left p t text i now old b new e u h d) }

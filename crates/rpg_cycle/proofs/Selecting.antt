@@ -10,7 +10,7 @@ use Rattle.rpg_effect.specs.declared.input.InputFile.TheVariants.{Primary, Secon
 use Rattle.rpg_cycle.proofs.Composing.{of_none, of_some, quietly}
 use Rattle.rpg_cycle.proofs.Spending.{keeps_reach}
 use Rattle.rpg_cycle.proofs.Turning.{all_keep, all_on, type_keeps, type_on}
-use Rattle.rpg_cycle.specs.Doing.{Does, Held, holding, unselected, under_way}
+use Rattle.rpg_cycle.specs.Doing.{Does, Beside, holding, unselected, under_way}
 use Rattle.rpg_cycle.specs.Indicators.{is_on, last_record, level_indicators, with_all, with_levels, with_one, with_type}
 use Rattle.rpg_cycle_records.specs.Earlier.{Left, Selected, file_of, last_of_file, match_fields, match_value, or_before, value_from, control_fields}
 use Rattle.rpg_cycle.specs.Ends.{GoesOn, Halt, PhaseEnd}
@@ -260,7 +260,7 @@ pub picks_from : (p : Object) (f : InputFile) (old now : Kept) (t : Option ℕ) 
     HasSelected p (left_of old) f (inputs_of old) a t (record_in now f) b (inputs_of now) → t ≡ (kept_at old f).waiting → IsFileKept p f (kept_at old f) →
     Does (select_one p (left_of old)) a (unselected (inputs_of old)) GoesOn b (holding (inputs_of now) t (text_in p now t))
 picks_from p f old now t a b is h same kept =
-    subst (λ (o : Option Selected). let s : Held = record { inputs = inputs_of now; selected = o } in Does (select_one p (left_of old)) a (unselected (inputs_of old)) GoesOn b s)
+    subst (λ (o : Option Selected). let s : Beside = record { inputs = inputs_of now; selected = o } in Does (select_one p (left_of old)) a (unselected (inputs_of old)) GoesOn b s)
     (sym (text_of_file p now f t (λ n e. (kept n (sym same ∙ e)).own)))
     (picks p (left_of old) f (inputs_of old) (inputs_of now) t (record_in now f) a b is h)
 
@@ -295,7 +295,7 @@ at_last p left primary secondary i a b on is =
     }
 
 -- it is off
-pub not_last : (p : Object) (left : Left) (primary secondary : Option (List ℕ)) (a b : Running) (s t : Held) (e : PhaseEnd) → is_on a.config last_record ≡ false →
+pub not_last : (p : Object) (left : Left) (primary secondary : Option (List ℕ)) (a b : Running) (s t : Beside) (e : PhaseEnd) → is_on a.config last_record ≡ false →
     Does (take_in p left Primary primary before take_in p left Secondary secondary before select_one p left) a s e b t → Does (select_record p left primary secondary) a s e b t
 not_last p left primary secondary a b s t e off d =
     let P = does (λ c. done GoesOn (with_config (with_all level_indicators true) c)) in

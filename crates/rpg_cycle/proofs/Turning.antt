@@ -5,7 +5,7 @@ use Rattle.std.specs.Option.{ForSome}
 use Rattle.rpg_paper.specs.Paper.{Position}
 use Rattle.rpg_effect.specs.Input.{TypeRow}
 use Rattle.rpg_cycle.proofs.Composing.{quietly}
-use Rattle.rpg_cycle.specs.Doing.{Does, Held, DoesAlone, under_way}
+use Rattle.rpg_cycle.specs.Doing.{Does, Beside, DoesAlone, under_way}
 use Rattle.rpg_cycle_records.specs.Earlier.{Selected}
 use Rattle.rpg_cycle_records.specs.Waiting.{Inputs}
 use Rattle.rpg_cycle.specs.Ends.{GoesOn}
@@ -100,7 +100,7 @@ row_indicators p ts h k d inside =
 
 -- ---- the phase that shows a match
 
-pub shows : (matches : Inputs → Selected → Bool) (is_match : Bool) (a b : Running) (h : Held) → is_match ≡ if_selected (matches h.inputs) h.selected → b ≡ record a { config = with_one matching_record is_match a.config } →
+pub shows : (matches : Inputs → Selected → Bool) (is_match : Bool) (a b : Running) (h : Beside) → is_match ≡ if_selected (matches h.inputs) h.selected → b ≡ record a { config = with_one matching_record is_match a.config } →
     Does (show_match matches) a h GoesOn b h
 shows matches is_match a b h e is =
     quietly (λ c. done GoesOn (with_config (with_one matching_record (if_selected (matches c.inputs) c.selected)) c)) a b h h GoesOn (with_one matching_record is_match a.config)

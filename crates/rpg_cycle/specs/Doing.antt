@@ -20,16 +20,16 @@ abbrev pub next_text : Option (Bor (List ℕ)) → Option (List ℕ)
 next_text next = option_map (λ (text : Bor (List ℕ)). text.now) next
 
 -- what a cycle has beside the machine: the files, and the record that was selected
-pub record Held : Type 0 where
+pub record Beside : Type 0 where
   pub inputs : Inputs
   pub selected : Option Selected
 
 -- the files, and a record of that type, if one was selected
-abbrev pub holding : Inputs → Option ℕ → List ℕ → Held
+abbrev pub holding : Inputs → Option ℕ → List ℕ → Beside
 holding i t text = record { inputs = i; selected = selected_as t text }
 
 -- the files, and nothing selected yet
-abbrev pub unselected : Inputs → Held
+abbrev pub unselected : Inputs → Beside
 unselected i = record { inputs = i; selected = None }
 
 -- the record of that type that its file holds, if one was selected
@@ -37,7 +37,7 @@ abbrev pub selected_in : Object → Kept → Option ℕ → Option Selected
 selected_in p k t = selected_as t (text_in p k t)
 
 -- the files that are kept, and that record
-abbrev pub holding_kept : Object → Kept → Option ℕ → Held
+abbrev pub holding_kept : Object → Kept → Option ℕ → Beside
 holding_kept p k t = holding (inputs_of k) t (text_in p k t)
 
 -- whether a record has a match, by what is kept of earlier records
@@ -52,23 +52,23 @@ selected_has_match p k t = if_selected (match_by p k (inputs_of k)) (selected_in
 abbrev pub cycle_by : Object → Kept → Option (List ℕ) → Option (List ℕ) → Phase
 cycle_by p k primary secondary = CycleOn p (left_of k) (match_by p k) primary secondary
 
-abbrev pub under_way : Config → Held → UnderWay
+abbrev pub under_way : Config → Beside → UnderWay
 under_way c h = record { config = c; inputs = h.inputs; selected = h.selected }
 
 -- behind a line placed before a machine did a phase, and its bytes were appended; the cycle had the one beside it before, and the other behind it
-pub record DoesBehind (P : Phase) (previous : Option Position) (old : Running) (before : Held) (e : PhaseEnd) (new : Running) (after : Held) : Type 0 where
+pub record DoesBehind (P : Phase) (previous : Option Position) (old : Running) (before : Beside) (e : PhaseEnd) (new : Running) (after : Beside) : Type 0 where
   pub out : Output
   pub phase : P (under_way (config_on previous old.config) before) e (under_way (config_on (last_position_from previous out.lines) new.config) after) out
   pub last : new.last ≡ line_of (last_position_from previous out.lines)
   pub bytes : new.output ≡ with_output previous out.lines out.records old.output
 
 -- a machine did a phase, whatever was placed before
-pub record Does (P : Phase) (old : Running) (before : Held) (e : PhaseEnd) (new : Running) (after : Held) : Type 0 where
+pub record Does (P : Phase) (old : Running) (before : Beside) (e : PhaseEnd) (new : Running) (after : Beside) : Type 0 where
   pub program : new.program ≡ old.program
   pub behind : (previous : Option Position) → old.last ≡ line_of previous → DoesBehind P previous old before e new after
 
 -- a machine did a phase that left the files and the selected record as they were
-abbrev pub DoesHolding : Phase → Held → Running → PhaseEnd → Running → Type 0
+abbrev pub DoesHolding : Phase → Beside → Running → PhaseEnd → Running → Type 0
 DoesHolding P h old e new = Does P old h e new h
 
 -- with this record selected, whatever the files
@@ -77,7 +77,7 @@ DoesWith P s old e new = (i : Inputs) → DoesHolding P (record { inputs = i; se
 
 -- a machine did a phase that neither reads nor selects, whatever the files and the selected record
 pub record DoesAlone (P : Phase) (old : Running) (e : PhaseEnd) (new : Running) : Type 0 where
-  pub each : (h : Held) → DoesHolding P h old e new
+  pub each : (h : Beside) → DoesHolding P h old e new
 
 -- a machine did a phase of its own program
 abbrev pub DoesOwn : (Object → Phase) → Running → PhaseEnd → Running → Type 0
@@ -100,4 +100,4 @@ CycleGoesOn p k primary secondary old t k' new =
 -- a cycle that ended the job
 abbrev pub CycleEnds : Object → Kept → (primary secondary : Option (Bor (List ℕ))) → Running → PhaseEnd → Running → Type 0
 CycleEnds p k primary secondary old e new =
-    (h : Held) × Does (cycle_by p k (next_text primary) (next_text secondary)) (refilled old) (unselected (inputs_of k)) e new h
+    (h : Beside) × Does (cycle_by p k (next_text primary) (next_text secondary)) (refilled old) (unselected (inputs_of k)) e new h

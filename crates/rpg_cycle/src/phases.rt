@@ -206,6 +206,7 @@ fn has_no_overflow<S: Store + Drop>(machine: &Machine<S>, overflow: Option<u8>) 
 }
 
 /// 7. All lines of a new page, where the overflow indicator is on.
+#[inline(always)]
 pub(crate) fn put_out_overflow<S: Store + Drop>(machine: &mut Machine<S>) -> Result<(), Stop>
     requires ready { IsReady machine.old }
     requires few { machine.old.config.steps ≤ 2 ^ 60 }
@@ -233,6 +234,7 @@ fn finds_match_of(program: &Verified, kept: &Kept, selected: Option<usize>) -> b
 }
 
 /// 8. MR shows whether the selected record has a match.
+#[inline(always)]
 pub(crate) fn show_match<S: Store + Drop>(
     machine: &mut Machine<S>,
     kept: &Kept,

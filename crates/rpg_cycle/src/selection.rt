@@ -86,6 +86,7 @@ fn read<S: Store + Drop>(
 }
 
 /// A file that is there, not at its end and without a waiting record takes one in.
+#[inline(always)]
 fn take_in<S: Store + Drop>(
     program: &Verified,
     machine: &mut Machine<S>,
@@ -138,6 +139,7 @@ fn compare_levels<S: Store + Drop>(
 }
 
 /// Selects the record that waits in a file: it waits no longer.
+#[inline(always)]
 fn select_waiting<S: Store + Drop>(
     program: &Verified,
     machine: &mut Machine<S>,
@@ -166,6 +168,7 @@ fn select_waiting<S: Store + Drop>(
 }
 
 /// Selects one of the records that wait; where none does, LR and L1 to L9 go on.
+#[inline(always)]
 fn select_one<S: Store + Drop>(
     program: &Verified,
     machine: &mut Machine<S>,

@@ -37,6 +37,7 @@ impl MatchValue {
 
     /// The value of a record, which is filled to its length, in the place of another. It takes memory only where the room is too small;
     /// on an error the value is of no use.
+    #[inline(always)]
     pub fn take(&mut self, fields: &[ControlField], text: &[u8]) -> Result<(), AllocError>
         requires { All (IsControlIn (length text.now)) fields.now }
         ensures { OnOk result (seen_value self.new ≡ spec.value_in fields.now text.now) }

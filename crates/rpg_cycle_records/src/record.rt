@@ -19,6 +19,7 @@ pub fn is_good(program: &Verified, file: InputFile, text: &[u8]) -> bool
 
 /// The record, filled with blanks to the length of the file's records, in the place of another. It takes memory only where the
 /// room of that one is less than this length; on an error the record is of no use.
+#[inline(always)]
 pub fn fill(
     room: &mut Vec<u8>,
     program: &Verified,
@@ -30,10 +31,12 @@ pub fn fill(
     ensures whole { IfOk result (λ _. length room.new.items ≡ length_of program.now file) }
 {
     let length = input_length(program, file);
+    if text.len() == length && room.len() == length {
+        room.copy_from_slice(text);
+        return Ok(());
+    }
     room.clear();
     room.extend_from_slice(text)?;
-    if text.len() < length {
-        room.resize(length, b' ')?;
-    }
+    room.resize(length, b' ')?;
     Ok(())
 }

@@ -31,7 +31,7 @@ use Rattle.rpg_cycle_safety.proofs.Weighing.{moving_weight, taking_weight}
 use Rattle.rpg_cycle_safety.proofs.Working.{IsTaken, going}
 use Rattle.rpg_cycle_safety.specs.Holding.{Holds, Keeps}
 use Rattle.rpg_cycle_safety.specs.Waiting.{AreWaiting}
-use Rattle.rpg_cycle_safety.specs.Measuring.{IsNear, IsOfCycles, IsPutInRun, PaysForOutput, StaysInOutput}
+use Rattle.rpg_cycle_safety.specs.Measuring.{StandsNear, IsOfCycles, IsPutInRun, PaysForOutput, StaysInOutput}
 use Rattle.rpg_machine.specs.Accepted.{IsOrderly}
 use Rattle.rpg_machine.specs.Config.{Config, Output, charged, no_output}
 use Rattle.rpg_machine.specs.Outputs.{ByEffect, inputs_at, output_effect, output_weight}
@@ -59,7 +59,7 @@ module _ (p : Object) (orderly : IsOrderly p) where
     pub rests : e ≡ GoesOn → Rests d
 
   abbrev IsPaid : Phase → Type 0
-  IsPaid P = (previous : Option Position) (c : UnderWay) (e : PhaseEnd) (d : UnderWay) (out : Output) → Rests c → IsNear previous c.config.world.here → P c e d out →
+  IsPaid P = (previous : Option Position) (c : UnderWay) (e : PhaseEnd) (d : UnderWay) (out : Output) → Rests c → StandsNear previous c.config.world.here → P c e d out →
       Pays previous c e d out
 
   rests_as : (d : UnderWay) (x : Config) (i : Inputs) (s : Option Selected) → d.config ≡ x → d.inputs ≡ i → d.selected ≡ s → Rests (record { config = x; inputs = i; selected = s }) → Rests d
@@ -95,7 +95,7 @@ module _ (p : Object) (orderly : IsOrderly p) where
 
   -- ---- phases without output
 
-  still_paid : (n : ℕ) (previous : Option Position) (c : UnderWay) (e : PhaseEnd) (d : UnderWay) (out : Output) → Rests c → IsNear previous c.config.world.here →
+  still_paid : (n : ℕ) (previous : Option Position) (c : UnderWay) (e : PhaseEnd) (d : UnderWay) (out : Output) → Rests c → StandsNear previous c.config.world.here →
       Still n c.config d.config → AreWaiting p d.inputs → IsTaken p d.selected → out ≡ no_output → Pays previous c e d out
   still_paid n previous c e d out r near s waiting taken same = record {
     pays = subst (λ (o : Output). PaysForOutput previous c.config d.config o) (sym same) (nothing_paid previous n c.config d.config s.steps s.form near);
@@ -204,7 +204,7 @@ module _ (p : Object) (orderly : IsOrderly p) where
   overflow_paid = unless_paid (has_no_overflow p.overflow) (output p times.Overflow) (output_paid times.Overflow)
 
   filled_paid : (config : Config) (i : Inputs) (s : Option Selected) (previous : Option Position) (e : PhaseEnd) (d : UnderWay) (out : Output) →
-      Rests (record { config = config; inputs = i; selected = s }) → IsNear previous config.world.here → fill_from p s (record { config = config; inputs = i; selected = s }) e d out →
+      Rests (record { config = config; inputs = i; selected = s }) → StandsNear previous config.world.here → fill_from p s (record { config = config; inputs = i; selected = s }) e d out →
       Pays previous (record { config = config; inputs = i; selected = s }) e d out
   filled_paid config i None previous e d out r near h = pass_paid previous (record { config = config; inputs = i; selected = None }) e d out r near h
   filled_paid config i (Some s) previous e d out r near h =
@@ -247,13 +247,13 @@ module _ (p : Object) (orderly : IsOrderly p) where
 
   -- what it puts out, and where the form stands behind it
   pub cycle_pays : (earlier : List Selected) (primary secondary : Option (List ℕ)) (previous : Option Position) (c : Config) (i : Inputs) (e : PhaseEnd) (d : UnderWay) (out : Output) →
-      Holds p c.world → c.cells ≡ map.empty → AreWaiting p i → IsNear previous c.world.here → Cycle p earlier primary secondary (begun p c i) e d out →
+      Holds p c.world → c.cells ≡ map.empty → AreWaiting p i → StandsNear previous c.world.here → Cycle p earlier primary secondary (begun p c i) e d out →
       PaysForOutput previous (begun p c i).config d.config out
   cycle_pays earlier primary secondary previous c i e d out h none waiting near cycle =
       (cycle_paid (left_by p earlier) (has_match p earlier) primary secondary previous (begun p c i) e d out (starts c i h none waiting) near cycle).pays
 
   pub cycle_in_output : (earlier : List Selected) (primary secondary : Option (List ℕ)) (previous : Option Position) (c : Config) (i : Inputs) (e : PhaseEnd) (d : UnderWay) (out : Output) →
-      Holds p c.world → c.cells ≡ map.empty → AreWaiting p i → IsNear previous c.world.here → Cycle p earlier primary secondary (begun p c i) e d out → StaysInOutput p previous out
+      Holds p c.world → c.cells ≡ map.empty → AreWaiting p i → StandsNear previous c.world.here → Cycle p earlier primary secondary (begun p c i) e d out → StaysInOutput p previous out
   cycle_in_output earlier primary secondary previous c i e d out h none waiting near cycle =
       let pays = (cycle_pays earlier primary secondary previous c i e d out h none waiting near cycle).few in
       let few = (cycles_well p orderly earlier primary secondary c i e d out h none waiting cycle).few in
@@ -262,7 +262,7 @@ module _ (p : Object) (orderly : IsOrderly p) where
   -- ---- runs
 
   of_cycles : (n : ℕ) (earlier : List Selected) (rs : Records) (previous : Option Position) (c : Config) (i : Inputs) (last : Option Position) (out : Output) → Holds p c.world →
-      c.cells ≡ map.empty → AreWaiting p i → IsNear previous c.world.here → IsOfCycles n p earlier rs previous c i last out → StaysInOutput p last out
+      c.cells ≡ map.empty → AreWaiting p i → StandsNear previous c.world.here → IsOfCycles n p earlier rs previous c i last out → StaysInOutput p last out
   of_cycles zero earlier rs previous c i last out h none waiting near put = absurd put
   of_cycles (suc n) earlier rs previous c i last out h none waiting near (inl (is, e, d, cycle)) =
       subst (λ (o : Option Position). StaysInOutput p o out) (sym is)

@@ -10,7 +10,7 @@ use Rattle.rpg_cycle_safety.proofs.Measuring.{cycle_in_output}
 use Rattle.rpg_cycle_safety.proofs.Writing.{same_fields}
 use Rattle.rpg_cycle_safety.specs.Holding.{Holds}
 use Rattle.rpg_cycle_safety.specs.Waiting.{AreWaiting}
-use Rattle.rpg_cycle_safety.specs.Measuring.{IsNear, bytes_of_step, pending}
+use Rattle.rpg_cycle_safety.specs.Measuring.{StandsNear, bytes_of_step, pending}
 use Rattle.rpg_machine.specs.Accepted.{IsOrderly}
 use Rattle.rpg_machine.specs.Running.{config_on, no_bytes}
 use Rattle.rpg_paper.specs.Paper.{Position, bytes_from}
@@ -24,7 +24,7 @@ feed_short Failed last = omega arith
 
 -- a job from which all was taken before
 pub job_in_output : (old new : AtWork) (earlier : List Selected) (previous : Option Position) (primary secondary : Option (List ℕ)) (e : PhaseEnd) → IsOrderly old.program →
-    Holds old.program old.config.world → old.config.cells ≡ map.empty → AreWaiting old.program old.inputs → IsNear previous (config_on previous old.config).world.here → old.output ≡ no_bytes →
+    Holds old.program old.config.world → old.config.cells ≡ map.empty → AreWaiting old.program old.inputs → StandsNear previous (config_on previous old.config).world.here → old.output ≡ no_bytes →
     DoesCycle old earlier previous primary secondary e new → pending new ≤ bound old.program * bytes_of_step + 1
 job_in_output old new earlier previous primary secondary e orderly h none waiting near empty does =
     let c = config_on previous old.config in

@@ -21,7 +21,7 @@ use Rattle.rpg_effect.specs.declared.operation.Index.TheVariants.{Blank, Literal
 use Rattle.rpg_effect.specs.declared.operation.Operand.{Operand}
 use Rattle.rpg_effect.specs.declared.operation.Side.{Side}
 use Rattle.rpg_cycle_safety.proofs.Sizing.{PutsFew}
-use Rattle.rpg_cycle_safety.specs.Measuring.{IsNear}
+use Rattle.rpg_cycle_safety.specs.Measuring.{StandsNear}
 use Rattle.rpg_paper.specs.Paper.{Placed, Position, last_position_from}
 
 -- nothing is put out, and the form stays
@@ -31,12 +31,12 @@ pub record IsQuiet (w : World nat_cmp) (e : Effect nat_cmp) : Type 0 where
   pub here : e.world.here ≡ w.here
 
 -- it costs nothing
-pub quiet_few : (previous : Option Position) (w : World nat_cmp) (e : Effect nat_cmp) → IsQuiet w e → IsNear previous w.here → PutsFew previous 0 e
+pub quiet_few : (previous : Option Position) (w : World nat_cmp) (e : Effect nat_cmp) → IsQuiet w e → StandsNear previous w.here → PutsFew previous 0 e
 quiet_few previous w e h near = record {
   few = rw (h.lines, h.records) (omega arith);
   near =
-      subst (λ (ls : List Placed). IsNear (last_position_from previous ls) e.world.here) (sym h.lines)
-      (subst (λ (x : Position). IsNear previous x) (sym h.here) near);
+      subst (λ (ls : List Placed). StandsNear (last_position_from previous ls) e.world.here) (sym h.lines)
+      (subst (λ (x : Position). StandsNear previous x) (sym h.here) near);
 }
 
 halts : (k : ℕ) (w : World nat_cmp) → IsQuiet w (quiet (Halt k) w)

@@ -21,7 +21,7 @@ use Rattle.rpg_cycle_safety.proofs.Laying.{assembled_long}
 use Rattle.rpg_cycle_safety.proofs.Moving.{IsShort, after_up, before_up, short_spacing, way_short}
 use Rattle.rpg_cycle_safety.proofs.Printing.{Draws, one_keeps}
 use Rattle.rpg_cycle_safety.specs.Holding.{Holds}
-use Rattle.rpg_cycle_safety.specs.Measuring.{IsNear, bytes_of_step}
+use Rattle.rpg_cycle_safety.specs.Measuring.{StandsNear, bytes_of_step}
 use Rattle.rpg_machine_lines.proofs.Passages.{none_asked}
 use Rattle.rpg_machine_lines.specs.Passages.{may_count}
 use Rattle.rpg_object_program.specs.Constants.{word_at}
@@ -49,21 +49,21 @@ bytes_both previous xs ys rs ss =
     omega (arith, one, two)
 
 pub near_both : (previous : Option Position) (xs ys : List Placed) (here : Position) →
-    IsNear (last_position_from (last_position_from previous xs) ys) here → IsNear (last_position_from previous (xs ++ ys)) here
-near_both previous xs ys here near = subst (λ (o : Option Position). IsNear o here) (sym (end_from-lines previous xs ys)) near
+    StandsNear (last_position_from (last_position_from previous xs) ys) here → StandsNear (last_position_from previous (xs ++ ys)) here
+near_both previous xs ys here near = subst (λ (o : Option Position). StandsNear o here) (sym (end_from-lines previous xs ys)) near
 
 -- ---- effects
 
 -- no more is put out than so many steps may put out, and the form stands near the line placed last
 pub record PutsFew (previous : Option Position) (n : ℕ) (e : Effect nat_cmp) : Type 0 where
   pub few : bytes_in previous e.lines e.records ≤ n * bytes_of_step
-  pub near : IsNear (last_position_from previous e.lines) e.world.here
+  pub near : StandsNear (last_position_from previous e.lines) e.world.here
 
 pub few_more : (previous : Option Position) (n m : ℕ) (e : Effect nat_cmp) → n ≤ m → PutsFew previous n e → PutsFew previous m e
 few_more previous n m e l h = let few = h.few in record { few = omega (arith, few, l); near = h.near }
 
 -- nothing is put out
-pub leaves_few : (previous : Option Position) (w : World nat_cmp) → IsNear previous w.here → PutsFew previous 0 (Leaves w)
+pub leaves_few : (previous : Option Position) (w : World nat_cmp) → StandsNear previous w.here → PutsFew previous 0 (Leaves w)
 leaves_few previous w near = record { few = omega arith; near = near }
 
 both_few : (previous : Option Position) (n m : ℕ) (ending : End) (e : Effect nat_cmp) (go : World nat_cmp → Effect nat_cmp) → PutsFew previous n e →
@@ -103,7 +103,7 @@ limit_of Printer = 132
 limit_of Disk = 9999
 
 put_few : (overflow : Option ℕ) (file : File) (s : Spacing) (text : List ℕ) (previous : Option Position) (w : World nat_cmp) → IsShort s →
-    length text ≤ limit_of file → IsNear previous w.here → PutsFew previous 1 (put_on overflow file s text w)
+    length text ≤ limit_of file → StandsNear previous w.here → PutsFew previous 1 (put_on overflow file s text w)
 unfolding put_on
 put_few overflow Printer s text previous w short few near =
     let v = spaced_before overflow s w in
@@ -118,7 +118,7 @@ put_few overflow Disk s text previous w short few near = let bytes = record_few 
 
 module _ (p : Object) where
   out_few : (overflow : Option ℕ) (l : Line ℕ) (previous : Option Position) (w : World nat_cmp) (ending : End) (d : Draft nat_cmp) → IsShort l.spacing →
-      length d.text ≤ limit_of l.file → IsNear previous w.here → PutsFew previous 1 (put_out (form_at p.fields) (word_at p) overflow l w ending d)
+      length d.text ≤ limit_of l.file → StandsNear previous w.here → PutsFew previous 1 (put_out (form_at p.fields) (word_at p) overflow l w ending d)
   out_few overflow l previous w GoesOn d short few near =
       let put = put_on overflow l.file l.spacing d.text (record w { fields = d.fields }) in
       let one = put_few overflow l.file l.spacing d.text previous (record w { fields = d.fields }) short few near in
@@ -132,7 +132,7 @@ module _ (p : Object) where
   within_limit kept Disk = kept.longest_disk_record
 
   module _ (kept : IsProgram p) (overflow : Option ℕ) where
-    line_few : (l : LineRow) (previous : Option Position) (w : World nat_cmp) → IsSoundLine p l → Holds p w → IsNear previous w.here →
+    line_few : (l : LineRow) (previous : Option Position) (w : World nat_cmp) → IsSoundLine p l → Holds p w → StandsNear previous w.here →
         PutsFew previous 1 (line_out (form_at p.fields) (word_at p) overflow (program_line p l) w)
     unfolding line_out
     line_few l previous w sound h near =
@@ -147,14 +147,14 @@ module _ (p : Object) where
         let out = out_few overflow (program_line p l) previous w done.ending done.draft short (omega (arith, long, limit)) near in
         subst (λ (o : Option Fault). PutsFew previous 1 (unless_wrong o w (put_out (form_at p.fields) (word_at p) overflow (program_line p l) w done.ending done.draft))) (sym sound.line) out
 
-    asked_few : (b : Bool) (n : ℕ) (e : Effect nat_cmp) (previous : Option Position) (w : World nat_cmp) → PutsFew previous n e → IsNear previous w.here →
+    asked_few : (b : Bool) (n : ℕ) (e : Effect nat_cmp) (previous : Option Position) (w : World nat_cmp) → PutsFew previous n e → StandsNear previous w.here →
         PutsFew previous n (where_asked (form_at p.fields) (word_at p) b e w)
     asked_few true n e previous w h near = h
     asked_few false n e previous w h near = few_more previous 0 n (Leaves w) (omega arith) (leaves_few previous w near)
 
     -- at this passage no lines are put out but those that are meant
     module _ (pass : Pass) (is_meant : Time → Bool) (others : (time : Time) → is_meant time ≡ false → may_count time pass ≡ false) where
-      one_by : (b : Bool) (l : LineRow) (previous : Option Position) (w : World nat_cmp) → is_meant l.time ≡ b → IsSoundLine p l → Holds p w → IsNear previous w.here →
+      one_by : (b : Bool) (l : LineRow) (previous : Option Position) (w : World nat_cmp) → is_meant l.time ≡ b → IsSoundLine p l → Holds p w → StandsNear previous w.here →
           PutsFew previous (cond b (line_weight (program_line p l)) 0) (one_out (form_at p.fields) (word_at p) overflow pass (program_line p l) w)
       unfolding one_out
       one_by true l previous w meant sound h near =
@@ -167,7 +167,7 @@ module _ (p : Object) where
           (leaves_few previous w near)
 
       -- the lines of a passage
-      pub lines_few : (ls : List LineRow) (previous : Option Position) (w : World nat_cmp) → All (IsSoundLine p) ls → Holds p w → IsNear previous w.here →
+      pub lines_few : (ls : List LineRow) (previous : Option Position) (w : World nat_cmp) → All (IsSoundLine p) ls → Holds p w → StandsNear previous w.here →
           PutsFew previous (lines_weight is_meant (map (program_line p) ls)) (lines_out (form_at p.fields) (word_at p) overflow pass (map (program_line p) ls) w)
       unfolding lines_out
       lines_few [] previous w sound h near = leaves_few previous w near

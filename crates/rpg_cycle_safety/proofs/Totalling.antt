@@ -17,7 +17,7 @@ use Rattle.rpg_cycle_safety.proofs.Selecting.{unread_waits}
 use Rattle.rpg_cycle_safety.proofs.Sizing.{bytes_both}
 use Rattle.rpg_cycle_safety.specs.Holding.{Holds}
 use Rattle.rpg_cycle_safety.specs.Waiting.{AreWaiting}
-use Rattle.rpg_cycle_safety.specs.Measuring.{IsNear, StaysInOutput, bytes_of_step, size}
+use Rattle.rpg_cycle_safety.specs.Measuring.{StandsNear, StaysInOutput, bytes_of_step, size}
 use Rattle.rpg_machine.specs.Accepted.{IsOrderly}
 use Rattle.rpg_machine.specs.Config.{Config, Output, with_more}
 use Rattle.rpg_object_program.specs.Object.{Object}
@@ -57,7 +57,7 @@ module _ (p : Object) (orderly : IsOrderly p) where
   ended_few (Wrong f) previous d out Rest course stays next is = last_few previous (Wrong f) d out course stays is
 
   runs_few : (n : ℕ) (earlier : List Selected) (rs : Records) (previous : Option Position) (c : Config) (i : Inputs) (course : Course) → Holds p c.world → c.cells ≡ map.empty →
-      AreWaiting p i → IsNear previous c.world.here → RunsIn n p earlier rs c i course → IsFew previous course
+      AreWaiting p i → StandsNear previous c.world.here → RunsIn n p earlier rs c i course → IsFew previous course
   runs_few zero earlier rs previous c i course h none waiting near runs = absurd runs
   runs_few (suc n) earlier rs previous c i course h none waiting near (e, d, out, cycle, ends) =
       let primary = next_of (needs_record p c i Primary) rs.primary in

@@ -26,7 +26,7 @@ abbrev pub bytes_of_step : ℕ
 bytes_of_step = 10000
 
 -- the form stands on one of 66 lines, on the page of the line placed last or on one of the two behind it
-pub record IsNear (previous : Option Position) (here : Position) : Type 0 where
+pub record StandsNear (previous : Option Position) (here : Position) : Type 0 where
   pub line : here.line ≤ 66
   pub page : here.page ≤ page_or_1 previous + 2
 
@@ -34,7 +34,7 @@ pub record IsNear (previous : Option Position) (here : Position) : Type 0 where
 -- the line that was placed last
 pub record PaysForOutput (previous : Option Position) (c d : Config) (out : Output) : Type 0 where
   pub few : size previous out + c.steps * bytes_of_step ≤ d.steps * bytes_of_step
-  pub near : IsNear (last_position_from previous out.lines) d.world.here
+  pub near : StandsNear (last_position_from previous out.lines) d.world.here
 
 -- no more was put out than the steps of the bound may put out
 pub record StaysInOutput (p : Object) (previous : Option Position) (out : Output) : Type 0 where

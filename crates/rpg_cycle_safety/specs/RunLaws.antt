@@ -16,7 +16,7 @@ use Rattle.rpg_effect.specs.World.{Fields}
 use Rattle.rpg_cycle_safety.specs.Coming.{CyclesWell, HasCycle, HasRun, RunsWell}
 use Rattle.rpg_cycle_safety.specs.Holding.{Holds}
 use Rattle.rpg_cycle_safety.specs.Leading.{IsSteady}
-use Rattle.rpg_cycle_safety.specs.Measuring.{IsNear, IsPutInRun, PaysForOutput, StaysInOutput, bytes_of_step, pending}
+use Rattle.rpg_cycle_safety.specs.Measuring.{StandsNear, IsPutInRun, PaysForOutput, StaysInOutput, bytes_of_step, pending}
 use Rattle.rpg_cycle_safety.specs.Visiting.{IsOfRun}
 use Rattle.rpg_cycle_safety.specs.Waiting.{AreWaiting}
 use Rattle.rpg_machine.specs.Config.{Config, Output}
@@ -80,14 +80,14 @@ RunsAreSteady =
 abbrev pub SectionsPayForOutput : Type 0
 SectionsPayForOutput =
     (p : Object) (section : Section) (previous : Option Position) (c : Config) (e : End) (d : Config) (out : Output)
-    → IsProgram p → IsAccepted p → has_end section ≡ true → c.cells ≡ map.empty → Holds p c.world → IsNear previous c.world.here
+    → IsProgram p → IsAccepted p → has_end section ≡ true → c.cells ≡ map.empty → Holds p c.world → StandsNear previous c.world.here
     → RunsTo p section c e d out → PaysForOutput previous c d out
 
 -- so does what a cycle puts out, which is no more than the steps of the bound may put out
 abbrev pub CyclesPayForOutput : Type 0
 CyclesPayForOutput =
     (p : Object) (earlier : List Selected) (primary secondary : Option (List ℕ)) (previous : Option Position) (c : Config) (i : Inputs) (e : PhaseEnd) (d : UnderWay) (out : Output)
-    → IsProgram p → IsAccepted p → Holds p c.world → c.cells ≡ map.empty → AreWaiting p i → IsNear previous c.world.here
+    → IsProgram p → IsAccepted p → Holds p c.world → c.cells ≡ map.empty → AreWaiting p i → StandsNear previous c.world.here
     → Cycle p earlier primary secondary (begun p c i) e d out
     → PaysForOutput previous (begun p c i).config d.config out × StaysInOutput p previous out
 
@@ -103,7 +103,7 @@ abbrev pub JobsStayInOutput : Type 0
 JobsStayInOutput =
     (old new : AtWork) (earlier : List Selected) (previous : Option Position) (primary secondary : Option (List ℕ)) (e : PhaseEnd)
     → IsProgram old.program → IsAccepted old.program → Holds old.program old.config.world → old.config.cells ≡ map.empty
-    → AreWaiting old.program old.inputs → IsNear previous (config_on previous old.config).world.here → old.output ≡ no_bytes
+    → AreWaiting old.program old.inputs → StandsNear previous (config_on previous old.config).world.here → old.output ≡ no_bytes
     → DoesCycle old earlier previous primary secondary e new → pending new ≤ bound old.program * bytes_of_step + 1
 
 -- all that a run puts out is at most so much for each of its cycles, with that line feed

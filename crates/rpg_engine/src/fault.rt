@@ -15,7 +15,7 @@ pub enum RunFault {
     Object(ObjectFault),
     /// The date isn't six digits.
     BadDate,
-    /// The reader failed, or had more than 10,000,000 records.
+    /// A reader failed, or had more than 10,000,000 records.
     Read,
     /// The printer failed when this many bytes had gone out.
     Print { sent: u128 },
