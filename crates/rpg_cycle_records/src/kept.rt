@@ -97,7 +97,8 @@ impl Kept {
 fn is_matched(value: &MatchValue, other: &KeptFile, last: &MatchValue) -> bool
     ensures { result ≡ matches_file value.now other.now last.now }
 {
-    value.is_there && ((other.waiting.is_some() && value.agrees(&other.value)) || value.agrees(last))
+    value.is_there
+        && ((other.waiting.is_some() && value.agrees(&other.value)) || value.agrees(last))
 }
 
 /// Nine levels that no record has had.
