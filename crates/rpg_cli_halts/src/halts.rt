@@ -5,6 +5,7 @@ use crate::lines::put_indexed_fields;
 use crate::source::{HaltedSource, put_source};
 use rpg_cli_refusals::{put_instruction_at, put_shown};
 use rpg_effect::halt::Halt;
+use rpg_effect::input::InputFile;
 use rpg_object_program::section::{Place, Section};
 use rpg_verify::Verified;
 use std::alloc::{AllocError, Global};
@@ -55,7 +56,7 @@ pub struct InputNames<'a> {
 
 /// Whether a program has a secondary file.
 fn has_two_files(program: &Verified) -> bool {
-    program.program().rows().secondary_length > 0
+    program.program().rows().has_file(InputFile::Secondary)
 }
 
 /// The names of all input files of the program.

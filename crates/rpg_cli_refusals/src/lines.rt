@@ -24,14 +24,6 @@ fn file_name(file: File) -> &'static str {
     }
 }
 
-/// The places of a line of a file.
-fn length_for(rows: &Rows, file: File) -> u16 {
-    match file {
-        File::Printer => rows.printer_length,
-        File::Disk => rows.disk_length,
-    }
-}
-
 fn put_spacing(alloc: Global, out: &mut String, spacing: Spacing) -> Result<(), AllocError> {
     let Spacing {
         space_before,
@@ -68,7 +60,7 @@ pub(crate) fn put_line(
     let Some(line) = rows.lines.get(row) else {
         return Ok(());
     };
-    let length = length_for(rows, line.file);
+    let length = rows.file_length(line.file);
     out.push_str(format!(in alloc; ": line {row}, ")?.as_str())?;
     out.push_str(time_name(line.time))?;
     out.push(' ')?;

@@ -2,19 +2,11 @@
 
 use crate::fields::{put_field, put_indicator, put_shows};
 use rpg_effect::form::Kind;
-use rpg_effect::input::{ControlField, InputField, InputFile, RecordCode};
+use rpg_effect::input::{ControlField, InputField, RecordCode};
 use rpg_object_program::forms::{form_at, is_plain, kind_of, length_of, same_kind};
 use rpg_object_program::row::{RecordType, Rows};
 use rpg_verify_rules::TypeRule;
 use std::alloc::{AllocError, Global};
-
-/// The columns of a record of a file, 0 where there is no such file.
-fn length_for(rows: &Rows, file: InputFile) -> u16 {
-    match file {
-        InputFile::Primary => rows.record_length,
-        InputFile::Secondary => rows.secondary_length,
-    }
-}
 
 /// Whether columns are those of a record of that length, and not turned round.
 fn are_columns(length: u16, from: u16, to: u16) -> bool {
@@ -184,7 +176,7 @@ pub(crate) fn put_type(
     let Some(record_type) = rows.types.get(row) else {
         return Ok(());
     };
-    let length = length_for(rows, record_type.file);
+    let length = rows.input_length(record_type.file);
     out.push_str(format!(in alloc; ": record type {row}")?.as_str())?;
     match rule {
         TypeRule::V3 => put_codes(alloc, out, length, &record_type.codes),

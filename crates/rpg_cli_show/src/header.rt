@@ -2,17 +2,10 @@
 
 use crate::refusal::{Table, put_if_broken};
 use rpg_cli_show_fields::{Indicator, Layout};
-use rpg_object_program::row::{Rows, Version};
+use rpg_object_program::row::Rows;
 use rpg_verify::BrokenRule;
 use std::alloc::AllocError;
 use std::fmt::Write;
-
-fn version_number(version: Version) -> u8 {
-    match version {
-        Version::One => 1,
-        Version::Two => 2,
-    }
-}
 
 fn put_input(out: &mut String, rows: &Rows) -> Result<(), AllocError> {
     let record = rows.record_length;
@@ -73,7 +66,7 @@ pub(crate) fn put_header(
     broken: Option<BrokenRule>,
 ) -> Result<(), AllocError> {
     let bytes = layout.end;
-    let version = version_number(rows.version);
+    let version = rows.version.number();
     let allowance = rows.allowance;
     writeln!(out, "object program, version {version}, {bytes} bytes")?;
     put_input(out, rows)?;

@@ -7,7 +7,7 @@ use Rattle.rpg_machine.specs.Outputs.{FillsFields, PutsOut}
 use Rattle.rpg_machine.specs.Run.{RunsTo}
 use Rattle.rpg_machine.specs.Running.{Behaviour}
 use Rattle.rpg_machine.specs.declared.time.OutputTime.TheVariants as times
-use Rattle.rpg_object_program.specs.Object.{Object}
+use Rattle.rpg_object_program.specs.Object.{Object, has_file}
 use Rattle.rpg_object_program.specs.declared.section.Section.TheVariants as sections
 use Rattle.rpg_cycle.proofs.InTurn.{behind, both_on}
 use Rattle.rpg_cycle_records.proofs.Matches.{found}
@@ -19,7 +19,7 @@ use Rattle.rpg_cycle.specs.Indicators.{is_on, last_record, level_indicators, mat
 use Rattle.rpg_cycle_records.specs.Merging.{IsOrderly, IsTopIfAny}
 use Rattle.rpg_cycle.specs.Phases.{Cycle, CycleOn, Phase, UnderWay, begun, by_machine, detail_calculations, detail_lines, does, done, either, end_where_last, fill_fields, fill_from, halt_where_asked, has_no_overflow, if_selected, is_bypassed, output, overflow_lines, passes, section, select_one, select_record, set_off, show_match, take_in, total_time, with_config, ◌before◌}
 use Rattle.rpg_cycle.proofs.AfterSelection.{after_selection}
-use Rattle.rpg_cycle_records.specs.Waiting.{Input, Inputs, finds_match, has_file, has_match, input_at, takes_in, unread}
+use Rattle.rpg_cycle_records.specs.Waiting.{Input, Inputs, finds_match, has_match, input_at, takes_in, unread}
 
 -- ---- what is selected, and what waits, stays
 

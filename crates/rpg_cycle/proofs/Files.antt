@@ -2,13 +2,13 @@
 use Rattle.std.proofs.Common.{◌≡◌, ℕ, Bool, true, false, cond, not, ◌&&◌, ◌||◌, List, [], ◌∷◌, Option, None, Some, is_none, refl, ap, ◌∙◌}
 use Rattle.rpg_effect.specs.declared.input.InputFile.{InputFile}
 use Rattle.rpg_effect.specs.declared.input.InputFile.TheVariants.{Primary, Secondary}
-use Rattle.rpg_object_program.specs.Object.{Object}
+use Rattle.rpg_object_program.specs.Object.{Object, has_file}
 use Rattle.rpg_cycle_records.proofs.Order.{not_above, not_self}
 use Rattle.rpg_cycle_records.specs.Earlier.{Selected, file_at, match_value, or_before, value_from}
 use Rattle.rpg_cycle_records.specs.Identifying.{same_file}
 use Rattle.rpg_cycle_records.specs.Matching.{exceeds, is_greater}
 use Rattle.rpg_cycle_records.specs.Merging.{IsFileOrderly, IsOrderly, IsTopIfAny, IsTopOf, IsUpTo, is_spent}
-use Rattle.rpg_cycle_records.specs.Waiting.{Input, Inputs, has_file, input_at, other_file, takes_in, waiting_in, with_input}
+use Rattle.rpg_cycle_records.specs.Waiting.{Input, Inputs, input_at, other_file, takes_in, waiting_in, with_input}
 
 pub file_orderly : (p : Object) (earlier : List Selected) (i : Inputs) → IsOrderly p earlier i → (f : InputFile) → IsFileOrderly p earlier f (input_at i f)
 file_orderly p earlier i h Primary = h.primary

@@ -19,7 +19,7 @@ use Rattle.rpg_cycle_records.specs.Identifying.{IsOf, IsOfNone, identified, is_g
 use Rattle.rpg_cycle_records.specs.Keeping.{left_of, renewed, renewed_by, selected_as}
 use Rattle.rpg_cycle_records.specs.Levels.{broken_in, is_in_record}
 use Rattle.rpg_cycle_records.specs.Matching.{exceeds}
-use Rattle.rpg_cycle_records.specs.Waiting.{Input, Inputs, chosen, has_file, input_at, over, takes_in, waiting_in, with_input, with_waiting}
+use Rattle.rpg_cycle_records.specs.Waiting.{Input, Inputs, chosen, input_at, over, takes_in, waiting_in, with_input, with_waiting}
 use Rattle.rpg_cycle_records.specs.Holding.{HoldsRecord, HoldsSelected, IsFileKept, input_of, inputs_of, kept_at, record_in, takes_from, text_in}
 use Rattle.rpg_cycle_records.specs.declared.files.KeptFile.{KeptFile}
 use Rattle.rpg_cycle_records.specs.declared.kept.Kept.{Kept}
@@ -30,7 +30,7 @@ use Rattle.rpg_cycle.specs.Stages.{job_end}
 use Rattle.rpg_cycle.specs.declared.ends.JobEnd.{JobEnd}
 use Rattle.rpg_machine.specs.Config.{Config, charged}
 use Rattle.rpg_machine.specs.Running.{Running, config_on}
-use Rattle.rpg_object_program.specs.Object.{Object, input_length}
+use Rattle.rpg_object_program.specs.Object.{Object, has_file, input_length}
 use Rattle.rpg_verify.specs.Bound.{most}
 
 and : (b c : Bool) → b ≡ true → c ≡ true → (b && c) ≡ true

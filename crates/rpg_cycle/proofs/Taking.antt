@@ -5,7 +5,7 @@ use Rattle.rpg_effect.specs.Input.{TypeRow}
 use Rattle.rpg_effect.specs.declared.input.InputFile.{InputFile}
 use Rattle.rpg_effect.specs.declared.input.InputFile.TheVariants.{Primary, Secondary}
 use Rattle.rpg_machine.specs.Config.{Output, charged}
-use Rattle.rpg_object_program.specs.Object.{Object}
+use Rattle.rpg_object_program.specs.Object.{Object, has_file}
 use Rattle.rpg_cycle.proofs.Files.{file_orderly, over_spent, taking_none, taking_unspent, top_up, value_own, with_orderly}
 use Rattle.rpg_cycle_records.specs.Earlier.{Selected, file_at, file_of, last_of_file, last_value, left_by, match_fields, match_value, or_before}
 use Rattle.rpg_effect.specs.Ends as effects
@@ -15,7 +15,7 @@ use Rattle.rpg_cycle_records.specs.Levels.{is_in_record}
 use Rattle.rpg_cycle_records.specs.Matching.{exceeds}
 use Rattle.rpg_cycle_records.specs.Merging.{IsOrderly, IsTopOf, front}
 use Rattle.rpg_cycle.specs.Phases.{Done, UnderWay, done, identify, read_record, take_in, take_type, with_config, with_inputs}
-use Rattle.rpg_cycle_records.specs.Waiting.{Input, Inputs, has_file, input_at, other_file, over, takes_in, value_of, with_input, with_waiting}
+use Rattle.rpg_cycle_records.specs.Waiting.{Input, Inputs, input_at, other_file, over, takes_in, value_of, with_input, with_waiting}
 
 -- ---- the type that is found is one of the file
 

@@ -9,7 +9,7 @@ use Rattle.rpg_cycle_records.specs.Earlier.{Left, Selected, last_of_file, left_b
 use Rattle.rpg_cycle_records.specs.Identifying.{IsOf, IsOfNone, Misplaced, Trial, identified, is_good_record, padded, trial_weight}
 use Rattle.rpg_cycle_records.specs.Levels.{is_in_record}
 use Rattle.rpg_cycle_records.specs.Matching.{exceeds}
-use Rattle.rpg_cycle_records.specs.Waiting.{Input, Inputs, has_file, has_match, takes_in, with_waiting}
+use Rattle.rpg_cycle_records.specs.Waiting.{Input, Inputs, has_match, takes_in, with_waiting}
 use Rattle.rpg_effect.specs.Ends as effects
 use Rattle.rpg_effect.specs.declared.input.InputFile.{InputFile}
 use Rattle.rpg_effect.specs.declared.input.InputFile.TheVariants.{Primary, Secondary}
@@ -21,7 +21,7 @@ use Rattle.rpg_cycle.proofs.AfterSelection.{after_selection}
 use Rattle.rpg_machine.specs.Config.{Config, Output, charged}
 use Rattle.rpg_object_program.specs.Constants.{word_at}
 use Rattle.rpg_object_program.specs.Kept.{IsOverflowIndicator, IsProgram}
-use Rattle.rpg_object_program.specs.Object.{Object, lines_of}
+use Rattle.rpg_object_program.specs.Object.{Object, has_file, lines_of}
 
 -- ---- indicators that stay
 

@@ -5,14 +5,14 @@ use Rattle.rpg_cycle_records.specs.Earlier.{Selected, file_of, match_value}
 use Rattle.rpg_cycle_records.specs.Fitting.{IsFilledAs}
 use Rattle.rpg_cycle_records.specs.Keeping.{selected_as, seen_value}
 use Rattle.rpg_cycle_records.specs.Matching.{agrees}
-use Rattle.rpg_cycle_records.specs.Waiting.{Input, Inputs, has_file}
+use Rattle.rpg_cycle_records.specs.Waiting.{Input, Inputs}
 use Rattle.rpg_cycle_records.specs.declared.files.KeptFile.{KeptFile}
 use Rattle.rpg_cycle_records.specs.declared.kept.Kept.{Kept}
 use Rattle.rpg_cycle_records.specs.declared.matching.MatchValue.{MatchValue}
 use Rattle.rpg_effect.specs.declared.input.InputFile.{InputFile}
 use Rattle.rpg_effect.specs.declared.input.InputFile.TheVariants.{Primary, Secondary}
 use Rattle.rpg_object_program.specs.Kept.{IsCharacter}
-use Rattle.rpg_object_program.specs.Object.{Object}
+use Rattle.rpg_object_program.specs.Object.{Object, has_file}
 
 -- the record that a file holds, as one of that type
 abbrev pub record_as : ℕ → KeptFile → Selected

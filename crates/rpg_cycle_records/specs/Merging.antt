@@ -2,10 +2,10 @@
 use Rattle.std.specs.Prelude.{◌≡◌, ℕ, Bool, false, not, ◌&&◌, ◌||◌, List, [], ◌∷◌, Option, None, Some, is_none}
 use Rattle.rpg_effect.specs.declared.input.InputFile.{InputFile}
 use Rattle.rpg_effect.specs.declared.input.InputFile.TheVariants.{Primary, Secondary}
-use Rattle.rpg_object_program.specs.Object.{Object}
+use Rattle.rpg_object_program.specs.Object.{Object, has_file}
 use Rattle.rpg_cycle_records.specs.Earlier.{Selected, file_at, last_value, left_by, match_value, or_before}
 use Rattle.rpg_cycle_records.specs.Matching.{exceeds}
-use Rattle.rpg_cycle_records.specs.Waiting.{Input, Inputs, finds_match, has_file, has_match, value_of}
+use Rattle.rpg_cycle_records.specs.Waiting.{Input, Inputs, finds_match, has_match, value_of}
 
 -- A value, where there is one, is no greater than this one; and where this one is missing, so is the value.
 abbrev pub IsUpTo : Option (List ℕ) → Option (List ℕ) → Type 0

@@ -1,8 +1,8 @@
 -- Records that wait in their files, and which of them is selected.
-use Rattle.std.specs.Prelude.{ℕ, Bool, true, false, not, ◌&&◌, ◌||◌, ◌==◌, List, Option, None, Some, is_none, if◌then◌else◌}
+use Rattle.std.specs.Prelude.{ℕ, Bool, true, false, not, ◌&&◌, ◌||◌, List, Option, None, Some, is_none, if◌then◌else◌}
 use Rattle.rpg_effect.specs.declared.input.InputFile.{InputFile}
 use Rattle.rpg_effect.specs.declared.input.InputFile.TheVariants.{Primary, Secondary}
-use Rattle.rpg_object_program.specs.Object.{Object, input_length}
+use Rattle.rpg_object_program.specs.Object.{Object, has_file}
 use Rattle.rpg_cycle_records.specs.Earlier.{Left, Selected, any_agrees, file_at, last_of_file, match_value, value_from, with_record}
 use Rattle.rpg_cycle_records.specs.Matching.{agrees, is_greater}
 
@@ -37,10 +37,6 @@ over f i = with_input f (record { waiting = None; is_over = true }) i
 -- a record waits, or none does
 abbrev pub with_waiting : InputFile → Option Selected → Inputs → Inputs
 with_waiting f s i = with_input f (record { waiting = s; is_over = (input_at i f).is_over }) i
-
--- a program has such a file
-abbrev pub has_file : Object → InputFile → Bool
-has_file p f = not (input_length p f == 0)
 
 -- a file that is there, not at its end and without a waiting record takes one in
 abbrev pub takes_in : Object → Inputs → InputFile → Bool

@@ -78,9 +78,5 @@ pub fn file_of(program: &Verified, row: usize) -> InputFile
 pub(crate) fn input_length(program: &Verified, file: InputFile) -> usize
     ensures { result ≡ length_of program.now file }
 {
-    let rows = rows_of(program);
-    usize::from(match file {
-        InputFile::Primary => rows.record_length,
-        InputFile::Secondary => rows.secondary_length,
-    })
+    usize::from(rows_of(program).input_length(file))
 }

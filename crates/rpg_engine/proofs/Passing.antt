@@ -16,14 +16,14 @@ use Rattle.rpg_cycle_records.specs.Earlier.{Left, Selected, control_fields, left
 use Rattle.rpg_cycle_records.specs.Identifying.{is_good_record, padded}
 use Rattle.rpg_cycle_records.specs.Levels.{is_in_record}
 use Rattle.rpg_cycle_records.specs.Merging.{IsOrderly}
-use Rattle.rpg_cycle_records.specs.Waiting.{Input, Inputs, chosen, has_file, has_match, input_at, over, takes_in, waiting_in, with_waiting}
+use Rattle.rpg_cycle_records.specs.Waiting.{Input, Inputs, chosen, has_match, input_at, over, takes_in, waiting_in, with_waiting}
 use Rattle.rpg_effect.specs.Ends as effects
 use Rattle.rpg_effect.specs.declared.input.InputFile.{InputFile}
 use Rattle.rpg_effect.specs.declared.input.InputFile.TheVariants.{Primary, Secondary}
 use Rattle.rpg_machine.specs.Config.{Config, Output, charged}
 use Rattle.rpg_machine.specs.Outputs.{PutsOut}
 use Rattle.rpg_machine.specs.declared.time.OutputTime.TheVariants as times
-use Rattle.rpg_object_program.specs.Object.{Object}
+use Rattle.rpg_object_program.specs.Object.{Object, has_file}
 
 -- ---- records that are alike to a cycle
 

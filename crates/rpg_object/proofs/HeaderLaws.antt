@@ -17,7 +17,8 @@ use Rattle.rpg_text.specs.Texts.{is_between}
 use Rattle.rpg_object.specs.declared.header.Counts.{Counts}
 use Rattle.rpg_object.specs.declared.header.Header.{Header}
 use Rattle.rpg_object.specs.declared.header.Settings.{Settings}
-use Rattle.rpg_object.specs.Header.{overflow_of, overflow_number, settings, most_instructions, counts, header_format, secondary_length, version_number, version_of}
+use Rattle.rpg_object_program.specs.Object.{version_number}
+use Rattle.rpg_object.specs.Header.{overflow_of, overflow_number, settings, most_instructions, counts, header_format, secondary_length, version_of}
 use Rattle.rpg_object_rows.proofs.Choices.{within, counted, between, few}
 
 version_rule : IsRule version_of version_number

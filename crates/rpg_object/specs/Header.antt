@@ -4,6 +4,7 @@ use Rattle.rpg_object_format.specs.declared.fault.Code.{Code}
 use Rattle.rpg_object_format.specs.declared.fault.Code.TheVariants as faults
 use Rattle.rpg_object_format.specs.Format.{Format, two_bytes, pair, row}
 use Rattle.rpg_object_format.specs.Numbers.{number_where, count}
+use Rattle.rpg_object_program.specs.Object.{version_number}
 use Rattle.rpg_object_program.specs.declared.row.Version.{Version}
 use Rattle.rpg_object_program.specs.declared.row.Version.TheVariants as versions
 use Rattle.rpg_object_rows.specs.Shapes.{unused_number, where_used}
@@ -15,10 +16,6 @@ use Rattle.rpg_object.specs.declared.header.Settings.{Settings}
 
 abbrev pub version_of : ℕ → Result Version Code
 version_of n = if n == 1 then Ok versions.One else (if n == 2 then Ok versions.Two else Err faults.Version)
-
-abbrev pub version_number : Version → ℕ
-version_number versions.One = 1
-version_number versions.Two = 2
 
 -- 0 for none
 abbrev pub overflow_of : ℕ → Result (Option ℕ) Code

@@ -6,7 +6,7 @@ ghost use Rattle.rpg_object_format.specs.Format.{read_two};
 ghost use Rattle.rpg_object_format.specs.Reading.{Gives};
 ghost use Rattle.rpg_object_program.specs.declared.row.Version.TheVariants as versions;
 ghost use Rattle.rpg_object.specs.Header as spec;
-ghost use Rattle.rpg_object.specs.Header.{overflow_of, overflow_number, version_of, version_number};
+ghost use Rattle.rpg_object.specs.Header.{overflow_of, overflow_number, version_of};
 
 use rpg_object_format::fault::{Code, ReadFault};
 use rpg_object_format::number::{
@@ -56,15 +56,6 @@ fn version_of(n: u16) -> Result<Version, Code>
         1 => Ok(Version::One),
         2 => Ok(Version::Two),
         _ => Err(Code::Version),
-    }
-}
-
-fn version_number(version: Version) -> u16
-    ensures { result ≡ version_number version }
-{
-    match version {
-        Version::One => 1,
-        Version::Two => 2,
     }
 }
 
@@ -186,7 +177,7 @@ pub fn put_header(out: &mut Vec<u8>, header: Header) -> Result<(), AllocError>
     let settings = header.settings;
     let counts = header.counts;
     let numbers = [
-        version_number(header.version),
+        header.version.number(),
         settings.allowance,
         settings.record_length,
         settings.printer_length,

@@ -1,5 +1,5 @@
 -- An object program as its rows, apart from where their tables lie in memory.
-use Rattle.std.specs.Prelude.{ℕ, List, map, Option}
+use Rattle.std.specs.Prelude.{ℕ, Bool, not, ◌==◌, List, map, Option}
 use Rattle.rpg_effect.specs.Input.{TypeRow}
 use Rattle.rpg_effect.specs.Lines as lines
 use Rattle.rpg_effect.specs.Values.{Value, held}
@@ -18,6 +18,7 @@ use Rattle.rpg_object_program.specs.declared.row.RecordType.{RecordType}
 use Rattle.rpg_object_program.specs.declared.row.Rows.{Rows}
 use Rattle.rpg_object_program.specs.declared.row.Subroutine.{Subroutine}
 use Rattle.rpg_object_program.specs.declared.row.Version.{Version}
+use Rattle.rpg_object_program.specs.declared.row.Version.TheVariants.{One, Two}
 
 -- an output line, as its row has it
 pub record LineRow : Type 0 where
@@ -77,12 +78,22 @@ seen r = record {
   subroutines = map subroutine_row r.subroutines.items;
 }
 
+-- ---- versions
+
+abbrev pub version_number : Version → ℕ
+version_number One = 1
+version_number Two = 2
+
 -- ---- input files
 
 -- the length of a file's records, 0 where there is no such file
 abbrev pub input_length : Object → InputFile → ℕ
 input_length p Primary = p.record_length
 input_length p Secondary = p.secondary_length
+
+-- records of a file have a length where it is there
+abbrev pub has_file : Object → InputFile → Bool
+has_file p f = not (input_length p f == 0)
 
 -- ---- lines as output knows them
 

@@ -9,7 +9,7 @@ use Rattle.rpg_effect.specs.declared.operation.Instruction.{Instruction}
 use Rattle.rpg_effect.specs.declared.operation.Instruction.TheVariants.{Act, Except, Branch, Call, Return}
 use Rattle.rpg_object_program.specs.Constants.{word_at}
 use Rattle.rpg_object_program.specs.Instructions.{columns}
-use Rattle.rpg_object_program.specs.Object.{LineRow, Object, file_length, input_length}
+use Rattle.rpg_object_program.specs.Object.{LineRow, Object, file_length, has_file, input_length}
 use Rattle.rpg_object_program.specs.Sections.{first_place, has_subroutine, instruction_at, is_place, level_of, section_instructions}
 use Rattle.rpg_object_program.specs.declared.section.Place.{Place}
 use Rattle.rpg_object_program.specs.declared.section.Section.{Section}
@@ -17,7 +17,7 @@ use Rattle.rpg_object_program.specs.declared.section.Section.TheVariants.{Subrou
 use Rattle.rpg_verify_rules.specs.Indicators.{if_any, is_of_type}
 use Rattle.rpg_verify_rules.specs.LineRules.{is_spaced_on}
 use Rattle.rpg_verify_rules.specs.PlaceRules.{are_asked, are_marked, ends_in_return}
-use Rattle.rpg_verify_rules.specs.TypeRules.{all_measured, are_joined_as, are_once, first_matches, has_file, is_code_in, is_control_in, is_input_shown, joined_widths, measures}
+use Rattle.rpg_verify_rules.specs.TypeRules.{all_measured, are_joined_as, are_once, first_matches, is_code_in, is_control_in, is_input_shown, joined_widths, measures}
 
 -- an instruction stands at a place of a section
 abbrev pub IsAt : Object → Place → Instruction ℕ → Type 0

@@ -8,14 +8,10 @@ use Rattle.rpg_effect.specs.declared.input.ControlField.{ControlField}
 use Rattle.rpg_effect.specs.declared.input.InputField.{InputField}
 use Rattle.rpg_effect.specs.declared.input.InputFile.{InputFile}
 use Rattle.rpg_effect.specs.declared.input.RecordCode.{RecordCode}
-use Rattle.rpg_object_program.specs.Object.{Object, input_length}
+use Rattle.rpg_object_program.specs.Object.{Object, has_file, input_length}
 use Rattle.rpg_verify_rules.specs.Indicators.{are_settable, if_any, is_of_type, is_within}
 use Rattle.rpg_verify_rules.specs.declared.rule.TypeRule.{TypeRule}
 use Rattle.rpg_verify_rules.specs.declared.rule.TypeRule.TheVariants.{V3, V4, V5, V6, V7, V25, V26}
-
--- records of a file have a length where it is there
-abbrev pub has_file : Object → InputFile → Bool
-has_file p f = not (input_length p f == 0)
 
 -- the position is one of a record of that length
 abbrev pub is_code_in : ℕ → RecordCode → Bool

@@ -9,7 +9,6 @@ ghost use Rattle.rpg_effect.specs.Forms as forms;
 ghost use Rattle.rpg_effect.specs.LineFaults as faults;
 ghost use Rattle.rpg_object_program.specs.Constants.{word_at};
 ghost use Rattle.rpg_object_program.specs.Kept.{IsFieldRow, IsProgram};
-ghost use Rattle.rpg_object_program.specs.Object as objects;
 ghost use Rattle.rpg_object_program.specs.Object.{seen, line_row};
 ghost use Rattle.rpg_verify_rules.specs.Indicators as marks;
 ghost use Rattle.rpg_verify_rules.specs.Least.{first_true};
@@ -53,24 +52,15 @@ fn breaks(rule: LineRule, rows: &Rows, line: &Line) -> bool
     ensures { result ≡ words.line_breaks rule (seen rows.now) (line_row line.now) }
 {
     match rule {
-        LineRule::V2 => file_length(rows, line.file) == 0,
+        LineRule::V2 => rows.file_length(line.file) == 0,
         LineRule::V8 => !is_spaced_on(line.file, line.spacing),
         LineRule::V9 => !are_alternatives_asked(rows.version, &line.alternatives),
         LineRule::V10 => !are_fields_there(rows, &line.fields),
         LineRule::V11 => lack_editing(rows, &line.fields),
         LineRule::V12 => lack_words(rows, &line.fields),
-        LineRule::V13 => lack_room(rows, file_length(rows, line.file), &line.fields),
-        LineRule::V14 => blank_wrongly(rows, file_length(rows, line.file), &line.fields),
-        LineRule::V15 => ask_wrongly(rows, file_length(rows, line.file), &line.fields),
-    }
-}
-
-fn file_length(rows: &Rows, file: File) -> u16
-    ensures { result ≡ objects.file_length (seen rows.now) file }
-{
-    match file {
-        File::Printer => rows.printer_length,
-        File::Disk => rows.disk_length,
+        LineRule::V13 => lack_room(rows, rows.file_length(line.file), &line.fields),
+        LineRule::V14 => blank_wrongly(rows, rows.file_length(line.file), &line.fields),
+        LineRule::V15 => ask_wrongly(rows, rows.file_length(line.file), &line.fields),
     }
 }
 

@@ -3,7 +3,7 @@
 ghost use Rattle.std.specs.Prelude.{◌≡◌, ◌≤◌, ◌^◌, map};
 ghost use Rattle.std.specs.List.{list_all, list_any, position};
 ghost use Rattle.rpg_effect.specs.Input as inputs;
-ghost use Rattle.rpg_object_program.specs.Object.{input_length as length_of, seen, type_row};
+ghost use Rattle.rpg_object_program.specs.Object.{seen, type_row};
 ghost use Rattle.rpg_verify_rules.specs.Least.{first_true};
 ghost use Rattle.rpg_verify_rules.specs.Rules.{broken};
 ghost use Rattle.rpg_verify_rules.specs.TypeRules as words;
@@ -13,7 +13,7 @@ use crate::indicators::{are_settable, is_of_type};
 use crate::matches::{are_matches, first_widths};
 use crate::rule::TypeRule;
 use rpg_effect::form::Kind;
-use rpg_effect::input::{ControlField, InputField, InputFile, RecordCode};
+use rpg_effect::input::{ControlField, InputField, RecordCode};
 use rpg_effect::operation::Shows;
 use rpg_object_program::forms::{form_at, is_plain, kind_of};
 use rpg_object_program::row::{RecordType, Rows};
@@ -50,7 +50,7 @@ fn breaks(
     requires widths { widths.now ≡ words.joined_widths (words.first_matches (map type_row rows.now.types.items)) }
     ensures { result ≡ words.type_breaks rule (seen rows.now) (type_row record_type.now) }
 {
-    let length = input_length(rows, record_type.file);
+    let length = rows.input_length(record_type.file);
     match rule {
         TypeRule::V3 => !are_codes_in(length, &record_type.codes),
         TypeRule::V4 => !is_of_type(record_type.indicator),
@@ -60,25 +60,9 @@ fn breaks(
         }
         TypeRule::V6 => !are_inputs_in(rows, length, &record_type.inputs),
         TypeRule::V7 => show_wrongly(rows, length, &record_type.inputs),
-        TypeRule::V25 => !has_file(rows, record_type.file),
+        TypeRule::V25 => !rows.has_file(record_type.file),
         TypeRule::V26 => !are_matches(length, widths, &record_type.matches),
     }
-}
-
-/// The length of a file's records, 0 where there is no such file.
-fn input_length(rows: &Rows, file: InputFile) -> u16
-    ensures { result ≡ length_of (seen rows.now) file }
-{
-    match file {
-        InputFile::Primary => rows.record_length,
-        InputFile::Secondary => rows.secondary_length,
-    }
-}
-
-fn has_file(rows: &Rows, file: InputFile) -> bool
-    ensures { result ≡ words.has_file (seen rows.now) file }
-{
-    input_length(rows, file) != 0
 }
 
 /// The columns of a control field of a level; none where they are turned around.
