@@ -3,10 +3,9 @@
 ghost use Rattle.std.specs.Prelude.{◌≡◌, IfSome};
 ghost use Rattle.std.specs.Option.{ForSome, option_to_list};
 ghost use Rattle.rpg_cards.specs.Calculations as calculations;
-ghost use Rattle.rpg_effect.specs.Control as control;
 ghost use Rattle.rpg_object_program.specs.Kept.{AreConditions, IsConditionRow, IsIndicator};
 
-use rpg_effect::condition::{Condition, Conditions};
+use rpg_effect::condition::{Condition, Conditions, has_conditions};
 use rpg_sheet_specs::{CalculationSpec, ControlLevel, Three};
 
 /// The level indicator that a calculation waits for, 101 to 110 (L1 to L9 and LR). L0 is always on.
@@ -63,12 +62,6 @@ pub fn test(calculation: &CalculationSpec) -> Option<Conditions>
     } else {
         None
     }
-}
-
-fn has_conditions(conditions: Conditions) -> bool
-    ensures { result ≡ control.has_conditions conditions }
-{
-    conditions.first.is_some() || conditions.second.is_some() || conditions.third.is_some()
 }
 
 pub fn condition_of(condition: rpg_sheet_specs::Condition) -> Condition

@@ -3,8 +3,9 @@
 use crate::columns::BadInput;
 use crate::halts::HaltedCycle;
 use rpg_cli_messages::{CardLines, put_card_remark};
-use rpg_cli_show_fields::{card_operand, has_conditions};
+use rpg_cli_show_fields::card_operand;
 use rpg_cli_source::{SourceRows, name_text};
+use rpg_effect::condition::has_conditions;
 use rpg_effect::halt::Halt;
 use rpg_effect::operation::{Action, Index, Instruction, Operand};
 use rpg_object_program::columns::row_of;

@@ -1,7 +1,8 @@
 //! Rulers, and words of all tables.
 
 use rpg_cards::in_places;
-use rpg_cli_show_fields::{has_conditions, put_conditions};
+use rpg_cli_show_fields::put_conditions;
+use rpg_effect::condition::has_conditions;
 use rpg_sheet_specs::{Condition, Three};
 use std::alloc::AllocError;
 use std::fmt::Write;

@@ -3,10 +3,9 @@
 use crate::bound::Costs;
 use crate::refusal::{Table, put_if_broken};
 use rpg_cli_show_fields::{
-    INSTRUCTION, Layout, NamedRows, SUBROUTINE, has_conditions, operand_text, put_conditions,
-    put_named, put_shown,
+    INSTRUCTION, Layout, NamedRows, SUBROUTINE, operand_text, put_conditions, put_named, put_shown,
 };
-use rpg_effect::condition::Conditions;
+use rpg_effect::condition::{Conditions, has_conditions};
 use rpg_effect::operation::{Action, Instruction, Operand, Shows};
 use rpg_effect::row::Use;
 use rpg_object_program::columns::row_of;

@@ -2,11 +2,11 @@
 
 use crate::refusal::{Table, put_if_broken};
 use rpg_cli_show_fields::{
-    LINE_FIELD, NamedRows, code_letter, field_text, fill_words, has_conditions, line_bytes,
-    line_head_bytes, operand_text, put_card, put_condition, put_conditions, put_spacing, time_word,
+    LINE_FIELD, NamedRows, code_letter, field_text, fill_words, line_bytes, line_head_bytes,
+    operand_text, put_card, put_condition, put_conditions, put_spacing, time_word,
 };
 use rpg_edit_marks::Fill;
-use rpg_effect::condition::Condition;
+use rpg_effect::condition::{Condition, has_conditions};
 use rpg_effect::line::{Editing, File, LineField, Source};
 use rpg_object_program::row::Line;
 use rpg_verify::BrokenRule;

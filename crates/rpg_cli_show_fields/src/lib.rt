@@ -21,4 +21,4 @@ pub use named::{NamedRows, put_card};
 pub use operands::{card_operand, field_text, operand_text};
 pub use spacing::{put_spacing, time_word};
 pub use values::{quoted, value_text};
-pub use words::{Indicator, has_conditions, put_condition, put_conditions, put_named, put_shown};
+pub use words::{Indicator, put_condition, put_conditions, put_named, put_shown};

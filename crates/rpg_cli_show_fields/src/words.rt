@@ -64,10 +64,6 @@ fn put_if_there(out: &mut String, condition: Option<Condition>) -> Result<(), Al
     }
 }
 
-pub fn has_conditions(conditions: Conditions) -> bool {
-    conditions.first.is_some() || conditions.second.is_some() || conditions.third.is_some()
-}
-
 /// Writes the conditions that are there.
 pub fn put_conditions(out: &mut String, conditions: Conditions) -> Result<(), AllocError> {
     put_if_there(out, conditions.first)?;

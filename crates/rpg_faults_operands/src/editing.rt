@@ -1,7 +1,6 @@
 //! F17: edit codes and words that don't fit; and how wide an output field is.
 
 ghost use Rattle.std.specs.Prelude.{◌≡◌, ◌≤◌, true, is_some, IfSome};
-ghost use Rattle.rpg_effect.specs.LineFaults as lines;
 ghost use Rattle.rpg_edit_marks.specs.How.{width_of};
 ghost use Rattle.rpg_edit_marks.specs.declared.how.How.TheVariants as how;
 ghost use Rattle.rpg_faults_operands.specs.Editing as editing;
@@ -13,6 +12,7 @@ use rpg_cards::{IndexedCards, SpecCard};
 use rpg_edit_marks::{EditCode, Fill};
 use rpg_edit_widths::{EditWord, How};
 use rpg_effect::form::{FieldForm, Kind};
+use rpg_effect::line::{fits_code, is_blank_fill};
 use rpg_sheet_specs::{OutputField, TextLiteral};
 
 // ---- what the columns say
@@ -41,15 +41,6 @@ fn fill_in(text: &Option<TextLiteral<24>>) -> Option<Fill>
 
 // ---- whether it fits
 
-fn is_blank_fill(fill: Fill) -> bool
-    ensures { result ≡ lines.is_blank_fill fill }
-{
-    match fill {
-        Fill::Blank => true,
-        Fill::Star | Fill::Dollar => false,
-    }
-}
-
 fn takes_fill(code: EditCode, fill: Fill) -> bool
     ensures { result ≡ editing.takes_fill code fill }
 {
@@ -59,15 +50,10 @@ fn takes_fill(code: EditCode, fill: Fill) -> bool
     }
 }
 
-fn fits_code(form: FieldForm, code: EditCode, fill: Fill) -> bool
+fn suits_code(form: FieldForm, code: EditCode, fill: Fill) -> bool
     ensures { result ≡ editing.suits form (how.Code code fill) }
 {
-    !is_text(form)
-        && takes_fill(code, fill)
-        && match code {
-            EditCode::Combination { .. } | EditCode::X | EditCode::Z => true,
-            EditCode::Y => form.length == 6 && form.decimals == 0,
-        }
+    !is_text(form) && fits_code(form.length, form.decimals, code, fill)
 }
 
 /// The word, where it fits.
@@ -95,7 +81,7 @@ fn fitting_how(form: FieldForm, field: &OutputField) -> Option<How>
         },
         Some(code) => {
             let fill = fill_in(&field.text)?;
-            if fits_code(form, code, fill) {
+            if suits_code(form, code, fill) {
                 Some(How::Code { code, fill })
             } else {
                 None

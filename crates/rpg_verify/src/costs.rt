@@ -8,16 +8,10 @@ ghost use Rattle.rpg_object_program.specs.Kept.{IsFieldRow};
 ghost use Rattle.rpg_verify.specs.Paths as paths;
 
 use crate::weights::weight_of;
-use rpg_effect::condition::Conditions;
+use rpg_effect::condition::{Conditions, has_conditions};
 use rpg_effect::operation::Instruction;
 use rpg_object_program::row::Rows;
 use std::alloc::{AllocError, Global};
-
-fn has_conditions(conditions: Conditions) -> bool
-    ensures { result ≡ control.has_conditions conditions }
-{
-    conditions.first.is_some() || (conditions.second.is_some() || conditions.third.is_some())
-}
 
 /// JUMP without conditions.
 fn always_goes(is_taken_where: bool, conditions: Conditions) -> bool

@@ -19,11 +19,11 @@ ghost use Rattle.rpg_verify_rules.specs.declared.rule.Rule.TheVariants as rule_n
 use crate::indicators::{all_asked, may_be_asked};
 use crate::rule::LineRule;
 use crate::words::{edit_word_width, is_edit_word};
-use rpg_edit_marks::{EditCode, Fill};
+use rpg_edit_marks::Fill;
 use rpg_edit_widths::{How, width};
 use rpg_effect::condition::Condition;
 use rpg_effect::form::{FieldForm, Kind};
-use rpg_effect::line::{Editing, File, LineField, Source, Spacing};
+use rpg_effect::line::{Editing, File, LineField, Source, Spacing, fits_code, is_blank_fill};
 use rpg_object_program::columns::{has_entry, is_one_entry};
 use rpg_object_program::forms::{
     decimals_of, form_at, is_index_form, is_text_constant, kind_of, length_of, may_write, same_kind,
@@ -129,25 +129,6 @@ fn is_blanked_writable(rows: &Rows, field: &LineField<u16>) -> bool
 }
 
 // ---- editing
-
-fn is_blank_fill(fill: Fill) -> bool
-    ensures { result ≡ faults.is_blank_fill fill }
-{
-    match fill {
-        Fill::Blank => true,
-        Fill::Star | Fill::Dollar => false,
-    }
-}
-
-fn fits_code(length: u16, decimals: u8, code: EditCode, fill: Fill) -> bool
-    ensures { result ≡ faults.fits_code length decimals code fill }
-{
-    match code {
-        EditCode::Combination { .. } => true,
-        EditCode::X | EditCode::Z => is_blank_fill(fill),
-        EditCode::Y => length == 6 && (decimals == 0 && is_blank_fill(fill)),
-    }
-}
 
 fn edits_form(form: Option<FieldForm>, editing: Editing<u16>, fill: Fill) -> bool
     ensures { result ≡ words.edits_form form editing fill }

@@ -3,7 +3,6 @@
 ghost use Rattle.std.specs.Prelude.{◌≡◌, ◌+◌, ◌≤◌, ◌<◌, length, map, IfSome};
 ghost use Rattle.std.specs.List.{position};
 ghost use Rattle.rpg_object_program.specs.Spans.{IsSpan};
-ghost use Rattle.rpg_effect.specs.Control as control;
 ghost use Rattle.rpg_effect.specs.Forms as forms;
 ghost use Rattle.rpg_effect.specs.Rows as rows_words;
 ghost use Rattle.rpg_object_program.specs.Kept.{IsProgram};
@@ -16,7 +15,7 @@ ghost use Rattle.rpg_verify_rules.specs.declared.rule.Rule.TheVariants as rule_n
 
 use crate::indicators::{all_asked, are_settable, has_shows};
 use crate::rule::PlaceRule;
-use rpg_effect::condition::Conditions;
+use rpg_effect::condition::has_conditions;
 use rpg_effect::operation::{Action, Instruction, Operand};
 use rpg_effect::row::{Marks, Row, Use};
 use rpg_object_program::columns::{
@@ -332,12 +331,6 @@ fn written_columns(rows: &Rows, instruction: Instruction<u16>) -> Row<Operand<u1
 }
 
 // ---- indicators
-
-fn has_conditions(conditions: Conditions) -> bool
-    ensures { result ≡ control.has_conditions conditions }
-{
-    conditions.first.is_some() || (conditions.second.is_some() || conditions.third.is_some())
-}
 
 fn are_asked(version: Version, instruction: Instruction<u16>) -> bool
     ensures { result ≡ words.are_asked version instruction }
