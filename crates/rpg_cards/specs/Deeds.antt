@@ -1,5 +1,5 @@
 -- What calculations do and when, by keys of any kind: names and constants on cards, numbers in a program.
-use Rattle.std.specs.Prelude.{ℕ, ◌+◌, true, false, List, [], ◌∷◌, length, Option, None, Some, unwrap_or}
+use Rattle.std.specs.Prelude.{ℕ, ◌+◌, Bool, true, false, List, [], ◌∷◌, length, Option, None, Some, unwrap_or}
 use Rattle.std.specs.Option.{option_and_then, option_map}
 use Rattle.rpg_cards.specs.Keys.{Key, Name, entry_operand, factor_operand, nowhere, plain_name}
 use Rattle.rpg_effect.specs.declared.condition.Conditions.{Conditions}
@@ -26,6 +26,17 @@ pub data Deed (K : Type 0) : Type 0 where
   Begins : Option Name → Deed K  -- BEGSR
   Ends : Option Name → Deed K  -- ENDSR, with its label
   Nothing : Deed K  -- no operation
+
+-- TAG and BEGSR become no instruction
+abbrev pub has_instruction : Deed Key → Bool
+has_instruction (Acts a) = true
+has_instruction PutsOut = true
+has_instruction (GoesTo l) = true
+has_instruction (Executes s) = true
+has_instruction (Marks l) = false
+has_instruction (Begins s) = false
+has_instruction (Ends l) = true
+has_instruction Nothing = false
 
 -- A group of C cards. It is done where its level indicator is on and all conditions of one of its alternatives hold: of each alternative
 -- those of its cards, one empty alternative where no card has any.

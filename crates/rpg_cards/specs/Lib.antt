@@ -15,3 +15,4 @@ pub mod Plain
 pub mod SameConstants
 pub mod Sections
 pub mod Sheets
+pub mod Times

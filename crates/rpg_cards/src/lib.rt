@@ -4,6 +4,7 @@
 
 mod alternatives;
 mod constants;
+mod deeds;
 mod files;
 mod groups;
 mod index;
@@ -14,9 +15,11 @@ mod names;
 mod operations;
 mod sheets;
 mod spec_card;
+mod times;
 
 pub use alternatives::{condition_of, conditions, depends, in_places, is_or, level, test};
 pub use constants::{Constant, ConstantText, factor_constant};
+pub use deeds::has_instruction;
 pub use files::{FileUse, file_for, file_named, use_of};
 pub use groups::{goes_on, group_end, joins, last_card};
 pub use index::IndexedCards;
@@ -30,3 +33,4 @@ pub use names::{Defined, Definition, field_form, is_table, sized_form, table_for
 pub use operations::{Column, Content, Kinds, OperationColumns, Shown, columns};
 pub use sheets::{GroupFile, Groups, Sheets};
 pub use spec_card::SpecCard;
+pub use times::{line_conditions_on, time_of};

@@ -2,7 +2,7 @@
 
 use rpg_cards::SpecCard;
 use rpg_faults::{CardFault, SourceCode, source_faults};
-use rpg_sheet::{Card, ColumnFault, FormType, SheetCode, Spec};
+use rpg_sheet::{Card, ColumnFault, SheetCode, Spec, sheet_place};
 use rpg_text::{first_line, has_only_characters};
 use std::alloc::{AllocError, Global};
 
@@ -46,18 +46,6 @@ impl From<ColumnFault> for Unread {
     }
 }
 
-/// A sheet's place among the sheets.
-fn place(sheet: FormType) -> u8 {
-    match sheet {
-        FormType::Header => 0,
-        FormType::File => 1,
-        FormType::Extension => 2,
-        FormType::Input => 3,
-        FormType::Calculation => 4,
-        FormType::Output => 5,
-    }
-}
-
 /// The place of the latest sheet, whether data has begun, and whether the source has ended.
 #[derive(Clone, Copy)]
 struct Reader {
@@ -86,10 +74,10 @@ impl Reader {
         let Some(sheet) = card.form_type() else {
             return Err(SheetCode::S3.into());
         };
-        if place(sheet) < self.latest {
+        if sheet_place(sheet) < self.latest {
             return Err(SheetCode::S4.into());
         }
-        self.latest = place(sheet);
+        self.latest = sheet_place(sheet);
         Ok(Some(card.read(sheet)?))
     }
 }

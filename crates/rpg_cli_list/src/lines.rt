@@ -5,25 +5,14 @@ use crate::chart::{Chart, first_place};
 use crate::files::{DescribedFile, FileIndex, length_words};
 use crate::picture::{fill_of, picture};
 use crate::words::put_when;
-use rpg_cards::{FileUse, IndexedCards, SpecCard};
+use rpg_cards::{FileUse, IndexedCards, SpecCard, time_of};
 use rpg_cli_list_names::name_text;
 use rpg_cli_show_fields::{code_letter, fill_words, put_spacing, quoted, time_word};
 use rpg_edit_marks::Fill;
-use rpg_effect::line::{Spacing, Time};
-use rpg_sheet_specs::{
-    Entry, EntryIndex, LineTime, Movement, OutputField, OutputRecord, OutputSpec,
-};
+use rpg_effect::line::Spacing;
+use rpg_sheet_specs::{Entry, EntryIndex, Movement, OutputField, OutputRecord, OutputSpec};
 use std::alloc::{AllocError, Global};
 use std::fmt::Write;
-
-fn time_of(time: LineTime) -> Time {
-    match time {
-        LineTime::Heading => Time::Heading,
-        LineTime::Detail => Time::Detail,
-        LineTime::Total => Time::Total,
-        LineTime::Exception => Time::Exception,
-    }
-}
 
 /// How the form moves: where nothing is said a line is spaced after.
 fn spacing_of(movement: Movement) -> Spacing {

@@ -2,24 +2,14 @@
 
 use crate::counted::counted;
 use crate::entries::{EntryColumns, first_bad, put_bad_entry};
-use rpg_cards::{SpecCard, table_form};
-use rpg_sheet_specs::{DataSpec, ExtensionSpec, Spec, TableSpec};
+use rpg_cards::SpecCard;
+use rpg_faults::{begins_deck, data_cards, data_columns, has_forms, wants_data};
+use rpg_sheet_specs::{ExtensionSpec, Spec, TableSpec};
 use std::alloc::{AllocError, Global};
 use std::fmt::Write;
 
 /// The columns of a card.
 const COLUMNS: usize = 80;
-
-fn begins_data(card: &SpecCard) -> bool {
-    matches!(card.data(), Some(DataSpec::Begin))
-}
-
-fn wants_data(card: &SpecCard) -> bool {
-    match card.extension() {
-        Some(extension) => extension.entries_per_card.is_some(),
-        None => false,
-    }
-}
 
 /// How many E cards before a card want data.
 fn count_wanted(cards: &[SpecCard], before: u16) -> usize {
@@ -33,7 +23,7 @@ fn count_wanted(cards: &[SpecCard], before: u16) -> usize {
 fn count_decks(cards: &[SpecCard], before: u16) -> usize {
     cards
         .iter()
-        .filter(|card| card.number < before && begins_data(card))
+        .filter(|card| card.number < before && begins_deck(card))
         .count()
 }
 
@@ -41,7 +31,7 @@ fn count_decks(cards: &[SpecCard], before: u16) -> usize {
 fn deck_at(cards: &[SpecCard], number: usize) -> Option<&[SpecCard]> {
     let mut before = number;
     for (i, card) in cards.iter().enumerate() {
-        if begins_data(card) {
+        if begins_deck(card) {
             if before == 0 {
                 return cards.get(i.saturating_add(1)..);
             }
@@ -49,31 +39,6 @@ fn deck_at(cards: &[SpecCard], number: usize) -> Option<&[SpecCard]> {
         }
     }
     None
-}
-
-/// How many of these cards stand before the next `**` card.
-fn data_cards(deck: &[SpecCard]) -> usize {
-    deck.iter()
-        .position(|card| begins_data(card))
-        .unwrap_or(deck.len())
-}
-
-/// The columns that an entry takes, with that of an alternating table.
-fn width_of(extension: &ExtensionSpec) -> usize {
-    let alternating = match &extension.alternating {
-        Some(table) => usize::from(table.length),
-        None => 0,
-    };
-    usize::from(extension.table.length).saturating_add(alternating)
-}
-
-/// Whether all tables of a card are within their limits: else nothing more is said of their data.
-fn has_forms(extension: &ExtensionSpec) -> bool {
-    let has_second = match &extension.alternating {
-        Some(table) => table_form(extension.entries, table).is_some(),
-        None => true,
-    };
-    has_second && table_form(extension.entries, &extension.table).is_some()
 }
 
 /// How many cards of data are wanted.
@@ -106,7 +71,7 @@ fn put_entries(
 ) -> Result<(), AllocError> {
     let first = EntryColumns {
         per_card: usize::from(per_card),
-        width: width_of(extension),
+        width: data_columns(extension) as usize,
         from: 0,
         length: usize::from(extension.table.length),
     };
@@ -149,7 +114,7 @@ fn put_deck(
     if per_card == 0 {
         return out.push_str(": 33-35 have 0 entries a card");
     }
-    let width = width_of(extension);
+    let width = data_columns(extension) as usize;
     let columns = usize::from(per_card).saturating_mul(width);
     if columns > COLUMNS {
         return write!(

@@ -1,16 +1,7 @@
 //! The cards of instructions.
 
-use rpg_cards::{SpecCard, joins, level, test};
-use rpg_sheet_specs::{CalculationSpec, Operation};
+use rpg_cards::{SpecCard, has_instruction, joins, level, test};
 use std::alloc::{AllocError, Global};
-
-/// Whether an operation becomes an instruction: not TAG and BEGSR.
-fn has_instruction(calculation: &CalculationSpec) -> bool {
-    match calculation.operation {
-        None | Some(Operation::Label | Operation::BeginSubroutine) => false,
-        Some(_) => true,
-    }
-}
 
 /// Whether the calculation that a card ends becomes instructions.
 fn ends_in_instruction(card: &SpecCard) -> bool {

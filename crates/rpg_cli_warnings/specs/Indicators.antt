@@ -2,6 +2,7 @@
 use Rattle.std.specs.Prelude.{ℕ, ◌+◌, List, [], ◌++◌, Bool, true, false, not, ◌&&◌, ◌||◌, ◌==◌, nat_le, suc, zero, Option, None, Some, is_some, find, if◌then◌else◌}
 use Rattle.std.specs.List.{list_any}
 use Rattle.std.specs.Option.{option_map, option_map_or, option_to_list}
+use Rattle.rpg_cards.specs.Times.{line_conditions_on}
 use Rattle.rpg_cards.specs.declared.spec_card.SpecCard.{SpecCard}
 use Rattle.rpg_sheet_specs.specs.declared.calculation.CalculationSpec.{CalculationSpec}
 use Rattle.rpg_sheet_specs.specs.declared.calculation.Operation.{Operation}
@@ -11,8 +12,6 @@ use Rattle.rpg_sheet_specs.specs.declared.indicator.Condition.{Condition}
 use Rattle.rpg_sheet_specs.specs.declared.indicator.Three.{Three}
 use Rattle.rpg_sheet_specs.specs.declared.input.InputSpec.{InputSpec}
 use Rattle.rpg_sheet_specs.specs.declared.input.InputSpec.TheVariants as input
-use Rattle.rpg_sheet_specs.specs.declared.output.OutputSpec.{OutputSpec}
-use Rattle.rpg_sheet_specs.specs.declared.output.OutputSpec.TheVariants as output
 use Rattle.rpg_sheet_specs.specs.declared.spec.Spec.{Spec}
 use Rattle.rpg_sheet_specs.specs.declared.spec.Spec.TheVariants as spec
 use Rattle.rpg_cli_warnings.specs.declared.warning.Warning.{Warning}
@@ -20,19 +19,13 @@ use Rattle.rpg_cli_warnings.specs.declared.warning.WarningKind.TheVariants as ki
 
 -- ---- asking
 
-abbrev pub output_conditions : OutputSpec → Three (Option Condition)
-output_conditions (output.Record r) = r.conditions
-output_conditions (output.And t) = t
-output_conditions (output.Or t) = t
-output_conditions (output.Field f) = f.conditions
-
 abbrev pub asked_on : Spec → Option (Three (Option Condition))
 asked_on (spec.Header h) = None
 asked_on (spec.File f) = None
 asked_on (spec.Extension e) = None
 asked_on (spec.Input i) = None
 asked_on (spec.Calculation k) = Some k.conditions
-asked_on (spec.Output o) = Some (output_conditions o)
+asked_on (spec.Output o) = Some (line_conditions_on o)
 asked_on (spec.Data d) = None
 
 -- the first of a card's nine columns of conditions

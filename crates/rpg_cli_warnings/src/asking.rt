@@ -3,8 +3,8 @@
 ghost use Rattle.std.specs.Prelude.{◌≡◌, ◌≤◌, option_copied, find};
 ghost use Rattle.rpg_cli_warnings.specs.Indicators as indicators;
 
-use rpg_cards::SpecCard;
-use rpg_sheet_specs::{ColumnFault, Condition, OutputSpec, Spec, Three};
+use rpg_cards::{SpecCard, line_conditions_on};
+use rpg_sheet_specs::{ColumnFault, Condition, Spec, Three};
 
 /// The conditions of a card.
 fn asked_on(card: &SpecCard) -> Option<Three<Option<Condition>>>
@@ -12,11 +12,7 @@ fn asked_on(card: &SpecCard) -> Option<Three<Option<Condition>>>
 {
     match &card.spec {
         Spec::Calculation(calculation) => Some(calculation.conditions),
-        Spec::Output(output) => Some(match output {
-            OutputSpec::Record(record) => record.conditions,
-            OutputSpec::And(conditions) | OutputSpec::Or(conditions) => *conditions,
-            OutputSpec::Field(field) => field.conditions,
-        }),
+        Spec::Output(output) => Some(line_conditions_on(output)),
         Spec::Header(_) | Spec::File(_) | Spec::Extension(_) | Spec::Input(_) | Spec::Data(_) => {
             None
         }

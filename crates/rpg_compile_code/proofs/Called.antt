@@ -1,14 +1,14 @@
 -- The calls that are found by the numbers of names are those of the subroutines.
 use Rattle.std.proofs.Common.{◌≡◌, ℕ, suc, ◌+◌, ◌≤◌, ◌<◌, true, cond, List, [], ◌∷◌, ◌++◌, length, Option, None, Some, refl, ap, ◌∙◌, arith, length-append, ◌⊎◌, inl, inr}
 use Rattle.std.specs.Option.{option_map}
-use Rattle.rpg_cards.specs.Deeds.{Acts, Begins, Calculation, Deed, Ends, Executes, GoesTo, Marks, Nothing, PutsOut}
+use Rattle.rpg_cards.specs.Deeds.{Acts, Begins, Calculation, Deed, Ends, Executes, GoesTo, Marks, Nothing, PutsOut, has_instruction}
 use Rattle.rpg_cards.specs.Keys.{Key, Name}
 use Rattle.rpg_cards.specs.Plain.{ArePlainBodies, Each, IsCallAmong, IsFound, Pair, call_in, calls_of, with_call}
 use Rattle.rpg_cards.specs.Plain as plain
 use Rattle.rpg_cards.specs.Sections.{Subroutine, callee}
 use Rattle.rpg_compile_program.proofs.Heights.{is_call_either}
 use Rattle.rpg_compile_program.proofs.Whole.{callee_there}
-use Rattle.rpg_compile_program.specs.Code.{has_instruction, size, sizes, waits}
+use Rattle.rpg_compile_program.specs.Code.{size, sizes, waits}
 use Rattle.rpg_cards.specs.Deeds.{tests}
 use Rattle.rpg_compile_code.specs.Called.{callee_in, numbered_calls_from, numbered_calls_in, with_callee}
 use Rattle.rpg_compile_code.specs.Numbers.{body_sizes}

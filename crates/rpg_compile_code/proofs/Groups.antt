@@ -3,12 +3,12 @@ use Rattle.std.proofs.Common.{◌≡◌, ◌+◌, Bool, true, false, cond, List,
 use Rattle.std.specs.List.{cons_option}
 use Rattle.std.specs.Option.{option_map_or}
 use Rattle.rpg_cards.specs.Calculations.{alternatives, awaited_level, calculation_of, is_or, last_card, tests_on}
-use Rattle.rpg_cards.specs.Deeds.{deed_of, tests}
-use Rattle.rpg_cards.specs.Cards.{calculation_on}
+use Rattle.rpg_cards.specs.Deeds.{deed_of, has_instruction, tests}
+use Rattle.rpg_cards.specs.Cards.{calculation_on, calculation_specs_in}
 use Rattle.rpg_cards.specs.declared.spec_card.SpecCard.{SpecCard}
-use Rattle.rpg_compile_program.specs.Code.{has_instruction, size, waits}
+use Rattle.rpg_compile_program.specs.Code.{size, waits}
 use Rattle.rpg_effect.specs.declared.condition.Conditions.{Conditions}
-use Rattle.rpg_compile_code.specs.Tests.{alternatives_from, alternatives_in, begins_alternative, calculation_specs_in, tests_at, tests_in}
+use Rattle.rpg_compile_code.specs.Tests.{alternatives_from, alternatives_in, begins_alternative, tests_at, tests_in}
 use Rattle.rpg_compile_code.specs.Walk.{first_calculation, group_of, size_with}
 use Rattle.rpg_sheet_specs.specs.declared.calculation.CalculationSpec.{CalculationSpec}
 

@@ -4,13 +4,13 @@ use Rattle.std.proofs.lemmas.Grind.{flat_map-append}
 use Rattle.std.specs.List.{flat_map}
 use Rattle.std.specs.Option.{option_map, option_map_or, option_to_list}
 use Rattle.rpg_cards.specs.Calculations.{CalculationGroup, alone, alternatives, awaited_level, calculation_of, calculations, calculations_from, conditions_on, goes_on, group_with, is_or, joined_group, last_card, tests_on}
-use Rattle.rpg_cards.specs.Deeds.{Calculation, deed_of, tests}
+use Rattle.rpg_cards.specs.Deeds.{Calculation, deed_of, has_instruction, tests}
 use Rattle.rpg_cards.specs.Keys.{Key, Name}
 use Rattle.rpg_cards.specs.Sections.{Subroutine, begun_by, is_detail, is_subroutine, is_total, of_control, subroutines_of, unless_begun, up_to_begin, with_begun}
 use Rattle.rpg_cards.specs.Cards.{calculation_on}
 use Rattle.rpg_cards.specs.Groups.{joins}
 use Rattle.rpg_cards.specs.declared.spec_card.SpecCard.{SpecCard}
-use Rattle.rpg_compile_program.specs.Code.{has_instruction, size, sizes, waits}
+use Rattle.rpg_compile_program.specs.Code.{size, sizes, waits}
 use Rattle.rpg_effect.specs.Control.{has_conditions}
 use Rattle.rpg_effect.specs.declared.condition.Conditions.{Conditions}
 use Rattle.rpg_compile_code.proofs.Walk.{behind_group, closed, opened}

@@ -2,10 +2,10 @@
 use Rattle.std.proofs.Common.{◌≡◌, ℕ, ◌+◌, true, false, cond, List, [], ◌∷◌, ◌++◌, length, Option, Some, refl, sym, ap, ◌∙◌, append-nil, append_assoc}
 use Rattle.std.specs.Option.{option_map}
 use Rattle.rpg_cards.specs.Calculations.{CalculationGroup, awaited_level, calculation_of, last_card}
-use Rattle.rpg_cards.specs.Deeds.{Acts, Begins, Calculation, Deed, Ends, Executes, GoesTo, Marks, Nothing, PutsOut, deed_of, tests}
+use Rattle.rpg_cards.specs.Deeds.{Acts, Begins, Calculation, Deed, Ends, Executes, GoesTo, Marks, Nothing, PutsOut, deed_of, has_instruction, tests}
 use Rattle.rpg_cards.specs.Keys.{Key, Name}
 use Rattle.rpg_cards.specs.declared.spec_card.SpecCard.{SpecCard}
-use Rattle.rpg_compile_program.specs.Code.{code_from, group_code, has_instruction, level_code, size, step_code, tests_code, waits}
+use Rattle.rpg_compile_program.specs.Code.{code_from, group_code, level_code, size, step_code, tests_code, waits}
 use Rattle.rpg_effect.specs.declared.operation.Action.{Action}
 use Rattle.rpg_effect.specs.declared.operation.Instruction.TheVariants as made
 use Rattle.rpg_effect.specs.declared.operation.Operand.{Operand}

@@ -7,10 +7,9 @@ use Rattle.std.specs.Option.{option_map, option_map_or, option_to_list}
 use Rattle.rpg_cards.specs.Calculations.{CalculationGroup, alone, calculation_of, calculations, calculations_from, completed, goes_on, group_at, group_with, joined_group, open_with}
 use Rattle.rpg_cards.specs.Deeds.{Calculation}
 use Rattle.rpg_cards.specs.Keys.{Key}
-use Rattle.rpg_cards.specs.Cards.{calculation_on}
+use Rattle.rpg_cards.specs.Cards.{calculation_on, calculation_specs_in}
 use Rattle.rpg_cards.specs.Groups.{joins}
 use Rattle.rpg_cards.specs.declared.spec_card.SpecCard.{SpecCard}
-use Rattle.rpg_compile_code.specs.Tests.{calculation_specs_in}
 use Rattle.rpg_compile_code.specs.Walk.{first_calculation, group_of, joining}
 use Rattle.rpg_sheet_specs.specs.declared.calculation.CalculationSpec.{CalculationSpec}
 

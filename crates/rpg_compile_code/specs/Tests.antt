@@ -1,16 +1,11 @@
 -- The tests on the cards of a group, and the alternatives that they make.
 use Rattle.std.specs.Prelude.{Bool, false, List, [], ◌∷◌, ◌++◌, if◌then◌else◌}
-use Rattle.std.specs.List.{filter_map, flat_map}
+use Rattle.std.specs.List.{flat_map}
 use Rattle.std.specs.Option.{option_map_or}
 use Rattle.rpg_cards.specs.Calculations.{is_or, tests_on}
 use Rattle.rpg_cards.specs.Cards.{calculation_on}
 use Rattle.rpg_cards.specs.declared.spec_card.SpecCard.{SpecCard}
 use Rattle.rpg_effect.specs.declared.condition.Conditions.{Conditions}
-use Rattle.rpg_sheet_specs.specs.declared.calculation.CalculationSpec.{CalculationSpec}
-
--- the C cards among these
-abbrev pub calculation_specs_in : List SpecCard → List CalculationSpec
-calculation_specs_in cards = filter_map (λ c. calculation_on c.spec) cards
 
 -- the test of a card, where it has one
 abbrev pub tests_at : SpecCard → List Conditions

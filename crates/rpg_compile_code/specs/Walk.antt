@@ -5,10 +5,10 @@ use Rattle.rpg_cards.specs.Deeds.{Calculation, Deed}
 use Rattle.rpg_cards.specs.Keys.{Key}
 use Rattle.rpg_cards.specs.Labels.{is_begsr}
 use Rattle.rpg_cards.specs.Sections.{Subroutine, is_detail, is_subroutine, is_total, of_control, subroutines_of, up_to_begin}
-use Rattle.rpg_cards.specs.Cards.{calculation_on}
+use Rattle.rpg_cards.specs.Cards.{calculation_on, calculation_specs_in}
 use Rattle.rpg_cards.specs.declared.spec_card.SpecCard.{SpecCard}
 use Rattle.rpg_compile_program.specs.Code.{waits}
-use Rattle.rpg_compile_code.specs.Tests.{calculation_specs_in, tests_in}
+use Rattle.rpg_compile_code.specs.Tests.{tests_in}
 use Rattle.rpg_compile_code.specs.declared.part.Part.{Part}
 use Rattle.rpg_compile_code.specs.declared.part.Part.TheVariants.{Detail, Total, Body}
 use Rattle.rpg_sheet_specs.specs.declared.calculation.CalculationSpec.{CalculationSpec}

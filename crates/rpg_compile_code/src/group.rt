@@ -3,14 +3,13 @@
 ghost use Rattle.std.specs.Prelude.{◌≡◌, ◌+◌, ◌≤◌, ◌<◌, ◌∷◌, [], length, take, drop, None, Some, unwrap_or, MatchOption};
 ghost use Rattle.std.specs.List.{last_or};
 ghost use Rattle.rpg_cards.specs.Calculations as calculations;
-ghost use Rattle.rpg_cards.specs.Deeds as deeds;
 ghost use Rattle.rpg_compile_program.specs.Code as code_of;
-ghost use Rattle.rpg_compile_code.specs.Tests.{calculation_specs_in};
+ghost use Rattle.rpg_cards.specs.Cards.{calculation_specs_in};
 ghost use Rattle.rpg_compile_code.specs.Walk as walk;
 
 use crate::tests::count_tests;
-use rpg_cards::{SpecCard, joins, level};
-use rpg_sheet_specs::{CalculationSpec, Operation};
+use rpg_cards::{SpecCard, has_instruction, joins, level};
+use rpg_sheet_specs::CalculationSpec;
 use std::marker::Model;
 
 /// A group of C cards, where they stand.
@@ -62,16 +61,6 @@ impl<'a> CardGroup<'a> {
             return 0;
         }
         size_of(self.first, self.cards)
-    }
-}
-
-/// Whether an operation becomes an instruction: not TAG and BEGSR.
-fn has_instruction(calculation: &CalculationSpec) -> bool
-    ensures { result ≡ code_of.has_instruction (deeds.deed_of calculation.now) }
-{
-    match calculation.operation {
-        None | Some(Operation::Label | Operation::BeginSubroutine) => false,
-        Some(_) => true,
     }
 }
 

@@ -22,7 +22,8 @@ use Rattle.rpg_sheet_specs.specs.declared.output.OutputField.{OutputField}
 use Rattle.rpg_sheet_specs.specs.declared.output.OutputRecord.{OutputRecord}
 use Rattle.rpg_sheet_specs.specs.declared.output.OutputSpec.{OutputSpec}
 use Rattle.rpg_sheet_specs.specs.declared.output.OutputSpec.TheVariants as output
-use Rattle.rpg_compile_program.specs.Lines.{card_line, line_alternatives, line_field_of, output_fields_in, output_file, spacing_of, time_of}
+use Rattle.rpg_cards.specs.Times.{time_of}
+use Rattle.rpg_compile_program.specs.Lines.{card_line, line_alternatives, line_field_of, output_fields_in, output_file, spacing_of}
 use Rattle.rpg_compile_program.specs.Table.{Table, key_number}
 
 -- ---- the card in front

@@ -7,8 +7,6 @@ ghost use Rattle.rpg_compile_layouts.specs.Loaded.{HasSameData, TakesDeck, table
 ghost use Rattle.rpg_compile_layouts.specs.Tables.{values_on};
 ghost use Rattle.rpg_faults_flow.specs.Kept.{KeepsRule};
 ghost use Rattle.rpg_faults_limits.specs.Names.{bad_size, bad_size_of_tables};
-ghost use Rattle.rpg_faults.specs.Data as rules;
-ghost use Rattle.rpg_faults.specs.Decks.{BeginsDeck};
 ghost use Rattle.rpg_compile_program.specs.Data as loads;
 
 use crate::tables::TableData;
@@ -17,7 +15,8 @@ use indexmap::IndexMap;
 use rpg_cards::SpecCard;
 use rpg_effect::form::FieldForm;
 use rpg_effect::value::Value;
-use rpg_sheet_specs::{DataSpec, ExtensionSpec};
+use rpg_faults::{begins_deck, data_columns};
+use rpg_sheet_specs::ExtensionSpec;
 use rpg_symbols::Name;
 use std::alloc::{AllocError, Global};
 use std::marker::Model;
@@ -84,7 +83,7 @@ impl<'a> Loaded<'a> {
         requires { bad_size_of_tables extension.now ≡ false }
         ensures { OnOk result (HasSameData self.new (self.old ++ tables_behind extension.now per_card deck.now)) }
     {
-        let width = columns_of(extension);
+        let width = data_columns(extension);
         let first = TableData {
             table: &extension.table,
             entries: extension.entries,
@@ -134,17 +133,6 @@ impl<'a> Loaded<'a> {
     }
 }
 
-/// The columns that an entry takes, with that of the alternating table.
-fn columns_of(extension: &ExtensionSpec) -> u32
-    ensures { result ≡ rules.data_columns extension.now }
-{
-    let alternating = match &extension.alternating {
-        None => 0,
-        Some(table) => table.length as u32,
-    };
-    extension.table.length as u32 + alternating
-}
-
 /// The cards behind the next `**` card.
 fn behind_next(cards: &[SpecCard]) -> Option<&[SpecCard]>
     ensures { MatchOption result (loads.decks cards.now ≡ []) (λ behind. loads.decks cards.now ≡ followers data_role behind.now ∷ loads.decks behind.now) }
@@ -157,10 +145,4 @@ fn behind_next(cards: &[SpecCard]) -> Option<&[SpecCard]>
         rest = behind;
     }
     None
-}
-
-fn begins_deck(card: &SpecCard) -> bool
-    ensures { BeginsDeck card.now result }
-{
-    matches!(card.data(), Some(DataSpec::Begin))
 }

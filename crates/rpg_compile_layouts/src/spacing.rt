@@ -1,22 +1,11 @@
-//! When lines are put out, and how the form moves.
+//! How the form moves.
 
 ghost use Rattle.std.specs.Prelude.{◌≡◌, unwrap_or};
 ghost use Rattle.rpg_object_program.specs.Kept.{IsSpacingRow};
 ghost use Rattle.rpg_compile_program.specs.Lines as lines;
 
-use rpg_effect::line::{File, Spacing, Time};
-use rpg_sheet_specs::{LineTime, Movement, Within};
-
-pub(crate) fn time_of(time: LineTime) -> Time
-    ensures { result ≡ lines.time_of time }
-{
-    match time {
-        LineTime::Heading => Time::Heading,
-        LineTime::Detail => Time::Detail,
-        LineTime::Total => Time::Total,
-        LineTime::Exception => Time::Exception,
-    }
-}
+use rpg_effect::line::{File, Spacing};
+use rpg_sheet_specs::{Movement, Within};
 
 /// The movements that stand; the printer spaces one after where none does.
 pub(crate) fn spacing_of(file: File, movement: &Movement) -> Spacing

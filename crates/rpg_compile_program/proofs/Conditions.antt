@@ -18,7 +18,8 @@ use Rattle.rpg_faults_limits.specs.Indicators.{any_of, bad_in_calculation, canno
 use Rattle.rpg_object_program.specs.Kept.{IsIndicator}
 use Rattle.rpg_object_program.specs.declared.row.Version.{Version}
 use Rattle.rpg_object_program.specs.declared.row.Version.TheVariants as versions
-use Rattle.rpg_verify_rules.specs.Indicators.{all_asked, are_settable, if_any, is_settable, is_within, most_asked}
+use Rattle.rpg_text.specs.Texts.{is_between}
+use Rattle.rpg_verify_rules.specs.Indicators.{all_asked, are_settable, if_any, is_settable, most_asked}
 use Rattle.rpg_sheet_specs.specs.declared.calculation.CalculationSpec.{CalculationSpec}
 use Rattle.rpg_sheet_specs.specs.declared.calculation.ControlLevel.{ControlLevel}
 use Rattle.rpg_sheet_specs.specs.declared.calculation.ControlLevel.TheVariants as control
@@ -29,7 +30,7 @@ use Rattle.rpg_compile_program.specs.Ranges.{InThree, IsCondition, IsControl}
 
 -- ---- resulting indicators
 
-inside : (first last n : ℕ) → first ≤ n → n ≤ last → is_within first last n ≡ true
+inside : (first last n : ℕ) → first ≤ n → n ≤ last → is_between first last n ≡ true
 inside first last n low high = and_from _ _ (le-leb first n low) (le-leb n last high)
 
 settable_by : (n : ℕ) → 1 ≤ n → n ≤ 129 → (n ≡ 100 → ⊥) → (n ≡ 111 → ⊥) → (n ≡ 129 → ⊥) → (nat_le n 99 ≡ true) ⊎ (nat_le n 99 ≡ false)
@@ -37,10 +38,10 @@ settable_by : (n : ℕ) → 1 ≤ n → n ≤ 129 → (n ≡ 100 → ⊥) → (n
 settable_by n low high no_l0 no_1p no_mr (inl a) b = or_left _ _ (inside 1 99 n low (leb-true n 99 a))
 settable_by n low high no_l0 no_1p no_mr (inr a) (inl b) =
     let above = leb-false n 99 a in
-    or_right (is_within 1 99 n) _ (or_left _ _ (inside 101 110 n (omega arith) (leb-true n 110 b)))
+    or_right (is_between 1 99 n) _ (or_left _ _ (inside 101 110 n (omega arith) (leb-true n 110 b)))
 settable_by n low high no_l0 no_1p no_mr (inr a) (inr b) =
     let above = leb-false n 110 b in
-    or_right (is_within 1 99 n) _ (or_right (is_within 101 110 n) _ (inside 112 128 n (omega arith) (omega arith)))
+    or_right (is_between 1 99 n) _ (or_right (is_between 101 110 n) _ (inside 112 128 n (omega arith) (omega arith)))
 
 settable_if_any : (o : Option ℕ) → option_map_or cannot_be_set o false ≡ false → ForSome o IsIndicator → if_any is_settable o ≡ true
 settable_if_any None right range = refl

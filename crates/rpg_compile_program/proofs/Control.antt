@@ -11,10 +11,10 @@ use Rattle.rpg_object_program.specs.declared.section.Section.{Section}
 use Rattle.rpg_verify_rules.specs.PlaceRules.{calls_higher, is_own, is_return, stays_inside}
 use Rattle.rpg_compile_program.proofs.Counts.{Within}
 use Rattle.rpg_compile_program.proofs.Each.{each_always, each_append, each_map}
-use Rattle.rpg_cards.specs.Deeds.{Acts, Begins, Calculation, Deed, Ends, Executes, GoesTo, Marks, Nothing, PutsOut, tests}
+use Rattle.rpg_cards.specs.Deeds.{Acts, Begins, Calculation, Deed, Ends, Executes, GoesTo, Marks, Nothing, PutsOut, has_instruction, tests}
 use Rattle.rpg_cards.specs.Keys.{Key, Name}
 use Rattle.rpg_cards.specs.Plain.{Each, IsNoReturn}
-use Rattle.rpg_compile_program.specs.Code.{alternative_code, code_from, group_code, has_instruction, level_code, size, skip_code, step_code, tests_code, waits}
+use Rattle.rpg_compile_program.specs.Code.{alternative_code, code_from, group_code, level_code, size, skip_code, step_code, tests_code, waits}
 
 -- ---- what an instruction leads to
 

@@ -5,11 +5,11 @@ use Rattle.rpg_effect.specs.declared.condition.Conditions.{Conditions}
 use Rattle.rpg_effect.specs.declared.operation.Instruction.{Instruction}
 use Rattle.rpg_effect.specs.declared.operation.Instruction.TheVariants as made
 use Rattle.rpg_compile_program.proofs.Each.{each_append}
-use Rattle.rpg_cards.specs.Deeds.{Acts, Begins, Calculation, Deed, Ends, Executes, GoesTo, Marks, Nothing, PutsOut, tests}
+use Rattle.rpg_cards.specs.Deeds.{Acts, Begins, Calculation, Deed, Ends, Executes, GoesTo, Marks, Nothing, PutsOut, has_instruction, tests}
 use Rattle.rpg_cards.specs.Keys.{Key, Name}
 use Rattle.rpg_cards.specs.Plain.{Each, has_label}
 use Rattle.rpg_cards.specs.Sections.{is_same_name, label_on}
-use Rattle.rpg_compile_program.specs.Code.{alternative_code, code_from, group_code, has_instruction, label_place, level_code, size, sizes, skip_code, step_code, tests_code, waits}
+use Rattle.rpg_compile_program.specs.Code.{alternative_code, code_from, group_code, label_place, level_code, size, sizes, skip_code, step_code, tests_code, waits}
 
 -- ---- counts
 

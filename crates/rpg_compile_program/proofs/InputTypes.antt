@@ -23,7 +23,7 @@ use Rattle.rpg_faults_limits.specs.Files.{bad_file, lacks_file}
 use Rattle.rpg_faults_limits.specs.Indicators.{bad_on, bad_on_field, bad_on_input, cannot_mark_type}
 use Rattle.rpg_faults.specs.Places.{bad_codes, is_code_outside, is_past, outside_on_input, outside_record, own_file, joins_badly}
 use Rattle.rpg_object_program.specs.Kept.{IsIndicator}
-use Rattle.rpg_verify_rules.specs.Indicators.{if_any, is_of_type, is_within}
+use Rattle.rpg_verify_rules.specs.Indicators.{if_any, is_of_type}
 use Rattle.rpg_verify_rules.specs.TypeRules.{is_code_in}
 use Rattle.rpg_sheet_specs.specs.declared.file.FileSpec.{FileSpec}
 use Rattle.rpg_sheet_specs.specs.declared.indicator.Three.{Three}
@@ -109,13 +109,13 @@ marks_type None e range = refl
 marks_type (Some n) e range = by (nat_le n 99) refl (nat_le 101 n && nat_le n 110) refl e
   where
     by : (a : Bool) → nat_le n 99 ≡ a → (b : Bool) → (nat_le 101 n && nat_le n 110) ≡ b → not (a || b || (nat_le 120 n && nat_le n 128)) ≡ false → is_of_type n ≡ true
-    by true p b q h = ap (λ x. x || (is_within 101 110 n || is_within 120 128 n)) (and_from _ _ (le-leb 1 n (range n refl).lowest) p)
-    by false p true q h = yes (is_within 1 99 n) _ (ap (λ x. x || is_within 120 128 n) q)
+    by true p b q h = ap (λ x. x || (is_between 101 110 n || is_between 120 128 n)) (and_from _ _ (le-leb 1 n (range n refl).lowest) p)
+    by false p true q h = yes (is_between 1 99 n) _ (ap (λ x. x || is_between 120 128 n) q)
       where
         yes : (a b : Bool) → b ≡ true → (a || b) ≡ true
         yes true b e = refl
         yes false b e = e
-    by false p false q h = yes (is_within 1 99 n) _ (yes (is_within 101 110 n) _ (not_false _ h))
+    by false p false q h = yes (is_between 1 99 n) _ (yes (is_between 101 110 n) _ (not_false _ h))
       where
         yes : (a b : Bool) → b ≡ true → (a || b) ≡ true
         yes true b e = refl

@@ -3,12 +3,12 @@ use Rattle.std.proofs.Common.{◌≡◌, ℕ, suc, ◌+◌, ◌≤◌, Bool, tru
 use Rattle.std.proofs.lemmas.Bool.{and_from, not_from_false, not_from_true}
 use Rattle.std.specs.Option.{ForSome}
 use Rattle.std.specs.Prelude.{is_some}
-use Rattle.rpg_cards.specs.Deeds.{Acts, Begins, Calculation, Deed, Ends, Executes, GoesTo, Marks, Nothing, PutsOut, tests}
+use Rattle.rpg_cards.specs.Deeds.{Acts, Begins, Calculation, Deed, Ends, Executes, GoesTo, Marks, Nothing, PutsOut, has_instruction, tests}
 use Rattle.rpg_cards.specs.Keys.{Key, Name, key_cmp}
 use Rattle.rpg_cards.specs.Plain.{Each}
 use Rattle.rpg_cards.specs.Sections.{Sections, Subroutine}
 use Rattle.rpg_compile_program.proofs.Each.{each_append, each_map, none_broken, none_in_both}
-use Rattle.rpg_compile_program.specs.Code.{alternative_code, code_from, group_code, has_instruction, label_place, level_code, on_level, section_code, size, sizes, skip_code, step_code, subroutines_code, tests_code, waits}
+use Rattle.rpg_compile_program.specs.Code.{alternative_code, code_from, group_code, label_place, level_code, on_level, section_code, size, sizes, skip_code, step_code, subroutines_code, tests_code, waits}
 use Rattle.rpg_compile_program.specs.Whole.{IsCodeOf, called_number}
 use Rattle.rpg_effect.specs.Control.{has_conditions}
 use Rattle.rpg_effect.specs.Forms.{form_at}

@@ -10,7 +10,7 @@ use Rattle.rpg_object_program.specs.Sections.{body_of, first_in, first_place, ha
 use Rattle.rpg_object_program.specs.declared.section.Section.{Section}
 use Rattle.rpg_object_program.specs.declared.section.Section.TheVariants as section
 use Rattle.rpg_verify_rules.proofs.Kept.{NoneTrue}
-use Rattle.rpg_verify_rules.specs.Indicators.{is_within}
+use Rattle.rpg_text.specs.Texts.{is_between}
 use Rattle.rpg_verify_rules.specs.PlaceRules.{bodies_judged, calls_higher, ends_in_return, has_stray_return, is_body, is_off_level, is_own, is_return, is_return_if_any, place_breaks, places_judged, judged_behind_detail, section_judged, stays_inside, subroutines_judged, with_first}
 use Rattle.rpg_verify_rules.specs.declared.rule.PlaceRule.{PlaceRule}
 use Rattle.rpg_verify_rules.specs.declared.rule.PlaceRule.TheVariants.{V21, V22}
@@ -321,8 +321,8 @@ module _ (number : Key → ℕ) (level : ℕ → ℕ) (s : Sections Key) (p : Ob
   levels_within h own first [] k e = absurd cc
   levels_within h own first (x ∷ ss) zero e =
       let w = h own in
-      let good : is_within 1 100 (level own) ≡ true = and_from (nat_le 1 (level own)) (nat_le (level own) 100) (le-leb 1 (level own) w.0) (le-leb (level own) 100 w.1) in
-      let no = not_from_true (is_within 1 100 (level own)) good in
+      let good : is_between 1 100 (level own) ≡ true = and_from (nat_le 1 (level own)) (nat_le (level own) 100) (le-leb 1 (level own) w.0) (le-leb (level own) 100 w.1) in
+      let no = not_from_true (is_between 1 100 (level own)) good in
       cc
   levels_within h own first (x ∷ ss) (suc k) e = levels_within h (suc own) (first + sizes x.body) ss k e
 

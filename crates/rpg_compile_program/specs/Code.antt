@@ -4,7 +4,7 @@ use Rattle.rpg_effect.specs.declared.condition.Conditions.{Conditions}
 use Rattle.rpg_effect.specs.declared.operation.Instruction.{Instruction}
 use Rattle.rpg_effect.specs.declared.operation.Instruction.TheVariants as made
 use Rattle.rpg_object_program.specs.Object.{SubroutineRow}
-use Rattle.rpg_cards.specs.Deeds.{Acts, Begins, Calculation, Deed, Ends, Executes, GoesTo, Marks, Nothing, PutsOut}
+use Rattle.rpg_cards.specs.Deeds.{Acts, Begins, Calculation, Deed, Ends, Executes, GoesTo, Marks, Nothing, PutsOut, has_instruction}
 use Rattle.rpg_cards.specs.Keys.{Key, Name}
 use Rattle.rpg_cards.specs.Sections.{Subroutine}
 use Rattle.rpg_cards.specs.Sections.{is_same_name, label_on}
@@ -12,17 +12,6 @@ use Rattle.rpg_cards.specs.Deeds.{tests}
 use Rattle.rpg_effect_renaming.specs.Naming.{renamed_action}
 
 -- ---- how many instructions
-
--- TAG and BEGSR become nothing
-abbrev pub has_instruction : Deed Key → Bool
-has_instruction (Acts a) = true
-has_instruction PutsOut = true
-has_instruction (GoesTo l) = true
-has_instruction (Executes s) = true
-has_instruction (Marks l) = false
-has_instruction (Begins s) = false
-has_instruction (Ends l) = true
-has_instruction Nothing = false
 
 abbrev pub waits : Option ℕ → ℕ
 waits None = 0

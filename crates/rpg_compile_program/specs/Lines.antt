@@ -8,6 +8,7 @@ use Rattle.rpg_cards.specs.Keys.{Fixed, Key, Nowhere, entry_operand}
 use Rattle.rpg_cards.specs.Cards.{output_field_in}
 use Rattle.rpg_cards.specs.Files.{file_by, file_for, file_use}
 use Rattle.rpg_cards.specs.Groups.{Group, groups, output_role}
+use Rattle.rpg_cards.specs.Times.{time_of}
 use Rattle.rpg_cards.specs.declared.constants.Constant.TheVariants as constant
 use Rattle.rpg_cards.specs.declared.files.FileUse.{FileUse}
 use Rattle.rpg_cards.specs.declared.files.FileUse.TheVariants as uses
@@ -22,8 +23,6 @@ use Rattle.rpg_effect.specs.declared.line.LineField.{LineField}
 use Rattle.rpg_effect.specs.declared.line.Source.{Source}
 use Rattle.rpg_effect.specs.declared.line.Source.TheVariants as source
 use Rattle.rpg_effect.specs.declared.line.Spacing.{Spacing}
-use Rattle.rpg_effect.specs.declared.line.Time.{Time}
-use Rattle.rpg_effect.specs.declared.line.Time.TheVariants as times
 use Rattle.rpg_effect.specs.declared.operation.Index.TheVariants as index
 use Rattle.rpg_effect.specs.declared.operation.Operand.{Operand}
 use Rattle.rpg_edit_marks.specs.declared.code.EditCode.{EditCode}
@@ -32,8 +31,6 @@ use Rattle.rpg_edit_marks.specs.declared.code.Fill.{Fill}
 use Rattle.rpg_edit_marks.specs.declared.code.Fill.TheVariants as fills
 use Rattle.rpg_sheet_specs.specs.declared.entry.Entry.{Entry}
 use Rattle.rpg_sheet_specs.specs.declared.file.FileSpec.{FileSpec}
-use Rattle.rpg_sheet_specs.specs.declared.output.LineTime.{LineTime}
-use Rattle.rpg_sheet_specs.specs.declared.output.LineTime.TheVariants as time
 use Rattle.rpg_sheet_specs.specs.declared.output.Movement.{Movement}
 use Rattle.rpg_sheet_specs.specs.declared.output.OutputField.{OutputField}
 use Rattle.rpg_sheet_specs.specs.declared.output.OutputRecord.{OutputRecord}
@@ -79,12 +76,6 @@ spacing_of file m = record {
 }
 
 -- ---- when a line is put out
-
-abbrev pub time_of : LineTime → Time
-time_of time.Heading = times.Heading
-time_of time.Detail = times.Detail
-time_of time.Total = times.Total
-time_of time.Exception = times.Exception
 
 -- conditions of AND cards go on with the alternative, an OR card begins one
 abbrev pub line_alternatives : List Condition → List OutputSpec → List (List Condition)

@@ -53,8 +53,8 @@ fn has_table(extension: &ExtensionSpec) -> bool
         }
 }
 
-/// Whether the lengths, decimals and entries are within their limits.
-fn has_forms(extension: &ExtensionSpec) -> bool
+/// Whether the lengths, decimals and entries of a card's tables are within their limits.
+pub fn has_forms(extension: &ExtensionSpec) -> bool
     ensures { result ≡ rules.has_forms extension.now }
 {
     table_form(extension.entries, &extension.table).is_some()
@@ -68,7 +68,7 @@ fn bad_deck(extension: &ExtensionSpec, per_card: u16, deck: &[SpecCard]) -> bool
     requires { IsTrue (rules.has_forms extension.now) }
     ensures { result ≡ rules.bad_deck extension.now per_card (followers data_role deck.now) }
 {
-    let width = columns_of(extension);
+    let width = data_columns(extension);
     if per_card == 0 || per_card as u32 * width > 80 {
         return true;
     }
@@ -107,7 +107,7 @@ fn bad_tables(extension: &ExtensionSpec, per_card: usize, width: usize, deck: &[
 }
 
 /// The columns that an entry takes, with that of the alternating table.
-fn columns_of(extension: &ExtensionSpec) -> u32
+pub fn data_columns(extension: &ExtensionSpec) -> u32
     ensures { result ≡ rules.data_columns extension.now }
 {
     let alternating = match &extension.alternating {
@@ -118,7 +118,7 @@ fn columns_of(extension: &ExtensionSpec) -> u32
 }
 
 /// How many cards of data there are up to the next `**` card.
-fn data_cards(deck: &[SpecCard]) -> usize
+pub fn data_cards(deck: &[SpecCard]) -> usize
     ensures { result ≡ length (followers data_role deck.now) }
 {
     let mut count = 0;

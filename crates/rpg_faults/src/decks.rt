@@ -64,7 +64,8 @@ impl<'a> Decks<'a> {
     }
 }
 
-fn wants_data(card: &SpecCard) -> bool
+/// Whether a card is of a table that has data in the source.
+pub fn wants_data(card: &SpecCard) -> bool
     ensures { result ≡ rules.wants_data card.now }
 {
     match card.extension() {
@@ -73,7 +74,8 @@ fn wants_data(card: &SpecCard) -> bool
     }
 }
 
-fn begins_deck(card: &SpecCard) -> bool
+/// Whether a card is a `**` card.
+pub fn begins_deck(card: &SpecCard) -> bool
     ensures { BeginsDeck card.now result }
 {
     matches!(card.data(), Some(DataSpec::Begin))

@@ -15,13 +15,13 @@ use Rattle.rpg_cards.specs.Sections.{is_subroutine}
 use Rattle.rpg_cards.specs.declared.labels.Label.{Label}
 use Rattle.rpg_cards.specs.declared.labels.Named.{Named}
 use Rattle.rpg_cards.proofs.ItemLemmas.{definitions-push, few_definitions}
-use Rattle.rpg_cards.specs.Cards.{calculation_on}
+use Rattle.rpg_cards.specs.Cards.{calculation_on, calculation_specs_in}
 use Rattle.rpg_cards.specs.Groups.{joins}
 use Rattle.rpg_cards.specs.Names.{definitions, definitions_on}
 use Rattle.rpg_cards.specs.declared.spec_card.SpecCard.{SpecCard}
 use Rattle.rpg_faults_flow.proofs.Facts.{last_with}
 use Rattle.rpg_faults_flow.proofs.Walk.{calculations_from-push, open_behind-push}
-use Rattle.rpg_faults_flow.specs.Order.{cards_of, is_bracket, is_closed, section_rank}
+use Rattle.rpg_faults_flow.specs.Order.{is_bracket, is_closed, section_rank}
 use Rattle.rpg_faults_flow.specs.Rounding.{is_behind_division, leaves_remainder}
 use Rattle.rpg_faults_flow.specs.ByCard.{begun_behind, bracket_at, bracket_in, bracket_of, calculation_level, highest_with, inside_behind, is_label_at, level_with}
 use Rattle.rpg_faults_flow.specs.Seen.{IsFlow, level_of_group}
@@ -202,8 +202,8 @@ module _ (before : List SpecCard) (c : SpecCard) (after : List SpecCard) where
 
 -- ---- the cards themselves
 
-cards_of-push : (before : List SpecCard) (c : SpecCard) → cards_of (before ++ c ∷ []) ≡ cards_of before ++ option_to_list (calculation_on c.spec)
-cards_of-push before c = filter_map-append (λ (c : SpecCard). calculation_on c.spec) before (c ∷ []) ∙ ap (λ (ks : List CalculationSpec). cards_of before ++ ks) (by (calculation_on c.spec))
+calculation_specs_in-push : (before : List SpecCard) (c : SpecCard) → calculation_specs_in (before ++ c ∷ []) ≡ calculation_specs_in before ++ option_to_list (calculation_on c.spec)
+calculation_specs_in-push before c = filter_map-append (λ (c : SpecCard). calculation_on c.spec) before (c ∷ []) ∙ ap (λ (ks : List CalculationSpec). calculation_specs_in before ++ ks) (by (calculation_on c.spec))
   where
     by : (o : Option CalculationSpec) → cons_option o [] ≡ option_to_list o
     by None = refl
@@ -212,18 +212,18 @@ cards_of-push before c = filter_map-append (λ (c : SpecCard). calculation_on c.
 abbrev pub is_later : ℕ → CalculationSpec → Bool
 is_later r k = nat_lt r (section_rank k.control_level)
 
-highest-push : (before : List SpecCard) (c : SpecCard) (r : ℕ) → list_any (is_later r) (cards_of (before ++ c ∷ [])) ≡ (list_any (is_later r) (cards_of before) || option_map_or (is_later r) (calculation_on c.spec) false)
-highest-push before c r = ap (list_any (is_later r)) (cards_of-push before c) ∙ list_any-append (is_later r) (cards_of before) (option_to_list (calculation_on c.spec)) ∙ by (calculation_on c.spec)
+highest-push : (before : List SpecCard) (c : SpecCard) (r : ℕ) → list_any (is_later r) (calculation_specs_in (before ++ c ∷ [])) ≡ (list_any (is_later r) (calculation_specs_in before) || option_map_or (is_later r) (calculation_on c.spec) false)
+highest-push before c r = ap (list_any (is_later r)) (calculation_specs_in-push before c) ∙ list_any-append (is_later r) (calculation_specs_in before) (option_to_list (calculation_on c.spec)) ∙ by (calculation_on c.spec)
   where
-    by : (o : Option CalculationSpec) → (list_any (is_later r) (cards_of before) || list_any (is_later r) (option_to_list o)) ≡ (list_any (is_later r) (cards_of before) || option_map_or (is_later r) o false)
+    by : (o : Option CalculationSpec) → (list_any (is_later r) (calculation_specs_in before) || list_any (is_later r) (option_to_list o)) ≡ (list_any (is_later r) (calculation_specs_in before) || option_map_or (is_later r) o false)
     by None = refl
-    by (Some k) = ap (λ b. list_any (is_later r) (cards_of before) || b) (or-false (is_later r k))
+    by (Some k) = ap (λ b. list_any (is_later r) (calculation_specs_in before) || b) (or-false (is_later r k))
 
 greater : (r a b : ℕ) → (nat_lt r a || nat_lt r b) ≡ nat_lt r (cond (nat_lt a b) b a)
 greater r a b = grind (arith, nat_tests)
 
-highest-next : (before : List SpecCard) (c : SpecCard) (highest : ℕ) → ((r : ℕ) → list_any (is_later r) (cards_of before) ≡ nat_lt r highest)
-    → (r : ℕ) → list_any (is_later r) (cards_of (before ++ c ∷ [])) ≡ nat_lt r (highest_with highest c)
+highest-next : (before : List SpecCard) (c : SpecCard) (highest : ℕ) → ((r : ℕ) → list_any (is_later r) (calculation_specs_in before) ≡ nat_lt r highest)
+    → (r : ℕ) → list_any (is_later r) (calculation_specs_in (before ++ c ∷ [])) ≡ nat_lt r (highest_with highest c)
 highest-next before c highest was r = highest-push before c r ∙ ap (λ b. b || option_map_or (is_later r) (calculation_on c.spec) false) (was r) ∙ by (calculation_on c.spec)
   where
     by : (o : Option CalculationSpec) → (nat_lt r highest || option_map_or (is_later r) o false) ≡ nat_lt r (option_map_or (λ k. cond (nat_lt highest (section_rank k.control_level)) (section_rank k.control_level) highest) o highest)

@@ -1,13 +1,13 @@
 -- F12 of calculation cards: sections out of order, BEGSR and ENDSR that aren't paired, cards that need one before them.
 use Rattle.std.specs.Prelude.{ℕ, nat_lt, List, [], ◌∷◌, Bool, true, false, not, ◌&&◌, ◌||◌, Some, is_none}
-use Rattle.std.specs.List.{filter_map, list_any}
+use Rattle.std.specs.List.{list_any}
 use Rattle.std.specs.Option.{option_map_or}
 use Rattle.rpg_cards.specs.Calculations.{CalculationGroup, alone, calculation_of, calculations_before, calculations_from, completed, group_ending, last_card, open_calculation_group}
 use Rattle.rpg_cards.specs.Deeds.{Calculation, Deed, deed_of}
 use Rattle.rpg_cards.specs.Keys.{Key}
 use Rattle.rpg_cards.specs.Labels.{begins_subroutine, brackets, ends, is_begsr, is_endsr, is_inside_subroutine}
 use Rattle.rpg_cards.specs.Sections.{is_subroutine}
-use Rattle.rpg_cards.specs.Cards.{calculation_on}
+use Rattle.rpg_cards.specs.Cards.{calculation_on, calculation_specs_in}
 use Rattle.rpg_cards.specs.Groups.{joins}
 use Rattle.rpg_cards.specs.declared.spec_card.SpecCard.{SpecCard}
 use Rattle.rpg_sheet_specs.specs.declared.calculation.CalculationSpec.{CalculationSpec}
@@ -22,12 +22,9 @@ section_rank control.Subroutine = 2
 section_rank control.And = 0
 section_rank control.Or = 0
 
-abbrev pub cards_of : List SpecCard → List CalculationSpec
-cards_of cards = filter_map (λ c. calculation_on c.spec) cards
-
 -- a section that comes earlier than one before
 abbrev pub is_early : List SpecCard → CalculationSpec → Bool
-is_early before k = list_any (λ (j : CalculationSpec). nat_lt (section_rank k.control_level) (section_rank j.control_level)) (cards_of before)
+is_early before k = list_any (λ (j : CalculationSpec). nat_lt (section_rank k.control_level) (section_rank j.control_level)) (calculation_specs_in before)
 
 abbrev pub is_bracket : Deed Key → Bool
 is_bracket d = is_begsr d || is_endsr d

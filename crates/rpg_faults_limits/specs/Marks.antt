@@ -4,6 +4,7 @@ use Rattle.std.specs.Option.{option_map, option_map_or, option_or}
 use Rattle.rpg_cards.specs.Cards.{output_record_on}
 use Rattle.rpg_cards.specs.Files.{file_for, file_named, file_use}
 use Rattle.rpg_cards.specs.Names.{definitions, definitions_on, sized_form}
+use Rattle.rpg_cards.specs.Times.{line_conditions_on}
 use Rattle.rpg_cards.specs.declared.files.FileUse.{FileUse}
 use Rattle.rpg_cards.specs.declared.files.FileUse.TheVariants.{Primary, Secondary, Printer, Disk}
 use Rattle.rpg_cards.specs.declared.spec_card.SpecCard.{SpecCard}
@@ -23,7 +24,6 @@ use Rattle.rpg_sheet_specs.specs.declared.input.InputField.{InputField}
 use Rattle.rpg_sheet_specs.specs.declared.input.InputSpec.{InputSpec}
 use Rattle.rpg_sheet_specs.specs.declared.input.InputSpec.TheVariants as input
 use Rattle.rpg_sheet_specs.specs.declared.output.Movement.{Movement}
-use Rattle.rpg_sheet_specs.specs.declared.output.OutputSpec.{OutputSpec}
 use Rattle.rpg_sheet_specs.specs.declared.output.OutputSpec.TheVariants as output
 use Rattle.rpg_sheet_specs.specs.declared.spec.Spec.{Spec}
 use Rattle.rpg_sheet_specs.specs.declared.spec.Spec.TheVariants as spec
@@ -130,12 +130,6 @@ indicator_on_input (input.Field f) = indicator_on_field f
 abbrev pub indicator_on_calculation : List SpecCard → CalculationSpec → Option ColumnRange
 indicator_on_calculation cards k =
     option_or (first_condition (bad_in_calculation cards) k.conditions) (first_result k.resulting_indicators)
-
-abbrev pub line_conditions_on : OutputSpec → Three (Option Condition)
-line_conditions_on (output.Record r) = r.conditions
-line_conditions_on (output.And t) = t
-line_conditions_on (output.Or t) = t
-line_conditions_on (output.Field f) = f.conditions
 
 abbrev pub indicator_columns : List SpecCard → Spec → Option ColumnRange
 indicator_columns cards (spec.Header h) = None

@@ -5,10 +5,9 @@ ghost use Rattle.rpg_faults_limits.specs.Indicators as indicators;
 ghost use Rattle.rpg_faults_limits.specs.Marks as marks;
 
 use crate::indicators::{is_bad_in_calculation, is_bad_in_output, is_never_set};
-use rpg_cards::{IndexedCards, SpecCard};
+use rpg_cards::{IndexedCards, SpecCard, line_conditions_on};
 use rpg_sheet_specs::{
-    CalculationSpec, ColumnRange, Condition, Indicator, InputField, InputSpec, OutputSpec, Spec,
-    Three,
+    CalculationSpec, ColumnRange, Condition, Indicator, InputField, InputSpec, Spec, Three,
 };
 
 /// F8: the first indicator that isn't allowed.
@@ -98,16 +97,6 @@ fn first_result(shown: Three<Option<Indicator>>) -> Option<ColumnRange>
         Some(ColumnRange::ResultZero)
     } else {
         None
-    }
-}
-
-fn line_conditions_on(output: &OutputSpec) -> Three<Option<Condition>>
-    ensures { result ≡ marks.line_conditions_on output.now }
-{
-    match output {
-        OutputSpec::Record(line) => line.conditions,
-        OutputSpec::And(conditions) | OutputSpec::Or(conditions) => *conditions,
-        OutputSpec::Field(field) => field.conditions,
     }
 }
 

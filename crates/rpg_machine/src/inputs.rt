@@ -1,6 +1,5 @@
 //! The columns of a record that become values of fields. No field is tested here: the rules have tested them all.
-ghost use Rattle.std.specs.List.{list_all};
-ghost use Rattle.std.specs.Prelude.{◌≡◌, ◌+◌, ◌-◌, ◌≤◌, ◌==◌, All, length, true, None};
+ghost use Rattle.std.specs.Prelude.{◌≡◌, ◌+◌, ◌-◌, ◌≤◌, All, length, true, None};
 ghost use Rattle.rpg_effect.specs.Ends.{end_of};
 ghost use Rattle.rpg_effect.specs.Forms.{length_of};
 ghost use Rattle.rpg_effect.specs.Input as of;
@@ -21,6 +20,7 @@ use rpg_machine_operations::arithmetic::store;
 use rpg_object_program::forms;
 use rpg_store::memory::Memory;
 use rpg_store::store::Store;
+use rpg_text::is_blank;
 use std::cmp::Ordering;
 
 /// The columns of a record that an input field takes.
@@ -32,17 +32,6 @@ fn columns_of(text: &[u8], input: InputField<u16>) -> &[u8]
     ensures length { length result.now ≡ input.to + 1 - input.from }
 {
     &text[usize::from(input.from) - 1..usize::from(input.to)]
-}
-
-fn is_blank(text: &[u8]) -> bool
-    ensures { result ≡ list_all (λ c. c == 32) text.now }
-{
-    'characters: for c in text {
-        if *c != b' ' {
-            return false;
-        }
-    }
-    true
 }
 
 /// How a text stands to zero: only that it is blank is shown.

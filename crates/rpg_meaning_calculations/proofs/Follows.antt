@@ -1,10 +1,10 @@
 -- The code of one calculation does what the calculation means.
 use Rattle.std.proofs.Common.{◌≡◌, ℕ, ◌+◌, ◌-◌, ◌<◌, ◌≤◌, Bool, true, false, cond, eqb, List, [], ◌∷◌, ◌++◌, length, map, Option, Some, refl, sym, ap, ◌∙◌, subst, arith, append_assoc, slice_get, nat_le, nat_lt, leb-true, ltb-true, le-leb}
 use Rattle.std.proofs.lemmas.Bool.{ltb-false}
-use Rattle.rpg_cards.specs.Deeds.{Acts, Begins, Calculation, Deed, Ends, Executes, GoesTo, Marks, Nothing, PutsOut, tests}
+use Rattle.rpg_cards.specs.Deeds.{Acts, Begins, Calculation, Deed, Ends, Executes, GoesTo, Marks, Nothing, PutsOut, has_instruction, tests}
 use Rattle.rpg_cards.specs.Keys.{Key, Name, key_cmp}
 use Rattle.rpg_compile_program.proofs.Counts.{level_length, tests_length}
-use Rattle.rpg_compile_program.specs.Code.{group_code, has_instruction, jump, label_place, level_code, no_conditions, section_code, step_code, tests_code, waits}
+use Rattle.rpg_compile_program.specs.Code.{group_code, jump, label_place, level_code, no_conditions, section_code, step_code, tests_code, waits}
 use Rattle.rpg_compile_program.specs.Whole.{called_number}
 use Rattle.rpg_effect.specs.Effect.{Effect}
 use Rattle.rpg_effect.specs.Ends.{End, GoesOn, Halt, Wrong}

@@ -1,10 +1,10 @@
 -- Where the code of calculations stands.
 use Rattle.std.proofs.Common.{◌≡◌, ◌≢◌, ℕ, zero, suc, ◌+◌, ◌≤◌, Bool, true, false, cond, List, [], ◌∷◌, ◌++◌, length, Option, Some, refl, sym, ap, ◌∙◌, arith, length-append, append_assoc, slice_get}
 use Rattle.std.proofs.lemmas.Bool.{false≢true}
-use Rattle.rpg_cards.specs.Deeds.{Calculation, tests}
+use Rattle.rpg_cards.specs.Deeds.{Calculation, has_instruction, tests}
 use Rattle.rpg_cards.specs.Keys.{Key, Name}
 use Rattle.rpg_compile_program.proofs.Counts.{group_length}
-use Rattle.rpg_compile_program.specs.Code.{code_from, group_code, has_instruction, label_place, level_code, size, step_code, tests_code, waits}
+use Rattle.rpg_compile_program.specs.Code.{code_from, group_code, label_place, level_code, size, step_code, tests_code, waits}
 use Rattle.rpg_effect.specs.declared.operation.Instruction.{Instruction}
 use Rattle.rpg_meaning_calculations.specs.Agreement.{place_at}
 use Rattle.rpg_meaning_calculations.specs.Parts.{bears, label_position}

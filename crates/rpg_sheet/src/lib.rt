@@ -27,6 +27,6 @@ pub use rpg_sheet_specs::{
     OutputField, OutputRecord, OutputSpec, RecordCode, RecordType, Spec, TableSpec, TextLiteral,
     Three, Within, Word,
 };
-pub use sheet::{Cards, SheetCode, SheetFault};
+pub use sheet::{Cards, SheetCode, SheetFault, sheet_place};
 pub use source::cards;
 pub use unreadable::{UnreadableCard, unreadable_cards};

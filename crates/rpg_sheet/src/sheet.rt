@@ -19,7 +19,7 @@ use std::marker::Model;
 use thiserror::Error;
 
 /// A sheet's place among the sheets of a source.
-pub(crate) fn place(sheet: FormType) -> u8
+pub fn sheet_place(sheet: FormType) -> u8
     ensures value { result ≡ cards.sheet_place sheet }
     ensures few { result ≤ 5 }
 {
@@ -186,7 +186,7 @@ pub(crate) fn read(card: &Card, latest: u8, behind: bool) -> Result<Option<Spec>
     let Some(sheet) = card.form_type() else {
         return Err(SheetCode::S3.into());
     };
-    if place(sheet) < latest {
+    if sheet_place(sheet) < latest {
         return Err(SheetCode::S4.into());
     }
     Ok(Some(card.read(sheet)?))

@@ -8,7 +8,7 @@ ghost use Rattle.rpg_sheet_specs.specs.Specs.{spec_of, specs_of};
 
 use crate::Card;
 use crate::form::sheet;
-use crate::sheet::{CardFault, Cards, SheetCode, SheetFault, place, read};
+use crate::sheet::{CardFault, Cards, SheetCode, SheetFault, read, sheet_place};
 use rpg_sheet_specs::Spec;
 use rpg_text::{first_line, has_only_characters};
 use std::alloc::Global;
@@ -94,7 +94,7 @@ pub(crate) fn latest_with(latest: u8, card: &[u8]) -> u8
     ensures { (n : ℕ) → nat_lt n result ≡ (nat_lt n latest || sheets.comes_after n card.now) }
 {
     match sheet(card, false) {
-        Some(sheet) => latest.max(place(sheet)),
+        Some(sheet) => latest.max(sheet_place(sheet)),
         None => latest,
     }
 }

@@ -3,9 +3,8 @@
 use rpg_decimal::{BadDigit, ZeroDivisor};
 use rpg_edit_widths::EditFault;
 use rpg_paper::NoMemory;
-use rpg_show_lines::Line;
+use rpg_show_lines::{Line, says};
 use std::alloc::{AllocError, Global};
-use std::fmt::Display;
 
 /// `say zero_divisor = "division by zero"`: whether an error says this, where the line can be read.
 pub fn is_told(alloc: Global, mut line: Line<'_>) -> Result<Option<bool>, AllocError> {
@@ -22,9 +21,4 @@ pub fn is_told(alloc: Global, mut line: Line<'_>) -> Result<Option<bool>, AllocE
         "no_memory" => says(alloc, NoMemory, wanted)?,
         _ => return Ok(None),
     }))
-}
-
-fn says<E: Display + Drop>(alloc: Global, error: E, wanted: &str) -> Result<bool, AllocError> {
-    let text = format!(in alloc; "{error}")?;
-    Ok(text.as_str() == wanted)
 }

@@ -1,9 +1,8 @@
 //! Lines of what errors say.
 
-use rpg_show_lines::Line;
+use rpg_show_lines::{Line, says};
 use rpg_symbols::{DefineFault, LevelFault};
 use std::alloc::{AllocError, Global};
-use std::fmt::Display;
 
 /// `say full = ".."`: whether an error says this, where the line can be read.
 pub fn is_told(alloc: Global, mut line: Line<'_>) -> Result<Option<bool>, AllocError> {
@@ -20,9 +19,4 @@ pub fn is_told(alloc: Global, mut line: Line<'_>) -> Result<Option<bool>, AllocE
         "cycle_1" => says(alloc, LevelFault::Cycle { call: 1 }, wanted)?,
         _ => return Ok(None),
     }))
-}
-
-fn says<E: Display + Drop>(alloc: Global, error: E, wanted: &str) -> Result<bool, AllocError> {
-    let text = format!(in alloc; "{error}")?;
-    Ok(text.as_str() == wanted)
 }

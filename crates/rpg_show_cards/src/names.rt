@@ -5,7 +5,7 @@ ghost use Rattle.rpg_symbols.specs.Fields.{number_of_name, IsAdded, IsKnown, Ref
 
 use rpg_effect::form::{Class, FieldForm, Kind};
 use rpg_show_lines::{Line, Size};
-use rpg_symbols::{DefineFault, Name, Symbols};
+use rpg_symbols::{DefineFault, Name, Symbols, is_same_form};
 use std::alloc::{AllocError, Global};
 
 /// Names of which none is defined but UDATE and PAGE.
@@ -177,17 +177,5 @@ fn is_form(symbols: &Symbols, number: u16, wanted: FieldForm) -> bool
     requires last { number ≤ length symbols.now }
     ensures { OnTrue result (option_map (λ f. f.1) (slice_get symbols.now (number - 1)) ≡ Some wanted) }
 {
-    is_same(symbols.form(number), wanted)
-}
-
-/// Whether two forms agree in every part.
-fn is_same(a: FieldForm, b: FieldForm) -> bool
-    ensures { OnTrue result (a ≡ b) }
-{
-    a.kind == b.kind
-        && a.class == b.class
-        && a.length == b.length
-        && a.decimals == b.decimals
-        && a.is_ascending == b.is_ascending
-        && a.entries == b.entries
+    is_same_form(&symbols.form(number), &wanted)
 }

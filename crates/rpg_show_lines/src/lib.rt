@@ -14,6 +14,7 @@ mod number;
 mod outcome;
 mod records;
 mod report;
+mod says;
 mod spelling;
 mod tally;
 
@@ -26,5 +27,6 @@ pub use number::Number;
 pub use outcome::{Outputs, Told, Wanted, write_report};
 pub use records::records_of;
 pub use report::Report;
+pub use says::says;
 pub use spelling::{hex_of, push_hex, text_of};
 pub use tally::Tally;

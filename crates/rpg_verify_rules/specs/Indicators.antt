@@ -5,17 +5,15 @@ use Rattle.rpg_effect.specs.declared.condition.Conditions.{Conditions}
 use Rattle.rpg_effect.specs.declared.operation.Shows.{Shows}
 use Rattle.rpg_object_program.specs.declared.row.Version.{Version}
 use Rattle.rpg_object_program.specs.declared.row.Version.TheVariants.{One, Two}
-
-abbrev pub is_within : ℕ → ℕ → ℕ → Bool
-is_within low high n = nat_le low n && nat_le n high
+use Rattle.rpg_text.specs.Texts.{is_between}
 
 -- all but L0, 1P and MR
 abbrev pub is_settable : ℕ → Bool
-is_settable n = is_within 1 99 n || (is_within 101 110 n || is_within 112 128 n)
+is_settable n = is_between 1 99 n || (is_between 101 110 n || is_between 112 128 n)
 
 -- what a record type may turn on: all that may be set but overflow
 abbrev pub is_of_type : ℕ → Bool
-is_of_type n = is_within 1 99 n || (is_within 101 110 n || is_within 120 128 n)
+is_of_type n = is_between 1 99 n || (is_between 101 110 n || is_between 120 128 n)
 
 -- it passes, if it stands
 abbrev pub if_any : {X : Type 0} → (X → Bool) → Option X → Bool

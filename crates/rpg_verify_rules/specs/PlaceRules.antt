@@ -19,7 +19,8 @@ use Rattle.rpg_object_program.specs.Sections.{is_place, level_of, section_instru
 use Rattle.rpg_object_program.specs.declared.row.Version.{Version}
 use Rattle.rpg_object_program.specs.declared.section.Section.{Section}
 use Rattle.rpg_object_program.specs.declared.section.Section.TheVariants.{Detail, Total, Subroutine}
-use Rattle.rpg_verify_rules.specs.Indicators.{all_asked, are_settable, has_shows, is_within}
+use Rattle.rpg_text.specs.Texts.{is_between}
+use Rattle.rpg_verify_rules.specs.Indicators.{all_asked, are_settable, has_shows}
 use Rattle.rpg_verify_rules.specs.declared.rule.PlaceRule.{PlaceRule}
 use Rattle.rpg_verify_rules.specs.declared.rule.PlaceRule.TheVariants.{V16, V17, V18, V19, V20, V21, V22}
 
@@ -171,4 +172,4 @@ abbrev pub has_stray_return : Object → Bool
 has_stray_return p = list_any is_return p.detail || list_any is_return p.total
 
 abbrev pub is_off_level : SubroutineRow → Bool
-is_off_level s = not (is_within 1 100 s.level)
+is_off_level s = not (is_between 1 100 s.level)

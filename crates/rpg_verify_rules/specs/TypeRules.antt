@@ -9,13 +9,14 @@ use Rattle.rpg_effect.specs.declared.input.InputField.{InputField}
 use Rattle.rpg_effect.specs.declared.input.InputFile.{InputFile}
 use Rattle.rpg_effect.specs.declared.input.RecordCode.{RecordCode}
 use Rattle.rpg_object_program.specs.Object.{Object, has_file, input_length}
-use Rattle.rpg_verify_rules.specs.Indicators.{are_settable, if_any, is_of_type, is_within}
+use Rattle.rpg_text.specs.Texts.{is_between}
+use Rattle.rpg_verify_rules.specs.Indicators.{are_settable, if_any, is_of_type}
 use Rattle.rpg_verify_rules.specs.declared.rule.TypeRule.{TypeRule}
 use Rattle.rpg_verify_rules.specs.declared.rule.TypeRule.TheVariants.{V3, V4, V5, V6, V7, V25, V26}
 
 -- the position is one of a record of that length
 abbrev pub is_code_in : ℕ → RecordCode → Bool
-is_code_in len c = is_within 1 len c.position
+is_code_in len c = is_between 1 len c.position
 
 -- its columns are those of a record of that length, and not turned around
 abbrev pub is_control_in : ℕ → ControlField → Bool

@@ -1,6 +1,6 @@
 use Rattle.std.proofs.Common.{◌≡◌, ◌+◌, ◌≤◌, None, drop, length, take, unwrap_or}
 use Rattle.std.specs.List.{last_or}
-use Rattle.rpg_compile_code.specs.Tests.{calculation_specs_in}
+use Rattle.rpg_cards.specs.Cards.{calculation_specs_in}
 use Rattle.rpg_compile_code.specs.Walk.{joining}
 use Rattle.rpg_compile_code.proofs.group.followers_of.Given as goal
 

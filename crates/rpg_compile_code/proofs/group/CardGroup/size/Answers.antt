@@ -1,7 +1,7 @@
 use Rattle.std.proofs.Common.{◌≡◌, ◌<◌, true, false, sym, ap, ◌∙◌, subst}
 use Rattle.rpg_cards.specs.Calculations.{calculation_of, last_card}
-use Rattle.rpg_cards.specs.Deeds.{deed_of}
-use Rattle.rpg_compile_program.specs.Code.{has_instruction, size}
+use Rattle.rpg_cards.specs.Deeds.{deed_of, has_instruction}
+use Rattle.rpg_compile_program.specs.Code.{size}
 use Rattle.rpg_compile_code.proofs.Groups.{size_of_instruction, size_of_nothing}
 use Rattle.rpg_compile_code.specs.Walk.{group_of, size_with}
 use Rattle.rpg_compile_code.proofs.group.CardGroup.size.Goals as goal
