@@ -1,3 +1,4 @@
+pub mod Before
 pub mod Cards
 pub mod Codes
 pub mod Data

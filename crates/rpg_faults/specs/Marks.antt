@@ -1,11 +1,13 @@
 -- Which columns of a card a fault speaks of: none where the card as a whole is meant.
-use Rattle.std.specs.Prelude.{◌==◌, List, ◌∷◌, ◌++◌, Option, None, Some, if◌then◌else◌}
+use Rattle.std.specs.Prelude.{◌≡◌, ℕ, ◌==◌, List, ◌∷◌, ◌++◌, Option, None, Some, if◌then◌else◌}
 use Rattle.std.specs.Option.{option_map, option_map_or, option_or}
 use Rattle.rpg_cards.specs.Cards.{extension_on, input_on, output_field_on}
 use Rattle.rpg_cards.specs.Files.{file_by}
 use Rattle.rpg_cards.specs.declared.spec_card.SpecCard.{SpecCard}
+use Rattle.rpg_faults.specs.Lengths.{AreOpenLengths}
 use Rattle.rpg_faults.specs.Places.{is_code_outside, outside_record, own_file, passes_length}
 use Rattle.rpg_faults.specs.declared.code.FaultCode.{FaultCode}
+use Rattle.rpg_faults.specs.declared.lengths.JoinedLengths.{JoinedLengths}
 use Rattle.rpg_faults.specs.declared.code.FaultCode.TheVariants.{F1, F2, F3, F4, F5, F6, F7, F8, F9, F10, F11, F12, F13, F14, F15, F16, F17, F18}
 use Rattle.rpg_faults_flow.specs.Columns as calculations
 use Rattle.rpg_faults_flow.specs.Marks as flow
@@ -43,6 +45,11 @@ abbrev pub place_on_input : Option FileSpec → List SpecCard → InputSpec → 
 place_on_input file before (input.Type t) = code_columns file t.codes
 place_on_input file before (input.And codes) = code_columns file codes
 place_on_input file before (input.Field f) = Some (field_range file before f)
+
+-- the range for any file of that record length, and any cards before of which these lengths are kept
+abbrev pub TellsRange : {X : Type 0} → (Option FileSpec → List SpecCard → X) → Option ℕ → JoinedLengths → X → Type 0
+TellsRange range_of length lengths answer =
+    (file : Option FileSpec) (before : List SpecCard) → length ≡ option_map (λ f. f.record_length) file → AreOpenLengths before lengths → answer ≡ range_of file before
 
 abbrev pub place_columns : List SpecCard → List SpecCard → SpecCard → Option ColumnRange
 place_columns cards before c = option_map_or (λ i. place_on_input (file_by (own_file before i) cards) before i) (input_on c.spec) (option_map (λ f. range.EndPosition) (output_field_on c.spec))

@@ -23,9 +23,12 @@ has_level fs level = list_any (is_at match_level level) fs
 abbrev pub matches_of : List InputSpec → OpenMatches
 matches_of specs = record { levels = map (has_level (match_fields specs)) levels; length = min (sum_by input_columns (match_fields specs)) 65535 }
 
+abbrev pub AreOpenMatches : List SpecCard → Matches → Type 0
+AreOpenMatches before m = m.open_type ≡ option_map matches_of (input_specs_in (open_group input_role before))
+
 pub record AreMatches (cards before : List SpecCard) (m : Matches) : Type 0 where
   pub first : m.first ≡ first_of_types cards before
-  pub open_type : m.open_type ≡ option_map matches_of (input_specs_in (open_group input_role before))
+  pub open_type : AreOpenMatches before m
 
 -- ---- a type's match fields, one by one
 

@@ -144,10 +144,14 @@ open_matches before = match_fields (open_specs before)
 abbrev pub passes_matches : List InputField → InputField → Bool
 passes_matches fs f = is_match_field f && (nat_le (sum_by input_columns fs) 256 && nat_lt 256 (sum_by input_columns fs + input_columns f))
 
+-- behind these a match field may not stand
+abbrev pub refuses : List InputField → InputField → Bool
+refuses fs f = repeats fs f || passes_matches fs f
+
 abbrev pub matches_badly : List SpecCard → List SpecCard → InputSpec → Bool
 matches_badly before after (input.Type t) = has_other_matches before after
 matches_badly before after (input.And codes) = false
-matches_badly before after (input.Field f) = repeats (open_matches before) f || passes_matches (open_matches before) f
+matches_badly before after (input.Field f) = refuses (open_matches before) f
 
 abbrev pub joins_badly : List SpecCard → List SpecCard → InputSpec → Bool
 joins_badly before after i = controls_badly before after i || matches_badly before after i

@@ -41,7 +41,7 @@ pub enum FaultCode {
     F14 = 14,
     /// H isn't allowed, or MVR doesn't stand behind a division without H.
     F15 = 15,
-    /// A column is outside the record or the line, a field is wider than its end, or control fields don't agree.
+    /// A column is outside the record or the line, a field is wider than its end, or control or match fields don't agree.
     F16 = 16,
     /// An edit code or an edit word doesn't fit.
     F17 = 17,
@@ -124,7 +124,7 @@ impl FaultCode {
             FaultCode::F14 => "a subroutine calls itself, maybe through others",
             FaultCode::F15 => "H isn't allowed, or MVR doesn't stand behind a division without H",
             FaultCode::F16 => {
-                "a column is outside the record or the line, a field is wider than its end, or control fields don't agree"
+                "a column is outside the record or the line, a field is wider than its end, or control or match fields don't agree"
             }
             FaultCode::F17 => "an edit code or an edit word doesn't fit",
             FaultCode::F18 => {

@@ -1,15 +1,12 @@
 //! The joined lengths of control fields.
 
-ghost use Rattle.std.specs.Prelude.{◌≡◌, ◌≤◌, ◌-◌, [], ◌∷◌, ◌++◌, List, length, map, min, false, Option, slice_index_or};
-ghost use Rattle.std.specs.List.{list_any};
-ghost use Rattle.std.specs.Option.{option_map, option_map_or, option_or};
-ghost use Rattle.rpg_cards.specs.Cards.{input_on};
+ghost use Rattle.std.specs.Prelude.{◌≡◌, ◌≤◌, ◌-◌, [], List, length, map, min, slice_index_or};
+ghost use Rattle.std.specs.Option.{option_or};
 ghost use Rattle.rpg_cards.specs.Groups.{followers, input_role};
 ghost use Rattle.rpg_cards.specs.declared.spec_card.SpecCard.{SpecCard};
+ghost use Rattle.rpg_faults.specs.Before.{AddsCard, AddsField, TellsInput};
 ghost use Rattle.rpg_faults.specs.Places as rules;
-ghost use Rattle.rpg_faults.specs.Lengths.{AreJoinedLengths, AreOpenLengths, lengths_of, some_length};
-ghost use Rattle.rpg_sheet_specs.specs.declared.input.InputSpec.{InputSpec};
-ghost use Rattle.rpg_sheet_specs.specs.declared.input.InputSpec.TheVariants as input;
+ghost use Rattle.rpg_faults.specs.Lengths.{AreJoinedLengths, AreOpenLengths, any_differs, lengths_of, some_length};
 
 use rpg_cards::SpecCard;
 use rpg_sheet_specs::{InputField, InputSpec};
@@ -40,7 +37,7 @@ impl JoinedLengths {
     /// With one more card, before those behind it.
     pub(crate) fn with(self, card: &SpecCard, after: &[SpecCard]) -> Self
         requires { length after.now ≤ 2000 }
-        ensures { (before : List SpecCard) → let cards = before ++ card.now ∷ after.now in AreJoinedLengths cards before self → AreJoinedLengths cards (before ++ card.now ∷ []) result }
+        ensures { AddsCard AreJoinedLengths card.now after.now self result }
     {
         let first = self.first;
         match card.input() {
@@ -63,7 +60,7 @@ impl JoinedLengths {
     /// Whether a type has other joined lengths than the first types with its levels, or a field's level passes the limit with it.
     pub(crate) fn join_badly(&self, card: &SpecCard, after: &[SpecCard]) -> bool
         requires { length after.now ≤ 2000 }
-        ensures { (before : List SpecCard) → AreJoinedLengths (before ++ card.now ∷ after.now) before self.now → result ≡ option_map_or (rules.controls_badly before after.now) (input_on card.now.spec) false }
+        ensures { TellsInput AreJoinedLengths rules.controls_badly card.now after.now self.now result }
     {
         match card.input() {
             Some(InputSpec::Type(_)) => self.differ_from(after),
@@ -75,7 +72,7 @@ impl JoinedLengths {
     /// Whether a type's joined lengths aren't the first ones.
     fn differ_from(&self, after: &[SpecCard]) -> bool
         requires { length after.now ≤ 2000 }
-        ensures { result ≡ list_any (λ level. rules.lengths_differ (slice_index_or self.now.first (level - 1) None) (rules.level_length level (followers input_role after.now))) rules.levels }
+        ensures { result ≡ any_differs self.now.first (followers input_role after.now) }
     {
         for level in 1..=9 {
             let first = self.first[level as usize - 1];
@@ -125,7 +122,7 @@ fn with_type(first: [Option<u32>; 9], after: &[SpecCard]) -> [Option<u32>; 9]
 
 /// The lengths of the open type with a further field.
 fn with_field(open_type: Option<[u16; 9]>, field: &InputField) -> Option<[u16; 9]>
-    ensures { (specs : Option (List InputSpec)) → open_type ≡ option_map lengths_of specs → result ≡ option_map (λ fs. lengths_of (fs ++ input.Field field.now ∷ [])) specs }
+    ensures { AddsField lengths_of field.now open_type result }
 {
     let mut lengths = open_type?;
     if let Some(level) = field.level {

@@ -1,13 +1,11 @@
 //! Which columns of a card a fault speaks of.
 
-ghost use Rattle.std.specs.Prelude.{◌≡◌, ◌∷◌, ◌++◌, List, Option};
+ghost use Rattle.std.specs.Prelude.{◌≡◌, ◌∷◌, ◌++◌, Option};
 ghost use Rattle.std.specs.Option.{option_map};
 ghost use Rattle.rpg_cards.specs.Sheets.{AreSheets};
 ghost use Rattle.rpg_faults.specs.Marks as marks;
-ghost use Rattle.rpg_faults.specs.Lengths.{AreOpenLengths};
 ghost use Rattle.rpg_faults.specs.Seen.{AreCardsSeen};
 ghost use Rattle.rpg_faults.specs.State.{IsPlaces};
-ghost use Rattle.rpg_cards.specs.declared.spec_card.SpecCard.{SpecCard};
 ghost use Rattle.rpg_sheet_specs.specs.declared.file.FileSpec.{FileSpec};
 
 use crate::code::FaultCode;
@@ -130,7 +128,7 @@ fn place_on_input(
     lengths: &JoinedLengths,
     input: &InputSpec,
 ) -> Option<ColumnRange>
-    ensures { (file : Option FileSpec) (before : List SpecCard) → length ≡ option_map (λ f. f.record_length) file → AreOpenLengths before lengths.now → result ≡ marks.place_on_input file before input.now }
+    ensures { marks.TellsRange (λ file before. marks.place_on_input file before input.now) length lengths.now result }
 {
     match input {
         InputSpec::Type(record_type) => code_columns(length, &record_type.codes),
@@ -154,7 +152,7 @@ fn code_columns(length: Option<u16>, codes: &Three<Option<RecordCode>>) -> Optio
 }
 
 fn field_range(length: Option<u16>, lengths: &JoinedLengths, field: &InputField) -> ColumnRange
-    ensures { (file : Option FileSpec) (before : List SpecCard) → length ≡ option_map (λ f. f.record_length) file → AreOpenLengths before lengths.now → result ≡ marks.field_range file before field.now }
+    ensures { marks.TellsRange (λ file before. marks.field_range file before field.now) length lengths.now result }
 {
     if field.from == 0 {
         ColumnRange::FirstColumn

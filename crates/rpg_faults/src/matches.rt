@@ -1,12 +1,10 @@
 //! The match fields of record types.
 
-ghost use Rattle.std.specs.Prelude.{◌≡◌, ◌+◌, ◌-◌, ◌≤◌, [], ◌∷◌, ◌++◌, ◌&&◌, ◌||◌, List, Option, Some, false, nat_le, nat_lt, slice_index_or};
-ghost use Rattle.std.specs.Option.{option_map, option_map_or};
-ghost use Rattle.rpg_cards.specs.Cards.{input_on};
-ghost use Rattle.rpg_cards.specs.Groups.{followers, input_role, open_group};
+ghost use Rattle.std.specs.Prelude.{◌≡◌, ◌+◌, ◌-◌, ◌≤◌, [], ◌∷◌, ◌++◌, ◌&&◌, List, Some, false, nat_le, nat_lt, slice_index_or};
+ghost use Rattle.rpg_cards.specs.Groups.{followers, input_role};
 ghost use Rattle.rpg_cards.specs.declared.spec_card.SpecCard.{SpecCard};
-ghost use Rattle.rpg_faults.specs.Lengths.{input_specs_in};
-ghost use Rattle.rpg_faults.specs.Matches.{AreGood, AreMatches, AreWith, matches_of};
+ghost use Rattle.rpg_faults.specs.Matches.{AreGood, AreMatches, AreOpenMatches, AreWith, matches_of};
+ghost use Rattle.rpg_faults.specs.Before.{AddsCard, AddsField, TellsInput};
 ghost use Rattle.rpg_faults.specs.Places as rules;
 ghost use Rattle.rpg_sheet_specs.specs.declared.input.InputField.{InputField};
 ghost use Rattle.rpg_sheet_specs.specs.declared.input.InputSpec.{InputSpec};
@@ -61,7 +59,7 @@ impl OpenMatches {
 
     /// Whether a match field has a level that is there, or all of them are too long with it.
     fn refuse(self, field: &InputField) -> bool
-        ensures { (specs : List InputSpec) → let fs = rules.match_fields specs in self ≡ matches_of specs → result ≡ (rules.repeats fs field.now || rules.passes_matches fs field.now) }
+        ensures { (specs : List InputSpec) → self ≡ matches_of specs → result ≡ rules.refuses (rules.match_fields specs) field.now }
     {
         match field.match_level {
             None => false,
@@ -98,7 +96,7 @@ impl Matches {
 
     /// With one more card, before those behind it.
     pub(crate) fn with(self, card: &SpecCard, after: &[SpecCard]) -> Self
-        ensures { (before : List SpecCard) → let cards = before ++ card.now ∷ after.now in AreMatches cards before self → AreMatches cards (before ++ card.now ∷ []) result }
+        ensures { AddsCard AreMatches card.now after.now self result }
     {
         let first = self.first;
         match card.input() {
@@ -121,7 +119,7 @@ impl Matches {
 
     /// Whether a type has other match fields than the first type with some, or a field's match level is there or the fields are too long with it.
     pub(crate) fn join_badly(&self, card: &SpecCard, after: &[SpecCard]) -> bool
-        ensures { (before : List SpecCard) → AreMatches (before ++ card.now ∷ after.now) before self.now → result ≡ option_map_or (rules.matches_badly before after.now) (input_on card.now.spec) false }
+        ensures { TellsInput AreMatches rules.matches_badly card.now after.now self.now result }
     {
         match card.input() {
             Some(InputSpec::Type(_)) => {
@@ -138,7 +136,7 @@ impl Matches {
 
     /// Those of the open type: none where no type is open.
     fn of_open_type(&self) -> OpenMatches
-        ensures { (before : List SpecCard) → self.now.open_type ≡ option_map matches_of (input_specs_in (open_group input_role before)) → result ≡ matches_of (rules.open_specs before) }
+        ensures { (before : List SpecCard) → AreOpenMatches before self.now → result ≡ matches_of (rules.open_specs before) }
     {
         match self.open_type {
             None => OpenMatches::NONE,
@@ -149,7 +147,7 @@ impl Matches {
 
 /// The match fields of the open type with a further field.
 fn with_field(open_type: Option<OpenMatches>, field: &InputField) -> Option<OpenMatches>
-    ensures { (specs : Option (List InputSpec)) → open_type ≡ option_map matches_of specs → result ≡ option_map (λ fs. matches_of (fs ++ input.Field field.now ∷ [])) specs }
+    ensures { AddsField matches_of field.now open_type result }
 {
     Some(open_type?.with(field))
 }
