@@ -3,13 +3,14 @@
 use crate::blocks::{followers, put_heading};
 use crate::chart::{Chart, first_place};
 use crate::files::{DescribedFile, FileIndex, length_words};
-use crate::picture::{fill_of, picture};
+use crate::picture::picture;
 use crate::words::put_when;
 use rpg_cards::{FileUse, IndexedCards, SpecCard, time_of};
 use rpg_cli_list_names::name_text;
 use rpg_cli_show_fields::{code_letter, fill_words, put_spacing, quoted, time_word};
 use rpg_edit_marks::Fill;
 use rpg_effect::line::Spacing;
+use rpg_faults_operands::fill_in;
 use rpg_sheet_specs::{Entry, EntryIndex, Movement, OutputField, OutputRecord, OutputSpec};
 use std::alloc::{AllocError, Global};
 use std::fmt::Write;
@@ -135,7 +136,7 @@ fn put_printed(alloc: Global, out: &mut String, field: &OutputField) -> Result<(
     }
     if let Some(code) = field.code {
         let letter = code_letter(code);
-        let filled = fill_words(fill_of(&field.text).unwrap_or(Fill::Blank));
+        let filled = fill_words(fill_in(&field.text).unwrap_or(Fill::Blank));
         return write!(out, " by code {letter}{filled}");
     }
     match &field.text {

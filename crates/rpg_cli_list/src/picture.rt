@@ -3,9 +3,9 @@
 use rpg_cards::{Defined, IndexedCards};
 use rpg_decimal::fit;
 use rpg_edit::edit_at_end;
-use rpg_edit_marks::Fill;
 use rpg_edit_widths::{EditWord, How, width};
 use rpg_effect::form::{FieldForm, Kind};
+use rpg_faults_operands::fill_in;
 use rpg_sheet_specs::{OutputField, TextLiteral};
 use std::alloc::{AllocError, Global};
 
@@ -87,17 +87,7 @@ fn how_of(field: &OutputField, digits: u8) -> Option<How> {
         (None, Some(word)) => Some(How::Word(EditWord::parse(word.as_slice(), digits).ok()?)),
         (Some(code), text) => Some(How::Code {
             code,
-            fill: fill_of(text)?,
+            fill: fill_in(text)?,
         }),
-    }
-}
-
-/// What stands beside a code.
-pub(crate) fn fill_of(text: &Option<TextLiteral<24>>) -> Option<Fill> {
-    match text {
-        None => Some(Fill::Blank),
-        Some(text) if text.as_slice() == b"*".as_slice() => Some(Fill::Star),
-        Some(text) if text.as_slice() == b"$".as_slice() => Some(Fill::Dollar),
-        Some(_) => None,
     }
 }

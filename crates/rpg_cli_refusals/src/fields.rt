@@ -2,9 +2,9 @@
 
 use crate::counted::put_count;
 use rpg_effect::condition::Conditions;
-use rpg_effect::form::{Class, FieldForm, Kind};
+use rpg_effect::form::{Class, FieldForm, Kind, is_array};
 use rpg_effect::operation::{Index, Operand, Shows};
-use rpg_object_program::forms::{form_at, is_array};
+use rpg_object_program::forms::form_at;
 use rpg_object_program::row::Rows;
 use std::alloc::{AllocError, Global};
 

@@ -2,13 +2,13 @@
 
 use crate::fields::{put_field, put_operand};
 use rpg_effect::condition::{Condition, Conditions};
-use rpg_effect::form::Kind;
+use rpg_effect::form::{Kind, same_kind};
 use rpg_effect::line::{Editing, LineField, Source};
 use rpg_effect::operation::Operand;
 use rpg_effect::row::{Shape, Use};
 use rpg_object_program::columns::is_good;
 use rpg_object_program::forms::{
-    form_at, is_index_form, is_text_constant, kind_of, length_of, may_write, same_kind,
+    form_at, is_index_form, is_text_constant, kind_of, length_of, may_write,
 };
 use rpg_object_program::row::Rows;
 use rpg_verify_rules::LineRule;

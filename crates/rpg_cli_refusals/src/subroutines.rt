@@ -3,26 +3,17 @@
 use crate::counted::put_count;
 use rpg_effect::operation::Instruction;
 use rpg_object_program::row::{Rows, Subroutine};
+use rpg_verify_rules::is_return;
 use std::alloc::{AllocError, Global};
-
-fn is_return(instruction: &Instruction<u16>) -> bool {
-    match *instruction {
-        Instruction::Return { .. } => true,
-        Instruction::Act(_)
-        | Instruction::Except
-        | Instruction::Branch { .. }
-        | Instruction::Call { .. } => false,
-    }
-}
 
 /// The place of the first RET outside subroutines.
 fn stray_return(rows: &Rows) -> Option<usize> {
-    match rows.detail.iter().position(is_return) {
+    match rows.detail.iter().position(|i| is_return(*i)) {
         Some(at) => Some(at),
         None => rows
             .total
             .iter()
-            .position(is_return)
+            .position(|i| is_return(*i))
             .map(|at| at.saturating_add(rows.detail.len())),
     }
 }

@@ -1,9 +1,9 @@
 //! V3 to V7, V25 and V26: what stands in a record type.
 
 use crate::fields::{put_field, put_indicator, put_shows};
-use rpg_effect::form::Kind;
+use rpg_effect::form::{Kind, is_plain, same_kind};
 use rpg_effect::input::{ControlField, InputField, RecordCode};
-use rpg_object_program::forms::{form_at, is_plain, kind_of, length_of, same_kind};
+use rpg_object_program::forms::{form_at, kind_of, length_of};
 use rpg_object_program::row::{RecordType, Rows};
 use rpg_verify_rules::TypeRule;
 use std::alloc::{AllocError, Global};

@@ -5,10 +5,9 @@ ghost use Rattle.std.specs.Option.{option_map_or};
 ghost use Rattle.rpg_cards.specs.Calculations.{card_ending};
 ghost use Rattle.rpg_faults_operands.specs.Columns as words;
 
-use crate::forms::{is_array, is_table};
 use crate::operands::factor_form;
 use rpg_cards::{IndexedCards, OperationColumns, Shown, SpecCard, columns, last_card};
-use rpg_effect::form::FieldForm;
+use rpg_effect::form::{FieldForm, is_array, is_table};
 use rpg_sheet_specs::{CalculationSpec, OutputField};
 
 /// F9, as far as it is of output fields, or of the sequence of what LOKUP searches.
@@ -69,7 +68,7 @@ fn searches(shown: Shown) -> bool
 fn lacks_sequence(form: FieldForm) -> bool
     ensures { result ≡ words.lacks_sequence form }
 {
-    (is_array(form) || is_table(form)) && !form.is_ascending
+    (is_array(form.class) || is_table(form.class)) && !form.is_ascending
 }
 
 /// Without a field there is a constant, and neither code nor blank after.

@@ -30,7 +30,8 @@ fn fill_by(text: &[u8]) -> Option<Fill>
     }
 }
 
-fn fill_in(text: &Option<TextLiteral<24>>) -> Option<Fill>
+/// The fill that a text beside a code stands for: blanks where there is no text.
+pub fn fill_in(text: &Option<TextLiteral<24>>) -> Option<Fill>
     ensures { result ≡ editing.fill_in text.now }
 {
     match text {

@@ -4,11 +4,11 @@ ghost use Rattle.std.specs.Prelude.{◌≡◌, false};
 ghost use Rattle.std.specs.Option.{option_map_or};
 ghost use Rattle.rpg_faults_operands.specs.Indexes as indexes;
 
-use crate::forms::{can_index, is_array};
+use crate::forms::can_index;
 use crate::names::index_name;
 use crate::operands::{Operand, entry_form, form_in, operands_ending, output_operand};
 use rpg_cards::{Content, IndexedCards, SpecCard};
-use rpg_effect::form::{FieldForm, fits_digits};
+use rpg_effect::form::{FieldForm, fits_digits, is_array};
 use rpg_sheet_specs::{Entry, EntryIndex};
 
 /// F5: an index that is missing or not allowed, a literal out of range, or a field that can't be an index.
@@ -69,7 +69,7 @@ fn needs_index(content: Content, form: FieldForm) -> bool
     ensures { result ≡ indexes.needs_index content form }
 {
     match content {
-        Content::Value => is_array(form),
+        Content::Value => is_array(form.class),
         Content::WholeArray
         | Content::Searched
         | Content::Table
@@ -88,7 +88,7 @@ fn takes_index(content: Content, form: FieldForm) -> bool
         | Content::Searched
         | Content::Table
         | Content::Label
-        | Content::Subroutine => is_array(form),
+        | Content::Subroutine => is_array(form.class),
     }
 }
 
@@ -106,7 +106,7 @@ fn is_too_short(content: Content, form: FieldForm, field: FieldForm) -> bool
     ensures { result ≡ indexes.is_too_short content form field }
 {
     is_searched(content)
-        && is_array(form)
+        && is_array(form.class)
         && can_index(field)
         && !fits_digits(form.entries, field.length)
 }

@@ -7,10 +7,10 @@ ghost use Rattle.rpg_cards.specs.Cards.{output_field_on};
 ghost use Rattle.rpg_faults_operands.specs.Kinds as words;
 ghost use Rattle.rpg_faults_operands.specs.Operands.{field_content};
 
-use crate::forms::{is_array, is_same_kind, is_table, is_text, is_unwritable};
+use crate::forms::{is_text, is_unwritable};
 use crate::operands::{factor_form, field_content, output_form, result_form};
 use rpg_cards::{Content, IndexedCards, Kinds, OperationColumns, SpecCard, columns, last_card};
-use rpg_effect::form::FieldForm;
+use rpg_effect::form::{FieldForm, is_array, is_table, same_kind};
 use rpg_sheet_specs::{CalculationSpec, OutputField};
 
 /// F4: an operand or output field of the wrong kind, a field that can't be written, a table with too few entries.
@@ -90,9 +90,9 @@ fn is_wrong_class(content: Content, form: FieldForm) -> bool
 {
     match content {
         Content::Value | Content::Label | Content::Subroutine => false,
-        Content::WholeArray => !is_array(form),
-        Content::Searched => !(is_array(form) || is_table(form)),
-        Content::Table => !is_table(form),
+        Content::WholeArray => !is_array(form.class),
+        Content::Searched => !(is_array(form.class) || is_table(form.class)),
+        Content::Table => !is_table(form.class),
     }
 }
 
@@ -129,7 +129,7 @@ fn differ(first: Option<FieldForm>, second: Option<FieldForm>) -> bool
     };
     match second {
         None => false,
-        Some(second) => !is_same_kind(first, second),
+        Some(second) => !same_kind(first.kind, second.kind),
     }
 }
 
@@ -169,8 +169,8 @@ fn finds_too_few(searched: Option<FieldForm>, found: Option<FieldForm>) -> bool
     match found {
         None => false,
         Some(found) => {
-            is_table(found)
-                && (is_array(searched) || is_table(searched))
+            is_table(found.class)
+                && (is_array(searched.class) || is_table(searched.class))
                 && found.entries < searched.entries
         }
     }

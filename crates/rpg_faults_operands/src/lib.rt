@@ -11,7 +11,7 @@ mod names;
 mod operands;
 
 pub use columns::bad_columns;
-pub use editing::{bad_editing, width};
+pub use editing::{bad_editing, fill_in, width};
 pub use indexes::bad_index;
 pub use kinds::wrong_operand;
 pub use marks::{editing_columns, missing_columns, unknown_name, wrong_columns, wrong_index};

@@ -6,11 +6,10 @@ ghost use Rattle.rpg_effect.specs.Instructions as instructions;
 ghost use Rattle.rpg_effect.specs.Rows as words;
 
 use crate::forms::{
-    entries_of, form_at, is_array, is_index_form, is_table, is_table_form, kind_of, length_of,
-    may_write, same_kind,
+    entries_of, form_at, is_index_form, is_table_form, kind_of, length_of, may_write,
 };
 use crate::row::Rows;
-use rpg_effect::form::{FieldForm, Kind, fits_digits};
+use rpg_effect::form::{FieldForm, Kind, fits_digits, is_array, is_table, same_kind};
 use rpg_effect::operation::{Action, Index, Instruction, Operand};
 use rpg_effect::row::{Marks, Row, Shape, Use};
 

@@ -4,7 +4,7 @@ ghost use Rattle.std.specs.Prelude.{◌≡◌};
 ghost use Rattle.rpg_effect.specs.Forms as words;
 
 use crate::row::Rows;
-use rpg_effect::form::{Class, FieldForm, Kind};
+use rpg_effect::form::{FieldForm, Kind, is_constant, is_plain, is_table, is_writable, same_kind};
 
 /// The form of a field, if there is one; the first field is 1.
 pub fn form_at(rows: &Rows, field: u16) -> Option<FieldForm>
@@ -53,66 +53,6 @@ pub fn entries_of(form: Option<FieldForm>) -> u16
     match form {
         None => 0,
         Some(form) => form.entries,
-    }
-}
-
-pub fn same_kind(kind: Kind, other: Kind) -> bool
-    ensures { result ≡ words.same_kind kind other }
-{
-    match kind {
-        Kind::Number => match other {
-            Kind::Number => true,
-            Kind::Text => false,
-        },
-        Kind::Text => match other {
-            Kind::Number => false,
-            Kind::Text => true,
-        },
-    }
-}
-
-pub fn is_plain(class: Class) -> bool
-    ensures { result ≡ words.is_plain class }
-{
-    match class {
-        Class::Plain => true,
-        Class::Array | Class::Table | Class::Constant | Class::Date => false,
-    }
-}
-
-pub fn is_array(class: Class) -> bool
-    ensures { result ≡ words.is_array class }
-{
-    match class {
-        Class::Array => true,
-        Class::Plain | Class::Table | Class::Constant | Class::Date => false,
-    }
-}
-
-pub fn is_table(class: Class) -> bool
-    ensures { result ≡ words.is_table class }
-{
-    match class {
-        Class::Table => true,
-        Class::Plain | Class::Array | Class::Constant | Class::Date => false,
-    }
-}
-
-fn is_constant(class: Class) -> bool
-    ensures { result ≡ words.is_constant class }
-{
-    match class {
-        Class::Constant => true,
-        Class::Plain | Class::Array | Class::Table | Class::Date => false,
-    }
-}
-
-fn is_writable(class: Class) -> bool
-    ensures { result ≡ words.is_writable class }
-{
-    match class {
-        Class::Plain | Class::Array | Class::Table => true,
-        Class::Constant | Class::Date => false,
     }
 }
 

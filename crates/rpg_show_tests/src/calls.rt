@@ -1,10 +1,9 @@
 //! Calls of a store at any field and position: nothing is done where there is no such entry or the value doesn't fit it.
 ghost use Rattle.std.specs.Prelude.{◌≡◌, ◌≤◌, ◌<◌, ◌^◌, All, IfSome, IsTrue, unsigned_abs, length};
-ghost use Rattle.rpg_effect.specs.Forms as forms_of;
 ghost use Rattle.rpg_object_program.specs.Kept.{IsCharacter};
 ghost use Rattle.rpg_show_tests.specs.Ready.{HasEntry, HoldsForms};
 
-use rpg_effect::form::{Class, FieldForm, Kind};
+use rpg_effect::form::{FieldForm, Kind, is_table};
 use rpg_store::{Store, set_text};
 
 fn entry_form(forms: &[FieldForm], field: u16, position: u16) -> Option<FieldForm>
@@ -137,12 +136,6 @@ pub fn put_character<S: Store + Drop>(
 {
     put_text(store, forms, field, position, &[character; 256]);
     put_text(store, forms, field, position, &[character]);
-}
-
-fn is_table(class: Class) -> bool
-    ensures { result ≡ forms_of.is_table class }
-{
-    matches!(class, Class::Table)
 }
 
 /// The current entry of a table.

@@ -14,3 +14,4 @@ mod words;
 
 pub use least::{RULES, first_broken};
 pub use rule::{BrokenRule, LineRule, PlaceRule, Rule, SubroutineRule, TypeRule};
+pub use subroutines::is_return;

@@ -22,11 +22,11 @@ use crate::words::{edit_word_width, is_edit_word};
 use rpg_edit_marks::Fill;
 use rpg_edit_widths::{How, width};
 use rpg_effect::condition::Condition;
-use rpg_effect::form::{FieldForm, Kind};
+use rpg_effect::form::{FieldForm, Kind, same_kind};
 use rpg_effect::line::{Editing, File, LineField, Source, Spacing, fits_code, is_blank_fill};
 use rpg_object_program::columns::{has_entry, is_one_entry};
 use rpg_object_program::forms::{
-    decimals_of, form_at, is_index_form, is_text_constant, kind_of, length_of, may_write, same_kind,
+    decimals_of, form_at, is_index_form, is_text_constant, kind_of, length_of, may_write,
 };
 use rpg_object_program::row::{Line, Rows, Version};
 

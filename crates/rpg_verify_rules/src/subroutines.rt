@@ -57,7 +57,8 @@ fn first_bad_body(subroutines: &[Subroutine]) -> Option<usize>
     None
 }
 
-fn is_return(instruction: Instruction<u16>) -> bool
+/// Whether it is RET, which ends a subroutine.
+pub fn is_return(instruction: Instruction<u16>) -> bool
     ensures { result ≡ words.is_return instruction }
 {
     match instruction {

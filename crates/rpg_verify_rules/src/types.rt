@@ -12,10 +12,10 @@ ghost use Rattle.rpg_verify_rules.specs.declared.rule.Rule.TheVariants as rule_n
 use crate::indicators::{are_settable, is_of_type};
 use crate::matches::{are_matches, first_widths};
 use crate::rule::TypeRule;
-use rpg_effect::form::Kind;
+use rpg_effect::form::{Kind, is_plain};
 use rpg_effect::input::{ControlField, InputField, RecordCode};
 use rpg_effect::operation::Shows;
-use rpg_object_program::forms::{form_at, is_plain, kind_of};
+use rpg_object_program::forms::{form_at, kind_of};
 use rpg_object_program::row::{RecordType, Rows};
 
 /// The first record type that breaks a rule.
