@@ -1,5 +1,5 @@
 -- The instructions of calculations.
-use Rattle.std.specs.Prelude.{ℕ, suc, ◌+◌, ◌++◌, Bool, true, false, List, [], ◌∷◌, length, map, Option, None, Some, if◌then◌else◌}
+use Rattle.std.specs.Prelude.{ℕ, suc, ◌+◌, ◌++◌, true, false, List, [], ◌∷◌, length, map, Option, None, Some, if◌then◌else◌}
 use Rattle.rpg_effect.specs.declared.condition.Conditions.{Conditions}
 use Rattle.rpg_effect.specs.declared.operation.Instruction.{Instruction}
 use Rattle.rpg_effect.specs.declared.operation.Instruction.TheVariants as made

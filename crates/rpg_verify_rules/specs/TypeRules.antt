@@ -6,7 +6,6 @@ use Rattle.rpg_effect.specs.Forms.{form_at, kind_of}
 use Rattle.rpg_effect.specs.Input.{TypeRow, fits_columns, fits_shows}
 use Rattle.rpg_effect.specs.declared.input.ControlField.{ControlField}
 use Rattle.rpg_effect.specs.declared.input.InputField.{InputField}
-use Rattle.rpg_effect.specs.declared.input.InputFile.{InputFile}
 use Rattle.rpg_effect.specs.declared.input.RecordCode.{RecordCode}
 use Rattle.rpg_object_program.specs.Object.{Object, has_file, input_length}
 use Rattle.rpg_text.specs.Texts.{is_between}
