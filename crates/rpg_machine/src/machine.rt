@@ -147,9 +147,10 @@ impl<'a, S: Store + Drop> Machine<'a, S> {
         ensures ready { IfOk result (λ e. e ≡ End.GoesOn → IsReady self.new) }
     {
         self.program.is_orderly();
-        self.state.steps += u64::from(self.program.weight_of(time));
+        let weight = self.program.weight_of(time);
         let state = &mut self.state;
-        let end = put_out(&mut state.memory, &mut state.writer, time)?;
+        state.steps += u64::from(weight);
+        let end = put_out(&mut state.memory, &mut state.writer, time, weight)?;
         Ok(end)
     }
 

@@ -2,6 +2,7 @@
 ghost use Rattle.std.specs.Prelude.{◌≡◌, length, IfOk, OnOk};
 ghost use Rattle.rpg_effect.specs.Ends.{end_of};
 ghost use Rattle.rpg_machine.specs.Outputs as spec;
+ghost use Rattle.rpg_machine.specs.Outputs.{output_weight};
 ghost use Rattle.rpg_machine_lines.specs.Outputs.{PutsOwn};
 ghost use Rattle.rpg_machine_lines.specs.Ready.{IsNear};
 ghost use Rattle.rpg_machine_lines.specs.Right.{AreRightLines, HasLineRoom};
@@ -14,15 +15,17 @@ use rpg_store::memory::Memory;
 use rpg_store::store::Store;
 use std::alloc::AllocError;
 
-/// Puts out the lines of a time.
+/// Puts out the lines of a time, which weigh so much. Where no line is a T line, total time costs nothing.
 pub(crate) fn put_out<S: Store + Drop>(
     memory: &mut Memory<'_, S>,
     writer: &mut Writer,
     time: OutputTime,
+    weight: u32,
 ) -> Result<End, AllocError>
     requires lines { AreRightLines memory.old.program }
     requires near { IsNear memory.old.world.here }
     requires room { HasLineRoom memory.old.program writer.old.text.items }
+    requires weighed { weight ≡ output_weight memory.old.program time }
     ensures done { IfOk result (λ e. PutsOwn (λ p. spec.output_effect p time) memory.old writer.old.output (end_of e) memory.new writer.new.output) }
     ensures near { OnOk result (IsNear memory.new.world.here) }
     ensures own { memory.new.program ≡ memory.old.program }
@@ -33,6 +36,7 @@ pub(crate) fn put_out<S: Store + Drop>(
     let to_blank = &mut writer.to_blank;
     match time {
         OutputTime::Detail => put_details(memory, output, text, to_blank),
+        OutputTime::Total if weight == 0 => Ok(End::GoesOn),
         OutputTime::Total => put_totals(memory, output, text, to_blank),
         OutputTime::Overflow => put_overflow(memory, output, text, to_blank),
     }

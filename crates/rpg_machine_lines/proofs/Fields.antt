@@ -1,13 +1,15 @@
 -- Fields with nothing wrong.
-use Rattle.std.proofs.Common.{◌≡◌, ℕ, ◌≤◌, Bool, true, false, not, ◌&&◌, cond, nat_le, eqb, eqb-true, leb-true, List, ◌++◌, Option, None, Some, refl, ap, ◌∙◌, arith, length, drop, take, ◌-◌, ◌+◌, length-append, length-take-le}
+use Rattle.std.proofs.Common.{◌≡◌, ℕ, ℤ, ◌≤◌, Bool, true, false, not, ◌&&◌, cond, nat_le, eqb, eqb-true, leb-true, List, ◌++◌, Option, None, Some, refl, sym, ap, ◌∙◌, subst, arith, length, drop, take, ◌-◌, ◌+◌, length-append, length-take-le}
 use Rattle.std.proofs.lemmas.List.{take-take}
 use Rattle.rpg_edit_marks.specs.Code.{IsFitCode}
 use Rattle.rpg_edit_marks.specs.Edited.{places}
+use Rattle.rpg_edit_marks.specs.How.{edited, width_of}
 use Rattle.rpg_edit_marks.specs.Word.{has_dollar_at_stop, word_marks, IsWordFor}
 use Rattle.rpg_edit_marks.specs.declared.code.EditCode.{EditCode}
 use Rattle.rpg_edit_marks.specs.declared.code.EditCode.TheVariants as codes
 use Rattle.rpg_edit_marks.specs.declared.code.Fill.{Fill}
 use Rattle.rpg_edit_marks.specs.declared.code.Fill.TheVariants as fills
+use Rattle.rpg_edit_marks.specs.declared.how.How.{How}
 use Rattle.rpg_effect.specs.LineFaults.{field_fault, field_width, fits_code, fits_editing, fits_word, has_kinds, has_room, has_storage, has_word, is_blank_fill, may_change}
 use Rattle.rpg_effect.specs.Lines.{laid_over}
 use Rattle.rpg_effect.specs.Rows.{has_entry, is_one_entry}
@@ -80,5 +82,13 @@ laid_at_end text out part end width within fits same e =
     let lengths : length out ≡ length (take (end - width) text) + length part = ap length is ∙ length-append (take (end - width) text) part in
     let wide : end - width ≡ end - length part = omega (arith, lengths, shorter, same, whole, fits) in
     ap (λ xs. xs ++ drop end text) (is ∙ ap (λ n. take n text ++ part) wide)
+
+-- the text of a number that was written there is laid over the line
+pub number_at_end : (how same : How (List ℕ)) (n : ℤ) (len dec : ℕ) (text out : List ℕ) (end : ℕ) → how ≡ same → end ≤ length text → width_of len dec how ≤ end →
+    length out ≡ length (take end text) → out ≡ take (length (take end text) - width_of len dec same) (take end text) ++ edited n len dec same →
+    out ++ drop end text ≡ laid_over text end (edited n len dec how)
+number_at_end how same n len dec text out end is within fits alike e =
+    laid_at_end text out (edited n len dec how) end (width_of len dec how) within fits alike
+    (subst (λ h. out ≡ take (length (take end text) - width_of len dec h) (take end text) ++ edited n len dec h) (sym is) e)
 
 pub ruleset rightness = (right)

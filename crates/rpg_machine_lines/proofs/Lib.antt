@@ -10,3 +10,4 @@ pub mod OneLine
 pub mod Operands
 pub mod Passages
 pub mod Weighing
+pub mod Weightless

@@ -1,20 +1,18 @@
 //! Fields of lines: how they are edited, their text in the line, PAGE, and blank after.
 ghost use Rattle.std.specs.Prelude.{◌≡◌, ◌≤◌, ◌<◌, ◌^◌, length, unsigned_abs, replicate, true};
-ghost use Rattle.rpg_edit_marks.specs.How.{edited, width_of, IsFit};
-ghost use Rattle.rpg_effect.specs.Editing as edits;
+ghost use Rattle.rpg_edit_marks.specs.How.{edited, width_of};
 ghost use Rattle.rpg_effect.specs.Forms as forms;
 ghost use Rattle.rpg_effect.specs.LineFaults as faults;
 ghost use Rattle.rpg_effect.specs.Lines as lines;
-ghost use Rattle.rpg_machine_lines.specs.Drafts.{counted_in, field_text_in, fields_replaced};
+ghost use Rattle.rpg_machine_lines.specs.Drafts.{counted_in, field_text_in, fields_replaced, how_in};
 ghost use Rattle.rpg_machine_lines.specs.Entries.{AreFieldEntries, IsEditableForm, IsFieldEntry};
 ghost use Rattle.rpg_machine_lines.specs.Right.{FitsEditing, IsRightField};
 ghost use Rattle.rpg_object_program.specs.Constants as constants;
 ghost use Rattle.rpg_object_program.specs.Object.{seen};
 ghost use Rattle.rpg_store.specs.Memory.{forms_in};
 
-use rpg_edit::edit_at_end;
-use rpg_edit_marks::Fill;
-use rpg_edit_widths::{EditWord, How};
+use rpg_edit::{write_coded, write_plain, write_worded};
+use rpg_edit_widths::EditWord;
 use rpg_effect::form::{FieldForm, Kind};
 use rpg_effect::line::{Editing, LineField, Source};
 use rpg_object_program::forms::{form_at, kind_of};
@@ -23,36 +21,35 @@ use rpg_object_program::words::word_at;
 use rpg_store::memory::Memory;
 use rpg_store::store::Store;
 
-/// How a number field is edited.
+/// The word that a number of so many digits is edited by.
 #[tactic(auto, using(crate::proofs::Fields::fitting))]
-fn how_of(rows: &Rows, form: FieldForm, editing: Editing<u16>, fill: Fill) -> How
-    requires numeric { IsEditableForm form }
-    requires fits { FitsEditing (seen rows.now) form editing fill }
-    ensures how { result ≡ edits.how_of (constants.word_at (seen rows.now)) editing fill }
-    ensures fit { IsFit form.length form.decimals result }
+fn edit_word(rows: &Rows, constant: u16, digits: u8) -> EditWord
+    requires constant { forms.is_text_constant (forms.form_at (seen rows.now).fields constant) ≡ true }
+    requires fits { faults.fits_word digits (constants.word_at (seen rows.now) constant) ≡ true }
+    ensures { result ≡ constants.word_at (seen rows.now) constant }
 {
-    match editing {
-        Editing::Plain => How::Plain,
-        Editing::Code(code) => How::Code { code, fill },
-        Editing::Word(constant) => {
-            match EditWord::parse(word_at(rows, constant), form.length as u8) {
-                Ok(word) => How::Word(word),
-                Err(_) => unreachable!(),
-            }
-        }
+    match EditWord::parse(word_at(rows, constant), digits) {
+        Ok(word) => word,
+        Err(_) => unreachable!(),
     }
 }
 
-/// Lays a number over the line, ending at that place.
-fn lay_number(text: &mut [u8], end: u16, n: i64, form: FieldForm, how: &How)
+/// Lays a number over the line, edited as its field wants it.
+fn lay_number(rows: &Rows, text: &mut [u8], field: &LineField<u16>, form: FieldForm, n: i64)
     requires numeric { IsEditableForm form }
     requires fits { unsigned_abs n < 10 ^ form.length }
-    requires width { width_of form.length form.decimals how.now ≤ end }
-    requires end { end ≤ length text.old }
-    ensures text { text.new ≡ lines.laid_over text.old end (edited n form.length form.decimals how.now) }
+    requires editing { FitsEditing (seen rows.now) form field.now.editing field.now.fill }
+    requires width { width_of form.length form.decimals (how_in (seen rows.now) field.now) ≤ field.now.end }
+    requires end { field.now.end ≤ length text.old }
+    ensures text { text.new ≡ lines.laid_over text.old field.now.end (edited n form.length form.decimals (how_in (seen rows.now) field.now)) }
 {
-    let line = &mut text[..end as usize];
-    edit_at_end(n, form.length as u8, form.decimals, how, line);
+    let line = &mut text[..field.end as usize];
+    let digits = form.length as u8;
+    let _start = match field.editing {
+        Editing::Plain => write_plain(n, digits, line),
+        Editing::Code(code) => write_coded(n, digits, form.decimals, code, field.fill, line),
+        Editing::Word(word) => write_worded(n, &edit_word(rows, word, digits), line),
+    };
 }
 
 /// Lays a text over the line, ending at that place.
@@ -85,8 +82,8 @@ pub fn lay_value<S: Store + Drop>(
     let Some(form) = form else { unreachable!() };
     match form.kind {
         Kind::Number => {
-            let how = how_of(memory.rows(), form, field.editing, field.fill);
-            lay_number(text, field.end, memory.number(number, entry), form, &how);
+            let n = memory.number(number, entry);
+            lay_number(memory.rows(), text, field, form, n);
         }
         Kind::Text => lay_text(text, field.end, memory.text(number, entry)),
     }
