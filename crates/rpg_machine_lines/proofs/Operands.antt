@@ -2,20 +2,19 @@
 use Rattle.std.proofs.Common.{◌≡◌, ℕ, zero, suc, ℤ, pos, negsuc, ◌≤◌, All, Bool, true, false, not, ◌&&◌, ◌||◌, cond, nat_le, List, Option, None, Some, refl, sym, ap, ◌∙◌, subst, arith, leb-true, IfSome, nat_cmp}
 use Rattle.std.proofs.lemmas.Option.{cond_some, get_or_from_slice_get, same_Some, slice_get_within}
 use Rattle.rpg_effect.specs.Entries.{in_range, position_by, position_of}
-use Rattle.rpg_effect.specs.Forms.{entries_of, form_at, is_array, is_index_form, is_table_form, kind_of}
+use Rattle.rpg_effect.specs.Forms.{entries_of, form_at, is_array, is_table_form, kind_of}
 use Rattle.rpg_effect.specs.Rows.{has_entry, has_index, has_operand, is_one, is_one_entry, is_shaped}
 use Rattle.rpg_effect.specs.Values.{number_of}
 use Rattle.rpg_effect.specs.World.{Fields, current_in, value_in}
 use Rattle.rpg_effect.specs.declared.form.FieldForm.{FieldForm}
 use Rattle.rpg_effect.specs.declared.form.Kind.{Kind}
-use Rattle.rpg_effect.specs.declared.form.Kind.TheVariants as kinds
 use Rattle.rpg_effect.specs.declared.operation.Index.{Index}
 use Rattle.rpg_effect.specs.declared.operation.Index.TheVariants as indexed
 use Rattle.rpg_effect.specs.declared.operation.Operand.{Operand}
 use Rattle.rpg_effect.specs.declared.row.Shape.TheVariants as shapes
 use Rattle.rpg_machine_lines.specs.Entries.{IsFieldEntry}
 use Rattle.rpg_object_program.specs.Kept.{IsFieldRow}
-use Rattle.rpg_store.proofs.Entries.{and_true, index_value}
+use Rattle.rpg_store.proofs.Entries.{and_true}
 use Rattle.rpg_store.specs.Fields.{AreForms, IsValue}
 use Rattle.rpg_store.specs.Fits.{Fits, HasForm}
 
@@ -107,18 +106,5 @@ pub ruleset entries = (entry_named)
 -- an entry of a field of that kind
 pub as_value : (forms : List FieldForm) (k : Kind) (f e : ℕ) → IsFieldEntry forms f e → kind_of (form_at forms f) ≡ k → IsValue forms k f e
 as_value forms k f e i is = record { form = i.form; there = i.there; kind = ap kind_of (sym i.there) ∙ is; low = i.low; high = i.high }
-
-index_there : (forms : List FieldForm) (form : Option FieldForm) (index : Index ℕ) (k : ℕ) → AreForms forms → is_shaped (form_at forms) form shapes.One index ≡ true →
-    index ≡ indexed.Field k → IsValue forms kinds.Number k 1
-index_there forms None index k good h is = cc
-index_there forms (Some d) index k good h is =
-    index_value forms k good (and_true _ (is_index_form (form_at forms k)) (ap (is_one (form_at forms) d) (sym is) ∙ h)).1
-
--- an index field has a number
-pub index_number : (forms : List FieldForm) (o : Operand ℕ) (k : ℕ) → AreForms forms → is_one_entry (form_at forms) o ≡ true →
-    o.index ≡ indexed.Field k → IsValue forms kinds.Number k 1
-index_number forms o k good h is = index_there forms (form_at forms o.field) o.index k good h is
-
-pub ruleset indexes = (index_number)
 
 pub ruleset values = (as_value)
