@@ -3,15 +3,20 @@ ghost use Rattle.std.specs.Prelude.{◌≡◌, ◌≢◌, ◌<◌, ◌≤◌, �
 ghost use Rattle.rpg_decimal_words.specs.Fraction.{stored_number};
 ghost use Rattle.rpg_decimal.specs.Num.{value_of};
 ghost use Rattle.rpg_effect.specs.Act as acts;
+ghost use Rattle.rpg_effect.specs.Ends.{end_of};
 ghost use Rattle.rpg_effect.specs.Forms.{length_of};
 ghost use Rattle.rpg_effect.specs.World.{number_at};
 ghost use Rattle.rpg_effect.specs.declared.form.Kind.TheVariants as kinds;
+ghost use Rattle.rpg_effect.specs.declared.operation.Action.TheVariants as actions;
 ghost use Rattle.rpg_store.specs.Fields.{IsValue};
 ghost use Rattle.rpg_store.specs.Memory.{NamesNumber, forms_in, rest_value};
-ghost use Rattle.rpg_machine_operations.specs.Words.{FitsResult, assigned_in, computed_in, quotient_in, stored_value_in, with_remainder_of};
+ghost use Rattle.rpg_machine_operations.specs.Words.{DidEffect, DidOperate, FitsResult, IsNumberOperand, act_in, assigned_in, computed_in, quotient_in, stored_value_in, with_remainder_of};
 
+use crate::resolving::number_named;
 use rpg_decimal::{Num, Rest, Scale, Target, add, div, keep, mult, remainder, sub};
-use rpg_effect::operation::{Entry, Operator, Shows};
+use rpg_effect::halt::Halt;
+use rpg_effect::operation::{Entry, Operand, Operator, Shows};
+use rpg_effect::outcome::End;
 use rpg_store::memory::Memory;
 use rpg_store::numbers::{number_at, target_of};
 use rpg_store::resolved::Resolved;
@@ -40,7 +45,7 @@ fn operated(operator: Operator, a: Num, b: Num, target: Target) -> i64
 }
 
 /// The result of ADD, SUB and MULT.
-pub fn computed<S: Store + Drop>(
+fn computed<S: Store + Drop>(
     memory: &Memory<'_, S>,
     operator: Operator,
     half: bool,
@@ -60,7 +65,7 @@ pub fn computed<S: Store + Drop>(
 }
 
 /// The result of Z-ADD and Z-SUB.
-pub fn assigned<S: Store + Drop>(
+fn assigned<S: Store + Drop>(
     memory: &Memory<'_, S>,
     is_negated: bool,
     half: bool,
@@ -115,8 +120,8 @@ fn left_after(before: Rest, half: bool, a: Num, b: Num, dec: u8) -> Rest
     if half { before } else { left_over(a, b, dec) }
 }
 
-/// Divides: the quotient as the result field keeps it, and the remainder kept. None by a zero divisor.
-pub fn divide<S: Store + Drop>(
+/// A quotient as the result field keeps it; the remainder is kept. None by a zero divisor.
+fn divided<S: Store + Drop>(
     memory: &mut Memory<'_, S>,
     half: bool,
     factor1: Resolved,
@@ -145,11 +150,117 @@ pub fn divide<S: Store + Drop>(
 }
 
 /// The result of MVR: what the last division left.
-pub fn kept_remainder<S: Store + Drop>(memory: &Memory<'_, S>, to: Resolved) -> i64
+fn kept_remainder<S: Store + Drop>(memory: &Memory<'_, S>, to: Resolved) -> i64
     requires { NamesNumber memory.now to }
     ensures value { result ≡ stored_value_in memory.now false to memory.now.world.remainder }
     ensures length { FitsResult memory.now to result }
 {
     let rest = memory.remainder();
     keep(rest.value, rest.dec, target_of(memory, to, false))
+}
+
+/// ADD, SUB and MULT. None where an index is out of range.
+#[tactic(auto, unfolding(rpg_effect::specs::Act::act, rpg_effect::specs::Operate::has_entries, rpg_effect::specs::Operate::operate, rpg_effect::specs::Operate::resolved, rpg_effect::specs::Rows::row_of))]
+pub fn compute<S: Store + Drop>(
+    memory: &mut Memory<'_, S>,
+    operator: Operator,
+    half: bool,
+    factor1: &Operand<u16>,
+    factor2: &Operand<u16>,
+    to: &Operand<u16>,
+    shows: Shows,
+) -> Option<End>
+    requires factor1 { IsNumberOperand memory.old factor1.now }
+    requires factor2 { IsNumberOperand memory.old factor2.now }
+    requires to { IsNumberOperand memory.old to.now }
+    ensures { DidOperate (actions.Compute operator half factor1.now factor2.now to.now shows) memory.old result memory.new }
+{
+    let factor1 = number_named(memory, factor1)?;
+    let factor2 = number_named(memory, factor2)?;
+    let to = number_named(memory, to)?;
+    let n = computed(memory, operator, half, factor1, factor2, to);
+    store(memory, to.entry, shows, n);
+    Some(End::GoesOn)
+}
+
+/// Divides, stores the quotient and keeps the remainder. A zero divisor is halt 1.
+#[tactic(auto, unfolding(rpg_effect::specs::Act::act))]
+fn divide_numbers<S: Store + Drop>(
+    memory: &mut Memory<'_, S>,
+    half: bool,
+    factor1: Resolved,
+    factor2: Resolved,
+    to: Resolved,
+    shows: Shows,
+) -> End
+    requires factor1 { NamesNumber memory.old factor1 }
+    requires factor2 { NamesNumber memory.old factor2 }
+    requires to { NamesNumber memory.old to }
+    ensures { DidEffect (act_in memory.old (actions.Divide half factor1 factor2 to shows)) memory.old (end_of result) memory.new }
+{
+    match divided(memory, half, factor1, factor2, to) {
+        None => End::Halt(Halt::ZeroDivisor),
+        Some(quotient) => {
+            store(memory, to.entry, shows, quotient);
+            End::GoesOn
+        }
+    }
+}
+
+/// DIV. None where an index is out of range.
+#[tactic(auto, unfolding(rpg_effect::specs::Act::act, rpg_effect::specs::Operate::has_entries, rpg_effect::specs::Operate::operate, rpg_effect::specs::Operate::resolved, rpg_effect::specs::Rows::row_of))]
+pub fn divide<S: Store + Drop>(
+    memory: &mut Memory<'_, S>,
+    half: bool,
+    factor1: &Operand<u16>,
+    factor2: &Operand<u16>,
+    to: &Operand<u16>,
+    shows: Shows,
+) -> Option<End>
+    requires factor1 { IsNumberOperand memory.old factor1.now }
+    requires factor2 { IsNumberOperand memory.old factor2.now }
+    requires to { IsNumberOperand memory.old to.now }
+    ensures { DidOperate (actions.Divide half factor1.now factor2.now to.now shows) memory.old result memory.new }
+{
+    let factor1 = number_named(memory, factor1)?;
+    let factor2 = number_named(memory, factor2)?;
+    let to = number_named(memory, to)?;
+    Some(divide_numbers(memory, half, factor1, factor2, to, shows))
+}
+
+/// Z-ADD and Z-SUB. None where an index is out of range.
+#[tactic(auto, unfolding(rpg_effect::specs::Act::act, rpg_effect::specs::Operate::has_entries, rpg_effect::specs::Operate::operate, rpg_effect::specs::Operate::resolved, rpg_effect::specs::Rows::row_of))]
+pub fn assign<S: Store + Drop>(
+    memory: &mut Memory<'_, S>,
+    is_negated: bool,
+    half: bool,
+    factor2: &Operand<u16>,
+    to: &Operand<u16>,
+    shows: Shows,
+) -> Option<End>
+    requires factor2 { IsNumberOperand memory.old factor2.now }
+    requires to { IsNumberOperand memory.old to.now }
+    ensures { DidOperate (actions.Assign is_negated half factor2.now to.now shows) memory.old result memory.new }
+{
+    let factor2 = number_named(memory, factor2)?;
+    let to = number_named(memory, to)?;
+    let n = assigned(memory, is_negated, half, factor2, to);
+    store(memory, to.entry, shows, n);
+    Some(End::GoesOn)
+}
+
+/// MVR. None where an index is out of range.
+#[tactic(auto, unfolding(rpg_effect::specs::Act::act, rpg_effect::specs::Operate::has_entries, rpg_effect::specs::Operate::operate, rpg_effect::specs::Operate::resolved, rpg_effect::specs::Rows::row_of))]
+pub fn take_remainder<S: Store + Drop>(
+    memory: &mut Memory<'_, S>,
+    to: &Operand<u16>,
+    shows: Shows,
+) -> Option<End>
+    requires { IsNumberOperand memory.old to.now }
+    ensures { DidOperate (actions.TakeRemainder to.now shows) memory.old result memory.new }
+{
+    let to = number_named(memory, to)?;
+    let n = kept_remainder(memory, to);
+    store(memory, to.entry, shows, n);
+    Some(End::GoesOn)
 }

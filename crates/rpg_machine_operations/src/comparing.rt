@@ -1,10 +1,15 @@
-//! How entries stand to each other.
+//! How entries stand to each other, and COMP.
 ghost use Rattle.std.specs.Prelude.{◌≡◌};
+ghost use Rattle.rpg_effect.specs.declared.operation.Action.TheVariants as actions;
 ghost use Rattle.rpg_store.specs.Fields.{IsResolved};
-ghost use Rattle.rpg_machine_operations.specs.Words.{order_in};
+ghost use Rattle.rpg_store.specs.Memory.{NamesLike};
+ghost use Rattle.rpg_machine_operations.specs.Words.{DidOperate, IsLikeOperand, compared_in, order_in};
 
+use crate::resolving::entry_named;
 use rpg_decimal::{compare, compare_text};
 use rpg_effect::form::Kind;
+use rpg_effect::operation::{Operand, Shows};
+use rpg_effect::outcome::End;
 use rpg_store::memory::Memory;
 use rpg_store::numbers::number_at;
 use rpg_store::resolved::Resolved;
@@ -29,4 +34,37 @@ pub fn compared<S: Store + Drop>(
             memory.text(b.entry.field, b.entry.position),
         ),
     }
+}
+
+/// The indicators show how factor 1 stands to factor 2.
+fn show_order<S: Store + Drop>(
+    memory: &mut Memory<'_, S>,
+    factor1: Resolved,
+    factor2: Resolved,
+    shows: Shows,
+)
+    requires factor1 { NamesLike memory.old factor1 factor1 }
+    requires factor2 { NamesLike memory.old factor1 factor2 }
+    ensures { memory.new ≡ record memory.old { world = compared_in memory.old factor1 factor2 shows } }
+{
+    let order = compared(memory, factor1.form.kind, factor1, factor2);
+    memory.show(shows, order);
+}
+
+/// COMP. None where an index is out of range.
+#[tactic(auto, unfolding(rpg_effect::specs::Act::act, rpg_effect::specs::Operate::has_entries, rpg_effect::specs::Operate::operate, rpg_effect::specs::Operate::resolved, rpg_effect::specs::Rows::row_of))]
+pub fn compare_entries<S: Store + Drop>(
+    memory: &mut Memory<'_, S>,
+    factor1: &Operand<u16>,
+    factor2: &Operand<u16>,
+    shows: Shows,
+) -> Option<End>
+    requires factor1 { IsLikeOperand memory.old factor1.now factor1.now }
+    requires factor2 { IsLikeOperand memory.old factor1.now factor2.now }
+    ensures { DidOperate (actions.Compare factor1.now factor2.now shows) memory.old result memory.new }
+{
+    let factor1 = entry_named(memory, factor1)?;
+    let factor2 = entry_named(memory, factor2)?;
+    show_order(memory, factor1, factor2, shows);
+    Some(End::GoesOn)
 }

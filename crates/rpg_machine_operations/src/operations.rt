@@ -4,23 +4,21 @@ ghost use Rattle.rpg_effect.specs.Ends.{end_of};
 ghost use Rattle.rpg_effect.specs.Forms.{form_at};
 ghost use Rattle.rpg_effect.specs.Rows as rows_of;
 ghost use Rattle.rpg_effect.specs.Weights as weights;
-ghost use Rattle.rpg_store.specs.Memory.{NamesLike};
-ghost use Rattle.rpg_machine_operations.specs.Good.{AreResolved, IsRightAction};
-ghost use Rattle.rpg_machine_operations.specs.Words.{DidEffect, act_in, compared_in, operate_in};
+ghost use Rattle.rpg_effect.specs.declared.operation.Action.TheVariants as actions;
+ghost use Rattle.rpg_machine_operations.specs.Good.{IsRightAction};
+ghost use Rattle.rpg_machine_operations.specs.Words.{DidEffect, DidOperate, operate_in};
 
-use crate::arithmetic::{assigned, computed, divide, kept_remainder, store};
-use crate::comparing::compared;
+use crate::arithmetic::{assign, compute, divide, take_remainder};
+use crate::comparing::compare_entries;
 use crate::places::move_places;
-use crate::resolving::resolved;
 use crate::searching::look_up;
-use crate::summing::summed;
+use crate::summing::cross_foot;
 use rpg_effect::halt::Halt;
 use rpg_effect::operation::{Action, Operand, Shows};
 use rpg_effect::outcome::End;
 use rpg_object_program::forms::{entries_of, form_at};
 use rpg_object_program::row::Rows;
 use rpg_store::memory::Memory;
-use rpg_store::resolved::Resolved;
 use rpg_store::store::Store;
 
 /// The weight of an operation: one, and the entries that XFOOT and LOKUP go through.
@@ -42,26 +40,26 @@ pub fn weight(rows: &Rows, action: &Action<Operand<u16>>) -> u32
     }
 }
 
-/// COMP.
-fn compare<S: Store + Drop>(
+/// SETON and SETOF.
+#[tactic(auto, unfolding(rpg_effect::specs::Act::act, rpg_effect::specs::Operate::has_entries, rpg_effect::specs::Operate::operate, rpg_effect::specs::Operate::resolved, rpg_effect::specs::Rows::row_of))]
+fn set_indicators<S: Store + Drop>(
     memory: &mut Memory<'_, S>,
-    factor1: Resolved,
-    factor2: Resolved,
-    shows: Shows,
-)
-    requires factor1 { NamesLike memory.old factor1 factor1 }
-    requires factor2 { NamesLike memory.old factor1 factor2 }
-    ensures { memory.new ≡ record memory.old { world = compared_in memory.old factor1 factor2 shows } }
+    is_on: bool,
+    named: Shows,
+) -> Option<End>
+    ensures { DidOperate (actions.SetIndicators is_on named) memory.old result memory.new }
 {
-    let order = compared(memory, factor1.form.kind, factor1, factor2);
-    memory.show(shows, order);
+    memory.set_indicators(is_on, named);
+    Some(End::GoesOn)
 }
 
-/// Does an operation on entries.
-#[tactic(auto, unfolding(rpg_effect::specs::Act::act))]
-pub fn act<S: Store + Drop>(memory: &mut Memory<'_, S>, action: Action<Resolved>) -> End
-    requires entries { AreResolved memory.old.program.fields action }
-    ensures { DidEffect (act_in memory.old action) memory.old (end_of result) memory.new }
+/// Does an operation of a right program. None where an index is out of range.
+fn operate_in_range<S: Store + Drop>(
+    memory: &mut Memory<'_, S>,
+    action: &Action<Operand<u16>>,
+) -> Option<End>
+    requires right { IsRightAction memory.old.program.fields action.now }
+    ensures { DidOperate action.now memory.old result memory.new }
 {
     match action {
         Action::Compute {
@@ -71,84 +69,55 @@ pub fn act<S: Store + Drop>(memory: &mut Memory<'_, S>, action: Action<Resolved>
             factor2,
             result: to,
             shows,
-        } => {
-            let n = computed(memory, operator, half, factor1, factor2, to);
-            store(memory, to.entry, shows, n);
-            End::GoesOn
-        }
+        } => compute(memory, *operator, *half, factor1, factor2, to, *shows),
         Action::Divide {
             half,
             factor1,
             factor2,
             result: to,
             shows,
-        } => match divide(memory, half, factor1, factor2, to) {
-            None => End::Halt(Halt::ZeroDivisor),
-            Some(quotient) => {
-                store(memory, to.entry, shows, quotient);
-                End::GoesOn
-            }
-        },
+        } => divide(memory, *half, factor1, factor2, to, *shows),
         Action::Assign {
             is_negated,
             half,
             factor2,
             result: to,
             shows,
-        } => {
-            let n = assigned(memory, is_negated, half, factor2, to);
-            store(memory, to.entry, shows, n);
-            End::GoesOn
-        }
-        Action::TakeRemainder { result: to, shows } => {
-            let n = kept_remainder(memory, to);
-            store(memory, to.entry, shows, n);
-            End::GoesOn
-        }
+        } => assign(memory, *is_negated, *half, factor2, to, *shows),
+        Action::TakeRemainder { result: to, shows } => take_remainder(memory, to, *shows),
         Action::CrossFoot {
             half,
             factor2,
             result: to,
             shows,
-        } => {
-            let n = summed(memory, half, factor2, to);
-            store(memory, to.entry, shows, n);
-            End::GoesOn
-        }
+        } => cross_foot(memory, *half, factor2, to, *shows),
         Action::Compare {
             factor1,
             factor2,
             shows,
-        } => {
-            compare(memory, factor1, factor2, shows);
-            End::GoesOn
-        }
+        } => compare_entries(memory, factor1, factor2, *shows),
         Action::LookUp {
             factor1,
             factor2,
             result: to,
             shows,
-        } => look_up(memory, factor1, factor2, to, shows),
+        } => look_up(memory, factor1, factor2, to, *shows),
         Action::Move {
             side,
             factor2,
             result: to,
-        } => move_places(memory, side, factor2, to),
-        Action::SetIndicators { is_on, named } => {
-            memory.set_indicators(is_on, named);
-            End::GoesOn
-        }
+        } => move_places(memory, *side, factor2, to),
+        Action::SetIndicators { is_on, named } => set_indicators(memory, *is_on, *named),
     }
 }
 
 /// Does an operation of a right program: halt 2 where an index is out of range.
-#[tactic(auto, unfolding(rpg_effect::specs::Operate::operate))]
 pub fn operate<S: Store + Drop>(memory: &mut Memory<'_, S>, action: &Action<Operand<u16>>) -> End
     requires right { IsRightAction memory.old.program.fields action.now }
     ensures { DidEffect (operate_in memory.old action.now) memory.old (end_of result) memory.new }
 {
-    match resolved(memory, action) {
+    match operate_in_range(memory, action) {
         None => End::Halt(Halt::BadIndex),
-        Some(action) => act(memory, action),
+        Some(end) => end,
     }
 }

@@ -6,15 +6,17 @@ ghost use Rattle.rpg_effect.specs.Ends.{end_of, GoesOn};
 ghost use Rattle.rpg_effect.specs.Forms.{length_of};
 ghost use Rattle.rpg_effect.specs.World.{number_at};
 ghost use Rattle.rpg_effect.specs.declared.form.Kind.TheVariants as kinds;
+ghost use Rattle.rpg_effect.specs.declared.operation.Action.TheVariants as actions;
 ghost use Rattle.rpg_effect.specs.declared.operation.Side.TheVariants as sides;
 ghost use Rattle.rpg_store.specs.Memory.{NamesLike, NamesNumber, NamesText, forms_in};
-ghost use Rattle.rpg_machine_operations.specs.Words.{DidEffect, FitsResult, kind_in, moved_in, number_moved, number_after_in, source_in};
+ghost use Rattle.rpg_machine_operations.specs.Words.{DidEffect, DidOperate, FitsResult, IsLikeOperand, kind_in, moved_in, number_moved, number_after_in, source_in};
 ghost use Rattle.rpg_object_program.specs.Kept.{IsCharacter};
 
+use crate::resolving::entry_named;
 use rpg_decimal::{Figure, Source, move_left, move_left_text, move_right, move_right_text};
 use rpg_effect::form::Kind;
 use rpg_effect::halt::Halt;
-use rpg_effect::operation::Side;
+use rpg_effect::operation::{Operand, Side};
 use rpg_effect::outcome::End;
 use rpg_store::memory::Memory;
 use rpg_store::resolved::Resolved;
@@ -119,8 +121,8 @@ fn move_to_text<S: Store + Drop>(
     memory.set_text(to.entry.field, to.entry.position, text);
 }
 
-/// Moves factor 2 to the result field.
-pub fn move_places<S: Store + Drop>(
+/// Puts factor 2 over an entry.
+fn move_to_entry<S: Store + Drop>(
     memory: &mut Memory<'_, S>,
     side: Side,
     factor2: Resolved,
@@ -137,4 +139,21 @@ pub fn move_places<S: Store + Drop>(
             End::GoesOn
         }
     }
+}
+
+/// MOVE and MOVEL. None where an index is out of range.
+#[tactic(auto, unfolding(rpg_effect::specs::Act::act, rpg_effect::specs::Operate::has_entries, rpg_effect::specs::Operate::operate, rpg_effect::specs::Operate::resolved, rpg_effect::specs::Rows::row_of))]
+pub fn move_places<S: Store + Drop>(
+    memory: &mut Memory<'_, S>,
+    side: Side,
+    factor2: &Operand<u16>,
+    to: &Operand<u16>,
+) -> Option<End>
+    requires factor2 { IsLikeOperand memory.old factor2.now factor2.now }
+    requires to { IsLikeOperand memory.old to.now to.now }
+    ensures { DidOperate (actions.Move side factor2.now to.now) memory.old result memory.new }
+{
+    let factor2 = entry_named(memory, factor2)?;
+    let to = entry_named(memory, to)?;
+    Some(move_to_entry(memory, side, factor2, to))
 }

@@ -6,14 +6,16 @@ ghost use Rattle.rpg_effect.specs.Ends.{end_of};
 ghost use Rattle.rpg_effect.specs.Forms as forms_of;
 ghost use Rattle.rpg_effect.specs.Rows as rows_of;
 ghost use Rattle.rpg_effect.specs.Search as of;
+ghost use Rattle.rpg_effect.specs.declared.operation.Action.TheVariants as actions;
 ghost use Rattle.rpg_effect.specs.declared.operation.Found.{Found};
-ghost use Rattle.rpg_store.specs.Fields.{reads_index};
+ghost use Rattle.rpg_store.specs.Fields.{CanBeResolved, reads_index};
 ghost use Rattle.rpg_store.specs.Memory.{NamesLike, forms_in};
-ghost use Rattle.rpg_machine_operations.specs.Good.{FitsPosition, HasPosition};
-ghost use Rattle.rpg_machine_operations.specs.Words.{DidEffect, HoldsPositions, current_made, current_made_if_any, field_in, found_by, found_put, looked_up_in, nearest_by, orders_in};
+ghost use Rattle.rpg_machine_operations.specs.Good.{FitsPosition, HasPosition, written_operand};
+ghost use Rattle.rpg_machine_operations.specs.Words.{DidEffect, DidOperate, HoldsPositions, IsLikeOperand, current_made, current_made_if_any, field_in, found_by, found_put, looked_up_in, nearest_by, operand_field, orders_in};
 
 use crate::comparing::compared;
-use rpg_effect::operation::{Entry, Found, Index, Shows};
+use crate::resolving::{entry_named, table_named};
+use rpg_effect::operation::{Entry, Found, Index, Operand, Shows};
 use rpg_effect::outcome::End;
 use rpg_object_program::forms::{form_at, is_table_form};
 use rpg_store::memory::Memory;
@@ -279,9 +281,9 @@ fn order_of(found: Option<Found>) -> Option<Ordering>
     }
 }
 
-/// LOKUP: searches factor 1 among the entries of factor 2, puts the position where it goes, and shows what was found.
+/// Searches factor 1 among the entries of factor 2, puts the position where it goes, and shows what was found.
 #[tactic(auto, unfolding(rpg_effect::specs::Act::looked_up), using(crate::proofs::Finding::found_fits, crate::proofs::Finding::no_position_fault))]
-pub fn look_up<S: Store + Drop>(
+fn search_and_place<S: Store + Drop>(
     memory: &mut Memory<'_, S>,
     factor1: Resolved,
     factor2: Resolved,
@@ -291,11 +293,32 @@ pub fn look_up<S: Store + Drop>(
     requires factor1 { NamesLike memory.old factor1 factor1 }
     requires factor2 { NamesLike memory.old factor1 factor2 }
     requires reads { reads_index memory.old.program.fields factor2.entry.index ≡ true }
-    requires positions { HoldsPositions memory.old factor2 to }
+    requires positions { HoldsPositions memory.old (written_operand factor2.entry) (field_in to) }
     ensures { DidEffect (looked_up_in memory.old factor1 factor2 to shows) memory.old (end_of result) memory.new }
 {
     let found = search(memory, factor1, factor2, shows);
     place(memory, factor2.entry, field_of(to), found);
     memory.show_if_any(shows, order_of(found));
     End::GoesOn
+}
+
+/// LOKUP. None where an index is out of range.
+#[tactic(auto, unfolding(rpg_effect::specs::Act::act, rpg_effect::specs::Operate::has_entries, rpg_effect::specs::Operate::operate, rpg_effect::specs::Operate::resolved, rpg_effect::specs::Rows::row_of))]
+pub fn look_up<S: Store + Drop>(
+    memory: &mut Memory<'_, S>,
+    factor1: &Operand<u16>,
+    factor2: &Operand<u16>,
+    to: &Option<Operand<u16>>,
+    shows: Shows,
+) -> Option<End>
+    requires factor1 { IsLikeOperand memory.old factor1.now factor1.now }
+    requires factor2 { IsLikeOperand memory.old factor1.now factor2.now }
+    requires table { IfSome to.now (λ o. CanBeResolved memory.old.program.fields o) }
+    requires positions { HoldsPositions memory.old factor2.now (operand_field to.now) }
+    ensures { DidOperate (actions.LookUp factor1.now factor2.now to.now shows) memory.old result memory.new }
+{
+    let factor1 = entry_named(memory, factor1)?;
+    let factor2 = entry_named(memory, factor2)?;
+    let to = table_named(memory, to)?;
+    Some(search_and_place(memory, factor1, factor2, to, shows))
 }

@@ -1,9 +1,14 @@
 //! XFOOT.
 ghost use Rattle.std.specs.Prelude.{◌≡◌, ◌<◌, ◌^◌, ◌+ℤ◌, unsigned_abs};
+ghost use Rattle.rpg_effect.specs.declared.operation.Action.TheVariants as actions;
 ghost use Rattle.rpg_store.specs.Memory.{NamesNumber};
-ghost use Rattle.rpg_machine_operations.specs.Words.{FitsResult, summed_in, total_in};
+ghost use Rattle.rpg_machine_operations.specs.Words.{DidOperate, FitsResult, IsNumberOperand, summed_in, total_in};
 
+use crate::arithmetic::store;
+use crate::resolving::number_named;
 use rpg_decimal::{Scale, keep};
+use rpg_effect::operation::{Operand, Shows};
+use rpg_effect::outcome::End;
 use rpg_store::memory::Memory;
 use rpg_store::numbers::target_of;
 use rpg_store::resolved::Resolved;
@@ -35,7 +40,7 @@ fn sum<S: Store + Drop>(memory: &Memory<'_, S>, array: Resolved) -> i128
 
 /// The result of XFOOT.
 #[tactic(auto, using(rpg_store::proofs::Values::numbers))]
-pub fn summed<S: Store + Drop>(
+fn summed<S: Store + Drop>(
     memory: &Memory<'_, S>,
     half: bool,
     factor2: Resolved,
@@ -51,4 +56,24 @@ pub fn summed<S: Store + Drop>(
         value: factor2.form.decimals,
     };
     keep(sum(memory, factor2), scale, target_of(memory, to, half))
+}
+
+/// XFOOT. None where an index is out of range.
+#[tactic(auto, unfolding(rpg_effect::specs::Act::act, rpg_effect::specs::Operate::has_entries, rpg_effect::specs::Operate::operate, rpg_effect::specs::Operate::resolved, rpg_effect::specs::Rows::row_of))]
+pub fn cross_foot<S: Store + Drop>(
+    memory: &mut Memory<'_, S>,
+    half: bool,
+    factor2: &Operand<u16>,
+    to: &Operand<u16>,
+    shows: Shows,
+) -> Option<End>
+    requires factor2 { IsNumberOperand memory.old factor2.now }
+    requires to { IsNumberOperand memory.old to.now }
+    ensures { DidOperate (actions.CrossFoot half factor2.now to.now shows) memory.old result memory.new }
+{
+    let factor2 = number_named(memory, factor2)?;
+    let to = number_named(memory, to)?;
+    let n = summed(memory, half, factor2, to);
+    store(memory, to.entry, shows, n);
+    Some(End::GoesOn)
 }

@@ -1,32 +1,18 @@
-use Rattle.std.proofs.Common.{◌≡◌, ◌∙◌, ap, refl, true}
-use Rattle.rpg_effect.specs.Act.{found_shown}
-use Rattle.rpg_effect.specs.Forms.{entries_of, kind_of}
-use Rattle.rpg_effect.specs.Rows.{holds_position}
-use Rattle.rpg_effect.specs.Showing.{shown_if_any}
-use Rattle.rpg_store.specs.Memory.{Working, with_on}
-use Rattle.rpg_machine_operations.proofs.Finding.{found_fits, looked}
+use Rattle.std.proofs.Common.{subst, sym, nat_cmp}
+use Rattle.rpg_effect.specs.Effect.{Effect}
+use Rattle.rpg_effect.specs.Ends.{end_of}
+use Rattle.rpg_machine_operations.proofs.Looking.{looked_up_named}
+use Rattle.rpg_machine_operations.proofs.Rights.{names_like}
 use Rattle.rpg_machine_operations.proofs.searching.look_up.Goals as goal
-use Rattle.rpg_effect.specs.Forms.{form_at}
+use Rattle.rpg_machine_operations.specs.Words.{DidEffect}
 
-pub place-requires-clause-fits : goal.place-requires-clause-fits
-place-requires-clause-fits g c =
-    let forms = c.args.memory.now.program.fields in
-    let w = c.args.memory.now.world in
-    let holds : holds_position (form_at forms) c.args.factor2.entry.index c.field_of.result (entries_of (form_at forms c.args.factor2.entry.field)) ≡ true = rw c.field_of.ensures c.requires.positions in
-    found_fits forms (kind_of (form_at forms c.args.factor1.entry.field)) w c.args.factor1.entry c.args.factor2.entry c.field_of.result c.args.shows c.search-found.result c.requires.factor2.value holds c.search-found.ensures
+pub search_and_place-requires-clause-factor1 : goal.search_and_place-requires-clause-factor1
+search_and_place-requires-clause-factor1 g c = names_like c.args.memory.now.program.fields _ _ c.in_ok-factor1.factor1 _ c.in_ok-factor1.ensures.operand c.in_ok-factor1.ensures.named c.requires.factor1
+
+pub search_and_place-requires-clause-factor2 : goal.search_and_place-requires-clause-factor2
+search_and_place-requires-clause-factor2 g c = names_like c.args.memory.now.program.fields _ _ c.in_ok-factor1.factor1 _ c.in_ok-factor1.ensures.operand c.in_ok-factor2.ensures.named c.requires.factor2
 
 pub returns : goal.returns
 returns g c =
-    let forms = c.args.memory.now.program.fields in
-    let w = c.args.memory.now.world in
-    let u = c.place.new.memory.world in
-    let holds : holds_position (form_at forms) c.args.factor2.entry.index c.field_of.result (entries_of (form_at forms c.args.factor2.entry.field)) ≡ true = rw c.field_of.ensures c.requires.positions in
-    let fits = found_fits forms (kind_of (form_at forms c.args.factor1.entry.field)) w c.args.factor1.entry c.args.factor2.entry c.field_of.result c.args.shows c.search-found.result c.requires.factor2.value holds c.search-found.ensures in
-    record {
-      leaves = rw (← c.field_of.ensures, ← c.search-found.ensures)
-          (looked forms w _ c.args.factor2.entry c.field_of.result c.args.shows c.search-found.result fits
-          (ap (λ (m : Working). m.world) c.show_if_any.ensures ∙ ap (λ r. with_on (shown_if_any c.args.shows r u.on) u) c.order_of.ensures
-          ∙ ap (λ (m : Working). found_shown (form_at forms) c.args.shows c.search-found.result m.world) c.place.ensures));
-      right = tt;
-      rest = rw (c.show_if_any.ensures, c.place.ensures) refl;
-    }
+    let is = looked_up_named c.args.memory.now c.args.factor1.now c.args.factor2.now c.args.to.now c.args.shows c.in_ok-factor1.factor1 c.in_ok-factor2.factor2 c.in_ok-to.to c.in_ok-factor1.ensures.entry c.in_ok-factor2.ensures.entry c.in_ok-to.ensures.entry in
+    subst (λ (e : Effect nat_cmp). DidEffect e c.args.memory.now (end_of c.search_and_place.result) c.search_and_place.new.memory) (sym is) c.search_and_place.ensures
