@@ -1,9 +1,9 @@
 -- The date fits the date fields.
-use Rattle.std.proofs.Common.{◌≡◌, ℕ, ◌<◌, ◌+◌, ◌^◌, ℤ, suc, true, List, length, get_or, Option, None, Some, unsigned_abs, refl, sym, ap, ◌∙◌, subst, arith}
-use Rattle.std.proofs.lemmas.Option.{same_Some, slice_get-get_or}
+use Rattle.std.proofs.Common.{◌≡◌, ℕ, ◌<◌, ◌^◌, ℤ, true, List, Some, unsigned_abs, refl, sym, ap, ◌∙◌, subst, arith}
+use Rattle.std.proofs.lemmas.Option.{same_Some}
 use Rattle.std.specs.FinMap as map
 use Rattle.rpg_effect.specs.Forms.{form_at, is_date, length_of}
-use Rattle.rpg_effect.specs.Values.{Number, Text, Value}
+use Rattle.rpg_effect.specs.Values.{Number}
 use Rattle.rpg_effect.specs.declared.form.Class.{Class}
 use Rattle.rpg_effect.specs.declared.form.Class.TheVariants as classes
 use Rattle.rpg_effect.specs.declared.form.FieldForm.{FieldForm}
@@ -11,8 +11,9 @@ use Rattle.rpg_effect.specs.declared.form.Kind.{Kind}
 use Rattle.rpg_effect.specs.declared.form.Kind.TheVariants as kinds
 use Rattle.rpg_object_program.specs.Kept.{IsDateForm, IsFieldRow}
 use Rattle.rpg_store.proofs.Fitting.{fits-insert}
+use Rattle.rpg_store.specs.Fields.{IsValue}
 use Rattle.rpg_store.specs.Fits.{Fits, HasForm}
-use Rattle.rpg_store.specs.Store.{Currents, IsNumber, Values}
+use Rattle.rpg_store.specs.Store.{Currents, Values}
 
 is_class : (c : Class) → is_date c ≡ true → c ≡ classes.Date
 is_class classes.Plain h = cc
@@ -21,20 +22,13 @@ is_class classes.Table h = cc
 is_class classes.Constant h = cc
 is_class classes.Date h = refl
 
-pub date_form : (f : FieldForm) → IsFieldRow f → is_date f.class ≡ true → IsDateForm f
+date_form : (f : FieldForm) → IsFieldRow f → is_date f.class ≡ true → IsDateForm f
 date_form f row h = row.date (is_class f.class h)
 
-number_in : (len : ℕ) (o : Option Value) → HasForm kinds.Number len o → IsNumber o
-number_in len None h = absurd h
-number_in len (Some (Number n)) h = tt
-number_in len (Some (Text text)) h = absurd h
-
--- there is a number in a date field
-pub number_there : (forms : List FieldForm) (values : Values) (current : Currents) (field : ℕ) (f : FieldForm) → Fits forms values current → form_at forms field ≡ Some f → IsFieldRow f → is_date f.class ≡ true →
-    IsNumber (map.get values (field, 1))
-number_there forms values current field f fits is row date =
-    let d = date_form f row date in
-    number_in f.length (map.get values (field, 1)) (subst (λ (k : Kind). HasForm k f.length (map.get values (field, 1))) d.kind (fits.each field f is 1 (omega arith) row.fewest))
+-- a date field has a number
+pub date_value : (forms : List FieldForm) (field : ℕ) (f : FieldForm) → form_at forms field ≡ Some f → IsFieldRow f → is_date f.class ≡ true → IsValue forms kinds.Number field 1
+date_value forms field f is row date =
+    record { form = f; there = is; kind = (date_form f row date).kind; low = omega arith; high = row.fewest }
 
 -- the date is no longer than that
 pub date_short : (forms : List FieldForm) (field : ℕ) (f : FieldForm) (date : ℤ) → form_at forms field ≡ Some f → IsFieldRow f → is_date f.class ≡ true → unsigned_abs date < 10 ^ 6 →
@@ -53,16 +47,3 @@ date_fits forms values current field f date fits is row h few =
     fits-insert forms values current field 1 (Number date) fits
     (λ d e. has_form f d date (same_Some d f (sym e ∙ is)) (date_form f row h) few)
     (λ text e. cc)
-
--- the same where a store's forms and entries are known by equations
-pub still_fits : (forms old : List FieldForm) (values now : Values) (current currents : Currents) → forms ≡ old → now ≡ values → currents ≡ current → Fits old values current → Fits forms now currents
-still_fits forms old values now current currents a b c h =
-    subst (λ (x : List FieldForm). Fits x now currents) (sym a) (subst (λ (x : Values). Fits old x currents) (sym b) (subst (λ (x : Currents). Fits old values x) (sym c) h))
-
--- ---- field after field
-
-pub form_there : (forms : List FieldForm) (i field : ℕ) (d : FieldForm) → i < length forms → field ≡ i + 1 → form_at forms field ≡ Some (get_or forms i d)
-form_there forms i field d h is = subst (λ n. form_at forms n ≡ Some (get_or forms i d)) (sym (is ∙ suc-is i)) (slice_get-get_or forms i d h)
-  where
-    suc-is : (n : ℕ) → n + 1 ≡ suc n
-    suc-is n = omega arith

@@ -1,18 +1,17 @@
 //! The date of a job.
-ghost use Rattle.std.specs.Prelude.{◌≡◌, ◌<◌, ◌^◌, Some, option_map, unsigned_abs};
+ghost use Rattle.std.specs.Prelude.{◌≡◌, ◌≤◌, ◌<◌, ◌^◌, All, [], ◌∷◌, length, Some, option_map, unsigned_abs};
 ghost use Rattle.std.specs.List.{list_all};
 ghost use Rattle.rpg_cycle.specs.Starting.{date_in};
-ghost use Rattle.rpg_cycle.specs.Dating.{PutsDate, with_date};
+ghost use Rattle.rpg_cycle.specs.Dating.{memory_dated};
 ghost use Rattle.rpg_decimal_words.specs.Zoned.{is_digit};
-ghost use Rattle.rpg_effect.specs.Forms.{form_at, is_date};
+ghost use Rattle.rpg_effect.specs.Forms.{is_date};
 ghost use Rattle.rpg_object_program.specs.Kept.{IsFieldRow};
-ghost use Rattle.rpg_store.specs.Fits.{Fits};
+ghost use Rattle.rpg_store.specs.Memory.{forms_in};
 
-use crate::program::forms_of;
 use rpg_decimal::read_zoned;
 use rpg_effect::form::{Class, FieldForm};
 use rpg_store::Store;
-use rpg_verify::Verified;
+use rpg_store::memory::Memory;
 
 /// The date of a job: a number of six digits.
 #[derive(Clone, Copy)]
@@ -52,35 +51,37 @@ fn has_date(form: FieldForm) -> bool
     }
 }
 
+/// The forms of a program's fields.
+fn forms_of<'a, S: Store + Drop>(memory: &Memory<'a, S>) -> &'a [FieldForm]
+    ensures same { result.now ≡ memory.now.program.fields }
+    ensures rows { All IsFieldRow result.now }
+    ensures few { length result.now ≤ 4000 }
+{
+    memory.rows().fields.as_slice()
+}
+
 /// Puts a date into a field, where it is a date field.
-fn put_into<S: Store>(store: &mut S, form: FieldForm, field: u16, date: i64)
-    requires form { form_at (S.forms store.old) field ≡ Some form }
+#[tactic(auto, using(crate::proofs::Dating::date_value, crate::proofs::Dating::date_short))]
+fn put_into<S: Store + Drop>(memory: &mut Memory<'_, S>, form: FieldForm, field: u16, date: i64)
+    requires form { forms_in memory.old field ≡ Some form }
     requires row { IsFieldRow form }
     requires date { unsigned_abs date < 10 ^ 6 }
-    requires fits { Fits (S.forms store.old) (S.contents store.old) (S.currents store.old) }
-    ensures contents { S.contents store.new ≡ with_date date field form (S.contents store.old) }
-    ensures currents { S.currents store.new ≡ S.currents store.old }
-    ensures forms { S.forms store.new ≡ S.forms store.old }
-    ensures fits { Fits (S.forms store.new) (S.contents store.new) (S.currents store.new) }
+    ensures { memory.new ≡ memory_dated date field (form ∷ []) memory.old }
 {
     if has_date(form) {
-        store.set_number(field, 1, date);
+        memory.set_number(field, 1, date);
     }
 }
 
 /// Puts a date into all date fields.
-pub(crate) fn put_date<S: Store>(store: &mut S, program: &Verified, date: i64)
-    requires date { unsigned_abs date < 10 ^ 6 }
-    requires own { S.forms store.old ≡ program.now.fields }
-    requires fits { Fits program.now.fields (S.contents store.old) (S.currents store.old) }
-    ensures fields { PutsDate S.contents S.currents date program.now.fields store.old store.new }
-    ensures own { S.forms store.new ≡ program.now.fields }
-    ensures fits { Fits program.now.fields (S.contents store.new) (S.currents store.new) }
+pub(crate) fn put_date<S: Store + Drop>(memory: &mut Memory<'_, S>, date: i64)
+    requires { unsigned_abs date < 10 ^ 6 }
+    ensures { memory.new ≡ memory_dated date 1 memory.old.program.fields memory.old }
 {
-    let forms = forms_of(program);
+    let forms = forms_of(memory);
     let mut field = 1u16;
     for form in forms {
-        put_into(store, *form, field, date);
+        put_into(memory, *form, field, date);
         field += 1;
     }
 }

@@ -11,6 +11,7 @@ use rpg_cycle_records::Kept;
 use rpg_effect::input::InputFile;
 use rpg_machine::{Machine, Output};
 use rpg_object_program::section::Place;
+use rpg_store::memory::Memory;
 use rpg_store::{FlatStore, Store, first_values_fit};
 use rpg_verify::Verified;
 use std::alloc::{AllocError, Global};
@@ -89,13 +90,13 @@ impl<'a> Job<'a, FlatStore> {
         };
         first_values_fit(program.program());
         let store = FlatStore::new(alloc, program.program())?;
-        Ok(Job::start_on(alloc, program, date, store)?)
+        let memory = Memory::new(program.program(), store);
+        Ok(Job::start_on(alloc, program, date, memory)?)
     }
 }
 
 impl<'a, S: Store + Drop> Job<'a, S> {
     ghost use Rattle.std.specs.Prelude.{◌≤◌, ◌&&◌, true, false, ◌↔◌, None, IfOk, OnErr, IsOk, IsErrOf};
-    ghost use Rattle.rpg_cycle.specs.Dating.{fields_with};
     ghost use Rattle.rpg_cycle.specs.Doing.{next_text};
     ghost use Rattle.rpg_effect.specs.declared.input.InputFile.TheVariants as files;
     ghost use Rattle.rpg_cycle.specs.Job as of;
@@ -103,25 +104,24 @@ impl<'a, S: Store + Drop> Job<'a, S> {
     ghost use Rattle.rpg_cycle.specs.Stages.{Failed, is_going, told};
     ghost use Rattle.rpg_cycle.specs.Starting.{date_in};
     ghost use Rattle.rpg_machine.specs.Run.{running_place};
-    ghost use Rattle.rpg_store.specs.Fits.{Fits};
+    ghost use Rattle.rpg_store.specs.Memory.{first_working};
     ghost use Rattle.rpg_verify.specs.Bound.{bound};
 
-    /// A job at its start, on a date of six digits, over a store whose values fit the program's fields.
+    /// A job at its start, on a date of six digits, over the values of a memory that no cycle has changed yet.
     pub fn start_in(
         alloc: Global,
         program: &'a Verified,
         date: &[u8],
-        store: S,
+        memory: Memory<'a, S>,
     ) -> Result<Job<'a, S>, StartFault>
-        requires own { S.forms store ≡ program.now.fields }
-        requires fits { Fits program.now.fields (S.contents store) (S.currents store) }
-        ensures start { IfOk result (λ j. of.Starts program.now date.now (fields_with (S.contents store) (S.currents store)) j) }
+        requires first { memory ≡ first_working program.now memory.world.fields }
+        ensures start { IfOk result (λ j. of.Starts program.now date.now memory.entry.world.fields j) }
         ensures date { IsErrOf result StartFault.BadDate ↔ (date_in date.now ≡ None) }
     {
         let Some(date) = Date::read(date) else {
             return Err(StartFault::BadDate);
         };
-        Ok(Job::start_on(alloc, program, date, store)?)
+        Ok(Job::start_on(alloc, program, date, memory)?)
     }
 
     /// A job at its start on a date.
@@ -129,14 +129,13 @@ impl<'a, S: Store + Drop> Job<'a, S> {
         alloc: Global,
         program: &'a Verified,
         date: Date,
-        mut store: S,
+        mut memory: Memory<'a, S>,
     ) -> Result<Job<'a, S>, AllocError>
-        requires own { S.forms store ≡ program.now.fields }
-        requires fits { Fits program.now.fields (S.contents store) (S.currents store) }
-        ensures { IfOk result (λ j. j ≡ of.job_started program.now date.value (fields_with (S.contents store) (S.currents store))) }
+        requires first { memory ≡ first_working program.now memory.world.fields }
+        ensures { IfOk result (λ j. j ≡ of.job_started program.now date.value memory.entry.world.fields) }
     {
-        put_date(&mut store, program, date.value);
-        let machine = Machine::new(alloc, program, store)?;
+        put_date(&mut memory, date.value);
+        let machine = Machine::new(alloc, program, memory)?;
         let kept = Kept::new(alloc, program)?;
         Ok(Job {
             program,

@@ -1,14 +1,13 @@
 //! What the cycle reads of a program.
-ghost use Rattle.std.specs.Prelude.{◌≡◌, ◌≤◌, ◌<◌, ◌^◌, ◌&&◌, ◌==◌, All, length, slice_get};
+ghost use Rattle.std.specs.Prelude.{◌≡◌, ◌≤◌, ◌<◌, ◌^◌, ◌&&◌, ◌==◌, length, slice_get};
 ghost use Rattle.std.specs.Option.{ForSome};
 ghost use Rattle.rpg_cycle.specs.Phases as phases;
 ghost use Rattle.rpg_cycle.specs.Spending.{cycle_weight};
-ghost use Rattle.rpg_object_program.specs.Kept.{IsFieldRow, IsIndicator};
+ghost use Rattle.rpg_object_program.specs.Kept.{IsIndicator};
 ghost use Rattle.rpg_object_program.specs.Sections.{has_end, place_behind};
 ghost use Rattle.rpg_verify.specs.Bound as words;
 
 use rpg_cycle_records::{rows_of, type_at};
-use rpg_effect::form::FieldForm;
 use rpg_object_program::section::{Place, Section};
 use rpg_verify::Verified;
 
@@ -19,15 +18,6 @@ pub(crate) fn indicator_of(program: &Verified, row: usize) -> Option<u8>
     ensures right { ForSome result IsIndicator }
 {
     type_at(program, row).indicator
-}
-
-/// The forms of a program's fields.
-pub(crate) fn forms_of(program: &Verified) -> &[FieldForm]
-    ensures same { result.now ≡ program.now.fields }
-    ensures rows { All IsFieldRow result.now }
-    ensures few { length result.now ≤ 4000 }
-{
-    rows_of(program).fields.as_slice()
 }
 
 /// The overflow indicator.

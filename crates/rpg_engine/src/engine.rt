@@ -18,6 +18,7 @@ use rpg_cycle::{Job, StartFault};
 use rpg_cycle_safety::run_laws::runs_keep;
 use rpg_cycle_safety::step_laws::first_values_hold;
 use rpg_files::{Counted, RecordReader, RecordRoom};
+use rpg_store::memory::Memory;
 use rpg_store::{ListedStore, first_values_fit};
 use rpg_verify::Verified;
 use std::alloc::Global;
@@ -44,7 +45,8 @@ fn first_job<'a>(
 {
     first_values_fit(program.program());
     let store = ListedStore::new(alloc, program.program())?;
-    Job::start_in(alloc, program, date, store)
+    let memory = Memory::new(program.program(), store);
+    Job::start_in(alloc, program, date, memory)
 }
 
 /// Runs an accepted program over the records of a primary and of a secondary input, on a date of six digits, and sends what it prints

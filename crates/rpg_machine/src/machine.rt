@@ -99,18 +99,21 @@ impl<'a, S: Store + Drop> Machine<'a, S> {
     ghost use Rattle.rpg_machine.specs.Running.{Did};
     ghost use Rattle.rpg_object_program.specs.Kept.{IsCharacter};
     ghost use Rattle.rpg_object_program.specs.Sections.{has_end};
-    ghost use Rattle.rpg_store.specs.Fits.{Fits};
+    ghost use Rattle.rpg_store.specs.Memory.{first_working};
 
-    /// A machine before its first cycle: no indicator on but L0 and 1P, the form at its first line, and the values that are in the store.
-    pub fn new(alloc: Global, program: &'a Verified, store: S) -> Result<Machine<'a, S>, AllocError>
-        requires own { S.forms store ≡ program.now.fields }
-        requires fits { Fits program.now.fields (S.contents store) (S.currents store) }
-        ensures start { IfOk result (λ m. m ≡ of.started program.now (record { values = S.contents store; current = S.currents store })) }
+    /// A machine before its first cycle: no indicator on but L0 and 1P, the form at its first line, and the values that are in the memory.
+    pub fn new(
+        alloc: Global,
+        program: &'a Verified,
+        memory: Memory<'a, S>,
+    ) -> Result<Machine<'a, S>, AllocError>
+        requires first { memory ≡ first_working program.now memory.world.fields }
+        ensures start { IfOk result (λ m. m ≡ of.started program.now memory.entry.world.fields) }
         ensures ready { IfOk result (λ m. IsReady m) }
     {
         let accepted = Accepted::new(alloc, program)?;
         accepted.is_orderly();
-        let state = first_state(alloc, Memory::new(program.program(), store))?;
+        let state = first_state(alloc, memory)?;
         Ok(Machine {
             alloc,
             program: accepted,

@@ -4,6 +4,7 @@ use rpg_cli::{Answer, Counted, Job, JobEnd, Report, execute, line, run_records};
 use rpg_cycle::{CycleEnd, Output, StartFault};
 use rpg_object::decode;
 use rpg_show_lines::{Outputs, records_of};
+use rpg_store::memory::Memory;
 use rpg_store::{ListedStore, Store, first_values_fit};
 use rpg_verify::{Verified, verify};
 use std::alloc::{AllocError, Global};
@@ -165,7 +166,8 @@ fn run_listed_values(
 ) -> Result<Option<Outputs>, AllocError> {
     first_values_fit(program.program());
     let store = ListedStore::new(alloc, program.program())?;
-    match Job::start_in(alloc, program, date, store) {
+    let memory = Memory::new(program.program(), store);
+    match Job::start_in(alloc, program, date, memory) {
         Ok(mut job) => run_out(alloc, program.bound(), &mut job, records),
         Err(StartFault::BadDate) => Ok(None),
         Err(StartFault::NoMemory) => Err(AllocError),
