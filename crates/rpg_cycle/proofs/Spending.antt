@@ -1,5 +1,5 @@
 -- What phases take, and that all of them together are within the bound.
-use Rattle.std.proofs.Common.{◌≡◌, ℕ, ◌≤◌, ◌<◌, ◌+◌, ◌-◌, ◌*◌, ◌^◌, suc, Bool, true, false, cond, ◌&&◌, not, leb, List, [], ◌∷◌, length, slice_get, slice_index, Option, None, Some, is_some, refl, ap, ◌∙◌, subst, arith}
+use Rattle.std.proofs.Common.{◌≡◌, ℕ, ◌≤◌, ◌<◌, ◌+◌, ◌-◌, ◌*◌, ◌^◌, Bool, true, false, cond, ◌&&◌, not, leb, List, [], ◌∷◌, length, slice_get, slice_index, Option, None, Some, is_some, refl, ap, ◌∙◌, subst, arith}
 use Rattle.std.proofs.lemmas.Bool.Decides.{nat_tests}
 use Rattle.std.specs.List.{list_all}
 use Rattle.rpg_paper.specs.Paper.{Position}
@@ -17,7 +17,7 @@ use Rattle.rpg_cycle_records.specs.Earlier.{file_of, levels_of}
 use Rattle.rpg_cycle_records.specs.Paying.{moved_of}
 use Rattle.std.specs.Option.{ForSome}
 use Rattle.rpg_effect.specs.declared.input.InputFile.TheVariants.{Primary, Secondary}
-use Rattle.rpg_cycle_records.specs.Identifying.{IsOf, Misplaced, code_holds, has_position, identified, same_file, trial_weight}
+use Rattle.rpg_cycle_records.specs.Identifying.{code_holds, has_position, same_file, trial_weight}
 use Rattle.rpg_effect.specs.declared.input.InputFile.{InputFile}
 use Rattle.rpg_cycle.specs.Phases.{all_off}
 use Rattle.rpg_cycle.specs.Spending.{SpendsSelecting, Spends, SpendsTakingIn, compared_weight, cycle_weight, fields_weight, matched_weight, reach, record_weight, section_cost}
@@ -134,31 +134,6 @@ pub tried_few : (f : InputFile) (ts : List (TypeRow ℕ)) (text : List ℕ) → 
 tried_few f [] text = omega arith
 tried_few f (t ∷ ts) text =
     of_file (same_file t.file f) (codes_there text t && not (codes_hold text t)) (length t.codes) (trial_weight f ts text) (type_weight t) (types_weight ts) (omega arith) (tried_few f ts text)
-
--- so many more are its control fields and the fields that it fills
-abbrev beside : List (TypeRow ℕ) → ℕ → ℕ
-beside ts k = length (levels_of (slice_get ts k)) + length (inputs_of (slice_get ts k))
-
-pub record IsFound (n : ℕ) (ts : List (TypeRow ℕ)) (weight t : ℕ) : Type 0 where
-  pub place : ℕ
-  pub row : t ≡ n + place
-  pub few : weight + beside ts place ≤ types_weight ts
-
-same_row : (n t : ℕ) → IsOf n ≡ IsOf t → t ≡ n + 0
-same_row n t h = let e : n ≡ t = cc in omega (arith, e)
-
-found : (f : InputFile) (n : ℕ) (u : TypeRow ℕ) (ts : List (TypeRow ℕ)) (text : List ℕ) (t : ℕ) (own there hold : Bool) →
-    ((m : ℕ) → identified f m ts text ≡ IsOf t → IsFound m ts (trial_weight f ts text) t) →
-    cond (not own) (identified f (n + 1) ts text) (cond there (cond hold (IsOf n) (identified f (n + 1) ts text)) Misplaced) ≡ IsOf t →
-    IsFound n (u ∷ ts) (cond (not own) (trial_weight f ts text) (cond (there && not hold) (length u.codes + trial_weight f ts text) (length u.codes))) t
-found f n u ts text t false there hold more h = let x = more (n + 1) h in record { place = suc x.place; row = omega (arith, x.row); few = omega (arith, x.few) }
-found f n u ts text t true false hold more h = cc
-found f n u ts text t true true true more h = record { place = 0; row = same_row n t h; few = omega arith }
-found f n u ts text t true true false more h = let x = more (n + 1) h in record { place = suc x.place; row = omega (arith, x.row); few = omega (arith, x.few) }
-
-pub found_few : (f : InputFile) (n : ℕ) (ts : List (TypeRow ℕ)) (text : List ℕ) (t : ℕ) → identified f n ts text ≡ IsOf t → IsFound n ts (trial_weight f ts text) t
-found_few f n [] text t h = cc
-found_few f n (u ∷ ts) text t h = found f n u ts text t (same_file u.file f) (codes_there text u) (codes_hold text u) (λ m g. found_few f m ts text t g) h
 
 -- ---- the records that are taken in, and the one that is selected
 
