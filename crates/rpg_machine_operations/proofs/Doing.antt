@@ -6,7 +6,7 @@ use Rattle.rpg_effect.specs.Forms.{entries_of, kind_of}
 use Rattle.rpg_effect.specs.Rows.{holds_position, holds_positions, row_of}
 use Rattle.rpg_effect.specs.declared.form.FieldForm.{FieldForm}
 use Rattle.rpg_effect.specs.declared.form.Kind.TheVariants as kinds
-use Rattle.rpg_effect.specs.declared.operation.Action.TheVariants.{Compute, Divide, Assign, TakeRemainder, CrossFoot, Compare, LookUp, Move}
+use Rattle.rpg_effect.specs.declared.operation.Action.TheVariants.{Compute, Divide, Assign, TakeRemainder, CrossFoot, LookUp, Move}
 use Rattle.rpg_effect.specs.declared.operation.Entry.{Entry}
 use Rattle.rpg_effect.specs.declared.operation.Operand.{Operand}
 use Rattle.rpg_effect.specs.declared.operation.Operator.{Operator}
@@ -47,10 +47,6 @@ module _ (forms : List FieldForm) where
   pub cross_entries : (half : Bool) (b r : Entry ℕ) (s : Shows) → AreOperandEntries forms (CrossFoot half b r s) → IsNumber b × IsNumber r
   unfolding row_of
   cross_entries half b r s h = (h.factor2.value, h.result.value)
-
-  pub compare_entries : (a b : Entry ℕ) (s : Shows) → AreOperandEntries forms (Compare a b s) → IsLike a a × IsLike a b
-  unfolding row_of
-  compare_entries a b s h = (h.factor1.value, h.factor2.value)
 
   pub move_entries : (side : Side) (b r : Entry ℕ) → AreOperandEntries forms (Move side b r) → IsLike b b × IsLike r r
   unfolding row_of

@@ -1,9 +1,9 @@
 -- LOKUP on operands that were resolved.
-use Rattle.std.proofs.Common.{◌≡◌, ℕ, Bool, true, false, cond, List, Option, None, Some, is_some, refl, sym, ap, nat_cmp}
+use Rattle.std.proofs.Common.{◌≡◌, ℕ, Bool, true, false, cond, Option, None, Some, is_some, refl, sym}
 use Rattle.std.proofs.lemmas.Option.{cond_some, same_Some}
 use Rattle.std.specs.Option.{option_map}
 use Rattle.rpg_effect.specs.Act.{act}
-use Rattle.rpg_effect.specs.Entries.{entry_of, position_of}
+use Rattle.rpg_effect.specs.Entries.{entry_of}
 use Rattle.rpg_effect.specs.Operate.{has_entries, names_entry, operate, resolved}
 use Rattle.rpg_effect.specs.Rows.{all_used, form_of, row_of, table_use}
 use Rattle.rpg_effect.specs.declared.operation.Action.TheVariants.{LookUp}
