@@ -14,7 +14,7 @@ mod number;
 mod outcome;
 mod records;
 mod report;
-mod says;
+mod saying;
 mod spelling;
 mod tally;
 
@@ -27,6 +27,6 @@ pub use number::Number;
 pub use outcome::{Outputs, Told, Wanted, write_report};
 pub use records::records_of;
 pub use report::Report;
-pub use says::says;
+pub use saying::says;
 pub use spelling::{hex_of, push_hex, text_of};
 pub use tally::Tally;
