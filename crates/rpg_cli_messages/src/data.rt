@@ -4,7 +4,7 @@ use crate::counted::counted;
 use crate::entries::{EntryColumns, first_bad, put_bad_entry};
 use rpg_cards::SpecCard;
 use rpg_faults::{begins_deck, data_cards, data_columns, has_forms, wants_data};
-use rpg_sheet_specs::{ExtensionSpec, Spec, TableSpec};
+use rpg_sheet_specs::{DataSpec, ExtensionSpec, Spec, TableSpec};
 use std::alloc::{AllocError, Global};
 use std::fmt::Write;
 
