@@ -2,7 +2,7 @@
 
 ghost use Rattle.std.specs.Prelude.{◌≡◌, ℤ, ◌-◌, ◌^◌, ◌<◌, IfErr, IfOk, None, Some};
 ghost use Rattle.rpg_cli.specs.Running.{TellsFaults, TellsRun};
-ghost use Rattle.rpg_engine.specs.Faults.{counts_of};
+ghost use Rattle.rpg_engine.specs.Faults.{device_counts};
 ghost use Rattle.rpg_engine.specs.Inputs.{OfInputs};
 ghost use Rattle.rpg_engine.specs.Refusing.{IsToldOfDate};
 ghost use Rattle.rpg_engine.specs.Reporting.{JobEndsWell, Reports, SendsParts};
@@ -58,7 +58,7 @@ pub(crate) fn run_over<I: Read, S: Read, P: Write, D: Write>(
     // It is told whose fault it was.
     ensures faults { TellsFaults result (I.remaining (device_of input.old)) (I.remaining (device_of input.new))
         (S.remaining (device_of secondary.old)) (S.remaining (device_of secondary.new))
-        (counts_of input.old secondary.old print.old disk.old) (counts_of input.new secondary.new print.new disk.new) }
+        (device_counts input.old secondary.old print.old disk.old) (device_counts input.new secondary.new print.new disk.new) }
 {
     let report = execute_program(alloc, program, date, input, secondary, print, disk)?;
     named(FileWord::Print, flush_device(print))?;

@@ -11,14 +11,14 @@ use Rattle.rpg_cycle.proofs.Cycling.{at_first, keeps}
 use Rattle.rpg_cycle.proofs.Ending.{shorter}
 use Rattle.rpg_cycle.proofs.JobCycles.{cycles_behind}
 use Rattle.rpg_cycle_records.specs.Earlier.{Selected, left_by, with_record}
-use Rattle.rpg_cycle_records.specs.Merging.{IsOrderly}
+use Rattle.rpg_cycle_records.specs.Merging.{AreMergedInOrder}
 use Rattle.rpg_cycle_records.specs.Waiting.{Inputs, unread}
 use Rattle.rpg_cycle.specs.Counting.{records_count, waiting_count}
 use Rattle.rpg_cycle.specs.Ends.{PhaseEnd, GoesOn, EndOfJob, Halt, Wrong}
 use Rattle.rpg_cycle.specs.Job.{AtWork, Cycles, DoesCycle, feed_at, job_needs_record, with_feed}
 use Rattle.rpg_cycle.specs.Phases.{Cycle, UnderWay, begun, needs_record}
 use Rattle.rpg_cycle.specs.RunAnswers.{RunsRecords}
-use Rattle.rpg_cycle.specs.Runs.{Course, Records, Runs, ends_or, last_cycle, last_feed, left_behind, next_of, rest_of, with_cycle}
+use Rattle.rpg_cycle.specs.Runs.{Course, Records, Runs, ends_or, last_cycle, last_feed, left_behind, next_of, rest_where_needed, with_cycle}
 use Rattle.rpg_cycle.specs.Stages.{Ended, Going, is_going, job_end, stage_at}
 use Rattle.rpg_cycle.specs.declared.ends.JobEnd.{JobEnd}
 use Rattle.rpg_cycle.specs.declared.ends.JobEnd.TheVariants as jobs
@@ -70,7 +70,7 @@ pub record IsUnderWay (old : AtWork) (records : Records) (new : AtWork) (rest : 
   pub program : new.program ≡ old.program
   pub earlier : List Selected
   pub left : new.left ≡ left_by new.program earlier
-  pub orderly : IsOrderly new.program earlier new.inputs
+  pub orderly : AreMergedInOrder new.program earlier new.inputs
   pub out : Output
   pub last : new.last ≡ line_of (last_position_from None out.lines)
   pub bytes : new.output ≡ with_output None out.lines out.records old.output
@@ -96,7 +96,7 @@ begins old records h fresh top = record {
   program = refl;
   earlier = [];
   left = h;
-  orderly = subst (λ (i : Inputs). IsOrderly old.program [] i) (sym fresh) (at_first old.program);
+  orderly = subst (λ (i : Inputs). AreMergedInOrder old.program [] i) (sym fresh) (at_first old.program);
   out = no_output;
   last = top;
   bytes = output_none None old.output;
@@ -146,8 +146,8 @@ more_done old mid new records rest a b cycles most greater u first second d g =
       program = d.program ∙ u.program;
       earlier = next;
       left = d.left refl ∙ ap (λ (p : Object). left_by p next) (sym d.program);
-      orderly = subst (λ (p : Object). IsOrderly p next new.inputs) (sym d.program)
-          (subst (λ (i : Inputs). IsOrderly mid.program next i) (sym (d.inputs refl)) (keeps mid.program u.earlier a b (config_on q mid.config) mid.inputs d.there d.out u.orderly d.cycle));
+      orderly = subst (λ (p : Object). AreMergedInOrder p next new.inputs) (sym d.program)
+          (subst (λ (i : Inputs). AreMergedInOrder mid.program next i) (sym (d.inputs refl)) (keeps mid.program u.earlier a b (config_on q mid.config) mid.inputs d.there d.out u.orderly d.cycle));
       out = with_more u.out d.out;
       last = d.last ∙ ap line_of (sym ends);
       bytes = more_bytes old mid new u.out d.out u.bytes (d.bytes ∙ feed_gone [] _ refl);
@@ -206,9 +206,9 @@ records_are : (x y : Records) → x.primary ≡ y.primary → x.secondary ≡ y.
 records_are x y h g = ap (λ l. let r : Records = record { primary = l; secondary = x.secondary } in r) h ∙ ap (λ l. let r : Records = record { primary = y.primary; secondary = l } in r) g
 
 pub rest_is : (j : AtWork) (n m : Bool) (rs then : Records) → is_going j.stage ≡ true → n ≡ job_needs_record j Primary → m ≡ job_needs_record j Secondary →
-    then.primary ≡ rest_of n rs.primary → then.secondary ≡ rest_of m rs.secondary → then ≡ left_after j rs
+    then.primary ≡ rest_where_needed n rs.primary → then.secondary ≡ rest_where_needed m rs.secondary → then ≡ left_after j rs
 rest_is j n m rs then going one two first second =
-    records_are then (left_after j rs) (first ∙ ap (λ (b : Bool). rest_of b rs.primary) (needed j Primary n going one)) (second ∙ ap (λ (b : Bool). rest_of b rs.secondary) (needed j Secondary m going two))
+    records_are then (left_after j rs) (first ∙ ap (λ (b : Bool). rest_where_needed b rs.primary) (needed j Primary n going one)) (second ∙ ap (λ (b : Bool). rest_where_needed b rs.secondary) (needed j Secondary m going two))
 
 -- ---- the end of a course
 

@@ -16,10 +16,10 @@ use Rattle.rpg_cycle.proofs.Taking.{takes}
 use Rattle.rpg_cycle_records.specs.Earlier.{Left, Selected, left_by, match_value, with_record}
 use Rattle.rpg_cycle.specs.Ends.{PhaseEnd, GoesOn}
 use Rattle.rpg_cycle.specs.Indicators.{is_on, last_record, level_indicators, matching_record, with_all, with_one}
-use Rattle.rpg_cycle_records.specs.Merging.{IsOrderly, IsTopIfAny}
+use Rattle.rpg_cycle_records.specs.Merging.{AreMergedInOrder, IsTopIfAny}
 use Rattle.rpg_cycle.specs.Phases.{Cycle, CycleOn, Phase, UnderWay, begun, by_machine, detail_calculations, detail_lines, does, done, either, end_where_last, fill_fields, fill_from, halt_where_asked, has_no_overflow, if_selected, is_bypassed, output, overflow_lines, passes, section, select_one, select_record, set_off, show_match, take_in, total_time, with_config, ◌before◌}
 use Rattle.rpg_cycle.proofs.AfterSelection.{after_selection}
-use Rattle.rpg_cycle_records.specs.Waiting.{Input, Inputs, finds_match, has_match, input_at, takes_in, unread}
+use Rattle.rpg_cycle_records.specs.Waiting.{InputState, Inputs, finds_match, has_match, input_at, takes_in, unread}
 
 -- ---- what is selected, and what waits, stays
 
@@ -53,14 +53,14 @@ at_fields p (Some s) c d out h = by_act (FillsFields p s.type s.text) c d GoesOn
 -- ---- phase 4
 
 pub settled_still : (p : Object) (i j : Inputs) (f : InputFile) → input_at j f ≡ input_at i f → takes_in p i f ≡ false → takes_in p j f ≡ false
-settled_still p i j f e h = ap (λ (x : Input). has_file p f && (not x.is_over && is_none x.waiting)) e ∙ h
+settled_still p i j f e h = ap (λ (x : InputState). has_file p f && (not x.is_over && is_none x.waiting)) e ∙ h
 
-phase_4 : (p : Object) (earlier : List Selected) (a b : Option (List ℕ)) (c d : UnderWay) (out : Output) (lit : Bool) → IsOrderly p earlier c.inputs → c.selected ≡ None →
+phase_4 : (p : Object) (earlier : List Selected) (a b : Option (List ℕ)) (c d : UnderWay) (out : Output) (lit : Bool) → AreMergedInOrder p earlier c.inputs → c.selected ≡ None →
     either lit (does (λ c. done GoesOn (with_config (with_all level_indicators true) c)))
     (take_in p (left_by p earlier) Primary a before take_in p (left_by p earlier) Secondary b before select_one p (left_by p earlier)) c GoesOn d out → Picked p earlier d
 phase_4 p earlier a b c d out true h none g = record {
-  orderly = subst (λ (o : Option Selected). IsOrderly p (with_record o earlier) d.inputs) (sym (ap (λ (u : UnderWay). u.selected) g.1 ∙ none))
-      (subst (λ (i : Inputs). IsOrderly p earlier i) (sym (ap (λ (u : UnderWay). u.inputs) g.1)) h);
+  orderly = subst (λ (o : Option Selected). AreMergedInOrder p (with_record o earlier) d.inputs) (sym (ap (λ (u : UnderWay). u.selected) g.1 ∙ none))
+      (subst (λ (i : Inputs). AreMergedInOrder p earlier i) (sym (ap (λ (u : UnderWay). u.inputs) g.1)) h);
   top = λ s k. absurd (let x : None ≡ Some s = sym (ap (λ (u : UnderWay). u.selected) g.1 ∙ none) ∙ k in cc);
 }
 phase_4 p earlier a b c d out false h none g =
@@ -124,14 +124,14 @@ by_totals p left s t c h =
 abbrev pub from_selection : Object → Left → Test → Option (List ℕ) → Option (List ℕ) → Phase
 from_selection p left t a b = select_record p left a b before after_selection p left t
 
-fourth : (p : Object) (earlier : List Selected) (a b : Option (List ℕ)) (c d : UnderWay) (out : Output) → IsOrderly p earlier c.inputs → c.selected ≡ None →
+fourth : (p : Object) (earlier : List Selected) (a b : Option (List ℕ)) (c d : UnderWay) (out : Output) → AreMergedInOrder p earlier c.inputs → c.selected ≡ None →
     select_record p (left_by p earlier) a b c GoesOn d out → Picked p earlier d
 fourth p earlier a b c d out h none g = phase_4 p earlier a b c d out (is_on c.config last_record) h none g
 
 abbrev Related : Object → List Selected → Test → Test → Type 0
 Related p earlier s t = (i : Inputs) (x : Selected) → IsTopIfAny p (match_value p x) earlier → s i x ≡ t i x
 
-cycle_by : (p : Object) (earlier : List Selected) (s t : Test) → Related p earlier s t → (a b : Option (List ℕ)) (c : UnderWay) → IsOrderly p earlier c.inputs → c.selected ≡ None →
+cycle_by : (p : Object) (earlier : List Selected) (s t : Test) → Related p earlier s t → (a b : Option (List ℕ)) (c : UnderWay) → AreMergedInOrder p earlier c.inputs → c.selected ≡ None →
     (e : PhaseEnd) (d : UnderWay) (out : Output) → CycleOn p (left_by p earlier) s a b c e d out → CycleOn p (left_by p earlier) t a b c e d out
 cycle_by p earlier s t r a b c h none =
     let left = left_by p earlier in
@@ -146,17 +146,17 @@ cycle_by p earlier s t r a b c h none =
     let k2 = same m1 m2 first2.1 in
     let i3 : m3.inputs ≡ m2.inputs = ap (λ (u : UnderWay). u.inputs) first3.1 in
     let s3 : m3.selected ≡ m2.selected = ap (λ (u : UnderWay). u.selected) first3.1 in
-    let h3 = subst (λ (i : Inputs). IsOrderly p earlier i) (sym (i3 ∙ (k2.inputs ∙ k1.inputs))) h in
+    let h3 = subst (λ (i : Inputs). AreMergedInOrder p earlier i) (sym (i3 ∙ (k2.inputs ∙ k1.inputs))) h in
     let picked = fourth p earlier a b m3 m4 put4 h3 (s3 ∙ (k2.selected ∙ (k1.selected ∙ none))) first4 in
     by_totals p left s t m4 (λ x e. r m4.inputs x (picked.top x e)) e4 d4 out4 rest4)
     e3 d3 out3 rest3) e2 d2 out2 rest2) e1 d1 out1 rest1)
 
-pub to_last : (p : Object) (earlier : List Selected) (a b : Option (List ℕ)) (c : Config) (i : Inputs) (e : PhaseEnd) (d : UnderWay) (out : Output) → IsOrderly p earlier i →
+pub to_last : (p : Object) (earlier : List Selected) (a b : Option (List ℕ)) (c : Config) (i : Inputs) (e : PhaseEnd) (d : UnderWay) (out : Output) → AreMergedInOrder p earlier i →
     Cycle p earlier a b (begun p c i) e d out → CycleOn p (left_by p earlier) (finds_match p (left_by p earlier)) a b (begun p c i) e d out
 to_last p earlier a b c i e d out h g =
     cycle_by p earlier (has_match p earlier) (finds_match p (left_by p earlier)) (λ j x top. found p earlier j x h.merged top) a b (begun p c i) h refl e d out g
 
-pub from_last : (p : Object) (earlier : List Selected) (a b : Option (List ℕ)) (c : Config) (i : Inputs) (e : PhaseEnd) (d : UnderWay) (out : Output) → IsOrderly p earlier i →
+pub from_last : (p : Object) (earlier : List Selected) (a b : Option (List ℕ)) (c : Config) (i : Inputs) (e : PhaseEnd) (d : UnderWay) (out : Output) → AreMergedInOrder p earlier i →
     CycleOn p (left_by p earlier) (finds_match p (left_by p earlier)) a b (begun p c i) e d out → Cycle p earlier a b (begun p c i) e d out
 from_last p earlier a b c i e d out h g =
     cycle_by p earlier (finds_match p (left_by p earlier)) (has_match p earlier) (λ j x top. sym (found p earlier j x h.merged top)) a b (begun p c i) h refl e d out g
@@ -178,8 +178,8 @@ behind_4 p left t c d out g =
     let k10 = by_act (RunsTo p sections.Detail) nine.mid d GoesOn nine.more nine.two in
     stay c five.mid d k5 (stay five.mid six.mid d k6 (stay six.mid seven.mid d k7 (stay seven.mid eight.mid d k8 (stay eight.mid nine.mid d k9 k10))))
 
-pub keeps : (p : Object) (earlier : List Selected) (a b : Option (List ℕ)) (c : Config) (i : Inputs) (d : UnderWay) (out : Output) → IsOrderly p earlier i →
-    Cycle p earlier a b (begun p c i) GoesOn d out → IsOrderly p (with_record d.selected earlier) d.inputs
+pub keeps : (p : Object) (earlier : List Selected) (a b : Option (List ℕ)) (c : Config) (i : Inputs) (d : UnderWay) (out : Output) → AreMergedInOrder p earlier i →
+    Cycle p earlier a b (begun p c i) GoesOn d out → AreMergedInOrder p (with_record d.selected earlier) d.inputs
 keeps p earlier a b c i d out h g =
     let left = left_by p earlier in
     let t = has_match p earlier in
@@ -192,12 +192,12 @@ keeps p earlier a b c i d out h g =
     let k2 = same one.mid two.mid two.one.1 in
     let k3 : Stays two.mid three.mid = record { inputs = ap (λ (u : UnderWay). u.inputs) three.one.1; selected = ap (λ (u : UnderWay). u.selected) three.one.1 } in
     let k = stay (begun p c i) one.mid three.mid k1 (stay one.mid two.mid three.mid k2 k3) in
-    let picked = fourth p earlier a b three.mid four.mid four.put (subst (λ (j : Inputs). IsOrderly p earlier j) (sym k.inputs) h) k.selected four.one in
+    let picked = fourth p earlier a b three.mid four.mid four.put (subst (λ (j : Inputs). AreMergedInOrder p earlier j) (sym k.inputs) h) k.selected four.one in
     let last = behind_4 p left t four.mid d four.more four.two in
-    subst (λ (o : Option Selected). IsOrderly p (with_record o earlier) d.inputs) (sym last.selected)
-    (subst (λ (j : Inputs). IsOrderly p (with_record four.mid.selected earlier) j) (sym last.inputs) picked.orderly)
+    subst (λ (o : Option Selected). AreMergedInOrder p (with_record o earlier) d.inputs) (sym last.selected)
+    (subst (λ (j : Inputs). AreMergedInOrder p (with_record four.mid.selected earlier) j) (sym last.inputs) picked.orderly)
 
-pub at_first : (p : Object) → IsOrderly p [] unread
+pub at_first : (p : Object) → AreMergedInOrder p [] unread
 at_first p = record {
   merged = tt;
   primary = record { own = tt; top = λ k. tt };

@@ -16,11 +16,11 @@ use Rattle.rpg_effect.specs.Ends as effects
 use Rattle.rpg_cycle.specs.Ends.{PhaseEnd, GoesOn, EndOfJob, Halt, Wrong}
 use Rattle.rpg_cycle.specs.Indicators.{any_on, halt_indicators, is_on, last_record, level_indicators, with_all, with_levels, with_type}
 use Rattle.rpg_cycle_records.specs.Levels.{is_in_record}
-use Rattle.rpg_cycle_records.specs.Merging.{IsOrderly}
+use Rattle.rpg_cycle_records.specs.Merging.{AreMergedInOrder}
 use Rattle.rpg_cycle.specs.Phases.{Cycle, Done, UnderWay, begun, broken_level, detail_lines, does, done, either, end_where_last, halt_where_asked, overflow_lines, type_indicator, is_bypassed, needs_record, read_record, select_one, select_from, select_record, select_waiting, set_off, show_match, take_in, total_time, with_config, with_inputs, ◌before◌}
 use Rattle.rpg_cycle.proofs.AfterSelection.{after_selection}
-use Rattle.rpg_cycle.specs.Runs.{Course, Records, RunsIn, ends_or, left_behind, next_of, rest_of}
-use Rattle.rpg_cycle_records.specs.Waiting.{Input, Inputs, chosen, first_of, has_match, over, takes_in, waiting_in, with_waiting}
+use Rattle.rpg_cycle.specs.Runs.{Course, Records, RunsIn, ends_or, left_behind, next_of, rest_where_needed}
+use Rattle.rpg_cycle_records.specs.Waiting.{InputState, Inputs, chosen, first_of, has_match, with_file_over, takes_in, waiting_in, with_waiting}
 
 -- ---- taking in
 
@@ -28,7 +28,7 @@ few_wait : (o : Option Selected) → one_if o ≤ 1
 few_wait None = omega arith
 few_wait (Some s) = omega arith
 
-over_waits : (f : InputFile) (i : Inputs) → one_if (waiting_in (over f i) f) ≡ 0
+over_waits : (f : InputFile) (i : Inputs) → one_if (waiting_in (with_file_over f i) f) ≡ 0
 over_waits Primary i = refl
 over_waits Secondary i = refl
 
@@ -44,7 +44,7 @@ untouched p left f next c d false e leads = ap (λ (u : UnderWay). u.inputs) lea
 
 -- what waits in the file and what is left of it are no more than before
 taken : (p : Object) (left : Left) (f : InputFile) (n t : Bool) (rs : List (List ℕ)) (c d : UnderWay) (out : Output) → takes_in p c.inputs f ≡ t → (t ≡ false → n ≡ false) →
-    take_in p left f (next_of n rs) c GoesOn d out → one_if (waiting_in d.inputs f) + length (rest_of n rs) ≤ one_if (waiting_in c.inputs f) + length rs
+    take_in p left f (next_of n rs) c GoesOn d out → one_if (waiting_in d.inputs f) + length (rest_where_needed n rs) ≤ one_if (waiting_in c.inputs f) + length rs
 taken p left f true true [] c d out is fits g = let z = ended p left f c d (takes_in p c.inputs f) is g.1 in omega (arith, z)
 taken p left f true true (r ∷ rs) c d out is fits g = let z = few_wait (waiting_in d.inputs f) in omega (arith, z)
 taken p left f false true rs c d out is fits g = let z = ended p left f c d (takes_in p c.inputs f) is g.1 in omega (arith, z)
@@ -97,11 +97,11 @@ not_needed false b h = refl
 record Shorter (c d : UnderWay) (firsts seconds firsts' seconds' : ℕ) : Type 0 where
   pub less : is_none d.selected ≡ false → waiting_count d.inputs + 1 + firsts' + seconds' ≤ waiting_count c.inputs + firsts + seconds
 
-phase_4 : (p : Object) (earlier : List Selected) (asks n m : Bool) (rs : Records) (c d : UnderWay) (out : Output) (lit : Bool) → IsOrderly p earlier c.inputs → c.selected ≡ None →
+phase_4 : (p : Object) (earlier : List Selected) (asks n m : Bool) (rs : Records) (c d : UnderWay) (out : Output) (lit : Bool) → AreMergedInOrder p earlier c.inputs → c.selected ≡ None →
     n ≡ (asks && takes_in p c.inputs Primary) → m ≡ (asks && takes_in p c.inputs Secondary) →
     either lit (does (λ u. done GoesOn (with_config (with_all level_indicators true) u)))
     (take_in p (left_by p earlier) Primary (next_of n rs.primary) before take_in p (left_by p earlier) Secondary (next_of m rs.secondary) before select_one p (left_by p earlier)) c GoesOn d out →
-    Shorter c d (length rs.primary) (length rs.secondary) (length (rest_of n rs.primary)) (length (rest_of m rs.secondary))
+    Shorter c d (length rs.primary) (length rs.secondary) (length (rest_where_needed n rs.primary)) (length (rest_where_needed m rs.secondary))
 phase_4 p earlier asks n m rs c d out true h none en em g =
     record { less = λ k. absurd (let e : is_none d.selected ≡ true = ap is_none (ap (λ (u : UnderWay). u.selected) g.1 ∙ none) in let x : true ≡ false = sym e ∙ k in cc) }
 phase_4 p earlier asks n m rs c d out false h none en em g =
@@ -114,8 +114,8 @@ phase_4 p earlier asks n m rs c d out false h none en em g =
     let b = taken p left Secondary m (takes_in p one.mid.inputs Secondary) rs.secondary one.mid two.mid two.put refl
     (λ k. em ∙ not_needed asks (takes_in p c.inputs Secondary) (settled_still p one.mid.inputs c.inputs Secondary (sym x.other) k)) two.one in
     let s = selected p left two.mid d (waiting_in two.mid.inputs Primary) (waiting_in two.mid.inputs Secondary) (y.selected ∙ (x.selected ∙ none)) refl refl two.two.0 two.two.1 in
-    let q : one_if (waiting_in one.mid.inputs Secondary) ≡ one_if (waiting_in c.inputs Secondary) = ap (λ (i : Input). one_if i.waiting) x.other in
-    let r : one_if (waiting_in two.mid.inputs Primary) ≡ one_if (waiting_in one.mid.inputs Primary) = ap (λ (i : Input). one_if i.waiting) y.other in
+    let q : one_if (waiting_in one.mid.inputs Secondary) ≡ one_if (waiting_in c.inputs Secondary) = ap (λ (i : InputState). one_if i.waiting) x.other in
+    let r : one_if (waiting_in two.mid.inputs Primary) ≡ one_if (waiting_in one.mid.inputs Primary) = ap (λ (i : InputState). one_if i.waiting) y.other in
     record { less = λ k. let z = s k in omega (arith, a, b, z, q, r) }
 
 -- ---- a cycle that goes on has selected a record
@@ -132,7 +132,7 @@ has_selected p left t c d out g =
     let k5 = at_totals p (is_bypassed p left.any left.control c.config) c five.mid five.put five.one in
     ap is_none (sym k5.selected) ∙ not_last (is_on five.mid.config last_record) (is_none five.mid.selected) six.one.0
 
-pub shorter : (p : Object) (earlier : List Selected) (rs : Records) (c : Config) (i : Inputs) (d : UnderWay) (out : Output) → IsOrderly p earlier i →
+pub shorter : (p : Object) (earlier : List Selected) (rs : Records) (c : Config) (i : Inputs) (d : UnderWay) (out : Output) → AreMergedInOrder p earlier i →
     Cycle p earlier (next_of (needs_record p c i Primary) rs.primary) (next_of (needs_record p c i Secondary) rs.secondary) (begun p c i) GoesOn d out →
     waiting_count d.inputs + records_count (left_behind p c i rs) + 1 ≤ waiting_count i + records_count rs
 shorter p earlier rs c i d out h g =
@@ -150,7 +150,7 @@ shorter p earlier rs c i d out h g =
     let k3 : Stays two.mid three.mid = record { inputs = ap (λ (u : UnderWay). u.inputs) three.one.1; selected = ap (λ (u : UnderWay). u.selected) three.one.1 } in
     let k = stay (begun p c i) one.mid three.mid k1 (stay one.mid two.mid three.mid k2 k3) in
     let asks = not (is_on c last_record || any_on c halt_indicators) in
-    let s = phase_4 p earlier asks n m rs three.mid four.mid four.put (is_on three.mid.config last_record) (subst (λ (j : Inputs). IsOrderly p earlier j) (sym k.inputs) h) k.selected
+    let s = phase_4 p earlier asks n m rs three.mid four.mid four.put (is_on three.mid.config last_record) (subst (λ (j : Inputs). AreMergedInOrder p earlier j) (sym k.inputs) h) k.selected
     (ap (λ (j : Inputs). asks && takes_in p j Primary) (sym k.inputs)) (ap (λ (j : Inputs). asks && takes_in p j Secondary) (sym k.inputs)) four.one in
     let last = behind_4 p left t four.mid d four.more four.two in
     let few = s.less (has_selected p left t four.mid d four.more four.two) in
@@ -167,7 +167,7 @@ by_end EndOfJob d out Rest course n f is = omega (arith, ap (λ (x : Course). x.
 by_end (Halt k) d out Rest course n f is = omega (arith, ap (λ (x : Course). x.cycles) is)
 by_end (Wrong k) d out Rest course n f is = omega (arith, ap (λ (x : Course). x.cycles) is)
 
-pub few_cycles : (n : ℕ) (p : Object) (earlier : List Selected) (rs : Records) (c : Config) (i : Inputs) (course : Course) → IsOrderly p earlier i →
+pub few_cycles : (n : ℕ) (p : Object) (earlier : List Selected) (rs : Records) (c : Config) (i : Inputs) (course : Course) → AreMergedInOrder p earlier i →
     RunsIn n p earlier rs c i course → course.cycles ≤ waiting_count i + records_count rs + 1
 few_cycles zero p earlier rs c i course h g = absurd g
 few_cycles (suc n) p earlier rs c i course h (e, d, out, cycle, rest) =

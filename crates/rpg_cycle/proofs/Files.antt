@@ -7,14 +7,14 @@ use Rattle.rpg_cycle_records.proofs.Order.{not_above, not_self}
 use Rattle.rpg_cycle_records.specs.Earlier.{Selected, file_at, match_value, or_before, value_from}
 use Rattle.rpg_cycle_records.specs.Identifying.{same_file}
 use Rattle.rpg_cycle_records.specs.Matching.{exceeds, is_greater}
-use Rattle.rpg_cycle_records.specs.Merging.{IsFileOrderly, IsOrderly, IsTopIfAny, IsTopOf, IsUpTo, is_spent}
-use Rattle.rpg_cycle_records.specs.Waiting.{Input, Inputs, input_at, other_file, takes_in, waiting_in, with_input}
+use Rattle.rpg_cycle_records.specs.Merging.{IsFileOrderly, AreMergedInOrder, IsTopIfAny, IsTopOf, IsUpTo, is_spent}
+use Rattle.rpg_cycle_records.specs.Waiting.{InputState, Inputs, input_at, other_file, takes_in, waiting_in, with_input}
 
-pub file_orderly : (p : Object) (earlier : List Selected) (i : Inputs) → IsOrderly p earlier i → (f : InputFile) → IsFileOrderly p earlier f (input_at i f)
+pub file_orderly : (p : Object) (earlier : List Selected) (i : Inputs) → AreMergedInOrder p earlier i → (f : InputFile) → IsFileOrderly p earlier f (input_at i f)
 file_orderly p earlier i h Primary = h.primary
 file_orderly p earlier i h Secondary = h.secondary
 
-pub with_orderly : (p : Object) (earlier : List Selected) (i : Inputs) → IsOrderly p earlier i → (f : InputFile) (x : Input) → IsFileOrderly p earlier f x → IsOrderly p earlier (with_input f x i)
+pub with_orderly : (p : Object) (earlier : List Selected) (i : Inputs) → AreMergedInOrder p earlier i → (f : InputFile) (x : InputState) → IsFileOrderly p earlier f x → AreMergedInOrder p earlier (with_input f x i)
 with_orderly p earlier i h Primary x g = record { merged = h.merged; primary = g; secondary = h.secondary }
 with_orderly p earlier i h Secondary x g = record { merged = h.merged; primary = h.primary; secondary = g }
 

@@ -5,7 +5,7 @@ use Rattle.rpg_effect.specs.Put.{Bytes, line_of, with_output}
 use Rattle.rpg_cycle.proofs.Cycling.{from_last, keeps, to_last}
 use Rattle.rpg_cycle.specs.Doing.{Does, Beside, holding, under_way, unselected}
 use Rattle.rpg_cycle_records.specs.Earlier.{Left, Selected, left_by, with_record}
-use Rattle.rpg_cycle_records.specs.Merging.{IsOrderly}
+use Rattle.rpg_cycle_records.specs.Merging.{AreMergedInOrder}
 use Rattle.rpg_cycle_records.specs.Waiting.{Inputs, finds_match}
 use Rattle.rpg_cycle.specs.Ends.{GoesOn, PhaseEnd}
 use Rattle.rpg_cycle.specs.Job.{AtWork, Cycles, DoesCycle, IsBehind, feed_at, with_feed}
@@ -38,7 +38,7 @@ CycleBy p left primary secondary c e d out = CycleOn p left (finds_match p left)
 
 -- a cycle is the same behind all records that leave the same, where the files are in their order
 pub does_behind : (old new : AtWork) (a b : List Selected) (previous : Option Position) (x y : Option (List ℕ)) (e : PhaseEnd) → left_by old.program a ≡ left_by old.program b →
-    IsOrderly old.program a old.inputs → IsOrderly old.program b old.inputs → DoesCycle old a previous x y e new → DoesCycle old b previous x y e new
+    AreMergedInOrder old.program a old.inputs → AreMergedInOrder old.program b old.inputs → DoesCycle old a previous x y e new → DoesCycle old b previous x y e new
 does_behind old new a b previous x y e same one two d = record {
   stage = d.stage;
   program = d.program;
@@ -55,25 +55,25 @@ does_behind old new a b previous x y e same one two d = record {
 }
 
 -- behind all that leave what the job keeps
-pub cycles_behind : (old new : AtWork) (x y : Option (List ℕ)) → Cycles old x y new → (earlier : List Selected) → old.left ≡ left_by old.program earlier → IsOrderly old.program earlier old.inputs →
+pub cycles_behind : (old new : AtWork) (x y : Option (List ℕ)) → Cycles old x y new → (earlier : List Selected) → old.left ≡ left_by old.program earlier → AreMergedInOrder old.program earlier old.inputs →
     (previous : Option Position) → old.last ≡ line_of previous → (e : PhaseEnd) × DoesCycle old earlier previous x y e new
 cycles_behind old new x y c earlier is order previous placed =
     let d = c.does previous placed in
     (d.0, does_behind old new c.behind.earlier earlier previous x y d.0 (sym c.behind.leave ∙ is) c.behind.orderly order d.1)
 
 -- a record that was selected is one more of those that left what is kept
-pub one_more : (old new : AtWork) (earlier : List Selected) (previous : Option Position) (x y : Option (List ℕ)) → IsOrderly old.program earlier old.inputs → DoesCycle old earlier previous x y GoesOn new →
+pub one_more : (old new : AtWork) (earlier : List Selected) (previous : Option Position) (x y : Option (List ℕ)) → AreMergedInOrder old.program earlier old.inputs → DoesCycle old earlier previous x y GoesOn new →
     IsBehind old.program new.left new.inputs
 one_more old new earlier previous x y order d = record {
   earlier = with_record d.there.selected earlier;
   leave = d.left refl;
-  orderly = subst (λ (i : Inputs). IsOrderly old.program (with_record d.there.selected earlier) i) (sym (d.inputs refl))
+  orderly = subst (λ (i : Inputs). AreMergedInOrder old.program (with_record d.there.selected earlier) i) (sym (d.inputs refl))
       (keeps old.program earlier x y (config_on previous old.config) old.inputs d.there d.out order d.cycle);
 }
 
 -- the cycle that a machine did, behind the records that left this
 cycle_of : (p : Object) (earlier : List Selected) (previous : Option Position) (x y : Option (List ℕ)) (m : Running) (left : Left) (i : Inputs) (e : PhaseEnd) (out : Output) (d : UnderWay) →
-    m.program ≡ p → left ≡ left_by p earlier → IsOrderly p earlier i → CycleBy p left x y (under_way (config_on previous (refilled m).config) (unselected i)) e d out →
+    m.program ≡ p → left ≡ left_by p earlier → AreMergedInOrder p earlier i → CycleBy p left x y (under_way (config_on previous (refilled m).config) (unselected i)) e d out →
     Cycle p earlier x y (begun p (config_on previous m.config) i) e d out
 cycle_of p earlier previous x y m left i e out d same is order c =
     from_last p earlier x y (config_on previous m.config) i e d out order
@@ -85,7 +85,7 @@ feed_none b = ap (λ x. record { print = x; disk = b.disk }) (sym (append-nil b.
 
 -- the job goes on
 pub goes_on : (p : Object) (earlier : List Selected) (previous : Option Position) (x y : Option (List ℕ)) (m b : Running) (left now : Left) (i j : Inputs) (stage : Stage) (t : Option ℕ) (text : List ℕ) → m.program ≡ p →
-    left ≡ left_by p earlier → IsOrderly p earlier i → m.last ≡ line_of previous → now ≡ noted p t (renewed_by p t text left) →
+    left ≡ left_by p earlier → AreMergedInOrder p earlier i → m.last ≡ line_of previous → now ≡ noted p t (renewed_by p t text left) →
     Does (CycleBy p left x y) (refilled m) (unselected i) GoesOn b (holding j t text) → DoesCycle (job p m left i stage) earlier previous x y GoesOn (job p b now j Going)
 goes_on p earlier previous x y m b left now i j stage t text same is order placed kept d =
     let z = d.behind previous placed in
@@ -112,7 +112,7 @@ ended (jobs.Halt k) = refl
 
 -- the job ends, and so does the last line
 pub ends : (p : Object) (earlier : List Selected) (previous : Option Position) (x y : Option (List ℕ)) (m b c : Running) (left now : Left) (i j : Inputs) (stage : Stage) (s : Beside) (e : JobEnd) → m.program ≡ p →
-    left ≡ left_by p earlier → IsOrderly p earlier i → m.last ≡ line_of previous → Does (CycleBy p left x y) (refilled m) (unselected i) (job_end e) b s → c ≡ finished b →
+    left ≡ left_by p earlier → AreMergedInOrder p earlier i → m.last ≡ line_of previous → Does (CycleBy p left x y) (refilled m) (unselected i) (job_end e) b s → c ≡ finished b →
     DoesCycle (job p m left i stage) earlier previous x y (job_end e) (job p c now j (Ended (job_end e)))
 ends p earlier previous x y m b c left now i j stage s e same is order placed d done =
     let z = d.behind previous placed in

@@ -6,7 +6,7 @@ use Rattle.rpg_cycle.specs.Doing.{Does, Beside, holding, under_way}
 use Rattle.rpg_cycle_records.specs.Earlier.{Left, Selected, control_fields, file_at, last_of_file, match_value, or_before}
 use Rattle.rpg_cycle_records.specs.Identifying.{same_file}
 use Rattle.rpg_cycle_records.specs.Matching.{agrees}
-use Rattle.rpg_cycle_records.specs.Waiting.{Inputs, finds_match, other_file, value_of, waiting_in}
+use Rattle.rpg_cycle_records.specs.Waiting.{Inputs, finds_match, other_file, waiting_value, waiting_in}
 use Rattle.rpg_cycle.specs.Ends.{GoesOn, PhaseEnd}
 use Rattle.rpg_cycle_records.specs.Keeping.{renewed, renewed_by, selected_as}
 use Rattle.rpg_cycle.specs.Phases.{Phase, detail_calculations, end_where_last, fill_fields, is_bypassed, output, overflow_lines, section, show_match, unless, ◌before◌}
@@ -62,7 +62,7 @@ same_match : (p : Object) (t : ℕ) (text : List ℕ) (i : Inputs) (old : Left) 
 same_match p t text i old =
     let s : Selected = record { type = t; text = text } in
     let other = other_file (file_at p s) in
-    ap (λ v. agrees (match_value p s) (value_of p other (waiting_in i other)) || agrees (match_value p s) v)
+    ap (λ v. agrees (match_value p s) (waiting_value p other (waiting_in i other)) || agrees (match_value p s) v)
     (other_last (file_at p s) (match_value p s) (renewed (control_fields p t) text 9 old.bytes) old)
 
 match_of : (p : Object) (t : Option ℕ) (text : List ℕ) (i : Inputs) (now old : Left) → now ≡ renewed_by p t text old → (x : Selected) → selected_as t text ≡ Some x → finds_match p now i x ≡ finds_match p old i x

@@ -13,9 +13,9 @@ use Rattle.rpg_cycle.specs.Ends.{GoesOn, Wrong}
 use Rattle.rpg_cycle.specs.Indicators.{with_levels, with_type}
 use Rattle.rpg_cycle_records.specs.Levels.{is_in_record}
 use Rattle.rpg_cycle_records.specs.Matching.{is_greater}
-use Rattle.rpg_cycle_records.specs.Merging.{IsFileOrderly, IsFrom, IsMerged, IsOrderly, IsTopIfAny, IsTopOf, IsUpTo, front, is_spent}
+use Rattle.rpg_cycle_records.specs.Merging.{IsFileOrderly, IsFromFile, IsMerged, AreMergedInOrder, IsTopIfAny, IsTopOf, IsUpTo, front, is_spent}
 use Rattle.rpg_cycle.specs.Phases.{Done, UnderWay, broken_level, done, type_indicator, select_one, select_from, select_waiting, with_config, with_inputs}
-use Rattle.rpg_cycle_records.specs.Waiting.{Input, Inputs, chosen, first_of, input_at, other_file, takes_in, value_of, waiting_in, with_waiting}
+use Rattle.rpg_cycle_records.specs.Waiting.{InputState, Inputs, chosen, first_of, input_at, other_file, takes_in, waiting_value, waiting_in, with_waiting}
 
 -- the one value doesn't have to wait for the other
 abbrev GoesBefore : Option (List ℕ) → Option (List ℕ) → Type 0
@@ -24,23 +24,23 @@ GoesBefore (Some v) None = ⊥
 GoesBefore (Some v) (Some w) = is_greater v w ≡ false
 
 -- a record waits in the other file that the value doesn't have to wait for
-record IsBefore (p : Object) (m : Option (List ℕ)) (x : Input) : Type 0 where
+record IsBefore (p : Object) (m : Option (List ℕ)) (x : InputState) : Type 0 where
   pub other : Selected
   pub waits : x.waiting ≡ Some other
   pub before : GoesBefore m (match_value p other)
 
 -- ---- the file that it was selected from
 
-own_top : (p : Object) (earlier : List Selected) (f : InputFile) (x : Input) (s : Selected) → x.waiting ≡ Some s → file_at p s ≡ f → IsTopOf p (front p earlier f x) earlier →
+own_top : (p : Object) (earlier : List Selected) (f : InputFile) (x : InputState) (s : Selected) → x.waiting ≡ Some s → file_at p s ≡ f → IsTopOf p (front p earlier f x) earlier →
     IsTopOf p (or_before (last_value p f earlier) (match_value p s)) earlier
 own_top p earlier f x s w own h =
     subst (λ (m : Option (List ℕ)). IsTopOf p (or_before (last_value p f earlier) m) earlier) (value_own p f s own)
-    (subst (λ (o : Option Selected). IsTopOf p (or_before (last_value p f earlier) (value_of p f o)) earlier) w h)
+    (subst (λ (o : Option Selected). IsTopOf p (or_before (last_value p f earlier) (waiting_value p f o)) earlier) w h)
 
-still_unspent : (p : Object) (f : InputFile) (x : Input) (s : Selected) → x.waiting ≡ Some s → is_spent p f x ≡ false
+still_unspent : (p : Object) (f : InputFile) (x : InputState) (s : Selected) → x.waiting ≡ Some s → is_spent p f x ≡ false
 still_unspent p f x s w = rw w refl
 
-left_own : (p : Object) (earlier : List Selected) (f : InputFile) (x : Input) (s : Selected) → x.waiting ≡ Some s → file_at p s ≡ f → IsFileOrderly p earlier f x →
+left_own : (p : Object) (earlier : List Selected) (f : InputFile) (x : InputState) (s : Selected) → x.waiting ≡ Some s → file_at p s ≡ f → IsFileOrderly p earlier f x →
     IsFileOrderly p (s ∷ earlier) f (record { waiting = None; is_over = x.is_over })
 left_own p earlier f x s w own h = record {
   own = tt;
@@ -55,53 +55,53 @@ above None n last h = none_up (or_before last n)
 above (Some v) None last h = absurd h
 above (Some v) (Some w) last h = h
 
-left_other : (p : Object) (earlier : List Selected) (f : InputFile) (x : Input) (s : Selected) → file_at p s ≡ f → IsFileOrderly p earlier (other_file f) x →
+left_other : (p : Object) (earlier : List Selected) (f : InputFile) (x : InputState) (s : Selected) → file_at p s ≡ f → IsFileOrderly p earlier (other_file f) x →
     (is_spent p (other_file f) x ≡ true) ⊎ IsBefore p (match_value p s) x → IsFileOrderly p (s ∷ earlier) (other_file f) x
 left_other p earlier f x s own h (inl spent) = record { own = h.own; top = λ k. absurd (let e : true ≡ false = sym spent ∙ k in cc) }
 left_other p earlier f x s own h (inr b) = record {
   own = h.own;
-  top = λ k. subst (λ (m : Option (List ℕ)). IsTopOf p (or_before (or_before (last_value p g earlier) m) (value_of p g x.waiting)) (s ∷ earlier)) (sym (value_other p f s own)) (up, h.top k);
+  top = λ k. subst (λ (m : Option (List ℕ)). IsTopOf p (or_before (or_before (last_value p g earlier) m) (waiting_value p g x.waiting)) (s ∷ earlier)) (sym (value_other p f s own)) (up, h.top k);
 }
   where
     g : InputFile
     g = other_file f
 
     theirs : file_at p b.other ≡ g
-    theirs = subst (λ (o : Option Selected). IsFrom p g o) b.waits h.own
+    theirs = subst (λ (o : Option Selected). IsFromFile p g o) b.waits h.own
 
-    value : value_of p g x.waiting ≡ match_value p b.other
-    value = ap (value_of p g) b.waits ∙ value_own p g b.other theirs
+    value : waiting_value p g x.waiting ≡ match_value p b.other
+    value = ap (waiting_value p g) b.waits ∙ value_own p g b.other theirs
 
-    up : IsUpTo (or_before (last_value p g earlier) (value_of p g x.waiting)) (match_value p s)
+    up : IsUpTo (or_before (last_value p g earlier) (waiting_value p g x.waiting)) (match_value p s)
     up = subst (λ (m : Option (List ℕ)). IsUpTo (or_before (last_value p g earlier) m) (match_value p s)) (sym value) (above (match_value p s) (match_value p b.other) (last_value p g earlier) b.before)
 
 -- ---- both
 
 pub record Picked (p : Object) (earlier : List Selected) (d : UnderWay) : Type 0 where
-  pub orderly : IsOrderly p (with_record d.selected earlier) d.inputs
+  pub orderly : AreMergedInOrder p (with_record d.selected earlier) d.inputs
   pub top : (s : Selected) → d.selected ≡ Some s → IsTopIfAny p (match_value p s) earlier
 
 one : (s t : Selected) → Some s ≡ Some t → s ≡ t
 one s t h = cc
 
 at : (p : Object) (earlier : List Selected) (i : Inputs) (f : InputFile) (s : Selected) → IsMerged p (s ∷ earlier) → IsFileOrderly p (s ∷ earlier) f (record { waiting = None; is_over = (input_at i f).is_over }) →
-    IsFileOrderly p (s ∷ earlier) (other_file f) (input_at i (other_file f)) → IsOrderly p (s ∷ earlier) (with_waiting f None i)
+    IsFileOrderly p (s ∷ earlier) (other_file f) (input_at i (other_file f)) → AreMergedInOrder p (s ∷ earlier) (with_waiting f None i)
 at p earlier i Primary s m g h = record { merged = m; primary = g; secondary = h }
 at p earlier i Secondary s m g h = record { merged = m; primary = h; secondary = g }
 
-orderly_with : (p : Object) (earlier : List Selected) (i : Inputs) (f : InputFile) (s : Selected) → IsOrderly p earlier i → waiting_in i f ≡ Some s →
+orderly_with : (p : Object) (earlier : List Selected) (i : Inputs) (f : InputFile) (s : Selected) → AreMergedInOrder p earlier i → waiting_in i f ≡ Some s →
     (is_spent p (other_file f) (input_at i (other_file f)) ≡ true) ⊎ IsBefore p (match_value p s) (input_at i (other_file f)) →
-    IsOrderly p (s ∷ earlier) (with_waiting f None i) × IsTopIfAny p (match_value p s) earlier
+    AreMergedInOrder p (s ∷ earlier) (with_waiting f None i) × IsTopIfAny p (match_value p s) earlier
 orderly_with p earlier i f s h w other =
     let mine = file_orderly p earlier i h f in
-    let own : file_at p s ≡ f = subst (λ (o : Option Selected). IsFrom p f o) w mine.own in
+    let own : file_at p s ≡ f = subst (λ (o : Option Selected). IsFromFile p f o) w mine.own in
     let top = top_any p (match_value p s) (last_value p f earlier) earlier (own_top p earlier f (input_at i f) s w own (mine.top (still_unspent p f (input_at i f) s w))) in (
       at p earlier i f s (top, h.merged) (left_own p earlier f (input_at i f) s w own mine)
           (left_other p earlier f (input_at i (other_file f)) s own (file_orderly p earlier i h (other_file f)) other),
       top,
     )
 
-picked : (p : Object) (earlier : List Selected) (f : InputFile) (s : Selected) (c d : UnderWay) (b : Bool) (x y : UnderWay) → IsOrderly p earlier c.inputs → waiting_in c.inputs f ≡ Some s →
+picked : (p : Object) (earlier : List Selected) (f : InputFile) (s : Selected) (c d : UnderWay) (b : Bool) (x y : UnderWay) → AreMergedInOrder p earlier c.inputs → waiting_in c.inputs f ≡ Some s →
     (is_spent p (other_file f) (input_at c.inputs (other_file f)) ≡ true) ⊎ IsBefore p (match_value p s) (input_at c.inputs (other_file f)) →
     x.selected ≡ Some s → x.inputs ≡ with_waiting f None c.inputs →
     GoesOn ≡ (let r : Done = cond b (done GoesOn x) (done (Wrong effects.Storage) y) in r).end → d ≡ (let r : Done = cond b (done GoesOn x) (done (Wrong effects.Storage) y) in r).leads → Picked p earlier d
@@ -109,11 +109,11 @@ picked p earlier f s c d false x y h w other is left goes leads = absurd (cc)
 picked p earlier f s c d true x y h w other is left goes leads =
     let r = orderly_with p earlier c.inputs f s h w other in
     subst (λ (z : UnderWay). Picked p earlier z) (sym leads) (record {
-      orderly = subst (λ (o : Option Selected). IsOrderly p (with_record o earlier) x.inputs) (sym is) (subst (λ (i : Inputs). IsOrderly p (s ∷ earlier) i) (sym left) r.0);
+      orderly = subst (λ (o : Option Selected). AreMergedInOrder p (with_record o earlier) x.inputs) (sym is) (subst (λ (i : Inputs). AreMergedInOrder p (s ∷ earlier) i) (sym left) r.0);
       top = λ t e. subst (λ (z : Selected). IsTopIfAny p (match_value p z) earlier) (one s t (sym is ∙ e)) r.1;
     })
 
-from_file : (p : Object) (earlier : List Selected) (f : InputFile) (s : Selected) (c d : UnderWay) → IsOrderly p earlier c.inputs → waiting_in c.inputs f ≡ Some s →
+from_file : (p : Object) (earlier : List Selected) (f : InputFile) (s : Selected) (c d : UnderWay) → AreMergedInOrder p earlier c.inputs → waiting_in c.inputs f ≡ Some s →
     (is_spent p (other_file f) (input_at c.inputs (other_file f)) ≡ true) ⊎ IsBefore p (match_value p s) (input_at c.inputs (other_file f)) →
     GoesOn ≡ (select_waiting p (left_by p earlier) f (Some s) c).end → d ≡ (select_waiting p (left_by p earlier) f (Some s) c).leads → Picked p earlier d
 from_file p earlier f s c d h w other goes leads =
@@ -123,7 +123,7 @@ from_file p earlier f s c d h w other goes leads =
     (with_config (charged (length (control_fields p s.type))) c') h w other refl refl goes leads
 
 -- of two records that wait
-of_two : (p : Object) (earlier : List Selected) (s t : Selected) (c d : UnderWay) (m n : Option (List ℕ)) → match_value p s ≡ m → match_value p t ≡ n → IsOrderly p earlier c.inputs →
+of_two : (p : Object) (earlier : List Selected) (s t : Selected) (c d : UnderWay) (m n : Option (List ℕ)) → match_value p s ≡ m → match_value p t ≡ n → AreMergedInOrder p earlier c.inputs →
     waiting_in c.inputs Primary ≡ Some s → waiting_in c.inputs Secondary ≡ Some t →
     GoesOn ≡ (select_from p (left_by p earlier) (Some (first_of m n)) c).end → d ≡ (select_from p (left_by p earlier) (Some (first_of m n)) c).leads → Picked p earlier d
 of_two p earlier s t c d None n own theirs h v w goes leads =
@@ -153,20 +153,20 @@ of_two p earlier s t c d (Some x) (Some y) own theirs h v w goes leads = go (is_
         }))
         (goes ∙ ap (λ (o : Option Selected). (select_waiting p (left_by p earlier) Primary o c).end) v) (leads ∙ ap (λ (o : Option Selected). (select_waiting p (left_by p earlier) Primary o c).leads) v)
 
-unselected : (p : Object) (earlier : List Selected) (d : UnderWay) → d.selected ≡ None → IsOrderly p earlier d.inputs → Picked p earlier d
+unselected : (p : Object) (earlier : List Selected) (d : UnderWay) → d.selected ≡ None → AreMergedInOrder p earlier d.inputs → Picked p earlier d
 unselected p earlier d e h = record {
-  orderly = subst (λ (o : Option Selected). IsOrderly p (with_record o earlier) d.inputs) (sym e) h;
+  orderly = subst (λ (o : Option Selected). AreMergedInOrder p (with_record o earlier) d.inputs) (sym e) h;
   top = λ s k. absurd (let x : None ≡ Some s = sym e ∙ k in cc);
 }
 
-pub selects : (p : Object) (earlier : List Selected) (c d : UnderWay) (out : Output) → IsOrderly p earlier c.inputs → c.selected ≡ None → takes_in p c.inputs Primary ≡ false →
+pub selects : (p : Object) (earlier : List Selected) (c d : UnderWay) (out : Output) → AreMergedInOrder p earlier c.inputs → c.selected ≡ None → takes_in p c.inputs Primary ≡ false →
     takes_in p c.inputs Secondary ≡ false → select_one p (left_by p earlier) c GoesOn d out → Picked p earlier d
 selects p earlier c d out h none first second g = go (waiting_in c.inputs Primary) (waiting_in c.inputs Secondary) refl refl
     (g.0) (g.1)
   where
     go : (v w : Option Selected) → waiting_in c.inputs Primary ≡ v → waiting_in c.inputs Secondary ≡ w → GoesOn ≡ (select_from p (left_by p earlier) (chosen p v w) c).end →
         d ≡ (select_from p (left_by p earlier) (chosen p v w) c).leads → Picked p earlier d
-    go None None a b goes leads = unselected p earlier d (ap (λ (u : UnderWay). u.selected) leads ∙ none) (subst (λ (u : UnderWay). IsOrderly p earlier u.inputs) (sym leads) h)
+    go None None a b goes leads = unselected p earlier d (ap (λ (u : UnderWay). u.selected) leads ∙ none) (subst (λ (u : UnderWay). AreMergedInOrder p earlier u.inputs) (sym leads) h)
     go (Some s) None a b goes leads =
         from_file p earlier Primary s c d h a (inl (settled_spent p c.inputs Secondary second b))
         (goes ∙ ap (λ (o : Option Selected). (select_waiting p (left_by p earlier) Primary o c).end) a) (leads ∙ ap (λ (o : Option Selected). (select_waiting p (left_by p earlier) Primary o c).leads) a)

@@ -19,8 +19,8 @@ use Rattle.rpg_cycle_records.specs.Identifying.{IsOf, IsOfNone, identified, is_g
 use Rattle.rpg_cycle_records.specs.Keeping.{left_of, renewed, renewed_by, selected_as}
 use Rattle.rpg_cycle_records.specs.Levels.{broken_in, is_in_record}
 use Rattle.rpg_cycle_records.specs.Matching.{exceeds}
-use Rattle.rpg_cycle_records.specs.Waiting.{Input, Inputs, chosen, input_at, over, takes_in, waiting_in, with_input, with_waiting}
-use Rattle.rpg_cycle_records.specs.Holding.{HoldsRecord, HoldsSelected, IsFileKept, input_of, inputs_of, kept_at, record_in, takes_from, text_in}
+use Rattle.rpg_cycle_records.specs.Waiting.{InputState, Inputs, chosen, input_at, with_file_over, takes_in, waiting_in, with_input, with_waiting}
+use Rattle.rpg_cycle_records.specs.Holding.{HoldsRecord, HoldsSelected, IsFileKept, input_state_of, inputs_of, kept_at, record_in, takes_from, text_in}
 use Rattle.rpg_cycle_records.specs.declared.files.KeptFile.{KeptFile}
 use Rattle.rpg_cycle_records.specs.declared.kept.Kept.{Kept}
 use Rattle.rpg_cycle.specs.Phases.{broken_level, does, done, either, read_record, select_from, select_one, select_record, select_waiting, take_in, type_indicator, with_config, ◌before◌}
@@ -102,14 +102,14 @@ too_low p left f text full i t a b c e good is one fields two low h = record {
 }
 
 -- it waits
-pub waits : (p : Object) (left : Left) (f : InputFile) (text full : List ℕ) (i : Inputs) (x : Input) (t : ℕ) (a b c : Running) → is_good_record p f text ≡ true → full ≡ padded p f text → TakesType p f full a t b →
+pub waits : (p : Object) (left : Left) (f : InputFile) (text full : List ℕ) (i : Inputs) (x : InputState) (t : ℕ) (a b c : Running) → is_good_record p f text ≡ true → full ≡ padded p f text → TakesType p f full a t b →
     All (IsControlIn (length full)) (match_fields p t) → c ≡ record b { config = charged (length (match_fields p t)) b.config } →
     exceeds (last_of_file left f) (match_value p (record { type = t; text = full })) ≡ false →
     x ≡ record { waiting = Some (record { type = t; text = full }); is_over = (input_at i f).is_over } → HasRead p left f (Some text) i a GoesOn c (with_input f x i)
 waits p left f text full i x t a b c good is one fields two low h = record {
   config = taken p f full t a.config;
   read = λ previous. reads_one p left f text full i (config_on previous a.config) t good (sym is) one.type (all_inside (length full) (match_fields p t) fields) low
-      ∙ ap (λ (y : Input). done GoesOn (under_way (taken p f full t (config_on previous a.config)) (unselected (with_input f y i)))) (sym h);
+      ∙ ap (λ (y : InputState). done GoesOn (under_way (taken p f full t (config_on previous a.config)) (unselected (with_input f y i)))) (sym h);
   machine = charged_so p f full t a b c one two;
 }
 
@@ -127,12 +127,12 @@ pub low_so : (l v m : Option (List ℕ)) (b r : Bool) → l ≡ v → b ≡ not 
 low_so l v m b r same is h = ap (λ (x : Option (List ℕ)). exceeds x m) same ∙ negated (exceeds v m) r (sym is ∙ h)
 
 -- what is kept of a file where the record waits
-pub waits_so : (k : KeptFile) (t : ℕ) (text : List ℕ) (x : Input) → k.waiting ≡ Some t → k.record.items ≡ text → k.is_over ≡ x.is_over →
-    input_of k ≡ record { waiting = Some (record { type = t; text = text }); is_over = x.is_over }
+pub waits_so : (k : KeptFile) (t : ℕ) (text : List ℕ) (x : InputState) → k.waiting ≡ Some t → k.record.items ≡ text → k.is_over ≡ x.is_over →
+    input_state_of k ≡ record { waiting = Some (record { type = t; text = text }); is_over = x.is_over }
 waits_so k t text x w e o =
-    ap (λ (r : Option ℕ). let y : Input = record { waiting = selected_as r k.record.items; is_over = k.is_over } in y) w
-    ∙ ap (λ (xs : List ℕ). let y : Input = record { waiting = selected_as (Some t) xs; is_over = k.is_over } in y) e
-    ∙ ap (λ (b : Bool). let y : Input = record { waiting = selected_as (Some t) text; is_over = b } in y) o
+    ap (λ (r : Option ℕ). let y : InputState = record { waiting = selected_as r k.record.items; is_over = k.is_over } in y) w
+    ∙ ap (λ (xs : List ℕ). let y : InputState = record { waiting = selected_as (Some t) xs; is_over = k.is_over } in y) e
+    ∙ ap (λ (b : Bool). let y : InputState = record { waiting = selected_as (Some t) text; is_over = b } in y) o
 
 -- ---- the phase
 
@@ -147,7 +147,7 @@ asked p left f next given i j a b e h is r =
     (λ previous. rw h (ap (λ (n : Option (List ℕ)). read_record p left f n (under_way (config_on previous a.config) (unselected i))) is ∙ r.read previous)) r.machine
 
 -- the file is at its end
-pub at_end : (p : Object) (left : Left) (f : InputFile) (i : Inputs) (a : Running) → HasRead p left f None i a GoesOn a (over f i)
+pub at_end : (p : Object) (left : Left) (f : InputFile) (i : Inputs) (a : Running) → HasRead p left f None i a GoesOn a (with_file_over f i)
 at_end p left f i a = record { config = a.config; read = λ previous. refl; machine = refl }
 
 -- ---- what is kept of a file, put in its place
@@ -156,13 +156,13 @@ put_back : (f : InputFile) (i : Inputs) → with_input f (input_at i f) i ≡ i
 put_back Primary i = refl
 put_back Secondary i = refl
 
-pub stays : (p : Object) (left : Left) (f : InputFile) (next : Option (List ℕ)) (i : Inputs) (x : Input) (a : Running) → input_at i f ≡ x → takes_from p f x ≡ false →
+pub stays : (p : Object) (left : Left) (f : InputFile) (next : Option (List ℕ)) (i : Inputs) (x : InputState) (a : Running) → input_at i f ≡ x → takes_from p f x ≡ false →
     Does (take_in p left f next) a (unselected i) GoesOn a (unselected (with_input f x i))
 stays p left f next i x a is h =
-    subst (λ (j : Inputs). Does (take_in p left f next) a (unselected i) GoesOn a (unselected j)) (sym (put_back f i) ∙ ap (λ (y : Input). with_input f y i) is)
+    subst (λ (j : Inputs). Does (take_in p left f next) a (unselected i) GoesOn a (unselected j)) (sym (put_back f i) ∙ ap (λ (y : InputState). with_input f y i) is)
     (settled p left f next i a (ap (takes_from p f) is ∙ h))
 
-none_there : (b : Bool) (i : Input) → (b && (not i.is_over && is_none i.waiting)) ≡ true → i.waiting ≡ None
+none_there : (b : Bool) (i : InputState) → (b && (not i.is_over && is_none i.waiting)) ≡ true → i.waiting ≡ None
 none_there b i h = none b i.is_over i.waiting h
   where
     none : (b c : Bool) (o : Option Selected) → (b && (not c && is_none o)) ≡ true → o ≡ None
@@ -171,12 +171,12 @@ none_there b i h = none b i.is_over i.waiting h
     none true true o h = cc
     none false c o h = cc
 
-pub ends : (p : Object) (left : Left) (f : InputFile) (next : Option (List ℕ)) (i : Inputs) (x y : Input) (a : Running) → input_at i f ≡ x → takes_from p f x ≡ true → next ≡ None →
+pub ends : (p : Object) (left : Left) (f : InputFile) (next : Option (List ℕ)) (i : Inputs) (x y : InputState) (a : Running) → input_at i f ≡ x → takes_from p f x ≡ true → next ≡ None →
     y ≡ record { waiting = x.waiting; is_over = true } → Does (take_in p left f next) a (unselected i) GoesOn a (unselected (with_input f y i))
 ends p left f next i x y a is h none e =
-    subst (λ (z : Input). Does (take_in p left f next) a (unselected i) GoesOn a (unselected (with_input f z i)))
-    (ap (λ (o : Option Selected). let z : Input = record { waiting = o; is_over = true } in z) (sym (none_there (has_file p f) x h)) ∙ sym e)
-    (asked p left f next None i (over f i) a a GoesOn (ap (takes_from p f) is ∙ h) none (at_end p left f i a))
+    subst (λ (z : InputState). Does (take_in p left f next) a (unselected i) GoesOn a (unselected (with_input f z i)))
+    (ap (λ (o : Option Selected). let z : InputState = record { waiting = o; is_over = true } in z) (sym (none_there (has_file p f) x h)) ∙ sym e)
+    (asked p left f next None i (with_file_over f i) a a GoesOn (ap (takes_from p f) is ∙ h) none (at_end p left f i a))
 
 pub taken_costs : (p : Object) (f : InputFile) (full : List ℕ) (t : ℕ) (a b c : Running) → TakesType p f full a t b → c ≡ record b { config = charged (length (match_fields p t)) b.config } → SpendsTakingIn p f a c
 taken_costs p f full t a b c one two =
@@ -195,12 +195,12 @@ few_steps p f full t a b c one two few =
 
 -- ---- a waiting record is selected
 
-pub nothing_waits : (p : Object) (left : Left) (f : InputFile) (i : Inputs) (x : Input) (text : List ℕ) (a : Running) → input_at i f ≡ x → x.waiting ≡ None → HasSelected p left f i a None text a (with_input f x i)
+pub nothing_waits : (p : Object) (left : Left) (f : InputFile) (i : Inputs) (x : InputState) (text : List ℕ) (a : Running) → input_at i f ≡ x → x.waiting ≡ None → HasSelected p left f i a None text a (with_input f x i)
 nothing_waits p left f i x text a is none = record {
   config = a.config;
   leads = λ previous.
-      ap (λ (o : Option Selected). select_waiting p left f o (under_way (config_on previous a.config) (unselected i))) (ap (λ (y : Input). y.waiting) is ∙ none)
-      ∙ ap (λ (j : Inputs). done GoesOn (under_way (config_on previous a.config) (unselected j))) (sym (put_back f i) ∙ ap (λ (y : Input). with_input f y i) is);
+      ap (λ (o : Option Selected). select_waiting p left f o (under_way (config_on previous a.config) (unselected i))) (ap (λ (y : InputState). y.waiting) is ∙ none)
+      ∙ ap (λ (j : Inputs). done GoesOn (under_way (config_on previous a.config) (unselected j))) (sym (put_back f i) ∙ ap (λ (y : InputState). with_input f y i) is);
   machine = refl;
 }
 
@@ -220,17 +220,17 @@ selects_it : (p : Object) (left : Left) (f : InputFile) (i : Inputs) (t : ℕ) (
     select_waiting p left f (Some (record { type = t; text = text })) (under_way c (unselected i)) ≡ done GoesOn (under_way (compared_so p left t text c) (holding (with_waiting f None i) (Some t) text))
 selects_it p left f i t text c there = rw there refl
 
-pub one_waits : (p : Object) (left : Left) (f : InputFile) (i : Inputs) (x y : Input) (t : ℕ) (text : List ℕ) (a b : Running) (now : List (Option (List ℕ))) → input_at i f ≡ x →
+pub one_waits : (p : Object) (left : Left) (f : InputFile) (i : Inputs) (x y : InputState) (t : ℕ) (text : List ℕ) (a b : Running) (now : List (Option (List ℕ))) → input_at i f ≡ x →
     x.waiting ≡ Some (record { type = t; text = text }) → y ≡ record { waiting = None; is_over = x.is_over } → IsCompared (type_indicator (slice_get p.types t)) (control_fields p t) text left.bytes a b now →
     HasSelected p left f i a (Some t) text b (with_input f y i)
 one_waits p left f i x y t text a b now is waits e h = record {
   config = compared_so p left t text a.config;
   leads = λ previous.
-      ap (λ (o : Option Selected). select_waiting p left f o (under_way (config_on previous a.config) (unselected i))) (ap (λ (z : Input). z.waiting) is ∙ waits)
+      ap (λ (o : Option Selected). select_waiting p left f o (under_way (config_on previous a.config) (unselected i))) (ap (λ (z : InputState). z.waiting) is ∙ waits)
       ∙ selects_it p left f i t text (config_on previous a.config) (all_inside (length text) (control_fields p t) h.inside)
       ∙ ap (λ (c : Config). done GoesOn (under_way c (holding (with_waiting f None i) (Some t) text))) (sym (compared_on previous p left t text a.config))
-      ∙ ap (λ (z : Input). done GoesOn (under_way (config_on previous (compared_so p left t text a.config)) (holding (with_input f z i) (Some t) text)))
-      (ap (λ (z : Input). let w : Input = record { waiting = None; is_over = z.is_over } in w) is ∙ sym e);
+      ∙ ap (λ (z : InputState). done GoesOn (under_way (config_on previous (compared_so p left t text a.config)) (holding (with_input f z i) (Some t) text)))
+      (ap (λ (z : InputState). let w : InputState = record { waiting = None; is_over = z.is_over } in w) is ∙ sym e);
   machine = h.machine;
 }
 

@@ -23,7 +23,7 @@ use Rattle.rpg_cycle.specs.Phases.{all_off}
 use Rattle.rpg_cycle.specs.Spending.{SpendsSelecting, Spends, SpendsTakingIn, compared_weight, cycle_weight, fields_weight, matched_weight, reach, record_weight, section_cost}
 use Rattle.rpg_machine.specs.Config.{Config, charged}
 use Rattle.rpg_machine.specs.Potential.{PaysForSection}
-use Rattle.rpg_machine.specs.Outputs.{FillsFields, PutsOut, inputs_at, inputs_of, output_weight}
+use Rattle.rpg_machine.specs.Outputs.{FillsFields, PutsOut, inputs_at, input_fields_of, output_weight}
 use Rattle.rpg_machine.specs.Running.{Did, Running, refilled}
 use Rattle.rpg_machine.specs.declared.time.OutputTime.{OutputTime}
 use Rattle.rpg_machine.specs.declared.time.OutputTime.TheVariants as spoken
@@ -144,7 +144,7 @@ matched_both p (Some j) None e f = let h = one_row p.types j in omega (arith, h)
 matched_both p None (Some k) e f = let h = one_row p.types k in omega (arith, h)
 matched_both p (Some j) (Some k) e f = two_rows p.types j k (e j refl) (f k refl)
 
-moved_is : (o : Option (TypeRow ℕ)) → length (levels_of o) + length (inputs_of o) ≡ moved_of o
+moved_is : (o : Option (TypeRow ℕ)) → length (levels_of o) + length (input_fields_of o) ≡ moved_of o
 moved_is None = refl
 moved_is (Some t) = refl
 

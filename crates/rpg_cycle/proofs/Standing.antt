@@ -6,7 +6,7 @@ use Rattle.rpg_cycle.specs.Ends.{PhaseEnd, GoesOn, EndOfJob, Halt, Wrong, phase_
 use Rattle.rpg_cycle.specs.Indicators.{is_on, last_record, level_indicators, with_all, with_levels, with_one, with_type, without_type, without_types}
 use Rattle.rpg_cycle.specs.Phases.{CycleOn, Done, Phase, UnderWay, all_off, begun, broken_level, by_machine, does, done, either, fill_from, from_there, identify, needs_record, output, passes, read_record, section, select_from, select_record, select_waiting, take_type, type_indicator, unless, with_config, with_inputs, ◌before◌}
 use Rattle.rpg_cycle.specs.Runs.{Course, Records, RunsIn, ends_or, left_behind, next_of}
-use Rattle.rpg_cycle.specs.Standing.{RunsStandRight, StandsRight}
+use Rattle.rpg_cycle.specs.Standing.{RunsStandRight, StandsRightAtEnd}
 use Rattle.rpg_cycle.specs.Starting.{job_start}
 use Rattle.rpg_cycle_records.specs.Earlier.{Left, Selected, control_fields, last_of_file, left_by, match_fields, match_value, with_record}
 use Rattle.rpg_cycle_records.specs.Matching.{exceeds}
@@ -81,9 +81,9 @@ module _ (p : Object) where
 
   -- from the end of calculations
   record Stands (P : Phase) : Type 0 where
-    right : (c : UnderWay) (e : PhaseEnd) (d : UnderWay) (out : Output) → P c e d out → running_place p c.config ≡ None → StandsRight p e d.config
+    right : (c : UnderWay) (e : PhaseEnd) (d : UnderWay) (out : Output) → P c e d out → running_place p c.config ≡ None → StandsRightAtEnd p e d.config
 
-  outside : (e : PhaseEnd) (d : Config) → running_place p d ≡ None → StandsRight p e d
+  outside : (e : PhaseEnd) (d : Config) → running_place p d ≡ None → StandsRightAtEnd p e d
   outside GoesOn d none = none
   outside EndOfJob d none = none
   outside (Halt k) d none = inl none
@@ -98,7 +98,7 @@ module _ (p : Object) where
   effect_stands : (weight : ℕ) (effect : World nat_cmp → Effect nat_cmp) → Stands (by_machine (ByEffect weight effect))
   effect_stands weight effect = record { right = λ c e d out h none. outside e d.config (ap (λ (x : Config). running_place p x) h.1.leads ∙ none) }
 
-  section_ends : (last : effects.End) (d : Config) → machines.StandsRight p last d → StandsRight p (phase_end last) d
+  section_ends : (last : effects.End) (d : Config) → machines.StandsRight p last d → StandsRightAtEnd p (phase_end last) d
   section_ends effects.GoesOn d right = right
   section_ends (effects.Halt k) d right = inr right
   section_ends (effects.Wrong f) d right = tt
@@ -106,15 +106,15 @@ module _ (p : Object) where
   section_stands : (s : Section) → Stands (section p s)
   section_stands s = record {
     right = λ c e d out h none.
-        subst (λ (x : PhaseEnd). StandsRight p x d.config) (sym h.2) (section_ends h.0 d.config (sections_stand_right p s c.config h.0 d.config out h.1));
+        subst (λ (x : PhaseEnd). StandsRightAtEnd p x d.config) (sym h.2) (section_ends h.0 d.config (sections_stand_right p s c.config h.0 d.config out h.1));
   }
 
   there_stands : (Q : Phase) → Stands Q → (f : PhaseEnd) (m : UnderWay) (put : Output) (e : PhaseEnd) (d : UnderWay) (out : Output) →
-      from_there Q f m put e d out → StandsRight p f m.config → StandsRight p e d.config
+      from_there Q f m put e d out → StandsRightAtEnd p f m.config → StandsRightAtEnd p e d.config
   there_stands Q q GoesOn m put e d out h right = q.right m e d h.0 h.1 right
-  there_stands Q q EndOfJob m put e d out h right = subst (λ (x : PhaseEnd). StandsRight p x d.config) (sym h.0) (subst (λ (u : UnderWay). StandsRight p EndOfJob u.config) (sym h.1) right)
-  there_stands Q q (Halt k) m put e d out h right = subst (λ (x : PhaseEnd). StandsRight p x d.config) (sym h.0) (subst (λ (u : UnderWay). StandsRight p (Halt k) u.config) (sym h.1) right)
-  there_stands Q q (Wrong f) m put e d out h right = subst (λ (x : PhaseEnd). StandsRight p x d.config) (sym h.0) tt
+  there_stands Q q EndOfJob m put e d out h right = subst (λ (x : PhaseEnd). StandsRightAtEnd p x d.config) (sym h.0) (subst (λ (u : UnderWay). StandsRightAtEnd p EndOfJob u.config) (sym h.1) right)
+  there_stands Q q (Halt k) m put e d out h right = subst (λ (x : PhaseEnd). StandsRightAtEnd p x d.config) (sym h.0) (subst (λ (u : UnderWay). StandsRightAtEnd p (Halt k) u.config) (sym h.1) right)
+  there_stands Q q (Wrong f) m put e d out h right = subst (λ (x : PhaseEnd). StandsRightAtEnd p x d.config) (sym h.0) tt
 
   before_stands : (P Q : Phase) → Stands P → Stands Q → Stands (P before Q)
   before_stands P Q s q = record { right = λ c e d out h none. there_stands Q q h.0 h.1 h.2 e d out h.4 (s.right c h.0 h.1 h.2 h.3 none) }
@@ -208,15 +208,15 @@ module _ (p : Object) where
 
   -- ---- a run
 
-  ends_stand : (e : PhaseEnd) (d : UnderWay) (out : Output) (Rest : UnderWay → Course → Type 0) (course : Course) → StandsRight p e d.config
-      → (running_place p d.config ≡ None → (rest : Course) → Rest d rest → StandsRight p rest.ending rest.there.config) → ends_or e d out Rest course → StandsRight p course.ending course.there.config
-  ends_stand GoesOn d out Rest course right go (rest, h, is) = subst (λ (x : Course). StandsRight p x.ending x.there.config) (sym is) (go right rest h)
-  ends_stand EndOfJob d out Rest course right go is = subst (λ (x : Course). StandsRight p x.ending x.there.config) (sym is) right
-  ends_stand (Halt k) d out Rest course right go is = subst (λ (x : Course). StandsRight p x.ending x.there.config) (sym is) right
-  ends_stand (Wrong f) d out Rest course right go is = subst (λ (x : Course). StandsRight p x.ending x.there.config) (sym is) right
+  ends_stand : (e : PhaseEnd) (d : UnderWay) (out : Output) (Rest : UnderWay → Course → Type 0) (course : Course) → StandsRightAtEnd p e d.config
+      → (running_place p d.config ≡ None → (rest : Course) → Rest d rest → StandsRightAtEnd p rest.ending rest.there.config) → ends_or e d out Rest course → StandsRightAtEnd p course.ending course.there.config
+  ends_stand GoesOn d out Rest course right go (rest, h, is) = subst (λ (x : Course). StandsRightAtEnd p x.ending x.there.config) (sym is) (go right rest h)
+  ends_stand EndOfJob d out Rest course right go is = subst (λ (x : Course). StandsRightAtEnd p x.ending x.there.config) (sym is) right
+  ends_stand (Halt k) d out Rest course right go is = subst (λ (x : Course). StandsRightAtEnd p x.ending x.there.config) (sym is) right
+  ends_stand (Wrong f) d out Rest course right go is = subst (λ (x : Course). StandsRightAtEnd p x.ending x.there.config) (sym is) right
 
   runs_stand : (n : ℕ) (rs : Records) (earlier : List Selected) (c : Config) (i : Inputs) (course : Course) → running_place p c ≡ None → RunsIn n p earlier rs c i course
-      → StandsRight p course.ending course.there.config
+      → StandsRightAtEnd p course.ending course.there.config
   runs_stand zero rs earlier c i course none h = absurd h
   runs_stand (suc n) rs earlier c i course none (e, d, out, cycle, ends) =
       ends_stand e d out (λ d rest. RunsIn n p (with_record d.selected earlier) (left_behind p c i rs) d.config d.inputs rest) course

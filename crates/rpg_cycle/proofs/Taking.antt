@@ -13,9 +13,9 @@ use Rattle.rpg_cycle.specs.Ends.{GoesOn, Halt, Wrong}
 use Rattle.rpg_cycle_records.specs.Identifying.{Trial, IsOf, IsOfNone, Misplaced, padded, code_holds, identified, is_good_record, has_position, same_file, trial_weight}
 use Rattle.rpg_cycle_records.specs.Levels.{is_in_record}
 use Rattle.rpg_cycle_records.specs.Matching.{exceeds}
-use Rattle.rpg_cycle_records.specs.Merging.{IsOrderly, IsTopOf, front}
+use Rattle.rpg_cycle_records.specs.Merging.{AreMergedInOrder, IsTopOf, front}
 use Rattle.rpg_cycle.specs.Phases.{Done, UnderWay, done, identify, read_record, take_in, take_type, with_config, with_inputs}
-use Rattle.rpg_cycle_records.specs.Waiting.{Input, Inputs, input_at, other_file, over, takes_in, value_of, with_input, with_waiting}
+use Rattle.rpg_cycle_records.specs.Waiting.{InputState, Inputs, input_at, other_file, with_file_over, takes_in, waiting_value, with_input, with_waiting}
 
 -- ---- the type that is found is one of the file
 
@@ -58,16 +58,16 @@ found_in p f text k h =
 -- ---- what it leads to
 
 pub record Taken (p : Object) (earlier : List Selected) (f : InputFile) (c d : UnderWay) : Type 0 where
-  pub orderly : IsOrderly p earlier d.inputs
+  pub orderly : AreMergedInOrder p earlier d.inputs
   pub selected : d.selected ≡ c.selected
   pub settled : takes_in p d.inputs f ≡ false
   pub other : input_at d.inputs (other_file f) ≡ input_at c.inputs (other_file f)
 
-put_at : (f : InputFile) (x : Input) (i : Inputs) → input_at (with_input f x i) f ≡ x
+put_at : (f : InputFile) (x : InputState) (i : Inputs) → input_at (with_input f x i) f ≡ x
 put_at Primary x i = refl
 put_at Secondary x i = refl
 
-kept_at : (f : InputFile) (x : Input) (i : Inputs) → input_at (with_input f x i) (other_file f) ≡ input_at i (other_file f)
+kept_at : (f : InputFile) (x : InputState) (i : Inputs) → input_at (with_input f x i) (other_file f) ≡ input_at i (other_file f)
 kept_at Primary x i = refl
 kept_at Secondary x i = refl
 
@@ -79,12 +79,12 @@ shut_twice : (a b : Bool) → (a && (b && false)) ≡ false
 shut_twice a b = ap (λ x. a && x) (shut b) ∙ shut a
 
 -- its end was read
-ended : (p : Object) (earlier : List Selected) (f : InputFile) (c : UnderWay) → IsOrderly p earlier c.inputs → Taken p earlier f c (with_inputs (over f) c)
+ended : (p : Object) (earlier : List Selected) (f : InputFile) (c : UnderWay) → AreMergedInOrder p earlier c.inputs → Taken p earlier f c (with_inputs (with_file_over f) c)
 ended p earlier f c h = record {
   orderly = with_orderly p earlier c.inputs h f (record { waiting = None; is_over = true })
       (record { own = tt; top = λ k. absurd (let e : true ≡ false = sym (over_spent p f) ∙ k in cc) });
   selected = refl;
-  settled = ap (λ (x : Input). has_file p f && (not x.is_over && is_none x.waiting)) (put_at f (record { waiting = None; is_over = true }) c.inputs) ∙ shut (has_file p f);
+  settled = ap (λ (x : InputState). has_file p f && (not x.is_over && is_none x.waiting)) (put_at f (record { waiting = None; is_over = true }) c.inputs) ∙ shut (has_file p f);
   other = kept_at f (record { waiting = None; is_over = true }) c.inputs;
 }
 
@@ -97,20 +97,20 @@ come : (p : Object) (earlier : List Selected) (m last : Option (List ℕ)) → e
 come p earlier None last low h = h
 come p earlier (Some v) last low h = top_up p last v earlier low h
 
-waits : (p : Object) (earlier : List Selected) (f : InputFile) (c : UnderWay) (s : Selected) → IsOrderly p earlier c.inputs → takes_in p c.inputs f ≡ true → file_at p s ≡ f →
+waits : (p : Object) (earlier : List Selected) (f : InputFile) (c : UnderWay) (s : Selected) → AreMergedInOrder p earlier c.inputs → takes_in p c.inputs f ≡ true → file_at p s ≡ f →
     exceeds (last_of_file (left_by p earlier) f) (match_value p s) ≡ false → Taken p earlier f c (with_inputs (with_waiting f (Some s)) c)
 waits p earlier f c s h free own low = record {
   orderly = with_orderly p earlier c.inputs h f x (record { own = own; top = λ k. top });
   selected = refl;
-  settled = ap (λ (y : Input). has_file p f && (not y.is_over && is_none y.waiting)) (put_at f x c.inputs) ∙ shut_twice (has_file p f) (not x.is_over);
+  settled = ap (λ (y : InputState). has_file p f && (not y.is_over && is_none y.waiting)) (put_at f x c.inputs) ∙ shut_twice (has_file p f) (not x.is_over);
   other = kept_at f x c.inputs;
 }
   where
-    x : Input
+    x : InputState
     x = record { waiting = Some s; is_over = (input_at c.inputs f).is_over }
 
     before : IsTopOf p (last_value p f earlier) earlier
-    before = subst (λ (w : Option Selected). IsTopOf p (or_before (last_value p f earlier) (value_of p f w)) earlier) (taking_none p c.inputs f free)
+    before = subst (λ (w : Option Selected). IsTopOf p (or_before (last_value p f earlier) (waiting_value p f w)) earlier) (taking_none p c.inputs f free)
         ((file_orderly p earlier c.inputs h f).top (taking_unspent p c.inputs f free))
 
     top : IsTopOf p (front p earlier f x) earlier
@@ -130,7 +130,7 @@ good_one : (b : Bool) (x : Done) (c d : UnderWay) → GoesOn ≡ (let r : Done =
 good_one true x c d h e = (h, e)
 good_one false x c d h e = absurd (cc)
 
-typed : (p : Object) (earlier : List Selected) (f : InputFile) (text : List ℕ) (c d : UnderWay) (t : Trial) → identified f 0 p.types text ≡ t → IsOrderly p earlier c.inputs → takes_in p c.inputs f ≡ true →
+typed : (p : Object) (earlier : List Selected) (f : InputFile) (text : List ℕ) (c d : UnderWay) (t : Trial) → identified f 0 p.types text ≡ t → AreMergedInOrder p earlier c.inputs → takes_in p c.inputs f ≡ true →
     GoesOn ≡ (take_type p (left_by p earlier) f text t c).end → d ≡ (take_type p (left_by p earlier) f text t c).leads → Taken p earlier f c d
 typed p earlier f text c d (IsOf k) is h free goes leads =
     let s : Selected = record { type = k; text = text } in
@@ -142,7 +142,7 @@ typed p earlier f text c d (IsOf k) is h free goes leads =
 typed p earlier f text c d IsOfNone is h free goes leads = absurd (cc)
 typed p earlier f text c d Misplaced is h free goes leads = absurd (cc)
 
-read : (p : Object) (earlier : List Selected) (f : InputFile) (next : Option (List ℕ)) (c d : UnderWay) → IsOrderly p earlier c.inputs → takes_in p c.inputs f ≡ true →
+read : (p : Object) (earlier : List Selected) (f : InputFile) (next : Option (List ℕ)) (c d : UnderWay) → AreMergedInOrder p earlier c.inputs → takes_in p c.inputs f ≡ true →
     GoesOn ≡ (read_record p (left_by p earlier) f next c).end → d ≡ (read_record p (left_by p earlier) f next c).leads → Taken p earlier f c d
 read p earlier f None c d h free goes leads = subst (λ (y : UnderWay). Taken p earlier f c y) (sym leads) (ended p earlier f c h)
 read p earlier f (Some text) c d h free goes leads =
@@ -151,13 +151,13 @@ read p earlier f (Some text) c d h free goes leads =
     let x = typed p earlier f (padded p f text) c' d (identified f 0 p.types (padded p f text)) refl h free r.0 r.1 in
     record { orderly = x.orderly; selected = x.selected; settled = x.settled; other = x.other }
 
-by_test : (p : Object) (earlier : List Selected) (f : InputFile) (next : Option (List ℕ)) (c d : UnderWay) (b : Bool) → takes_in p c.inputs f ≡ b → IsOrderly p earlier c.inputs →
+by_test : (p : Object) (earlier : List Selected) (f : InputFile) (next : Option (List ℕ)) (c d : UnderWay) (b : Bool) → takes_in p c.inputs f ≡ b → AreMergedInOrder p earlier c.inputs →
     GoesOn ≡ (let r : Done = cond b (read_record p (left_by p earlier) f next c) (done GoesOn c) in r).end →
     d ≡ (let r : Done = cond b (read_record p (left_by p earlier) f next c) (done GoesOn c) in r).leads → Taken p earlier f c d
 by_test p earlier f next c d true is h goes leads = read p earlier f next c d h is goes leads
 by_test p earlier f next c d false is h goes leads =
     subst (λ (y : UnderWay). Taken p earlier f c y) (sym leads) (record { orderly = h; selected = refl; settled = is; other = refl })
 
-pub takes : (p : Object) (earlier : List Selected) (f : InputFile) (next : Option (List ℕ)) (c d : UnderWay) (out : Output) → IsOrderly p earlier c.inputs →
+pub takes : (p : Object) (earlier : List Selected) (f : InputFile) (next : Option (List ℕ)) (c d : UnderWay) (out : Output) → AreMergedInOrder p earlier c.inputs →
     take_in p (left_by p earlier) f next c GoesOn d out → Taken p earlier f c d
 takes p earlier f next c d out h g = by_test p earlier f next c d (takes_in p c.inputs f) refl h g.0 g.1

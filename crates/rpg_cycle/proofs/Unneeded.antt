@@ -9,7 +9,7 @@ use Rattle.rpg_cycle_records.specs.Earlier.{Left, Selected, last_of_file, left_b
 use Rattle.rpg_cycle_records.specs.Identifying.{IsOf, IsOfNone, Misplaced, Trial, identified, is_good_record, padded, trial_weight}
 use Rattle.rpg_cycle_records.specs.Levels.{is_in_record}
 use Rattle.rpg_cycle_records.specs.Matching.{exceeds}
-use Rattle.rpg_cycle_records.specs.Waiting.{Input, Inputs, has_match, takes_in, with_waiting}
+use Rattle.rpg_cycle_records.specs.Waiting.{InputState, Inputs, has_match, takes_in, with_waiting}
 use Rattle.rpg_effect.specs.Ends as effects
 use Rattle.rpg_effect.specs.declared.input.InputFile.{InputFile}
 use Rattle.rpg_effect.specs.declared.input.InputFile.TheVariants.{Primary, Secondary}
@@ -127,7 +127,7 @@ module _ (p : Object) (left : Left) where
 
   still_none : (a : Option (List ℕ)) (c m : UnderWay) (put : Output) → take_in p left Primary a c GoesOn m put → takes_in p c.inputs Secondary ≡ false → takes_in p m.inputs Secondary ≡ false
   still_none a c m put g off =
-      ap (λ (x : Input). has_file p Secondary && (not x.is_over && is_none x.waiting))
+      ap (λ (x : InputState). has_file p Secondary && (not x.is_over && is_none x.waiting))
       (ap (λ (u : UnderWay). u.inputs.secondary) g.1 ∙ taking_apart (takes_in p c.inputs Primary) a c) ∙ off
 
 -- where LR is on no file takes one in

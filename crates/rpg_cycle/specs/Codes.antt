@@ -5,7 +5,7 @@ use Rattle.std.specs.Coded.{Coded, code_by, coded×, coded⊎, coded_ℕ, coded_
 use base.Stored.{coded_unit}
 use Rattle.rpg_effect.specs.Ends.{Fault, Jump, Storage, Kind, Return}
 use Rattle.rpg_cycle_records.specs.Earlier.{Left, Selected}
-use Rattle.rpg_cycle_records.specs.Waiting.{Input, Inputs}
+use Rattle.rpg_cycle_records.specs.Waiting.{InputState, Inputs}
 use Rattle.rpg_cycle.specs.Ends.{PhaseEnd, GoesOn, EndOfJob, Halt, Wrong}
 use Rattle.rpg_cycle.specs.Stages.{Stage, Going, Ended, Failed}
 
@@ -89,8 +89,8 @@ left_code =
 abbrev selected_code : Coded Selected
 selected_code = code_by (ℕ × List ℕ) (coded× coded_ℕ (coded_list coded_ℕ)) (λ s. (s.type, s.text)) (λ p. record { type = p.0; text = p.1 }) (λ _. refl)
 
-abbrev input_code : Coded Input
+abbrev input_code : Coded InputState
 input_code = code_by (Option Selected × Bool) (coded× (coded_option selected_code) coded_bool) (λ i. (i.waiting, i.is_over)) (λ p. record { waiting = p.0; is_over = p.1 }) (λ _. refl)
 
 abbrev pub inputs_code : Coded Inputs
-inputs_code = code_by (Input × Input) (coded× input_code input_code) (λ i. (i.primary, i.secondary)) (λ p. record { primary = p.0; secondary = p.1 }) (λ _. refl)
+inputs_code = code_by (InputState × InputState) (coded× input_code input_code) (λ i. (i.primary, i.secondary)) (λ p. record { primary = p.0; secondary = p.1 }) (λ _. refl)

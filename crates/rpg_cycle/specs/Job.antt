@@ -8,7 +8,7 @@ use Rattle.rpg_cycle_records.specs.Earlier.{Left, Selected, left_by, with_record
 use Rattle.rpg_cycle_records.specs.Holding.{AreFilesKept, inputs_of}
 use Rattle.rpg_cycle_records.specs.Keeping.{left_of}
 use Rattle.rpg_cycle_records.specs.declared.kept.Kept.{Kept}
-use Rattle.rpg_cycle_records.specs.Merging.{IsOrderly}
+use Rattle.rpg_cycle_records.specs.Merging.{AreMergedInOrder}
 use Rattle.rpg_cycle_records.specs.Waiting.{Inputs, unread}
 use Rattle.rpg_effect.specs.declared.input.InputFile.{InputFile}
 use Rattle.rpg_cycle.specs.Ends.{GoesOn, PhaseEnd}
@@ -65,7 +65,7 @@ first_fields p = record { values = first_contents p; current = first_currents p 
 pub record IsBehind (p : Object) (left : Left) (inputs : Inputs) : Type 0 where
   pub earlier : List Selected
   pub leave : left ≡ left_by p earlier
-  pub orderly : IsOrderly p earlier inputs
+  pub orderly : AreMergedInOrder p earlier inputs
 
 -- where the job ends, so does the last line
 abbrev pub feed_at : Stage → Option ℕ → List ℕ

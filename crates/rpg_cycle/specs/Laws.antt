@@ -5,7 +5,7 @@ use Rattle.rpg_cycle.specs.Ends.{GoesOn, PhaseEnd}
 use Rattle.rpg_cycle.specs.Phases.{Cycle, CycleOn, Phase, UnderWay, begun, needs_record}
 use Rattle.rpg_cycle.specs.Runs.{Course, IsRun, Records, Runs, RunsIn}
 use Rattle.rpg_cycle_records.specs.Earlier.{Selected, left_by, with_record}
-use Rattle.rpg_cycle_records.specs.Merging.{IsOrderly}
+use Rattle.rpg_cycle_records.specs.Merging.{AreMergedInOrder}
 use Rattle.rpg_cycle_records.specs.Waiting.{Inputs, finds_match}
 use Rattle.rpg_effect.specs.Put.{Bytes}
 use Rattle.rpg_effect.specs.World.{Fields}
@@ -19,7 +19,7 @@ use Rattle.rpg_object_program.specs.Object.{Object}
 abbrev pub CyclesKeepOrder : Type 0
 CyclesKeepOrder =
     (p : Object) (earlier : List Selected) (a b : Option (List ℕ)) (c : Config) (i : Inputs) (d : UnderWay) (out : Output)
-    → IsOrderly p earlier i → Cycle p earlier a b (begun p c i) GoesOn d out → IsOrderly p (with_record d.selected earlier) d.inputs
+    → AreMergedInOrder p earlier i → Cycle p earlier a b (begun p c i) GoesOn d out → AreMergedInOrder p (with_record d.selected earlier) d.inputs
 
 -- a cycle that seeks a match by what earlier records left, and not among all of them
 abbrev pub CycleByLeft : Object → List Selected → Option (List ℕ) → Option (List ℕ) → Phase
@@ -29,13 +29,13 @@ CycleByLeft p earlier a b = CycleOn p (left_by p earlier) (finds_match p (left_b
 abbrev pub CyclesGoByLeft : Type 0
 CyclesGoByLeft =
     (p : Object) (earlier : List Selected) (a b : Option (List ℕ)) (c : Config) (i : Inputs) (e : PhaseEnd) (d : UnderWay) (out : Output)
-    → IsOrderly p earlier i → Cycle p earlier a b (begun p c i) e d out → CycleByLeft p earlier a b (begun p c i) e d out
+    → AreMergedInOrder p earlier i → Cycle p earlier a b (begun p c i) e d out → CycleByLeft p earlier a b (begun p c i) e d out
 
 -- and each that seeks so is a cycle
 abbrev pub LeftGivesCycles : Type 0
 LeftGivesCycles =
     (p : Object) (earlier : List Selected) (a b : Option (List ℕ)) (c : Config) (i : Inputs) (e : PhaseEnd) (d : UnderWay) (out : Output)
-    → IsOrderly p earlier i → CycleByLeft p earlier a b (begun p c i) e d out → Cycle p earlier a b (begun p c i) e d out
+    → AreMergedInOrder p earlier i → CycleByLeft p earlier a b (begun p c i) e d out → Cycle p earlier a b (begun p c i) e d out
 
 -- where the primary file takes no record in, a cycle is the same whatever record of it is next, or none
 abbrev pub IgnoresPrimary : Object → Type 0

@@ -7,7 +7,7 @@ use Rattle.rpg_cycle_records.specs.Identifying.{Trial, IsOf, IsOfNone, Misplaced
 use Rattle.rpg_cycle.specs.Indicators.{any_on, first_page, halt_indicators, is_on, last_record, level_indicators, matching_record, with_all, with_levels, with_one, with_type, without_types}
 use Rattle.rpg_cycle_records.specs.Levels.{differs, highest_broken, is_in_record, level_bytes}
 use Rattle.rpg_cycle_records.specs.Matching.{exceeds}
-use Rattle.rpg_cycle_records.specs.Waiting.{Inputs, chosen, has_match, over, takes_in, waiting_in, with_waiting}
+use Rattle.rpg_cycle_records.specs.Waiting.{Inputs, chosen, has_match, with_file_over, takes_in, waiting_in, with_waiting}
 use Rattle.rpg_effect.specs.Ends as effects
 use Rattle.rpg_effect.specs.Input.{TypeRow}
 use Rattle.rpg_effect.specs.declared.input.InputFile.{InputFile}
@@ -128,7 +128,7 @@ identify p left f text c = take_type p left f text (identified f 0 p.types text)
 
 -- a good record is identified, a bad one is halt 7; where there is none the file is at its end
 abbrev pub read_record : Object → Left → InputFile → Option (List ℕ) → UnderWay → Done
-read_record p left f None c = done GoesOn (with_inputs (over f) c)
+read_record p left f None c = done GoesOn (with_inputs (with_file_over f) c)
 read_record p left f (Some text) c = if is_good_record p f text then identify p left f (padded p f text) c else done (Halt 7) c
 
 -- a file that is there, not at its end and without a waiting record takes one in

@@ -47,9 +47,9 @@ pub record Records : Type 0 where
   pub primary : List (List ℕ)
   pub secondary : List (List ℕ)
 
-abbrev pub first_in : {A : Type 0} → List A → Option A
-first_in [] = None
-first_in (x ∷ xs) = Some x
+abbrev pub first_if_any : {A : Type 0} → List A → Option A
+first_if_any [] = None
+first_if_any (x ∷ xs) = Some x
 
 abbrev pub behind_first : {A : Type 0} → List A → List A
 behind_first [] = []
@@ -57,14 +57,14 @@ behind_first (x ∷ xs) = xs
 
 -- what a cycle takes from a file, and what it leaves
 abbrev pub next_of : {A : Type 0} → Bool → List A → Option A
-next_of is_needed rs = if is_needed then first_in rs else None
+next_of is_needed rs = if is_needed then first_if_any rs else None
 
-abbrev pub rest_of : {A : Type 0} → Bool → List A → List A
-rest_of is_needed rs = if is_needed then behind_first rs else rs
+abbrev pub rest_where_needed : {A : Type 0} → Bool → List A → List A
+rest_where_needed is_needed rs = if is_needed then behind_first rs else rs
 
 -- the records that are left behind a cycle
 abbrev pub left_behind : Object → Config → Inputs → Records → Records
-left_behind p c i rs = record { primary = rest_of (needs_record p c i Primary) rs.primary; secondary = rest_of (needs_record p c i Secondary) rs.secondary }
+left_behind p c i rs = record { primary = rest_where_needed (needs_record p c i Primary) rs.primary; secondary = rest_where_needed (needs_record p c i Secondary) rs.secondary }
 
 -- a run of at most so many cycles from a configuration and files, behind earlier records (the last first), over the records that are left
 abbrev pub RunsIn : ℕ → Object → List Selected → Records → Config → Inputs → Course → Type 0

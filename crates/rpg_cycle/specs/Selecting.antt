@@ -8,7 +8,7 @@ use Rattle.rpg_cycle.specs.Ends.{GoesOn, Halt, PhaseEnd}
 use Rattle.rpg_cycle_records.specs.Fitting.{IsControlIn}
 use Rattle.rpg_cycle_records.specs.Identifying.{IsOf, IsOfNone, identified, trial_weight}
 use Rattle.rpg_cycle.specs.Indicators.{with_levels, with_type}
-use Rattle.rpg_cycle_records.specs.Holding.{HoldsRecord, input_of, inputs_of, text_in}
+use Rattle.rpg_cycle_records.specs.Holding.{HoldsRecord, input_state_of, inputs_of, text_in}
 use Rattle.rpg_cycle_records.specs.Keeping.{left_of, renewed, renewed_by, seen_levels, seen_value}
 use Rattle.rpg_cycle_records.specs.Levels.{broken_in}
 use Rattle.rpg_cycle_records.specs.Waiting.{Inputs, input_at, waiting_in, with_input}
@@ -69,8 +69,8 @@ with_seen levels values l = record l { bytes = seen_levels levels; primary = see
 -- a file with this last match value was asked for a record, and gave this one or none
 abbrev pub ReadsRecord : Object → InputFile → MatchValue → Option (List ℕ) → KeptFile → Running → PhaseEnd → KeptFile → Running → Type 0
 ReadsRecord p f last next k old e k' new =
-    (left : Left) (i : Inputs) → last_of_file left f ≡ seen_value last → input_at i f ≡ input_of k
-    → HasRead p left f next i old e new (with_input f (input_of k') i)
+    (left : Left) (i : Inputs) → last_of_file left f ≡ seen_value last → input_at i f ≡ input_state_of k
+    → HasRead p left f next i old e new (with_input f (input_state_of k') i)
 
 -- with this record of the file the job ended, and the files were left as they were
 abbrev pub EndsAtRecord : Object → InputFile → MatchValue → List ℕ → Running → PhaseEnd → Running → Type 0
@@ -80,13 +80,13 @@ EndsAtRecord p f last text old e new =
 -- a file with this last match value took in the record that was next, if it takes one in
 abbrev pub TakesIn : Object → InputFile → MatchValue → Option (Bor (List ℕ)) → KeptFile → Running → KeptFile → Running → Type 0
 TakesIn p f last next k old k' new =
-    (left : Left) (i : Inputs) → last_of_file left f ≡ seen_value last → input_at i f ≡ input_of k
-    → Does (take_in p left f (next_text next)) old (unselected i) GoesOn new (unselected (with_input f (input_of k') i))
+    (left : Left) (i : Inputs) → last_of_file left f ≡ seen_value last → input_at i f ≡ input_state_of k
+    → Does (take_in p left f (next_text next)) old (unselected i) GoesOn new (unselected (with_input f (input_state_of k') i))
 
 -- there the job ended, and the files were left as they were
 abbrev pub EndsTakingIn : Object → InputFile → MatchValue → Option (Bor (List ℕ)) → KeptFile → Running → PhaseEnd → Running → Type 0
 EndsTakingIn p f last next k old e new =
-    (left : Left) (i : Inputs) → last_of_file left f ≡ seen_value last → input_at i f ≡ input_of k
+    (left : Left) (i : Inputs) → last_of_file left f ≡ seen_value last → input_at i f ≡ input_state_of k
     → DoesHolding (take_in p left f (next_text next)) (unselected i) old e new
 
 -- the control fields of a type were compared with the last bytes of their levels, and are kept
@@ -101,8 +101,8 @@ HoldsWaiting p k = ForSome k.waiting (λ t. HoldsRecord p (file_of (slice_get p.
 -- the record of that type that waits in a file, if one does, was selected
 abbrev pub SelectsWaiting : Object → List LastBytes → LastValues → KeptFile → Running → Option ℕ → KeptFile → Running → Type 0
 SelectsWaiting p levels values k old t k' new =
-    (f : InputFile) (left : Left) (i : Inputs) → input_at i f ≡ input_of k
-    → HasSelected p (with_seen levels values left) f i old t k'.record.items new (with_input f (input_of k') i)
+    (f : InputFile) (left : Left) (i : Inputs) → input_at i f ≡ input_state_of k
+    → HasSelected p (with_seen levels values left) f i old t k'.record.items new (with_input f (input_state_of k') i)
 
 -- levels and match values were renewed by a record of that type, if one was selected
 abbrev pub RenewsSeen : Object → Option ℕ → List ℕ → List LastBytes → LastValues → List LastBytes → LastValues → Type 0

@@ -12,14 +12,14 @@ use Rattle.rpg_object_program.specs.Object.{Object}
 
 -- At the end of calculations; and where it halted, there, or at the instruction whose step halted. So where a job that halted stands at
 -- an instruction, that one halted it, and where it stands at none, no instruction did.
-abbrev pub StandsRight : Object → PhaseEnd → Config → Type 0
-StandsRight p GoesOn d = running_place p d ≡ None
-StandsRight p EndOfJob d = running_place p d ≡ None
-StandsRight p (Halt k) d = (running_place p d ≡ None) ⊎ HaltedThere p k d
-StandsRight p (Wrong f) d = Unit {0}
+abbrev pub StandsRightAtEnd : Object → PhaseEnd → Config → Type 0
+StandsRightAtEnd p GoesOn d = running_place p d ≡ None
+StandsRightAtEnd p EndOfJob d = running_place p d ≡ None
+StandsRightAtEnd p (Halt k) d = (running_place p d ≡ None) ⊎ HaltedThere p k d
+StandsRightAtEnd p (Wrong f) d = Unit {0}
 
 -- so does each run
 abbrev pub RunsStandRight : Type 0
 RunsStandRight =
     (p : Object) (date : ℤ) (fields : Fields nat_cmp) (records : Records) (course : Course) (bytes : Bytes)
-    → IsRun p date fields records course bytes → StandsRight p course.ending course.there.config
+    → IsRun p date fields records course bytes → StandsRightAtEnd p course.ending course.there.config

@@ -4,7 +4,7 @@ ghost use Rattle.rpg_cycle.specs.Counting.{records_count};
 ghost use Rattle.rpg_cycle.specs.Laws.{CyclesGoByLeft, CyclesKeepOrder, IgnoresPrimary, IgnoresSecondary, LeftGivesCycles, RecordsGiveOneCourse, RecordsGiveOneOutput, RunsGoByTheirCount};
 ghost use Rattle.rpg_cycle.specs.Runs.{Course, Records, Runs};
 ghost use Rattle.rpg_cycle.specs.Standing.{RunsStandRight};
-ghost use Rattle.rpg_cycle_records.specs.Merging.{IsOrderly};
+ghost use Rattle.rpg_cycle_records.specs.Merging.{AreMergedInOrder};
 ghost use Rattle.rpg_cycle_records.specs.Waiting.{unread};
 ghost use Rattle.rpg_machine.specs.Config.{Config};
 ghost use Rattle.rpg_object_program.specs.Object.{Object};
@@ -15,7 +15,7 @@ use rpg_verify::Verified;
 /// is sought among all records that were taken in, or by what a job keeps.
 #[tactic(auto, using(crate::proofs::Cycling::at_first))]
 pub fn cycles_keep_order()
-    ensures first { (p : Object) → IsOrderly p [] unread }
+    ensures first { (p : Object) → AreMergedInOrder p [] unread }
     ensures kept { CyclesKeepOrder }
     ensures to_last { CyclesGoByLeft }
     ensures from_last { LeftGivesCycles }

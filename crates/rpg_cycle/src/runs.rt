@@ -3,7 +3,7 @@ ghost use Rattle.std.specs.Prelude.{◌≡◌, ◌↔◌, ◌≤◌, ◌+◌, No
 ghost use Rattle.rpg_cycle_records.specs.Earlier.{left_by};
 ghost use Rattle.std.specs.Option.{option_map};
 ghost use Rattle.rpg_cycle.specs.RunAnswers.{RunsRecords, RunsWhole, records_in, texts};
-ghost use Rattle.rpg_cycle.specs.Runs.{next_of, rest_of};
+ghost use Rattle.rpg_cycle.specs.Runs.{next_of, rest_where_needed};
 ghost use Rattle.rpg_cycle_records.specs.Waiting.{unread};
 ghost use Rattle.rpg_cycle.specs.Stages.{is_going};
 ghost use Rattle.rpg_cycle.specs.Starting.{date_in};
@@ -60,7 +60,7 @@ pub fn run_records(
 /// The first of some records, where it is needed, with those behind it.
 fn split_needed(is_needed: bool, records: &[Vec<u8>]) -> (Option<&[u8]>, &[Vec<u8>])
     ensures next { option_map (λ t. t.now) result.0 ≡ next_of is_needed (texts records.now) }
-    ensures rest { texts result.1.now ≡ rest_of is_needed (texts records.now) }
+    ensures rest { texts result.1.now ≡ rest_where_needed is_needed (texts records.now) }
 {
     match records.split_first() {
         Some((first, rest)) if is_needed => (Some(first), rest),

@@ -5,7 +5,7 @@ use Rattle.rpg_cycle_records.specs.Earlier.{Selected, file_of, match_value}
 use Rattle.rpg_cycle_records.specs.Fitting.{IsFilledAs}
 use Rattle.rpg_cycle_records.specs.Keeping.{selected_as, seen_value}
 use Rattle.rpg_cycle_records.specs.Matching.{agrees}
-use Rattle.rpg_cycle_records.specs.Waiting.{Input, Inputs}
+use Rattle.rpg_cycle_records.specs.Waiting.{InputState, Inputs}
 use Rattle.rpg_cycle_records.specs.declared.files.KeptFile.{KeptFile}
 use Rattle.rpg_cycle_records.specs.declared.kept.Kept.{Kept}
 use Rattle.rpg_cycle_records.specs.declared.matching.MatchValue.{MatchValue}
@@ -18,11 +18,11 @@ use Rattle.rpg_object_program.specs.Object.{Object, has_file}
 abbrev pub record_as : ℕ → KeptFile → Selected
 record_as t k = record { type = t; text = k.record.items }
 
-abbrev pub input_of : KeptFile → Input
-input_of k = record { waiting = selected_as k.waiting k.record.items; is_over = k.is_over }
+abbrev pub input_state_of : KeptFile → InputState
+input_state_of k = record { waiting = selected_as k.waiting k.record.items; is_over = k.is_over }
 
 abbrev pub inputs_of : Kept → Inputs
-inputs_of k = record { primary = input_of k.primary; secondary = input_of k.secondary }
+inputs_of k = record { primary = input_state_of k.primary; secondary = input_state_of k.secondary }
 
 -- the record that was taken in last from a file
 abbrev pub record_in : Kept → InputFile → List ℕ
@@ -43,7 +43,7 @@ kept_at k Primary = k.primary
 kept_at k Secondary = k.secondary
 
 -- a file that is there, not at its end and without a waiting record takes one in
-abbrev pub takes_from : Object → InputFile → Input → Bool
+abbrev pub takes_from : Object → InputFile → InputState → Bool
 takes_from p f i = has_file p f && (not i.is_over && is_none i.waiting)
 
 -- a match value is that of the record that waits in a file, or the file's last one

@@ -5,7 +5,7 @@ use Rattle.rpg_effect.specs.declared.input.InputFile.TheVariants.{Primary, Secon
 use Rattle.rpg_object_program.specs.Object.{Object, has_file}
 use Rattle.rpg_cycle_records.specs.Earlier.{Selected, file_at, last_value, left_by, match_value, or_before}
 use Rattle.rpg_cycle_records.specs.Matching.{exceeds}
-use Rattle.rpg_cycle_records.specs.Waiting.{Input, Inputs, finds_match, has_match, value_of}
+use Rattle.rpg_cycle_records.specs.Waiting.{InputState, Inputs, finds_match, has_match, waiting_value}
 
 -- A value, where there is one, is no greater than this one; and where this one is missing, so is the value.
 abbrev pub IsUpTo : Option (List ℕ) → Option (List ℕ) → Type 0
@@ -28,25 +28,25 @@ IsMerged p [] = Unit {0}
 IsMerged p (s ∷ ss) = IsTopIfAny p (match_value p s) ss × IsMerged p ss
 
 -- no record comes from the file any more
-abbrev pub is_spent : Object → InputFile → Input → Bool
+abbrev pub is_spent : Object → InputFile → InputState → Bool
 is_spent p f i = is_none i.waiting && (not (has_file p f) || i.is_over)
 
 -- the match value that the file has come to
-abbrev pub front : Object → List Selected → InputFile → Input → Option (List ℕ)
-front p earlier f i = or_before (last_value p f earlier) (value_of p f i.waiting)
+abbrev pub front : Object → List Selected → InputFile → InputState → Option (List ℕ)
+front p earlier f i = or_before (last_value p f earlier) (waiting_value p f i.waiting)
 
 -- a record that waits in a file is of the file
-abbrev pub IsFrom : Object → InputFile → Option Selected → Type 0
-IsFrom p f None = Unit {0}
-IsFrom p f (Some s) = file_at p s ≡ f
+abbrev pub IsFromFile : Object → InputFile → Option Selected → Type 0
+IsFromFile p f None = Unit {0}
+IsFromFile p f (Some s) = file_at p s ≡ f
 
 -- a file from which records come has come to no lower match value than any that was selected
-pub record IsFileOrderly (p : Object) (earlier : List Selected) (f : InputFile) (i : Input) : Type 0 where
-  pub own : IsFrom p f i.waiting
+pub record IsFileOrderly (p : Object) (earlier : List Selected) (f : InputFile) (i : InputState) : Type 0 where
+  pub own : IsFromFile p f i.waiting
   pub top : is_spent p f i ≡ false → IsTopOf p (front p earlier f i) earlier
 
 -- what holds between any two cycles of a job
-pub record IsOrderly (p : Object) (earlier : List Selected) (i : Inputs) : Type 0 where
+pub record AreMergedInOrder (p : Object) (earlier : List Selected) (i : Inputs) : Type 0 where
   pub merged : IsMerged p earlier
   pub primary : IsFileOrderly p earlier Primary i.primary
   pub secondary : IsFileOrderly p earlier Secondary i.secondary

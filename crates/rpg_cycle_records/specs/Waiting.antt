@@ -7,23 +7,23 @@ use Rattle.rpg_cycle_records.specs.Earlier.{Left, Selected, any_agrees, file_at,
 use Rattle.rpg_cycle_records.specs.Matching.{agrees, is_greater}
 
 -- a file: the record that waits in it, if one does, and whether its end was read
-pub record Input : Type 0 where
+pub record InputState : Type 0 where
   pub waiting : Option Selected
   pub is_over : Bool
 
 pub record Inputs : Type 0 where
-  pub primary : Input
-  pub secondary : Input
+  pub primary : InputState
+  pub secondary : InputState
 
 -- nothing was read yet
 abbrev pub unread : Inputs
 unread = record { primary = record { waiting = None; is_over = false }; secondary = record { waiting = None; is_over = false } }
 
-abbrev pub input_at : Inputs → InputFile → Input
+abbrev pub input_at : Inputs → InputFile → InputState
 input_at i Primary = i.primary
 input_at i Secondary = i.secondary
 
-abbrev pub with_input : InputFile → Input → Inputs → Inputs
+abbrev pub with_input : InputFile → InputState → Inputs → Inputs
 with_input Primary x i = record i { primary = x }
 with_input Secondary x i = record i { secondary = x }
 
@@ -31,8 +31,8 @@ abbrev pub waiting_in : Inputs → InputFile → Option Selected
 waiting_in i f = (input_at i f).waiting
 
 -- the end of the file was read
-abbrev pub over : InputFile → Inputs → Inputs
-over f i = with_input f (record { waiting = None; is_over = true }) i
+abbrev pub with_file_over : InputFile → Inputs → Inputs
+with_file_over f i = with_input f (record { waiting = None; is_over = true }) i
 
 -- a record waits, or none does
 abbrev pub with_waiting : InputFile → Option Selected → Inputs → Inputs
@@ -71,11 +71,11 @@ has_match p earlier i s =
 
 -- what a job that keeps the last values alone can test: the waiting record of the other file, or the last one selected from it, has the
 -- record's match value
-abbrev pub value_of : Object → InputFile → Option Selected → Option (List ℕ)
-value_of p f None = None
-value_of p f (Some s) = value_from p f s
+abbrev pub waiting_value : Object → InputFile → Option Selected → Option (List ℕ)
+waiting_value p f None = None
+waiting_value p f (Some s) = value_from p f s
 
 abbrev pub finds_match : Object → Left → Inputs → Selected → Bool
 finds_match p left i s =
-    agrees (match_value p s) (value_of p (other_file (file_at p s)) (waiting_in i (other_file (file_at p s))))
+    agrees (match_value p s) (waiting_value p (other_file (file_at p s)) (waiting_in i (other_file (file_at p s))))
     || agrees (match_value p s) (last_of_file left (other_file (file_at p s)))

@@ -2,7 +2,7 @@
 ghost use Rattle.std.specs.Prelude.{◌≡◌, ◌<◌, ◌||◌, Some, true, false, not, length};
 ghost use Rattle.rpg_cycle_records.specs.Earlier.{match_value};
 ghost use Rattle.rpg_cycle_records.specs.Fitting.{IsFilledAs};
-ghost use Rattle.rpg_cycle_records.specs.Holding.{IsFileKept, input_of, record_as, takes_from};
+ghost use Rattle.rpg_cycle_records.specs.Holding.{IsFileKept, input_state_of, record_as, takes_from};
 ghost use Rattle.rpg_cycle_records.specs.Keeping.{seen_value};
 ghost use Rattle.rpg_cycle_records.specs.Matching as values;
 ghost use Rattle.rpg_cycle_records.specs.Waiting as spec;
@@ -45,7 +45,7 @@ impl KeptFile {
 
     /// Whether the file takes a record in: it is there, not at its end, and no record of it waits.
     pub fn takes_in(&self, program: &Verified, file: InputFile) -> bool
-        ensures { result ≡ takes_from program.now file (input_of self.now) }
+        ensures { result ≡ takes_from program.now file (input_state_of self.now) }
     {
         input_length(program, file) != 0 && !self.is_over && self.waiting.is_none()
     }
@@ -92,7 +92,7 @@ fn first_of(primary: &MatchValue, secondary: &MatchValue) -> InputFile
 pub fn chosen(program: &Verified, primary: &KeptFile, secondary: &KeptFile) -> Option<InputFile>
     requires primary { IsFileKept program.now files.Primary primary.now }
     requires secondary { IsFileKept program.now files.Secondary secondary.now }
-    ensures { result ≡ spec.chosen program.now (input_of primary.now).waiting (input_of secondary.now).waiting }
+    ensures { result ≡ spec.chosen program.now (input_state_of primary.now).waiting (input_state_of secondary.now).waiting }
 {
     let _program = program;
     match (primary.waiting, secondary.waiting) {

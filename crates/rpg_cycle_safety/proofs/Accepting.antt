@@ -9,7 +9,7 @@ use Rattle.rpg_effect.specs.declared.input.InputField.{InputField}
 use Rattle.rpg_effect.specs.declared.input.InputFile.TheVariants.{Primary}
 use Rattle.rpg_machine.proofs.Orderly.{orderly}
 use Rattle.rpg_machine.specs.Accepted.{IsOrderly}
-use Rattle.rpg_machine.specs.Outputs.{inputs_at, inputs_of, length_at}
+use Rattle.rpg_machine.specs.Outputs.{inputs_at, input_fields_of, length_at}
 use Rattle.rpg_store.proofs.Programs.{program_forms}
 use Rattle.rpg_object_program.specs.Kept.{IsProgram}
 use Rattle.rpg_object_program.specs.Object.{Object, input_length}
@@ -26,6 +26,6 @@ accepted_orderly p kept accepted = orderly p kept (sound p accepted) (greatest p
 pub inputs_right : (p : Object) (row : ℕ) → IsSound p → All (λ f. input_fault (form_at p.fields) (length_at p row) f ≡ None) (inputs_at p row)
 inputs_right p row sound = by_type (slice_get p.types row) refl
   where
-    by_type : (t : Option (TypeRow ℕ)) → slice_get p.types row ≡ t → All (λ f. input_fault (form_at p.fields) (input_length p (option_map_or (λ (r : TypeRow ℕ). r.file) t Primary)) f ≡ None) (inputs_of t)
+    by_type : (t : Option (TypeRow ℕ)) → slice_get p.types row ≡ t → All (λ f. input_fault (form_at p.fields) (input_length p (option_map_or (λ (r : TypeRow ℕ). r.file) t Primary)) f ≡ None) (input_fields_of t)
     by_type None is = All-nil (λ (f : InputField ℕ). input_fault (form_at p.fields) p.record_length f ≡ None)
     by_type (Some t) is = (subst (IsSoundType p) (get_or_from_slice_get p.types row t t is) (sound.types row t (slice_get_within p.types row t is))).inputs

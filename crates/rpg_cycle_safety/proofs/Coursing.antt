@@ -37,10 +37,10 @@ record HasCourse (n : ℕ) (p : Object) (earlier : List Selected) (records : Rec
 module _ (p : Object) (orderly : IsOrderly p) where
   -- there is a run from wherever fewer records than that wait or are left
   abbrev RunsFrom : ℕ → Type 0
-  RunsFrom n = (earlier : List Selected) (rs : Records) (c : Config) (i : Inputs) → Holds p c.world → c.cells ≡ map.empty → AreWaiting p i → merging.IsOrderly p earlier i →
+  RunsFrom n = (earlier : List Selected) (rs : Records) (c : Config) (i : Inputs) → Holds p c.world → c.cells ≡ map.empty → AreWaiting p i → merging.AreMergedInOrder p earlier i →
       waiting_count i + records_count rs < n → HasCourse n p earlier rs c i
 
-  by_cycle : (n : ℕ) → RunsFrom n → (earlier : List Selected) (rs : Records) (c : Config) (i : Inputs) → merging.IsOrderly p earlier i → waiting_count i + records_count rs < suc n →
+  by_cycle : (n : ℕ) → RunsFrom n → (earlier : List Selected) (rs : Records) (c : Config) (i : Inputs) → merging.AreMergedInOrder p earlier i → waiting_count i + records_count rs < suc n →
       (e : PhaseEnd) (d : UnderWay) (out : Output) → next_cycle p earlier rs c i (begun p c i) e d out → CyclesWell p e d → HasCourse (suc n) p earlier rs c i
   by_cycle n next earlier rs c i order enough GoesOn d out cycle well =
       let fewer = shorter p earlier rs c i d out order cycle in

@@ -17,7 +17,7 @@ use Rattle.rpg_cycle_records.specs.Identifying.{Trial, IsOf, IsOfNone, Misplaced
 use Rattle.rpg_cycle_records.specs.Levels.{is_in_record}
 use Rattle.rpg_cycle_records.specs.Matching.{exceeds}
 use Rattle.rpg_cycle_records.specs.Paying.{moved_of}
-use Rattle.rpg_cycle_records.specs.Waiting.{Inputs, over, takes_in, unread, waiting_in, with_waiting}
+use Rattle.rpg_cycle_records.specs.Waiting.{Inputs, with_file_over, takes_in, unread, waiting_in, with_waiting}
 use Rattle.rpg_cycle.specs.Indicators.{last_record, level_indicators, with_all, with_levels, with_one, with_type}
 use Rattle.rpg_cycle.specs.Phases.{Done, UnderWay, broken_level, compare_levels, done, identify, match_up, read_record, select_from, select_waiting, take_type, type_indicator, with_config, with_inputs}
 use Rattle.rpg_effect.specs.Ends as effects
@@ -29,7 +29,7 @@ use Rattle.rpg_cycle_safety.specs.Coming.{IsCycleEnd}
 use Rattle.rpg_cycle_safety.specs.Waiting.{AreWaiting, IsWaitingIn}
 use Rattle.rpg_machine.specs.Accepted.{IsOrderly}
 use Rattle.rpg_machine.specs.Config.{Config, charged}
-use Rattle.rpg_machine.specs.Outputs.{inputs_of}
+use Rattle.rpg_machine.specs.Outputs.{input_fields_of}
 use Rattle.rpg_object_program.specs.Kept.{IsCharacter}
 use Rattle.rpg_object_program.specs.Object.{Object, input_length}
 use Rattle.rpg_cycle_safety.proofs.Turning.{Still, all_still, itself, last_still_on, still_then, type_still}
@@ -107,7 +107,7 @@ one_waits : (p : Object) (i : Inputs) (f : InputFile) (o : Option Selected) → 
 one_waits p i Primary o h new = record { primary = new; secondary = h.secondary }
 one_waits p i Secondary o h new = record { primary = h.primary; secondary = new }
 
-none_waits : (p : Object) (i : Inputs) (f : InputFile) → AreWaiting p i → AreWaiting p (over f i)
+none_waits : (p : Object) (i : Inputs) (f : InputFile) → AreWaiting p i → AreWaiting p (with_file_over f i)
 none_waits p i Primary h = record { primary = nothing_waits p Primary; secondary = h.secondary }
 none_waits p i Secondary h = record { primary = h.primary; secondary = nothing_waits p Secondary }
 
@@ -119,7 +119,7 @@ filled_as : (p : Object) (f : InputFile) (s : Selected) → IsWaitingIn p f s �
 filled_as p f s h = h.long ∙ sym (ap (input_length p) h.own)
 
 -- the fields of a row are moved
-both_moved : (o : Option (TypeRow ℕ)) → length (levels_of o) + length (inputs_of o) ≤ moved_of o
+both_moved : (o : Option (TypeRow ℕ)) → length (levels_of o) + length (input_fields_of o) ≤ moved_of o
 both_moved None = omega arith
 both_moved (Some t) = omega arith
 

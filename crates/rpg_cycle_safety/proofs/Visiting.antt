@@ -29,7 +29,7 @@ use Rattle.rpg_cycle_safety.specs.Holding.{Holds, Keeps}
 use Rattle.rpg_cycle_safety.specs.Coming.{next_cycle}
 use Rattle.rpg_cycle_safety.specs.Leading.{IsSteady, StandsWell}
 use Rattle.rpg_cycle_safety.specs.Waiting.{AreWaiting}
-use Rattle.rpg_cycle_safety.specs.Visiting.{IsOfRun, Visits, Way, along, cycle_way, end_of, next_way, phases_way, standing, total_way, within, ◌onto◌}
+use Rattle.rpg_cycle_safety.specs.Visiting.{IsOfRun, Visits, Way, along, cycle_way, ways_to_end, next_way, phases_way, config_left, total_way, within, ◌onto◌}
 use Rattle.rpg_machine.proofs.Ranges.{and_true}
 use Rattle.rpg_machine.proofs.Safe.{none_set}
 use Rattle.rpg_machine.specs.Accepted.{IsOrderly}
@@ -214,7 +214,7 @@ module _ (p : Object) (orderly : IsOrderly p) where
   same_steady : (x y : Config) → x ≡ y → IsSteady p y → IsSteady p x
   same_steady x y is h = subst (λ (z : Config). IsSteady p z) (sym is) h
 
-  ends_safe : (P : Phase) → IsSafePhase P → IsSafeWay (end_of P)
+  ends_safe : (P : Phase) → IsSafePhase P → IsSafeWay (ways_to_end P)
   ends_safe P h c x r (e, d, out, k, is) = same_steady x d.config is (h c e d out r k).steady
 
   along_safe : (P : Phase) (V W : Way) → IsSafePhase P → IsSafeWay V → IsSafeWay W → IsSafeWay (along P V W)
@@ -222,9 +222,9 @@ module _ (p : Object) (orderly : IsOrderly p) where
   along_safe P V W h v w c x r (inr (m, out, k, l)) = w m x ((h c GoesOn m out r k).rests refl) l
 
   onto_safe : (P : Phase) (W : Way) → IsSafePhase P → IsSafeWay W → IsSafeWay (P onto W)
-  onto_safe P W h w = along_safe P (end_of P) W h (ends_safe P h) w
+  onto_safe P W h w = along_safe P (ways_to_end P) W h (ends_safe P h) w
 
-  standing_steady : (o : Outcome) → StandsWell p o → IsSteady p (standing o)
+  standing_steady : (o : Outcome) → StandsWell p o → IsSteady p (config_left o)
   standing_steady (Next c o) h = h
   standing_steady (Stop effects.GoesOn c o) h = h.0
   standing_steady (Stop (effects.Halt k) c o) h = h.1
@@ -232,12 +232,12 @@ module _ (p : Object) (orderly : IsOrderly p) where
 
   within_safe : (s : Section) → has_end s ≡ true → IsSafeWay (within p s)
   within_safe s ended c x r (n, is) =
-      same_steady x (standing (run p n (at_first p s c.config))) is
+      same_steady x (config_left (run p n (at_first p s c.config))) is
       (standing_steady (run p n (at_first p s c.config)) (stands_well p orderly s n c.config ended r.no_cell r.values))
 
   total_way_safe : (left : Left) → IsSafeWay (total_way p left)
   total_way_safe left c x r (taken, way) =
-      along_safe (section p sections.Total) (within p sections.Total) (end_of (output p times.Total)) (section_safe sections.Total refl) (within_safe sections.Total refl)
+      along_safe (section p sections.Total) (within p sections.Total) (ways_to_end (output p times.Total)) (section_safe sections.Total refl) (within_safe sections.Total refl)
       (ends_safe (output p times.Total) (output_safe times.Total)) c x r way
 
   -- ---- cycles

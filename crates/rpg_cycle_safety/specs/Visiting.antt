@@ -23,17 +23,17 @@ abbrev pub Way : Type 1
 Way = UnderWay → Config → Type 0
 
 -- where a phase leads, however it ends
-abbrev pub end_of : Phase → Way
-end_of P c x = (e : PhaseEnd) × (d : UnderWay) × (out : Output) × P c e d out × (x ≡ d.config)
+abbrev pub ways_to_end : Phase → Way
+ways_to_end P c x = (e : PhaseEnd) × (d : UnderWay) × (out : Output) × P c e d out × (x ≡ d.config)
 
 -- the configuration of an outcome
-abbrev pub standing : Outcome → Config
-standing (Next c o) = c
-standing (Stop e c o) = c
+abbrev pub config_left : Outcome → Config
+config_left (Next c o) = c
+config_left (Stop e c o) = c
 
 -- where a section stands after any number of steps
 abbrev pub within : Object → Section → Way
-within p s c x = (n : ℕ) × (x ≡ standing (run p n (at_first p s c.config)))
+within p s c x = (n : ℕ) × (x ≡ config_left (run p n (at_first p s c.config)))
 
 -- those of a phase, and where it goes on, those of what follows
 abbrev pub along : Phase → Way → Way → Way
@@ -42,13 +42,13 @@ along P V W c x = V c x ⊎ ((m : UnderWay) × (out : Output) × P c GoesOn m ou
 -- where a phase leads, and what follows
 infixr 5 ◌onto◌
 abbrev pub ◌onto◌ : Phase → Way → Way
-P onto W = along P (end_of P) W
+P onto W = along P (ways_to_end P) W
 
 -- those of total calculations and total output, unless they are bypassed
 abbrev pub total_way : Object → Left → Way
 total_way p left c x =
     (is_bypassed p left.any left.control c.config ≡ false)
-    × along (section p sections.Total) (within p sections.Total) (end_of (output p times.Total)) c x
+    × along (section p sections.Total) (within p sections.Total) (ways_to_end (output p times.Total)) c x
 
 -- those of a cycle behind its start
 abbrev pub phases_way : Object → Left → (Inputs → Selected → Bool) → Option (List ℕ) → Option (List ℕ) → Way

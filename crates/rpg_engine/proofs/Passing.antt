@@ -15,8 +15,8 @@ use Rattle.rpg_cycle.specs.Runs.{Records, next_of}
 use Rattle.rpg_cycle_records.specs.Earlier.{Left, Selected, control_fields, left_by}
 use Rattle.rpg_cycle_records.specs.Identifying.{is_good_record, padded}
 use Rattle.rpg_cycle_records.specs.Levels.{is_in_record}
-use Rattle.rpg_cycle_records.specs.Merging.{IsOrderly}
-use Rattle.rpg_cycle_records.specs.Waiting.{Input, Inputs, chosen, has_match, input_at, over, takes_in, waiting_in, with_waiting}
+use Rattle.rpg_cycle_records.specs.Merging.{AreMergedInOrder}
+use Rattle.rpg_cycle_records.specs.Waiting.{InputState, Inputs, chosen, has_match, input_at, with_file_over, takes_in, waiting_in, with_waiting}
 use Rattle.rpg_effect.specs.Ends as effects
 use Rattle.rpg_effect.specs.declared.input.InputFile.{InputFile}
 use Rattle.rpg_effect.specs.declared.input.InputFile.TheVariants.{Primary, Secondary}
@@ -132,7 +132,7 @@ left_there : (b : Bool) (r : Done) (c d : UnderWay) → b ≡ false → d ≡ (l
 left_there true r c d is leads = absurd (cc)
 left_there false r c d is leads = leads
 
-over_there : (f : InputFile) (i : Inputs) → (input_at (over f i) f).is_over ≡ true
+over_there : (f : InputFile) (i : Inputs) → (input_at (with_file_over f i) f).is_over ≡ true
 over_there Primary i = refl
 over_there Secondary i = refl
 
@@ -189,13 +189,13 @@ taken_within : (p : Object) (f : InputFile) (x : Option (List ℕ)) (old mid las
 taken_within p f x old mid last new front back h = record {
   no_bad = λ is. h.no_bad (same_takes ∙ is);
   over_where_none = λ is none. back ∙ h.over_where_none (same_takes ∙ is) none;
-  over_still = λ ended. back ∙ h.over_still (ap (λ (i : Input). i.is_over) front ∙ ended);
+  over_still = λ ended. back ∙ h.over_still (ap (λ (i : InputState). i.is_over) front ∙ ended);
 }
   where
     same_takes : takes_in p mid f ≡ takes_in p old f
-    same_takes = ap (λ (i : Input). has_file p f && (not i.is_over && is_none i.waiting)) front
+    same_takes = ap (λ (i : InputState). has_file p f && (not i.is_over && is_none i.waiting)) front
 
-phase_four : (p : Object) (earlier : List Selected) (x y : Option (List ℕ)) (c d : UnderWay) → IsOrderly p earlier c.inputs → Picks p (left_by p earlier) x y c d → Takes p x y c.inputs d.inputs
+phase_four : (p : Object) (earlier : List Selected) (x y : Option (List ℕ)) (c d : UnderWay) → AreMergedInOrder p earlier c.inputs → Picks p (left_by p earlier) x y c d → Takes p x y c.inputs d.inputs
 phase_four p earlier x y c d h g =
     let left = left_by p earlier in
     let a = takes p earlier Primary x c g.one g.put h g.first in
@@ -203,11 +203,11 @@ phase_four p earlier x y c d h g =
     let kept = λ (f : InputFile). ap (λ (u : UnderWay). (input_at u.inputs f).is_over) g.selects.1
     ∙ one_selected p left f (chosen p (waiting_in g.two.inputs Primary) (waiting_in g.two.inputs Secondary)) g.two in
     record {
-      primary = taken_within p Primary x c.inputs c.inputs g.one.inputs d.inputs refl (kept Primary ∙ ap (λ (i : Input). i.is_over) b.other) (asked p left Primary x c g.one g.put g.first);
+      primary = taken_within p Primary x c.inputs c.inputs g.one.inputs d.inputs refl (kept Primary ∙ ap (λ (i : InputState). i.is_over) b.other) (asked p left Primary x c g.one g.put g.first);
       secondary = taken_within p Secondary y c.inputs g.one.inputs g.two.inputs d.inputs a.other (kept Secondary) (asked p left Secondary y g.one g.two g.more g.second);
     }
 
-pub cycle_takes : (p : Object) (earlier : List Selected) (x y : Option (List ℕ)) (c : Config) (i : Inputs) (d : UnderWay) (out : Output) → IsOrderly p earlier i →
+pub cycle_takes : (p : Object) (earlier : List Selected) (x y : Option (List ℕ)) (c : Config) (i : Inputs) (d : UnderWay) (out : Output) → AreMergedInOrder p earlier i →
     Cycle p earlier x y (begun p c i) GoesOn d out → Takes p x y i d.inputs
 cycle_takes p earlier x y c i d out h g =
     let left = left_by p earlier in
@@ -223,7 +223,7 @@ cycle_takes p earlier x y c i d out h g =
     let k = stay (begun p c i) one.mid three.mid k1 (stay one.mid two.mid three.mid k2 k3) in
     let last = behind_4 p left t four.mid d four.more four.two in
     let s = picks p left x y three.mid four.mid four.put (is_on three.mid.config last_record) k.selected (has_selected p left t four.mid d four.more four.two) four.one in
-    let r = phase_four p earlier x y three.mid four.mid (subst (λ (j : Inputs). IsOrderly p earlier j) (sym k.inputs) h) s in
+    let r = phase_four p earlier x y three.mid four.mid (subst (λ (j : Inputs). AreMergedInOrder p earlier j) (sym k.inputs) h) s in
     subst (λ (j : Inputs). Takes p x y i j) (sym last.inputs) (subst (λ (j : Inputs). Takes p x y j four.mid.inputs) k.inputs r)
 
 pub needed_takes : (p : Object) (c : Config) (i : Inputs) (f : InputFile) → needs_record p c i f ≡ true → takes_in p i f ≡ true
@@ -250,7 +250,7 @@ next_is true None h = refl
 next_is true (Some r) h = refl
 
 -- of the records that waited and those that were taken, one was selected
-pub fewer_wait : (p : Object) (earlier : List Selected) (x y : Option (List ℕ)) (c : Config) (i : Inputs) (d : UnderWay) (out : Output) → IsOrderly p earlier i →
+pub fewer_wait : (p : Object) (earlier : List Selected) (x y : Option (List ℕ)) (c : Config) (i : Inputs) (d : UnderWay) (out : Output) → AreMergedInOrder p earlier i →
     IfNeeded (needs_record p c i Primary) x → IfNeeded (needs_record p c i Secondary) y → Cycle p earlier x y (begun p c i) GoesOn d out →
     waiting_count d.inputs + 1 ≤ waiting_count i + (length (in_list x) + length (in_list y))
 fewer_wait p earlier x y c i d out h one two g =

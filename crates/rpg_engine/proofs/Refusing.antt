@@ -10,7 +10,7 @@ use Rattle.rpg_cycle.specs.Job.{AtWork, Starts, first_fields, job_started}
 use Rattle.rpg_verify_rules.specs.Accepted.{IsAccepted}
 use Rattle.rpg_engine.specs.Objects.{HasObjectFault, IsRefused, SpellsProgram}
 use Rattle.rpg_engine.specs.Refusing.{HasDay, IsJobOf, IsToldOf, IsToldOfDate, MayRun, start_fault}
-use Rattle.rpg_engine.specs.Streaming.{IsOfRun, StopsEarly}
+use Rattle.rpg_engine.specs.Streaming.{IsRunFault, StopsEarly}
 use Rattle.rpg_engine.specs.Reporting.{HasParts, JobEndsWell, Reports, SendsParts}
 use Rattle.rpg_cycle.specs.declared.ends.StartFault.{StartFault}
 use Rattle.rpg_cycle.specs.declared.ends.StartFault.TheVariants as starting
@@ -76,7 +76,7 @@ parts_same date p day job a a' b b' c c' d d' print print' disk disk' fault e f 
     inputs_same a a' b b' c c' d d' (StopsEarly p day fault print print' disk disk') e f g h
     (same_job date p day job (λ r x. OfInputs a b c d (StopsEarly r x fault print print' disk disk')) holds starts dated)
 
-pub told_of_run : {X : Type 0} (result : Result X RunFault) (date : List ℕ) → HasDay date → IfErr result IsOfRun → IsToldOfDate result date
+pub told_of_run : {X : Type 0} (result : Result X RunFault) (date : List ℕ) → HasDay date → IfErr result IsRunFault → IsToldOfDate result date
 told_of_run (Ok x) date has only = has
 told_of_run (Err (faults.Object fault)) date has only = absurd only
 told_of_run (Err faults.BadDate) date has only = absurd only

@@ -31,7 +31,7 @@ use Rattle.rpg_verify.specs.Bound.{bound}
 use Rattle.rpg_engine.specs.Faults.{Counts, FaultsAre}
 use Rattle.rpg_engine.specs.Inputs.{HasTooMany, OfInputs, records_of}
 use Rattle.rpg_engine.specs.Reporting.{GoesOnFor, HasParts, IsRunOver, Reports}
-use Rattle.rpg_engine.specs.Streaming.{Fails, IsOfRun, MayBeAsked, SendsSome, StopsEarly, TakesNone, ended_stage}
+use Rattle.rpg_engine.specs.Streaming.{FailsToRead, IsRunFault, MayBeAsked, SendsSome, StopsEarly, TakesNone, ended_stage}
 use Rattle.rpg_engine.specs.declared.fault.RunFault.{RunFault}
 use Rattle.rpg_engine.specs.declared.fault.RunFault.TheVariants as faults
 use Rattle.rpg_engine.proofs.Bytes.{BeginsWith, disk_goes_on, front_sent, part_sent, print_ends, printed_begins, printed_so_far, stored_begins, stored_so_far}
@@ -104,7 +104,7 @@ module _ {R : Type 0} (remaining : R → Option (List ℕ)) where
   asked old new (false, answer, asks) = still old new (asks.unneeded refl).1
   asked old new (true, answer, asks) = told_of (input_of remaining old) (input_of remaining new) _ (λ x y. Unit {0}) (λ x y is. tt) (asks.needed refl).0.input
 
-  failed : (is_needed : Bool) (old new : RecordReader R) → Fails remaining is_needed old new → Moves (input_of remaining old) (input_of remaining new)
+  failed : (is_needed : Bool) (old new : RecordReader R) → FailsToRead remaining is_needed old new → Moves (input_of remaining old) (input_of remaining new)
   failed is_needed old new fails = told_of (input_of remaining old) (input_of remaining new) _ (λ x y. Unit {0}) (λ x y is. tt) fails.2.input
 
 module _ {R S : Type 0} (remaining : R → Option (List ℕ)) (others : S → Option (List ℕ)) (job : AtWork) (primary primary' : RecordReader R) (secondary secondary' : RecordReader S) where
@@ -139,7 +139,7 @@ module _ {R S : Type 0} (remaining : R → Option (List ℕ)) (others : S → Op
   needed_of (faults.Disk sent) is none = absurd none
   needed_of faults.NoMemory is none = absurd (let never : faults.NoMemory ≡ faults.Read = is in cc)
 
-  pub none_of_run : (e : RunFault) → DoesNone e → IsOfRun e
+  pub none_of_run : (e : RunFault) → DoesNone e → IsRunFault e
   none_of_run (faults.Object fault) none = absurd none
   none_of_run faults.BadDate none = absurd none
   none_of_run faults.Read none = tt
@@ -147,7 +147,7 @@ module _ {R S : Type 0} (remaining : R → Option (List ℕ)) (others : S → Op
   none_of_run (faults.Disk sent) none = tt
   none_of_run faults.NoMemory none = tt
 
-pub some_of_run : (e : RunFault) (printed stored : ℕ) (print print' disk disk' : Option (List ℕ)) (lines records : List ℕ) → SendsSome e printed stored print print' disk disk' lines records → IsOfRun e
+pub some_of_run : (e : RunFault) (printed stored : ℕ) (print print' disk disk' : Option (List ℕ)) (lines records : List ℕ) → SendsSome e printed stored print print' disk disk' lines records → IsRunFault e
 some_of_run (faults.Object fault) printed stored print print' disk disk' lines records some = absurd some
 some_of_run faults.BadDate printed stored print print' disk disk' lines records some = absurd some
 some_of_run faults.Read printed stored print print' disk disk' lines records some = tt

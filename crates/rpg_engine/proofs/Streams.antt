@@ -12,7 +12,7 @@ use Rattle.rpg_cycle.specs.Stages.{Ended, job_end, stage_at}
 use Rattle.rpg_cycle.specs.declared.ends.JobEnd.{JobEnd}
 use Rattle.rpg_cycle.specs.declared.ends.JobEnd.TheVariants as jobs
 use Rattle.rpg_cycle_records.specs.Earlier.{Selected, left_by, with_record}
-use Rattle.rpg_cycle_records.specs.Merging.{IsOrderly}
+use Rattle.rpg_cycle_records.specs.Merging.{AreMergedInOrder}
 use Rattle.rpg_cycle_records.specs.Waiting.{Inputs, unread}
 use Rattle.rpg_effect.proofs.Putting.{end_from-lines}
 use Rattle.rpg_effect.specs.Put.{Bytes, disk_bytes, line_of, with_output}
@@ -96,7 +96,7 @@ pub record Streams (first : AtWork) (given others : Option (List ℕ)) (job : At
   pub earlier : List Selected
   pub out : Output
   pub left : job.left ≡ left_by job.program earlier
-  pub orderly : IsOrderly job.program earlier job.inputs
+  pub orderly : AreMergedInOrder job.program earlier job.inputs
   pub last : job.last ≡ line_of (last_position out.lines)
   pub empty : job.output ≡ no_bytes
   pub sent_print : Appends print print' (paper out.lines)
@@ -119,7 +119,7 @@ stream_begins first a b print disk left none last empty front unended count fron
   earlier = [];
   out = no_output;
   left = left;
-  orderly = subst (λ (i : Inputs). IsOrderly first.program [] i) (sym none) (at_first first.program);
+  orderly = subst (λ (i : Inputs). AreMergedInOrder first.program [] i) (sym none) (at_first first.program);
   last = last;
   empty = empty;
   sent_print = Appends-nil print;
@@ -219,8 +219,8 @@ stream_goes_on first job mid given others a b a' b' cycles most greater print pr
     let p = job.program in
     let cycle : Cycle p s.earlier t.x t.y (begun p c job.inputs) GoesOn there does.out =
     subst (λ (k : PhaseEnd). Cycle p s.earlier t.x t.y (begun p c job.inputs) k there does.out) on does.cycle in
-    let order : IsOrderly p (with_record there.selected s.earlier) mid.inputs =
-    subst (λ (i : Inputs). IsOrderly p (with_record there.selected s.earlier) i) (sym (does.inputs on)) (keeps p s.earlier t.x t.y c job.inputs there does.out s.orderly cycle) in
+    let order : AreMergedInOrder p (with_record there.selected s.earlier) mid.inputs =
+    subst (λ (i : Inputs). AreMergedInOrder p (with_record there.selected s.earlier) i) (sym (does.inputs on)) (keeps p s.earlier t.x t.y c job.inputs there does.out s.orderly cycle) in
     let fewer = fewer_wait p s.earlier t.x t.y c job.inputs there does.out s.orderly t.primary.needed t.secondary.needed cycle in
     let waits : waiting_count mid.inputs ≡ waiting_count there.inputs = ap waiting_count (does.inputs on) in
     let start = config_on None first.config in
@@ -229,7 +229,7 @@ stream_goes_on first job mid given others a b a' b' cycles most greater print pr
       earlier = with_record there.selected s.earlier;
       out = with_more s.out does.out;
       left = does.left on ∙ ap (λ (p : Object). left_by p (with_record there.selected s.earlier)) (sym does.program);
-      orderly = subst (λ (q : Object). IsOrderly q (with_record there.selected s.earlier) mid.inputs) (sym does.program) order;
+      orderly = subst (λ (q : Object). AreMergedInOrder q (with_record there.selected s.earlier) mid.inputs) (sym does.program) order;
       last = does.last ∙ ap line_of (sym line);
       empty = refl;
       sent_print = subst (λ (bytes : List ℕ). Appends print print'' bytes) to_print (Appends-trans print print' print'' (paper s.out.lines) mid.output.print s.sent_print sent_print);

@@ -6,11 +6,11 @@ use Rattle.rpg_cycle.proofs.JobCycles.{cycles_behind}
 use Rattle.rpg_cycle.specs.Ends.{EndOfJob, GoesOn, Halt, PhaseEnd, Wrong}
 use Rattle.rpg_cycle.specs.Job.{AtWork, DoesCycle, job_needs_record}
 use Rattle.rpg_cycle.specs.Phases.{Cycle, begun, needs_record}
-use Rattle.rpg_cycle.specs.Runs.{next_of, rest_of}
+use Rattle.rpg_cycle.specs.Runs.{next_of, rest_where_needed}
 use Rattle.rpg_cycle.specs.Stages.{Going, is_going, stage_at}
 use Rattle.rpg_cycle_records.specs.Earlier.{Selected, left_by}
 use Rattle.rpg_cycle_records.specs.Identifying.{is_good_record}
-use Rattle.rpg_cycle_records.specs.Merging.{IsOrderly}
+use Rattle.rpg_cycle_records.specs.Merging.{AreMergedInOrder}
 use Rattle.rpg_cycle_records.specs.Waiting.{Inputs, input_at}
 use Rattle.rpg_effect.specs.Put.{line_of}
 use Rattle.rpg_effect.specs.declared.input.InputFile.{InputFile}
@@ -61,7 +61,7 @@ source_of remaining r = record { input = input_of remaining r; count = count_of 
 -- a cycle that is given this of a file does the same with the file's first record; where it goes on, the others are left
 pub record IsFirstOf (p : Object) (f : InputFile) (is_needed : Bool) (x : Option (List ℕ)) (e : PhaseEnd) (before after : List (List ℕ)) : Type 0 where
   pub alike : AreAlike p f x (next_of is_needed before)
-  pub left : e ≡ GoesOn → after ≡ rest_of is_needed before
+  pub left : e ≡ GoesOn → after ≡ rest_where_needed is_needed before
   pub counted : e ≡ GoesOn → length before ≡ length (in_list x) + length after
 
 -- so it is, whatever follows the bytes that were read
@@ -172,7 +172,7 @@ went (Halt k) h = cc
 went (Wrong f) h = cc
 
 -- what a cycle that goes on has taken
-pub gone_on : (job job' : AtWork) (earlier : List Selected) (previous : Option Position) (x y : Option (List ℕ)) (e : PhaseEnd) → IsOrderly job.program earlier job.inputs
+pub gone_on : (job job' : AtWork) (earlier : List Selected) (previous : Option Position) (x y : Option (List ℕ)) (e : PhaseEnd) → AreMergedInOrder job.program earlier job.inputs
     → DoesCycle job earlier previous x y e job' → e ≡ GoesOn → Takes job.program x y job.inputs job'.inputs
 gone_on job job' earlier previous x y e order does on =
     subst (λ (i : Inputs). Takes job.program x y job.inputs i) (sym (does.inputs on))
@@ -192,7 +192,7 @@ module _ {R S : Type 0} (remaining : R → Option (List ℕ)) (others : S → Op
 
   -- behind all records that leave what the job keeps
   pub takes_next : limit_of primary ≡ job.program.record_length → limit_of secondary ≡ job.program.secondary_length → (earlier : List Selected) → job.left ≡ left_by job.program earlier
-      → IsOrderly job.program earlier job.inputs → (previous : Option Position) → job.last ≡ line_of previous
+      → AreMergedInOrder job.program earlier job.inputs → (previous : Option Position) → job.last ≡ line_of previous
       → (e : PhaseEnd) × TakesNext earlier previous job (source_of remaining primary) (source_of others secondary) e job' (source_of remaining primary') (source_of others secondary')
   takes_next limit limit_too earlier leave order previous placed =
       let x = record_with primary' takes.first in
@@ -222,7 +222,7 @@ module _ {R S : Type 0} (remaining : R → Option (List ℕ)) (others : S → Op
       (λ needs. took.secondary.no_bad (needed_takes job.program job.config job.inputs Secondary needs))
       (λ needs. took.secondary.over_where_none (needed_takes job.program job.config job.inputs Secondary needs)) took.secondary.over_still
 
-  pub both_behind : (earlier : List Selected) → job.left ≡ left_by job.program earlier → IsOrderly job.program earlier job.inputs → (previous : Option Position) → job.last ≡ line_of previous → job'.stage ≡ Going
+  pub both_behind : (earlier : List Selected) → job.left ≡ left_by job.program earlier → AreMergedInOrder job.program earlier job.inputs → (previous : Option Position) → job.last ≡ line_of previous → job'.stage ≡ Going
       → IsBehindRecord job Primary primary → IsBehindRecord job Secondary secondary → IsBehindRecord job' Primary primary' × IsBehindRecord job' Secondary secondary'
   both_behind earlier leave order previous placed stage one two =
       let x = record_with primary' takes.first in

@@ -10,7 +10,7 @@ use Rattle.rpg_files.specs.Reading.{reader_of}
 use Rattle.rpg_files.specs.declared.counting.Counted.{Counted}
 use Rattle.rpg_files.specs.declared.reader.RecordReader.{RecordReader}
 use Rattle.rpg_object_program.specs.Object.{Object}
-use Rattle.rpg_engine.specs.Faults.{FaultsAre, counts_of}
+use Rattle.rpg_engine.specs.Faults.{FaultsAre, device_counts}
 use Rattle.rpg_engine.specs.Inputs.{OfInputs}
 use Rattle.rpg_engine.specs.Refusing.{IsJobOf}
 use Rattle.rpg_engine.specs.Reporting.{JobEndsWell, Reports, SendsParts}
@@ -50,15 +50,15 @@ module _ {R S : Type 0} (remaining : R → Option (List ℕ)) (others : S → Op
   TellsWhoseFault input secondary print disk result =
       FaultsAre result (remaining (device_of input.entry.now)) (remaining (device_of input.exit.now))
       (others (device_of secondary.entry.now)) (others (device_of secondary.exit.now))
-      (counts_of input.entry.now secondary.entry.now print.entry.now disk.entry.now) (counts_of input.exit.now secondary.exit.now print.exit.now disk.exit.now)
+      (device_counts input.entry.now secondary.entry.now print.entry.now disk.entry.now) (device_counts input.exit.now secondary.exit.now print.exit.now disk.exit.now)
 
   -- the same of two readers of records
   abbrev pub TellsWhoseFaultOf : {P D X : Type 0} → LentRecords R → LentRecords S → Lent P → Lent D → Result X RunFault → Type 0
   TellsWhoseFaultOf primary secondary print disk result =
       FaultsAre result (remaining (device_of (reader_of primary.entry.now))) (remaining (device_of (reader_of primary.exit.now)))
       (others (device_of (reader_of secondary.entry.now))) (others (device_of (reader_of secondary.exit.now)))
-      (counts_of (reader_of primary.entry.now) (reader_of secondary.entry.now) print.entry.now disk.entry.now)
-      (counts_of (reader_of primary.exit.now) (reader_of secondary.exit.now) print.exit.now disk.exit.now)
+      (device_counts (reader_of primary.entry.now) (reader_of secondary.entry.now) print.entry.now disk.entry.now)
+      (device_counts (reader_of primary.exit.now) (reader_of secondary.exit.now) print.exit.now disk.exit.now)
 
 module _ {P D : Type 0} (contents : P → Option (List ℕ)) (stored : D → Option (List ℕ)) where
   -- what a part of a cycle's output did to both writers

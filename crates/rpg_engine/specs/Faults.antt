@@ -13,8 +13,8 @@ pub record Counts : Type 0 where
   pub print : ℕ
   pub disk : ℕ
 
-abbrev pub counts_of : {R S P D : Type 0} → (input : Counted R) (secondary : Counted S) (print : Counted P) (disk : Counted D) → Counts
-counts_of input secondary print disk = record { primary = faults_of input; secondary = faults_of secondary; print = faults_of print; disk = faults_of disk }
+abbrev pub device_counts : {R S P D : Type 0} → (input : Counted R) (secondary : Counted S) (print : Counted P) (disk : Counted D) → Counts
+device_counts input secondary print disk = record { primary = faults_of input; secondary = faults_of secondary; print = faults_of print; disk = faults_of disk }
 
 -- A fault of a writer is told exactly where its count rose by one, and one of a reader exactly where a reader's count rose or where
 -- the bytes of one have too many records; no other count rises.

@@ -54,14 +54,14 @@ abbrev pub MayBeAsked : {R : Type 0} → (R → Option (List ℕ)) → RecordRea
 MayBeAsked remaining old new = (is_needed : Bool) × (answer : Next) × Asks remaining is_needed old (Ok answer) new
 
 -- a reader of which a record was needed failed
-abbrev pub Fails : {R : Type 0} → (R → Option (List ℕ)) → Bool → RecordReader R → RecordReader R → Type 0
-Fails remaining is_needed old new = (is_needed ≡ true) × (fault : ReadFault) × ReadsNext remaining old (Err fault) new
+abbrev pub FailsToRead : {R : Type 0} → (R → Option (List ℕ)) → Bool → RecordReader R → RecordReader R → Type 0
+FailsToRead remaining is_needed old new = (is_needed ≡ true) × (fault : ReadFault) × ReadsNext remaining old (Err fault) new
 
 -- no cycle was done: the primary's reader failed, or then the secondary's; or memory ran out when they had been asked
 abbrev pub TakesNone : {R S : Type 0} → (R → Option (List ℕ)) → (S → Option (List ℕ)) → AtWork → RecordReader R → RecordReader S → RunFault → RecordReader R → RecordReader S → Type 0
 TakesNone remaining others job primary secondary faults.Read primary' secondary' =
-    (Fails remaining (job_needs_record job Primary) primary primary' × (secondary' ≡ secondary))
-    ⊎ (MayBeAsked remaining primary primary' × Fails others (job_needs_record job Secondary) secondary secondary')
+    (FailsToRead remaining (job_needs_record job Primary) primary primary' × (secondary' ≡ secondary))
+    ⊎ (MayBeAsked remaining primary primary' × FailsToRead others (job_needs_record job Secondary) secondary secondary')
 TakesNone remaining others job primary secondary faults.NoMemory primary' secondary' = MayBeAsked remaining primary primary' × MayBeAsked others secondary secondary'
 TakesNone remaining others job primary secondary e primary' secondary' = ⊥
 
@@ -81,12 +81,12 @@ pub record StopsEarly (p : Object) (day : ℤ) (e : RunFault) (print print' disk
   pub needs : e ≡ faults.Read → NeedsRecord p day print print' disk disk' primary secondary
 
 -- of a fault of a run that has begun
-abbrev pub IsOfRun : RunFault → Type 0
-IsOfRun faults.Read = Unit {0}
-IsOfRun (faults.Print sent) = Unit {0}
-IsOfRun (faults.Disk sent) = Unit {0}
-IsOfRun faults.NoMemory = Unit {0}
-IsOfRun e = ⊥
+abbrev pub IsRunFault : RunFault → Type 0
+IsRunFault faults.Read = Unit {0}
+IsRunFault (faults.Print sent) = Unit {0}
+IsRunFault (faults.Disk sent) = Unit {0}
+IsRunFault faults.NoMemory = Unit {0}
+IsRunFault e = ⊥
 
 -- whose count rose
 abbrev pub WriterFaults : {X : Type 0} → Result X RunFault → (print print' disk disk' : ℕ) → Type 0

@@ -6,7 +6,7 @@ ghost use Rattle.rpg_files.specs.Counting.{faults_of};
 ghost use Rattle.rpg_files.specs.Reading.{IsFresh, reader_of};
 ghost use Rattle.rpg_verify.specs.Bound as words;
 ghost use Rattle.rpg_engine.specs.Devices.{ReportsFrom, StopsFrom, TellsWhoseFaultOf};
-ghost use Rattle.rpg_engine.specs.Streaming.{IsOfRun};
+ghost use Rattle.rpg_engine.specs.Streaming.{IsRunFault};
 
 use crate::cycle::next_cycle;
 use crate::fault::RunFault;
@@ -39,7 +39,7 @@ pub(crate) fn run<S: Store + Drop, R1: Read, R2: Read, W1: Write, W2: Write>(
     ensures alone { job.old.program.secondary_length ≡ 0 → secondary.new ≡ secondary.old }
     ensures report { IfOk result (ReportsFrom R1.remaining R2.remaining W1.contents W2.contents job.old primary secondary print disk) }
     ensures early { IfErr result (StopsFrom R1.remaining R2.remaining W1.contents W2.contents job.old primary secondary print disk) }
-    ensures only { IfErr result IsOfRun }
+    ensures only { IfErr result IsRunFault }
     ensures faults { TellsWhoseFaultOf R1.remaining R2.remaining primary secondary print disk result }
 {
     let mut cycles = 0u64;

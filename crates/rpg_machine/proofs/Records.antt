@@ -9,7 +9,7 @@ use Rattle.rpg_machine.proofs.Doing.{quietly_done}
 use Rattle.rpg_machine.proofs.Effects.{did_effect}
 use Rattle.rpg_machine.proofs.Filling.{record_on}
 use Rattle.rpg_machine.proofs.Making.{held}
-use Rattle.rpg_machine.specs.Outputs.{ByEffect, FillsFields, inputs_of}
+use Rattle.rpg_machine.specs.Outputs.{ByEffect, FillsFields, input_fields_of}
 use Rattle.rpg_machine.specs.Running.{Did, Running}
 use Rattle.rpg_object_program.specs.Object.{Object}
 
@@ -19,5 +19,5 @@ pub record_filled : (p : Object) (row : ℕ) (text : List ℕ) (t : TypeRow ℕ)
 record_filled p row text t n e r v there counted last is =
     let new : Running = record { program = r.program; config = record r.config { steps = n; world = v.world }; last = v.last; output = r.output } in
     let done = quietly_done (record_in (form_at p.fields) text t.inputs) e (held r) v r.output last (λ previous. record_on (form_at p.fields) previous text t.inputs r.config.world) is in
-    subst (λ (o : Option (TypeRow ℕ)). Did (ByEffect (length (inputs_of o)) (record_in (form_at p.fields) text (inputs_of o))) r e new) (sym there)
+    subst (λ (o : Option (TypeRow ℕ)). Did (ByEffect (length (input_fields_of o)) (record_in (form_at p.fields) text (input_fields_of o))) r e new) (sym there)
     (did_effect (record_in (form_at p.fields) text t.inputs) (length t.inputs) n r v r.output e counted done)

@@ -40,13 +40,13 @@ abbrev pub PutsOut : Object → OutputTime → Config → End → Config → Out
 PutsOut p time = ByEffect (output_weight p time) (output_effect p time)
 
 -- the input fields of a type
-abbrev pub inputs_of : Option (TypeRow ℕ) → List (InputField ℕ)
-inputs_of None = []
-inputs_of (Some t) = t.inputs
+abbrev pub input_fields_of : Option (TypeRow ℕ) → List (InputField ℕ)
+input_fields_of None = []
+input_fields_of (Some t) = t.inputs
 
 -- those of a row, the first of which is 0
 abbrev pub inputs_at : Object → ℕ → List (InputField ℕ)
-inputs_at p row = inputs_of (slice_get p.types row)
+inputs_at p row = input_fields_of (slice_get p.types row)
 
 -- how long the records of its file are
 abbrev pub length_at : Object → ℕ → ℕ

@@ -91,7 +91,7 @@ module _ {p : Object} {job : Job} {number : Key → ℕ} (orderly : IsOrderly p)
     next_same f rs = ap (λ b. runs.next_of b rs) (needs_same f)
 
     left_same : (rs : runs.Records) → runs.left_behind p c i rs ≡ meant_left job (meant_begun job v i) rs
-    left_same rs = λ k. record { primary = runs.rest_of (needs_same Primary k) rs.primary; secondary = runs.rest_of (needs_same Secondary k) rs.secondary }
+    left_same rs = λ k. record { primary = runs.rest_where_needed (needs_same Primary k) rs.primary; secondary = runs.rest_where_needed (needs_same Secondary k) rs.secondary }
 
     cycle_of : (earlier : List Selected) (rs : runs.Records) → Holds p c.world → c.cells ≡ map.empty → AreWaiting p i → (e : PhaseEnd) (d : UnderWay) (out : Output)
         → machine.Cycle p earlier (runs.next_of (machine.needs_record p c i Primary) rs.primary) (runs.next_of (machine.needs_record p c i Secondary) rs.secondary) (machine.begun p c i) e d out

@@ -28,7 +28,7 @@ use Rattle.rpg_cycle_records.specs.Earlier.{Selected, any_agrees, control_fields
 use Rattle.rpg_cycle_records.specs.Identifying.{IsOf, IsOfNone, Misplaced, Trial, code_holds, has_position, identified, is_good_record, padded, same_file, trial_weight}
 use Rattle.rpg_cycle_records.specs.Levels.{differs, highest_broken, is_in_record, level_bytes}
 use Rattle.rpg_cycle_records.specs.Matching.{agrees, exceeds, value_in}
-use Rattle.rpg_cycle_records.specs.Waiting.{Inputs, chosen, first_of, has_match, input_at, other_file, over, takes_in, waiting_in, with_waiting}
+use Rattle.rpg_cycle_records.specs.Waiting.{Inputs, chosen, first_of, has_match, input_at, other_file, with_file_over, takes_in, waiting_in, with_waiting}
 use Rattle.rpg_effect_renaming.specs.Naming.{Agree, renamed_type}
 use Rattle.rpg_cycle_safety.proofs.Selecting.{Picks, levels_alone, selects, takes}
 use Rattle.rpg_cycle_safety.proofs.Working.{IsTaken}
@@ -209,7 +209,7 @@ module _ {p : Object} {job : Job} {number : Key → ℕ} (orderly : IsOrderly p)
         (subst (λ ts. IsTried (identified f 0 ts (padded p f text)) (cards.type_of_text job f (padded p f text) 0 job.types)) (sym is.same_types) (tried_same job number f (padded p f text) 0 job.types)) h)
 
     read_same : (next : Option (List ℕ)) → IsCycleEnd (machine.read_record p (left_by p earlier) f next c).end → Matches (machine.read_record p (left_by p earlier) f next c) (cards.read job earlier f next s)
-    read_same None h = record { ends = refl; same = record { world = same.world; allowance = same.allowance; inputs = ap (over f) same.inputs; selected = same.selected } }
+    read_same None h = record { ends = refl; same = record { world = same.world; allowance = same.allowance; inputs = ap (with_file_over f) same.inputs; selected = same.selected } }
     read_same (Some text) h =
         subst (λ b. Matches (machine.read_record p (left_by p earlier) f (Some text) c) (cond b (cards.type_taken job earlier f (cards.meant_padded job f text) (cards.type_of_text job f (cards.meant_padded job f text) 0 job.types) s) (Halt 7, s)))
         (ap (λ n. nat_le (length text) n && list_all is_character text) (length_same f)) (by (is_good_record p f text) h)

@@ -30,7 +30,7 @@ use Rattle.rpg_meaning.specs.Job.{IsProgramOf, Job, JobState}
 use Rattle.rpg_meaning.specs.Phases.{Came, any_on_in, by_effect, calculated, meant_passes, turned_all, with_turned}
 use Rattle.rpg_machine.specs.Accepted.{IsOrderly}
 use Rattle.rpg_machine.specs.Config.{Config, Output}
-use Rattle.rpg_machine.specs.Outputs.{inputs_of}
+use Rattle.rpg_machine.specs.Outputs.{input_fields_of}
 use Rattle.rpg_machine.specs.Outputs as machine_outputs
 use Rattle.rpg_machine.specs.declared.time.OutputTime.TheVariants as times
 use Rattle.rpg_meaning_calculations.proofs.Named.{lines_named}
@@ -254,9 +254,9 @@ module _ {p : Object} {job : Job} {number : Key → ℕ} (orderly : IsOrderly p)
   -- ---- the fields of a record
 
   inputs_at_type : (type : ℕ) → machine_outputs.inputs_at p type ≡ map (renamed_input number) (cards.meant_inputs_at job type)
-  inputs_at_type type = ap (λ ts. inputs_of (slice_get ts type)) is.same_types ∙ ap inputs_of (slice_get-map (renamed_type number) job.types type) ∙ by (slice_get job.types type)
+  inputs_at_type type = ap (λ ts. input_fields_of (slice_get ts type)) is.same_types ∙ ap input_fields_of (slice_get-map (renamed_type number) job.types type) ∙ by (slice_get job.types type)
     where
-      by : (o : Option (TypeRow Key)) → inputs_of (option_map (renamed_type number) o) ≡ map (renamed_input number) (option_map_or (λ t. t.inputs) o [])
+      by : (o : Option (TypeRow Key)) → input_fields_of (option_map (renamed_type number) o) ≡ map (renamed_input number) (option_map_or (λ t. t.inputs) o [])
       by None = refl
       by (Some t) = refl
 

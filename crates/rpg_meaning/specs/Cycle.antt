@@ -20,7 +20,7 @@ use Rattle.rpg_cycle_records.specs.Earlier.{Selected, is_any, or_before, with_re
 use Rattle.rpg_cycle_records.specs.Identifying.{code_holds, same_file}
 use Rattle.rpg_cycle_records.specs.Levels.{differs, highest_broken, level_bytes}
 use Rattle.rpg_cycle_records.specs.Matching.{agrees, exceeds, value_in}
-use Rattle.rpg_cycle_records.specs.Waiting.{Inputs, first_of, input_at, other_file, over, waiting_in, with_waiting}
+use Rattle.rpg_cycle_records.specs.Waiting.{Inputs, first_of, input_at, other_file, with_file_over, waiting_in, with_waiting}
 
 module _ (job : Job) where
   -- ---- record types
@@ -122,7 +122,7 @@ module _ (job : Job) where
 
   -- a bad record is halt 7; where there is none the file is at its end
   abbrev pub read : List Selected → InputFile → Option (List ℕ) → JobState → PhaseEnd × JobState
-  read earlier f None s = (GoesOn, record s { inputs = over f s.inputs })
+  read earlier f None s = (GoesOn, record s { inputs = with_file_over f s.inputs })
   read earlier f (Some text) s =
       if is_good_text f text then type_taken earlier f (meant_padded f text) (type_of_text f (meant_padded f text) 0 job.types) s else (Halt 7, s)
 

@@ -3,7 +3,7 @@ use Rattle.std.specs.Prelude.{◌≡◌, ℕ, zero, suc, ◌+◌, Bool, not, ◌
 use Rattle.rpg_cards.specs.Keys.{key_cmp}
 use Rattle.rpg_cycle.specs.Ends.{PhaseEnd, GoesOn, EndOfJob, Halt, Wrong}
 use Rattle.rpg_cycle.specs.Indicators.{halt_indicators, last_record}
-use Rattle.rpg_cycle.specs.Runs.{Records, next_of, printed, rest_of, stored}
+use Rattle.rpg_cycle.specs.Runs.{Records, next_of, printed, rest_where_needed, stored}
 use Rattle.rpg_effect.specs.Put.{Bytes}
 use Rattle.rpg_effect.specs.World.{World}
 use Rattle.rpg_effect.specs.declared.input.InputFile.{InputFile}
@@ -34,7 +34,7 @@ abbrev pub meant_next : Job → JobState → InputFile → List (List ℕ) → O
 meant_next job s f rs = next_of (meant_needs job s f) rs
 
 abbrev pub meant_left : Job → JobState → Records → Records
-meant_left job s rs = record { primary = rest_of (meant_needs job s Primary) rs.primary; secondary = rest_of (meant_needs job s Secondary) rs.secondary }
+meant_left job s rs = record { primary = rest_where_needed (meant_needs job s Primary) rs.primary; secondary = rest_where_needed (meant_needs job s Secondary) rs.secondary }
 
 -- a cycle ended the job, or the rest follows
 abbrev pub meant_ends_or : PhaseEnd → JobState → Output → (JobState → MeantCourse → Type 0) → MeantCourse → Type 0

@@ -6,9 +6,9 @@ use Rattle.rpg_cycle.specs.declared.ends.JobEnd.TheVariants as jobs
 use Rattle.rpg_cycle.proofs.Composing.{passed_map}
 use Rattle.rpg_cycle.proofs.Selecting.{fields_inside, low_so, refused, taken_costs, too_low, untaken, waits, waits_so}
 use Rattle.rpg_cycle_records.specs.Earlier.{match_value}
-use Rattle.rpg_cycle_records.specs.Holding.{input_of}
+use Rattle.rpg_cycle_records.specs.Holding.{input_state_of}
 use Rattle.rpg_cycle_records.specs.Keeping.{seen_value}
-use Rattle.rpg_cycle_records.specs.Waiting.{Input, input_at}
+use Rattle.rpg_cycle_records.specs.Waiting.{InputState, input_at}
 use Rattle.rpg_machine.specs.Running.{Running, with_charge}
 use Rattle.rpg_cycle.proofs.selection.read.Goals as goal
 
@@ -47,11 +47,11 @@ returns-clause-goes g c =
     let full = c.fill.new.room.items in
     let one = subst (λ (x : List ℕ). TakesType p c.args.file x c.args.machine.now t c.take_type.new.machine) c.deref.ensures.value c.in_ok-row.ensures.goes in
     λ left i last at.
-    waits p left c.args.file c.args.text.now full i (input_of c.wait.new.self) t c.args.machine.now c.take_type.new.machine c.charge.new.self (sym c.is_good.ensures ∙ c.if-not-is_good.false)
+    waits p left c.args.file c.args.text.now full i (input_state_of c.wait.new.self) t c.args.machine.now c.take_type.new.machine c.charge.new.self (sym c.is_good.ensures ∙ c.if-not-is_good.false)
     c.in_ok-fill.ensures.filled one (fields_inside p c.args.file t full c.match_fields.result.now c.match_fields.ensures.inside c.match_fields.ensures.value c.in_ok-fill.ensures.whole one.own)
     (c.charge.ensures.charged ∙ ap (λ (fs : List ControlField). with_charge (length fs) c.take_type.new.machine) c.match_fields.ensures.value)
     (low_so _ (seen_value c.args.last.now) (match_value p (record { type = t; text = full })) c.in_ok-wait.field-0 true last c.in_ok-wait.ensures.waits c.if-not-branch.false)
-    (waits_so c.wait.new.self t full (input_at i c.args.file) (c.in_ok-wait.ensures.now c.if-not-branch.false) c.in_ok-wait.ensures.held (c.in_ok-wait.ensures.over ∙ sym (ap (λ (x : Input). x.is_over) at)))
+    (waits_so c.wait.new.self t full (input_at i c.args.file) (c.in_ok-wait.ensures.now c.if-not-branch.false) c.in_ok-wait.ensures.held (c.in_ok-wait.ensures.over ∙ sym (ap (λ (x : InputState). x.is_over) at)))
 
 pub returns-clause-takes : goal.returns-clause-takes
 returns-clause-takes g c =

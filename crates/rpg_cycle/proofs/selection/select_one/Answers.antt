@@ -1,7 +1,7 @@
 use Rattle.std.proofs.Common.{◌∙◌, List, Some, refl, sym, ap, subst}
 use Rattle.rpg_cycle.proofs.Selecting.{holds_from, picks_from}
 use Rattle.rpg_cycle.specs.Selecting.{HasSelected, with_seen}
-use Rattle.rpg_cycle_records.specs.Holding.{input_of, inputs_of}
+use Rattle.rpg_cycle_records.specs.Holding.{input_state_of, inputs_of}
 use Rattle.rpg_cycle_records.specs.Keeping.{left_of}
 use Rattle.rpg_cycle_records.specs.Waiting.{with_input}
 use Rattle.rpg_cycle_records.specs.declared.kept.Kept.{Kept}
@@ -18,7 +18,7 @@ returns-in_ok-row-in-Some-Primary-clause-goes g c =
     picks_from p Primary k now c.in_ok-row-in-Some-Primary.row c.args.machine.now c.select_waiting.new.machine
     (sym c.chosen.ensures ∙ c.in-Some-Primary.is ∙ ap (λ (f : InputFile). Some f) c.in-Some-Primary.field-0-is)
     (subst (λ (xs : List LastBytes). HasSelected p (with_seen xs k.values (left_of k)) Primary (inputs_of k) c.args.machine.now c.in_ok-row-in-Some-Primary.row c.select_waiting.new.kept.record.items c.select_waiting.new.machine
-    (with_input Primary (input_of c.select_waiting.new.kept) (inputs_of k))) c.deref_mut.ensures.value (c.in_ok-row-in-Some-Primary.ensures.goes Primary (left_of k) (inputs_of k) refl))
+    (with_input Primary (input_state_of c.select_waiting.new.kept) (inputs_of k))) c.deref_mut.ensures.value (c.in_ok-row-in-Some-Primary.ensures.goes Primary (left_of k) (inputs_of k) refl))
     c.in_ok-row-in-Some-Primary.ensures.row c.requires.kept.primary
 
 pub returns-in_ok-row-in-Some-Primary-clause-held : goal.returns-in_ok-row-in-Some-Primary-clause-held
@@ -35,7 +35,7 @@ returns-in_ok-row-in-Some-Secondary-clause-goes g c =
     picks_from p Secondary k now c.in_ok-row-in-Some-Secondary.row c.args.machine.now c.select_waiting-in-Some-Secondary.new.machine
     (sym c.chosen.ensures ∙ c.in-Some-Secondary.is ∙ ap (λ (f : InputFile). Some f) c.in-Some-Secondary.field-0-is)
     (subst (λ (xs : List LastBytes). HasSelected p (with_seen xs k.values (left_of k)) Secondary (inputs_of k) c.args.machine.now c.in_ok-row-in-Some-Secondary.row c.select_waiting-in-Some-Secondary.new.kept.record.items c.select_waiting-in-Some-Secondary.new.machine
-    (with_input Secondary (input_of c.select_waiting-in-Some-Secondary.new.kept) (inputs_of k))) c.deref_mut-in-Some-Secondary.ensures.value (c.in_ok-row-in-Some-Secondary.ensures.goes Secondary (left_of k) (inputs_of k) refl))
+    (with_input Secondary (input_state_of c.select_waiting-in-Some-Secondary.new.kept) (inputs_of k))) c.deref_mut-in-Some-Secondary.ensures.value (c.in_ok-row-in-Some-Secondary.ensures.goes Secondary (left_of k) (inputs_of k) refl))
     c.in_ok-row-in-Some-Secondary.ensures.row c.requires.kept.secondary
 
 pub returns-in_ok-row-in-Some-Secondary-clause-held : goal.returns-in_ok-row-in-Some-Secondary-clause-held

@@ -5,7 +5,7 @@ use Rattle.rpg_cycle.proofs.Spending.{both_paid, both_taken, taken_paid}
 use Rattle.rpg_cycle.specs.Doing.{holding, next_text, unselected}
 use Rattle.rpg_cycle.specs.Ends.{GoesOn}
 use Rattle.rpg_cycle.specs.Stages.{job_end}
-use Rattle.rpg_cycle_records.specs.Holding.{input_of, inputs_of, text_in}
+use Rattle.rpg_cycle_records.specs.Holding.{input_state_of, inputs_of, text_in}
 use Rattle.rpg_cycle_records.specs.Keeping.{left_of}
 use Rattle.rpg_cycle_records.specs.Waiting.{with_input}
 use Rattle.rpg_effect.specs.declared.input.InputFile.TheVariants.{Primary}
@@ -39,7 +39,7 @@ returns-in_err-take_in-2-clause-stops g c =
     let p = c.args.program.now in
     let left = left_of c.args.kept.now in
     let i = inputs_of c.args.kept.now in
-    let j = with_input Primary (input_of c.take_in.new.kept) i in
+    let j = with_input Primary (input_state_of c.take_in.new.kept) i in
     passed_map (Unit {0}) _ c.from_residual-in_err-take_in-2.result c.in_err-take_in-2.field-0.0 _ _
     (λ e h. (
       j,
@@ -59,7 +59,7 @@ returns-clause-goes g c =
     let p = c.args.program.now in
     let left = left_of c.args.kept.now in
     let i = inputs_of c.args.kept.now in
-    let j = with_input Primary (input_of c.take_in.new.kept) i in
+    let j = with_input Primary (input_state_of c.take_in.new.kept) i in
     not_last p left (next_text c.args.primary) (next_text c.args.secondary) c.args.machine.now c.select_one.new.machine (unselected i)
     (holding (inputs_of c.select_one.new.kept) c.in_ok-row.row (text_in p c.select_one.new.kept c.in_ok-row.row)) GoesOn (sym c.indicator.ensures ∙ c.if-indicator.false)
     (goes (c.in_ok-take_in.ensures.goes left i refl refl) (goes (c.in_ok-take_in-2.ensures.goes left j refl refl) c.in_ok-row.ensures.goes))

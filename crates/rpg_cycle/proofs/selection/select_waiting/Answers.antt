@@ -3,7 +3,7 @@ use Rattle.rpg_cycle.proofs.Selecting.{compared_spends, nothing_waits, one_waits
 use Rattle.rpg_cycle.specs.Phases.{type_indicator}
 use Rattle.rpg_cycle.specs.Selecting.{IsCompared, with_seen}
 use Rattle.rpg_cycle_records.specs.Earlier.{control_fields}
-use Rattle.rpg_cycle_records.specs.Holding.{input_of}
+use Rattle.rpg_cycle_records.specs.Holding.{input_state_of}
 use Rattle.rpg_cycle_records.specs.Keeping.{seen_levels, selected_as}
 use Rattle.rpg_cycle.proofs.selection.select_waiting.Goals as goal
 use Rattle.std.proofs.Common.{slice_get}
@@ -11,7 +11,7 @@ use Rattle.std.proofs.Common.{slice_get}
 pub returns-in_default-clause-goes : goal.returns-in_default-clause-goes
 returns-in_default-clause-goes g c =
     λ file left i at.
-    nothing_waits c.args.program.now (with_seen c.args.levels.now c.args.values.now left) file i (input_of c.args.kept.now) c.args.kept.now.record.items c.args.machine.now at
+    nothing_waits c.args.program.now (with_seen c.args.levels.now c.args.values.now left) file i (input_state_of c.args.kept.now) c.args.kept.now.record.items c.args.machine.now at
     (ap (λ (o : Option ℕ). selected_as o c.args.kept.now.record.items) c.in_default.is)
 
 pub compare_levels-requires-clause-there : goal.compare_levels-requires-clause-there
@@ -23,7 +23,7 @@ returns-clause-goes g c =
     let t = c.in-Some.row in
     let text = c.args.kept.now.record.items in
     λ file left i at.
-    one_waits p (with_seen c.args.levels.now c.args.values.now left) file i (input_of c.args.kept.now) _ t text c.args.machine.now c.compare_levels.new.machine (seen_levels c.compare_levels.new.levels) at
+    one_waits p (with_seen c.args.levels.now c.args.values.now left) file i (input_state_of c.args.kept.now) _ t text c.args.machine.now c.compare_levels.new.machine (seen_levels c.compare_levels.new.levels) at
     (ap (λ (o : Option ℕ). selected_as o text) c.in-Some.is) refl
     (subst (λ (x : List ℕ). IsCompared (type_indicator (slice_get p.types t)) (control_fields p t) x (seen_levels c.args.levels.now) c.args.machine.now c.compare_levels.new.machine
     (seen_levels c.compare_levels.new.levels)) c.deref.ensures.value c.in_ok-compare_levels.ensures.compared)

@@ -4,7 +4,7 @@ use Rattle.rpg_cycle.proofs.Selecting.{asked}
 use Rattle.rpg_cycle.specs.Doing.{next_text}
 use Rattle.rpg_cycle.specs.Ends.{GoesOn}
 use Rattle.rpg_cycle.specs.Stages.{job_end}
-use Rattle.rpg_cycle_records.specs.Holding.{input_of, takes_from}
+use Rattle.rpg_cycle_records.specs.Holding.{input_state_of, takes_from}
 use Rattle.rpg_cycle_records.specs.Waiting.{with_input}
 use Rattle.rpg_cycle.proofs.selection.take_in.Goals as goal
 
@@ -13,7 +13,7 @@ returns-clause-goes g c =
     let p = c.args.program.now in
     let f = c.args.file in
     ok_map c.read.result _ _
-    (λ x h left i last at. asked p left f (next_text c.args.next) (Some c.in-Some.text.now) i (with_input f (input_of c.read.new.kept) i) c.args.machine.now c.read.new.machine GoesOn
+    (λ x h left i last at. asked p left f (next_text c.args.next) (Some c.in-Some.text.now) i (with_input f (input_state_of c.read.new.kept) i) c.args.machine.now c.read.new.machine GoesOn
     (ap (takes_from p f) at ∙ sym c.takes_in.ensures ∙ c.if-not-takes_in.false) (ap next_text c.in-Some.is) (h left i last at))
     c.read.ensures.goes
 

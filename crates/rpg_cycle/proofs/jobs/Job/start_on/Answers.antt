@@ -1,6 +1,6 @@
 use Rattle.std.proofs.Common.{[], sym, ap, subst, arith}
 use Rattle.rpg_cycle.proofs.Cycling.{at_first}
-use Rattle.rpg_cycle_records.specs.Merging.{IsOrderly}
+use Rattle.rpg_cycle_records.specs.Merging.{AreMergedInOrder}
 use Rattle.rpg_cycle_records.specs.Waiting.{Inputs}
 use Rattle.rpg_machine.specs.Running.{Running}
 use Rattle.rpg_cycle.proofs.jobs.Job.start_on.Goals as goal
@@ -16,7 +16,7 @@ invariant_of-result g c =
       behind = λ on. record {
         earlier = [];
         leave = c.in_ok-kept.ensures.left;
-        orderly = subst (λ (i : Inputs). IsOrderly p [] i) (sym c.in_ok-kept.ensures.inputs) (at_first p);
+        orderly = subst (λ (i : Inputs). AreMergedInOrder p [] i) (sym c.in_ok-kept.ensures.inputs) (at_first p);
       };
       files = λ on. c.in_ok-kept.ensures.kept;
       few = λ on. omega (arith, none);
