@@ -34,11 +34,6 @@ either_of : (a b : Bool) → (not a && not b) ≡ true → a ≡ false
 either_of true b h = cc
 either_of false b h = refl
 
-other_of : (a b : Bool) → (not a && not b) ≡ true → b ≡ false
-other_of true b h = cc
-other_of false true h = cc
-other_of false false h = refl
-
 both_not : (a b : Bool) → a ≡ false → b ≡ false → (not a && not b) ≡ true
 both_not a b g h = rw g (rw h refl)
 
