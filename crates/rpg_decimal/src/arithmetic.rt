@@ -14,6 +14,9 @@ pub fn keep(n: i128, from: Scale, target: Target) -> i64
     ensures value { result ≡ stored_number target.half target.dec target.len (with_decimals n from.value) }
     ensures fits { unsigned_abs result < 10 ^ target.len }
 {
+    if from.value == target.dec {
+        return fit(n, target.len);
+    }
     let to = Scale { value: target.dec };
     if from.value < target.dec {
         // A shift up may pass 128 bits, so the digits that no field keeps go first.
