@@ -7,6 +7,21 @@ ghost use Rattle.rpg_decimal.specs.Num.{value_of};
 use crate::num::{Num, Scale, Target};
 use crate::whole::{align, fit, fit_small, power_of_ten};
 
+/// The number `n` of `from` decimals as the target keeps it, by a shift.
+fn kept_by_shift(n: i128, from: Scale, target: Target) -> i64
+    requires { unsigned_abs n < 10 ^ 36 }
+    ensures value { result ≡ stored_number target.half target.dec target.len (with_decimals n from.value) }
+    ensures fits { unsigned_abs result < 10 ^ target.len }
+{
+    let to = Scale { value: target.dec };
+    if from.value < target.dec {
+        // A shift up may pass 128 bits, so the digits that no field keeps go first.
+        let lowest = i128::from(fit(n, 15));
+        return fit(align(lowest, from, to, target.half), target.len);
+    }
+    fit(align(n, from, to, target.half), target.len)
+}
+
 /// The number `n` of `from` decimals as the target keeps it: aligned, and without the digits too
 /// many on the left.
 pub fn keep(n: i128, from: Scale, target: Target) -> i64
@@ -17,13 +32,7 @@ pub fn keep(n: i128, from: Scale, target: Target) -> i64
     if from.value == target.dec {
         return fit(n, target.len);
     }
-    let to = Scale { value: target.dec };
-    if from.value < target.dec {
-        // A shift up may pass 128 bits, so the digits that no field keeps go first.
-        let lowest = i128::from(fit(n, 15));
-        return fit(align(lowest, from, to, target.half), target.len);
-    }
-    fit(align(n, from, to, target.half), target.len)
+    kept_by_shift(n, from, target)
 }
 
 /// The value with `scale` decimals more.

@@ -82,7 +82,11 @@ pub(crate) fn fit_small(n: i64, len: u8) -> i64
     ensures fits { unsigned_abs result < 10 ^ len }
 {
     let limit = power_of_ten(len);
-    if n.unsigned_abs() < limit { n } else { n % limit as i64 }
+    if n.unsigned_abs() < limit {
+        n
+    } else {
+        n % limit as i64
+    }
 }
 
 /// The lowest `len` digits of `n` under its sign; minus zero is zero.
