@@ -9,7 +9,7 @@ use Rattle.std.specs.Ordering.{int_cmp, MatchOrdering}
 use Rattle.std.specs.Cmp.{int_cmp_is}
 use Rattle.rpg_decimal_words.specs.Whole.{rounded_quotient, fit, with_sign_of}
 use Rattle.rpg_decimal_words.specs.Fraction.{with_decimals, plus, minus, stored_number}
-use Rattle.rpg_decimal.proofs.WholeLemmas.{ten_pos, rounded_size, rounded_size-scaled, rounded-times}
+use Rattle.rpg_decimal.proofs.WholeLemmas.{ten_pos, aligned_same, rounded_size, rounded_size-scaled, rounded-times}
 use Rattle.rpg_decimal.proofs.QuotientLemmas.{times-times}
 
 -- ---- products of sums
@@ -87,6 +87,23 @@ pub stored-difference : (half : Bool) (dec len : ℕ) (x y : ℤ) (i j : ℕ)
 stored-difference half dec len x y i j =
     stored-narrowed half dec len _ _ i j
     (ap₂ (◌-ℤ◌) (widened-left x i j) (widened-right y i j) ∙ sym (difference-times (x *ℤ pos (10 ^ (max i j - i))) (y *ℤ pos (10 ^ (max i j - j))) (10 ^ min i j)))
+
+-- what is stored of numbers that have the target's decimals already
+pub like-sum : (half : Bool) (len : ℕ) (x y : ℤ) (i j dec : ℕ) → i ≡ j → j ≡ dec → fit (x +ℤ y) len ≡ stored_number half dec len (plus (with_decimals x i) (with_decimals y j))
+like-sum half len x y i j dec left right =
+    let p = 10 ^ dec in
+    rw (left, right)
+    (ap (λ z. fit z len) (aligned_same half (x +ℤ y) dec dec refl)
+    ∙ sym (stored-scaled half dec len (x +ℤ y) p p (ten_pos dec))
+    ∙ ap (λ t. stored_number half dec len (record { top = t; bottom = p * p })) (sum-times x y p))
+
+pub like-difference : (half : Bool) (len : ℕ) (x y : ℤ) (i j dec : ℕ) → i ≡ j → j ≡ dec → fit (x -ℤ y) len ≡ stored_number half dec len (minus (with_decimals x i) (with_decimals y j))
+like-difference half len x y i j dec left right =
+    let p = 10 ^ dec in
+    rw (left, right)
+    (ap (λ z. fit z len) (aligned_same half (x -ℤ y) dec dec refl)
+    ∙ sym (stored-scaled half dec len (x -ℤ y) p p (ten_pos dec))
+    ∙ ap (λ t. stored_number half dec len (record { top = t; bottom = p * p })) (difference-times x y p))
 
 -- ---- the order
 

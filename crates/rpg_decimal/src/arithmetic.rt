@@ -5,11 +5,10 @@ ghost use Rattle.rpg_decimal_words.specs.Fraction.{stored_number, plus, minus, t
 ghost use Rattle.rpg_decimal.specs.Num.{value_of};
 
 use crate::num::{Num, Scale, Target};
-use crate::whole::{align, fit, power_of_ten};
+use crate::whole::{align, fit, fit_small, power_of_ten};
 
-/// The number `n` of `from` decimals as the target keeps it: aligned, and without the digits too
-/// many on the left.
-pub fn keep(n: i128, from: Scale, target: Target) -> i64
+/// The number `n` of `from` decimals as the target keeps it, by a shift.
+fn kept_by_shift(n: i128, from: Scale, target: Target) -> i64
     requires { unsigned_abs n < 10 ^ 36 }
     ensures value { result ≡ stored_number target.half target.dec target.len (with_decimals n from.value) }
     ensures fits { unsigned_abs result < 10 ^ target.len }
@@ -21,6 +20,19 @@ pub fn keep(n: i128, from: Scale, target: Target) -> i64
         return fit(align(lowest, from, to, target.half), target.len);
     }
     fit(align(n, from, to, target.half), target.len)
+}
+
+/// The number `n` of `from` decimals as the target keeps it: aligned, and without the digits too
+/// many on the left.
+pub fn keep(n: i128, from: Scale, target: Target) -> i64
+    requires { unsigned_abs n < 10 ^ 36 }
+    ensures value { result ≡ stored_number target.half target.dec target.len (with_decimals n from.value) }
+    ensures fits { unsigned_abs result < 10 ^ target.len }
+{
+    if from.value == target.dec {
+        return fit(n, target.len);
+    }
+    kept_by_shift(n, from, target)
 }
 
 /// The value with `scale` decimals more.
@@ -51,8 +63,8 @@ fn both_decimals(a: Num, b: Num) -> Scale
     }
 }
 
-/// `a` and `b` added up.
-pub fn add(a: Num, b: Num, target: Target) -> i64
+/// `a` and `b` added up, each widened to the decimals of the one that has more.
+fn added_by_scale(a: Num, b: Num, target: Target) -> i64
     ensures value { result ≡ stored_number target.half target.dec target.len (plus (value_of a) (value_of b)) }
     ensures fits { unsigned_abs result < 10 ^ target.len }
 {
@@ -61,14 +73,36 @@ pub fn add(a: Num, b: Num, target: Target) -> i64
     keep(sum, scale, target)
 }
 
-/// `b` taken from `a`.
-pub fn sub(a: Num, b: Num, target: Target) -> i64
+/// `a` and `b` added up.
+pub fn add(a: Num, b: Num, target: Target) -> i64
+    ensures value { result ≡ stored_number target.half target.dec target.len (plus (value_of a) (value_of b)) }
+    ensures fits { unsigned_abs result < 10 ^ target.len }
+{
+    if a.dec == b.dec && b.dec == target.dec {
+        return fit_small(a.value + b.value, target.len);
+    }
+    added_by_scale(a, b, target)
+}
+
+/// `b` taken from `a`, each widened to the decimals of the one that has more.
+fn subtracted_by_scale(a: Num, b: Num, target: Target) -> i64
     ensures value { result ≡ stored_number target.half target.dec target.len (minus (value_of a) (value_of b)) }
     ensures fits { unsigned_abs result < 10 ^ target.len }
 {
     let scale = more_decimals(a, b);
     let difference = widened(a.value, scale.value - a.dec) - widened(b.value, scale.value - b.dec);
     keep(difference, scale, target)
+}
+
+/// `b` taken from `a`.
+pub fn sub(a: Num, b: Num, target: Target) -> i64
+    ensures value { result ≡ stored_number target.half target.dec target.len (minus (value_of a) (value_of b)) }
+    ensures fits { unsigned_abs result < 10 ^ target.len }
+{
+    if a.dec == b.dec && b.dec == target.dec {
+        return fit_small(a.value - b.value, target.len);
+    }
+    subtracted_by_scale(a, b, target)
 }
 
 /// `a` times `b`.

@@ -74,6 +74,21 @@ pub(crate) fn rounded_quotient(n: i128, divisor: u128, half: bool) -> i128
     }
 }
 
+/// `fit` of a number of 64 bits.
+pub(crate) fn fit_small(n: i64, len: u8) -> i64
+    requires low { 1 ≤ len }
+    requires high { len ≤ 15 }
+    ensures value { result ≡ fit n len }
+    ensures fits { unsigned_abs result < 10 ^ len }
+{
+    let limit = power_of_ten(len);
+    if n.unsigned_abs() < limit {
+        n
+    } else {
+        n % limit as i64
+    }
+}
+
 /// The lowest `len` digits of `n` under its sign; minus zero is zero.
 pub fn fit(n: i128, len: u8) -> i64
     requires low { 1 ≤ len }
@@ -81,11 +96,9 @@ pub fn fit(n: i128, len: u8) -> i64
     ensures value { result ≡ fit n len }
     ensures fits { unsigned_abs result < 10 ^ len }
 {
-    let limit = power_of_ten(len);
     match i64::try_from(n) {
-        Ok(n) if n.unsigned_abs() < limit => n,
-        Ok(n) => n % limit as i64,
-        Err(_) => (n % i128::from(limit)) as i64,
+        Ok(n) => fit_small(n, len),
+        Err(_) => (n % i128::from(power_of_ten(len))) as i64,
     }
 }
 
