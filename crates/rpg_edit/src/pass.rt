@@ -3,7 +3,7 @@
 //! A number is written from its last mark to the first: what shows at a mark depends on the digits in front of those that follow it,
 //! and these are what is left of the number once it is divided by ten for each digit written.
 
-ghost use Rattle.std.specs.Prelude.{◌≡◌, ◌+◌, ◌^◌, ◌<◌, ◌≤◌, List, [], ◌∷◌, IsTrue, length, replicate, true, unsigned_abs};
+ghost use Rattle.std.specs.Prelude.{◌≡◌, ◌+◌, ◌/◌, ◌^◌, ◌<◌, ◌≤◌, List, [], ◌∷◌, IsTrue, length, replicate, true, unsigned_abs};
 ghost use Rattle.std.specs.List.{list_all};
 ghost use Rattle.std.specs.Int.{is_negative};
 ghost use Rattle.rpg_edit_marks.specs.Edited.{character, places};
@@ -72,16 +72,42 @@ impl Pass {
         self.after += digits;
     }
 
-    /// Goes on in front of a digit.
-    fn pass_digit(&mut self)
-        requires { self.old.after + 1 + self.old.start < 2 ^ 64 }
+    /// What stands at a digit, of a number that is `rest` without it.
+    fn digit(&self, rest: u64) -> u8
+        requires { rest ≡ self.now.rest / 10 }
+        ensures { result ≡ character self.now.number.negative self.now.number.size
+            self.now.suppression.kept self.now.suppression.fill Mark.Digit self.now.after }
+    {
+        if self.rest != 0 || self.after < usize::from(self.suppression.kept) {
+            b'0' + (self.rest - rest * 10) as u8
+        } else {
+            self.suppression.fill
+        }
+    }
+
+    /// Goes on in front of a digit, to a number that is `rest` without it.
+    fn pass_digit(&mut self, rest: u64)
+        requires few { self.old.after + 1 + self.old.start < 2 ^ 64 }
+        requires rest { rest ≡ self.old.rest / 10 }
         ensures after { self.new.after ≡ self.old.after + 1 }
         ensures start { self.new.start ≡ self.old.start }
         ensures number { self.new.number ≡ self.old.number }
         ensures suppression { self.new.suppression ≡ self.old.suppression }
     {
-        self.rest /= 10;
+        self.rest = rest;
         self.after += 1;
+    }
+
+    /// Writes what stands at the next digit: one division tells it and what is left of the number.
+    pub(crate) fn put_digit(&mut self, out: &mut [u8])
+        requires room { 1 ≤ self.old.start }
+        requires within { self.old.start ≤ length out.old }
+        ensures { Writes (Mark.Digit ∷ []) self.old out.old self.new out.new }
+    {
+        let rest = self.rest / 10;
+        self.start -= 1;
+        out[self.start] = self.digit(rest);
+        self.pass_digit(rest);
     }
 
     /// Writes what stands at the next mark.
@@ -93,7 +119,7 @@ impl Pass {
         self.start -= 1;
         out[self.start] = self.character(mark);
         if mark.is_place() {
-            self.pass_digit();
+            self.pass_digit(self.rest / 10);
         }
     }
 
@@ -103,7 +129,7 @@ impl Pass {
         ensures { Writes (replicate count Mark.Digit) self.old out.old self.new out.new }
     {
         for _ in 0..count {
-            self.put(Mark::Digit, out);
+            self.put_digit(out);
         }
     }
 

@@ -27,11 +27,11 @@ put_comma-requires-clause-room c =
     let fewer = whole-fewer c.args.commas c.loop-left.left c.args.digits c.loop-left-test.true in
     omega (arith, c.requires.room, c.loop-left.invariant.start, fewer)
 
-pub put-requires-clause-room : goal.put-requires-clause-room
-put-requires-clause-room c =
+pub put_digit-requires-clause-room : goal.put_digit-requires-clause-room
+put_digit-requires-clause-room c =
     let fewer = whole-fewer c.args.commas c.loop-left.left c.args.digits c.loop-left-test.true in
     omega (arith, c.requires.room, c.loop-left.invariant.start, c.put_comma.ensures.start, fewer)
 
 pub loop-left-preserved : goal.loop-left-preserved
 loop-left-preserved c =
-    writes-whole c.args.commas c.loop-left.left _ _ _ _ _ _ _ _ c.loop-left.invariant c.put_comma.ensures c.put.ensures
+    writes-whole c.args.commas c.loop-left.left _ _ _ _ _ _ _ _ c.loop-left.invariant c.put_comma.ensures c.put_digit.ensures
