@@ -1,23 +1,16 @@
 //! A card below a ruler, with a mark under its columns.
 
 use rpg_sheet::ColumnFault;
+use rpg_text::{shown, trimmed};
 use std::alloc::{AllocError, Global};
 
 /// The columns of a card.
 const COLUMNS: usize = 80;
 
-/// How a byte of foreign text is shown: a character as it is, all else as a question mark, so that no terminal is told anything by it.
-fn shown(byte: u8) -> char {
-    match byte {
-        b' '..=b'~' => byte as char,
-        _ => '?',
-    }
-}
-
 /// Shows foreign text.
 pub fn put_shown(out: &mut String, text: &[u8]) -> Result<(), AllocError> {
     for byte in text {
-        out.push(shown(*byte))?;
+        out.push(shown(*byte) as char)?;
     }
     Ok(())
 }
@@ -25,7 +18,7 @@ pub fn put_shown(out: &mut String, text: &[u8]) -> Result<(), AllocError> {
 /// Shows the columns of a card, and the first one past them.
 pub fn put_first(out: &mut String, line: &[u8]) -> Result<(), AllocError> {
     for byte in line.iter().take(COLUMNS + 1) {
-        out.push(shown(*byte))?;
+        out.push(shown(*byte) as char)?;
     }
     Ok(())
 }
@@ -46,14 +39,14 @@ fn put_ruler(out: &mut String, columns: usize) -> Result<(), AllocError> {
             (_, 0) => b'+',
             _ => b'.',
         };
-        out.push(shown(mark))?;
+        out.push(mark as char)?;
     }
     Ok(())
 }
 
 /// How many columns are shown of a card: tens enough for its text.
 fn width(line: &[u8], last: usize) -> usize {
-    let wanted = rpg_text::trimmed(line).len().max(last).min(COLUMNS);
+    let wanted = trimmed(line).len().max(last).min(COLUMNS);
     (wanted + 9) / 10 * 10
 }
 
@@ -70,7 +63,7 @@ pub(crate) fn put_picture(
     put_ruler(out, width(line, last))?;
     let number = format!(in alloc; "\n{card:>5} | ")?;
     out.push_str(number.as_str())?;
-    put_first(out, rpg_text::trimmed(line))?;
+    put_first(out, trimmed(line))?;
     if let Some(columns) = columns {
         let first = usize::from(columns.column);
         out.push_str("\n      | ")?;

@@ -1,15 +1,8 @@
 //! Values of fields.
 
 use rpg_effect::value::Value;
+use rpg_text::shown;
 use std::alloc::{AllocError, Global};
-
-/// A character as it is, all else as a question mark, so that no terminal is told anything by it.
-fn shown(byte: u8) -> char {
-    match byte {
-        b' '..=b'~' => byte as char,
-        _ => '?',
-    }
-}
 
 /// A text between apostrophes, each apostrophe in it twice, as on a card.
 pub fn quoted(alloc: Global, text: &[u8]) -> Result<String, AllocError> {
@@ -19,7 +12,7 @@ pub fn quoted(alloc: Global, text: &[u8]) -> Result<String, AllocError> {
         if *byte == b'\'' {
             out.push('\'')?;
         }
-        out.push(shown(*byte))?;
+        out.push(shown(*byte) as char)?;
     }
     out.push('\'')?;
     Ok(out)
@@ -48,7 +41,7 @@ fn decimal(alloc: Global, number: i64, decimals: usize) -> Result<String, AllocE
         if i == point {
             out.push('.')?;
         }
-        out.push(shown(digit))?;
+        out.push(digit as char)?;
     }
     Ok(out)
 }

@@ -1,6 +1,6 @@
 //! Numbers as texts: a digit in each place, and the sign over the last one: `}` and J to R stand for minus
 //! 0 to 9, `{` and A to I for plus 0 to 9.
-ghost use Rattle.std.specs.Prelude.{◌≡◌, ◌+◌, ◌<◌, ◌≤◌, ◌^◌, unsigned_abs, length, map, IfOk, IfErr, OnOk, EachIndex};
+ghost use Rattle.std.specs.Prelude.{◌≡◌, ◌+◌, ◌/◌, ◌%◌, ◌<◌, ◌≤◌, ◌^◌, unsigned_abs, length, map, IfOk, IfErr, OnOk, EachIndex};
 ghost use Rattle.std.specs.Result.{result_ok};
 ghost use Rattle.rpg_decimal_words.specs.Place.{lowest_digits, place_value};
 ghost use Rattle.rpg_decimal_words.specs.Zoned.{digit_of, is_minus, may_stand, last_character, number_in, zoned_text, IsGoodAt, Spells, IsFirstBad};
@@ -99,6 +99,14 @@ fn read_digits(text: &[u8]) -> Result<u64, BadDigit>
     Ok(size)
 }
 
+/// The last digit of a number, beside the number that stands in front of it.
+fn last_digit(size: u64, front: u64) -> u8
+    requires { front ≡ size / 10 }
+    ensures { result ≡ 48 + size % 10 }
+{
+    b'0' + (size - front * 10) as u8
+}
+
 /// Writes the lowest digits of a number, as many as the text has places.
 fn write_digits(size: u64, text: &mut [u8])
     ensures { text.new ≡ map (λ d. 48 + d) (lowest_digits (length text.old) size) }
@@ -107,8 +115,9 @@ fn write_digits(size: u64, text: &mut [u8])
     let mut place = text.len();
     while place > 0 {
         place -= 1;
-        text[place] = b'0' + (rest % 10) as u8;
-        rest /= 10;
+        let front = rest / 10;
+        text[place] = last_digit(rest, front);
+        rest = front;
     }
 }
 

@@ -1,5 +1,5 @@
 -- Numbers written from the last mark to the first.
-use Rattle.std.specs.Prelude.{◌≡◌, ℕ, zero, suc, ◌+◌, ◌<◌, Bool, false, true, List, [], ◌∷◌, ◌++◌, length, take, drop}
+use Rattle.std.specs.Prelude.{◌≡◌, ℕ, zero, suc, ◌+◌, ◌-◌, ◌*◌, ◌/◌, ◌<◌, Bool, false, true, List, [], ◌∷◌, ◌++◌, length, take, drop}
 use Rattle.rpg_edit_marks.specs.declared.mark.Mark.{Mark}
 use Rattle.rpg_edit_marks.specs.declared.mark.Mark.TheVariants.{Digit, Insert, Always, Sign}
 use Rattle.rpg_edit.specs.declared.suppression.Pass.{Pass}
@@ -38,3 +38,7 @@ pub record IsUsedUp (p : Pass) : Type 0 where
 abbrev pub marks_before : Bool → ℕ → ℕ → List Mark
 marks_before commas left zero = []
 marks_before commas left (suc n) = (Digit ∷ comma_marks commas (n + left)) ++ marks_before commas left n
+
+-- how many digits follow the comma that comes next in front of `left` digits
+abbrev pub next_comma : ℕ → ℕ
+next_comma left = 3 + (left - 1) / 3 * 3

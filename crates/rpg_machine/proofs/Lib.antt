@@ -4,6 +4,7 @@ pub mod Doing
 pub mod Effects
 pub mod Filling
 pub mod Firsts
+pub mod FixedSteps
 pub mod Going
 pub mod Keeping
 pub mod KeepingLines

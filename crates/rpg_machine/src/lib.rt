@@ -2,6 +2,7 @@
 #![tactic(auto)]
 
 mod accepted;
+mod actions;
 mod cells;
 pub mod control;
 mod inputs;

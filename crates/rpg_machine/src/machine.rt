@@ -153,7 +153,8 @@ impl<'a, S: Store + Drop> Machine<'a, S> {
         let weight = self.program.weight_of(time);
         let state = &mut self.state;
         state.steps += u64::from(weight);
-        let end = put_out(&mut state.memory, &mut state.writer, time, weight)?;
+        let plan = self.program.plan();
+        let end = put_out(&mut state.memory, &mut state.writer, time, weight, plan)?;
         Ok(end)
     }
 

@@ -4,13 +4,14 @@ ghost use Rattle.rpg_effect.specs.Ends.{end_of};
 ghost use Rattle.rpg_machine.specs.Outputs as spec;
 ghost use Rattle.rpg_machine.specs.Outputs.{output_weight};
 ghost use Rattle.rpg_machine_lines.specs.Outputs.{PutsOwn};
+ghost use Rattle.rpg_machine_lines.specs.Plans.{IsPlanOf};
 ghost use Rattle.rpg_machine_lines.specs.Ready.{IsNear};
 ghost use Rattle.rpg_machine_lines.specs.Right.{AreRightLines, HasLineRoom};
 
 use crate::state::Writer;
 use crate::time::OutputTime;
 use rpg_effect::outcome::End;
-use rpg_machine_lines::{put_details, put_overflow, put_totals};
+use rpg_machine_lines::{Plan, put_details, put_overflow, put_totals};
 use rpg_store::memory::Memory;
 use rpg_store::store::Store;
 use std::alloc::AllocError;
@@ -21,10 +22,12 @@ pub(crate) fn put_out<S: Store + Drop>(
     writer: &mut Writer,
     time: OutputTime,
     weight: u32,
+    plan: &Plan,
 ) -> Result<End, AllocError>
     requires lines { AreRightLines memory.old.program }
     requires near { IsNear memory.old.world.here }
     requires room { HasLineRoom memory.old.program writer.old.text.items }
+    requires plan { IsPlanOf memory.old.program plan.now }
     requires weighed { weight ≡ output_weight memory.old.program time }
     ensures done { IfOk result (λ e. PutsOwn (λ p. spec.output_effect p time) memory.old writer.old.output (end_of e) memory.new writer.new.output) }
     ensures near { OnOk result (IsNear memory.new.world.here) }
@@ -35,9 +38,9 @@ pub(crate) fn put_out<S: Store + Drop>(
     let text = &mut writer.text;
     let to_blank = &mut writer.to_blank;
     match time {
-        OutputTime::Detail => put_details(memory, output, text, to_blank),
+        OutputTime::Detail => put_details(memory, output, text, to_blank, plan),
         OutputTime::Total if weight == 0 => Ok(End::GoesOn),
-        OutputTime::Total => put_totals(memory, output, text, to_blank),
-        OutputTime::Overflow => put_overflow(memory, output, text, to_blank),
+        OutputTime::Total => put_totals(memory, output, text, to_blank, plan),
+        OutputTime::Overflow => put_overflow(memory, output, text, to_blank, plan),
     }
 }

@@ -8,6 +8,8 @@ pub mod Left
 pub mod Moving
 pub mod OneLine
 pub mod Operands
+pub mod Pairs
 pub mod Passages
+pub mod Planned
 pub mod Weighing
 pub mod Weightless

@@ -1,11 +1,12 @@
 //! A line is assembled: the fields whose conditions hold are laid over blanks, in order.
 ghost use Rattle.std.specs.Prelude.{◌≡◌, ◌≤◌, ◌<◌, ◌+◌, length, None};
 ghost use Rattle.arrayvec.specs.ArrayVec.{array_vec_len};
-ghost use Rattle.rpg_effect.specs.Ends.{end_of};
+ghost use Rattle.rpg_effect.specs.Ends.{GoesOn, end_of};
 ghost use Rattle.rpg_effect.specs.LineFaults as faults;
 ghost use Rattle.rpg_effect.specs.Lines as lines;
 ghost use Rattle.rpg_machine_lines.specs.Drafts.{assembled_in, drafted_in, fields_replaced, with_field_in};
 ghost use Rattle.rpg_machine_lines.specs.Entries.{AreFieldEntries, IsFieldEntry};
+ghost use Rattle.rpg_machine_lines.specs.Plans.{IsFieldPlan, IsFixedField, IsLinePlan};
 ghost use Rattle.rpg_object_program.specs.Constants.{word_at};
 ghost use Rattle.rpg_store.specs.Memory.{forms_in};
 
@@ -18,6 +19,7 @@ use rpg_effect::outcome::End;
 use rpg_object_program::forms::form_at;
 use rpg_store::condition::three_hold;
 use rpg_store::memory::Memory;
+use rpg_store::resolved::Resolved;
 use rpg_store::store::Store;
 
 /// The most fields of a line.
@@ -83,22 +85,78 @@ fn with_field<S: Store + Drop>(
     }
 }
 
+/// One field that is always put out, by the entry that its operand names at all times.
+#[inline(always)]
+fn with_fixed_field<S: Store + Drop>(
+    memory: &Memory<'_, S>,
+    text: &mut [u8],
+    to_blank: &mut Entries,
+    field: &LineField<u16>,
+    fixed: Resolved,
+)
+    requires right { faults.field_fault (forms_in memory.now) (word_at memory.now.program) (length text.old) field.now ≡ None }
+    requires fixed { IsFixedField memory.now.program.fields field.now fixed }
+    requires room { array_vec_len to_blank.old < 200 }
+    requires entries { AreFieldEntries memory.now.program.fields to_blank.old.items }
+    ensures drafted { drafted_in GoesOn memory.now text.new to_blank.new.items ≡ with_field_in memory.now text.old to_blank.old.items field.now }
+    ensures entries { AreFieldEntries memory.now.program.fields to_blank.new.items }
+    ensures few { array_vec_len to_blank.new ≤ array_vec_len to_blank.old + 1 }
+{
+    memory.is_kept();
+    let position = fixed.entry.position;
+    lay_value(memory, text, field, Some(fixed.form), position);
+    remember(
+        memory,
+        to_blank,
+        field.is_blanked,
+        (field.operand.field, position),
+    );
+}
+
+/// One field, by what was found of it, and otherwise where its conditions hold.
+fn with_planned_field<S: Store + Drop>(
+    memory: &mut Memory<'_, S>,
+    text: &mut [u8],
+    to_blank: &mut Entries,
+    field: &LineField<u16>,
+    found: Option<Resolved>,
+) -> End
+    requires right { faults.field_fault (forms_in memory.old) (word_at memory.old.program) (length text.old) field.now ≡ None }
+    requires planned { IsFieldPlan memory.old.program.fields field.now found }
+    requires room { array_vec_len to_blank.old < 200 }
+    requires entries { AreFieldEntries memory.old.program.fields to_blank.old.items }
+    ensures drafted { drafted_in (end_of result) memory.new text.new to_blank.new.items ≡ with_field_in memory.old text.old to_blank.old.items field.now }
+    ensures rest { memory.new ≡ fields_replaced memory.new.world.fields memory.old }
+    ensures entries { AreFieldEntries memory.old.program.fields to_blank.new.items }
+    ensures few { array_vec_len to_blank.new ≤ array_vec_len to_blank.old + 1 }
+{
+    match found {
+        None => with_field(memory, text, to_blank, field),
+        Some(fixed) => {
+            with_fixed_field(memory, text, to_blank, field, fixed);
+            End::GoesOn
+        }
+    }
+}
+
 /// All fields, in order, until an index is bad.
 pub fn assemble<S: Store + Drop>(
     memory: &mut Memory<'_, S>,
     text: &mut [u8],
     to_blank: &mut Entries,
     fields: &[LineField<u16>],
+    plan: &[Option<Resolved>],
 ) -> End
     requires right { faults.AreRight (forms_in memory.old) (word_at memory.old.program) (length text.old) fields.now }
     requires room { array_vec_len to_blank.old + length fields.now ≤ 200 }
     requires entries { AreFieldEntries memory.old.program.fields to_blank.old.items }
+    requires planned { IsLinePlan memory.old.program.fields fields.now plan.now }
     ensures drafted { drafted_in (end_of result) memory.new text.new to_blank.new.items ≡ assembled_in memory.old text.old to_blank.old.items fields.now }
     ensures rest { memory.new ≡ fields_replaced memory.new.world.fields memory.old }
     ensures entries { AreFieldEntries memory.old.program.fields to_blank.new.items }
 {
-    'fields: for field in fields {
-        match with_field(memory, text, to_blank, field) {
+    'fields: for i in 0..fields.len() {
+        match with_planned_field(memory, text, to_blank, &fields[i], plan[i]) {
             End::GoesOn => {}
             End::Halt(halt) => return End::Halt(halt),
         }

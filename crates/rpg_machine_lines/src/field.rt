@@ -64,6 +64,7 @@ fn lay_text(text: &mut [u8], end: u16, part: &[u8])
 }
 
 /// Lays the value of an entry over the line; `form` is that of its field.
+#[inline(always)]
 #[tactic(auto, using(crate::proofs::Operands::values))]
 pub fn lay_value<S: Store + Drop>(
     memory: &Memory<'_, S>,

@@ -2,6 +2,7 @@
 ghost use Rattle.std.specs.Prelude.{◌≡◌, length, IfOk, OnOk};
 ghost use Rattle.rpg_effect.specs.Ends.{end_of};
 ghost use Rattle.rpg_machine_lines.specs.Outputs.{PutsOwn, line_effect};
+ghost use Rattle.rpg_machine_lines.specs.Plans.{IsLinePlan};
 ghost use Rattle.rpg_machine_lines.specs.Ready.{IsNear};
 ghost use Rattle.rpg_machine_lines.specs.Right.{IsRightLine};
 ghost use Rattle.rpg_object_program.specs.Object.{file_length, line_row};
@@ -13,6 +14,7 @@ use crate::printer::put_on;
 use rpg_effect::outcome::End;
 use rpg_object_program::row::Line;
 use rpg_store::memory::Memory;
+use rpg_store::resolved::Resolved;
 use rpg_store::store::Store;
 use std::alloc::AllocError;
 
@@ -23,9 +25,11 @@ pub fn put_line<S: Store + Drop>(
     text: &mut [u8],
     to_blank: &mut Entries,
     line: &Line,
+    plan: &[Option<Resolved>],
 ) -> Result<End, AllocError>
     requires near { IsNear memory.old.world.here }
     requires right { IsRightLine memory.old.program (line_row line.now) }
+    requires planned { IsLinePlan memory.old.program.fields line.now.fields.items plan.now }
     requires len { length text.old ≡ file_length memory.old.program line.now.file }
     ensures done { IfOk result (λ e. PutsOwn (λ p. line_effect p (line_row line.now)) memory.old output.old (end_of e) memory.new output.new) }
     ensures near { OnOk result (IsNear memory.new.world.here) }
@@ -33,7 +37,7 @@ pub fn put_line<S: Store + Drop>(
 {
     fill_blanks(text);
     to_blank.clear();
-    match assemble(memory, text, to_blank, &line.fields) {
+    match assemble(memory, text, to_blank, &line.fields, plan) {
         End::GoesOn => {}
         End::Halt(halt) => return Ok(End::Halt(halt)),
     }

@@ -2,12 +2,14 @@
 ghost use Rattle.std.specs.Prelude.{◌≡◌, IfOk, OnOk};
 ghost use Rattle.rpg_effect.specs.Ends.{end_of};
 ghost use Rattle.rpg_machine_lines.specs.Outputs.{PutsOwn, detail_effect, exception_effect, overflow_detail_effect, overflow_effect, total_effect};
+ghost use Rattle.rpg_machine_lines.specs.Plans.{IsPlanOf};
 ghost use Rattle.rpg_machine_lines.specs.Ready.{IsNear};
 ghost use Rattle.rpg_machine_lines.specs.Right.{AreRightLines, HasLineRoom};
 
 use crate::assembly::Entries;
 use crate::bytes::Output;
 use crate::passage::put_lines;
+use crate::plan::Plan;
 use rpg_effect::line::Pass;
 use rpg_effect::outcome::End;
 use rpg_store::memory::Memory;
@@ -20,15 +22,17 @@ pub fn put_details<S: Store + Drop>(
     output: &mut Output,
     text: &mut [u8],
     to_blank: &mut Entries,
+    plan: &Plan,
 ) -> Result<End, AllocError>
     requires near { IsNear memory.old.world.here }
     requires right { AreRightLines memory.old.program }
     requires room { HasLineRoom memory.old.program text.old }
+    requires plan { IsPlanOf memory.old.program plan.now }
     ensures done { IfOk result (λ e. PutsOwn detail_effect memory.old output.old (end_of e) memory.new output.new) }
     ensures near { OnOk result (IsNear memory.new.world.here) }
     ensures program { memory.new.program ≡ memory.old.program }
 {
-    match put_lines(memory, output, text, to_blank, Pass::Detail)? {
+    match put_lines(memory, output, text, to_blank, Pass::Detail, plan)? {
         End::GoesOn => {}
         End::Halt(halt) => return Ok(End::Halt(halt)),
     }
@@ -42,15 +46,17 @@ pub fn put_totals<S: Store + Drop>(
     output: &mut Output,
     text: &mut [u8],
     to_blank: &mut Entries,
+    plan: &Plan,
 ) -> Result<End, AllocError>
     requires near { IsNear memory.old.world.here }
     requires right { AreRightLines memory.old.program }
     requires room { HasLineRoom memory.old.program text.old }
+    requires plan { IsPlanOf memory.old.program plan.now }
     ensures done { IfOk result (λ e. PutsOwn total_effect memory.old output.old (end_of e) memory.new output.new) }
     ensures near { OnOk result (IsNear memory.new.world.here) }
     ensures program { memory.new.program ≡ memory.old.program }
 {
-    put_lines(memory, output, text, to_blank, Pass::Total)
+    put_lines(memory, output, text, to_blank, Pass::Total, plan)
 }
 
 /// H and D lines at overflow.
@@ -59,15 +65,17 @@ fn put_overflow_details<S: Store + Drop>(
     output: &mut Output,
     text: &mut [u8],
     to_blank: &mut Entries,
+    plan: &Plan,
 ) -> Result<End, AllocError>
     requires near { IsNear memory.old.world.here }
     requires right { AreRightLines memory.old.program }
     requires room { HasLineRoom memory.old.program text.old }
+    requires plan { IsPlanOf memory.old.program plan.now }
     ensures done { IfOk result (λ e. PutsOwn overflow_detail_effect memory.old output.old (end_of e) memory.new output.new) }
     ensures near { OnOk result (IsNear memory.new.world.here) }
     ensures program { memory.new.program ≡ memory.old.program }
 {
-    match put_lines(memory, output, text, to_blank, Pass::OverflowDetail)? {
+    match put_lines(memory, output, text, to_blank, Pass::OverflowDetail, plan)? {
         End::GoesOn => {}
         End::Halt(halt) => return Ok(End::Halt(halt)),
     }
@@ -81,19 +89,21 @@ pub fn put_overflow<S: Store + Drop>(
     output: &mut Output,
     text: &mut [u8],
     to_blank: &mut Entries,
+    plan: &Plan,
 ) -> Result<End, AllocError>
     requires near { IsNear memory.old.world.here }
     requires right { AreRightLines memory.old.program }
     requires room { HasLineRoom memory.old.program text.old }
+    requires plan { IsPlanOf memory.old.program plan.now }
     ensures done { IfOk result (λ e. PutsOwn overflow_effect memory.old output.old (end_of e) memory.new output.new) }
     ensures near { OnOk result (IsNear memory.new.world.here) }
     ensures program { memory.new.program ≡ memory.old.program }
 {
-    match put_lines(memory, output, text, to_blank, Pass::OverflowTotal)? {
+    match put_lines(memory, output, text, to_blank, Pass::OverflowTotal, plan)? {
         End::GoesOn => {}
         End::Halt(halt) => return Ok(End::Halt(halt)),
     }
-    put_overflow_details(memory, output, text, to_blank)
+    put_overflow_details(memory, output, text, to_blank, plan)
 }
 
 /// Exception output: E lines, at an EXCPT.
@@ -102,13 +112,15 @@ pub fn put_exceptions<S: Store + Drop>(
     output: &mut Output,
     text: &mut [u8],
     to_blank: &mut Entries,
+    plan: &Plan,
 ) -> Result<End, AllocError>
     requires near { IsNear memory.old.world.here }
     requires right { AreRightLines memory.old.program }
     requires room { HasLineRoom memory.old.program text.old }
+    requires plan { IsPlanOf memory.old.program plan.now }
     ensures done { IfOk result (λ e. PutsOwn exception_effect memory.old output.old (end_of e) memory.new output.new) }
     ensures near { OnOk result (IsNear memory.new.world.here) }
     ensures program { memory.new.program ≡ memory.old.program }
 {
-    put_lines(memory, output, text, to_blank, Pass::Exception)
+    put_lines(memory, output, text, to_blank, Pass::Exception, plan)
 }

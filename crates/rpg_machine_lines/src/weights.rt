@@ -1,12 +1,12 @@
 //! What the lines of each output weigh.
-ghost use Rattle.std.specs.Prelude.{◌≡◌, ◌+◌, ◌≤◌, cond, length};
+ghost use Rattle.std.specs.Prelude.{◌≡◌, ◌≤◌};
 ghost use Rattle.rpg_effect.specs.Weights as words;
 ghost use Rattle.rpg_machine_lines.specs.Weighed.{weighed};
 ghost use Rattle.rpg_object_program.specs.Kept.{IsProgram};
 ghost use Rattle.rpg_object_program.specs.Object.{lines_of, seen};
 
 use rpg_effect::line::Time;
-use rpg_object_program::row::{Line, Rows};
+use rpg_object_program::row::Rows;
 
 /// The output whose lines are weighed.
 #[derive(Clone, Copy)]
@@ -28,17 +28,6 @@ fn is_weighed(output: Weighed, time: Time) -> bool
     }
 }
 
-/// A line weighs one, and one more for each of its fields, where it is weighed.
-fn weight_where(is_weighed: bool, line: &Line) -> u64
-    ensures { result ≡ cond is_weighed (1 + length line.now.fields.items) 0 }
-{
-    if is_weighed {
-        1 + line.fields.len() as u64
-    } else {
-        0
-    }
-}
-
 /// Linear in the lines.
 fn lines_weight(rows: &Rows, output: Weighed) -> u64
     requires { IsProgram (seen rows.now) }
@@ -47,7 +36,7 @@ fn lines_weight(rows: &Rows, output: Weighed) -> u64
 {
     let mut weight = 0;
     for line in &rows.lines {
-        let own = weight_where(is_weighed(output, line.time), line);
+        let own = line.weight_where(is_weighed(output, line.time));
         weight += own;
     }
     weight

@@ -33,6 +33,7 @@ pub fn store<S: Store + Drop>(memory: &mut Memory<'_, S>, to: Entry<u16>, shows:
 }
 
 /// What an operator makes of two numbers.
+#[inline(always)]
 fn operated(operator: Operator, a: Num, b: Num, target: Target) -> i64
     ensures value { result ≡ stored_number target.half target.dec target.len (acts.computed operator (value_of a) (value_of b)) }
     ensures length { unsigned_abs result < 10 ^ target.len }
@@ -45,6 +46,7 @@ fn operated(operator: Operator, a: Num, b: Num, target: Target) -> i64
 }
 
 /// The result of ADD, SUB and MULT.
+#[inline(always)]
 fn computed<S: Store + Drop>(
     memory: &Memory<'_, S>,
     operator: Operator,
@@ -65,6 +67,7 @@ fn computed<S: Store + Drop>(
 }
 
 /// The result of Z-ADD and Z-SUB.
+#[inline(always)]
 fn assigned<S: Store + Drop>(
     memory: &Memory<'_, S>,
     is_negated: bool,
@@ -159,6 +162,28 @@ fn kept_remainder<S: Store + Drop>(memory: &Memory<'_, S>, to: Resolved) -> i64
     keep(rest.value, rest.dec, target_of(memory, to, false))
 }
 
+/// Stores in the result field what an operator makes of two numbers.
+#[inline(always)]
+#[tactic(auto, unfolding(rpg_effect::specs::Act::act))]
+pub(crate) fn compute_numbers<S: Store + Drop>(
+    memory: &mut Memory<'_, S>,
+    operator: Operator,
+    half: bool,
+    factor1: Resolved,
+    factor2: Resolved,
+    to: Resolved,
+    shows: Shows,
+) -> End
+    requires factor1 { NamesNumber memory.old factor1 }
+    requires factor2 { NamesNumber memory.old factor2 }
+    requires to { NamesNumber memory.old to }
+    ensures { DidEffect (act_in memory.old (actions.Compute operator half factor1 factor2 to shows)) memory.old (end_of result) memory.new }
+{
+    let n = computed(memory, operator, half, factor1, factor2, to);
+    store(memory, to.entry, shows, n);
+    End::GoesOn
+}
+
 /// ADD, SUB and MULT. None where an index is out of range.
 #[tactic(auto, unfolding(rpg_effect::specs::Act::act, rpg_effect::specs::Operate::has_entries, rpg_effect::specs::Operate::operate, rpg_effect::specs::Operate::resolved, rpg_effect::specs::Rows::row_of))]
 pub fn compute<S: Store + Drop>(
@@ -178,9 +203,7 @@ pub fn compute<S: Store + Drop>(
     let factor1 = number_named(memory, factor1)?;
     let factor2 = number_named(memory, factor2)?;
     let to = number_named(memory, to)?;
-    let n = computed(memory, operator, half, factor1, factor2, to);
-    store(memory, to.entry, shows, n);
-    Some(End::GoesOn)
+    Some(compute_numbers(memory, operator, half, factor1, factor2, to, shows))
 }
 
 /// Divides, stores the quotient and keeps the remainder. A zero divisor is halt 1.
@@ -228,6 +251,26 @@ pub fn divide<S: Store + Drop>(
     Some(divide_numbers(memory, half, factor1, factor2, to, shows))
 }
 
+/// Stores a number in the result field, its sign turned where so asked.
+#[inline(always)]
+#[tactic(auto, unfolding(rpg_effect::specs::Act::act))]
+pub(crate) fn assign_number<S: Store + Drop>(
+    memory: &mut Memory<'_, S>,
+    is_negated: bool,
+    half: bool,
+    factor2: Resolved,
+    to: Resolved,
+    shows: Shows,
+) -> End
+    requires factor2 { NamesNumber memory.old factor2 }
+    requires to { NamesNumber memory.old to }
+    ensures { DidEffect (act_in memory.old (actions.Assign is_negated half factor2 to shows)) memory.old (end_of result) memory.new }
+{
+    let n = assigned(memory, is_negated, half, factor2, to);
+    store(memory, to.entry, shows, n);
+    End::GoesOn
+}
+
 /// Z-ADD and Z-SUB. None where an index is out of range.
 #[tactic(auto, unfolding(rpg_effect::specs::Act::act, rpg_effect::specs::Operate::has_entries, rpg_effect::specs::Operate::operate, rpg_effect::specs::Operate::resolved, rpg_effect::specs::Rows::row_of))]
 pub fn assign<S: Store + Drop>(
@@ -244,9 +287,7 @@ pub fn assign<S: Store + Drop>(
 {
     let factor2 = number_named(memory, factor2)?;
     let to = number_named(memory, to)?;
-    let n = assigned(memory, is_negated, half, factor2, to);
-    store(memory, to.entry, shows, n);
-    Some(End::GoesOn)
+    Some(assign_number(memory, is_negated, half, factor2, to, shows))
 }
 
 /// MVR. None where an index is out of range.

@@ -18,7 +18,8 @@ use Rattle.rpg_object.specs.declared.header.Counts.{Counts}
 use Rattle.rpg_object.specs.declared.header.Header.{Header}
 use Rattle.rpg_object.specs.declared.header.Settings.{Settings}
 use Rattle.rpg_object_program.specs.Object.{version_number}
-use Rattle.rpg_object.specs.Header.{overflow_of, overflow_number, settings, most_instructions, counts, header_format, secondary_length, version_of}
+use Rattle.rpg_object_rows.specs.Indicators.{indicator_number}
+use Rattle.rpg_object.specs.Header.{overflow_of, settings, most_instructions, counts, header_format, secondary_length, version_of}
 use Rattle.rpg_object_rows.proofs.Choices.{within, counted, between, few}
 
 version_rule : IsRule version_of version_number
@@ -31,11 +32,11 @@ version_rule n x e =
       ]
     ]
 
-overflow_rule : IsRule overflow_of overflow_number
+overflow_rule : IsRule overflow_of indicator_number
 overflow_rule n x e =
     elim (chosen (eqb n 0) (stands_for None) (cond (is_between 112 119 n) (stands_for (Some n)) (Err faults.NotAllowed)) (stands_for x) e) [
-      | inl w ↦ ap overflow_number (sym (value_is None x w.1)) ∙ sym (eqb-true _ _ w.0)
-      | inr w ↦ sym (ap overflow_number (guarded (is_between 112 119 n) faults.NotAllowed (Some n) x w.1))
+      | inl w ↦ ap indicator_number (sym (value_is None x w.1)) ∙ sym (eqb-true _ _ w.0)
+      | inr w ↦ sym (ap indicator_number (guarded (is_between 112 119 n) faults.NotAllowed (Some n) x w.1))
     ]
 
 settings_law : IsFormat settings
@@ -46,7 +47,7 @@ settings_law =
     pair_law _ _ (number_law (is_between 1 9999)) (λ record_length.
     pair_law _ _ (number_law (is_between 0 132)) (λ printer_length.
     pair_law _ _ (number_law (is_between 0 9999)) (λ disk_length.
-    two_law overflow_of overflow_number overflow_rule)))))
+    two_law overflow_of indicator_number overflow_rule)))))
 
 counts_law : IsFormat counts
 unfolding counts
@@ -83,7 +84,7 @@ pub record AreCounts (c : Counts) : Type 0 where
   pub few_total : c.total ≤ 8192 - c.detail
   pub few_subroutines : c.subroutines ≤ 100
 
-overflow_kept : (o : Option ℕ) → overflow_of (overflow_number o) ≡ Ok o → ForSome o IsOverflowIndicator
+overflow_kept : (o : Option ℕ) → overflow_of (indicator_number o) ≡ Ok o → ForSome o IsOverflowIndicator
 overflow_kept None e n is = absurd cc
 overflow_kept (Some m) e n is =
     let same : m ≡ n = cc in
@@ -148,7 +149,7 @@ header_kept h holds = record {
 
 -- ---- what keeps that is a header
 
-overflow_from : (o : Option ℕ) → ForSome o IsOverflowIndicator → (overflow_of (overflow_number o) ≡ Ok o) × (overflow_number o < 2 ^ 16)
+overflow_from : (o : Option ℕ) → ForSome o IsOverflowIndicator → (overflow_of (indicator_number o) ≡ Ok o) × (indicator_number o < 2 ^ 16)
 overflow_from None h = (refl, omega arith)
 overflow_from (Some n) h =
     let i = h n refl in
@@ -207,7 +208,7 @@ secondary_text versions.One n plain = rw (plain refl) refl
 secondary_text versions.Two n plain = refl
 
 -- these numbers, two bytes each
-pub header_text : (h : Header) → (h.version ≡ versions.One → h.secondary_length ≡ 0) → (version overflow : ℕ) → version ≡ version_number h.version → overflow ≡ overflow_number h.settings.overflow
+pub header_text : (h : Header) → (h.version ≡ versions.One → h.secondary_length ≡ 0) → (version overflow : ℕ) → version ≡ version_number h.version → overflow ≡ indicator_number h.settings.overflow
     → header_format.spelling h ≡ spelled_along (λ s n. two n) keep tt (header_numbers version overflow h)
 unfolding header_format settings counts row pair two_bytes
 header_text h plain version overflow v o = rw (secondary_text h.version h.secondary_length plain, v, o) refl

@@ -7,6 +7,7 @@ use Rattle.rpg_object_format.specs.Numbers.{number_where, count}
 use Rattle.rpg_object_program.specs.Object.{version_number}
 use Rattle.rpg_object_program.specs.declared.row.Version.{Version}
 use Rattle.rpg_object_program.specs.declared.row.Version.TheVariants as versions
+use Rattle.rpg_object_rows.specs.Indicators.{indicator_number}
 use Rattle.rpg_object_rows.specs.Shapes.{unused_number, where_used}
 use Rattle.rpg_object_rows.specs.Types.{is_two}
 use Rattle.rpg_text.specs.Texts.{is_between}
@@ -21,10 +22,6 @@ version_of n = if n == 1 then Ok versions.One else (if n == 2 then Ok versions.T
 abbrev pub overflow_of : ℕ → Result (Option ℕ) Code
 overflow_of n = if n == 0 then Ok None else (if is_between 112 119 n then Ok (Some n) else Err faults.NotAllowed)
 
-abbrev pub overflow_number : Option ℕ → ℕ
-overflow_number None = 0
-overflow_number (Some n) = n
-
 -- allowance, lengths of records, lines and disk records, overflow indicator
 unfoldable pub settings : Format Settings
 settings = row
@@ -34,7 +31,7 @@ settings = row
     pair (number_where (is_between 1 9999)) (λ record_length.
     pair (number_where (is_between 0 132)) (λ printer_length.
     pair (number_where (is_between 0 9999)) (λ disk_length.
-    two_bytes overflow_of overflow_number)))))
+    two_bytes overflow_of indicator_number)))))
 
 -- the most instructions that a program has
 abbrev pub most_instructions : ℕ

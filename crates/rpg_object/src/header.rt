@@ -6,13 +6,14 @@ ghost use Rattle.rpg_object_format.specs.Format.{read_two};
 ghost use Rattle.rpg_object_format.specs.Reading.{Gives};
 ghost use Rattle.rpg_object_program.specs.declared.row.Version.TheVariants as versions;
 ghost use Rattle.rpg_object.specs.Header as spec;
-ghost use Rattle.rpg_object.specs.Header.{overflow_of, overflow_number, version_of};
+ghost use Rattle.rpg_object.specs.Header.{overflow_of, version_of};
 
 use rpg_object_format::fault::{Code, ReadFault};
 use rpg_object_format::number::{
     count_at, number_at, number_between_at, only_number_at, put_numbers,
 };
 use rpg_object_program::row::Version;
+use rpg_object_rows::indicator::indicator_number;
 use std::alloc::AllocError;
 
 /// The most instructions that a program has, of all its sections together.
@@ -86,15 +87,6 @@ fn overflow_of(n: u16) -> Result<Option<u8>, Code>
         0 => Ok(None),
         112..=119 => Ok(Some(n as u8)),
         _ => Err(Code::NotAllowed),
-    }
-}
-
-fn overflow_number(overflow: Option<u8>) -> u16
-    ensures { result ≡ overflow_number overflow }
-{
-    match overflow {
-        None => 0,
-        Some(n) => n as u16,
     }
 }
 
@@ -182,7 +174,7 @@ pub fn put_header(out: &mut Vec<u8>, header: Header) -> Result<(), AllocError>
         settings.record_length,
         settings.printer_length,
         settings.disk_length,
-        overflow_number(settings.overflow),
+        u16::from(indicator_number(settings.overflow)),
         counts.fields,
         counts.types,
         counts.lines,

@@ -1,5 +1,5 @@
 -- Characters and blanks.
-use Rattle.std.specs.Prelude.{ℕ, ◌-◌, List, length, take, Bool, ◌==◌, ◌&&◌, nat_le}
+use Rattle.std.specs.Prelude.{ℕ, ◌-◌, List, length, take, Bool, ◌==◌, ◌&&◌, nat_le, if◌then◌else◌}
 use Rattle.std.specs.List.{list_all, suffix_len}
 
 -- neither below low nor above high
@@ -9,6 +9,10 @@ is_between low high n = nat_le low n && nat_le n high
 -- what may stand in a column, from the blank to `~`
 abbrev pub is_character : ℕ → Bool
 is_character c = is_between 32 126 c
+
+-- a question mark stands for what is no character, so that no terminal is told anything by it
+abbrev pub shown : ℕ → ℕ
+shown c = if is_character c then c else 63
 
 abbrev pub is_blank : ℕ → Bool
 is_blank c = c == 32

@@ -2,7 +2,7 @@
 
 ghost use Rattle.std.specs.Prelude.{◌≡◌};
 ghost use Rattle.std.specs.List.{list_all};
-ghost use Rattle.rpg_text.specs.Texts.{is_character};
+ghost use Rattle.rpg_text.specs.Texts.{is_character, shown};
 
 /// Whether a byte is a character: 0x20 to 0x7E.
 #[inline(always)]
@@ -10,6 +10,13 @@ pub fn is_character(byte: u8) -> bool
     ensures { result ≡ is_character byte }
 {
     b' ' <= byte && byte <= b'~'
+}
+
+/// How a byte of foreign text is shown: a character as it is, all else as a question mark.
+pub fn shown(byte: u8) -> u8
+    ensures { result ≡ shown byte }
+{
+    if is_character(byte) { byte } else { b'?' }
 }
 
 /// Whether each byte of a text is a character. No byte ends the loop early, so that many are tested at once.

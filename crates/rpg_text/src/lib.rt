@@ -6,5 +6,5 @@ mod character;
 mod line;
 
 pub use blank::{is_blank, trimmed};
-pub use character::{has_only_characters, is_character};
+pub use character::{has_only_characters, is_character, shown};
 pub use line::{first_line, lines_end_at_line_feeds};

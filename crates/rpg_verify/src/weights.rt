@@ -1,6 +1,6 @@
 //! What instructions, lines and record types weigh.
 
-ghost use Rattle.std.specs.Prelude.{◌≡◌, ◌+◌, ◌≤◌, cond, length, map};
+ghost use Rattle.std.specs.Prelude.{◌≡◌, ◌≤◌, map};
 ghost use Rattle.rpg_effect.specs.Forms.{form_at};
 ghost use Rattle.rpg_effect.specs.Weights as words;
 ghost use Rattle.rpg_object_program.specs.Kept.{IsProgram};
@@ -12,7 +12,7 @@ use rpg_effect::operation::{Instruction, Operand};
 use rpg_effect::row::{Shape, Use};
 use rpg_object_program::columns::columns_of;
 use rpg_object_program::forms;
-use rpg_object_program::row::{Line, RecordType, Rows};
+use rpg_object_program::row::{RecordType, Rows};
 
 fn goes_through(shape: Shape) -> bool
     ensures { result ≡ words.goes_through shape }
@@ -81,17 +81,6 @@ fn is_exception(time: Time) -> bool
     }
 }
 
-/// A line weighs one, and one more for each of its fields, where it is meant.
-fn weight_where(is_meant: bool, line: &Line) -> u64
-    ensures { result ≡ cond is_meant (1 + length line.now.fields.items) 0 }
-{
-    if is_meant {
-        1 + line.fields.len() as u64
-    } else {
-        0
-    }
-}
-
 pub(crate) fn line_weights(rows: &Rows) -> LineWeights
     requires { IsProgram (seen rows.now) }
     ensures exceptions { result.exceptions ≡ words.exceptions_weight (lines_of (seen rows.now)) }
@@ -103,8 +92,8 @@ pub(crate) fn line_weights(rows: &Rows) -> LineWeights
     let mut others = 0;
     for line in &rows.lines {
         let is_meant = is_exception(line.time);
-        let own = weight_where(is_meant, line);
-        let other = weight_where(!is_meant, line);
+        let own = line.weight_where(is_meant);
+        let other = line.weight_where(!is_meant);
         exceptions += own;
         others += other;
     }

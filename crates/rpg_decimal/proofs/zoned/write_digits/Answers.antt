@@ -1,4 +1,4 @@
-use Rattle.std.proofs.Common.{◌≡◌, ℕ, ◌+◌, ◌-◌, ◌/◌, ◌%◌, ◌^◌, ◌<◌, ◌≤◌, List, length, set, get_or, ap, sym, ◌∙◌, arith, inl, inr, length-set, get_or-set_same, get_or-set_other}
+use Rattle.std.proofs.Common.{◌≡◌, ℕ, ◌+◌, ◌-◌, ◌/◌, ◌%◌, ◌^◌, ◌<◌, ◌≤◌, List, length, set, get_or, ap, sym, subst, ◌∙◌, arith, inl, inr, length-set, get_or-set_same, get_or-set_other}
 use Rattle.std.proofs.lemmas.List.{ext_get_or, get_or-map, length-map}
 use Rattle.std.proofs.lemmas.Bool.{cases_eq}
 use Rattle.rpg_decimal_words.specs.Place.{lowest_digits}
@@ -24,13 +24,15 @@ loop-place-preserved c =
     let text = c.loop-place.text in
     let p = c.loop-place.place in
     let size = c.args.size in
-    let here = 48 + c.loop-place.rest % 10 in
+    let here = c.last_digit.result in
     let same : length (set text (p - 1) here) ≡ length text = length-set text (p - 1) here in
     let e : length text - (p - 1) ≡ (length text - p) + 1 = omega arith in
     record {
       inside = omega arith;
       rest_is = rw same (ap (λ r. r / 10) c.loop-place.invariant.rest_is ∙ div-ten_more size (length text - p) ∙ ap (λ j. size / 10 ^ j) (sym e));
-      done = rw same (λ k low high. placed text size c.loop-place.rest p k c.loop-place.invariant.inside (omega arith) c.loop-place.invariant.rest_is (λ le. c.loop-place.invariant.done k le high) low high);
+      done = rw same (λ k low high.
+          subst (λ (d : ℕ). get_or (set text (p - 1) d) k 0 ≡ 48 + size / 10 ^ (length text - 1 - k) % 10) (sym c.last_digit.ensures)
+          (placed text size c.loop-place.rest p k c.loop-place.invariant.inside (omega arith) c.loop-place.invariant.rest_is (λ le. c.loop-place.invariant.done k le high) low high));
     }
 
 pub returns : goal.returns

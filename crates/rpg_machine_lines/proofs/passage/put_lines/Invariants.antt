@@ -12,6 +12,6 @@ invariant-lines g l = record {
   near : IsNear l.memory.world.here;
   program : l.memory.program ≡ l.fn.memory.program;
   onward : (e : End) (v : Held) (o : Bytes) →
-      IsDone (rest l.fn.memory.program l.pass (drop l.line-index l.line-items)) (held_of l.memory) (output_of l.output) e v o →
-      IsDone (rest l.fn.memory.program l.pass l.line-items) (held_of l.fn.memory) (output_of l.fn.output) e v o;
+      IsDone (rest l.fn.memory.program l.pass (drop l.i l.rows.lines.items)) (held_of l.memory) (output_of l.output) e v o →
+      IsDone (rest l.fn.memory.program l.pass l.rows.lines.items) (held_of l.fn.memory) (output_of l.fn.output) e v o;
 }

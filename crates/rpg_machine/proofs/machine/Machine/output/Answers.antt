@@ -1,4 +1,5 @@
 use Rattle.std.proofs.Common.{sym, subst}
+use Rattle.rpg_machine_lines.specs.Plans.{IsPlanOf}
 use Rattle.rpg_machine_lines.specs.Ready.{IsNear}
 use Rattle.rpg_machine_lines.specs.Right.{AreRightLines, HasLineRoom}
 use Rattle.rpg_machine.specs.Running.{Running}
@@ -13,3 +14,6 @@ put_out-requires-clause-near g c = subst (λ (r : Running). IsNear r.config.worl
 
 pub put_out-requires-clause-room : goal.put_out-requires-clause-room
 put_out-requires-clause-room g c = subst (λ (o : Object). HasLineRoom o c.self.inside.state.writer.text.items) (sym c.self.invariant.own) c.self.invariant.room
+
+pub put_out-requires-clause-plan : goal.put_out-requires-clause-plan
+put_out-requires-clause-plan g c = subst (λ (o : Object). IsPlanOf o c.plan-plan.result.now) (sym c.self.invariant.own) c.plan-plan.ensures

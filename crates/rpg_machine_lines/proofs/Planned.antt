@@ -1,0 +1,98 @@
+-- Fields whose entry was found once.
+use Rattle.std.proofs.Common.{◌≡◌, ℕ, ◌<◌, true, false, ◌&&◌, ◌||◌, List, Option, None, Some, refl, sym, ap, ◌∙◌, subst, length, get_or, map, nat_cmp}
+use Rattle.std.proofs.lemmas.List.{get_or-map, length-map}
+use Rattle.std.proofs.lemmas.Slice.Zip.{AllZip-long}
+use Rattle.std.specs.FinSet as sets
+use Rattle.rpg_effect.specs.Control.{has_condition, has_conditions}
+use Rattle.rpg_effect.specs.Ends.{GoesOn}
+use Rattle.rpg_effect.specs.Entries.{entry_of}
+use Rattle.rpg_effect.specs.Forms.{form_at}
+use Rattle.rpg_effect.specs.LineFaults.{field_fault}
+use Rattle.rpg_effect.specs.Lines.{laid_over, remembered, with_field}
+use Rattle.rpg_effect.specs.Rows.{has_entry, is_one_entry}
+use Rattle.rpg_effect.specs.World.{Fields, holds_if_any, three_hold}
+use Rattle.rpg_effect.specs.declared.condition.Condition.{Condition}
+use Rattle.rpg_effect.specs.declared.condition.Conditions.{Conditions}
+use Rattle.rpg_effect.specs.declared.form.FieldForm.{FieldForm}
+use Rattle.rpg_effect.specs.declared.line.LineField.{LineField}
+use Rattle.rpg_effect.specs.declared.operation.Entry.{Entry}
+use Rattle.rpg_machine_lines.proofs.Operands.{AreFit, entry_named}
+use Rattle.rpg_machine_lines.proofs.Pairs.{pair_at}
+use Rattle.rpg_machine_lines.specs.Drafts.{drafted_in, field_text_in, fields_replaced, with_field_in}
+use Rattle.rpg_machine_lines.specs.Entries.{IsFieldEntry}
+use Rattle.rpg_machine_lines.specs.Plans.{IsFieldPlan, IsFixedField, IsLinePlan, IsPlanOf, IsPlannedLine}
+use Rattle.rpg_machine_lines.specs.declared.plan.LinePlan.{LinePlan}
+use Rattle.rpg_machine_lines.specs.declared.plan.Plan.{Plan}
+use Rattle.rpg_object_program.specs.Constants.{word_at}
+use Rattle.rpg_object_program.specs.Object.{LineRow, Object, line_row}
+use Rattle.rpg_object_program.specs.declared.row.Line as rows
+use Rattle.rpg_store.specs.Fields.{AreForms}
+use Rattle.rpg_store.specs.Memory.{Working, forms_in}
+use Rattle.rpg_store.specs.declared.resolved.Resolved.{Resolved}
+
+nothing_asked : (on : sets.FinSet nat_cmp) (a b c : Option Condition) → (has_condition a || (has_condition b || has_condition c)) ≡ false →
+    (holds_if_any on a && (holds_if_any on b && holds_if_any on c)) ≡ true
+nothing_asked on None None None h = refl
+nothing_asked on (Some x) b c h = cc
+nothing_asked on None (Some x) c h = cc
+nothing_asked on None None (Some x) h = cc
+
+-- without conditions a field is put out
+always_put : (on : sets.FinSet nat_cmp) (cs : Conditions) → has_conditions cs ≡ false → three_hold on cs ≡ true
+always_put on cs h = nothing_asked on cs.first cs.second cs.third h
+
+module _ (forms : List FieldForm) (f : LineField ℕ) (r : Resolved) (i : IsFixedField forms f r) (fields : Fields nat_cmp) where
+  fixed_name : r.entry.field ≡ f.operand.field
+  unfolding entry_of
+  fixed_name = ap (λ (e : Entry ℕ). e.field) (sym (i.entry.entry fields))
+
+  -- the form that was found is that of the field
+  pub fixed_form : Some r.form ≡ form_at forms f.operand.field
+  fixed_form = sym (ap (form_at forms) (sym fixed_name) ∙ i.entry.form)
+
+  -- the entry that was found is there, if nothing is wrong with the operand
+  pub fixed_there : AreForms forms → AreFit forms fields → has_entry (form_at forms) f.operand ≡ true → is_one_entry (form_at forms) f.operand ≡ true →
+      IsFieldEntry forms f.operand.field r.entry.position
+  fixed_there good fits s k = entry_named forms fields f.operand (Some r.entry.position) (sym (i.entry.position fields)) good fits s k
+
+-- the field is laid over the line by the value of that entry
+fixed_drafted : (w : Working) (text : List ℕ) (es : List (ℕ × ℕ)) (f : LineField ℕ) (r : Resolved) → IsFixedField w.program.fields f r →
+    field_fault (forms_in w) (word_at w.program) (length text) f ≡ None →
+    with_field_in w text es f
+    ≡ drafted_in GoesOn w (laid_over text f.end (field_text_in w f r.entry.position)) (remembered f.is_blanked (f.operand.field, r.entry.position) es)
+unfolding with_field
+fixed_drafted w text es f r i right = rw (always_put w.world.on f.conditions i.conditions, right, i.entry.position w.world.fields, i.source) refl
+
+-- the same of what the code laid and remembered
+pub fixed_laid : (w : Working) (text out : List ℕ) (es more : List (ℕ × ℕ)) (f : LineField ℕ) (r : Resolved) → IsFixedField w.program.fields f r →
+    field_fault (forms_in w) (word_at w.program) (length text) f ≡ None → out ≡ laid_over text f.end (field_text_in w f r.entry.position) →
+    more ≡ remembered f.is_blanked (f.operand.field, r.entry.position) es → drafted_in GoesOn w out more ≡ with_field_in w text es f
+fixed_laid w text out es more f r i right laid kept =
+    ap (λ (xs : List (ℕ × ℕ)). drafted_in GoesOn w out xs) kept
+    ∙ ap (λ (t : List ℕ). drafted_in GoesOn w t (remembered f.is_blanked (f.operand.field, r.entry.position) es)) laid
+    ∙ sym (fixed_drafted w text es f r i right)
+
+-- as much was found as there are lines
+pub plans_many : (p : Object) (plan : Plan) (ls : List rows.Line) → IsPlanOf p plan → p.lines ≡ map line_row ls → length plan.lines.items ≡ length ls
+plans_many p plan ls h same =
+    AllZip-long (IsPlannedLine p) p.lines plan.lines.items h
+    ∙ ap (λ (xs : List LineRow). length xs) same ∙ length-map ls line_row
+
+-- what was found of a line of a program
+pub plan_at : (p : Object) (plan : Plan) (ls : List rows.Line) (i : ℕ) (l : rows.Line) (found : LinePlan) → IsPlanOf p plan → p.lines ≡ map line_row ls →
+    i < length ls → l ≡ get_or ls i l → found ≡ get_or plan.lines.items i found → IsPlannedLine p (line_row l) found
+plan_at p plan ls i l found h same low is finds =
+    let inside : i < length (map line_row ls) = subst (λ (n : ℕ). i < n) (sym (length-map ls line_row)) low in
+    let inside_own : i < length p.lines = subst (λ (xs : List LineRow). i < length xs) (sym same) inside in
+    let at : get_or p.lines i (line_row l) ≡ line_row l =
+    ap (λ (xs : List LineRow). get_or xs i (line_row l)) same ∙ get_or-map line_row ls i l (line_row l) low ∙ ap line_row (sym is) in
+    subst (λ (x : LineRow). IsPlannedLine p x found) at (subst (λ (y : LinePlan). IsPlannedLine p (get_or p.lines i (line_row l)) y) (sym finds)
+    (pair_at (IsPlannedLine p) p.lines plan.lines.items i (line_row l) found h inside_own))
+
+-- what was found of a field of a line, over a memory that differs in its fields alone
+pub planned_field : (m w : Working) (fields : List (LineField ℕ)) (plan : List (Option Resolved)) (i : ℕ) (d : LineField ℕ) (e : Option Resolved) →
+    w ≡ fields_replaced w.world.fields m → IsLinePlan m.program.fields fields plan → i < length fields →
+    IsFieldPlan w.program.fields (get_or fields i d) (get_or plan i e)
+planned_field m w fields plan i d e same h low =
+    subst (λ (p : Object). IsFieldPlan p.fields (get_or fields i d) (get_or plan i e)) (ap (λ (x : Working). x.program) (sym same))
+    (pair_at (IsFieldPlan m.program.fields) fields plan i d e h low)

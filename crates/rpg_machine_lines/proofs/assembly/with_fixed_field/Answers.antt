@@ -1,0 +1,28 @@
+use Rattle.rpg_machine_lines.proofs.Fields.{right}
+use Rattle.rpg_machine_lines.proofs.Planned.{fixed_form, fixed_laid, fixed_there}
+use Rattle.rpg_machine_lines.proofs.assembly.with_fixed_field.Goals as goal
+
+pub lay_value-requires-clause-right : goal.lay_value-requires-clause-right
+lay_value-requires-clause-right g c = right _ _ _ _ c.requires.right
+
+pub lay_value-requires-clause-form : goal.lay_value-requires-clause-form
+lay_value-requires-clause-form g c =
+    let m = c.args.memory.now in
+    fixed_form m.program.fields c.args.field.now c.args.fixed c.requires.fixed m.world.fields
+
+pub lay_value-requires-clause-entry : goal.lay_value-requires-clause-entry
+lay_value-requires-clause-entry g c =
+    let m = c.args.memory.now in
+    let ok = right _ _ _ _ c.requires.right in
+    fixed_there m.program.fields c.args.field.now c.args.fixed c.requires.fixed m.world.fields c.is_kept.ensures.good c.is_kept.ensures.fits ok.there ok.index
+
+pub remember-requires-clause-entry : goal.remember-requires-clause-entry
+remember-requires-clause-entry g c =
+    let m = c.args.memory.now in
+    let ok = right _ _ _ _ c.requires.right in
+    fixed_there m.program.fields c.args.field.now c.args.fixed c.requires.fixed m.world.fields c.is_kept.ensures.good c.is_kept.ensures.fits ok.there ok.index
+
+pub returns-clause-drafted : goal.returns-clause-drafted
+returns-clause-drafted g c =
+    fixed_laid c.args.memory.now c.args.text.now c.lay_value.new.text c.args.to_blank.now.items c.remember.new.to_blank.items c.args.field.now c.args.fixed
+    c.requires.fixed c.requires.right c.lay_value.ensures.text c.remember.ensures.items
