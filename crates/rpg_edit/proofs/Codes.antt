@@ -1,9 +1,7 @@
 -- The marks of edit codes are written part by part.
-use Rattle.std.proofs.Common.{◌≡◌, ℕ, zero, suc, ◌+◌, ◌-◌, ◌%◌, ◌<◌, ◌≤◌, Bool, true, false, ◌&&◌, ltb, eqb, List, [], ◌∷◌, ◌++◌, length, ap, arith, add-one, replicate}
-use Rattle.std.proofs.lemmas.Bool.Decides.{nat_tests}
-use Rattle.std.specs.Bool.{if◌then◌else◌}
+use Rattle.std.proofs.Common.{◌≡◌, ℕ, zero, suc, ◌+◌, ◌-◌, ◌<◌, ◌≤◌, Bool, List, [], ◌∷◌, ◌++◌, length, arith, add-one, replicate}
 use Rattle.rpg_edit.proofs.Written.{writes-more}
-use Rattle.rpg_edit.specs.Written.{marks_before, next_comma, Writes}
+use Rattle.rpg_edit.specs.Written.{Writes}
 use Rattle.rpg_edit.specs.declared.suppression.Pass.{Pass}
 use Rattle.rpg_edit_marks.specs.Code.{comma_marks, whole_marks, decimal_marks}
 use Rattle.rpg_edit_marks.specs.declared.mark.Mark.{Mark}
@@ -44,21 +42,3 @@ pub writes-whole : (commas : Bool) (left : ℕ) (p q r s : Pass) (o o1 o2 o3 : L
 writes-whole commas left p q r s o o1 o2 o3 before comma digit =
     rw (add-one left) (writes-more (whole_marks commas left) (Digit ∷ comma_marks commas left) p q s o o1 o3 before
     (writes-more (comma_marks commas left) (Digit ∷ []) q r s o1 o2 o3 comma digit))
-
--- the same in front of other digits
-pub writes-front : (behind n left : ℕ) (p q r s : Pass) (o o1 o2 o3 : List ℕ) → left ≡ n + behind → Writes (marks_before true behind n) p o q o1 → Writes (comma_marks true left) q o1 r o2 → Writes (Digit ∷ []) r o2 s o3 →
-    Writes (marks_before true behind (suc n)) p o s o3
-writes-front behind n left p q r s o o1 o2 o3 is before comma digit =
-    rw (← is) (writes-more (marks_before true behind n) (Digit ∷ comma_marks true left) p q s o o1 o3 before
-    (writes-more (comma_marks true left) (Digit ∷ []) q r s o1 o2 o3 comma digit))
-
--- ---- whether a comma is next
-
-comma_by : (b c : Bool) → b ≡ c → (if b then Insert 44 ∷ [] else []) ≡ (if c then Insert 44 ∷ [] else [])
-comma_by b c e = ap (λ d. if d then Insert 44 ∷ [] else []) e
-
-pub comma-later : (left : ℕ) → ¬ (left ≡ next_comma left) → comma_marks true left ≡ []
-comma-later left h = comma_by (ltb 0 left && eqb (left % 3) 0) false (grind (arith, nat_tests))
-
-pub comma-now : (left : ℕ) → left ≡ next_comma left → comma_marks true left ≡ Insert 44 ∷ []
-comma-now left h = comma_by (ltb 0 left && eqb (left % 3) 0) true (grind (arith, nat_tests))

@@ -86,6 +86,12 @@ before_places commas left (suc n) =
     let one : places (Digit ∷ comma_marks commas (n + left)) ≡ 1 = comma_places (commas && ltb 0 (n + left) && eqb ((n + left) % 3) 0) in
     omega (arith, both, one, before_places commas left n)
 
+pub whole_places : (commas : Bool) (n : ℕ) → places (whole_marks commas n) ≡ n
+whole_places commas zero = refl
+whole_places commas (suc n) =
+    let both : places (whole_marks commas (suc n)) ≡ places (Digit ∷ comma_marks commas n) + places (whole_marks commas n) = sum_by-append _ (Digit ∷ comma_marks commas n) (whole_marks commas n) in
+    omega (arith, both, comma_places (commas && ltb 0 n && eqb (n % 3) 0), whole_places commas n)
+
 before_all : (commas : Bool) (left digits : ℕ) → left ≤ digits → marks_before commas left (digits - left) ++ whole_marks commas left ≡ whole_marks commas digits
 before_all commas left digits less = let same : (digits - left) + left ≡ digits = omega (arith, less) in before_whole commas left (digits - left) ∙ ap (whole_marks commas) same
 
@@ -96,9 +102,8 @@ before_length commas left digits less = sym (length-append (marks_before commas 
 pub before_plain : (left digits : ℕ) → left ≤ digits → digits - left ≡ length (marks_before false left (digits - left))
 before_plain left digits less = omega (arith, less, before_length false left digits less, whole_plain left, whole_plain digits)
 
-pub before_commas : (left digits next : ℕ) → left < digits → next ≡ next_comma left →
-    (digits - left) + (digits - 1 - (next - 3)) / 3 ≡ length (marks_before true left (digits - left))
-before_commas left digits next less is = omega (arith, less, is, before_length true left digits (omega (arith, less)), whole_commas left, whole_commas digits)
+pub before_commas : (left digits behind : ℕ) → left < digits → behind + 3 ≡ next_comma left → (digits - left) + (digits - 1 - behind) / 3 ≡ length (marks_before true left (digits - left))
+before_commas left digits behind less is = omega (arith, less, is, before_length true left digits (omega (arith, less)), whole_commas left, whole_commas digits)
 
 pub before_many : (commas : Bool) (left n : ℕ) → n ≤ length (marks_before commas left n)
 before_many commas left n = omega (arith, before_places commas left n, count_by-le-length is_digit_place (marks_before commas left n))
@@ -107,26 +112,6 @@ pub writes_before : (commas : Bool) (left digits : ℕ) (p q s : Pass) (o r t : 
     Writes (whole_marks commas digits) p o s t
 writes_before commas left digits p q s o r t less one more =
     subst (λ ms. Writes ms p o s t) (before_all commas left digits less) (writes-more (whole_marks commas left) (marks_before commas left (digits - left)) p q s o r t one more)
-
--- some in front of others
-before_more : (commas : Bool) (behind m n : ℕ) → marks_before commas (m + behind) n ++ marks_before commas behind m ≡ marks_before commas behind (n + m)
-before_more commas behind m zero = let same : 0 + m ≡ m = omega arith in ap (marks_before commas behind) (sym same)
-before_more commas behind m (suc n) =
-    let same : n + (m + behind) ≡ (n + m) + behind = omega arith in
-    append_assoc (Digit ∷ comma_marks commas (n + (m + behind))) (marks_before commas (m + behind) n) (marks_before commas behind m)
-    ∙ ap (λ ms. (Digit ∷ comma_marks commas (n + (m + behind))) ++ ms) (before_more commas behind m n)
-    ∙ ap (λ k. (Digit ∷ comma_marks commas k) ++ marks_before commas behind (n + m)) same
-    ∙ ap (marks_before commas behind) (sym (add_suc n m))
-
-pub writes_more_before : (behind left digits : ℕ) (p q s : Pass) (o r t : List ℕ) → behind ≤ left → left ≤ digits → Writes (marks_before true behind (left - behind)) p o q r →
-    Writes (marks_before true left (digits - left)) q r s t → Writes (marks_before true behind (digits - behind)) p o s t
-writes_more_before behind left digits p q s o r t lower upper one more =
-    let at : (left - behind) + behind ≡ left = omega (arith, lower) in
-    let all : (digits - left) + (left - behind) ≡ digits - behind = omega (arith, lower, upper) in
-    let both : marks_before true left (digits - left) ++ marks_before true behind (left - behind) ≡ marks_before true behind (digits - behind) =
-    ap (λ k. marks_before true k (digits - left) ++ marks_before true behind (left - behind)) (sym at)
-    ∙ before_more true behind (left - behind) (digits - left) ∙ ap (marks_before true behind) all in
-    subst (λ ms. Writes ms p o s t) both (writes-more (marks_before true behind (left - behind)) (marks_before true left (digits - left)) p q s o r t one more)
 
 -- ---- one fill is what these marks show
 
