@@ -81,8 +81,8 @@ pub fn begins_deck(card: &SpecCard) -> bool
     matches!(card.data(), Some(DataSpec::Begin))
 }
 
-/// The cards behind the next `**` card, of which the first are its deck.
-pub fn behind_next(cards: &[SpecCard]) -> Option<&[SpecCard]>
+/// The cards behind the next `**` card.
+fn behind_next(cards: &[SpecCard]) -> Option<&[SpecCard]>
     ensures { MatchOption result (groups data_role cards.now ≡ []) (λ behind. groups data_role cards.now ≡ deck behind.now ∷ groups data_role behind.now) }
 {
     let mut rest = cards;
