@@ -1,7 +1,6 @@
 //! The data of arrays and tables, by their names.
 
 ghost use Rattle.std.specs.Prelude.{◌≡◌, [], ◌∷◌, ◌++◌, map, false, IfOk, OnOk, MatchOption};
-ghost use Rattle.rpg_cards.specs.Groups.{data_role, followers};
 ghost use Rattle.rpg_effect.specs.Values.{held};
 ghost use Rattle.rpg_compile_layouts.specs.Loaded.{HasSameData, TakesDeck, tables_behind};
 ghost use Rattle.rpg_compile_layouts.specs.Tables.{values_on};
@@ -15,7 +14,7 @@ use indexmap::IndexMap;
 use rpg_cards::SpecCard;
 use rpg_effect::form::FieldForm;
 use rpg_effect::value::Value;
-use rpg_faults::{begins_deck, data_columns};
+use rpg_faults::{behind_next, data_columns};
 use rpg_sheet_specs::ExtensionSpec;
 use rpg_symbols::Name;
 use std::alloc::{AllocError, Global};
@@ -131,18 +130,4 @@ impl<'a> Loaded<'a> {
             None => empty_values(alloc, form),
         }
     }
-}
-
-/// The cards behind the next `**` card.
-fn behind_next(cards: &[SpecCard]) -> Option<&[SpecCard]>
-    ensures { MatchOption result (loads.decks cards.now ≡ []) (λ behind. loads.decks cards.now ≡ followers data_role behind.now ∷ loads.decks behind.now) }
-{
-    let mut rest = cards;
-    while let Some((card, behind)) = rest.split_first() {
-        if begins_deck(card) {
-            return Some(behind);
-        }
-        rest = behind;
-    }
-    None
 }

@@ -82,7 +82,7 @@ pub fn begins_deck(card: &SpecCard) -> bool
 }
 
 /// The cards behind the next `**` card.
-fn behind_next(cards: &[SpecCard]) -> Option<&[SpecCard]>
+pub fn behind_next(cards: &[SpecCard]) -> Option<&[SpecCard]>
     ensures { MatchOption result (groups data_role cards.now ≡ []) (λ behind. groups data_role cards.now ≡ deck behind.now ∷ groups data_role behind.now) }
 {
     let mut rest = cards;

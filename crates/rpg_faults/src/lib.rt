@@ -25,7 +25,7 @@ mod state;
 pub use code::FaultCode;
 pub use columns::misplaces;
 pub use data::{breaks_data, data_cards, data_columns, has_forms};
-pub use decks::{begins_deck, wants_data};
+pub use decks::{begins_deck, behind_next, wants_data};
 pub use every::all_faults;
 pub use every_source::source_faults;
 pub use fault::Fault;
