@@ -101,7 +101,7 @@ fn put_file(out: &mut String, name: &str, file: DescribedFile) -> Result<(), All
     let words = length_words(serves_as);
     write!(
         out,
-        "  {name:<8}  {serves:<8}  {record_length:>4} {words}  card {card}"
+        "  {name:<8}  {serves:<9}  {record_length:>4} {words}  card {card}"
     )?;
     if let Some(number) = overflow {
         let indicator = Indicator(number);

@@ -113,7 +113,7 @@ impl FileWord {
             FileWord::Input => "INPUT",
             FileWord::Secondary => "--secondary FILE",
             FileWord::Print => "PRINT",
-            FileWord::Disk => "FILE",
+            FileWord::Disk => "--disk FILE",
             FileWord::OwnSource => "SRC",
         }
     }
