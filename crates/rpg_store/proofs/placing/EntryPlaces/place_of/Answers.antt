@@ -1,7 +1,7 @@
-use Rattle.std.proofs.Common.{◌≡◌, List, Some, slice_get, sym, ap, ◌∙◌, subst}
+use Rattle.std.proofs.Common.{List, sym, ap, ◌∙◌, subst}
 use Rattle.rpg_effect.specs.declared.form.FieldForm.{FieldForm}
 use Rattle.rpg_store.proofs.BySlot.{spot_place}
-use Rattle.rpg_store.specs.Contents.{IsEntry, IsEntryAt, entries_from}
+use Rattle.rpg_store.specs.Contents.{IsEntry, IsEntryAt}
 use Rattle.rpg_store.specs.Slots.{forms_of, spot}
 use Rattle.rpg_store.specs.declared.slot.Slot.{Slot}
 use Rattle.rpg_store.proofs.placing.EntryPlaces.place_of.Goals as goal
