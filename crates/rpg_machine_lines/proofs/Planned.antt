@@ -26,9 +26,10 @@ use Rattle.rpg_machine_lines.specs.declared.plan.Plan.{Plan}
 use Rattle.rpg_object_program.specs.Constants.{word_at}
 use Rattle.rpg_object_program.specs.Object.{LineRow, Object, line_row}
 use Rattle.rpg_object_program.specs.declared.row.Line as rows
+use Rattle.rpg_store.specs.Contents.{IsEntryAt}
 use Rattle.rpg_store.specs.Fields.{AreForms}
 use Rattle.rpg_store.specs.Memory.{Working, forms_in}
-use Rattle.rpg_store.specs.declared.resolved.Resolved.{Resolved}
+use Rattle.rpg_store.specs.declared.resolved.FixedEntry.{FixedEntry}
 
 nothing_asked : (on : sets.FinSet nat_cmp) (a b c : Option Condition) → (has_condition a || (has_condition b || has_condition c)) ≡ false →
     (holds_if_any on a && (holds_if_any on b && holds_if_any on c)) ≡ true
@@ -41,36 +42,40 @@ nothing_asked on None None (Some x) h = cc
 always_put : (on : sets.FinSet nat_cmp) (cs : Conditions) → has_conditions cs ≡ false → three_hold on cs ≡ true
 always_put on cs h = nothing_asked on cs.first cs.second cs.third h
 
-module _ (forms : List FieldForm) (f : LineField ℕ) (r : Resolved) (i : IsFixedField forms f r) (fields : Fields nat_cmp) where
-  fixed_name : r.entry.field ≡ f.operand.field
+module _ (forms : List FieldForm) (f : LineField ℕ) (e : FixedEntry) (i : IsFixedField forms f e) (fields : Fields nat_cmp) where
+  fixed_name : e.resolved.entry.field ≡ f.operand.field
   unfolding entry_of
-  fixed_name = ap (λ (e : Entry ℕ). e.field) (sym (i.entry.entry fields))
+  fixed_name = ap (λ (x : Entry ℕ). x.field) (sym (i.entry.entry fields))
 
   -- the form that was found is that of the field
-  pub fixed_form : Some r.form ≡ form_at forms f.operand.field
+  pub fixed_form : Some e.resolved.form ≡ form_at forms f.operand.field
   fixed_form = sym (ap (form_at forms) (sym fixed_name) ∙ i.entry.form)
+
+  -- the place that was found is that of the entry
+  pub fixed_place : IsEntryAt forms e.place (f.operand.field, e.resolved.entry.position)
+  fixed_place = subst (λ (n : ℕ). IsEntryAt forms e.place (n, e.resolved.entry.position)) fixed_name i.entry.place
 
   -- the entry that was found is there, if nothing is wrong with the operand
   pub fixed_there : AreForms forms → AreFit forms fields → has_entry (form_at forms) f.operand ≡ true → is_one_entry (form_at forms) f.operand ≡ true →
-      IsFieldEntry forms f.operand.field r.entry.position
-  fixed_there good fits s k = entry_named forms fields f.operand (Some r.entry.position) (sym (i.entry.position fields)) good fits s k
+      IsFieldEntry forms f.operand.field e.resolved.entry.position
+  fixed_there good fits s k = entry_named forms fields f.operand (Some e.resolved.entry.position) (sym (i.entry.position fields)) good fits s k
 
 -- the field is laid over the line by the value of that entry
-fixed_drafted : (w : Working) (text : List ℕ) (es : List (ℕ × ℕ)) (f : LineField ℕ) (r : Resolved) → IsFixedField w.program.fields f r →
+fixed_drafted : (w : Working) (text : List ℕ) (es : List (ℕ × ℕ)) (f : LineField ℕ) (e : FixedEntry) → IsFixedField w.program.fields f e →
     field_fault (forms_in w) (word_at w.program) (length text) f ≡ None →
     with_field_in w text es f
-    ≡ drafted_in GoesOn w (laid_over text f.end (field_text_in w f r.entry.position)) (remembered f.is_blanked (f.operand.field, r.entry.position) es)
+    ≡ drafted_in GoesOn w (laid_over text f.end (field_text_in w f e.resolved.entry.position)) (remembered f.is_blanked (f.operand.field, e.resolved.entry.position) es)
 unfolding with_field
-fixed_drafted w text es f r i right = rw (always_put w.world.on f.conditions i.conditions, right, i.entry.position w.world.fields, i.source) refl
+fixed_drafted w text es f e i right = rw (always_put w.world.on f.conditions i.conditions, right, i.entry.position w.world.fields, i.source) refl
 
 -- the same of what the code laid and remembered
-pub fixed_laid : (w : Working) (text out : List ℕ) (es more : List (ℕ × ℕ)) (f : LineField ℕ) (r : Resolved) → IsFixedField w.program.fields f r →
-    field_fault (forms_in w) (word_at w.program) (length text) f ≡ None → out ≡ laid_over text f.end (field_text_in w f r.entry.position) →
-    more ≡ remembered f.is_blanked (f.operand.field, r.entry.position) es → drafted_in GoesOn w out more ≡ with_field_in w text es f
-fixed_laid w text out es more f r i right laid kept =
+pub fixed_laid : (w : Working) (text out : List ℕ) (es more : List (ℕ × ℕ)) (f : LineField ℕ) (e : FixedEntry) → IsFixedField w.program.fields f e →
+    field_fault (forms_in w) (word_at w.program) (length text) f ≡ None → out ≡ laid_over text f.end (field_text_in w f e.resolved.entry.position) →
+    more ≡ remembered f.is_blanked (f.operand.field, e.resolved.entry.position) es → drafted_in GoesOn w out more ≡ with_field_in w text es f
+fixed_laid w text out es more f e i right laid kept =
     ap (λ (xs : List (ℕ × ℕ)). drafted_in GoesOn w out xs) kept
-    ∙ ap (λ (t : List ℕ). drafted_in GoesOn w t (remembered f.is_blanked (f.operand.field, r.entry.position) es)) laid
-    ∙ sym (fixed_drafted w text es f r i right)
+    ∙ ap (λ (t : List ℕ). drafted_in GoesOn w t (remembered f.is_blanked (f.operand.field, e.resolved.entry.position) es)) laid
+    ∙ sym (fixed_drafted w text es f e i right)
 
 -- as much was found as there are lines
 pub plans_many : (p : Object) (plan : Plan) (ls : List rows.Line) → IsPlanOf p plan → p.lines ≡ map line_row ls → length plan.lines.items ≡ length ls
@@ -90,7 +95,7 @@ plan_at p plan ls i l found h same low is finds =
     (pair_at (IsPlannedLine p) p.lines plan.lines.items i (line_row l) found h inside_own))
 
 -- what was found of a field of a line, over a memory that differs in its fields alone
-pub planned_field : (m w : Working) (fields : List (LineField ℕ)) (plan : List (Option Resolved)) (i : ℕ) (d : LineField ℕ) (e : Option Resolved) →
+pub planned_field : (m w : Working) (fields : List (LineField ℕ)) (plan : List (Option FixedEntry)) (i : ℕ) (d : LineField ℕ) (e : Option FixedEntry) →
     w ≡ fields_replaced w.world.fields m → IsLinePlan m.program.fields fields plan → i < length fields →
     IsFieldPlan w.program.fields (get_or fields i d) (get_or plan i e)
 planned_field m w fields plan i d e same h low =

@@ -10,7 +10,7 @@ ghost use Rattle.rpg_machine_lines.specs.Plans.{IsFieldPlan, IsFixedField, IsLin
 ghost use Rattle.rpg_object_program.specs.Constants.{word_at};
 ghost use Rattle.rpg_store.specs.Memory.{forms_in};
 
-use crate::field::{count_page, lay_value};
+use crate::field::{count_page, lay_fixed_value, lay_value};
 use crate::reading::position_of;
 use arrayvec::ArrayVec;
 use rpg_effect::halt::Halt;
@@ -19,7 +19,7 @@ use rpg_effect::outcome::End;
 use rpg_object_program::forms::form_at;
 use rpg_store::condition::three_hold;
 use rpg_store::memory::Memory;
-use rpg_store::resolved::Resolved;
+use rpg_store::resolved::FixedEntry;
 use rpg_store::store::Store;
 
 /// The most fields of a line.
@@ -92,7 +92,7 @@ fn with_fixed_field<S: Store + Drop>(
     text: &mut [u8],
     to_blank: &mut Entries,
     field: &LineField<u16>,
-    fixed: Resolved,
+    fixed: FixedEntry,
 )
     requires right { faults.field_fault (forms_in memory.now) (word_at memory.now.program) (length text.old) field.now ≡ None }
     requires fixed { IsFixedField memory.now.program.fields field.now fixed }
@@ -103,13 +103,12 @@ fn with_fixed_field<S: Store + Drop>(
     ensures few { array_vec_len to_blank.new ≤ array_vec_len to_blank.old + 1 }
 {
     memory.is_kept();
-    let position = fixed.entry.position;
-    lay_value(memory, text, field, Some(fixed.form), position);
+    lay_fixed_value(memory, text, field, fixed);
     remember(
         memory,
         to_blank,
         field.is_blanked,
-        (field.operand.field, position),
+        (field.operand.field, fixed.resolved.entry.position),
     );
 }
 
@@ -119,7 +118,7 @@ fn with_planned_field<S: Store + Drop>(
     text: &mut [u8],
     to_blank: &mut Entries,
     field: &LineField<u16>,
-    found: Option<Resolved>,
+    found: Option<FixedEntry>,
 ) -> End
     requires right { faults.field_fault (forms_in memory.old) (word_at memory.old.program) (length text.old) field.now ≡ None }
     requires planned { IsFieldPlan memory.old.program.fields field.now found }
@@ -145,7 +144,7 @@ pub fn assemble<S: Store + Drop>(
     text: &mut [u8],
     to_blank: &mut Entries,
     fields: &[LineField<u16>],
-    plan: &[Option<Resolved>],
+    plan: &[Option<FixedEntry>],
 ) -> End
     requires right { faults.AreRight (forms_in memory.old) (word_at memory.old.program) (length text.old) fields.now }
     requires room { array_vec_len to_blank.old + length fields.now ≤ 200 }

@@ -1,5 +1,5 @@
 //! Fields of lines: how they are edited, their text in the line, PAGE, and blank after.
-ghost use Rattle.std.specs.Prelude.{◌≡◌, ◌≤◌, ◌<◌, ◌^◌, length, unsigned_abs, replicate, true};
+ghost use Rattle.std.specs.Prelude.{◌≡◌, ◌≤◌, ◌<◌, ◌^◌, Some, length, unsigned_abs, replicate, true};
 ghost use Rattle.rpg_edit_marks.specs.How.{edited, width_of};
 ghost use Rattle.rpg_effect.specs.Forms as forms;
 ghost use Rattle.rpg_effect.specs.LineFaults as faults;
@@ -9,6 +9,7 @@ ghost use Rattle.rpg_machine_lines.specs.Entries.{AreFieldEntries, IsEditableFor
 ghost use Rattle.rpg_machine_lines.specs.Right.{FitsEditing, IsRightField};
 ghost use Rattle.rpg_object_program.specs.Constants as constants;
 ghost use Rattle.rpg_object_program.specs.Object.{seen};
+ghost use Rattle.rpg_store.specs.Contents.{IsEntryAt};
 ghost use Rattle.rpg_store.specs.Memory.{forms_in};
 
 use rpg_edit::{write_coded, write_plain, write_worded};
@@ -19,6 +20,7 @@ use rpg_object_program::forms::{form_at, kind_of};
 use rpg_object_program::row::Rows;
 use rpg_object_program::words::word_at;
 use rpg_store::memory::Memory;
+use rpg_store::resolved::FixedEntry;
 use rpg_store::store::Store;
 
 /// The word that a number of so many digits is edited by.
@@ -87,6 +89,36 @@ pub fn lay_value<S: Store + Drop>(
             lay_number(memory.rows(), text, field, form, n);
         }
         Kind::Text => lay_text(text, field.end, memory.text(number, entry)),
+    }
+}
+
+/// Lays the value of an entry that was found once over the line.
+#[inline(always)]
+#[tactic(auto, using(crate::proofs::Operands::values))]
+pub fn lay_fixed_value<S: Store + Drop>(
+    memory: &Memory<'_, S>,
+    text: &mut [u8],
+    field: &LineField<u16>,
+    fixed: FixedEntry,
+)
+    requires right { IsRightField (forms_in memory.now) (constants.word_at memory.now.program) (length text.old) field.now }
+    requires form { Some fixed.resolved.form ≡ forms_in memory.now field.now.operand.field }
+    requires entry { IsFieldEntry memory.now.program.fields field.now.operand.field fixed.resolved.entry.position }
+    requires place { IsEntryAt memory.now.program.fields fixed.place (field.now.operand.field, fixed.resolved.entry.position) }
+    ensures text { text.new ≡ lines.laid_over text.old field.now.end (field_text_in memory.now field.now fixed.resolved.entry.position) }
+{
+    memory.is_kept();
+    let (number, entry) = (field.operand.field, fixed.resolved.entry.position);
+    let form = fixed.resolved.form;
+    match form.kind {
+        Kind::Number => {
+            let n = memory.number_in(fixed.place, number, entry);
+            lay_number(memory.rows(), text, field, form, n);
+        }
+        Kind::Text => {
+            let part = memory.text_in(fixed.place, number, entry);
+            lay_text(text, field.end, part);
+        }
     }
 }
 

@@ -14,7 +14,7 @@ use crate::printer::put_on;
 use rpg_effect::outcome::End;
 use rpg_object_program::row::Line;
 use rpg_store::memory::Memory;
-use rpg_store::resolved::Resolved;
+use rpg_store::resolved::FixedEntry;
 use rpg_store::store::Store;
 use std::alloc::AllocError;
 
@@ -25,7 +25,7 @@ pub fn put_line<S: Store + Drop>(
     text: &mut [u8],
     to_blank: &mut Entries,
     line: &Line,
-    plan: &[Option<Resolved>],
+    plan: &[Option<FixedEntry>],
 ) -> Result<End, AllocError>
     requires near { IsNear memory.old.world.here }
     requires right { IsRightLine memory.old.program (line_row line.now) }

@@ -1,6 +1,6 @@
 //! Arithmetic: what a result is, and what becomes of it.
 ghost use Rattle.std.specs.Prelude.{◌≡◌, ◌≢◌, ◌<◌, ◌≤◌, ◌^◌, pos, false, None, if◌then◌else◌, unsigned_abs, IfSome};
-ghost use Rattle.rpg_decimal_words.specs.Fraction.{stored_number};
+ghost use Rattle.rpg_decimal_words.specs.Fraction.{stored_number, with_decimals};
 ghost use Rattle.rpg_decimal.specs.Num.{value_of};
 ghost use Rattle.rpg_effect.specs.Act as acts;
 ghost use Rattle.rpg_effect.specs.Ends.{end_of};
@@ -34,7 +34,7 @@ pub fn store<S: Store + Drop>(memory: &mut Memory<'_, S>, to: Entry<u16>, shows:
 
 /// What an operator makes of two numbers.
 #[inline(always)]
-fn operated(operator: Operator, a: Num, b: Num, target: Target) -> i64
+pub(crate) fn operated(operator: Operator, a: Num, b: Num, target: Target) -> i64
     ensures value { result ≡ stored_number target.half target.dec target.len (acts.computed operator (value_of a) (value_of b)) }
     ensures length { unsigned_abs result < 10 ^ target.len }
 {
@@ -46,7 +46,6 @@ fn operated(operator: Operator, a: Num, b: Num, target: Target) -> i64
 }
 
 /// The result of ADD, SUB and MULT.
-#[inline(always)]
 fn computed<S: Store + Drop>(
     memory: &Memory<'_, S>,
     operator: Operator,
@@ -66,8 +65,17 @@ fn computed<S: Store + Drop>(
     operated(operator, a, b, target_of(memory, to, half))
 }
 
-/// The result of Z-ADD and Z-SUB.
+/// A number as the target keeps it, with its sign turned where so asked.
 #[inline(always)]
+pub(crate) fn kept_with_sign(is_negated: bool, b: Num, target: Target) -> i64
+    ensures value { result ≡ stored_number target.half target.dec target.len (with_decimals (acts.assigned is_negated b.value) b.dec) }
+    ensures length { unsigned_abs result < 10 ^ target.len }
+{
+    let scale = Scale { value: b.dec };
+    keep(signed(is_negated, b.value), scale, target)
+}
+
+/// The result of Z-ADD and Z-SUB.
 fn assigned<S: Store + Drop>(
     memory: &Memory<'_, S>,
     is_negated: bool,
@@ -81,12 +89,7 @@ fn assigned<S: Store + Drop>(
     ensures length { FitsResult memory.now to result }
 {
     let b = number_at(memory, factor2);
-    let scale = Scale { value: b.dec };
-    keep(
-        signed(is_negated, b.value),
-        scale,
-        target_of(memory, to, half),
-    )
+    kept_with_sign(is_negated, b, target_of(memory, to, half))
 }
 
 /// The number, with its sign turned where so asked.
@@ -162,28 +165,6 @@ fn kept_remainder<S: Store + Drop>(memory: &Memory<'_, S>, to: Resolved) -> i64
     keep(rest.value, rest.dec, target_of(memory, to, false))
 }
 
-/// Stores in the result field what an operator makes of two numbers.
-#[inline(always)]
-#[tactic(auto, unfolding(rpg_effect::specs::Act::act))]
-pub(crate) fn compute_numbers<S: Store + Drop>(
-    memory: &mut Memory<'_, S>,
-    operator: Operator,
-    half: bool,
-    factor1: Resolved,
-    factor2: Resolved,
-    to: Resolved,
-    shows: Shows,
-) -> End
-    requires factor1 { NamesNumber memory.old factor1 }
-    requires factor2 { NamesNumber memory.old factor2 }
-    requires to { NamesNumber memory.old to }
-    ensures { DidEffect (act_in memory.old (actions.Compute operator half factor1 factor2 to shows)) memory.old (end_of result) memory.new }
-{
-    let n = computed(memory, operator, half, factor1, factor2, to);
-    store(memory, to.entry, shows, n);
-    End::GoesOn
-}
-
 /// ADD, SUB and MULT. None where an index is out of range.
 #[tactic(auto, unfolding(rpg_effect::specs::Act::act, rpg_effect::specs::Operate::has_entries, rpg_effect::specs::Operate::operate, rpg_effect::specs::Operate::resolved, rpg_effect::specs::Rows::row_of))]
 pub fn compute<S: Store + Drop>(
@@ -203,7 +184,9 @@ pub fn compute<S: Store + Drop>(
     let factor1 = number_named(memory, factor1)?;
     let factor2 = number_named(memory, factor2)?;
     let to = number_named(memory, to)?;
-    Some(compute_numbers(memory, operator, half, factor1, factor2, to, shows))
+    let n = computed(memory, operator, half, factor1, factor2, to);
+    store(memory, to.entry, shows, n);
+    Some(End::GoesOn)
 }
 
 /// Divides, stores the quotient and keeps the remainder. A zero divisor is halt 1.
@@ -251,26 +234,6 @@ pub fn divide<S: Store + Drop>(
     Some(divide_numbers(memory, half, factor1, factor2, to, shows))
 }
 
-/// Stores a number in the result field, its sign turned where so asked.
-#[inline(always)]
-#[tactic(auto, unfolding(rpg_effect::specs::Act::act))]
-pub(crate) fn assign_number<S: Store + Drop>(
-    memory: &mut Memory<'_, S>,
-    is_negated: bool,
-    half: bool,
-    factor2: Resolved,
-    to: Resolved,
-    shows: Shows,
-) -> End
-    requires factor2 { NamesNumber memory.old factor2 }
-    requires to { NamesNumber memory.old to }
-    ensures { DidEffect (act_in memory.old (actions.Assign is_negated half factor2 to shows)) memory.old (end_of result) memory.new }
-{
-    let n = assigned(memory, is_negated, half, factor2, to);
-    store(memory, to.entry, shows, n);
-    End::GoesOn
-}
-
 /// Z-ADD and Z-SUB. None where an index is out of range.
 #[tactic(auto, unfolding(rpg_effect::specs::Act::act, rpg_effect::specs::Operate::has_entries, rpg_effect::specs::Operate::operate, rpg_effect::specs::Operate::resolved, rpg_effect::specs::Rows::row_of))]
 pub fn assign<S: Store + Drop>(
@@ -287,7 +250,9 @@ pub fn assign<S: Store + Drop>(
 {
     let factor2 = number_named(memory, factor2)?;
     let to = number_named(memory, to)?;
-    Some(assign_number(memory, is_negated, half, factor2, to, shows))
+    let n = assigned(memory, is_negated, half, factor2, to);
+    store(memory, to.entry, shows, n);
+    Some(End::GoesOn)
 }
 
 /// MVR. None where an index is out of range.

@@ -1,10 +1,9 @@
 //! How entries stand to each other, and COMP.
 ghost use Rattle.std.specs.Prelude.{◌≡◌};
-ghost use Rattle.rpg_effect.specs.Ends.{end_of};
 ghost use Rattle.rpg_effect.specs.declared.operation.Action.TheVariants as actions;
 ghost use Rattle.rpg_store.specs.Fields.{IsResolved};
-ghost use Rattle.rpg_store.specs.Memory.{NamesLike, NamesNumber};
-ghost use Rattle.rpg_machine_operations.specs.Words.{DidEffect, DidOperate, IsLikeOperand, act_in, compared_in, order_in};
+ghost use Rattle.rpg_store.specs.Memory.{NamesLike};
+ghost use Rattle.rpg_machine_operations.specs.Words.{DidOperate, IsLikeOperand, compared_in, order_in};
 
 use crate::resolving::entry_named;
 use rpg_decimal::{compare, compare_text};
@@ -50,24 +49,6 @@ fn show_order<S: Store + Drop>(
 {
     let order = compared(memory, factor1.form.kind, factor1, factor2);
     memory.show(shows, order);
-}
-
-/// The indicators show how a number stands to another one.
-#[inline(always)]
-#[tactic(auto, unfolding(rpg_effect::specs::Act::act))]
-pub(crate) fn compare_numbers<S: Store + Drop>(
-    memory: &mut Memory<'_, S>,
-    factor1: Resolved,
-    factor2: Resolved,
-    shows: Shows,
-) -> End
-    requires factor1 { NamesNumber memory.old factor1 }
-    requires factor2 { NamesNumber memory.old factor2 }
-    ensures { DidEffect (act_in memory.old (actions.Compare factor1 factor2 shows)) memory.old (end_of result) memory.new }
-{
-    let order = compare(number_at(memory, factor1), number_at(memory, factor2));
-    memory.show(shows, order);
-    End::GoesOn
 }
 
 /// COMP. None where an index is out of range.

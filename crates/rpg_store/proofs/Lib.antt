@@ -11,6 +11,7 @@ pub mod FirstSlots
 pub mod FirstValues
 pub mod Fitting
 pub mod InArea
+pub mod Fixing
 pub mod Keeping
 pub mod Listing
 pub mod MarkedLemmas

@@ -10,7 +10,7 @@ use Rattle.rpg_effect.specs.Values.{Value, Number, Text, characters_of, held}
 use Rattle.rpg_effect.specs.declared.value.Value as entry
 use Rattle.rpg_effect.specs.declared.value.Value.TheVariants as variants
 use Rattle.rpg_store.specs.Characters.{with_characters}
-use Rattle.rpg_store.specs.Contents.{IsEntry, by_entry, entries_from}
+use Rattle.rpg_store.specs.Contents.{IsEntry, IsEntryAt, by_entry, entries_from}
 use Rattle.rpg_store.specs.Store.{IsNumber, IsText}
 use Rattle.rpg_store.specs.Listed.{Listed, laid_at_front, listed_contents, listed_with_text}
 use Rattle.rpg_store.specs.Slots.{forms_of, spot, AreInOrder}
@@ -94,3 +94,10 @@ wrote_there slots vs q e t w o a h =
     let k : slice_get (entries_from 1 (forms_of slots)) (spot slots (q, e)) ≡ Some (q, e) = ap (slice_get (entries_from 1 (forms_of slots))) m ∙ a.entry.1 in
     ap (λ (y : Value). listed_contents (record { slots = slots; list = set (map held vs) (spot slots (q, e)) y })) (ap (λ o'. Text (laid_at_front (characters_of o') w)) a.is ∙ ap Text (over_whole t w h))
     ∙ by_entry-set (forms_of slots) (map held vs) (spot slots (q, e)) (q, e) (Text w) k (omega arith)
+
+-- ---- a place that is known
+
+-- it is the place by the table
+pub known_place : (slots : List Slot) (vs : List entry.Value) (s : Listed) (n q e : ℕ) → listed slots vs ≡ s → AreInOrder 0 slots → IsEntryAt (forms_of s.slots) n (q, e) → n ≡ spot slots (q, e)
+known_place slots vs s n q e is o h =
+    sym (spot_place slots n q e o (ap (λ (t : Listed). slice_get (entries_from 1 (forms_of t.slots)) n) is ∙ h))

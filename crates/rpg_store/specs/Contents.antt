@@ -15,9 +15,13 @@ abbrev pub entries_from : ℕ → List FieldForm → List (ℕ × ℕ)
 entries_from field [] = []
 entries_from field (f ∷ fs) = positions_from field 1 f.entries ++ entries_from (field + 1) fs
 
+-- the entry is there, at that place among all entries
+abbrev pub IsEntryAt : List FieldForm → ℕ → ℕ × ℕ → Type 0
+IsEntryAt forms n entry = slice_get (entries_from 1 forms) n ≡ Some entry
+
 -- the entry is there
 abbrev pub IsEntry : List FieldForm → ℕ × ℕ → Type 0
-IsEntry forms entry = (n : ℕ) × (slice_get (entries_from 1 forms) n ≡ Some entry)
+IsEntry forms entry = (n : ℕ) × IsEntryAt forms n entry
 
 -- values in the order of the entries, each at its entry
 unfoldable pub by_entry : List FieldForm → List Value → Values

@@ -224,9 +224,21 @@ impl Store for FlatStore {
         write_zoned(n, self.area.slice_mut(from..to));
     }
 
+    fn number_in(&self, _place: usize, field: u16, position: u16) -> i64 {
+        self.number(field, position)
+    }
+
+    fn set_number_in(&mut self, _place: usize, field: u16, position: u16, n: i64) {
+        self.set_number(field, position, n);
+    }
+
     fn text(&self, field: u16, position: u16) -> &[u8] {
         let (from, to) = part_of(&self.slots, field, position);
         bytes_between(&self.area, from, to)
+    }
+
+    fn text_in(&self, _place: usize, field: u16, position: u16) -> &[u8] {
+        self.text(field, position)
     }
 
     fn text_mut(&mut self, field: u16, position: u16) -> &mut [u8] {

@@ -11,6 +11,7 @@ mod listed;
 pub mod memory;
 pub mod numbers;
 mod paper;
+pub mod placing;
 pub mod position;
 pub mod resolved;
 pub mod showing;

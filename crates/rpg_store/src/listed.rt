@@ -126,8 +126,26 @@ impl Store for ListedStore {
         put_number(&mut self.list[at], n);
     }
 
+    fn number_in(&self, place: usize, _field: u16, _position: u16) -> i64 {
+        match &self.list[place] {
+            Value::Number(n) => *n,
+            Value::Text(_) => unreachable!(),
+        }
+    }
+
+    fn set_number_in(&mut self, place: usize, _field: u16, _position: u16, n: i64) {
+        put_number(&mut self.list[place], n);
+    }
+
     fn text(&self, field: u16, position: u16) -> &[u8] {
         match &self.list[place(&self.slots, field, position)] {
+            Value::Number(_) => unreachable!(),
+            Value::Text(text) => text.as_slice(),
+        }
+    }
+
+    fn text_in(&self, place: usize, _field: u16, _position: u16) -> &[u8] {
+        match &self.list[place] {
             Value::Number(_) => unreachable!(),
             Value::Text(text) => text.as_slice(),
         }

@@ -5,6 +5,7 @@ ghost use Rattle.rpg_effect.specs.Showing as showing;
 ghost use Rattle.rpg_effect.specs.Values.{Number, Text};
 ghost use Rattle.rpg_effect.specs.World.{characters_at, current_in, number_at, set_current, set_value};
 ghost use Rattle.rpg_effect.specs.declared.form.Kind.TheVariants as kinds;
+ghost use Rattle.rpg_store.specs.Contents.{IsEntryAt};
 ghost use Rattle.rpg_store.specs.Fields.{AreForms, IsValue};
 ghost use Rattle.rpg_store.specs.Memory.{forms_in, indicator_turned, rest_value, first_working, with_on, with_remainder};
 ghost use Rattle.rpg_object_program.specs.Kept.{IsCharacter, IsProgram};
@@ -139,6 +140,28 @@ impl<'a, S: Store + Drop> Memory<'a, S> {
         self.store.set_number(field, position, n);
     }
 
+    /// The number at an entry whose place is known.
+    #[inline(always)]
+    #[tactic(auto, using(crate::proofs::Values::numbers))]
+    pub fn number_in(&self, place: usize, field: u16, position: u16) -> i64
+        requires there { IsValue self.now.program.fields kinds.Number field position }
+        requires place { IsEntryAt self.now.program.fields place (field, position) }
+        ensures value { result ≡ number_at self.now.world field position }
+        ensures fits { unsigned_abs result < 10 ^ length_of (forms_in self.now field) }
+    {
+        self.store.number_in(place, field, position)
+    }
+
+    #[inline(always)]
+    pub fn set_number_in(&mut self, place: usize, field: u16, position: u16, n: i64)
+        requires there { IsValue self.old.program.fields kinds.Number field position }
+        requires length { unsigned_abs n < 10 ^ length_of (forms_in self.old field) }
+        requires place { IsEntryAt self.old.program.fields place (field, position) }
+        ensures { self.new ≡ record self.old { world = set_value self.old.world field position (Number n) } }
+    {
+        self.store.set_number_in(place, field, position, n);
+    }
+
     /// The text at an entry.
     #[tactic(auto, using(crate::proofs::Values::texts))]
     pub fn text(&self, field: u16, position: u16) -> &[u8]
@@ -148,6 +171,19 @@ impl<'a, S: Store + Drop> Memory<'a, S> {
         ensures characters { All IsCharacter result.now }
     {
         self.store.text(field, position)
+    }
+
+    /// The text at an entry whose place is known.
+    #[inline(always)]
+    #[tactic(auto, using(crate::proofs::Values::texts))]
+    pub fn text_in(&self, place: usize, field: u16, position: u16) -> &[u8]
+        requires there { IsValue self.now.program.fields kinds.Text field position }
+        requires place { IsEntryAt self.now.program.fields place (field, position) }
+        ensures value { result.now ≡ characters_at self.now.world field position }
+        ensures length { length result.now ≡ length_of (forms_in self.now field) }
+        ensures characters { All IsCharacter result.now }
+    {
+        self.store.text_in(place, field, position)
     }
 
     pub fn set_text(&mut self, field: u16, position: u16, text: &[u8])

@@ -5,6 +5,7 @@ ghost use Rattle.std.specs.FinMap as map;
 ghost use Rattle.rpg_effect.specs.Forms.{entries_of, form_at, is_table_form, length_of};
 ghost use Rattle.rpg_effect.specs.Values.{Number, Text};
 ghost use Rattle.rpg_effect.specs.declared.form.FieldForm.{FieldForm};
+ghost use Rattle.rpg_store.specs.Contents.{IsEntryAt};
 ghost use Rattle.rpg_store.specs.Store.{Values, Currents, IsNumber, IsText};
 
 /// The values of fields, and the current entry of each table. Fields and positions count from 1; a field that is no array and
@@ -30,8 +31,28 @@ pub trait Store {
         ensures currents { currents self.new ≡ currents self.old }
         ensures forms { forms self.new ≡ forms self.old };
 
+    /// The same number, where the place of its entry is known.
+    fn number_in(&self, place: usize, field: u16, position: u16) -> i64
+        requires there { IsNumber (map.get (contents self.now) (field, position)) }
+        requires place { IsEntryAt (forms self.now) place (field, position) }
+        ensures { map.get (contents self.now) (field, position) ≡ Some (Number result) };
+
+    fn set_number_in(&mut self, place: usize, field: u16, position: u16, n: i64)
+        requires there { IsNumber (map.get (contents self.old) (field, position)) }
+        requires length { unsigned_abs n < 10 ^ length_of (form_at (forms self.old) field) }
+        requires place { IsEntryAt (forms self.old) place (field, position) }
+        ensures contents { contents self.new ≡ map.insert (contents self.old) (field, position) (Number n) }
+        ensures currents { currents self.new ≡ currents self.old }
+        ensures forms { forms self.new ≡ forms self.old };
+
     fn text(&self, field: u16, position: u16) -> &[u8]
         requires { IsText (map.get (contents self.now) (field, position)) }
+        ensures { map.get (contents self.now) (field, position) ≡ Some (Text result.now) };
+
+    /// The same text, where the place of its entry is known.
+    fn text_in(&self, place: usize, field: u16, position: u16) -> &[u8]
+        requires there { IsText (map.get (contents self.now) (field, position)) }
+        requires place { IsEntryAt (forms self.now) place (field, position) }
         ensures { map.get (contents self.now) (field, position) ≡ Some (Text result.now) };
 
     /// Lends the characters there, to be written over with any bytes.

@@ -1,0 +1,28 @@
+use Rattle.std.proofs.Common.{◌≡◌, sym, ap, ◌∙◌, arith, Some, rules}
+use Rattle.rpg_effect.specs.Values.{Number, Text, held}
+use Rattle.rpg_store.specs.Slots.{spot}
+use Rattle.rpg_store.proofs.Listing.{known_place, number_there, of_store, read_there}
+use Rattle.rpg_store.proofs.listed.ListedStoreStore.number_in.Goals as goal
+
+pub index-requires : goal.index-requires
+index-requires c =
+    let t = number_there _ c.requires.there in
+    let a = of_store c.self.inside.slots.items c.self.inside.list.items c.args.self.now c.args._field c.args._position _ c.self.view_is c.self.invariant t.1 in
+    let p : c.args.place ≡ spot c.self.inside.slots.items (c.args._field, c.args._position) = known_place c.self.inside.slots.items c.self.inside.list.items c.args.self.now c.args.place c.args._field c.args._position c.self.view_is c.self.invariant c.requires.place in
+    omega (arith, a.inside)
+
+pub unreachable-requires : goal.unreachable-requires
+unreachable-requires c =
+    let t = number_there _ c.requires.there in
+    let a = of_store c.self.inside.slots.items c.self.inside.list.items c.args.self.now c.args._field c.args._position _ c.self.view_is c.self.invariant t.1 in
+    let p : c.args.place ≡ spot c.self.inside.slots.items (c.args._field, c.args._position) = known_place c.self.inside.slots.items c.self.inside.list.items c.args.self.now c.args.place c.args._field c.args._position c.self.view_is c.self.invariant c.requires.place in
+    let r = read_there c.self.inside.slots.items c.self.inside.list.items c.args._field c.args._position _ c.args.place c.index.result.now a p c.index.ensures in
+    let wrong : Text _ ≡ Number t.0 = sym (ap held c.in-Text.is) ∙ r in cc
+
+pub returns : goal.returns
+returns c =
+    let t = number_there _ c.requires.there in
+    let a = of_store c.self.inside.slots.items c.self.inside.list.items c.args.self.now c.args._field c.args._position _ c.self.view_is c.self.invariant t.1 in
+    let p : c.args.place ≡ spot c.self.inside.slots.items (c.args._field, c.args._position) = known_place c.self.inside.slots.items c.self.inside.list.items c.args.self.now c.args.place c.args._field c.args._position c.self.view_is c.self.invariant c.requires.place in
+    let r = read_there c.self.inside.slots.items c.self.inside.list.items c.args._field c.args._position _ c.args.place c.index.result.now a p c.index.ensures in
+    t.1 ∙ ap Some (sym r ∙ ap held c.in-Number.is) ∙ ap (λ n. Some (Number n)) (search rules)
