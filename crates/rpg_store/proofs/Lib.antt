@@ -18,6 +18,7 @@ pub mod MarkedLemmas
 pub mod Places
 pub mod Programs
 pub mod Reading
+pub mod Silent
 pub mod Storage
 pub mod Values
 pub mod Zeros

@@ -1,5 +1,5 @@
 //! Resulting indicators.
-ghost use Rattle.std.specs.Prelude.{◌≡◌};
+ghost use Rattle.std.specs.Prelude.{◌≡◌, ◌&&◌, is_none};
 ghost use Rattle.rpg_effect.specs.Showing as of;
 
 use crate::indicators::{Indicators, turn_off, turn_on};
@@ -17,11 +17,22 @@ fn indicator_for(shows: Shows, order: Ordering) -> Option<u8>
     }
 }
 
+/// Whether no indicator is named, as with most operations: then there is nothing to show, and the order needn't be known.
+#[inline(always)]
+fn names_none(shows: Shows) -> bool
+    ensures { result ≡ (is_none shows.plus && (is_none shows.minus && is_none shows.zero)) }
+{
+    shows.plus.is_none() && (shows.minus.is_none() && shows.zero.is_none())
+}
+
 /// Turns off all indicators that are named, and then on the one whose condition holds.
-#[tactic(auto, unfolding(rpg_effect::specs::Showing::shown))]
+#[tactic(auto, using(crate::proofs::Silent::nothing_shown), unfolding(rpg_effect::specs::Showing::shown))]
 pub fn show(on: &mut Indicators, shows: Shows, order: Ordering)
     ensures { on.new ≡ of.shown shows order on.old }
 {
+    if names_none(shows) {
+        return;
+    }
     turn_off(on, shows.plus);
     turn_off(on, shows.minus);
     turn_off(on, shows.zero);
