@@ -5,6 +5,7 @@ pub mod Effects
 pub mod Filling
 pub mod Firsts
 pub mod FixedSteps
+pub mod FoundActions
 pub mod Going
 pub mod Keeping
 pub mod KeepingLines
@@ -24,4 +25,5 @@ pub mod Standing
 pub mod Starting
 pub mod Staying
 pub mod Steps
+pub mod StepsAt
 pub mod Work
