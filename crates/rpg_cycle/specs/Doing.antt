@@ -1,5 +1,6 @@
 -- That a machine did a phase, in the words of its calls.
-use Rattle.std.specs.Prelude.{◌≡◌, ℕ, Bool, List, Option, None}
+use Rattle.std.specs.Prelude.{◌≡◌, ℕ, Bool, true, List, Option, None, IfSome}
+use Rattle.std.specs.List.{list_all}
 use Rattle.std.specs.Option.{option_map}
 use denote.Bor.{Bor}
 use Rattle.rpg_paper.specs.Paper.{Position, last_position_from}
@@ -14,10 +15,15 @@ use Rattle.rpg_cycle.specs.Phases.{CycleOn, Phase, UnderWay, fill_fields, if_sel
 use Rattle.rpg_machine.specs.Config.{Config, Output}
 use Rattle.rpg_machine.specs.Running.{Running, config_on, refilled}
 use Rattle.rpg_object_program.specs.Object.{Object}
+use Rattle.rpg_text.specs.Texts.{is_character}
 
 -- the text of the record that is next in a file, if there is one
 abbrev pub next_text : Option (Bor (List ℕ)) → Option (List ℕ)
 next_text next = option_map (λ (text : Bor (List ℕ)). text.now) next
+
+-- the record that is next in a file, if there is one, has characters alone where that was seen
+abbrev pub IsSeen : Bool → Option (Bor (List ℕ)) → Type 0
+IsSeen is_seen next = is_seen ≡ true → IfSome next (λ text. list_all is_character text.now ≡ true)
 
 -- what a cycle has beside the machine: the files, and the record that was selected
 pub record Beside : Type 0 where

@@ -1,7 +1,7 @@
 //! One cycle.
 ghost use Rattle.std.specs.Prelude.{◌≡◌, ◌≤◌, ◌<◌, IfOk, length};
 ghost use Rattle.std.specs.Option.{ForSome};
-ghost use Rattle.rpg_cycle.specs.Doing.{CycleEnds, CycleGoesOn};
+ghost use Rattle.rpg_cycle.specs.Doing.{CycleEnds, CycleGoesOn, IsSeen};
 ghost use Rattle.rpg_cycle.specs.Selecting.{RenewsLeft};
 ghost use Rattle.rpg_cycle.specs.Stages.{IfStops, UnlessNoMemory, job_end};
 ghost use Rattle.rpg_cycle_records.specs.Holding.{AreFilesKept};
@@ -14,6 +14,7 @@ use crate::phases::{
     put_out_overflow, set_off, show_match, take_total_time,
 };
 use crate::program::is_bounded;
+use crate::seen::Seen;
 use crate::selection::select_record;
 use rpg_cycle_records::Kept;
 use rpg_machine::Machine;
@@ -25,7 +26,10 @@ pub(crate) fn run_cycle<S: Store + Drop>(
     kept: &mut Kept,
     primary: Option<&[u8]>,
     secondary: Option<&[u8]>,
+    seen: Seen,
 ) -> Result<Option<usize>, Stop>
+    requires primary { IsSeen seen.primary primary }
+    requires secondary { IsSeen seen.secondary secondary }
     requires ready { IsReady machine.old }
     requires nine { length kept.old.levels.items ≡ 9 }
     requires kept { AreFilesKept machine.old.program kept.old }
@@ -43,7 +47,7 @@ pub(crate) fn run_cycle<S: Store + Drop>(
     put_out_details(machine)?;
     halt_where_asked(machine)?;
     set_off(machine);
-    let selected = select_record(program, machine, kept, primary, secondary)?;
+    let selected = select_record(program, machine, kept, primary, secondary, seen)?;
     take_total_time(machine, kept.has_any, kept.has_control)?;
     end_where_last(machine, selected)?;
     put_out_overflow(machine)?;

@@ -7,6 +7,7 @@ use crate::date::{Date, put_date};
 use crate::ends::{CycleEnd, JobEnd, Progress, StartFault, Stop};
 use crate::indicators::{LAST_RECORD, is_halt_asked};
 use crate::program::is_end;
+use crate::seen::{NOTHING_SEEN, Seen};
 use rpg_cycle_records::Kept;
 use rpg_effect::input::InputFile;
 use rpg_machine::{Machine, Output};
@@ -97,7 +98,7 @@ impl<'a> Job<'a, FlatStore> {
 
 impl<'a, S: Store + Drop> Job<'a, S> {
     ghost use Rattle.std.specs.Prelude.{◌≤◌, ◌&&◌, true, false, ◌↔◌, None, IfOk, OnErr, IsOk, IsErrOf};
-    ghost use Rattle.rpg_cycle.specs.Doing.{next_text};
+    ghost use Rattle.rpg_cycle.specs.Doing.{IsSeen, next_text};
     ghost use Rattle.rpg_effect.specs.declared.input.InputFile.TheVariants as files;
     ghost use Rattle.rpg_cycle.specs.Job as of;
     ghost use Rattle.rpg_cycle.specs.Phases.{takes_records};
@@ -183,9 +184,27 @@ impl<'a, S: Store + Drop> Job<'a, S> {
         ensures failed { OnErr result (self.new.stage ≡ Failed) }
         ensures bound { of.KeepsBound self.new }
     {
+        self.cycle_with_seen(primary, secondary, NOTHING_SEEN)
+    }
+
+    /// The same with records of which it was seen that they have characters alone: their bytes aren't tested again.
+    pub fn cycle_with_seen(
+        &mut self,
+        primary: Option<&[u8]>,
+        secondary: Option<&[u8]>,
+        seen: Seen,
+    ) -> Result<CycleEnd, AllocError>
+        requires primary { IsSeen seen.primary primary }
+        requires secondary { IsSeen seen.secondary secondary }
+        ensures going { is_going self.old.stage ≡ true → IfOk result (λ _. of.Cycles self.old (next_text primary.entry) (next_text secondary.entry) self.new) }
+        ensures told { IfOk result (λ e. told e ≡ self.new.stage) }
+        ensures over { is_going self.old.stage ≡ false → IsOk result × (self.new ≡ self.old) }
+        ensures failed { OnErr result (self.new.stage ≡ Failed) }
+        ensures bound { of.KeepsBound self.new }
+    {
         match self.progress {
             Progress::Going => {
-                let progress = self.cycle_on(primary, secondary)?;
+                let progress = self.cycle_on(primary, secondary, seen)?;
                 Ok(answer_from(progress))
             }
             Progress::Ended(end) => Ok(answer_from(Progress::Ended(end))),
@@ -198,8 +217,11 @@ impl<'a, S: Store + Drop> Job<'a, S> {
         &mut self,
         primary: Option<&[u8]>,
         secondary: Option<&[u8]>,
+        seen: Seen,
     ) -> Result<Progress, AllocError>
-        requires { is_going self.old.stage ≡ true }
+        requires primary { IsSeen seen.primary primary }
+        requires secondary { IsSeen seen.secondary secondary }
+        requires going { is_going self.old.stage ≡ true }
         ensures done { IfOk result (λ _. of.Cycles self.old (next_text primary.entry) (next_text secondary.entry) self.new) }
         ensures stage { IfOk result (λ g. stage_of g ≡ self.new.stage) }
         ensures ran { IfOk result (λ g. stage_of g ≡ Failed → ⊥) }
@@ -208,7 +230,7 @@ impl<'a, S: Store + Drop> Job<'a, S> {
     {
         self.progress = Progress::Failed;
         let (machine, kept) = (&mut self.machine, &mut self.kept);
-        match run_cycle(machine, kept, primary, secondary) {
+        match run_cycle(machine, kept, primary, secondary, seen) {
             Ok(selected) => {
                 self.kept.note(self.program, selected);
                 self.progress = Progress::Going;

@@ -10,6 +10,7 @@ mod laws;
 mod phases;
 mod program;
 mod runs;
+mod seen;
 mod selection;
 
 pub use ends::{CycleEnd, JobEnd, StartFault};
@@ -21,3 +22,4 @@ pub use laws::{
 pub use rpg_effect::halt::Halt;
 pub use rpg_machine::Output;
 pub use runs::{Run, run_records};
+pub use seen::Seen;

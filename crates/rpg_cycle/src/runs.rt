@@ -11,6 +11,7 @@ ghost use Rattle.rpg_verify.specs.Bound.{bound};
 
 use crate::ends::{JobEnd, Progress, StartFault};
 use crate::jobs::Job;
+use crate::seen::NOTHING_SEEN;
 use rpg_machine::Output;
 use rpg_store::{FlatStore, Store};
 use rpg_verify::Verified;
@@ -90,7 +91,7 @@ fn run_on<S: Store + Drop>(
         let need = job.needs();
         let (first, others) = split_needed(need.primary, primary);
         let (second, rest) = split_needed(need.secondary, secondary);
-        let progress = job.cycle_on(first, second)?;
+        let progress = job.cycle_on(first, second, NOTHING_SEEN)?;
         primary = others;
         secondary = rest;
         cycles += 1;

@@ -1,5 +1,7 @@
 //! Records are taken in, and one is selected.
-ghost use Rattle.std.specs.Prelude.{◌≡◌, ◌+◌, ◌^◌, ◌<◌, ◌≤◌, IfOk, OnOk, Some, None, length};
+ghost use Rattle.std.specs.Prelude.{◌≡◌, ◌+◌, ◌^◌, ◌<◌, ◌≤◌, IfOk, OnOk, Some, None, length, true};
+ghost use Rattle.std.specs.List.{list_all};
+ghost use Rattle.rpg_cycle.specs.Doing.{IsSeen};
 ghost use Rattle.rpg_cycle.specs.Ends.{GoesOn};
 ghost use Rattle.rpg_cycle.specs.Indicators as lights;
 ghost use Rattle.rpg_cycle.specs.Selecting.{ComparesLevels, EndsAtRecord, EndsSelecting, EndsTakingIn, HoldsWaiting, IsUntaken, ReadsRecord, RenewsLeft, RenewsSeen, SelectsOne, SelectsRecord, SelectsWaiting, TakesIn, TakesType};
@@ -7,16 +9,19 @@ ghost use Rattle.rpg_cycle.specs.Spending.{Spends, SpendsSelecting, SpendsTaking
 ghost use Rattle.rpg_cycle.specs.Stages.{IfStops, UnlessNoMemory, job_end};
 ghost use Rattle.rpg_cycle_records.specs.Fitting.{IsFilledAs};
 ghost use Rattle.rpg_cycle_records.specs.Holding.{AreFilesKept, HoldsSelected, IsFileKept};
+ghost use Rattle.rpg_cycle_records.specs.Identifying.{is_good_record};
 ghost use Rattle.rpg_effect.specs.Weights.{types_weight};
 ghost use Rattle.rpg_machine.specs.Ready.{IsReady};
 ghost use Rattle.rpg_object_program.specs.Object.{input_length};
+ghost use Rattle.rpg_text.specs.Texts.{is_character};
 
 use crate::ends::{JobEnd, Stop};
 use crate::indicators::{LAST_RECORD, LEVELS, turn_all, turn_type_on};
 use crate::program::indicator_of;
+use crate::seen::Seen;
 use rpg_cycle_records::{
     Kept, KeptFile, LastBytes, LastValues, MatchValue, chosen, compare, control_fields, fill,
-    identify, is_good, match_fields,
+    identify, input_length, is_good, match_fields,
 };
 use rpg_effect::halt::Halt;
 use rpg_effect::input::InputFile;
@@ -55,6 +60,18 @@ fn take_type<S: Store + Drop>(
     }
 }
 
+/// Whether the program can take a record from a file. The bytes of one that was seen to have characters alone aren't tested again.
+fn can_take(program: &Verified, file: InputFile, text: &[u8], is_seen: bool) -> bool
+    requires { is_seen ≡ true → list_all is_character text.now ≡ true }
+    ensures { result ≡ is_good_record program.now file text.now }
+{
+    if is_seen {
+        text.len() <= input_length(program, file)
+    } else {
+        is_good(program, file, text)
+    }
+}
+
 /// Takes a record in: it is filled and identified, and waits unless its match value is lower than the file's last one.
 fn read<S: Store + Drop>(
     program: &Verified,
@@ -63,8 +80,10 @@ fn read<S: Store + Drop>(
     last: &MatchValue,
     file: InputFile,
     text: &[u8],
+    is_seen: bool,
 ) -> Result<(), Stop>
     requires few { machine.old.config.steps ≤ 2 ^ 50 }
+    requires seen { is_seen ≡ true → list_all is_character text.now ≡ true }
     ensures goes { IfOk result (λ _. ReadsRecord program.now file last.now (Some text.now) kept.old machine.old GoesOn kept.new machine.new) }
     ensures stops { IfStops result (λ e. EndsAtRecord program.now file last.now text.now machine.old (job_end e) machine.new) }
     ensures ready { IfOk result (λ _. IsReady machine.old → IsReady machine.new) }
@@ -73,7 +92,7 @@ fn read<S: Store + Drop>(
     ensures few { IfOk result (λ _. machine.new.config.steps ≤ machine.old.config.steps + 20009) }
     ensures kept { IfOk result (λ _. IsFileKept program.now file kept.new) }
 {
-    if !is_good(program, file, text) {
+    if !can_take(program, file, text, is_seen) {
         return Err(Stop::Ends(JobEnd::Halt(Halt::BadRecord)));
     }
     fill(&mut kept.record, program, file, text)?;
@@ -94,9 +113,11 @@ fn take_in<S: Store + Drop>(
     last: &MatchValue,
     file: InputFile,
     next: Option<&[u8]>,
+    is_seen: bool,
 ) -> Result<(), Stop>
     requires few { machine.old.config.steps ≤ 2 ^ 50 }
     requires kept { IsFileKept program.now file kept.old }
+    requires seen { IsSeen is_seen next }
     ensures goes { IfOk result (λ _. TakesIn program.now file last.now next.entry kept.old machine.old kept.new machine.new) }
     ensures stops { IfStops result (λ e. EndsTakingIn program.now file last.now next.entry kept.old machine.old (job_end e) machine.new) }
     ensures ready { IfOk result (λ _. IsReady machine.old → IsReady machine.new) }
@@ -112,7 +133,7 @@ fn take_in<S: Store + Drop>(
         kept.is_over = true;
         return Ok(());
     };
-    read(program, machine, kept, last, file, text)
+    read(program, machine, kept, last, file, text, is_seen)
 }
 
 /// The indicator of a record's type goes on; its control fields are compared with the last bytes of their levels, and kept.
@@ -211,7 +232,10 @@ pub(crate) fn select_record<S: Store + Drop>(
     kept: &mut Kept,
     primary: Option<&[u8]>,
     secondary: Option<&[u8]>,
+    seen: Seen,
 ) -> Result<Option<usize>, Stop>
+    requires primary { IsSeen seen.primary primary }
+    requires secondary { IsSeen seen.secondary secondary }
     requires ready { IsReady machine.old }
     requires few { machine.old.config.steps ≤ 2 ^ 49 }
     requires nine { length kept.old.levels.items ≡ 9 }
@@ -237,6 +261,7 @@ pub(crate) fn select_record<S: Store + Drop>(
         &last.primary,
         InputFile::Primary,
         primary,
+        seen.primary,
     )?;
     take_in(
         program,
@@ -245,6 +270,7 @@ pub(crate) fn select_record<S: Store + Drop>(
         &last.secondary,
         InputFile::Secondary,
         secondary,
+        seen.secondary,
     )?;
     let row = select_one(program, machine, kept)?;
     Ok(row)

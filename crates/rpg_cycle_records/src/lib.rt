@@ -15,5 +15,7 @@ pub use identification::{Found, identify};
 pub use kept::Kept;
 pub use levels::{LastBytes, compare};
 pub use matching::{LastValues, MatchValue};
-pub use program::{control_fields, file_of, match_fields, rows_of, type_at, types_of};
+pub use program::{
+    control_fields, file_of, input_length, match_fields, rows_of, type_at, types_of,
+};
 pub use record::{fill, is_good};

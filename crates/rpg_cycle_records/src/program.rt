@@ -75,7 +75,7 @@ pub fn file_of(program: &Verified, row: usize) -> InputFile
 }
 
 /// The columns of a file's records, 0 where there is no such file.
-pub(crate) fn input_length(program: &Verified, file: InputFile) -> usize
+pub fn input_length(program: &Verified, file: InputFile) -> usize
     ensures { result ≡ length_of program.now file }
 {
     usize::from(rows_of(program).input_length(file))

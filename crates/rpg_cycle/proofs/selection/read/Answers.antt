@@ -12,15 +12,15 @@ use Rattle.rpg_cycle_records.specs.Waiting.{InputState, input_at}
 use Rattle.rpg_machine.specs.Running.{Running, with_charge}
 use Rattle.rpg_cycle.proofs.selection.read.Goals as goal
 
-pub returns-then-not-is_good-clause-stops : goal.returns-then-not-is_good-clause-stops
-returns-then-not-is_good-clause-stops g c =
-    λ left i last. refused c.args.program.now left c.args.file c.args.text.now i c.args.machine.now (jobs.Halt halts.BadRecord) (sym c.is_good.ensures ∙ c.if-not-is_good.true) refl
+pub returns-then-not-can_take-clause-stops : goal.returns-then-not-can_take-clause-stops
+returns-then-not-can_take-clause-stops g c =
+    λ left i last. refused c.args.program.now left c.args.file c.args.text.now i c.args.machine.now (jobs.Halt halts.BadRecord) (sym c.can_take.ensures ∙ c.if-not-can_take.true) refl
 
 pub returns-in_err-row-clause-stops : goal.returns-in_err-row-clause-stops
 returns-in_err-row-clause-stops g c =
     passed_map ℕ _ c.from_residual-in_err-row.result c.in_err-row.field-0.0 _ _
     (λ e h left i last. untaken c.args.program.now left c.args.file c.args.text.now c.deref.result.now i c.args.machine.now c.take_type.new.machine e
-    (sym c.is_good.ensures ∙ c.if-not-is_good.false) (c.deref.ensures.value ∙ c.in_ok-fill.ensures.filled) h)
+    (sym c.can_take.ensures ∙ c.if-not-can_take.false) (c.deref.ensures.value ∙ c.in_ok-fill.ensures.filled) h)
     c.from_residual-in_err-row.ensures.1 c.in_err-row.ensures.stops
 
 pub returns-then-not-branch-clause-stops : goal.returns-then-not-branch-clause-stops
@@ -30,7 +30,7 @@ returns-then-not-branch-clause-stops g c =
     let full = c.fill.new.room.items in
     let one = subst (λ (x : List ℕ). TakesType p c.args.file x c.args.machine.now t c.take_type.new.machine) c.deref.ensures.value c.in_ok-row.ensures.goes in
     λ left i last.
-    too_low p left c.args.file c.args.text.now full i t c.args.machine.now c.take_type.new.machine c.charge.new.self (jobs.Halt halts.OutOfSequence) (sym c.is_good.ensures ∙ c.if-not-is_good.false)
+    too_low p left c.args.file c.args.text.now full i t c.args.machine.now c.take_type.new.machine c.charge.new.self (jobs.Halt halts.OutOfSequence) (sym c.can_take.ensures ∙ c.if-not-can_take.false)
     c.in_ok-fill.ensures.filled one (fields_inside p c.args.file t full c.match_fields.result.now c.match_fields.ensures.inside c.match_fields.ensures.value c.in_ok-fill.ensures.whole one.own)
     (c.charge.ensures.charged ∙ ap (λ (fs : List ControlField). with_charge (length fs) c.take_type.new.machine) c.match_fields.ensures.value)
     (low_so _ (seen_value c.args.last.now) (match_value p (record { type = t; text = full })) c.in_ok-wait.field-0 false last c.in_ok-wait.ensures.waits c.if-not-branch.true) refl
@@ -47,7 +47,7 @@ returns-clause-goes g c =
     let full = c.fill.new.room.items in
     let one = subst (λ (x : List ℕ). TakesType p c.args.file x c.args.machine.now t c.take_type.new.machine) c.deref.ensures.value c.in_ok-row.ensures.goes in
     λ left i last at.
-    waits p left c.args.file c.args.text.now full i (input_state_of c.wait.new.self) t c.args.machine.now c.take_type.new.machine c.charge.new.self (sym c.is_good.ensures ∙ c.if-not-is_good.false)
+    waits p left c.args.file c.args.text.now full i (input_state_of c.wait.new.self) t c.args.machine.now c.take_type.new.machine c.charge.new.self (sym c.can_take.ensures ∙ c.if-not-can_take.false)
     c.in_ok-fill.ensures.filled one (fields_inside p c.args.file t full c.match_fields.result.now c.match_fields.ensures.inside c.match_fields.ensures.value c.in_ok-fill.ensures.whole one.own)
     (c.charge.ensures.charged ∙ ap (λ (fs : List ControlField). with_charge (length fs) c.take_type.new.machine) c.match_fields.ensures.value)
     (low_so _ (seen_value c.args.last.now) (match_value p (record { type = t; text = full })) c.in_ok-wait.field-0 true last c.in_ok-wait.ensures.waits c.if-not-branch.false)

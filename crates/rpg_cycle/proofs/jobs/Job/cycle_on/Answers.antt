@@ -19,7 +19,7 @@ returns-in-Ok-clause-done g c =
     let p = i.program.now in
     let x = next_text c.args.primary in
     let y = next_text c.args.secondary in
-    let going = ap (λ (r : of.AtWork). is_going r.stage) c.self.view_is ∙ c.requires in
+    let going = ap (λ (r : of.AtWork). is_going r.stage) c.self.view_is ∙ c.requires.going in
     let behind = c.self.invariant.behind going in
     let same = c.self.invariant.program going in
     let t = c.in-Ok.selected in
@@ -45,7 +45,7 @@ returns-in_ok-finish-in-Err-Ends-clause-done g c =
     let x = next_text c.args.primary in
     let y = next_text c.args.secondary in
     let e = c.in-Err-Ends.end in
-    let going = ap (λ (r : of.AtWork). is_going r.stage) c.self.view_is ∙ c.requires in
+    let going = ap (λ (r : of.AtWork). is_going r.stage) c.self.view_is ∙ c.requires.going in
     let behind = c.self.invariant.behind going in
     let same = c.self.invariant.program going in
     let kept = c.run_cycle.new.kept in
@@ -66,7 +66,7 @@ invariant_of-self g c =
     let p = i.program.now in
     let x = next_text c.args.primary in
     let y = next_text c.args.secondary in
-    let going = ap (λ (r : of.AtWork). is_going r.stage) c.self.view_is ∙ c.requires in
+    let going = ap (λ (r : of.AtWork). is_going r.stage) c.self.view_is ∙ c.requires.going in
     let behind = c.self.invariant.behind going in
     let same = c.self.invariant.program going in
     let t = c.in-Ok.selected in
@@ -88,5 +88,5 @@ invariant_of-self g c =
 
 pub run_cycle-requires-clause-kept : goal.run_cycle-requires-clause-kept
 run_cycle-requires-clause-kept g c =
-    let going = ap (λ (r : of.AtWork). is_going r.stage) c.self.view_is ∙ c.requires in
+    let going = ap (λ (r : of.AtWork). is_going r.stage) c.self.view_is ∙ c.requires.going in
     subst (λ (o : Object). AreFilesKept o c.self.inside.kept) (sym (c.self.invariant.program going)) (c.self.invariant.files going)
