@@ -5,6 +5,7 @@ pub mod Flushing
 pub mod Headline
 pub mod Passing
 pub mod Refusing
+pub mod Seen
 pub mod Stopping
 pub mod Streams
 pub mod Taking

@@ -1,7 +1,8 @@
 //! The next cycle of a job, with what stands next in its files.
 
-ghost use Rattle.std.specs.Prelude.{◌≡◌, ◌-◌, ◌^◌, ◌<◌, ◌≤◌, IfErr, IfOk, OnOk, true};
+ghost use Rattle.std.specs.Prelude.{◌≡◌, ◌-◌, ◌^◌, ◌<◌, ◌≤◌, IfErr, IfOk, Ok, OnOk, true};
 ghost use Rattle.std.specs.Option.{option_map};
+ghost use Rattle.rpg_cycle.specs.Doing.{IsSeen};
 ghost use Rattle.rpg_cycle.specs.Job.{Cycles};
 ghost use Rattle.rpg_cycle.specs.Stages.{is_going};
 ghost use Rattle.rpg_effect.specs.declared.input.InputFile.TheVariants as files;
@@ -11,7 +12,7 @@ ghost use Rattle.rpg_verify.specs.Bound.{bound};
 ghost use Rattle.rpg_engine.specs.Streaming.{Asks, IsBehindRecord, TakesCycle, TakesNone, ended_stage, record_with};
 
 use crate::fault::RunFault;
-use rpg_cycle::{CycleEnd, Job, JobEnd};
+use rpg_cycle::{CycleEnd, Job, JobEnd, Seen};
 use rpg_files::{Next, ReadFault, RecordReader};
 use rpg_store::Store;
 use std::io::Read;
@@ -24,14 +25,17 @@ fn cycle_with<S: Store + Drop>(
     job: &mut Job<'_, S>,
     primary: Option<&[u8]>,
     secondary: Option<&[u8]>,
+    seen: Seen,
 ) -> Result<Option<JobEnd>, RunFault>
-    requires { is_going job.old.stage ≡ true }
+    requires primary { IsSeen seen.primary primary }
+    requires secondary { IsSeen seen.secondary secondary }
+    requires going { is_going job.old.stage ≡ true }
     ensures cycle { IfOk result (λ _. Cycles job.old (option_map (λ t. t.now) primary.entry) (option_map (λ t. t.now) secondary.entry) job.new) }
     ensures told { IfOk result (λ e. job.new.stage ≡ ended_stage e) }
     ensures bound { OnOk result (job.new.config.steps ≤ bound job.new.program) }
     ensures memory { IfErr result (λ e. e ≡ RunFault.NoMemory) }
 {
-    match job.cycle(primary, secondary)? {
+    match job.cycle_with_seen(primary, secondary, seen)? {
         CycleEnd::GoesOn => Ok(None),
         CycleEnd::EndOfJob => Ok(Some(JobEnd::EndOfJob)),
         CycleEnd::Halt(halt) => Ok(Some(JobEnd::Halt(halt))),
@@ -64,6 +68,13 @@ fn record_for<'a, R>(records: &'a RecordReader<'_, R>, next: Next) -> Option<&'a
     }
 }
 
+/// Whether a reader has given a record: then it has seen that this has characters alone.
+fn is_given(next: Next) -> bool
+    ensures { result ≡ is_record (Ok next) }
+{
+    matches!(next, Next::Record)
+}
+
 /// Does the next cycle, and answers how the job ended, if it did. A record is read of each file that the cycle needs one from, of the
 /// primary's reader first.
 pub(crate) fn next_cycle<S: Store + Drop, R1: Read, R2: Read>(
@@ -89,9 +100,14 @@ pub(crate) fn next_cycle<S: Store + Drop, R1: Read, R2: Read>(
     let need = job.needs();
     let first = ask(primary, need.primary)?;
     let second = ask(secondary, need.secondary)?;
+    let seen = Seen {
+        primary: is_given(first),
+        secondary: is_given(second),
+    };
     cycle_with(
         job,
         record_for(primary, first),
         record_for(secondary, second),
+        seen,
     )
 }

@@ -1,10 +1,10 @@
 use Rattle.rpg_engine.proofs.cycle.cycle_with.Goals as goal
 
 pub returns-in-GoesOn-clause-cycle : goal.returns-in-GoesOn-clause-cycle
-returns-in-GoesOn-clause-cycle g c = c.in_ok-cycle.ensures.going c.requires
+returns-in-GoesOn-clause-cycle g c = c.in_ok-cycle_with_seen.ensures.going c.requires.going
 
 pub returns-in-EndOfJob-clause-cycle : goal.returns-in-EndOfJob-clause-cycle
-returns-in-EndOfJob-clause-cycle g c = c.in_ok-cycle.ensures.going c.requires
+returns-in-EndOfJob-clause-cycle g c = c.in_ok-cycle_with_seen.ensures.going c.requires.going
 
 pub returns-in-Halt-clause-cycle : goal.returns-in-Halt-clause-cycle
-returns-in-Halt-clause-cycle g c = c.in_ok-cycle.ensures.going c.requires
+returns-in-Halt-clause-cycle g c = c.in_ok-cycle_with_seen.ensures.going c.requires.going
