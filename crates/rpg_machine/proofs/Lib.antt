@@ -3,6 +3,7 @@ pub mod ByNumber
 pub mod Doing
 pub mod Effects
 pub mod Filling
+pub mod FirstEntries
 pub mod Firsts
 pub mod FixedSteps
 pub mod FoundActions

@@ -5,6 +5,7 @@ pub mod Chain
 pub mod Codes
 pub mod Config
 pub mod Control
+pub mod FixedInputs
 pub mod Fixing
 pub mod Inputs
 pub mod Laws

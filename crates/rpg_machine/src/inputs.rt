@@ -4,20 +4,20 @@ ghost use Rattle.rpg_effect.specs.Ends.{end_of};
 ghost use Rattle.rpg_effect.specs.Forms.{length_of};
 ghost use Rattle.rpg_effect.specs.Input as of;
 ghost use Rattle.rpg_effect.specs.declared.form.Kind.TheVariants as kinds;
+ghost use Rattle.rpg_machine.specs.FixedInputs.{AreFixedInputs, IsFixedInput};
 ghost use Rattle.rpg_machine.specs.Inputs.{filled_field, order_of_text};
 ghost use Rattle.rpg_machine_operations.specs.Words.{DidEffect};
 ghost use Rattle.rpg_object_program.specs.Kept.{IsCharacter};
+ghost use Rattle.rpg_store.specs.Contents.{IsEntryAt};
 ghost use Rattle.rpg_store.specs.Fields.{IsValue};
 ghost use Rattle.rpg_store.specs.Memory.{forms_in};
 
+use crate::fixed_inputs::FixedInput;
 use rpg_decimal::read_zoned;
 use rpg_effect::form::Kind;
 use rpg_effect::halt::Halt;
 use rpg_effect::input::InputField;
-use rpg_effect::operation::{Entry, Index};
 use rpg_effect::outcome::End;
-use rpg_machine_operations::arithmetic::store;
-use rpg_object_program::forms;
 use rpg_store::memory::Memory;
 use rpg_store::store::Store;
 use rpg_text::is_blank;
@@ -50,21 +50,19 @@ fn order_of_text(text: &[u8]) -> Option<Ordering>
 fn fill_number<S: Store + Drop>(
     memory: &mut Memory<'_, S>,
     input: InputField<u16>,
+    place: usize,
     digits: &[u8],
 ) -> End
     requires field { IsValue memory.old.program.fields kinds.Number input.field 1 }
+    requires place { IsEntryAt memory.old.program.fields place (input.field, 1) }
     requires long { length digits.now ≡ length_of (forms_in memory.old input.field) }
     ensures { DidEffect (filled_field kinds.Number input digits.now memory.old.world) memory.old (end_of result) memory.new }
 {
     memory.is_kept();
     match read_zoned(digits) {
         Ok(n) => {
-            let to = Entry {
-                field: input.field,
-                index: Index::Blank,
-                position: 1,
-            };
-            store(memory, to, input.shows, n);
+            memory.set_number_in(place, input.field, 1, n);
+            memory.show(input.shows, n.cmp(&0));
             End::GoesOn
         }
         Err(_) => End::Halt(Halt::BadDigit),
@@ -87,16 +85,22 @@ fn fill_text<S: Store + Drop>(
     End::GoesOn
 }
 
-/// Fills one field.
-fn fill_one<S: Store + Drop>(memory: &mut Memory<'_, S>, text: &[u8], input: InputField<u16>) -> End
+/// Fills one field, by what was found of it.
+fn fill_one<S: Store + Drop>(
+    memory: &mut Memory<'_, S>,
+    text: &[u8],
+    input: InputField<u16>,
+    fixed: FixedInput,
+) -> End
     requires right { of.input_fault (forms_in memory.old) (length text.now) input ≡ None }
     requires characters { All IsCharacter text.now }
+    requires fixed { IsFixedInput memory.old.program.fields input fixed }
     ensures { DidEffect (of.field_in (forms_in memory.old) text.now input memory.old.world) memory.old (end_of result) memory.new }
 {
     memory.is_kept();
     let part = columns_of(text, input);
-    match forms::kind_of(forms::form_at(memory.rows(), input.field)) {
-        Kind::Number => fill_number(memory, input, part),
+    match fixed.kind {
+        Kind::Number => fill_number(memory, input, fixed.place, part),
         Kind::Text => fill_text(memory, input, part),
     }
 }
@@ -107,13 +111,15 @@ pub(crate) fn fill_all<S: Store + Drop>(
     memory: &mut Memory<'_, S>,
     text: &[u8],
     inputs: &[InputField<u16>],
+    fixed: &[FixedInput],
 ) -> End
     requires right { All (λ f. of.input_fault (forms_in memory.old) (length text.now) f ≡ None) inputs.now }
     requires characters { All IsCharacter text.now }
+    requires fixed { AreFixedInputs memory.old.program.fields inputs.now fixed.now }
     ensures { DidEffect (of.record_in (forms_in memory.old) text.now inputs.now memory.old.world) memory.old (end_of result) memory.new }
 {
-    'fields: for input in inputs {
-        match fill_one(memory, text, *input) {
+    'fields: for i in 0..inputs.len() {
+        match fill_one(memory, text, inputs[i], fixed[i]) {
             End::GoesOn => {}
             End::Halt(halt) => return End::Halt(halt),
         }

@@ -5,6 +5,7 @@ mod accepted;
 mod actions;
 mod cells;
 pub mod control;
+mod fixed_inputs;
 mod inputs;
 pub mod laws;
 mod machine;

@@ -170,8 +170,9 @@ impl<'a, S: Store + Drop> Machine<'a, S> {
     {
         let rows = self.program.rows();
         let inputs = &rows.types[row].inputs;
+        let fixed = self.program.inputs_of(row);
         self.state.steps += inputs.len() as u64;
-        let end = fill_all(&mut self.state.memory, text, inputs);
+        let end = fill_all(&mut self.state.memory, text, inputs, fixed);
         end
     }
 

@@ -8,5 +8,5 @@ invariant-fields g l =
     let forms = forms_in l.fn.memory in
     record {
       rest : l.memory ≡ record l.fn.memory { world = l.memory.world };
-      onward : record_in forms l.text (drop l.input-index l.inputs) l.memory.world ≡ record_in forms l.text l.inputs l.fn.memory.world;
+      onward : record_in forms l.text (drop l.i l.inputs) l.memory.world ≡ record_in forms l.text l.inputs l.fn.memory.world;
     }

@@ -1,8 +1,6 @@
-use Rattle.std.proofs.Common.{◌∙◌, ap, sym, length}
-use Rattle.rpg_effect.specs.Forms.{form_at, kind_of}
+use Rattle.std.proofs.Common.{◌∙◌, sym, length}
 use Rattle.rpg_effect.specs.declared.form.Kind.TheVariants as kinds
 use Rattle.rpg_machine.proofs.Filling.{field_filled, fits_field, long_there, value_there}
-use Rattle.rpg_object_program.specs.Object.{Object}
 use Rattle.rpg_machine.proofs.inputs.fill_one.Goals as goal
 
 pub columns_of-part-requires-clause-low : goal.columns_of-part-requires-clause-low
@@ -18,7 +16,7 @@ pub fill_number-requires-clause-field : goal.fill_number-requires-clause-field
 fill_number-requires-clause-field g c =
     let forms = c.args.memory.now.program.fields in
     value_there forms (length c.args.text.now) c.args.input kinds.Number c.is_kept.ensures.good (fits_field forms (length c.args.text.now) c.args.input c.requires.right)
-    (sym c.in-Number.is ∙ c.kind_of.ensures ∙ ap kind_of (c.form_at.ensures ∙ ap (λ (p : Object). form_at p.fields c.args.input.field) c.rows.ensures.same))
+    (sym c.in-Number.is ∙ c.requires.fixed.kind)
 
 pub fill_number-requires-clause-long : goal.fill_number-requires-clause-long
 fill_number-requires-clause-long g c =
@@ -29,7 +27,7 @@ pub fill_text-requires-clause-field : goal.fill_text-requires-clause-field
 fill_text-requires-clause-field g c =
     let forms = c.args.memory.now.program.fields in
     value_there forms (length c.args.text.now) c.args.input kinds.Text c.is_kept.ensures.good (fits_field forms (length c.args.text.now) c.args.input c.requires.right)
-    (sym c.in-Text.is ∙ c.kind_of.ensures ∙ ap kind_of (c.form_at.ensures ∙ ap (λ (p : Object). form_at p.fields c.args.input.field) c.rows.ensures.same))
+    (sym c.in-Text.is ∙ c.requires.fixed.kind)
 
 pub fill_text-requires-clause-long : goal.fill_text-requires-clause-long
 fill_text-requires-clause-long g c =
@@ -40,7 +38,7 @@ pub returns-in-Number : goal.returns-in-Number
 returns-in-Number g c = record {
   leaves = c.fill_number.ensures.leaves
       ∙ field_filled c.args.memory.now.program.fields c.args.text.now c.columns_of-part.result.now c.args.input kinds.Number c.args.memory.now.world c.requires.right
-      (sym c.in-Number.is ∙ c.kind_of.ensures ∙ ap kind_of (c.form_at.ensures ∙ ap (λ (p : Object). form_at p.fields c.args.input.field) c.rows.ensures.same)) c.columns_of-part.ensures.value;
+      (sym c.in-Number.is ∙ c.requires.fixed.kind) c.columns_of-part.ensures.value;
   right = c.fill_number.ensures.right;
   rest = c.fill_number.ensures.rest;
 }
@@ -49,7 +47,7 @@ pub returns-in-Text : goal.returns-in-Text
 returns-in-Text g c = record {
   leaves = c.fill_text.ensures.leaves
       ∙ field_filled c.args.memory.now.program.fields c.args.text.now c.columns_of-part.result.now c.args.input kinds.Text c.args.memory.now.world c.requires.right
-      (sym c.in-Text.is ∙ c.kind_of.ensures ∙ ap kind_of (c.form_at.ensures ∙ ap (λ (p : Object). form_at p.fields c.args.input.field) c.rows.ensures.same)) c.columns_of-part.ensures.value;
+      (sym c.in-Text.is ∙ c.requires.fixed.kind) c.columns_of-part.ensures.value;
   right = c.fill_text.ensures.right;
   rest = c.fill_text.ensures.rest;
 }
