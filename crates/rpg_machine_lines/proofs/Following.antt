@@ -1,9 +1,9 @@
 -- An effect that was done, and what follows where it goes on.
-use Rattle.std.proofs.Common.{◌≡◌, ap, subst, nat_cmp}
+use Rattle.std.proofs.Common.{◌≡◌, refl, ap, subst, nat_cmp}
 use Rattle.std.specs.Prelude.{Result, Ok, Err, IfOk}
 use Rattle.rpg_effect.proofs.Putting.{halts_done, then_done}
-use Rattle.rpg_effect.specs.Effect.{Effect, then_go}
-use Rattle.rpg_effect.specs.Ends.{End, Halt, end_of}
+use Rattle.rpg_effect.specs.Effect.{Effect, after_output, go_on, then_go}
+use Rattle.rpg_effect.specs.Ends.{End, GoesOn, Halt, Wrong, end_of}
 use Rattle.rpg_effect.specs.Put.{Bytes, Held, IsDone}
 use Rattle.rpg_effect.specs.World.{World}
 use Rattle.rpg_effect.specs.declared.outcome.End as rust
@@ -19,6 +19,15 @@ module _ (first next : World nat_cmp → Effect nat_cmp) (w v : Held) (q o : Byt
   -- it halted
   pub halted : (k : halts.Halt) → r ≡ answers.Halt k → IsDone (λ x. then_go (first x) next) w q (Halt (halt_number k)) v o
   halted k halts = halts_done first next w v q o (halt_number k) (subst (λ (x : End). IsDone first w q x v o) (ap end_of halts) done)
+
+-- what follows is the same, whatever world it is from
+pub goes_same : (first : Effect nat_cmp) (next other : World nat_cmp → Effect nat_cmp) → ((v : World nat_cmp) → next v ≡ other v) → then_go first next ≡ then_go first other
+goes_same first next other h = by first.ending
+  where
+    by : (e : End) → go_on e first next ≡ go_on e first other
+    by GoesOn = ap (after_output first) (h first.world)
+    by (Halt k) = refl
+    by (Wrong f) = refl
 
 -- what follows from each value
 pub ok_each : {T E : Type 0} (r : Result T E) (P Q : T → Type 0) → ((t : T) → P t → Q t) → IfOk r P → IfOk r Q

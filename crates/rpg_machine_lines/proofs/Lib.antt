@@ -9,6 +9,7 @@ pub mod Moving
 pub mod OneLine
 pub mod Operands
 pub mod Pairs
+pub mod PassLines
 pub mod Passages
 pub mod Planned
 pub mod Weighing

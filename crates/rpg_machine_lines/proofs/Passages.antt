@@ -1,5 +1,5 @@
 -- Lines that no alternative asks for at a passage.
-use Rattle.std.proofs.Common.{◌≡◌, ℕ, Bool, true, false, ◌&&◌, ◌||◌, cond, List, [], ◌∷◌, Option, refl, sym, ◌∙◌, nat_cmp}
+use Rattle.std.proofs.Common.{◌≡◌, ℕ, Bool, true, false, ◌&&◌, ◌||◌, cond, List, [], ◌∷◌, Option, refl, nat_cmp}
 use Rattle.std.specs.FinSet as sets
 use Rattle.rpg_effect.specs.Lines.{is_asked, is_pass, names_overflow, pass_of}
 use Rattle.rpg_effect.specs.World.{all_hold}
@@ -8,8 +8,7 @@ use Rattle.rpg_effect.specs.declared.line.Pass.{Pass}
 use Rattle.rpg_effect.specs.declared.line.Pass.TheVariants as passes
 use Rattle.rpg_effect.specs.declared.line.Time.{Time}
 use Rattle.rpg_effect.specs.declared.line.Time.TheVariants as times
-use Rattle.rpg_machine_lines.specs.Passages.{ArePassesOf, counts_at, has_pass, may_count}
-use Rattle.rpg_machine_lines.specs.declared.pass.Passes.{Passes}
+use Rattle.rpg_machine_lines.specs.Passages.{counts_at, may_count}
 
 -- neither of two passages
 neither : (b : Bool) (p q r : Pass) → (is_pass p r ≡ false) × (is_pass q r ≡ false) → is_pass (cond b p q) r ≡ false
@@ -68,15 +67,3 @@ none_counts overflow pass on time [] h = refl
 none_counts overflow pass on time (cs ∷ rest) h =
     any_fewer (is_pass (pass_of overflow time cs) pass) (all_hold on cs) (counts_at overflow time rest pass) (is_asked overflow pass on time rest) h
     (none_counts overflow pass on time rest)
-
-module _ (overflow : Option ℕ) (time : Time) (alternatives : List (List Condition)) (ps : Passes) (are : ArePassesOf overflow time alternatives ps) where
-  counted : (pass : Pass) → has_pass ps pass ≡ counts_at overflow time alternatives pass
-  counted passes.Detail = are.detail
-  counted passes.Total = are.total
-  counted passes.OverflowTotal = are.overflow_total
-  counted passes.OverflowDetail = are.overflow_detail
-  counted passes.Exception = are.exception
-
-  -- a line is asked for at none but the passages that were found
-  pub elsewhere_unasked : (pass : Pass) (on : sets.FinSet nat_cmp) → has_pass ps pass ≡ false → is_asked overflow pass on time alternatives ≡ false
-  elsewhere_unasked pass on h = none_counts overflow pass on time alternatives (sym (counted pass) ∙ h)

@@ -80,7 +80,7 @@ fixed_laid w text out es more f e i right laid kept =
 -- as much was found as there are lines
 pub plans_many : (p : Object) (plan : Plan) (ls : List rows.Line) → IsPlanOf p plan → p.lines ≡ map line_row ls → length plan.lines.items ≡ length ls
 plans_many p plan ls h same =
-    AllZip-long (IsPlannedLine p) p.lines plan.lines.items h
+    AllZip-long (IsPlannedLine p) p.lines plan.lines.items h.lines
     ∙ ap (λ (xs : List LineRow). length xs) same ∙ length-map ls line_row
 
 -- what was found of a line of a program
@@ -92,7 +92,7 @@ plan_at p plan ls i l found h same low is finds =
     let at : get_or p.lines i (line_row l) ≡ line_row l =
     ap (λ (xs : List LineRow). get_or xs i (line_row l)) same ∙ get_or-map line_row ls i l (line_row l) low ∙ ap line_row (sym is) in
     subst (λ (x : LineRow). IsPlannedLine p x found) at (subst (λ (y : LinePlan). IsPlannedLine p (get_or p.lines i (line_row l)) y) (sym finds)
-    (pair_at (IsPlannedLine p) p.lines plan.lines.items i (line_row l) found h inside_own))
+    (pair_at (IsPlannedLine p) p.lines plan.lines.items i (line_row l) found h.lines inside_own))
 
 -- what was found of a field of a line, over a memory that differs in its fields alone
 pub planned_field : (m w : Working) (fields : List (LineField ℕ)) (plan : List (Option FixedEntry)) (i : ℕ) (d : LineField ℕ) (e : Option FixedEntry) →

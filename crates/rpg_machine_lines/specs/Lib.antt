@@ -1,6 +1,7 @@
 pub mod Drafts
 pub mod Entries
 pub mod Outputs
+pub mod PassLines
 pub mod Passages
 pub mod Plans
 pub mod Ready

@@ -7,6 +7,7 @@ mod field;
 mod line;
 pub mod outputs;
 mod pass;
+mod pass_lines;
 mod passage;
 mod plan;
 mod printer;

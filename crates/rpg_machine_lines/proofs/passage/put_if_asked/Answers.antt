@@ -6,20 +6,10 @@ use Rattle.rpg_effect.specs.Lines.{is_asked}
 use Rattle.rpg_effect.specs.declared.condition.Condition.{Condition}
 use Rattle.rpg_machine_lines.proofs.AllLines.{asked, unasked}
 use Rattle.rpg_machine_lines.proofs.Following.{ok_each}
-use Rattle.rpg_machine_lines.proofs.Passages.{elsewhere_unasked}
 use Rattle.rpg_machine_lines.specs.Outputs.{output_of}
-use Rattle.rpg_object_program.specs.Object.{Object, line_row}
+use Rattle.rpg_object_program.specs.Object.{Object}
 use Rattle.rpg_store.specs.Memory.{held_of}
 use Rattle.rpg_machine_lines.proofs.passage.put_if_asked.Goals as goal
-
-pub returns-then-not-has-clause-done : goal.returns-then-not-has-clause-done
-returns-then-not-has-clause-done g c =
-    let m = c.args.memory.now in
-    let l = c.args.line.now in
-    let found = c.args.plan.now in
-    let misses = elsewhere_unasked m.program.overflow l.time (line_row l).alternatives found.passes c.requires.planned.passes c.args.pass m.world.on
-    (sym c.has.ensures ∙ c.if-not-has.true) in
-    unasked m.program c.args.pass l (held_of m) (output_of c.args.output.now) misses
 
 pub returns-then-is_asked-clause-done : goal.returns-then-is_asked-clause-done
 returns-then-is_asked-clause-done g c =

@@ -3,6 +3,7 @@ use Rattle.rpg_effect.specs.Ends.{End}
 use Rattle.rpg_effect.specs.Put.{Bytes, Held, IsDone}
 use Rattle.rpg_machine_lines.proofs.AllLines.{rest}
 use Rattle.rpg_machine_lines.specs.Outputs.{output_of}
+use Rattle.rpg_machine_lines.specs.PassLines.{pass_lines}
 use Rattle.rpg_machine_lines.specs.Ready.{IsNear}
 use Rattle.rpg_store.specs.Memory.{held_of}
 use Rattle.rpg_machine_lines.proofs.passage.put_lines.Given as goal
@@ -12,6 +13,6 @@ invariant-lines g l = record {
   near : IsNear l.memory.world.here;
   program : l.memory.program ≡ l.fn.memory.program;
   onward : (e : End) (v : Held) (o : Bytes) →
-      IsDone (rest l.fn.memory.program l.pass (drop l.i l.rows.lines.items)) (held_of l.memory) (output_of l.output) e v o →
-      IsDone (rest l.fn.memory.program l.pass l.rows.lines.items) (held_of l.fn.memory) (output_of l.fn.output) e v o;
+      IsDone (rest l.fn.memory.program l.pass (drop l.number-index (pass_lines l.fn.memory.program l.pass))) (held_of l.memory) (output_of l.output) e v o →
+      IsDone (rest l.fn.memory.program l.pass (pass_lines l.fn.memory.program l.pass)) (held_of l.fn.memory) (output_of l.fn.output) e v o;
 }
