@@ -154,11 +154,14 @@ pub fn assemble<S: Store + Drop>(
     ensures rest { memory.new ≡ fields_replaced memory.new.world.fields memory.old }
     ensures entries { AreFieldEntries memory.old.program.fields to_blank.new.items }
 {
-    'fields: for i in 0..fields.len() {
-        match with_planned_field(memory, text, to_blank, &fields[i], plan[i]) {
+    let (mut left, mut found) = (fields, plan);
+    'fields: while let Some((field, behind)) = left.split_first() {
+        match with_planned_field(memory, text, to_blank, field, found[0]) {
             End::GoesOn => {}
             End::Halt(halt) => return End::Halt(halt),
         }
+        left = behind;
+        found = &found[1..];
     }
     End::GoesOn
 }
