@@ -11,5 +11,7 @@ pub mod Operands
 pub mod Pairs
 pub mod Passages
 pub mod Planned
+pub mod Reaching
+pub mod Trimming
 pub mod Weighing
 pub mod Weightless

@@ -1,12 +1,12 @@
 //! A line is assembled: the fields whose conditions hold are laid over blanks, in order.
-ghost use Rattle.std.specs.Prelude.{◌≡◌, ◌≤◌, ◌<◌, ◌+◌, length, None};
+ghost use Rattle.std.specs.Prelude.{◌≡◌, ◌≤◌, ◌<◌, ◌+◌, length, drop, None};
 ghost use Rattle.arrayvec.specs.ArrayVec.{array_vec_len};
 ghost use Rattle.rpg_effect.specs.Ends.{GoesOn, end_of};
 ghost use Rattle.rpg_effect.specs.LineFaults as faults;
 ghost use Rattle.rpg_effect.specs.Lines as lines;
 ghost use Rattle.rpg_machine_lines.specs.Drafts.{assembled_in, drafted_in, fields_replaced, with_field_in};
 ghost use Rattle.rpg_machine_lines.specs.Entries.{AreFieldEntries, IsFieldEntry};
-ghost use Rattle.rpg_machine_lines.specs.Plans.{IsFieldPlan, IsFixedField, IsLinePlan};
+ghost use Rattle.rpg_machine_lines.specs.Plans.{IsFieldPlan, IsFixedField, IsLinePlan, reach_of};
 ghost use Rattle.rpg_object_program.specs.Constants.{word_at};
 ghost use Rattle.rpg_store.specs.Memory.{forms_in};
 
@@ -153,6 +153,7 @@ pub fn assemble<S: Store + Drop>(
     ensures drafted { drafted_in (end_of result) memory.new text.new to_blank.new.items ≡ assembled_in memory.old text.old to_blank.old.items fields.now }
     ensures rest { memory.new ≡ fields_replaced memory.new.world.fields memory.old }
     ensures entries { AreFieldEntries memory.old.program.fields to_blank.new.items }
+    ensures behind { drop (reach_of fields.now) text.new ≡ drop (reach_of fields.now) text.old }
 {
     let (mut left, mut found) = (fields, plan);
     'fields: while let Some((field, behind)) = left.split_first() {

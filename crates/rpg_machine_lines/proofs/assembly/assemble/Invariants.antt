@@ -1,8 +1,9 @@
-use Rattle.std.proofs.Common.{◌≡◌, ◌≤◌, ◌+◌, length}
+use Rattle.std.proofs.Common.{◌≡◌, ◌≤◌, ◌+◌, length, drop}
 use Rattle.rpg_effect.specs.LineFaults.{AreRight}
+use Rattle.rpg_machine_lines.proofs.Reaching.{EndWithin}
 use Rattle.rpg_machine_lines.specs.Drafts.{draft_in, fields_drafted, fields_replaced}
 use Rattle.rpg_machine_lines.specs.Entries.{AreFieldEntries}
-use Rattle.rpg_machine_lines.specs.Plans.{IsLinePlan}
+use Rattle.rpg_machine_lines.specs.Plans.{IsLinePlan, reach_of}
 use Rattle.rpg_object_program.specs.Constants.{word_at}
 use Rattle.rpg_store.specs.Memory.{forms_in}
 use Rattle.rpg_machine_lines.proofs.assembly.assemble.Given as goal
@@ -15,6 +16,8 @@ invariant-fields g l = record {
   right : AreRight (forms_in l.fn.memory) (word_at l.fn.memory.program) (length l.fn.text) l.left;
   planned : IsLinePlan l.fn.memory.program.fields l.left l.found;
   room : length l.to_blank.items + length l.left ≤ 200;
+  ends : EndWithin (reach_of l.fields) l.left;
+  behind : drop (reach_of l.fields) l.text ≡ drop (reach_of l.fields) l.fn.text;
   onward : fields_drafted l.fn.memory (length l.fn.text) l.left (draft_in l.memory l.text l.to_blank.items)
       ≡ fields_drafted l.fn.memory (length l.fn.text) l.fields (draft_in l.fn.memory l.fn.text l.fn.to_blank.items);
 }
