@@ -12,5 +12,7 @@ pub mod Pairs
 pub mod PassLines
 pub mod Passages
 pub mod Planned
+pub mod Reaching
+pub mod Trimming
 pub mod Weighing
 pub mod Weightless

@@ -18,9 +18,9 @@ use Rattle.rpg_effect.specs.declared.line.LineField.{LineField}
 use Rattle.rpg_effect.specs.declared.operation.Entry.{Entry}
 use Rattle.rpg_machine_lines.proofs.Operands.{AreFit, entry_named}
 use Rattle.rpg_machine_lines.proofs.Pairs.{pair_at}
-use Rattle.rpg_machine_lines.specs.Drafts.{drafted_in, field_text_in, fields_replaced, with_field_in}
+use Rattle.rpg_machine_lines.specs.Drafts.{drafted_in, field_text_in, with_field_in}
 use Rattle.rpg_machine_lines.specs.Entries.{IsFieldEntry}
-use Rattle.rpg_machine_lines.specs.Plans.{IsFieldPlan, IsFixedField, IsLinePlan, IsPlanOf, IsPlannedLine}
+use Rattle.rpg_machine_lines.specs.Plans.{IsFixedField, IsPlanOf, IsPlannedLine}
 use Rattle.rpg_machine_lines.specs.declared.plan.LinePlan.{LinePlan}
 use Rattle.rpg_machine_lines.specs.declared.plan.Plan.{Plan}
 use Rattle.rpg_object_program.specs.Constants.{word_at}
@@ -93,11 +93,3 @@ plan_at p plan ls i l found h same low is finds =
     ap (λ (xs : List LineRow). get_or xs i (line_row l)) same ∙ get_or-map line_row ls i l (line_row l) low ∙ ap line_row (sym is) in
     subst (λ (x : LineRow). IsPlannedLine p x found) at (subst (λ (y : LinePlan). IsPlannedLine p (get_or p.lines i (line_row l)) y) (sym finds)
     (pair_at (IsPlannedLine p) p.lines plan.lines.items i (line_row l) found h.lines inside_own))
-
--- what was found of a field of a line, over a memory that differs in its fields alone
-pub planned_field : (m w : Working) (fields : List (LineField ℕ)) (plan : List (Option FixedEntry)) (i : ℕ) (d : LineField ℕ) (e : Option FixedEntry) →
-    w ≡ fields_replaced w.world.fields m → IsLinePlan m.program.fields fields plan → i < length fields →
-    IsFieldPlan w.program.fields (get_or fields i d) (get_or plan i e)
-planned_field m w fields plan i d e same h low =
-    subst (λ (p : Object). IsFieldPlan p.fields (get_or fields i d) (get_or plan i e)) (ap (λ (x : Working). x.program) (sym same))
-    (pair_at (IsFieldPlan m.program.fields) fields plan i d e h low)

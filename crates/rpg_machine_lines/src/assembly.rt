@@ -1,12 +1,12 @@
 //! A line is assembled: the fields whose conditions hold are laid over blanks, in order.
-ghost use Rattle.std.specs.Prelude.{◌≡◌, ◌≤◌, ◌<◌, ◌+◌, length, None};
+ghost use Rattle.std.specs.Prelude.{◌≡◌, ◌≤◌, ◌<◌, ◌+◌, length, drop, None};
 ghost use Rattle.arrayvec.specs.ArrayVec.{array_vec_len};
 ghost use Rattle.rpg_effect.specs.Ends.{GoesOn, end_of};
 ghost use Rattle.rpg_effect.specs.LineFaults as faults;
 ghost use Rattle.rpg_effect.specs.Lines as lines;
 ghost use Rattle.rpg_machine_lines.specs.Drafts.{assembled_in, drafted_in, fields_replaced, with_field_in};
 ghost use Rattle.rpg_machine_lines.specs.Entries.{AreFieldEntries, IsFieldEntry};
-ghost use Rattle.rpg_machine_lines.specs.Plans.{IsFieldPlan, IsFixedField, IsLinePlan};
+ghost use Rattle.rpg_machine_lines.specs.Plans.{IsFieldPlan, IsFixedField, AreFieldPlans, reach_of};
 ghost use Rattle.rpg_object_program.specs.Constants.{word_at};
 ghost use Rattle.rpg_store.specs.Memory.{forms_in};
 
@@ -149,16 +149,20 @@ pub fn assemble<S: Store + Drop>(
     requires right { faults.AreRight (forms_in memory.old) (word_at memory.old.program) (length text.old) fields.now }
     requires room { array_vec_len to_blank.old + length fields.now ≤ 200 }
     requires entries { AreFieldEntries memory.old.program.fields to_blank.old.items }
-    requires planned { IsLinePlan memory.old.program.fields fields.now plan.now }
+    requires planned { AreFieldPlans memory.old.program.fields fields.now plan.now }
     ensures drafted { drafted_in (end_of result) memory.new text.new to_blank.new.items ≡ assembled_in memory.old text.old to_blank.old.items fields.now }
     ensures rest { memory.new ≡ fields_replaced memory.new.world.fields memory.old }
     ensures entries { AreFieldEntries memory.old.program.fields to_blank.new.items }
+    ensures behind { drop (reach_of fields.now) text.new ≡ drop (reach_of fields.now) text.old }
 {
-    'fields: for i in 0..fields.len() {
-        match with_planned_field(memory, text, to_blank, &fields[i], plan[i]) {
+    let (mut left, mut found) = (fields, plan);
+    'fields: while let Some((field, behind)) = left.split_first() {
+        match with_planned_field(memory, text, to_blank, field, found[0]) {
             End::GoesOn => {}
             End::Halt(halt) => return End::Halt(halt),
         }
+        left = behind;
+        found = &found[1..];
     }
     End::GoesOn
 }

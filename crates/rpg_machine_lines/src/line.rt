@@ -10,11 +10,11 @@ ghost use Rattle.rpg_object_program.specs.Object.{file_length, line_row};
 use crate::assembly::{Entries, assemble};
 use crate::bytes::Output;
 use crate::field::{blank_all, fill_blanks};
+use crate::plan::LinePlan;
 use crate::printer::put_on;
 use rpg_effect::outcome::End;
 use rpg_object_program::row::Line;
 use rpg_store::memory::Memory;
-use rpg_store::resolved::FixedEntry;
 use rpg_store::store::Store;
 use std::alloc::AllocError;
 
@@ -25,7 +25,7 @@ pub fn put_line<S: Store + Drop>(
     text: &mut [u8],
     to_blank: &mut Entries,
     line: &Line,
-    plan: &[Option<FixedEntry>],
+    plan: &LinePlan,
 ) -> Result<End, AllocError>
     requires near { IsNear memory.old.world.here }
     requires right { IsRightLine memory.old.program (line_row line.now) }
@@ -37,11 +37,11 @@ pub fn put_line<S: Store + Drop>(
 {
     fill_blanks(text);
     to_blank.clear();
-    match assemble(memory, text, to_blank, &line.fields, plan) {
+    match assemble(memory, text, to_blank, &line.fields, &plan.entries) {
         End::GoesOn => {}
         End::Halt(halt) => return Ok(End::Halt(halt)),
     }
-    put_on(memory, output, line.file, line.spacing, text)?;
+    put_on(memory, output, line.file, line.spacing, text, plan.reach)?;
     blank_all(memory, to_blank);
     Ok(End::GoesOn)
 }

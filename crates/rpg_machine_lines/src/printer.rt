@@ -4,7 +4,7 @@ ghost use Rattle.rpg_effect.specs.Ends.{GoesOn};
 ghost use Rattle.rpg_effect.specs.LineFaults.{is_spacing};
 ghost use Rattle.rpg_effect.specs.Lines as lines;
 ghost use Rattle.rpg_machine_lines.specs.Outputs.{Puts, form_moved};
-ghost use Rattle.rpg_machine_lines.specs.Ready.{IsNear};
+ghost use Rattle.rpg_machine_lines.specs.Ready.{IsBlankBehind, IsNear};
 
 use crate::bytes::Output;
 use rpg_effect::line::{File, Spacing};
@@ -25,22 +25,24 @@ fn move_form<S: Store + Drop>(memory: &mut Memory<'_, S>, line: u8, spaces: u8)
     memory.space(spaces);
 }
 
-/// The form moves, the line is placed, the form moves.
+/// The form moves, the line is placed without the blanks behind `reach`, the form moves.
 #[tactic(auto, using(crate::proofs::Moving::printing, crate::proofs::Moving::moving), unfolding(rpg_effect::specs::Lines::after_movement))]
 fn print_line<S: Store + Drop>(
     memory: &mut Memory<'_, S>,
     output: &mut Output,
     spacing: Spacing,
     text: &[u8],
+    reach: u16,
 ) -> Result<(), AllocError>
     requires spacing { is_spacing spacing ≡ true }
     requires near { IsNear memory.old.world.here }
+    requires blank { IsBlankBehind reach text.now }
     ensures done { OnOk result (Puts (lines.put_on memory.old.program.overflow File.Printer spacing text.now) memory.old output.old GoesOn memory.new output.new) }
     ensures near { OnOk result (IsNear memory.new.world.here) }
     ensures program { memory.new.program ≡ memory.old.program }
 {
     move_form(memory, spacing.skip_before, spacing.space_before);
-    memory.place(text, &mut output.print)?;
+    memory.place(&text[..reach as usize], &mut output.print)?;
     move_form(memory, spacing.skip_after, spacing.space_after);
     Ok(())
 }
@@ -67,22 +69,24 @@ fn write_record<S: Store + Drop>(
     Ok(())
 }
 
-/// Puts a line on its file.
+/// Puts a line on its file. On the printer blanks at the end make no bytes.
 pub fn put_on<S: Store + Drop>(
     memory: &mut Memory<'_, S>,
     output: &mut Output,
     file: File,
     spacing: Spacing,
     text: &[u8],
+    reach: u16,
 ) -> Result<(), AllocError>
     requires spacing { is_spacing spacing ≡ true }
     requires near { IsNear memory.old.world.here }
+    requires blank { IsBlankBehind reach text.now }
     ensures done { OnOk result (Puts (lines.put_on memory.old.program.overflow file spacing text.now) memory.old output.old GoesOn memory.new output.new) }
     ensures near { OnOk result (IsNear memory.new.world.here) }
     ensures program { memory.new.program ≡ memory.old.program }
 {
     match file {
-        File::Printer => print_line(memory, output, spacing, text),
+        File::Printer => print_line(memory, output, spacing, text, reach),
         File::Disk => write_record(memory, output, spacing, text),
     }
 }

@@ -1,34 +1,64 @@
-use Rattle.std.proofs.Common.{◌∙◌, ap, arith, length, subst}
-use Rattle.std.proofs.lemmas.Slice.Zip.{AllZip-long}
-use Rattle.rpg_machine_lines.proofs.Assembling.{field_next}
-use Rattle.rpg_machine_lines.proofs.Planned.{planned_field}
+use Rattle.std.proofs.Common.{◌≡◌, None, ◌≤◌, ◌∙◌, ap, arith, length, refl, subst}
+use Rattle.std.proofs.lemmas.List.Elements.{All-rest}
+use Rattle.rpg_effect.specs.Ends.{end_of}
+use Rattle.rpg_effect.specs.LineFaults.{field_fault}
+use Rattle.rpg_machine_lines.proofs.Assembling.{field_next, plan_behind}
+use Rattle.rpg_machine_lines.proofs.Reaching.{ends_in_reach, first_behind}
 use Rattle.rpg_machine_lines.specs.Drafts.{fields_replaced}
 use Rattle.rpg_machine_lines.specs.Entries.{AreFieldEntries}
-use Rattle.rpg_machine_lines.specs.Plans.{IsFieldPlan}
+use Rattle.rpg_machine_lines.specs.Plans.{reach_of}
+use Rattle.rpg_object_program.specs.Constants.{word_at}
 use Rattle.rpg_object_program.specs.Object.{Object}
-use Rattle.rpg_store.specs.Memory.{Working}
+use Rattle.rpg_store.specs.Memory.{Working, forms_in}
 use Rattle.rpg_machine_lines.proofs.assembly.assemble.Goals as goal
 
-pub bounds-plan-i : goal.bounds-plan-i
-bounds-plan-i g c =
-    let long = AllZip-long (IsFieldPlan c.args.memory.now.program.fields) c.args.fields.now c.args.plan.now c.requires.planned in
-    omega (arith, long, c.fields-test.true)
-
-pub with_planned_field-requires-clause-planned : goal.with_planned_field-requires-clause-planned
-with_planned_field-requires-clause-planned g c =
-    planned_field c.args.memory.now c.fields.memory c.args.fields.now c.args.plan.now c.fields.i _ _ c.fields.invariant.rest c.requires.planned c.fields-test.true
+pub fields-init : goal.fields-init
+fields-init g c = record {
+  rest = refl;
+  len = refl;
+  entries = c.requires.entries;
+  right = c.requires.right;
+  planned = c.requires.planned;
+  room = c.requires.room;
+  ends = ends_in_reach c.args.fields.now;
+  behind = refl;
+  onward = refl;
+}
 
 pub fields-preserved : goal.fields-preserved
 fields-preserved g c =
+    let m = c.args.memory.now in
     let new = c.with_planned_field.new.memory in
+    let left = c.fields.left.now in
+    let behind = c.in-Some.behind.now in
+    let f = c.in-Some.field.now in
+    let is = c.in-Some.ensures.cases.0 in
     let same = c.fields.invariant.rest in
+    let len = length c.args.text.now in
+    let reach = reach_of c.args.fields.now in
     record {
-      rest = c.with_planned_field.ensures.rest ∙ ap (λ (m : Working). fields_replaced new.world.fields m) same;
+      rest = c.with_planned_field.ensures.rest ∙ ap (λ (x : Working). fields_replaced new.world.fields x) same;
       len = c.with_planned_field.auto.text ∙ c.fields.invariant.len;
-      entries = subst (λ (p : Object). AreFieldEntries p.fields c.with_planned_field.new.to_blank.items) (ap (λ (m : Working). m.program) same)
+      entries = subst (λ (p : Object). AreFieldEntries p.fields c.with_planned_field.new.to_blank.items) (ap (λ (x : Working). x.program) same)
           c.with_planned_field.ensures.entries;
-      room = omega (arith, c.with_planned_field.ensures.few, c.fields.invariant.room);
-      onward = field_next c.args.memory.now (length c.args.text.now) c.fields.memory c.args.fields.now c.fields.i _ _ _ c.with_planned_field.result _
-          same c.fields-test.true c.in-GoesOn.is c.fields.invariant.len c.with_planned_field.ensures.drafted
+      right = All-rest (λ x. field_fault (forms_in m) (word_at m.program) len x ≡ None) f behind left is c.fields.invariant.right;
+      planned = plan_behind m.program.fields left behind f c.fields.found.now is c.fields.invariant.planned;
+      room = omega (arith, c.in-Some.ensures.cases.1, c.with_planned_field.ensures.few, c.fields.invariant.room);
+      ends = All-rest (λ x. x.end ≤ reach) f behind left is c.fields.invariant.ends;
+      behind = first_behind (forms_in m) (word_at m.program) len reach left behind f c.fields.memory new c.fields.text c.with_planned_field.new.text
+          c.fields.to_blank.items c.with_planned_field.new.to_blank.items (end_of c.with_planned_field.result) is c.fields.invariant.right c.fields.invariant.ends
+          c.fields.invariant.len c.with_planned_field.auto.text c.with_planned_field.ensures.drafted
+          ∙ c.fields.invariant.behind;
+      onward = field_next m len c.fields.memory left behind f _ _ c.with_planned_field.result _
+          same is c.in-GoesOn.is c.fields.invariant.len c.with_planned_field.ensures.drafted
           ∙ c.fields.invariant.onward;
     }
+
+pub returns-in-Halt-clause-behind : goal.returns-in-Halt-clause-behind
+returns-in-Halt-clause-behind g c =
+    let m = c.args.memory.now in
+    first_behind (forms_in m) (word_at m.program) (length c.args.text.now) (reach_of c.args.fields.now) c.fields.left.now c.in-Some.behind.now c.in-Some.field.now
+    c.fields.memory c.with_planned_field.new.memory c.fields.text c.with_planned_field.new.text
+    c.fields.to_blank.items c.with_planned_field.new.to_blank.items (end_of c.with_planned_field.result) c.in-Some.ensures.cases.0 c.fields.invariant.right
+    c.fields.invariant.ends c.fields.invariant.len c.with_planned_field.auto.text c.with_planned_field.ensures.drafted
+    ∙ c.fields.invariant.behind

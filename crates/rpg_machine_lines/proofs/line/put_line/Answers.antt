@@ -5,15 +5,25 @@ use Rattle.rpg_effect.specs.Halts.{halt_number}
 use Rattle.rpg_effect.specs.Lines.{blanked_all, put_on}
 use Rattle.rpg_effect.specs.Put.{IsDone}
 use Rattle.rpg_machine_lines.proofs.OneLine.{assembled_from, line_halted, line_placed, right_moves}
+use Rattle.rpg_machine_lines.proofs.Reaching.{blank_behind, reach_in_line}
 use Rattle.rpg_machine_lines.specs.Drafts.{draft_in, fields_replaced}
 use Rattle.rpg_machine_lines.specs.Outputs.{output_of}
 use Rattle.rpg_object_program.specs.Constants.{word_at}
-use Rattle.rpg_object_program.specs.Object.{line_row, program_line}
+use Rattle.rpg_object_program.specs.Object.{file_length, line_row, program_line}
 use Rattle.rpg_store.specs.Memory.{Working, held_of}
 use Rattle.rpg_machine_lines.proofs.line.put_line.Goals as goal
 
 pub put_on-requires-clause-spacing : goal.put_on-requires-clause-spacing
 put_on-requires-clause-spacing g c = right_moves _ _ c.requires.right.fault
+
+pub put_on-requires-clause-blank : goal.put_on-requires-clause-blank
+put_on-requires-clause-blank g c =
+    let p = c.args.memory.now.program in
+    let l = c.args.line.now in
+    let len = file_length p l.file in
+    let blank = c.fill_blanks.ensures ∙ ap (λ (n : ℕ). replicate n 32) c.requires.len in
+    blank_behind l.fields.items c.deref.result.now c.args.plan.now.reach len c.fill_blanks.new.text c.assemble.new.text c.requires.planned.reach c.deref.ensures.value
+    (reach_in_line (form_at p.fields) (word_at p) len l.fields.items c.requires.right.fields) blank c.assemble.auto.text c.assemble.ensures.behind
 
 pub returns-in-Halt-clause-done : goal.returns-in-Halt-clause-done
 returns-in-Halt-clause-done g c =
@@ -44,7 +54,7 @@ returns-clause-done g c =
     let drafted = c.assemble.ensures.rest in
     let put = subst (λ (x : Working). IsDone (put_on x.program.overflow l.file l.spacing d.text) (held_of x) (output_of c.args.output.now) GoesOn (held_of placed) (output_of c.put_on.new.output)) drafted
     c.in_ok-put_on.ensures.done in
-    let blanked = c.blank_all.ensures ∙ ap (λ (es : List (ℕ × ℕ)). fields_replaced (blanked_all es placed.world.fields) placed) c.deref-2.ensures.0 in
+    let blanked = c.blank_all.ensures ∙ ap (λ (es : List (ℕ × ℕ)). fields_replaced (blanked_all es placed.world.fields) placed) c.deref-3.ensures.0 in
     line_placed (form_at p.fields) (word_at p) p.overflow l (held_of m) (output_of c.args.output.now) d (held_of placed)
     (held_of c.blank_all.new.memory) (output_of c.put_on.new.output) c.requires.right.fault a put
     (ap (λ (x : Working). x.last) blanked) (ap (λ (x : Working). x.world) blanked)

@@ -3,6 +3,7 @@ use Rattle.rpg_paper.specs.Form.{way_of}
 use Rattle.rpg_text.specs.Texts.{trimmed}
 use Rattle.rpg_effect.proofs.Printing.{from_line, print_done}
 use Rattle.rpg_effect.specs.Lines.{after_skip, after_space}
+use Rattle.rpg_machine_lines.proofs.Trimming.{front_trimmed}
 use Rattle.rpg_machine_lines.specs.Outputs.{output_of}
 use Rattle.rpg_object_program.specs.Object.{Object}
 use Rattle.rpg_store.specs.Memory.{Working, held_of, standing_of}
@@ -23,7 +24,10 @@ returns g c =
           (ap (λ (m : Working). m.world) after
           ∙ ap (λ (p : Object). after_space p.overflow c.args.spacing.space_after (after_skip p.overflow c.args.spacing.skip_after c.place.new.self.world)) own)
           (ap (λ (m : Working). m.last) after)
-          (c.in_ok-place.ensures.bytes ∙ ap (λ (m : Working). c.args.output.now.print.items ++ way_of (standing_of m) ++ trimmed c.args.text.now) before)
+          (c.in_ok-place.ensures.bytes
+          ∙ ap (λ t. c.args.output.now.print.items ++ way_of (standing_of c.move_form.new.memory) ++ t)
+          (front_trimmed c.args.reach c.args.text.now c.requires.blank.blank)
+          ∙ ap (λ (m : Working). c.args.output.now.print.items ++ way_of (standing_of m) ++ trimmed c.args.text.now) before)
           refl;
       near = omega (arith, first, c.move_form-2.ensures.few);
       program = ap (λ (m : Working). m.program) after ∙ own;
