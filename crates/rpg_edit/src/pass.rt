@@ -6,7 +6,7 @@
 ghost use Rattle.std.specs.Prelude.{◌≡◌, ◌+◌, ◌/◌, ◌^◌, ◌<◌, ◌≤◌, List, [], ◌∷◌, IsTrue, length, replicate, true, unsigned_abs};
 ghost use Rattle.std.specs.List.{list_all};
 ghost use Rattle.std.specs.Int.{is_negative};
-ghost use Rattle.rpg_edit_marks.specs.Edited.{character, places};
+ghost use Rattle.rpg_edit_marks.specs.Edited.{character, is_begun, places};
 ghost use Rattle.rpg_edit.specs.Written.{is_suppressed, IsUsedUp, Writes};
 
 use crate::suppression::{Number, Pass};
@@ -48,6 +48,13 @@ impl Pass {
             Mark::Sign(character) if self.number.negative => character,
             Mark::Sign(_) => b' ',
         }
+    }
+
+    /// Whether something is left of the number: what is next, a digit or a character before it, shows then.
+    pub(crate) fn is_left(&self) -> bool
+        ensures { result ≡ is_begun self.now.number.size self.now.after }
+    {
+        self.rest != 0
     }
 
     /// Whether nothing is left of the number, and no digit in front shows for all that.
@@ -121,6 +128,21 @@ impl Pass {
         if mark.is_place() {
             self.pass_digit(self.rest / 10);
         }
+    }
+
+    /// Writes digits while something is left of the number, but no more than `most`. Answers how many.
+    pub(crate) fn put_shown_digits(&mut self, most: u8, out: &mut [u8]) -> u8
+        requires room { most ≤ self.old.start }
+        requires within { self.old.start ≤ length out.old }
+        ensures most { result ≤ most }
+        ensures writes { Writes (replicate result Mark.Digit) self.old out.old self.new out.new }
+    {
+        let mut written = 0;
+        while written < most && self.is_left() {
+            self.put_digit(out);
+            written += 1;
+        }
+        written
     }
 
     pub(crate) fn put_digits(&mut self, count: u8, out: &mut [u8])
