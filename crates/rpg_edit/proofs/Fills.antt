@@ -96,12 +96,10 @@ before_length commas left digits less = sym (length-append (marks_before commas 
 pub before_plain : (left digits : ℕ) → left ≤ digits → digits - left ≡ length (marks_before false left (digits - left))
 before_plain left digits less = omega (arith, less, before_length false left digits less, whole_plain left, whole_plain digits)
 
--- so many of them are written before the others, as marks are left
-pub before_commas : (left digits end start : ℕ) → left ≤ digits → start + length (whole_marks true left) ≡ end → digits + (digits - 1) / 3 - (end - start) ≡ length (marks_before true left (digits - left))
-before_commas left digits end start less is = omega (arith, is, before_length true left digits less, whole_commas digits)
-
-pub before_within : (commas : Bool) (left digits : ℕ) → left ≤ digits → length (whole_marks commas left) ≤ length (whole_marks commas digits)
-before_within commas left digits less = omega (arith, before_length commas left digits less)
+-- they have the places in front of those that are written
+pub before_commas : (left digits end start : ℕ) → left ≤ digits → length (whole_marks true digits) ≤ end → start + length (whole_marks true left) ≡ end →
+    start ≡ (end - digits - (digits - 1) / 3) + length (marks_before true left (digits - left))
+before_commas left digits end start less room is = omega (arith, room, is, before_length true left digits less, whole_commas digits)
 
 pub before_many : (commas : Bool) (left n : ℕ) → n ≤ length (marks_before commas left n)
 before_many commas left n = omega (arith, before_places commas left n, count_by-le-length is_digit_place (marks_before commas left n))

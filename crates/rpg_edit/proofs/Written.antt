@@ -1,8 +1,8 @@
 -- Texts written from the last mark to the first.
-use Rattle.std.proofs.Common.{◌-◌, ℤ, unsigned_abs, ◌≡◌, ℕ, suc, ◌+◌, ◌/◌, ◌^◌, ◌≤◌, Bool, List, [], ◌∷◌, ◌++◌, length, take, drop, refl, sym, ap, ◌∙◌, arith, append_assoc, length-append, length-drop, append-nil, add-one, pow-suc, get_or, drop-cons, ◌<◌, replicate, subst}
+use Rattle.std.proofs.Common.{◌-◌, ℤ, unsigned_abs, ◌≡◌, ℕ, suc, ◌+◌, ◌/◌, ◌^◌, ◌≤◌, Bool, List, [], ◌∷◌, ◌++◌, length, take, drop, refl, sym, ap, ◌∙◌, arith, append_assoc, length-append, length-drop, append-nil, add-one, pow-suc, get_or, drop-cons, ◌<◌, replicate}
 use Rattle.rpg_edit_marks.specs.declared.mark.Mark.TheVariants.{Digit}
 use Rattle.std.proofs.Math.Nat.{div-div-eq-div-mul}
-use Rattle.std.proofs.lemmas.List.{replicate-append-replicate, take-take, drop_all, take-append-drop, take_all}
+use Rattle.std.proofs.lemmas.List.{take-take, drop_all, take-append-drop, take_all}
 use borrow.Rule.Slice.PartMut.{put_mid, mid_of, post_of}
 use Rattle.std.specs.Int.{is_negative}
 use Rattle.std.proofs.lemmas.List.Sums.{sum_by-append}
@@ -65,12 +65,6 @@ writes-more xs ys p q s o r t one more =
 
 pub writes-digit : (n : ℕ) (p q s : Pass) (o r t : List ℕ) → Writes (replicate n Digit) p o q r → Writes (Digit ∷ []) q r s t → Writes (replicate (n + 1) Digit) p o s t
 writes-digit n p q s o r t before one = rw (add-one n) (writes-more (replicate n Digit) (Digit ∷ []) p q s o r t before one)
-
--- some digits, and those that are left of n
-pub writes-digits : (first n : ℕ) (p q s : Pass) (o r t : List ℕ) → first ≤ n → Writes (replicate first Digit) p o q r → Writes (replicate (n - first) Digit) q r s t → Writes (replicate n Digit) p o s t
-writes-digits first n p q s o r t less before more =
-    let all : (n - first) + first ≡ n = omega (arith, less) in
-    subst (λ ms. Writes ms p o s t) (replicate-append-replicate (n - first) first Digit ∙ ap (λ k. replicate k Digit) all) (writes-more (replicate first Digit) (replicate (n - first) Digit) p q s o r t before more)
 
 pub writes-mark : (marks : List Mark) (left i : ℕ) (p q s : Pass) (o r t : List ℕ) → i + 1 ≡ left → i < length marks → Writes (drop left marks) p o q r → Writes (get_or marks i Digit ∷ []) q r s t → Writes (drop i marks) p o s t
 writes-mark marks left i p q s o r t e within before one =

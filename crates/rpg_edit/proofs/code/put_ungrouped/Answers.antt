@@ -15,20 +15,6 @@ loop-written-init c =
     let shown = c.put_shown_digits-written in
     (subst (λ ms. Writes ms c.args.pass.now c.args.out.now shown.new.self shown.new.out) (plain_digits shown.result) shown.ensures.writes, shown.ensures.most)
 
-pub put_fill-requires-clause-room : goal.put_fill-requires-clause-room
-put_fill-requires-clause-room c =
-    let written = c.loop-written.written in
-    omega (arith, whole_plain written, whole_plain c.args.digits, c.loop-written.invariant.0.start, c.from-more.ensures, c.requires.room)
-
-pub returns-then-is_used_up : goal.returns-then-is_used_up
-returns-then-is_used_up c =
-    let written = c.loop-written.written in
-    let more = c.args.digits - written in
-    let so_far = c.loop-written.invariant in
-    let many = before_plain written c.args.digits so_far.1 in
-    writes_before false written c.args.digits _ _ _ _ _ _ so_far.1 so_far.0
-    (c.put_fill.ensures (marks_before false written more) (omega (arith, many, c.from-more.ensures)) (omega (arith, before_places false written more, c.from-more.ensures)) (before_hidden false written more))
-
 pub put_digit-requires-clause-room : goal.put_digit-requires-clause-room
 put_digit-requires-clause-room c =
     omega (arith, whole_plain c.loop-written.written, whole_plain c.args.digits, c.loop-written.invariant.0.start, c.requires.room, c.loop-written-test.true)
@@ -37,3 +23,17 @@ pub loop-written-preserved : goal.loop-written-preserved
 loop-written-preserved c =
     let written = c.loop-written.written in
     (rw (add-one written) (writes-more (whole_marks false written) _ _ _ _ _ _ _ c.loop-written.invariant.0 c.put_digit.ensures), omega (arith, c.loop-written-test.true))
+
+pub put_fill-requires-clause-room : goal.put_fill-requires-clause-room
+put_fill-requires-clause-room c =
+    let written = c.loop-written.written in
+    omega (arith, whole_plain written, whole_plain c.args.digits, c.loop-written.invariant.0.start, c.from-more.ensures, c.requires.room)
+
+pub returns-then-written-digits : goal.returns-then-written-digits
+returns-then-written-digits c =
+    let written = c.loop-written.written in
+    let more = c.args.digits - written in
+    let so_far = c.loop-written.invariant in
+    let many = before_plain written c.args.digits so_far.1 in
+    writes_before false written c.args.digits _ _ _ _ _ _ so_far.1 so_far.0
+    (c.put_fill.ensures (marks_before false written more) (omega (arith, many, c.from-more.ensures)) (omega (arith, before_places false written more, c.from-more.ensures)) (before_hidden false written more))
