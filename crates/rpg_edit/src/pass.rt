@@ -74,7 +74,7 @@ impl Pass {
             → Writes ms self.old out.old self.new out.new }
     {
         let start = self.start - marks;
-        fill_all(self.suppression.fill, &mut out[start..self.start]);
+        out[start..self.start].fill(self.suppression.fill);
         self.start = start;
         self.after += digits;
     }
@@ -206,14 +206,5 @@ impl Pass {
             left -= 1;
             self.put(marks[left], out);
         }
-    }
-}
-
-/// A fill in every place, by one test alone.
-fn fill_all(fill: u8, text: &mut [u8])
-    ensures { text.new ≡ replicate (length text.old) fill }
-{
-    for i in 0..text.len() {
-        text[i] = fill;
     }
 }
