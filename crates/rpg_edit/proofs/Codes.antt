@@ -1,5 +1,5 @@
 -- The marks of edit codes are written part by part.
-use Rattle.std.proofs.Common.{◌≡◌, ℕ, zero, suc, ◌+◌, ◌-◌, ◌<◌, ◌≤◌, Bool, List, [], ◌∷◌, ◌++◌, length, arith, add-one, replicate}
+use Rattle.std.proofs.Common.{◌≡◌, ℕ, zero, suc, ◌+◌, ◌-◌, ◌<◌, ◌≤◌, Bool, false, List, [], ◌∷◌, ◌++◌, length, refl, ap, arith, add-one, replicate}
 use Rattle.rpg_edit.proofs.Written.{writes-more}
 use Rattle.rpg_edit.specs.Written.{Writes}
 use Rattle.rpg_edit.specs.declared.suppression.Pass.{Pass}
@@ -24,6 +24,11 @@ pub whole-fewer : (commas : Bool) (left digits : ℕ) → left < digits → 1 + 
 whole-fewer commas left digits h =
     let all : (digits - suc left) + suc left ≡ digits = omega arith in
     rw (← all) (fewer-by commas left (digits - suc left))
+
+-- without commas they are digits alone
+pub plain_digits : (n : ℕ) → replicate n Digit ≡ whole_marks false n
+plain_digits zero = refl
+plain_digits (suc n) = ap (λ ms. Digit ∷ ms) (plain_digits n)
 
 -- the point in front of the decimals
 pub writes-decimals : (dec : ℕ) (p q s : Pass) (o r t : List ℕ) → 0 < dec → Writes (replicate dec Digit) p o q r → Writes (Insert 46 ∷ []) q r s t → Writes (decimal_marks dec) p o s t

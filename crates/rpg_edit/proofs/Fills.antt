@@ -16,7 +16,7 @@ use Rattle.rpg_edit.specs.declared.suppression.Pass.{Pass}
 use Rattle.rpg_edit_marks.specs.Code.{comma_marks, whole_marks}
 use Rattle.rpg_edit_marks.specs.Edited.{character, is_begun, is_digit_place, places}
 use Rattle.rpg_edit.proofs.Written.{quotient_next, writes-more}
-use Rattle.rpg_edit.specs.Written.{characters_before, is_suppressed, IsUsedUp, marks_before, next_comma, Writes}
+use Rattle.rpg_edit.specs.Written.{characters_before, is_suppressed, IsUsedUp, marks_before, Writes}
 use Rattle.rpg_edit_widths.proofs.Codes.{whole_plain, whole_commas}
 
 -- ---- what shows in front of a number that is used up
@@ -86,12 +86,6 @@ before_places commas left (suc n) =
     let one : places (Digit ∷ comma_marks commas (n + left)) ≡ 1 = comma_places (commas && ltb 0 (n + left) && eqb ((n + left) % 3) 0) in
     omega (arith, both, one, before_places commas left n)
 
-pub whole_places : (commas : Bool) (n : ℕ) → places (whole_marks commas n) ≡ n
-whole_places commas zero = refl
-whole_places commas (suc n) =
-    let both : places (whole_marks commas (suc n)) ≡ places (Digit ∷ comma_marks commas n) + places (whole_marks commas n) = sum_by-append _ (Digit ∷ comma_marks commas n) (whole_marks commas n) in
-    omega (arith, both, comma_places (commas && ltb 0 n && eqb (n % 3) 0), whole_places commas n)
-
 before_all : (commas : Bool) (left digits : ℕ) → left ≤ digits → marks_before commas left (digits - left) ++ whole_marks commas left ≡ whole_marks commas digits
 before_all commas left digits less = let same : (digits - left) + left ≡ digits = omega (arith, less) in before_whole commas left (digits - left) ∙ ap (whole_marks commas) same
 
@@ -102,8 +96,10 @@ before_length commas left digits less = sym (length-append (marks_before commas 
 pub before_plain : (left digits : ℕ) → left ≤ digits → digits - left ≡ length (marks_before false left (digits - left))
 before_plain left digits less = omega (arith, less, before_length false left digits less, whole_plain left, whole_plain digits)
 
-pub before_commas : (left digits behind : ℕ) → left < digits → behind + 3 ≡ next_comma left → (digits - left) + (digits - 1 - behind) / 3 ≡ length (marks_before true left (digits - left))
-before_commas left digits behind less is = omega (arith, less, is, before_length true left digits (omega (arith, less)), whole_commas left, whole_commas digits)
+-- they have the places in front of those that are written
+pub before_commas : (left digits end start : ℕ) → left ≤ digits → length (whole_marks true digits) ≤ end → start + length (whole_marks true left) ≡ end →
+    start ≡ (end - digits - (digits - 1) / 3) + length (marks_before true left (digits - left))
+before_commas left digits end start less room is = omega (arith, room, is, before_length true left digits less, whole_commas digits)
 
 pub before_many : (commas : Bool) (left n : ℕ) → n ≤ length (marks_before commas left n)
 before_many commas left n = omega (arith, before_places commas left n, count_by-le-length is_digit_place (marks_before commas left n))

@@ -3,10 +3,10 @@
 //! A number is written from its last mark to the first: what shows at a mark depends on the digits in front of those that follow it,
 //! and these are what is left of the number once it is divided by ten for each digit written.
 
-ghost use Rattle.std.specs.Prelude.{◌≡◌, ◌+◌, ◌/◌, ◌^◌, ◌<◌, ◌≤◌, List, [], ◌∷◌, IsTrue, length, replicate, true, unsigned_abs};
+ghost use Rattle.std.specs.Prelude.{◌≡◌, ◌+◌, ◌/◌, ◌^◌, ◌<◌, ◌≤◌, List, [], ◌∷◌, IsTrue, length, nat_le, replicate, true, unsigned_abs};
 ghost use Rattle.std.specs.List.{list_all};
 ghost use Rattle.std.specs.Int.{is_negative};
-ghost use Rattle.rpg_edit_marks.specs.Edited.{character, places};
+ghost use Rattle.rpg_edit_marks.specs.Edited.{character, digit_character, is_begun, places};
 ghost use Rattle.rpg_edit.specs.Written.{is_suppressed, IsUsedUp, Writes};
 
 use crate::suppression::{Number, Pass};
@@ -50,6 +50,13 @@ impl Pass {
         }
     }
 
+    /// Whether something is left of the number: what is next, a digit or a character before it, shows then.
+    pub(crate) fn is_left(&self) -> bool
+        ensures { result ≡ is_begun self.now.number.size self.now.after }
+    {
+        self.rest != 0
+    }
+
     /// Whether nothing is left of the number, and no digit in front shows for all that.
     pub(crate) fn is_used_up(&self) -> bool
         ensures { IsTrue result → IsUsedUp self.now }
@@ -79,10 +86,18 @@ impl Pass {
             self.now.suppression.kept self.now.suppression.fill Mark.Digit self.now.after }
     {
         if self.rest != 0 || self.after < usize::from(self.suppression.kept) {
-            b'0' + (self.rest - rest * 10) as u8
+            self.shown_digit(rest)
         } else {
             self.suppression.fill
         }
+    }
+
+    /// The digit itself, of a number that is `rest` without it.
+    fn shown_digit(&self, rest: u64) -> u8
+        requires { rest ≡ self.now.rest / 10 }
+        ensures { result ≡ digit_character self.now.number.size self.now.after }
+    {
+        b'0' + (self.rest - rest * 10) as u8
     }
 
     /// Goes on in front of a digit, to a number that is `rest` without it.
@@ -121,6 +136,53 @@ impl Pass {
         if mark.is_place() {
             self.pass_digit(self.rest / 10);
         }
+    }
+
+    /// Whether so many digits more always show.
+    pub(crate) fn keeps(&self, count: u8) -> bool
+        requires room { count ≤ self.now.start }
+        ensures { result ≡ nat_le (self.now.after + count) self.now.suppression.kept }
+    {
+        self.after + usize::from(count) <= usize::from(self.suppression.kept)
+    }
+
+    /// Writes digits that always show.
+    pub(crate) fn put_kept_digits(&mut self, count: u8, out: &mut [u8])
+        requires kept { self.old.after + count ≤ self.old.suppression.kept }
+        requires room { count ≤ self.old.start }
+        requires within { self.old.start ≤ length out.old }
+        ensures { Writes (replicate count Mark.Digit) self.old out.old self.new out.new }
+    {
+        for _ in 0..count {
+            self.put_kept_digit(out);
+        }
+    }
+
+    fn put_kept_digit(&mut self, out: &mut [u8])
+        requires kept { self.old.after < self.old.suppression.kept }
+        requires room { 1 ≤ self.old.start }
+        requires within { self.old.start ≤ length out.old }
+        ensures { Writes (Mark.Digit ∷ []) self.old out.old self.new out.new }
+    {
+        let rest = self.rest / 10;
+        self.start -= 1;
+        out[self.start] = self.shown_digit(rest);
+        self.pass_digit(rest);
+    }
+
+    /// Writes digits while something is left of the number, but no more than `most`. Answers how many.
+    pub(crate) fn put_shown_digits(&mut self, most: u8, out: &mut [u8]) -> u8
+        requires room { most ≤ self.old.start }
+        requires within { self.old.start ≤ length out.old }
+        ensures most { result ≤ most }
+        ensures writes { Writes (replicate result Mark.Digit) self.old out.old self.new out.new }
+    {
+        let mut written = 0;
+        while written < most && self.is_left() {
+            self.put_digit(out);
+            written += 1;
+        }
+        written
     }
 
     pub(crate) fn put_digits(&mut self, count: u8, out: &mut [u8])

@@ -1,58 +1,79 @@
-use Rattle.std.proofs.Common.{◌≡◌, ◌+◌, ◌-◌, arith, true}
+use Rattle.std.proofs.Common.{◌-◌, ◌≤◌, arith, true}
 use Rattle.rpg_edit_widths.proofs.Codes.{whole_commas}
 use Rattle.rpg_edit.proofs.Codes.{whole-fewer, writes-whole}
-use Rattle.rpg_edit.proofs.Fills.{before_commas, before_hidden, before_length, before_places, whole_places, writes_before}
+use Rattle.rpg_edit.proofs.Fills.{before_commas, before_hidden, before_many, before_places, writes_before}
 use Rattle.rpg_edit.specs.Written.{marks_before}
 use Rattle.rpg_edit.proofs.code.put_grouped.Goals as goal
 
-pub overflow_add-end : goal.overflow_add-end
-overflow_add-end c = omega (arith, whole_commas c.args.digits, c.from.ensures, c.requires.room, c.args.pass.now.few)
+pub overflow_sub-first : goal.overflow_sub-first
+overflow_sub-first c = omega (arith, whole_commas c.args.digits, c.requires.room, c.from-digits.ensures)
 
-pub put_fill-requires-clause-room : goal.put_fill-requires-clause-room
-put_fill-requires-clause-room c =
-    let so_far = c.loop-pass.invariant in
-    let before = c.args.pass.now.after in
-    let left = c.loop-pass.pass.after - before in
-    let many = before_commas left c.args.digits (c.loop-pass.group - before) (omega (arith, c.from.ensures, c.loop-pass-test.true)) (omega (arith, so_far.lower, so_far.group)) in
-    let all = before_length true left c.args.digits (omega (arith, c.from.ensures, c.loop-pass-test.true)) in
-    omega (arith, many, all, so_far.lower, so_far.group, so_far.writes.start, c.from.ensures, c.requires.room)
+pub overflow_sub-first-2 : goal.overflow_sub-first-2
+overflow_sub-first-2 c = omega (arith, whole_commas c.args.digits, c.requires.room, c.from-digits.ensures, c.from.ensures, c.saturating_sub-commas.ensures)
 
-pub returns-then-is_used_up : goal.returns-then-is_used_up
-returns-then-is_used_up c =
-    let so_far = c.loop-pass.invariant in
-    let before = c.args.pass.now.after in
-    let left = c.loop-pass.pass.after - before in
-    let more = c.args.digits - left in
-    let many = before_commas left c.args.digits (c.loop-pass.group - before) (omega (arith, c.from.ensures, c.loop-pass-test.true)) (omega (arith, so_far.lower, so_far.group)) in
-    let digits = before_places true left more in
-    writes_before true left c.args.digits _ _ _ _ _ _ (omega (arith, c.from.ensures, c.loop-pass-test.true)) so_far.writes
-    (c.put_fill.ensures (marks_before true left more) (omega (arith, many, so_far.lower, so_far.group, c.from.ensures)) (omega (arith, digits, so_far.lower, c.from.ensures)) (before_hidden true left more))
-
-pub put_comma-group-requires-clause-room : goal.put_comma-group-requires-clause-room
-put_comma-group-requires-clause-room c =
-    let left = c.loop-pass.pass.after - c.args.pass.now.after in
-    let fewer = whole-fewer true left c.args.digits (omega (arith, c.from.ensures, c.loop-pass-test.true)) in
-    omega (arith, fewer, c.requires.room, c.loop-pass.invariant.writes.start)
+pub put_comma-requires-clause-room : goal.put_comma-requires-clause-room
+put_comma-requires-clause-room c =
+    let fewer = whole-fewer true c.loop-written.written c.args.digits (omega (arith, c.from-digits.ensures, c.loop-written-test.true)) in
+    omega (arith, fewer, c.requires.room, c.loop-written.invariant.0.start)
 
 pub put_digit-requires-clause-room : goal.put_digit-requires-clause-room
 put_digit-requires-clause-room c =
-    let so_far = c.loop-pass.invariant in
-    let left = c.loop-pass.pass.after - c.args.pass.now.after in
-    let fewer = whole-fewer true left c.args.digits (omega (arith, c.from.ensures, c.loop-pass-test.true)) in
-    let comma = c.put_comma-group.ensures left so_far.group in
-    omega (arith, fewer, c.requires.room, so_far.writes.start, comma.1.start)
+    let fewer = whole-fewer true c.loop-written.written c.args.digits (omega (arith, c.from-digits.ensures, c.loop-written-test.true)) in
+    omega (arith, fewer, c.requires.room, c.loop-written.invariant.0.start, c.put_comma.ensures.start)
 
-pub loop-pass-preserved : goal.loop-pass-preserved
-loop-pass-preserved c =
-    let so_far = c.loop-pass.invariant in
-    let before = c.args.pass.now.after in
-    let left = c.loop-pass.pass.after - before in
-    let comma = c.put_comma-group.ensures left so_far.group in
-    let longer = writes-whole true left _ _ _ _ _ _ _ _ so_far.writes comma.1 c.put_digit.ensures in
-    let next : c.put_digit.new.self.after - before ≡ left + 1 = omega (arith, longer.after, whole_places true (left + 1)) in
-    record {
-      writes = rw next longer;
-      lower = omega (arith, longer.after);
-      upper = omega (arith, longer.after, whole_places true (left + 1), so_far.lower, c.loop-pass-test.true);
-      group = rw next (omega (arith, comma.0, longer.after, whole_places true (left + 1), so_far.lower));
-    }
+pub loop-written-preserved : goal.loop-written-preserved
+loop-written-preserved c =
+    (writes-whole true c.loop-written.written _ _ _ _ _ _ _ _ c.loop-written.invariant.0 c.put_comma.ensures c.put_digit.ensures, omega (arith, c.loop-written-test.true))
+
+pub overflow_sub-pass : goal.overflow_sub-pass
+overflow_sub-pass c =
+    let shown = c.put_shown_groups-written in
+    let so_far = shown.ensures in
+    let less : shown.result ≤ c.args.digits = omega (arith, so_far.most, c.from-digits.ensures) in
+    let many = before_commas shown.result c.args.digits c.args.pass.now.start shown.new.pass.start less c.requires.room so_far.writes.start in
+    omega (arith, many, c.from-digits.ensures, c.from.ensures, c.saturating_sub-commas.ensures)
+
+pub put_fill-requires-clause-digits : goal.put_fill-requires-clause-digits
+put_fill-requires-clause-digits c =
+    let shown = c.put_shown_groups-written in
+    let so_far = shown.ensures in
+    let less : shown.result ≤ c.args.digits = omega (arith, so_far.most, c.from-digits.ensures) in
+    let many = before_commas shown.result c.args.digits c.args.pass.now.start shown.new.pass.start less c.requires.room so_far.writes.start in
+    omega (arith, many, before_many true shown.result (c.args.digits - shown.result), c.from-digits.ensures, c.from.ensures, c.saturating_sub-commas.ensures)
+
+pub returns-then-is_used_up : goal.returns-then-is_used_up
+returns-then-is_used_up c =
+    let shown = c.put_shown_groups-written in
+    let written = shown.result in
+    let more = c.args.digits - written in
+    let so_far = shown.ensures in
+    let less : written ≤ c.args.digits = omega (arith, so_far.most, c.from-digits.ensures) in
+    let many = before_commas written c.args.digits c.args.pass.now.start shown.new.pass.start less c.requires.room so_far.writes.start in
+    writes_before true written c.args.digits _ _ _ _ _ _ less so_far.writes
+    (c.put_fill.ensures (marks_before true written more) (omega (arith, many, c.from-digits.ensures, c.from.ensures, c.saturating_sub-commas.ensures))
+    (omega (arith, before_places true written more, c.from-digits.ensures)) (before_hidden true written more))
+
+pub overflow_sub-pass-then-written-digits-2 : goal.overflow_sub-pass-then-written-digits-2
+overflow_sub-pass-then-written-digits-2 c =
+    let so_far = c.loop-written.invariant in
+    let less : c.loop-written.written ≤ c.args.digits = omega (arith, so_far.1, c.from-digits.ensures) in
+    let many = before_commas c.loop-written.written c.args.digits c.args.pass.now.start c.loop-written.pass.start less c.requires.room so_far.0.start in
+    omega (arith, many, c.from-digits.ensures, c.from.ensures, c.saturating_sub-commas.ensures)
+
+pub put_fill-requires-then-written-digits-2-clause-digits : goal.put_fill-requires-then-written-digits-2-clause-digits
+put_fill-requires-then-written-digits-2-clause-digits c =
+    let so_far = c.loop-written.invariant in
+    let less : c.loop-written.written ≤ c.args.digits = omega (arith, so_far.1, c.from-digits.ensures) in
+    let many = before_commas c.loop-written.written c.args.digits c.args.pass.now.start c.loop-written.pass.start less c.requires.room so_far.0.start in
+    omega (arith, many, before_many true c.loop-written.written (c.args.digits - c.loop-written.written), c.from-digits.ensures, c.from.ensures, c.saturating_sub-commas.ensures)
+
+pub returns-then-written-digits-2 : goal.returns-then-written-digits-2
+returns-then-written-digits-2 c =
+    let written = c.loop-written.written in
+    let more = c.args.digits - written in
+    let so_far = c.loop-written.invariant in
+    let less : written ≤ c.args.digits = omega (arith, so_far.1, c.from-digits.ensures) in
+    let many = before_commas written c.args.digits c.args.pass.now.start c.loop-written.pass.start less c.requires.room so_far.0.start in
+    writes_before true written c.args.digits _ _ _ _ _ _ less so_far.0
+    (c.put_fill-then-written-digits-2.ensures (marks_before true written more) (omega (arith, many, c.from-digits.ensures, c.from.ensures, c.saturating_sub-commas.ensures))
+    (omega (arith, before_places true written more, c.from-digits.ensures)) (before_hidden true written more))

@@ -3,12 +3,8 @@ use Rattle.rpg_edit_marks.specs.Code.{whole_marks}
 use Rattle.rpg_edit.specs.Written.{Writes}
 use Rattle.rpg_edit.proofs.code.put_ungrouped.Given as goal
 
-abbrev pub invariant-loop-pass : goal.invariant-loop-pass
-invariant-loop-pass l = record {
-  writes : Writes (whole_marks false (l.pass.after - l.initial.pass.after)) l.initial.pass l.initial.out l.pass l.out;
-  lower : l.initial.pass.after ≤ l.pass.after;
-  upper : l.pass.after ≤ l.end;
-}
+abbrev pub invariant-loop-written : goal.invariant-loop-written
+invariant-loop-written l = Writes (whole_marks false l.written) l.fn.pass l.fn.out l.pass l.out × (l.written ≤ l.digits)
 
-abbrev pub decreases-loop-pass : goal.decreases-loop-pass
-decreases-loop-pass l = l.end - l.pass.after
+abbrev pub decreases-loop-written : goal.decreases-loop-written
+decreases-loop-written l = l.digits - l.written
