@@ -23,7 +23,12 @@ use rpg_store::resolved::Resolved;
 use rpg_store::store::Store;
 
 /// Stores a number, and lets the indicators follow it.
-pub fn store<S: Store + Drop>(memory: &mut Memory<'_, S>, to: Entry<u16>, shows: Shows, n: i64)
+pub(crate) fn store<S: Store + Drop>(
+    memory: &mut Memory<'_, S>,
+    to: Entry<u16>,
+    shows: Shows,
+    n: i64,
+)
     requires to { IsValue memory.old.program.fields kinds.Number to.field to.position }
     requires length { unsigned_abs n < 10 ^ length_of (forms_in memory.old to.field) }
     ensures { memory.new ≡ record memory.old { world = acts.store memory.old.world to shows n } }
