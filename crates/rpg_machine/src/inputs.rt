@@ -49,14 +49,14 @@ fn order_of_text(text: &[u8]) -> Option<Ordering>
 #[tactic(auto, using(crate::proofs::Filling::numbers), unfolding(rpg_effect::specs::Showing::shown_if_any))]
 fn fill_number<S: Store + Drop>(
     memory: &mut Memory<'_, S>,
-    input: InputField<u16>,
+    input: &InputField<u16>,
     place: usize,
     digits: &[u8],
 ) -> End
-    requires field { IsValue memory.old.program.fields kinds.Number input.field 1 }
-    requires place { IsEntryAt memory.old.program.fields place (input.field, 1) }
-    requires long { length digits.now ≡ length_of (forms_in memory.old input.field) }
-    ensures { DidEffect (filled_field kinds.Number input digits.now memory.old.world) memory.old (end_of result) memory.new }
+    requires field { IsValue memory.old.program.fields kinds.Number input.now.field 1 }
+    requires place { IsEntryAt memory.old.program.fields place (input.now.field, 1) }
+    requires long { length digits.now ≡ length_of (forms_in memory.old input.now.field) }
+    ensures { DidEffect (filled_field kinds.Number input.now digits.now memory.old.world) memory.old (end_of result) memory.new }
 {
     memory.is_kept();
     match read_zoned(digits) {
@@ -72,13 +72,13 @@ fn fill_number<S: Store + Drop>(
 /// Puts characters into a field.
 fn fill_text<S: Store + Drop>(
     memory: &mut Memory<'_, S>,
-    input: InputField<u16>,
+    input: &InputField<u16>,
     text: &[u8],
 ) -> End
-    requires field { IsValue memory.old.program.fields kinds.Text input.field 1 }
-    requires long { length text.now ≡ length_of (forms_in memory.old input.field) }
+    requires field { IsValue memory.old.program.fields kinds.Text input.now.field 1 }
+    requires long { length text.now ≡ length_of (forms_in memory.old input.now.field) }
     requires characters { All IsCharacter text.now }
-    ensures { DidEffect (filled_field kinds.Text input text.now memory.old.world) memory.old (end_of result) memory.new }
+    ensures { DidEffect (filled_field kinds.Text input.now text.now memory.old.world) memory.old (end_of result) memory.new }
 {
     memory.set_text(input.field, 1, text);
     memory.show_if_any(input.shows, order_of_text(text));
@@ -89,16 +89,16 @@ fn fill_text<S: Store + Drop>(
 fn fill_one<S: Store + Drop>(
     memory: &mut Memory<'_, S>,
     text: &[u8],
-    input: InputField<u16>,
+    input: &InputField<u16>,
     fixed: FixedInput,
 ) -> End
-    requires right { of.input_fault (forms_in memory.old) (length text.now) input ≡ None }
+    requires right { of.input_fault (forms_in memory.old) (length text.now) input.now ≡ None }
     requires characters { All IsCharacter text.now }
-    requires fixed { IsFixedInput memory.old.program.fields input fixed }
-    ensures { DidEffect (of.field_in (forms_in memory.old) text.now input memory.old.world) memory.old (end_of result) memory.new }
+    requires fixed { IsFixedInput memory.old.program.fields input.now fixed }
+    ensures { DidEffect (of.field_in (forms_in memory.old) text.now input.now memory.old.world) memory.old (end_of result) memory.new }
 {
     memory.is_kept();
-    let part = columns_of(text, input);
+    let part = columns_of(text, *input);
     match fixed.kind {
         Kind::Number => fill_number(memory, input, fixed.place, part),
         Kind::Text => fill_text(memory, input, part),
@@ -119,7 +119,7 @@ pub(crate) fn fill_all<S: Store + Drop>(
     ensures { DidEffect (of.record_in (forms_in memory.old) text.now inputs.now memory.old.world) memory.old (end_of result) memory.new }
 {
     'fields: for i in 0..inputs.len() {
-        match fill_one(memory, text, inputs[i], fixed[i]) {
+        match fill_one(memory, text, &inputs[i], fixed[i]) {
             End::GoesOn => {}
             End::Halt(halt) => return End::Halt(halt),
         }

@@ -4,40 +4,40 @@ use Rattle.rpg_machine.proofs.Filling.{field_filled, fits_field, long_there, val
 use Rattle.rpg_machine.proofs.inputs.fill_one.Goals as goal
 
 pub columns_of-part-requires-clause-low : goal.columns_of-part-requires-clause-low
-columns_of-part-requires-clause-low g c = (fits_field c.args.memory.now.program.fields (length c.args.text.now) c.args.input c.requires.right).low
+columns_of-part-requires-clause-low g c = (fits_field c.args.memory.now.program.fields (length c.args.text.now) c.args.input.now c.requires.right).low
 
 pub columns_of-part-requires-clause-ordered : goal.columns_of-part-requires-clause-ordered
-columns_of-part-requires-clause-ordered g c = (fits_field c.args.memory.now.program.fields (length c.args.text.now) c.args.input c.requires.right).ordered
+columns_of-part-requires-clause-ordered g c = (fits_field c.args.memory.now.program.fields (length c.args.text.now) c.args.input.now c.requires.right).ordered
 
 pub columns_of-part-requires-clause-high : goal.columns_of-part-requires-clause-high
-columns_of-part-requires-clause-high g c = (fits_field c.args.memory.now.program.fields (length c.args.text.now) c.args.input c.requires.right).high
+columns_of-part-requires-clause-high g c = (fits_field c.args.memory.now.program.fields (length c.args.text.now) c.args.input.now c.requires.right).high
 
 pub fill_number-requires-clause-field : goal.fill_number-requires-clause-field
 fill_number-requires-clause-field g c =
     let forms = c.args.memory.now.program.fields in
-    value_there forms (length c.args.text.now) c.args.input kinds.Number c.is_kept.ensures.good (fits_field forms (length c.args.text.now) c.args.input c.requires.right)
+    value_there forms (length c.args.text.now) c.args.input.now kinds.Number c.is_kept.ensures.good (fits_field forms (length c.args.text.now) c.args.input.now c.requires.right)
     (sym c.in-Number.is ∙ c.requires.fixed.kind)
 
 pub fill_number-requires-clause-long : goal.fill_number-requires-clause-long
 fill_number-requires-clause-long g c =
     let forms = c.args.memory.now.program.fields in
-    long_there forms (length c.args.text.now) _ c.args.input (fits_field forms (length c.args.text.now) c.args.input c.requires.right) c.columns_of-part.ensures.length
+    long_there forms (length c.args.text.now) _ c.args.input.now (fits_field forms (length c.args.text.now) c.args.input.now c.requires.right) c.columns_of-part.ensures.length
 
 pub fill_text-requires-clause-field : goal.fill_text-requires-clause-field
 fill_text-requires-clause-field g c =
     let forms = c.args.memory.now.program.fields in
-    value_there forms (length c.args.text.now) c.args.input kinds.Text c.is_kept.ensures.good (fits_field forms (length c.args.text.now) c.args.input c.requires.right)
+    value_there forms (length c.args.text.now) c.args.input.now kinds.Text c.is_kept.ensures.good (fits_field forms (length c.args.text.now) c.args.input.now c.requires.right)
     (sym c.in-Text.is ∙ c.requires.fixed.kind)
 
 pub fill_text-requires-clause-long : goal.fill_text-requires-clause-long
 fill_text-requires-clause-long g c =
     let forms = c.args.memory.now.program.fields in
-    long_there forms (length c.args.text.now) _ c.args.input (fits_field forms (length c.args.text.now) c.args.input c.requires.right) c.columns_of-part.ensures.length
+    long_there forms (length c.args.text.now) _ c.args.input.now (fits_field forms (length c.args.text.now) c.args.input.now c.requires.right) c.columns_of-part.ensures.length
 
 pub returns-in-Number : goal.returns-in-Number
 returns-in-Number g c = record {
   leaves = c.fill_number.ensures.leaves
-      ∙ field_filled c.args.memory.now.program.fields c.args.text.now c.columns_of-part.result.now c.args.input kinds.Number c.args.memory.now.world c.requires.right
+      ∙ field_filled c.args.memory.now.program.fields c.args.text.now c.columns_of-part.result.now c.args.input.now kinds.Number c.args.memory.now.world c.requires.right
       (sym c.in-Number.is ∙ c.requires.fixed.kind) c.columns_of-part.ensures.value;
   right = c.fill_number.ensures.right;
   rest = c.fill_number.ensures.rest;
@@ -46,7 +46,7 @@ returns-in-Number g c = record {
 pub returns-in-Text : goal.returns-in-Text
 returns-in-Text g c = record {
   leaves = c.fill_text.ensures.leaves
-      ∙ field_filled c.args.memory.now.program.fields c.args.text.now c.columns_of-part.result.now c.args.input kinds.Text c.args.memory.now.world c.requires.right
+      ∙ field_filled c.args.memory.now.program.fields c.args.text.now c.columns_of-part.result.now c.args.input.now kinds.Text c.args.memory.now.world c.requires.right
       (sym c.in-Text.is ∙ c.requires.fixed.kind) c.columns_of-part.ensures.value;
   right = c.fill_text.ensures.right;
   rest = c.fill_text.ensures.rest;
