@@ -7,16 +7,16 @@ use Rattle.rpg_paper.specs.Paper.{Position, last_position_from}
 use Rattle.rpg_effect.specs.declared.input.ControlField.{ControlField}
 use Rattle.rpg_effect.specs.declared.input.InputFile.{InputFile}
 use Rattle.rpg_effect.specs.declared.input.InputFile.TheVariants.{Primary, Secondary}
-use Rattle.rpg_cycle.proofs.Composing.{of_none, of_some, quietly}
+use Rattle.rpg_cycle.proofs.Composing.{of_some, quietly}
 use Rattle.rpg_cycle.proofs.Spending.{keeps_reach}
 use Rattle.rpg_cycle.proofs.Turning.{all_keep, all_on, type_keeps, type_on}
 use Rattle.rpg_cycle.specs.Doing.{Does, Beside, holding, unselected, under_way}
-use Rattle.rpg_cycle.specs.Indicators.{is_on, last_record, level_indicators, with_all, with_levels, with_one, with_type}
-use Rattle.rpg_cycle_records.specs.Earlier.{Left, Selected, file_of, last_of_file, match_fields, match_value, or_before, value_from, control_fields}
+use Rattle.rpg_cycle.specs.Indicators.{is_on, last_record, level_indicators, with_all, with_levels, with_type}
+use Rattle.rpg_cycle_records.specs.Earlier.{Left, Selected, file_of, last_of_file, match_fields, match_value, control_fields}
 use Rattle.rpg_cycle.specs.Ends.{GoesOn, Halt, PhaseEnd}
 use Rattle.rpg_cycle_records.specs.Fitting.{IsControlIn}
 use Rattle.rpg_cycle_records.specs.Identifying.{IsOf, IsOfNone, identified, is_good_record, padded, trial_weight}
-use Rattle.rpg_cycle_records.specs.Keeping.{left_of, renewed, renewed_by, selected_as}
+use Rattle.rpg_cycle_records.specs.Keeping.{left_of, selected_as}
 use Rattle.rpg_cycle_records.specs.Levels.{broken_in, is_in_record}
 use Rattle.rpg_cycle_records.specs.Matching.{exceeds}
 use Rattle.rpg_cycle_records.specs.Waiting.{InputState, Inputs, chosen, input_at, with_file_over, takes_in, waiting_in, with_input, with_waiting}
