@@ -3,6 +3,7 @@ pub mod Finding
 pub mod Fitting
 pub mod Fronts
 pub mod Joining
+pub mod Lasting
 pub mod Matches
 pub mod Order
 pub mod Recording

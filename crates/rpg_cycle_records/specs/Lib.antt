@@ -4,6 +4,7 @@ pub mod Fronts
 pub mod Holding
 pub mod Identifying
 pub mod Keeping
+pub mod Lasting
 pub mod Levels
 pub mod Matching
 pub mod Merging

@@ -92,13 +92,20 @@ impl Kept {
     }
 }
 
-/// Whether a value is that of the record that waits in a file, or the file's last one.
+/// Whether a value that is there is that of the record that waits in a file, or the file's last one.
+#[inline(never)]
+fn is_met(value: &MatchValue, other: &KeptFile, last: &MatchValue) -> bool
+    ensures { result ≡ matches_file value.now other.now last.now }
+{
+    (other.waiting.is_some() && value.agrees(&other.value)) || value.agrees(last)
+}
+
+/// The same of a value that may be missing.
 #[inline(always)]
 fn is_matched(value: &MatchValue, other: &KeptFile, last: &MatchValue) -> bool
     ensures { result ≡ matches_file value.now other.now last.now }
 {
-    value.is_there
-        && ((other.waiting.is_some() && value.agrees(&other.value)) || value.agrees(last))
+    value.is_there && is_met(value, other, last)
 }
 
 /// Nine levels that no record has had.

@@ -1,11 +1,12 @@
 //! Control levels.
-ghost use Rattle.std.specs.Prelude.{◌≡◌, ◌∷◌, [], ◌++◌, ◌+◌, ◌-◌, ◌≤◌, ◌<◌, IfOk, OnOk, ℕ, length, slice_range, Some, None, true, false, option_map, if◌then◌else◌};
+ghost use Rattle.std.specs.Prelude.{◌≡◌, ◌∷◌, [], ◌++◌, ◌+◌, ◌-◌, ◌≤◌, ◌<◌, IfOk, OnOk, ℕ, length, map, slice_index_or, slice_range, Some, None, true, false, option_map, if◌then◌else◌};
 ghost use Rattle.std.specs.List.{All};
 ghost use Rattle.rpg_cycle_records.specs.Fitting.{IsControlIn};
 ghost use Rattle.rpg_cycle_records.specs.Earlier.{or_before};
 ghost use Rattle.rpg_cycle_records.specs.Keeping.{renewed, seen_bytes, seen_levels};
 ghost use Rattle.rpg_cycle_records.specs.Levels as spec;
 ghost use Rattle.rpg_cycle_records.specs.Fronts.{rest_behind};
+ghost use Rattle.rpg_cycle_records.specs.Lasting.{AreLast, IsLast};
 
 use rpg_effect::input::ControlField;
 use std::alloc::AllocError;
@@ -195,10 +196,66 @@ fn highest_level(fields: &[ControlField]) -> u8
     highest
 }
 
-/// Compares the levels of a record, which is filled to its length, with the last bytes, L1 first, and keeps the record's. Answers the
-/// highest level that differs, 1 to 9, 0 for none. It takes memory only where the room of a level's bytes is too small; on an error
-/// some levels may be kept and others not.
-pub fn compare(
+/// Whether these are the digits of numeric columns.
+fn are_digits_of(bytes: &[u8], columns: &[u8]) -> bool
+    requires { length bytes.now ≡ length columns.now }
+    ensures { result ≡ spec.same_bytes bytes.now (map spec.unsigned_digit columns.now) }
+{
+    for i in 0..bytes.len() {
+        if bytes[i] != digit_of(columns[i]) {
+            return false;
+        }
+    }
+    true
+}
+
+/// Whether these are the bytes of a control field.
+#[inline(always)]
+fn are_bytes_of(bytes: &[u8], text: &[u8], field: &ControlField) -> bool
+    requires { IsControlIn (length text.now) field.now }
+    ensures { result ≡ spec.same_bytes bytes.now (spec.compared text.now field.now) }
+{
+    let columns = columns_of(text, *field);
+    if field.is_numeric {
+        bytes.len() == columns.len() && are_digits_of(bytes, columns)
+    } else {
+        bytes == columns
+    }
+}
+
+/// Whether these are the last bytes of a control field's level.
+#[inline(always)]
+fn has_last_bytes(levels: &[LastBytes], text: &[u8], field: &ControlField) -> bool
+    requires nine { length levels.now ≡ 9 }
+    requires field { IsControlIn (length text.now) field.now }
+    ensures { result ≡ true → IsLast (seen_levels levels.now) text.now field.now }
+{
+    if field.level == 0 || field.level > 9 {
+        return false;
+    }
+    let last = &levels[usize::from(field.level) - 1];
+    last.is_known && are_bytes_of(&last.bytes, text, field)
+}
+
+/// Whether each control field is alone of its level and has the last bytes, as in most records.
+#[inline(always)]
+fn are_all_last(levels: &[LastBytes], fields: &[ControlField], text: &[u8]) -> bool
+    requires nine { length levels.now ≡ 9 }
+    requires fields { All (IsControlIn (length text.now)) fields.now }
+    ensures { result ≡ true → AreLast (seen_levels levels.now) text.now fields.now }
+{
+    for i in 0..fields.len() {
+        let field = &fields[i];
+        if has_level(&fields[i + 1..], field.level) || !has_last_bytes(levels, text, field) {
+            return false;
+        }
+    }
+    true
+}
+
+/// Compares the levels with the last bytes, L1 first, and keeps the record's.
+#[inline(never)]
+fn renew_all(
     levels: &mut [LastBytes],
     fields: &[ControlField],
     text: &[u8],
@@ -215,4 +272,24 @@ pub fn compare(
         broken = higher(is_broken, i + 1, broken);
     }
     Ok(broken)
+}
+
+/// Compares the levels of a record, which is filled to its length, with the last bytes, L1 first, and keeps the record's. Answers the
+/// highest level that differs, 1 to 9, 0 for none. It takes memory only where the room of a level's bytes is too small; on an error
+/// some levels may be kept and others not.
+pub fn compare(
+    levels: &mut [LastBytes],
+    fields: &[ControlField],
+    text: &[u8],
+) -> Result<usize, AllocError>
+    requires nine { length levels.old ≡ 9 }
+    requires fields { All (IsControlIn (length text.now)) fields.now }
+    ensures broken { IfOk result (λ n. n ≡ spec.broken_in fields.now text.now (seen_levels levels.old)) }
+    ensures low { IfOk result (λ n. n ≤ 9) }
+    ensures kept { OnOk result (seen_levels levels.new ≡ renewed fields.now text.now 9 (seen_levels levels.old)) }
+{
+    if are_all_last(levels, fields, text) {
+        return Ok(0);
+    }
+    renew_all(levels, fields, text)
 }

@@ -2,7 +2,7 @@ use Rattle.std.proofs.Common.{◌≡◌, ◌≤◌, ◌-◌, length, None}
 use Rattle.std.specs.Prelude.{slice_index_or}
 use Rattle.rpg_cycle_records.specs.Keeping.{renewed, seen_levels}
 use Rattle.rpg_cycle_records.specs.Levels as spec
-use Rattle.rpg_cycle_records.proofs.levels.compare.Given as goal
+use Rattle.rpg_cycle_records.proofs.levels.renew_all.Given as goal
 
 abbrev pub invariant-loop-i : goal.invariant-loop-i
 invariant-loop-i l = record {

@@ -1,0 +1,114 @@
+-- Control fields whose bytes are the last ones of their levels.
+use Rattle.std.proofs.Common.{◌≡◌, ◌∙◌, ℕ, ◌<◌, ◌+◌, ◌-◌, zero, suc, Bool, true, false, cond, ◌&&◌, ◌||◌, not, eqb, eqb-true, eq-eqb, ne_eqb, List, [], ◌∷◌, ◌++◌, length, map, get_or, drop, Option, None, Some, refl, sym, ap, subst, append-nil, arith}
+use Rattle.std.proofs.Math.ListN.{set}
+use Rattle.std.proofs.lemmas.List.{length-map, set-get_or}
+use Rattle.std.specs.Cmp.Lexicographic.{pointwise}
+use Rattle.std.specs.List.{slice_range}
+use Rattle.rpg_effect.specs.declared.input.ControlField.{ControlField}
+use Rattle.rpg_cycle_records.specs.Earlier.{or_before}
+use Rattle.rpg_cycle_records.specs.Keeping.{renewed}
+use Rattle.rpg_cycle_records.specs.Lasting.{AreLast, IsLast}
+use Rattle.rpg_cycle_records.specs.Levels.{same_bytes, byte_of, compared, joined_bytes, has_level, level_bytes, differs, highest_broken}
+
+-- ---- two texts
+
+-- what `==` says of them
+pub same_by_pairs : (xs ys : List ℕ) → pointwise eqb xs ys ≡ same_bytes xs ys
+same_by_pairs [] [] = refl
+same_by_pairs [] (y ∷ ys) = refl
+same_by_pairs (x ∷ xs) [] = refl
+same_by_pairs (x ∷ xs) (y ∷ ys) = ap (λ b. eqb x y && b) (same_by_pairs xs ys)
+
+-- those of two lengths aren't the same
+pub other_lengths : (xs ys : List ℕ) → (length xs ≡ length ys → ⊥) → same_bytes xs ys ≡ false
+other_lengths [] [] h = absurd (h refl)
+other_lengths [] (y ∷ ys) h = refl
+other_lengths (x ∷ xs) [] h = refl
+other_lengths (x ∷ xs) (y ∷ ys) h = ap (λ b. eqb x y && b) (other_lengths xs ys (λ e. h (omega (arith, e)))) ∙ no_more (eqb x y)
+  where
+    no_more : (b : Bool) → (b && false) ≡ false
+    no_more true = refl
+    no_more false = refl
+
+same_itself : (xs : List ℕ) → same_bytes xs xs ≡ true
+same_itself [] = refl
+same_itself (x ∷ xs) = ap (λ b. b && same_bytes xs xs) (eq-eqb x x refl) ∙ same_itself xs
+
+-- bytes that aren't numeric are compared as they are
+pub as_they_are : (xs : List ℕ) → map (byte_of false) xs ≡ xs
+as_they_are [] = refl
+as_they_are (x ∷ xs) = ap (λ ys. x ∷ ys) (as_they_are xs)
+
+-- the bytes of a control field that is numeric, beside others of another length
+pub unlike : (bytes columns text : List ℕ) (f : ControlField) → columns ≡ slice_range text (f.from - 1) f.to → (length bytes ≡ length columns → ⊥) →
+    eqb (length bytes) (length columns) ≡ same_bytes bytes (compared text f)
+unlike bytes columns text f e other =
+    ne_eqb (length bytes) (length columns) other
+    ∙ sym (other_lengths bytes (compared text f) (λ same. other (same ∙ length-map (slice_range text (f.from - 1) f.to) (byte_of f.is_numeric) ∙ ap length (sym e))))
+
+-- those of one that isn't
+pub plainly : (bytes columns text : List ℕ) (f : ControlField) → columns ≡ slice_range text (f.from - 1) f.to → f.is_numeric ≡ false →
+    pointwise eqb bytes columns ≡ same_bytes bytes (compared text f)
+plainly bytes columns text f e plain =
+    same_by_pairs bytes columns
+    ∙ ap (same_bytes bytes) (e ∙ sym (as_they_are (slice_range text (f.from - 1) f.to)) ∙ ap (λ b. map (byte_of b) (slice_range text (f.from - 1) f.to)) (sym plain))
+
+-- ---- fields that are alone of their levels
+
+no_bytes : (fs : List ControlField) (text : List ℕ) (k : ℕ) → has_level fs k ≡ false → joined_bytes fs text k ≡ []
+no_bytes [] text k h = refl
+no_bytes (f ∷ fs) text k h = by_first (eqb f.level k) h (no_bytes fs text k)
+  where
+    by_first : (b : Bool) → (b || has_level fs k) ≡ false → (has_level fs k ≡ false → joined_bytes fs text k ≡ []) → cond b (compared text f) [] ++ joined_bytes fs text k ≡ []
+    by_first true e go = cc
+    by_first false e go = go e
+
+pub all_last : (last : List (Option (List ℕ))) (text : List ℕ) (fs : List ControlField) →
+    ((i : ℕ) (d : ControlField) → i < length fs → (has_level (drop (suc i) fs) (get_or fs i d).level ≡ false) × IsLast last text (get_or fs i d)) → AreLast last text fs
+all_last last text [] each = λ k there. cc
+all_last last text (f ∷ fs) each = λ k there. by_first k (all_last last text fs (λ i d h. each (suc i) d (omega (arith, h))) k) (eqb f.level k) refl there
+  where
+    Holds : ℕ → Type 0
+    Holds k = has_level fs k ≡ true → get_or last (k - 1) None ≡ Some (joined_bytes fs text k)
+
+    by_first : (k : ℕ) → Holds k → (b : Bool) → eqb f.level k ≡ b → (b || has_level fs k) ≡ true → get_or last (k - 1) None ≡ Some (cond b (compared text f) [] ++ joined_bytes fs text k)
+    by_first k others true e there =
+        let own : f.level ≡ k = eqb-true f.level k e in
+        let first = each 0 f (omega arith) in
+        ap (λ n. get_or last (n - 1) None) (sym own)
+        ∙ first.1
+        ∙ ap Some (sym (ap (λ (bs : List ℕ). compared text f ++ bs) (no_bytes fs text k (ap (has_level fs) (sym own) ∙ first.0)) ∙ append-nil (compared text f)))
+    by_first k others false e there = others there
+
+-- no level is broken then, and none is renewed
+last_level : (last : List (Option (List ℕ))) (text : List ℕ) (fs : List ControlField) (k : ℕ) → AreLast last text fs →
+    (differs (get_or last (k - 1) None) (level_bytes fs text k) ≡ false) × (or_before (get_or last (k - 1) None) (level_bytes fs text k) ≡ get_or last (k - 1) None)
+last_level last text fs k are = by_level (has_level fs k) refl
+  where
+    stays : (o : Option (List ℕ)) → (differs o None ≡ false) × (or_before o None ≡ o)
+    stays None = (refl, refl)
+    stays (Some x) = (refl, refl)
+
+    Stays : Option (List ℕ) → Option (List ℕ) → Type 0
+    Stays o now = (differs o now ≡ false) × (or_before o now ≡ o)
+
+    by_level : (b : Bool) → has_level fs k ≡ b → Stays (get_or last (k - 1) None) (cond b (Some (joined_bytes fs text k)) None)
+    by_level false none = stays (get_or last (k - 1) None)
+    by_level true there = subst (λ o. Stays o (Some (joined_bytes fs text k))) (sym (are k there)) (ap not (same_itself (joined_bytes fs text k)), refl)
+
+pub none_broken : (last : List (Option (List ℕ))) (text : List ℕ) (fs : List ControlField) (n : ℕ) → AreLast last text fs →
+    highest_broken (λ k. differs (get_or last (k - 1) None) (level_bytes fs text k)) n ≡ 0
+none_broken last text fs zero are = refl
+none_broken last text fs (suc n) are =
+    ap (λ b. cond b (n + 1) (highest_broken (λ k. differs (get_or last (k - 1) None) (level_bytes fs text k)) n)) (last_level last text fs (n + 1) are).0
+    ∙ none_broken last text fs n are
+
+pub none_renewed : (last : List (Option (List ℕ))) (text : List ℕ) (fs : List ControlField) (n : ℕ) → AreLast last text fs → renewed fs text n last ≡ last
+none_renewed last text fs zero are = refl
+none_renewed last text fs (suc n) are =
+    let back : n + 1 - 1 ≡ n = omega arith in
+    let kept : or_before (get_or last n None) (level_bytes fs text (n + 1)) ≡ get_or last n None =
+    subst (λ m. or_before (get_or last m None) (level_bytes fs text (n + 1)) ≡ get_or last m None) back (last_level last text fs (n + 1) are).1 in
+    ap (λ (xs : List (Option (List ℕ))). set xs n (or_before (get_or last n None) (level_bytes fs text (n + 1)))) (none_renewed last text fs n are)
+    ∙ ap (set last n) kept
+    ∙ set-get_or last n None
