@@ -147,21 +147,30 @@ impl Pass {
         self.after + usize::from(count) <= usize::from(self.suppression.kept)
     }
 
-    /// Writes digits that always show.
+    /// Writes digits that always show. Mostly they are two.
     pub(crate) fn put_kept_digits(&mut self, count: u8, out: &mut [u8])
         requires kept { self.old.after + count ≤ self.old.suppression.kept }
         requires room { count ≤ self.old.start }
         requires within { self.old.start ≤ length out.old }
         ensures { Writes (replicate count Mark.Digit) self.old out.old self.new out.new }
     {
-        let mut written = 0;
-        while count - written >= 2 {
-            self.put_kept_two(out);
-            written += 2;
+        if count == 2 {
+            return self.put_kept_two(out);
         }
-        if written < count {
+        for _ in 0..count {
             self.put_clear_digit(out);
         }
+    }
+
+    /// Writes a character between digits that always shows.
+    pub(crate) fn put_kept_character(&mut self, character: u8, out: &mut [u8])
+        requires kept { self.old.after ≤ self.old.suppression.kept }
+        requires room { 1 ≤ self.old.start }
+        requires within { self.old.start ≤ length out.old }
+        ensures { Writes (Mark.Insert character ∷ []) self.old out.old self.new out.new }
+    {
+        self.start -= 1;
+        out[self.start] = character;
     }
 
     /// Writes two digits that always show, by one division of the number.
@@ -173,10 +182,10 @@ impl Pass {
         ensures { Writes (replicate 2 Mark.Digit) self.old out.old self.new out.new }
     {
         let rest = self.rest / 100;
-        let two = (self.rest - rest * 100) as u32;
+        let two = (self.rest - rest * 100) as u8;
         let tens = two / 10;
-        self.put_known((two - tens * 10) as u8, self.rest / 10, out);
-        self.put_known(tens as u8, rest, out);
+        self.put_known(two - tens * 10, self.rest / 10, out);
+        self.put_known(tens, rest, out);
     }
 
     /// Writes a digit that shows.
@@ -225,10 +234,10 @@ impl Pass {
         let rest = self.rest / 1000;
         let three = (self.rest - rest * 1000) as u32;
         let hundreds = three / 100;
-        let two = three - hundreds * 100;
+        let two = (three - hundreds * 100) as u8;
         let tens = two / 10;
-        self.put_known((two - tens * 10) as u8, self.rest / 10, out);
-        self.put_known(tens as u8, self.rest / 10, out);
+        self.put_known(two - tens * 10, self.rest / 10, out);
+        self.put_known(tens, self.rest / 10, out);
         self.put_known(hundreds as u8, rest, out);
     }
 

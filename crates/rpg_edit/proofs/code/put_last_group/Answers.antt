@@ -37,6 +37,6 @@ returns-clause-writes c =
     let two : 2 ≡ c.args.full + 2 - c.args.full = omega arith in
     subst (λ n. Writes (marks_before true c.args.full n) c.args.pass.now c.args.out.now c.put_clear_digit-2.new.self c.put_clear_digit-2.new.out) two
     (
-      writes_two c.args.full _ _ _ _ _ _ c.requires.full (writes_one c.args.full _ _ _ _ _ _ c.put_group_comma.ensures.writes c.put_clear_digit.ensures)
-      c.put_clear_digit-2.ensures
+    writes_two c.args.full _ _ _ _ _ _ c.requires.full (writes_one c.args.full _ _ _ _ _ _ c.put_group_comma.ensures.writes c.put_clear_digit.ensures)
+    c.put_clear_digit-2.ensures
     )
