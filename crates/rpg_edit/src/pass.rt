@@ -182,10 +182,10 @@ impl Pass {
         ensures { Writes (replicate 2 Mark.Digit) self.old out.old self.new out.new }
     {
         let rest = self.rest / 100;
-        let two = (self.rest - rest * 100) as u8;
-        let tens = two / 10;
-        self.put_known(two - tens * 10, self.rest / 10, out);
-        self.put_known(tens, rest, out);
+        let two = (self.rest - rest * 100) as u32;
+        let tens = u32::from(two as u8 / 10);
+        self.put_known((two - tens * 10) as u8, self.rest / 10, out);
+        self.put_known(tens as u8, rest, out);
     }
 
     /// Writes a digit that shows.
@@ -234,10 +234,10 @@ impl Pass {
         let rest = self.rest / 1000;
         let three = (self.rest - rest * 1000) as u32;
         let hundreds = three / 100;
-        let two = (three - hundreds * 100) as u8;
-        let tens = two / 10;
-        self.put_known(two - tens * 10, self.rest / 10, out);
-        self.put_known(tens, self.rest / 10, out);
+        let two = three - hundreds * 100;
+        let tens = u32::from(two as u8 / 10);
+        self.put_known((two - tens * 10) as u8, self.rest / 10, out);
+        self.put_known(tens as u8, self.rest / 10, out);
         self.put_known(hundreds as u8, rest, out);
     }
 
@@ -296,27 +296,27 @@ impl Pass {
 }
 
 /// Fills a text. Mostly it is short, and costs less without a call.
-fn fill(fill: u8, text: &mut [u8])
-    ensures { text.new ≡ replicate (length text.old) fill }
+fn fill(character: u8, text: &mut [u8])
+    ensures { text.new ≡ replicate (length text.old) character }
 {
     match text.len() {
         0 => {}
-        1 => text[0] = fill,
+        1 => text[0] = character,
         2 => {
-            text[0] = fill;
-            text[1] = fill;
+            text[0] = character;
+            text[1] = character;
         }
         3 => {
-            text[0] = fill;
-            text[1] = fill;
-            text[2] = fill;
+            text[0] = character;
+            text[1] = character;
+            text[2] = character;
         }
         4 => {
-            text[0] = fill;
-            text[1] = fill;
-            text[2] = fill;
-            text[3] = fill;
+            text[0] = character;
+            text[1] = character;
+            text[2] = character;
+            text[3] = character;
         }
-        _ => text.fill(fill),
+        _ => text.fill(character),
     }
 }
