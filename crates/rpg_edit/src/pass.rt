@@ -183,7 +183,7 @@ impl Pass {
     {
         let rest = self.rest / 100;
         let two = (self.rest - rest * 100) as u32;
-        let tens = u32::from(two as u8 / 10);
+        let tens = tens_of(two);
         self.put_known((two - tens * 10) as u8, self.rest / 10, out);
         self.put_known(tens as u8, rest, out);
     }
@@ -235,7 +235,7 @@ impl Pass {
         let three = (self.rest - rest * 1000) as u32;
         let hundreds = three / 100;
         let two = three - hundreds * 100;
-        let tens = u32::from(two as u8 / 10);
+        let tens = tens_of(two);
         self.put_known((two - tens * 10) as u8, self.rest / 10, out);
         self.put_known(tens as u8, self.rest / 10, out);
         self.put_known(hundreds as u8, rest, out);
@@ -293,6 +293,15 @@ impl Pass {
             self.put(marks[left], out);
         }
     }
+}
+
+/// The tens of a number of two digits, by the division of a byte, which costs least.
+#[inline(always)]
+fn tens_of(two: u32) -> u32
+    requires { two < 100 }
+    ensures { result ≡ two / 10 }
+{
+    u32::from(two as u8 / 10)
 }
 
 /// Fills a text. Mostly it is short, and costs less without a call.
