@@ -1,10 +1,10 @@
 -- Numbers written from the last mark to the first.
-use Rattle.std.specs.Prelude.{◌≡◌, ℕ, zero, suc, ◌+◌, ◌-◌, ◌*◌, ◌/◌, ◌<◌, Bool, false, true, List, [], ◌∷◌, ◌++◌, length, take, drop}
+use Rattle.std.specs.Prelude.{◌≡◌, ℕ, zero, suc, ◌+◌, ◌<◌, Bool, false, true, ◌||◌, nat_lt, List, [], ◌∷◌, ◌++◌, length, take, drop}
 use Rattle.rpg_edit_marks.specs.declared.mark.Mark.{Mark}
 use Rattle.rpg_edit_marks.specs.declared.mark.Mark.TheVariants.{Digit, Insert, Always, Sign}
 use Rattle.rpg_edit.specs.declared.suppression.Pass.{Pass}
 use Rattle.rpg_edit_marks.specs.Code.{comma_marks}
-use Rattle.rpg_edit_marks.specs.Edited.{places, character}
+use Rattle.rpg_edit_marks.specs.Edited.{is_begun, places, character}
 
 -- the characters at marks that k more digits follow
 abbrev pub characters_before : Bool → ℕ → ℕ → ℕ → List Mark → ℕ → List ℕ
@@ -34,11 +34,11 @@ pub record IsUsedUp (p : Pass) : Type 0 where
   pub rest : p.rest ≡ 0
   pub kept : p.suppression.kept < p.after
 
+-- the next digit shows
+abbrev pub is_clear : Pass → Bool
+is_clear p = is_begun p.number.size p.after || nat_lt p.after p.suppression.kept
+
 -- the marks of n more digits in front of `left`
 abbrev pub marks_before : Bool → ℕ → ℕ → List Mark
 marks_before commas left zero = []
 marks_before commas left (suc n) = (Digit ∷ comma_marks commas (n + left)) ++ marks_before commas left n
-
--- how many digits follow the comma that comes next in front of `left` digits
-abbrev pub next_comma : ℕ → ℕ
-next_comma left = 3 + (left - 1) / 3 * 3

@@ -1,20 +1,12 @@
 use Rattle.std.proofs.Common.{arith, true}
-use Rattle.rpg_edit.proofs.Codes.{whole-fewer, writes-whole}
+use Rattle.rpg_edit.proofs.Fills.{writes_before}
 use Rattle.rpg_edit.proofs.code.put_shown_groups.Goals as goal
 
-pub put_next_comma-next-requires-clause-room : goal.put_next_comma-next-requires-clause-room
-put_next_comma-next-requires-clause-room c =
-    let fewer = whole-fewer true c.loop-written.written c.args.digits (omega (arith, c.loop-written-test.true)) in
-    omega (arith, fewer, c.requires.room, c.loop-written.invariant.writes.start)
+pub put_last_group-requires-clause-room : goal.put_last_group-requires-clause-room
+put_last_group-requires-clause-room c = omega (arith, c.requires.room, c.put_full_groups-written.ensures.writes.start)
 
-pub put_digit-requires-clause-room : goal.put_digit-requires-clause-room
-put_digit-requires-clause-room c =
-    let fewer = whole-fewer true c.loop-written.written c.args.digits (omega (arith, c.loop-written-test.true)) in
-    omega (arith, fewer, c.requires.room, c.loop-written.invariant.writes.start, c.put_next_comma-next.ensures.writes.start)
-
-pub loop-written-preserved : goal.loop-written-preserved
-loop-written-preserved c = record {
-  writes = writes-whole true c.loop-written.written _ _ _ _ _ _ _ _ c.loop-written.invariant.writes c.put_next_comma-next.ensures.writes c.put_digit.ensures;
-  most = omega (arith, c.loop-written-test.true);
-  next = c.put_next_comma-next.ensures.next;
-}
+pub returns-clause-writes : goal.returns-clause-writes
+returns-clause-writes c =
+    let full = c.put_full_groups-written in
+    let last = c.put_last_group in
+    writes_before true full.result last.result _ _ _ _ _ _ last.ensures.more full.ensures.writes last.ensures.writes

@@ -1,13 +1,13 @@
-use Rattle.std.proofs.Common.{◌≡◌, ◌-◌, ◌≤◌, true}
+use Rattle.std.proofs.Common.{◌≡◌, ◌%◌, ◌-◌, ◌≤◌, true}
 use Rattle.rpg_edit_marks.specs.Code.{whole_marks}
-use Rattle.rpg_edit.specs.Written.{next_comma, Writes}
-use Rattle.rpg_edit.proofs.code.put_shown_groups.Given as goal
+use Rattle.rpg_edit.specs.Written.{Writes}
+use Rattle.rpg_edit.proofs.code.put_full_groups.Given as goal
 
 abbrev pub invariant-loop-written : goal.invariant-loop-written
 invariant-loop-written l = record {
   writes : Writes (whole_marks true l.written) l.initial.pass l.initial.out l.pass l.out;
   most : l.written ≤ l.digits;
-  next : l.next ≡ next_comma l.written;
+  full : l.written % 3 ≡ 0;
 }
 
 abbrev pub decreases-loop-written : goal.decreases-loop-written
