@@ -3,19 +3,22 @@ ghost use Rattle.std.specs.Prelude.{◌≡◌, ◌+◌, ◌-◌, ◌≤◌, All,
 ghost use Rattle.rpg_effect.specs.Ends.{end_of};
 ghost use Rattle.rpg_effect.specs.Forms.{length_of};
 ghost use Rattle.rpg_effect.specs.Input as of;
+ghost use Rattle.rpg_effect.specs.Showing.{shown_if_any};
 ghost use Rattle.rpg_effect.specs.declared.form.Kind.TheVariants as kinds;
 ghost use Rattle.rpg_machine.specs.FixedInputs.{AreFixedInputs, IsFixedInput};
 ghost use Rattle.rpg_machine.specs.Inputs.{filled_field, order_of_text};
 ghost use Rattle.rpg_machine_operations.specs.Words.{DidEffect};
 ghost use Rattle.rpg_object_program.specs.Kept.{IsCharacter};
 ghost use Rattle.rpg_store.specs.Fields.{IsValue};
-ghost use Rattle.rpg_store.specs.Memory.{forms_in};
+ghost use Rattle.rpg_store.specs.Memory.{forms_in, with_on};
+ghost use Rattle.rpg_store.specs.Silent.{names_none};
 
 use crate::fixed_inputs::FixedInput;
 use rpg_decimal::read_zoned;
 use rpg_effect::form::Kind;
 use rpg_effect::halt::Halt;
 use rpg_effect::input::InputField;
+use rpg_effect::operation::Shows;
 use rpg_effect::outcome::End;
 use rpg_store::memory::Memory;
 use rpg_store::store::Store;
@@ -71,8 +74,25 @@ fn fill_number<S: Store + Drop>(
     }
 }
 
-/// Puts characters into a field.
+/// Shows whether a text is blank, where an indicator is named.
+#[inline(always)]
 #[tactic(auto, using(crate::proofs::Filling::silent))]
+fn show_text<S: Store + Drop>(
+    memory: &mut Memory<'_, S>,
+    shows: Shows,
+    is_silent: bool,
+    text: &[u8],
+)
+    requires { is_silent ≡ names_none shows }
+    ensures { memory.new ≡ record memory.old { world = with_on (shown_if_any shows (order_of_text text.now) memory.old.world.on) memory.old.world } }
+{
+    if is_silent {
+        return;
+    }
+    memory.show_if_any(shows, order_of_text(text));
+}
+
+/// Puts characters into a field. They are shown first, so that less is kept over the call that copies them.
 fn fill_text<S: Store + Drop>(
     memory: &mut Memory<'_, S>,
     input: &InputField<u16>,
@@ -85,11 +105,8 @@ fn fill_text<S: Store + Drop>(
     requires characters { All IsCharacter text.now }
     ensures { DidEffect (filled_field kinds.Text input.now text.now memory.old.world) memory.old (end_of result) memory.new }
 {
+    show_text(memory, input.shows, fixed.is_silent, text);
     memory.set_text_in(fixed.place, input.field, 1, text);
-    if fixed.is_silent {
-        return End::GoesOn;
-    }
-    memory.show_if_any(input.shows, order_of_text(text));
     End::GoesOn
 }
 
