@@ -1,5 +1,5 @@
 -- Input fields with which nothing is wrong.
-use Rattle.std.proofs.Common.{◌≡◌, ℕ, ◌+◌, ◌-◌, ◌<◌, ◌≤◌, Bool, true, false, not, ◌&&◌, cond, eqb-true, nat_le, leb-true, List, [], ◌∷◌, drop, length, get_or, Option, None, Some, refl, sym, ap, ◌∙◌, arith}
+use Rattle.std.proofs.Common.{◌≡◌, ℕ, ◌+◌, ◌-◌, ◌≤◌, Bool, true, false, not, ◌&&◌, cond, eqb-true, nat_le, leb-true, List, [], ◌∷◌, length, Option, None, Some, refl, sym, ap, ◌∙◌, arith}
 use Rattle.std.specs.Ordering.{nat_cmp}
 use Rattle.rpg_paper.specs.Paper.{Position}
 use Rattle.rpg_effect.specs.Effect.{Effect, after_output, go_on, quiet, then_go, unless_wrong}
@@ -16,12 +16,15 @@ use Rattle.rpg_effect.specs.declared.outcome.End.TheVariants as answers
 use Rattle.rpg_machine.proofs.OnPaper.{effect_on, or_halt_on, unless_on}
 use Rattle.rpg_machine.proofs.Ranges.{and_true}
 use Rattle.rpg_machine.specs.Inputs.{filled_field}
-use Rattle.rpg_machine_lines.proofs.Left.{from_item}
+use Rattle.rpg_store.proofs.Silent.{nothing_shown, nothing_shown_if_any}
 use Rattle.rpg_store.proofs.Values.{length_high, length_low}
 use Rattle.rpg_store.specs.Fields.{AreForms, IsValue}
 use Rattle.rpg_store.specs.Memory.{Working, forms_in}
 
 pub ruleset numbers = (length_low, length_high)
+
+-- what isn't shown
+pub ruleset silent = (nothing_shown, nothing_shown_if_any)
 
 -- ---- what the rules give
 
@@ -82,17 +85,16 @@ field_filled forms text part f k w right kind is =
     ∙ sym (ap (λ o. unless_wrong o w (filled_field (kind_of (form_at forms f.field)) f (record_part f text) w)) right)
 
 -- one field went on, over a memory that differs in its world alone: what is left of a record is done behind it
-pub field_next : (m w : Working) (text : List ℕ) (fs : List (InputField ℕ)) (i : ℕ) (f : InputField ℕ) (r : rust.End) (v : World nat_cmp) →
-    w ≡ record m { world = w.world } → i < length fs → r ≡ answers.GoesOn → quiet (end_of r) v ≡ field_in (forms_in w) text (get_or fs i f) w.world →
-    record_in (forms_in m) text (drop (i + 1) fs) v ≡ record_in (forms_in m) text (drop i fs) w.world
+pub field_next : (m w : Working) (text : List ℕ) (all fs : List (InputField ℕ)) (f : InputField ℕ) (r : rust.End) (v : World nat_cmp) →
+    w ≡ record m { world = w.world } → all ≡ f ∷ fs → r ≡ answers.GoesOn → quiet (end_of r) v ≡ field_in (forms_in w) text f w.world →
+    record_in (forms_in m) text fs v ≡ record_in (forms_in m) text all w.world
 unfolding record_in
-field_next m w text fs i f r v same low goes h =
-    let item : InputField ℕ = get_or fs i f in
-    let rest : World nat_cmp → Effect nat_cmp = record_in (forms_in m) text (drop (i + 1) fs) in
-    let one : quiet GoesOn v ≡ field_in (forms_in m) text item w.world =
-    ap (λ x. quiet (end_of x) v) (sym goes) ∙ h ∙ ap (λ (x : Working). field_in (forms_in x) text item w.world) same in
-    let step : rest v ≡ record_in (forms_in m) text (item ∷ drop (i + 1) fs) w.world = ap (λ (x : Effect nat_cmp). then_go x rest) one in
-    step ∙ ap (λ (xs : List (InputField ℕ)). record_in (forms_in m) text xs w.world) (sym (from_item fs i f low))
+field_next m w text all fs f r v same is goes h =
+    let rest : World nat_cmp → Effect nat_cmp = record_in (forms_in m) text fs in
+    let one : quiet GoesOn v ≡ field_in (forms_in m) text f w.world =
+    ap (λ x. quiet (end_of x) v) (sym goes) ∙ h ∙ ap (λ (x : Working). field_in (forms_in x) text f w.world) same in
+    let step : rest v ≡ record_in (forms_in m) text (f ∷ fs) w.world = ap (λ (x : Effect nat_cmp). then_go x rest) one in
+    step ∙ ap (λ (xs : List (InputField ℕ)). record_in (forms_in m) text xs w.world) (sym is)
 
 -- the same on every page
 module _ (forms : ℕ → Option FieldForm) (previous : Option Position) where

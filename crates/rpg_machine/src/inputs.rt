@@ -3,20 +3,22 @@ ghost use Rattle.std.specs.Prelude.{◌≡◌, ◌+◌, ◌-◌, ◌≤◌, All,
 ghost use Rattle.rpg_effect.specs.Ends.{end_of};
 ghost use Rattle.rpg_effect.specs.Forms.{length_of};
 ghost use Rattle.rpg_effect.specs.Input as of;
+ghost use Rattle.rpg_effect.specs.Showing.{shown_if_any};
 ghost use Rattle.rpg_effect.specs.declared.form.Kind.TheVariants as kinds;
 ghost use Rattle.rpg_machine.specs.FixedInputs.{AreFixedInputs, IsFixedInput};
 ghost use Rattle.rpg_machine.specs.Inputs.{filled_field, order_of_text};
 ghost use Rattle.rpg_machine_operations.specs.Words.{DidEffect};
 ghost use Rattle.rpg_object_program.specs.Kept.{IsCharacter};
-ghost use Rattle.rpg_store.specs.Contents.{IsEntryAt};
 ghost use Rattle.rpg_store.specs.Fields.{IsValue};
-ghost use Rattle.rpg_store.specs.Memory.{forms_in};
+ghost use Rattle.rpg_store.specs.Memory.{forms_in, with_on};
+ghost use Rattle.rpg_store.specs.Silent.{names_none};
 
 use crate::fixed_inputs::FixedInput;
 use rpg_decimal::read_zoned;
 use rpg_effect::form::Kind;
 use rpg_effect::halt::Halt;
 use rpg_effect::input::InputField;
+use rpg_effect::operation::Shows;
 use rpg_effect::outcome::End;
 use rpg_store::memory::Memory;
 use rpg_store::store::Store;
@@ -46,22 +48,25 @@ fn order_of_text(text: &[u8]) -> Option<Ordering>
 }
 
 /// Puts the number that digits spell into a field, if they spell one.
-#[tactic(auto, using(crate::proofs::Filling::numbers), unfolding(rpg_effect::specs::Showing::shown_if_any))]
+#[tactic(auto, using(crate::proofs::Filling::numbers, crate::proofs::Filling::silent), unfolding(rpg_effect::specs::Showing::shown_if_any))]
 fn fill_number<S: Store + Drop>(
     memory: &mut Memory<'_, S>,
     input: &InputField<u16>,
-    place: usize,
+    fixed: FixedInput,
     digits: &[u8],
 ) -> End
     requires field { IsValue memory.old.program.fields kinds.Number input.now.field 1 }
-    requires place { IsEntryAt memory.old.program.fields place (input.now.field, 1) }
+    requires fixed { IsFixedInput memory.old.program.fields input.now fixed }
     requires long { length digits.now ≡ length_of (forms_in memory.old input.now.field) }
     ensures { DidEffect (filled_field kinds.Number input.now digits.now memory.old.world) memory.old (end_of result) memory.new }
 {
     memory.is_kept();
     match read_zoned(digits) {
         Ok(n) => {
-            memory.set_number_in(place, input.field, 1, n);
+            memory.set_number_in(fixed.place, input.field, 1, n);
+            if fixed.is_silent {
+                return End::GoesOn;
+            }
             memory.show(input.shows, n.cmp(&0));
             End::GoesOn
         }
@@ -69,19 +74,39 @@ fn fill_number<S: Store + Drop>(
     }
 }
 
-/// Puts characters into a field.
+/// Shows whether a text is blank, where an indicator is named.
+#[inline(always)]
+#[tactic(auto, using(crate::proofs::Filling::silent))]
+fn show_text<S: Store + Drop>(
+    memory: &mut Memory<'_, S>,
+    shows: Shows,
+    is_silent: bool,
+    text: &[u8],
+)
+    requires { is_silent ≡ names_none shows }
+    ensures { memory.new ≡ record memory.old { world = with_on (shown_if_any shows (order_of_text text.now) memory.old.world.on) memory.old.world } }
+{
+    if is_silent {
+        return;
+    }
+    memory.show_if_any(shows, order_of_text(text));
+}
+
+/// Puts characters into a field. They are shown first, so that less is kept over the call that copies them.
 fn fill_text<S: Store + Drop>(
     memory: &mut Memory<'_, S>,
     input: &InputField<u16>,
+    fixed: FixedInput,
     text: &[u8],
 ) -> End
     requires field { IsValue memory.old.program.fields kinds.Text input.now.field 1 }
+    requires fixed { IsFixedInput memory.old.program.fields input.now fixed }
     requires long { length text.now ≡ length_of (forms_in memory.old input.now.field) }
     requires characters { All IsCharacter text.now }
     ensures { DidEffect (filled_field kinds.Text input.now text.now memory.old.world) memory.old (end_of result) memory.new }
 {
-    memory.set_text(input.field, 1, text);
-    memory.show_if_any(input.shows, order_of_text(text));
+    show_text(memory, input.shows, fixed.is_silent, text);
+    memory.set_text_in(fixed.place, input.field, 1, text);
     End::GoesOn
 }
 
@@ -100,8 +125,8 @@ fn fill_one<S: Store + Drop>(
     memory.is_kept();
     let part = columns_of(text, *input);
     match fixed.kind {
-        Kind::Number => fill_number(memory, input, fixed.place, part),
-        Kind::Text => fill_text(memory, input, part),
+        Kind::Number => fill_number(memory, input, fixed, part),
+        Kind::Text => fill_text(memory, input, fixed, part),
     }
 }
 
@@ -118,11 +143,14 @@ pub(crate) fn fill_all<S: Store + Drop>(
     requires fixed { AreFixedInputs memory.old.program.fields inputs.now fixed.now }
     ensures { DidEffect (of.record_in (forms_in memory.old) text.now inputs.now memory.old.world) memory.old (end_of result) memory.new }
 {
-    'fields: for i in 0..inputs.len() {
-        match fill_one(memory, text, &inputs[i], fixed[i]) {
+    let (mut left, mut found) = (inputs, fixed);
+    'fields: while let Some((input, behind)) = left.split_first() {
+        match fill_one(memory, text, input, found[0]) {
             End::GoesOn => {}
             End::Halt(halt) => return End::Halt(halt),
         }
+        left = behind;
+        found = &found[1..];
     }
     End::GoesOn
 }

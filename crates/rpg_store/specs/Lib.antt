@@ -10,6 +10,7 @@ pub mod Flat
 pub mod Listed
 pub mod Marked
 pub mod Memory
+pub mod Silent
 pub mod Slots
 pub mod Store
 pub mod Written

@@ -246,6 +246,10 @@ impl Store for FlatStore {
         self.area.slice_mut(from..to)
     }
 
+    fn text_mut_in(&mut self, _place: usize, field: u16, position: u16) -> &mut [u8] {
+        self.text_mut(field, position)
+    }
+
     fn current(&self, table: u16) -> u16 {
         self.slots[table as usize - 1].current
     }

@@ -156,6 +156,10 @@ impl Store for ListedStore {
         characters_mut(&mut self.list[at])
     }
 
+    fn text_mut_in(&mut self, place: usize, _field: u16, _position: u16) -> &mut [u8] {
+        characters_mut(&mut self.list[place])
+    }
+
     fn current(&self, table: u16) -> u16 {
         self.slots[table as usize - 1].current
     }

@@ -16,7 +16,7 @@ ghost use Rattle.std.specs.Prelude.{[], ◌∷◌};
 
 use crate::indicators::Indicators;
 use crate::showing;
-use crate::store::{Store, set_text};
+use crate::store::{Store, set_text, set_text_in};
 use rpg_decimal::{Rest, Scale};
 use rpg_effect::operation::Shows;
 use rpg_object_program::Program;
@@ -193,6 +193,17 @@ impl<'a, S: Store + Drop> Memory<'a, S> {
         ensures { self.new ≡ record self.old { world = set_value self.old.world field position (Text text.now) } }
     {
         set_text(&mut self.store, field, position, text);
+    }
+
+    #[inline(always)]
+    pub fn set_text_in(&mut self, place: usize, field: u16, position: u16, text: &[u8])
+        requires there { IsValue self.old.program.fields kinds.Text field position }
+        requires length { length text.now ≡ length_of (forms_in self.old field) }
+        requires characters { All IsCharacter text.now }
+        requires place { IsEntryAt self.old.program.fields place (field, position) }
+        ensures { self.new ≡ record self.old { world = set_value self.old.world field position (Text text.now) } }
+    {
+        set_text_in(&mut self.store, place, field, position, text);
     }
 
     /// The current entry of a table.

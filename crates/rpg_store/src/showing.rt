@@ -1,6 +1,7 @@
 //! Resulting indicators.
-ghost use Rattle.std.specs.Prelude.{◌≡◌, ◌&&◌, is_none};
+ghost use Rattle.std.specs.Prelude.{◌≡◌};
 ghost use Rattle.rpg_effect.specs.Showing as of;
+ghost use Rattle.rpg_store.specs.Silent as silent;
 
 use crate::indicators::{Indicators, turn_off, turn_on};
 use rpg_effect::operation::Shows;
@@ -19,8 +20,8 @@ fn indicator_for(shows: Shows, order: Ordering) -> Option<u8>
 
 /// Whether no indicator is named, as with most operations: then there is nothing to show, and the order needn't be known.
 #[inline(always)]
-fn names_none(shows: Shows) -> bool
-    ensures { result ≡ (is_none shows.plus && (is_none shows.minus && is_none shows.zero)) }
+pub fn names_none(shows: Shows) -> bool
+    ensures { result ≡ silent.names_none shows }
 {
     shows.plus.is_none() && (shows.minus.is_none() && shows.zero.is_none())
 }

@@ -64,6 +64,16 @@ pub trait Store {
         ensures currents { (w : List ℕ) → currents (written self.old field position w) ≡ currents self.old }
         ensures forms { (w : List ℕ) → forms (written self.old field position w) ≡ forms self.old };
 
+    /// Lends the same characters, where the place of the entry is known.
+    fn text_mut_in(&mut self, place: usize, field: u16, position: u16) -> &mut [u8]
+        requires there { IsText (map.get (contents self.old) (field, position)) }
+        requires place { IsEntryAt (forms self.old) place (field, position) }
+        ensures* writes_back { sem 𝓛 (Lends Self.row (Array byte 0) self.entry result (written self.old field position)) }
+        ensures value { map.get (contents self.old) (field, position) ≡ Some (Text result.now) }
+        ensures contents { (w : List ℕ) → length w ≡ length result.now → contents (written self.old field position w) ≡ map.insert (contents self.old) (field, position) (Text w) }
+        ensures currents { (w : List ℕ) → currents (written self.old field position w) ≡ currents self.old }
+        ensures forms { (w : List ℕ) → forms (written self.old field position w) ≡ forms self.old };
+
     /// The current entry of a table.
     fn current(&self, table: u16) -> u16
         requires { is_table_form (form_at (forms self.now) table) ≡ true }
@@ -86,4 +96,18 @@ pub fn set_text<S: Store>(store: &mut S, field: u16, position: u16, text: &[u8])
     ensures forms { S.forms store.new ≡ S.forms store.old }
 {
     store.text_mut(field, position).copy_from_slice(text);
+}
+
+/// The same, where the place of the entry is known.
+#[inline(always)]
+pub fn set_text_in<S: Store>(store: &mut S, place: usize, field: u16, position: u16, text: &[u8])
+    requires there { (old : List ℕ) × (map.get (S.contents store.old) (field, position) ≡ Some (Text old)) × (length text.now ≡ length old) }
+    requires place { IsEntryAt (S.forms store.old) place (field, position) }
+    ensures contents { S.contents store.new ≡ map.insert (S.contents store.old) (field, position) (Text text.now) }
+    ensures currents { S.currents store.new ≡ S.currents store.old }
+    ensures forms { S.forms store.new ≡ S.forms store.old }
+{
+    store
+        .text_mut_in(place, field, position)
+        .copy_from_slice(text);
 }

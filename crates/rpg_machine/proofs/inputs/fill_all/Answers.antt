@@ -1,27 +1,32 @@
-use Rattle.std.proofs.Common.{◌∙◌, ap, arith}
-use Rattle.std.proofs.lemmas.Slice.Zip.{AllZip-long}
+use Rattle.std.proofs.Common.{◌≡◌, None, ◌∙◌, ap, length, refl}
+use Rattle.std.proofs.lemmas.List.Elements.{All-rest}
+use Rattle.rpg_effect.specs.Input.{input_fault}
 use Rattle.rpg_machine.proofs.Filling.{field_next}
-use Rattle.rpg_machine.proofs.FirstEntries.{input_found}
-use Rattle.rpg_machine.specs.FixedInputs.{IsFixedInput}
-use Rattle.rpg_store.specs.Memory.{Working}
+use Rattle.rpg_machine.proofs.FirstEntries.{inputs_behind}
+use Rattle.rpg_store.specs.Memory.{Working, forms_in}
 use Rattle.rpg_machine.proofs.inputs.fill_all.Goals as goal
 
-pub bounds-fixed-i : goal.bounds-fixed-i
-bounds-fixed-i g c =
-    let long = AllZip-long (IsFixedInput c.args.memory.now.program.fields) c.args.inputs.now c.args.fixed.now c.requires.fixed in
-    omega (arith, long, c.fields-test.true)
-
-pub fill_one-requires-clause-fixed : goal.fill_one-requires-clause-fixed
-fill_one-requires-clause-fixed g c =
-    input_found c.args.memory.now c.fields.memory c.args.inputs.now c.args.fixed.now c.fields.i _ _ c.fields.invariant.rest c.requires.fixed c.fields-test.true
+pub fields-init : goal.fields-init
+fields-init g c = record {
+  rest = refl;
+  right = c.requires.right;
+  found = c.requires.fixed;
+  onward = refl;
+}
 
 pub fields-preserved : goal.fields-preserved
 fields-preserved g c =
+    let m = c.args.memory.now in
     let new = c.fill_one.new.memory in
+    let left = c.fields.left.now in
+    let behind = c.in-Some.behind.now in
+    let f = c.in-Some.input.now in
+    let is = c.in-Some.ensures.cases.0 in
     let same = c.fields.invariant.rest in
     record {
-      rest = c.fill_one.ensures.rest ∙ ap (λ (m : Working). record m { world = new.world }) same;
-      onward = field_next c.args.memory.now c.fields.memory c.args.text.now c.args.inputs.now c.fields.i _ c.fill_one.result new.world
-          same c.fields-test.true c.in-GoesOn.is c.fill_one.ensures.leaves
+      rest = c.fill_one.ensures.rest ∙ ap (λ (x : Working). record x { world = new.world }) same;
+      right = All-rest (λ x. input_fault (forms_in m) (length c.args.text.now) x ≡ None) f behind left is c.fields.invariant.right;
+      found = inputs_behind m.program.fields left behind f c.fields.found.now is c.fields.invariant.found;
+      onward = field_next m c.fields.memory c.args.text.now left behind f c.fill_one.result new.world same is c.in-GoesOn.is c.fill_one.ensures.leaves
           ∙ c.fields.invariant.onward;
     }
