@@ -6,6 +6,7 @@ pub mod Following
 pub mod Keeping
 pub mod Left
 pub mod Moving
+pub mod Needs
 pub mod OneLine
 pub mod Operands
 pub mod Pairs

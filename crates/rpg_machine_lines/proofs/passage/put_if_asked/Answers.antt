@@ -7,7 +7,7 @@ use Rattle.rpg_effect.specs.declared.condition.Condition.{Condition}
 use Rattle.rpg_machine_lines.proofs.AllLines.{asked, unasked}
 use Rattle.rpg_machine_lines.proofs.Following.{ok_each}
 use Rattle.rpg_machine_lines.specs.Outputs.{output_of}
-use Rattle.rpg_object_program.specs.Object.{Object}
+use Rattle.rpg_object_program.specs.Object.{Object, line_row}
 use Rattle.rpg_store.specs.Memory.{held_of}
 use Rattle.rpg_machine_lines.proofs.passage.put_if_asked.Goals as goal
 
@@ -31,4 +31,4 @@ returns-clause-done g c =
     let misses = ap (λ o. asks o m.world.on l.alternatives.items) (ap (λ (p : Object). p.overflow) (sym c.rows-rows.ensures.same))
     ∙ ap (λ s. asks c.rows-rows.result.now.overflow s l.alternatives.items) (sym c.on.ensures)
     ∙ ap (asks c.rows-rows.result.now.overflow c.on.result.now) (sym c.deref.ensures.value) ∙ sym c.is_asked.ensures ∙ c.if-is_asked.false in
-    unasked m.program c.args.pass l (held_of m) (output_of c.args.output.now) misses
+    unasked m.program c.args.pass (line_row l) (held_of m) (output_of c.args.output.now) misses

@@ -1,25 +1,59 @@
-use Rattle.std.proofs.Common.{◌<◌, ◌≤◌, sym, ap, ◌∙◌, arith, length, get_or, subst}
+use Rattle.std.proofs.Common.{◌≡◌, ◌<◌, ◌≤◌, false, None, refl, sym, ap, ◌∙◌, arith, length, get_or, subst}
 use Rattle.rpg_effect.specs.Ends.{GoesOn, Halt, end_of}
 use Rattle.rpg_effect.specs.Halts.{halt_number}
 use Rattle.rpg_effect.specs.Put.{IsDone}
-use Rattle.rpg_machine_lines.proofs.AllLines.{all_done, one, rest_end, rest_halts, rest_next, right_at}
-use Rattle.rpg_machine_lines.proofs.PassLines.{names_next, number_low, numbers_many}
+use Rattle.rpg_effect.specs.World.{holds_if_any}
+use Rattle.rpg_effect.specs.declared.outcome.End.TheVariants as answers
+use Rattle.rpg_machine_lines.proofs.AllLines.{all_done, one, rest_end, rest_halts, rest_next, right_at, without_needed}
+use Rattle.rpg_machine_lines.proofs.PassLines.{listed_many, names_next, next_is, next_listed, number_low}
 use Rattle.rpg_machine_lines.proofs.Planned.{plan_at, plans_many}
 use Rattle.rpg_machine_lines.specs.Outputs.{output_of}
 use Rattle.rpg_machine_lines.specs.PassLines.{pass_lines}
+use Rattle.rpg_machine_lines.specs.Passages.{needed_at}
 use Rattle.rpg_machine_lines.specs.Plans.{IsPlannedLine}
 use Rattle.rpg_machine_lines.specs.Right.{IsRightLine}
+use Rattle.rpg_machine_lines.specs.declared.pass_lines.PassLine.{PassLine}
 use Rattle.rpg_object_program.specs.Object.{Object, line_row}
 use Rattle.rpg_store.specs.Memory.{held_of}
 use Rattle.rpg_machine_lines.proofs.passage.put_lines.Goals as goal
+
+-- stands where nothing is listed
+abbrev none : PassLine
+none = record { number = 0; needed = None }
+
+pub lines-preserved-then-not-may_be_asked : goal.lines-preserved-then-not-may_be_asked
+lines-preserved-then-not-may_be_asked g c =
+    let p = c.args.memory.now.program in
+    let pass = c.args.pass in
+    let found = c.args.plan.now.passages in
+    let listed = c.lines_at-listed-items.result.now in
+    let i = c.lines.listed-index in
+    let has = c.requires.plan.passages in
+    let told = c.lines_at-listed-items.ensures in
+    let next = next_listed p pass found has listed told i none c.lines-test.true in
+    let l = next.0 in
+    let here = next.1 in
+    let is = next_is p pass found has listed told i none c.lines-test.true l here.number in
+    let low : i < length (pass_lines p pass) = omega (arith, c.lines-test.true, listed_many p pass found has listed told) in
+    let w = held_of c.lines.memory in
+    let q = output_of c.lines.output in
+    let fails : holds_if_any w.world.on (needed_at p.overflow l.time l.alternatives pass) ≡ false =
+    ap (holds_if_any w.world.on) (sym here.needed) ∙ ap (λ s. holds_if_any s (get_or listed i none).needed) (sym c.on.ensures)
+    ∙ sym c.may_be_asked.ensures ∙ c.if-not-may_be_asked.true in
+    record {
+      near = c.lines.invariant.near;
+      program = c.lines.invariant.program;
+      onward = λ e u t h.
+          c.lines.invariant.onward e u t (rest_next p pass (pass_lines p pass) l i low is w w u q q t answers.GoesOn e refl (without_needed p pass l w q fails) h);
+    }
 
 pub index-line-requires : goal.index-line-requires
 index-line-requires g c =
     let p = c.args.memory.now.program in
     let rows = ap (λ (x : Object). x.lines) (sym c.rows-rows.ensures.same) in
     let has = c.requires.plan.passages in
-    let told = c.lines_at-number-items.ensures in
-    let low = number_low p c.args.pass c.args.plan.now.passages has c.lines_at-number-items.result.now told c.rows-rows.result.now.lines.items rows c.lines.number-index c.lines-test.true in
+    let told = c.lines_at-listed-items.ensures in
+    let low = number_low p c.args.pass c.args.plan.now.passages has c.lines_at-listed-items.result.now told c.lines.listed-index none c.lines-test.true c.rows-rows.result.now.lines.items rows in
     omega (arith, low)
 
 pub index-found-requires : goal.index-found-requires
@@ -28,51 +62,51 @@ index-found-requires g c =
     let lines = c.rows-rows.result.now.lines.items in
     let rows = ap (λ (x : Object). x.lines) (sym c.rows-rows.ensures.same) in
     let has = c.requires.plan.passages in
-    let told = c.lines_at-number-items.ensures in
-    let low = number_low p c.args.pass c.args.plan.now.passages has c.lines_at-number-items.result.now told lines rows c.lines.number-index c.lines-test.true in
+    let told = c.lines_at-listed-items.ensures in
+    let low = number_low p c.args.pass c.args.plan.now.passages has c.lines_at-listed-items.result.now told c.lines.listed-index none c.lines-test.true lines rows in
     omega (arith, low, plans_many p c.args.plan.now lines c.requires.plan rows)
 
 pub put_if_asked-requires-clause-right : goal.put_if_asked-requires-clause-right
 put_if_asked-requires-clause-right g c =
     let p = c.args.memory.now.program in
     let lines = c.rows-rows.result.now.lines.items in
-    let numbers = c.lines_at-number-items.result.now in
-    let i = c.lines.number-index in
+    let listed = c.lines_at-listed-items.result.now in
+    let i = c.lines.listed-index in
     let l = c.index-line.result.now in
     let rows = ap (λ (x : Object). x.lines) (sym c.rows-rows.ensures.same) in
     let has = c.requires.plan.passages in
-    let told = c.lines_at-number-items.ensures in
-    let low = number_low p c.args.pass c.args.plan.now.passages has numbers told lines rows i c.lines-test.true in
+    let told = c.lines_at-listed-items.ensures in
+    let low = number_low p c.args.pass c.args.plan.now.passages has listed told i none c.lines-test.true lines rows in
     subst (λ (x : Object). IsRightLine x (line_row l)) (sym c.lines.invariant.program)
-    (right_at p lines (get_or numbers i 0) l c.requires.right rows low c.index-line.ensures)
+    (right_at p lines (get_or listed i none).number l c.requires.right rows low c.index-line.ensures)
 
 pub put_if_asked-requires-clause-planned : goal.put_if_asked-requires-clause-planned
 put_if_asked-requires-clause-planned g c =
     let p = c.args.memory.now.program in
     let lines = c.rows-rows.result.now.lines.items in
-    let numbers = c.lines_at-number-items.result.now in
-    let i = c.lines.number-index in
+    let listed = c.lines_at-listed-items.result.now in
+    let i = c.lines.listed-index in
     let l = c.index-line.result.now in
     let found = c.index-found.result.now in
     let rows = ap (λ (x : Object). x.lines) (sym c.rows-rows.ensures.same) in
     let has = c.requires.plan.passages in
-    let told = c.lines_at-number-items.ensures in
-    let low = number_low p c.args.pass c.args.plan.now.passages has numbers told lines rows i c.lines-test.true in
-    let here = plan_at p c.args.plan.now lines (get_or numbers i 0) l found c.requires.plan rows low c.index-line.ensures c.index-found.ensures in
+    let told = c.lines_at-listed-items.ensures in
+    let low = number_low p c.args.pass c.args.plan.now.passages has listed told i none c.lines-test.true lines rows in
+    let here = plan_at p c.args.plan.now lines (get_or listed i none).number l found c.requires.plan rows low c.index-line.ensures c.index-found.ensures in
     subst (λ (x : Object). IsPlannedLine x (line_row l) found) (sym c.lines.invariant.program) here
 
 pub lines-preserved : goal.lines-preserved
 lines-preserved g c =
     let p = c.args.memory.now.program in
     let pass = c.args.pass in
-    let numbers = c.lines_at-number-items.result.now in
-    let i = c.lines.number-index in
+    let listed = c.lines_at-listed-items.result.now in
+    let i = c.lines.listed-index in
     let l = c.index-line.result.now in
     let rows = ap (λ (x : Object). x.lines) (sym c.rows-rows.ensures.same) in
     let has = c.requires.plan.passages in
-    let told = c.lines_at-number-items.ensures in
-    let is = names_next p pass c.args.plan.now.passages has numbers told c.rows-rows.result.now.lines.items rows i c.lines-test.true l c.index-line.ensures in
-    let low : i < length (pass_lines p pass) = omega (arith, c.lines-test.true, numbers_many p pass c.args.plan.now.passages has numbers told) in
+    let told = c.lines_at-listed-items.ensures in
+    let is = names_next p pass c.args.plan.now.passages has listed told i none c.lines-test.true c.rows-rows.result.now.lines.items rows l c.index-line.ensures in
+    let low : i < length (pass_lines p pass) = omega (arith, c.lines-test.true, listed_many p pass c.args.plan.now.passages has listed told) in
     let w = held_of c.lines.memory in
     let v = held_of c.put_if_asked.new.memory in
     let q = output_of c.lines.output in
@@ -89,14 +123,14 @@ pub returns-in-Halt-clause-done : goal.returns-in-Halt-clause-done
 returns-in-Halt-clause-done g c =
     let p = c.args.memory.now.program in
     let pass = c.args.pass in
-    let numbers = c.lines_at-number-items.result.now in
-    let i = c.lines.number-index in
+    let listed = c.lines_at-listed-items.result.now in
+    let i = c.lines.listed-index in
     let l = c.index-line.result.now in
     let rows = ap (λ (x : Object). x.lines) (sym c.rows-rows.ensures.same) in
     let has = c.requires.plan.passages in
-    let told = c.lines_at-number-items.ensures in
-    let is = names_next p pass c.args.plan.now.passages has numbers told c.rows-rows.result.now.lines.items rows i c.lines-test.true l c.index-line.ensures in
-    let low : i < length (pass_lines p pass) = omega (arith, c.lines-test.true, numbers_many p pass c.args.plan.now.passages has numbers told) in
+    let told = c.lines_at-listed-items.ensures in
+    let is = names_next p pass c.args.plan.now.passages has listed told i none c.lines-test.true c.rows-rows.result.now.lines.items rows l c.index-line.ensures in
+    let low : i < length (pass_lines p pass) = omega (arith, c.lines-test.true, listed_many p pass c.args.plan.now.passages has listed told) in
     let w = held_of c.lines.memory in
     let v = held_of c.put_if_asked.new.memory in
     let q = output_of c.lines.output in
@@ -110,11 +144,11 @@ pub returns-clause-done : goal.returns-clause-done
 returns-clause-done g c =
     let p = c.args.memory.now.program in
     let pass = c.args.pass in
-    let numbers = c.lines_at-number-items.result.now in
+    let listed = c.lines_at-listed-items.result.now in
     let has = c.requires.plan.passages in
-    let told = c.lines_at-number-items.ensures in
-    let high : length (pass_lines p pass) ≤ c.lines.number-index = omega (arith, c.lines-test.false, numbers_many p pass c.args.plan.now.passages has numbers told) in
+    let told = c.lines_at-listed-items.ensures in
+    let high : length (pass_lines p pass) ≤ c.lines.listed-index = omega (arith, c.lines-test.false, listed_many p pass c.args.plan.now.passages has listed told) in
     let w = held_of c.lines.memory in
     let q = output_of c.lines.output in
     all_done p pass (held_of c.args.memory.now) w (output_of c.args.output.now) q GoesOn
-    (c.lines.invariant.onward GoesOn w q (rest_end p pass (pass_lines p pass) c.lines.number-index w q high))
+    (c.lines.invariant.onward GoesOn w q (rest_end p pass (pass_lines p pass) c.lines.listed-index w q high))

@@ -13,6 +13,6 @@ invariant-lines g l = record {
   near : IsNear l.memory.world.here;
   program : l.memory.program ≡ l.fn.memory.program;
   onward : (e : End) (v : Held) (o : Bytes) →
-      IsDone (rest l.fn.memory.program l.pass (drop l.number-index (pass_lines l.fn.memory.program l.pass))) (held_of l.memory) (output_of l.output) e v o →
+      IsDone (rest l.fn.memory.program l.pass (drop l.listed-index (pass_lines l.fn.memory.program l.pass))) (held_of l.memory) (output_of l.output) e v o →
       IsDone (rest l.fn.memory.program l.pass (pass_lines l.fn.memory.program l.pass)) (held_of l.fn.memory) (output_of l.fn.output) e v o;
 }
