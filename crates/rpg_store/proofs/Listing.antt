@@ -45,20 +45,20 @@ one_text [] u n h = cc
 one_text (c ∷ t) u n h = cc
 
 -- a number of the list is the number there, and a text is the text there
-pub number_of_joined : (ts : List (List ℕ)) (ns : List ℤ) (k : ℕ) (n : ℤ) → slice_get (joined ts ns) k ≡ Some (Number n) → slice_get ns k ≡ Some n
+number_of_joined : (ts : List (List ℕ)) (ns : List ℤ) (k : ℕ) (n : ℤ) → slice_get (joined ts ns) k ≡ Some (Number n) → slice_get ns k ≡ Some n
 number_of_joined [] ns k n h = cc
 number_of_joined (t ∷ ts) [] k n h = cc
 number_of_joined (t ∷ ts) (m ∷ ns) zero n h = ap Some (one_number t m n (same_Some _ _ h)).1
 number_of_joined (t ∷ ts) (m ∷ ns) (suc k) n h = number_of_joined ts ns k n h
 
-pub text_of_joined : (ts : List (List ℕ)) (ns : List ℤ) (k : ℕ) (u : List ℕ) → slice_get (joined ts ns) k ≡ Some (Text u) → slice_get ts k ≡ Some u
+text_of_joined : (ts : List (List ℕ)) (ns : List ℤ) (k : ℕ) (u : List ℕ) → slice_get (joined ts ns) k ≡ Some (Text u) → slice_get ts k ≡ Some u
 text_of_joined [] ns k u h = cc
 text_of_joined (t ∷ ts) [] k u h = cc
 text_of_joined (t ∷ ts) (m ∷ ns) zero u h = ap Some (one_text t u m (same_Some _ _ h))
 text_of_joined (t ∷ ts) (m ∷ ns) (suc k) u h = text_of_joined ts ns k u h
 
 -- another number where one stands, and another text as long where one stands
-pub joined-set_number : (ts : List (List ℕ)) (ns : List ℤ) (k : ℕ) (n m : ℤ) → slice_get (joined ts ns) k ≡ Some (Number n) → joined ts (set ns k m) ≡ set (joined ts ns) k (Number m)
+joined-set_number : (ts : List (List ℕ)) (ns : List ℤ) (k : ℕ) (n m : ℤ) → slice_get (joined ts ns) k ≡ Some (Number n) → joined ts (set ns k m) ≡ set (joined ts ns) k (Number m)
 joined-set_number [] ns k n m h = cc
 joined-set_number (t ∷ ts) [] k n m h = cc
 joined-set_number (t ∷ ts) (x ∷ ns) zero n m h = ap (λ u. one_value u m ∷ joined ts ns) (one_number t x n (same_Some _ _ h)).0
@@ -70,7 +70,7 @@ as_text [] u [] n h l = cc
 as_text (c ∷ t) [] [] n h l = cc
 as_text (c ∷ t) (d ∷ u) [] n h l = absurd (omega arith)
 
-pub joined-set_text : (ts : List (List ℕ)) (ns : List ℤ) (k : ℕ) (u w : List ℕ) → slice_get (joined ts ns) k ≡ Some (Text u) → length w ≡ length u → joined (set ts k w) ns ≡ set (joined ts ns) k (Text w)
+joined-set_text : (ts : List (List ℕ)) (ns : List ℤ) (k : ℕ) (u w : List ℕ) → slice_get (joined ts ns) k ≡ Some (Text u) → length w ≡ length u → joined (set ts k w) ns ≡ set (joined ts ns) k (Text w)
 joined-set_text [] ns k u w h l = cc
 joined-set_text (t ∷ ts) [] k u w h l = cc
 joined-set_text (t ∷ ts) (x ∷ ns) zero u w h l = ap (λ v. v ∷ joined ts ns) (as_text t u w x (same_Some _ _ h) l)
@@ -175,12 +175,12 @@ over_whole t w h = grind (arith, common_steps)
 long_front : (t w : List ℕ) → length (laid_at_front t w) ≡ length t
 long_front t w = grind (arith, common_steps)
 
--- bytes over a text that is lent
 over_items : (x : Vec ℕ Global) (t w : List ℕ) → x.items ≡ t → (with_items x w).items ≡ laid_at_front t w
 over_items x t w h =
     let l : x.len ≡ length t = x.ok.0 ∙ ap length h in
     ap (λ k. take k (w ++ drop (length w) x.items)) l ∙ ap (λ xs. take (length t) (w ++ drop (length w) xs)) h
 
+-- bytes over a text that is lent
 pub lent_there : (slots : List Slot) (vs : List (Vec ℕ Global)) (ns : List ℤ) (q e : ℕ) (t : List ℕ) (n : ℕ) (x : Vec ℕ Global) (w : List ℕ) → At (listed slots (map (λ v. v.items) vs) ns) q e (Text t) → n ≡ spot slots (q, e) → x.items ≡ t →
     listed slots (map (λ v. v.items) (set vs n (with_items x w))) ns ≡ listed_with_text (listed slots (map (λ v. v.items) vs) ns) q e w
 lent_there slots vs ns q e t n x w a p r =

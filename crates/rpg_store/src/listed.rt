@@ -13,8 +13,8 @@ use rpg_object_program::Program;
 use std::alloc::{AllocError, Global};
 use std::marker::Model;
 
-/// The number and the text of each entry, in the order of the fields and of the entries of each. The text of a number is empty, and the
-/// number of a text is 0.
+/// The number and the text of each entry, in the order of the fields and of the entries of each. An entry is a number where its text is
+/// empty, since each text has a character at least; the number of a text is 0.
 #[derive(Drop)]
 pub struct ListedStore {
     slots: Vec<Slot>,
