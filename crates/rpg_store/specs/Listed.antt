@@ -1,6 +1,6 @@
 -- A store that lists its values.
-use Rattle.std.specs.Prelude.{ℕ, List, ◌++◌, take, drop, length, slice_get, slice_set}
-use Rattle.rpg_effect.specs.Values.{Value, Text, characters_of}
+use Rattle.std.specs.Prelude.{ℕ, ℤ, List, [], ◌∷◌, ◌++◌, take, drop, length, Some, slice_get, slice_set}
+use Rattle.rpg_effect.specs.Values.{Value, Number, Text, characters_of, number_of}
 use Rattle.rpg_store.specs.Contents.{by_entry}
 use Rattle.rpg_store.specs.Slots.{forms_of, spot}
 use Rattle.rpg_store.specs.Store.{Values}
@@ -9,6 +9,25 @@ use Rattle.rpg_store.specs.declared.slot.Slot.{Slot}
 pub record Listed : Type 0 where
   pub slots : List Slot
   pub list : List Value
+
+-- an entry by its text and its number: a number has no text
+abbrev pub one_value : List ℕ → ℤ → Value
+one_value [] n = Number n
+one_value (c ∷ t) n = Text (c ∷ t)
+
+-- the values of entries by their texts and their numbers
+abbrev pub joined : List (List ℕ) → List ℤ → List Value
+joined [] ns = []
+joined (t ∷ ts) [] = []
+joined (t ∷ ts) (n ∷ ns) = one_value t n ∷ joined ts ns
+
+-- the number of an entry, 0 where it is a text
+abbrev pub number_part : Value → ℤ
+number_part v = number_of (Some v)
+
+-- the text of an entry, empty where it is a number
+abbrev pub text_part : Value → List ℕ
+text_part v = characters_of (Some v)
 
 abbrev pub listed_contents : Listed → Values
 listed_contents s = by_entry (forms_of s.slots) s.list

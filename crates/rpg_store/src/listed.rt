@@ -1,13 +1,10 @@
 //! A store that lists its values.
-ghost use Rattle.std.specs.Prelude.{◌≡◌, ◌++◌, map as along, IfOk, OnOk, Some};
-ghost use Rattle.std.specs.Borrow.{Lends, sem, Array, u8 as byte};
-ghost use Rattle.rpg_effect.specs.Values.{Number, Text, held};
-ghost use Rattle.rpg_effect.specs.contracts.value.Value.{the_row as value_row};
-ghost use Rattle.rpg_store.specs.Characters.{with_characters};
-ghost use Rattle.rpg_store.specs.First.{first_contents, first_currents, joined_values};
-ghost use Rattle.rpg_store.specs.Listed.{listed_contents, listed_with_text};
+ghost use Rattle.std.specs.Prelude.{◌≡◌, ◌++◌, map as along, IfOk, OnOk};
+ghost use Rattle.std.specs.List.{flat_map};
+ghost use Rattle.rpg_effect.specs.Values.{held};
+ghost use Rattle.rpg_store.specs.First.{first_contents, first_currents};
+ghost use Rattle.rpg_store.specs.Listed.{listed_contents, listed_with_text, number_part, text_part};
 ghost use Rattle.rpg_store.specs.Slots.{currents, forms_of};
-ghost use Rattle.rpg_store.specs.Store.{IsNumber, IsText};
 
 use crate::slot::{Slot, place, slots_of};
 use crate::store::Store;
@@ -16,56 +13,94 @@ use rpg_object_program::Program;
 use std::alloc::{AllocError, Global};
 use std::marker::Model;
 
-/// A value for each entry, in the order of the fields and of the entries of each.
+/// The number and the text of each entry, in the order of the fields and of the entries of each. An entry is a number where its text is
+/// empty, since each text has a character at least; the number of a text is 0.
 #[derive(Drop)]
 pub struct ListedStore {
     slots: Vec<Slot>,
-    list: Vec<Value>,
+    numbers: Vec<i64>,
+    texts: Vec<Vec<u8>>,
 }
 
 impl Model for ListedStore {
     ghost use Rattle.std.specs.Prelude.{map as along};
-    ghost use Rattle.rpg_effect.specs.Values.{held};
-    ghost use Rattle.rpg_store.specs.Listed.{Listed};
+    ghost use Rattle.rpg_store.specs.Listed.{Listed, joined};
     ghost use Rattle.rpg_store.specs.Slots.{AreInOrder};
 
     ghost Value = { Listed };
 
-    ghost view = { λ s. record { slots = s.slots.items; list = along held s.list.items } };
+    ghost view = { λ s. record { slots = s.slots.items; list = joined (along (λ t. t.items) s.texts.items) s.numbers.items } };
 
     ghost invariant = { λ s. AreInOrder 0 s.slots.items };
 }
 
-/// A value like that one.
-fn copy_of(alloc: Global, value: &Value) -> Result<Value, AllocError>
-    ensures { IfOk result (λ v. held v ≡ held value.now) }
+/// The number of a value, 0 where it is a text.
+fn number_of(value: &Value) -> i64
+    ensures { result ≡ number_part (held value.now) }
 {
     match value {
-        Value::Number(n) => Ok(Value::Number(*n)),
-        Value::Text(text) => Ok(Value::Text(Vec::from_slice(alloc, text.as_slice())?)),
+        Value::Number(n) => *n,
+        Value::Text(_) => 0,
     }
 }
 
-/// Adds values like those.
-fn add_copies(alloc: Global, values: &[Value], copies: &mut Vec<Value>) -> Result<(), AllocError>
-    ensures { OnOk result (along held copies.new.items ≡ along held copies.old.items ++ along held values.now) }
+/// The text of a value, empty where it is a number.
+fn text_of(alloc: Global, value: &Value) -> Result<Vec<u8>, AllocError>
+    ensures { IfOk result (λ t. t.items ≡ text_part (held value.now)) }
+{
+    match value {
+        Value::Number(_) => Ok(Vec::new(alloc)),
+        Value::Text(text) => Vec::from_slice(alloc, text.as_slice()),
+    }
+}
+
+fn add_numbers(values: &[Value], numbers: &mut Vec<i64>) -> Result<(), AllocError>
+    ensures { OnOk result (numbers.new.items ≡ numbers.old.items ++ along number_part (along held values.now)) }
 {
     for value in values {
-        let copied = copy_of(alloc, value)?;
-        copies.push(copied)?;
+        numbers.push(number_of(value))?;
     }
     Ok(())
 }
 
-/// The values of all fields, one behind the other.
-fn copies_of(alloc: Global, values: &[Vec<Value>]) -> Result<Vec<Value>, AllocError>
-    ensures { IfOk result (λ vs. along held vs.items ≡ joined_values (along (λ us. along held us.items) values.now)) }
+fn add_texts(alloc: Global, values: &[Value], texts: &mut Vec<Vec<u8>>) -> Result<(), AllocError>
+    ensures { OnOk result (along (λ t. t.items) texts.new.items ≡ along (λ t. t.items) texts.old.items ++ along text_part (along held values.now)) }
 {
-    let mut copies = Vec::new(alloc);
-    for of_field in values {
-        add_copies(alloc, of_field, &mut copies)?;
+    for value in values {
+        let text = text_of(alloc, value)?;
+        texts.push(text)?;
     }
-    Ok(copies)
+    Ok(())
+}
+
+/// The numbers of all fields, one behind the other.
+fn numbers_of(alloc: Global, count: usize, values: &[Vec<Value>]) -> Result<Vec<i64>, AllocError>
+    ensures { IfOk result (λ ns. ns.items ≡ flat_map (λ us. along number_part (along held us.items)) values.now) }
+{
+    let mut numbers = Vec::with_capacity(alloc, count)?;
+    for of_field in values {
+        add_numbers(of_field, &mut numbers)?;
+    }
+    Ok(numbers)
+}
+
+/// The texts of all fields, one behind the other.
+fn texts_of(alloc: Global, count: usize, values: &[Vec<Value>]) -> Result<Vec<Vec<u8>>, AllocError>
+    ensures { IfOk result (λ ts. along (λ t. t.items) ts.items ≡ flat_map (λ us. along text_part (along held us.items)) values.now) }
+{
+    let mut texts = Vec::with_capacity(alloc, count)?;
+    for of_field in values {
+        add_texts(alloc, of_field, &mut texts)?;
+    }
+    Ok(texts)
+}
+
+/// How many entries all fields have.
+fn entries_count(slots: &[Slot]) -> usize {
+    match slots.last() {
+        Some(slot) => slot.first as usize + slot.form.entries as usize,
+        None => 0,
+    }
 }
 
 impl ListedStore {
@@ -77,31 +112,14 @@ impl ListedStore {
     {
         let tables = program.rows();
         let slots = slots_of(alloc, &tables.fields)?;
-        let list = copies_of(alloc, &tables.values)?;
-        Ok(ListedStore { slots, list })
-    }
-}
-
-/// Lends the characters of a text.
-fn characters_mut(value: &mut Value) -> &mut [u8]
-    requires { IsText (Some (held value.old)) }
-    ensures* lends { sem 𝓛 (Lends value_row (Array byte 0) value.entry result (with_characters value.old)) }
-    ensures text { held value.old ≡ Text result.now }
-{
-    match value {
-        Value::Text(text) => text.as_mut_slice(),
-        Value::Number(_) => unreachable!(),
-    }
-}
-
-/// Puts a number in the place of another.
-fn put_number(value: &mut Value, n: i64)
-    requires { IsNumber (Some (held value.old)) }
-    ensures { held value.new ≡ Number n }
-{
-    match value {
-        Value::Number(there) => *there = n,
-        Value::Text(_) => unreachable!(),
+        let count = entries_count(&slots);
+        let numbers = numbers_of(alloc, count, &tables.values)?;
+        let texts = texts_of(alloc, count, &tables.values)?;
+        Ok(ListedStore {
+            slots,
+            numbers,
+            texts,
+        })
     }
 }
 
@@ -115,49 +133,37 @@ impl Store for ListedStore {
     ghost written = { listed_with_text };
 
     fn number(&self, field: u16, position: u16) -> i64 {
-        match &self.list[place(&self.slots, field, position)] {
-            Value::Number(n) => *n,
-            Value::Text(_) => unreachable!(),
-        }
+        self.numbers[place(&self.slots, field, position)]
     }
 
     fn set_number(&mut self, field: u16, position: u16, n: i64) {
         let at = place(&self.slots, field, position);
-        put_number(&mut self.list[at], n);
+        self.numbers[at] = n;
     }
 
     fn number_in(&self, place: usize, _field: u16, _position: u16) -> i64 {
-        match &self.list[place] {
-            Value::Number(n) => *n,
-            Value::Text(_) => unreachable!(),
-        }
+        self.numbers[place]
     }
 
     fn set_number_in(&mut self, place: usize, _field: u16, _position: u16, n: i64) {
-        put_number(&mut self.list[place], n);
+        self.numbers[place] = n;
     }
 
     fn text(&self, field: u16, position: u16) -> &[u8] {
-        match &self.list[place(&self.slots, field, position)] {
-            Value::Number(_) => unreachable!(),
-            Value::Text(text) => text.as_slice(),
-        }
+        self.texts[place(&self.slots, field, position)].as_slice()
     }
 
     fn text_in(&self, place: usize, _field: u16, _position: u16) -> &[u8] {
-        match &self.list[place] {
-            Value::Number(_) => unreachable!(),
-            Value::Text(text) => text.as_slice(),
-        }
+        self.texts[place].as_slice()
     }
 
     fn text_mut(&mut self, field: u16, position: u16) -> &mut [u8] {
         let at = place(&self.slots, field, position);
-        characters_mut(&mut self.list[at])
+        self.texts[at].as_mut_slice()
     }
 
     fn text_mut_in(&mut self, place: usize, _field: u16, _position: u16) -> &mut [u8] {
-        characters_mut(&mut self.list[place])
+        self.texts[place].as_mut_slice()
     }
 
     fn current(&self, table: u16) -> u16 {

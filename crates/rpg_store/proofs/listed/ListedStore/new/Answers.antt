@@ -1,12 +1,15 @@
-use Rattle.std.proofs.Common.{◌≡◌, ◌≤◌, List, map, sym, ap, ◌∙◌, subst, arith}
+use Rattle.std.proofs.Common.{◌≡◌, ◌≤◌, Global, List, Vec, map, sym, ap, ◌∙◌, subst, arith}
 use Rattle.rpg_effect.specs.Values.{held}
+use Rattle.rpg_effect.specs.declared.value.Value as entry
 use Rattle.rpg_effect.specs.declared.form.FieldForm.{FieldForm}
 use Rattle.rpg_object_program.specs.Object.{Object}
 use Rattle.rpg_store.specs.Contents.{by_entry}
 use Rattle.rpg_store.specs.First.{joined_values}
+use Rattle.rpg_store.specs.Listed.{joined, number_part, text_part}
 use Rattle.rpg_store.specs.Slots.{currents, entries_count, forms_of, AreInOrder}
 use Rattle.rpg_store.specs.declared.slot.Slot.{Slot}
 use Rattle.rpg_store.proofs.FirstSlots.{currents_first, entries_few, forms_from, order_from}
+use Rattle.rpg_store.proofs.Listing.{flat_map_joined, joined_first}
 use Rattle.rpg_store.proofs.listed.ListedStore.new.Goals as goal
 
 pub slots_of-requires : goal.slots_of-requires
@@ -27,10 +30,17 @@ returns-clause-forms c =
 
 pub returns-clause-contents : goal.returns-clause-contents
 returns-clause-contents c =
+    let p = c.rows-tables.ensures.kept in
+    let values = joined_values c.args.program.now.values in
     let same : c.deref.result.now ≡ c.args.program.now.fields = c.deref.ensures.value ∙ ap (λ (o : Object). o.fields) c.rows-tables.ensures.same in
-    let vs : map held c.in_ok-list.list.items ≡ joined_values c.args.program.now.values = c.in_ok-list.ensures ∙ ap (λ us. joined_values (map (λ vs. map held vs.items) us)) c.deref-2.ensures.value ∙ ap (λ (o : Object). joined_values o.values) c.rows-tables.ensures.same in
-    ap (λ fs. by_entry fs (map held c.in_ok-list.list.items)) (ap forms_of c.in_ok-slots.ensures ∙ forms_from 0 c.deref.result.now ∙ same)
-    ∙ ap (by_entry c.args.program.now.fields) vs
+    let texts : map (λ t. t.items) c.in_ok-texts.texts.items ≡ map text_part values =
+    c.in_ok-texts.ensures ∙ flat_map_joined text_part (λ (us : Vec entry.Value Global). map held us.items) c.deref-4.result.now
+    ∙ ap (λ us. map text_part (joined_values (map (λ vs. map held vs.items) us))) c.deref-4.ensures.value ∙ ap (λ (o : Object). map text_part (joined_values o.values)) c.rows-tables.ensures.same in
+    let numbers : c.in_ok-numbers.numbers.items ≡ map number_part values =
+    c.in_ok-numbers.ensures ∙ flat_map_joined number_part (λ (us : Vec entry.Value Global). map held us.items) c.deref-3.result.now
+    ∙ ap (λ us. map number_part (joined_values (map (λ vs. map held vs.items) us))) c.deref-3.ensures.value ∙ ap (λ (o : Object). map number_part (joined_values o.values)) c.rows-tables.ensures.same in
+    ap (λ fs. by_entry fs (joined (map (λ t. t.items) c.in_ok-texts.texts.items) c.in_ok-numbers.numbers.items)) (ap forms_of c.in_ok-slots.ensures ∙ forms_from 0 c.deref.result.now ∙ same)
+    ∙ ap (by_entry c.args.program.now.fields) (ap (λ ts. joined ts c.in_ok-numbers.numbers.items) texts ∙ ap (λ ns. joined (map text_part values) ns) numbers ∙ joined_first c.args.program.now.fields c.args.program.now.values p.fields p.values)
 
 pub returns-clause-currents : goal.returns-clause-currents
 returns-clause-currents c =

@@ -1,45 +1,47 @@
-use Rattle.std.proofs.Common.{◌≡◌, List, Some, sym, ap, ◌∙◌, subst, arith}
+use Rattle.std.proofs.Common.{◌≡◌, ℕ, List, map, sym, ap, ◌∙◌, subst, arith}
 use Rattle.std.proofs.Math.Facts.{to_z-of_z}
+use Rattle.std.proofs.lemmas.Option.{slice_get_within}
 use Rattle.std.specs.FinMap as maps
-use Rattle.rpg_effect.specs.Values.{Number, Value, held}
+use Rattle.rpg_effect.specs.Values.{Number}
 use Rattle.rpg_store.specs.Contents.{IsEntry}
 use Rattle.rpg_store.specs.Listed.{Listed, listed_contents}
-use Rattle.rpg_store.specs.Store.{IsNumber}
 use Rattle.rpg_store.specs.Slots.{currents, forms_of, spot}
 use Rattle.rpg_store.specs.declared.slot.Slot.{Slot}
-use Rattle.rpg_store.proofs.Listing.{number_there, of_store, put_there, read_there}
+use Rattle.rpg_store.proofs.Listing.{listed, of_store, number_at, number_there, put_number}
 use Rattle.rpg_store.proofs.listed.ListedStoreStore.set_number.Goals as goal
 
 pub place-at-requires : goal.place-at-requires
 place-at-requires c =
+    let slots = c.self.inside.slots.items in
+    let ts : List (List ℕ) = map (λ t. t.items) c.self.inside.texts.items in
+    let ns = c.self.inside.numbers.items in
     let t = number_there _ c.requires.there in
-    let a = of_store c.self.inside.slots.items c.self.inside.list.items c.args.self.now c.args.field c.args.position _ c.self.view_is c.self.invariant t.1 in
-    subst (λ (slots : List Slot). IsEntry (forms_of slots) (c.args.field, c.args.position)) (sym c.deref.ensures.value) a.entry
+    let a = of_store slots ts ns c.args.self.now c.args.field c.args.position _ c.self.view_is c.self.invariant t.1 in
+    subst (λ (rs : List Slot). IsEntry (forms_of rs) (c.args.field, c.args.position)) (sym c.deref.ensures.value) a.entry
 
 pub index_mut-requires : goal.index_mut-requires
 index_mut-requires c =
+    let slots = c.self.inside.slots.items in
+    let ts : List (List ℕ) = map (λ t. t.items) c.self.inside.texts.items in
+    let ns = c.self.inside.numbers.items in
     let t = number_there _ c.requires.there in
-    let a = of_store c.self.inside.slots.items c.self.inside.list.items c.args.self.now c.args.field c.args.position _ c.self.view_is c.self.invariant t.1 in
-    let p : c.place-at.result ≡ spot c.self.inside.slots.items (c.args.field, c.args.position) = c.place-at.ensures ∙ ap (λ slots. spot slots (c.args.field, c.args.position)) c.deref.ensures.value in
-    omega (arith, a.inside)
-
-pub put_number-requires : goal.put_number-requires
-put_number-requires c =
-    let t = number_there _ c.requires.there in
-    let a = of_store c.self.inside.slots.items c.self.inside.list.items c.args.self.now c.args.field c.args.position _ c.self.view_is c.self.invariant t.1 in
-    let p : c.place-at.result ≡ spot c.self.inside.slots.items (c.args.field, c.args.position) = c.place-at.ensures ∙ ap (λ slots. spot slots (c.args.field, c.args.position)) c.deref.ensures.value in
-    let r = read_there c.self.inside.slots.items c.self.inside.list.items c.args.field c.args.position _ c.place-at.result c.index_mut.result.now a p c.index_mut.ensures.value in
-    subst (λ (v : Value). IsNumber (Some v)) (sym r) tt
+    let a = of_store slots ts ns c.args.self.now c.args.field c.args.position _ c.self.view_is c.self.invariant t.1 in
+    let p : c.place-at.result ≡ spot slots (c.args.field, c.args.position) = c.place-at.ensures ∙ ap (λ rs. spot rs (c.args.field, c.args.position)) c.deref.ensures.value in
+    let h = number_at slots ts ns c.args.field c.args.position t.0 c.place-at.result a p in
+    let w = slice_get_within ns c.place-at.result _ h in
+    omega arith
 
 pub returns-clause-contents : goal.returns-clause-contents
 returns-clause-contents c =
+    let slots = c.self.inside.slots.items in
+    let ts : List (List ℕ) = map (λ t. t.items) c.self.inside.texts.items in
+    let ns = c.self.inside.numbers.items in
     let t = number_there _ c.requires.there in
-    let a = of_store c.self.inside.slots.items c.self.inside.list.items c.args.self.now c.args.field c.args.position _ c.self.view_is c.self.invariant t.1 in
-    let p : c.place-at.result ≡ spot c.self.inside.slots.items (c.args.field, c.args.position) = c.place-at.ensures ∙ ap (λ slots. spot slots (c.args.field, c.args.position)) c.deref.ensures.value in
-    put_there c.self.inside.slots.items c.self.inside.list.items c.args.field c.args.position _ c.place-at.result _ c.self.invariant a p
-    ∙ ap (λ (s : Listed). maps.insert (listed_contents s) (c.args.field, c.args.position) (held c.put_number.new.value)) c.self.view_is
-    ∙ ap (λ v. maps.insert (listed_contents c.args.self.now) (c.args.field, c.args.position) v) c.put_number.ensures
-    ∙ ap (λ n. maps.insert (listed_contents c.args.self.now) (c.args.field, c.args.position) (Number n)) (to_z-of_z c.ranges.n)
+    let a = of_store slots ts ns c.args.self.now c.args.field c.args.position _ c.self.view_is c.self.invariant t.1 in
+    let p : c.place-at.result ≡ spot slots (c.args.field, c.args.position) = c.place-at.ensures ∙ ap (λ rs. spot rs (c.args.field, c.args.position)) c.deref.ensures.value in
+    put_number slots ts ns c.args.field c.args.position t.0 c.place-at.result _ c.self.invariant a p
+    ∙ ap (λ n. maps.insert (listed_contents (listed slots ts ns)) (c.args.field, c.args.position) (Number n)) (to_z-of_z c.ranges.n)
+    ∙ ap (λ (s : Listed). maps.insert (listed_contents s) (c.args.field, c.args.position) (Number c.args.n)) c.self.view_is
 
 pub returns-clause-currents : goal.returns-clause-currents
 returns-clause-currents c = ap (λ (s : Listed). currents s.slots) c.self.view_is
