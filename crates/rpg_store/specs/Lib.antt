@@ -1,5 +1,4 @@
 pub mod Area
-pub mod Characters
 pub mod Codes
 pub mod Contents
 pub mod Fields
