@@ -19,7 +19,7 @@ fn indicator_for(shows: Shows, order: Ordering) -> Option<u8>
 
 /// Whether no indicator is named, as with most operations: then there is nothing to show, and the order needn't be known.
 #[inline(always)]
-fn names_none(shows: Shows) -> bool
+pub fn names_none(shows: Shows) -> bool
     ensures { result ≡ (is_none shows.plus && (is_none shows.minus && is_none shows.zero)) }
 {
     shows.plus.is_none() && (shows.minus.is_none() && shows.zero.is_none())
