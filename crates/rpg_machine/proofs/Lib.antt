@@ -1,4 +1,5 @@
 pub mod Bounds
+pub mod Branching
 pub mod ByNumber
 pub mod Doing
 pub mod Effects
