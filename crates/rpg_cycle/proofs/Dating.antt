@@ -10,9 +10,9 @@ use Rattle.rpg_effect.specs.declared.form.FieldForm.{FieldForm}
 use Rattle.rpg_effect.specs.declared.form.Kind.{Kind}
 use Rattle.rpg_effect.specs.declared.form.Kind.TheVariants as kinds
 use Rattle.rpg_object_program.specs.Kept.{IsDateForm, IsFieldRow}
-use Rattle.rpg_store.proofs.Fitting.{fits-insert}
-use Rattle.rpg_store.specs.Fields.{IsValue}
-use Rattle.rpg_store.specs.Fits.{Fits, HasForm}
+use Rattle.rpg_memory.proofs.Fitting.{fits-insert}
+use Rattle.rpg_memory.specs.Fields.{IsValue}
+use Rattle.rpg_memory.specs.Fits.{Fits, HasForm}
 use Rattle.rpg_store.specs.Store.{Currents, Values}
 
 is_class : (c : Class) → is_date c ≡ true → c ≡ classes.Date

@@ -1,7 +1,7 @@
 -- The date in a memory.
 use Rattle.std.specs.Prelude.{ℕ, ℤ, List}
 use Rattle.rpg_effect.specs.declared.form.FieldForm.{FieldForm}
-use Rattle.rpg_store.specs.Memory.{Working}
+use Rattle.rpg_memory.specs.Memory.{Working}
 use Rattle.rpg_cycle.specs.Starting.{dated}
 
 -- the date goes into each date field of these; the first of them has that number

@@ -6,12 +6,12 @@ ghost use Rattle.rpg_cycle.specs.Dating.{memory_dated};
 ghost use Rattle.rpg_decimal_words.specs.Zoned.{is_digit};
 ghost use Rattle.rpg_effect.specs.Forms.{is_date};
 ghost use Rattle.rpg_object_program.specs.Kept.{IsFieldRow};
-ghost use Rattle.rpg_store.specs.Memory.{forms_in};
+ghost use Rattle.rpg_memory.specs.Memory.{forms_in};
 
 use rpg_decimal::read_zoned;
 use rpg_effect::form::{Class, FieldForm};
 use rpg_store::Store;
-use rpg_store::memory::Memory;
+use rpg_memory::memory::Memory;
 
 /// The date of a job: a number of six digits.
 #[derive(Clone, Copy)]

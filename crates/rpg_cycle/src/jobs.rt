@@ -12,8 +12,9 @@ use rpg_cycle_records::Kept;
 use rpg_effect::input::InputFile;
 use rpg_machine::{Machine, Output};
 use rpg_object_program::section::Place;
-use rpg_store::memory::Memory;
-use rpg_store::{FlatStore, Store, first_values_fit};
+use rpg_memory::memory::Memory;
+use rpg_memory::first_values_fit;
+use rpg_store::{FlatStore, Store};
 use rpg_verify::Verified;
 use std::alloc::{AllocError, Global};
 use std::marker::Model;
@@ -105,7 +106,7 @@ impl<'a, S: Store + Drop> Job<'a, S> {
     ghost use Rattle.rpg_cycle.specs.Stages.{Failed, is_going, told};
     ghost use Rattle.rpg_cycle.specs.Starting.{date_in};
     ghost use Rattle.rpg_machine.specs.Run.{running_place};
-    ghost use Rattle.rpg_store.specs.Memory.{first_working};
+    ghost use Rattle.rpg_memory.specs.Memory.{first_working};
     ghost use Rattle.rpg_verify.specs.Bound.{bound};
 
     /// A job at its start, on a date of six digits, over the values of a memory that no cycle has changed yet.

@@ -10,7 +10,7 @@ use Rattle.rpg_effect.specs.declared.input.InputFile.TheVariants.{Primary}
 use Rattle.rpg_machine.proofs.Orderly.{orderly}
 use Rattle.rpg_machine.specs.Accepted.{IsOrderly}
 use Rattle.rpg_machine.specs.Outputs.{inputs_at, input_fields_of, length_at}
-use Rattle.rpg_store.proofs.Programs.{program_forms}
+use Rattle.rpg_memory.proofs.Programs.{program_forms}
 use Rattle.rpg_object_program.specs.Kept.{IsProgram}
 use Rattle.rpg_object_program.specs.Object.{Object, input_length}
 use Rattle.rpg_verify_rules.proofs.Soundness.{sound}

@@ -32,14 +32,14 @@ use Rattle.rpg_cycle_safety.proofs.Writing.{current_set, index_may, leaves, numb
 use Rattle.rpg_cycle_safety.specs.Holding.{Holds, Keeps}
 use Rattle.rpg_machine_operations.proofs.Characters.{over_characters, zoned_characters}
 use Rattle.rpg_machine_operations.proofs.Doing.{assign_entries, compute_entries, cross_entries, divide_entries, look_entries, look_positions, look_reads, move_entries, remainder_entries}
-use Rattle.rpg_store.proofs.Entries.{and_true, index_value}
+use Rattle.rpg_memory.proofs.Entries.{and_true, index_value}
 use Rattle.rpg_machine_operations.proofs.Finding.{first_fits, found_fits, has_position, held, holds_index, looked}
 use Rattle.rpg_machine_operations.proofs.Overlays.{over_length}
-use Rattle.rpg_store.proofs.Programs.{program_forms}
+use Rattle.rpg_memory.proofs.Programs.{program_forms}
 use Rattle.rpg_machine_operations.proofs.Rights.{entries_right}
-use Rattle.rpg_store.proofs.Values.{length_low}
+use Rattle.rpg_memory.proofs.Values.{length_low}
 use Rattle.rpg_machine_operations.specs.Good.{AreOperandEntries, FitsPosition, HasPosition, IsRightAction}
-use Rattle.rpg_store.specs.Fields.{AreForms, IsValue, reads_index}
+use Rattle.rpg_memory.specs.Fields.{AreForms, IsValue, reads_index}
 use Rattle.rpg_object_program.specs.Kept.{IsCharacter, IsProgram}
 use Rattle.rpg_object_program.specs.Object.{Object}
 

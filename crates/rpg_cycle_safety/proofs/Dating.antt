@@ -14,10 +14,10 @@ use Rattle.rpg_effect.specs.declared.form.FieldForm.{FieldForm}
 use Rattle.rpg_cycle_safety.proofs.Acting.{read_fits}
 use Rattle.rpg_cycle_safety.specs.Holding.{Holds}
 use Rattle.rpg_machine_lines.proofs.Operands.{row_at}
-use Rattle.rpg_store.proofs.Entries.{and_true}
+use Rattle.rpg_memory.proofs.Entries.{and_true}
 use Rattle.rpg_object_program.specs.Kept.{IsProgram}
 use Rattle.rpg_object_program.specs.Object.{Object}
-use Rattle.rpg_store.proofs.Fitting.{constants-insert}
+use Rattle.rpg_memory.proofs.Fitting.{constants-insert}
 
 date_is_no_constant : (c : Class) → is_date c ≡ true → is_constant c ≡ false
 date_is_no_constant classes.Plain h = refl

@@ -19,8 +19,8 @@ use Rattle.rpg_cycle_safety.proofs.Acting.{read_fits}
 use Rattle.rpg_cycle_safety.proofs.Writing.{leaves, number_written, or_halts, plain_may, same_fields, text_written, then_keeps}
 use Rattle.rpg_cycle_safety.specs.Holding.{Holds, Keeps}
 use Rattle.rpg_machine.proofs.Filling.{fits_field, long_there, value_there}
-use Rattle.rpg_store.proofs.Entries.{and_true}
-use Rattle.rpg_store.specs.Fields.{AreForms, IsValue}
+use Rattle.rpg_memory.proofs.Entries.{and_true}
+use Rattle.rpg_memory.specs.Fields.{AreForms, IsValue}
 use Rattle.rpg_object_program.specs.Kept.{IsCharacter}
 use Rattle.rpg_object_program.specs.Object.{Object}
 

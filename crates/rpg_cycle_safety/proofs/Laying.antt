@@ -18,7 +18,7 @@ use Rattle.rpg_machine_lines.specs.Entries.{IsFieldEntry}
 use Rattle.rpg_object_program.specs.Constants.{word_at}
 use Rattle.rpg_object_program.specs.Kept.{IsProgram}
 use Rattle.rpg_object_program.specs.Object.{Object}
-use Rattle.rpg_store.specs.Fits.{HasForm}
+use Rattle.rpg_memory.specs.Fits.{HasForm}
 
 -- a part that ends inside a text leaves it as long as it was
 over_long : (text part : List ℕ) (end : ℕ) → length part ≤ end → end ≤ length text → length (laid_over text end part) ≡ length text

@@ -7,7 +7,7 @@ use Rattle.rpg_effect.specs.Lines.{after_movement, after_skip, after_space, spac
 use Rattle.rpg_effect.specs.Showing.{turned_on}
 use Rattle.rpg_effect.specs.World.{World}
 use Rattle.rpg_effect.specs.declared.line.Spacing.{Spacing}
-use Rattle.rpg_store.proofs.Entries.{and_true}
+use Rattle.rpg_memory.proofs.Entries.{and_true}
 use Rattle.rpg_paper.specs.Form.{page_or_1}
 use Rattle.rpg_paper.specs.Paper.{Position, skipped, spaced, top_of_paper, travel, turns_overflow_on, way}
 

@@ -29,14 +29,14 @@ use Rattle.rpg_cycle_safety.specs.Holding.{Holds, IsEffectEnd, Keeps}
 use Rattle.rpg_machine_lines.proofs.Fields.{right}
 use Rattle.rpg_machine_lines.proofs.Keeping.{page_kind, page_room, page_small}
 use Rattle.rpg_machine_lines.proofs.Operands.{entry_there, value_there}
-use Rattle.rpg_store.proofs.Entries.{and_true}
+use Rattle.rpg_memory.proofs.Entries.{and_true}
 use Rattle.rpg_machine_lines.specs.Entries.{IsFieldEntry}
-use Rattle.rpg_store.specs.Fields.{IsValue}
+use Rattle.rpg_memory.specs.Fields.{IsValue}
 use Rattle.rpg_object_program.specs.Constants.{word_at}
 use Rattle.rpg_object_program.specs.Kept.{IsCharacter, IsProgram}
 use Rattle.rpg_object_program.specs.Object.{LineRow, Object, file_length, program_line}
 use Rattle.rpg_verify_rules.specs.Sound.{IsSoundLine}
-use Rattle.rpg_store.specs.Fits.{HasForm}
+use Rattle.rpg_memory.specs.Fits.{HasForm}
 
 -- ---- fields with nothing wrong are written only where they may be
 

@@ -4,7 +4,7 @@ use Rattle.rpg_effect.specs.World.{World}
 use Rattle.rpg_cycle_safety.specs.Holding.{Holds}
 use Rattle.rpg_object_program.specs.Kept.{IsProgram}
 use Rattle.rpg_object_program.specs.Object.{Object}
-use Rattle.rpg_store.proofs.FirstFits.{first_fits}
+use Rattle.rpg_memory.proofs.FirstFits.{first_fits}
 use Rattle.rpg_store.specs.First.{first_contents, first_currents}
 
 -- the first values and current entries

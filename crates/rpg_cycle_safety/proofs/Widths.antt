@@ -16,7 +16,7 @@ use Rattle.rpg_effect.specs.Values.{Value, Number, Text}
 use Rattle.rpg_effect.specs.declared.form.FieldForm.{FieldForm}
 use Rattle.rpg_effect.specs.declared.form.Kind.{Kind}
 use Rattle.rpg_effect.specs.declared.form.Kind.TheVariants as kinds
-use Rattle.rpg_store.specs.Fits.{HasForm}
+use Rattle.rpg_memory.specs.Fits.{HasForm}
 
 -- a dollar sign stands in a place that was there
 dollar_long : (b : Bool) (text : List ℕ) (i : ℕ) → length (cond b (set text i 36) text) ≡ length text

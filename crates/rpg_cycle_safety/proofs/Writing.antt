@@ -12,15 +12,15 @@ use Rattle.rpg_effect.specs.declared.form.Class.TheVariants as classes
 use Rattle.rpg_effect.specs.declared.form.FieldForm.{FieldForm}
 use Rattle.rpg_effect.specs.declared.form.Kind.TheVariants as kinds
 use Rattle.rpg_cycle_safety.specs.Holding.{Holds, IsEffectEnd, Keeps}
-use Rattle.rpg_store.proofs.Entries.{and_true, text_in_form}
-use Rattle.rpg_store.proofs.Fitting.{fits-current}
-use Rattle.rpg_store.proofs.Keeping.{fits_number, fits_text}
-use Rattle.rpg_store.proofs.Values.{form_there}
-use Rattle.rpg_store.specs.Fields.{IsValue}
+use Rattle.rpg_memory.proofs.Entries.{and_true, text_in_form}
+use Rattle.rpg_memory.proofs.Fitting.{fits-current}
+use Rattle.rpg_memory.proofs.Keeping.{fits_number, fits_text}
+use Rattle.rpg_memory.proofs.Values.{form_there}
+use Rattle.rpg_memory.specs.Fields.{IsValue}
 use Rattle.rpg_object_program.specs.Kept.{IsCharacter}
 use Rattle.rpg_object_program.specs.Object.{Object}
-use Rattle.rpg_store.proofs.Fitting.{constants-insert}
-use Rattle.rpg_store.specs.Fits.{Fits, KeepsConstants}
+use Rattle.rpg_memory.proofs.Fitting.{constants-insert}
+use Rattle.rpg_memory.specs.Fits.{Fits, KeepsConstants}
 
 -- ---- fields that may be written
 

@@ -5,7 +5,7 @@ use Rattle.rpg_effect.specs.Effect.{Effect}
 use Rattle.rpg_effect.specs.Ends.{End, GoesOn, Halt, Wrong}
 use Rattle.rpg_effect.specs.World.{World}
 use Rattle.rpg_object_program.specs.Object.{Object}
-use Rattle.rpg_store.specs.Fits.{Fits, KeepsConstants}
+use Rattle.rpg_memory.specs.Fits.{Fits, KeepsConstants}
 
 -- each entry has a value of its field's form, the current entry of a table is one of its entries, and constants have their first values
 pub record Holds (p : Object) (w : World nat_cmp) : Type 0 where

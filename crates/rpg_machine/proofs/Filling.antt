@@ -16,10 +16,10 @@ use Rattle.rpg_effect.specs.declared.outcome.End.TheVariants as answers
 use Rattle.rpg_machine.proofs.OnPaper.{effect_on, or_halt_on, unless_on}
 use Rattle.rpg_machine.proofs.Ranges.{and_true}
 use Rattle.rpg_machine.specs.Inputs.{filled_field}
-use Rattle.rpg_store.proofs.Silent.{nothing_shown, nothing_shown_if_any}
-use Rattle.rpg_store.proofs.Values.{length_high, length_low}
-use Rattle.rpg_store.specs.Fields.{AreForms, IsValue}
-use Rattle.rpg_store.specs.Memory.{Working, forms_in}
+use Rattle.rpg_memory.proofs.Silent.{nothing_shown, nothing_shown_if_any}
+use Rattle.rpg_memory.proofs.Values.{length_high, length_low}
+use Rattle.rpg_memory.specs.Fields.{AreForms, IsValue}
+use Rattle.rpg_memory.specs.Memory.{Working, forms_in}
 
 pub ruleset numbers = (length_low, length_high)
 

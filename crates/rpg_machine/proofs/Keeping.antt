@@ -36,15 +36,15 @@ use Rattle.rpg_effect.specs.declared.operation.Side.TheVariants.{Right, Left}
 use Rattle.rpg_machine.specs.Laws.{FitsIn, GoesRight}
 use Rattle.rpg_machine_operations.proofs.Characters.{over_characters, zoned_characters}
 use Rattle.rpg_machine_operations.proofs.Doing.{assign_entries, compute_entries, cross_entries, divide_entries, look_entries, look_positions, look_reads, move_entries, remainder_entries}
-use Rattle.rpg_store.proofs.Entries.{index_value, text_in_form}
+use Rattle.rpg_memory.proofs.Entries.{index_value, text_in_form}
 use Rattle.rpg_machine_operations.proofs.Finding.{first_fits, found_fits, has_position, held, holds_index, no_position_fault}
-use Rattle.rpg_store.proofs.Fitting.{fits-current}
-use Rattle.rpg_store.proofs.Keeping.{fits_number, fits_text}
+use Rattle.rpg_memory.proofs.Fitting.{fits-current}
+use Rattle.rpg_memory.proofs.Keeping.{fits_number, fits_text}
 use Rattle.rpg_machine_operations.proofs.Overlays.{over_length}
 use Rattle.rpg_machine_operations.proofs.Rights.{entries_if}
-use Rattle.rpg_store.proofs.Values.{form_there, length_low, text_fits, text_is}
+use Rattle.rpg_memory.proofs.Values.{form_there, length_low, text_fits, text_is}
 use Rattle.rpg_machine_operations.specs.Good.{AreOperandEntries, FitsPosition, HasPosition, IsRightAction}
-use Rattle.rpg_store.specs.Fields.{AreForms, IsValue, reads_index}
+use Rattle.rpg_memory.specs.Fields.{AreForms, IsValue, reads_index}
 use Rattle.rpg_object_program.specs.Kept.{IsCharacter}
 
 -- ---- digits of characters

@@ -34,7 +34,7 @@ use Rattle.rpg_machine.specs.Laws.{FitsIn, GoesRight, IsNoFault}
 use Rattle.rpg_object_program.specs.Constants.{word_at}
 use Rattle.rpg_object_program.specs.Kept.{IsFieldRow}
 use Rattle.rpg_object_program.specs.Object.{LineRow, Object, file_length, lines_of, program_line}
-use Rattle.rpg_store.specs.Fits.{Fits, HasForm}
+use Rattle.rpg_memory.specs.Fits.{Fits, HasForm}
 use Rattle.rpg_store.specs.Store.{IsNumber}
 
 abbrev AreFit : List FieldForm → Fields nat_cmp → Type 0

@@ -9,7 +9,7 @@ use Rattle.rpg_machine.specs.Config.{Config}
 use Rattle.rpg_object_program.specs.declared.section.Place.{Place}
 use Rattle.rpg_object_program.specs.declared.section.Section.{Section}
 use Rattle.rpg_object_program.specs.declared.section.Section.TheVariants.{Detail, Total, Subroutine}
-use Rattle.rpg_store.specs.Codes.{world_code}
+use Rattle.rpg_memory.specs.Codes.{world_code}
 use base.Stored.{coded_unit}
 
 -- ---- places

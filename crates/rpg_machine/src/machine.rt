@@ -16,7 +16,7 @@ use rpg_effect::outcome::End;
 use rpg_machine_lines::{Entries, Output};
 use rpg_object_program::row::Rows;
 use rpg_object_program::section::{Place, Section};
-use rpg_store::memory::Memory;
+use rpg_memory::memory::Memory;
 use rpg_store::store::Store;
 use rpg_verify::Verified;
 use std::alloc::{AllocError, Global};
@@ -99,7 +99,7 @@ impl<'a, S: Store + Drop> Machine<'a, S> {
     ghost use Rattle.rpg_machine.specs.Running.{Did};
     ghost use Rattle.rpg_object_program.specs.Kept.{IsCharacter};
     ghost use Rattle.rpg_object_program.specs.Sections.{has_end};
-    ghost use Rattle.rpg_store.specs.Memory.{first_working};
+    ghost use Rattle.rpg_memory.specs.Memory.{first_working};
 
     /// A machine before its first cycle: no indicator on but L0 and 1P, the form at its first line, and the values that are in the memory.
     pub fn new(

@@ -12,7 +12,7 @@ use crate::state::Writer;
 use crate::time::OutputTime;
 use rpg_effect::outcome::End;
 use rpg_machine_lines::{Plan, put_details, put_overflow, put_totals};
-use rpg_store::memory::Memory;
+use rpg_memory::memory::Memory;
 use rpg_store::store::Store;
 use std::alloc::AllocError;
 

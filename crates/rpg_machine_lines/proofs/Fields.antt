@@ -17,7 +17,7 @@ use Rattle.rpg_effect.specs.declared.form.FieldForm.{FieldForm}
 use Rattle.rpg_effect.specs.declared.line.LineField.{LineField}
 use Rattle.rpg_effect.specs.Ends.{Fault}
 use Rattle.rpg_machine_lines.specs.Right.{IsRightField}
-use Rattle.rpg_store.proofs.Entries.{and_true}
+use Rattle.rpg_memory.proofs.Entries.{and_true}
 
 none_then : (b : Bool) (f : Fault) (o : Option Fault) → cond (not b) (Some f) o ≡ None → (b ≡ true) × (o ≡ None)
 none_then true f o h = (refl, h)

@@ -16,10 +16,10 @@ use Rattle.rpg_effect.specs.declared.line.Source.TheVariants as sources
 use Rattle.rpg_machine_lines.proofs.Operands.{AreFit, as_value, value_there}
 use Rattle.rpg_machine_lines.specs.Entries.{IsFieldEntry}
 use Rattle.rpg_object_program.specs.Kept.{IsCharacter}
-use Rattle.rpg_store.proofs.Entries.{and_true, kinds_same}
-use Rattle.rpg_store.proofs.Fitting.{fits-insert}
-use Rattle.rpg_store.specs.Fields.{IsValue}
-use Rattle.rpg_store.specs.Fits.{HasForm}
+use Rattle.rpg_memory.proofs.Entries.{and_true, kinds_same}
+use Rattle.rpg_memory.proofs.Fitting.{fits-insert}
+use Rattle.rpg_memory.specs.Fields.{IsValue}
+use Rattle.rpg_memory.specs.Fits.{HasForm}
 
 -- a value of the field's form may be stored in an entry
 fits_one : (forms : List FieldForm) (fields : Fields nat_cmp) (f e : ℕ) (v : Value) → AreFit forms fields → (i : IsFieldEntry forms f e) →

@@ -4,7 +4,7 @@ use Rattle.rpg_paper.specs.Paper.{Position, spaced, skipped}
 use Rattle.rpg_effect.proofs.Printing.{print_done}
 use Rattle.rpg_effect.specs.LineFaults.{is_spacing}
 use Rattle.rpg_effect.specs.declared.line.Spacing.{Spacing}
-use Rattle.rpg_store.proofs.Entries.{and_true}
+use Rattle.rpg_memory.proofs.Entries.{and_true}
 
 few_by : (b : Bool) (page line other : ℕ) → (cond {A = Position} b (record { page = page; line = line }) (record { page = page + 1; line = other })).page ≤ page + 1
 few_by true page line other = omega arith

@@ -14,7 +14,7 @@ use Rattle.rpg_effect.specs.declared.line.LineField.{LineField}
 use Rattle.rpg_effect.specs.declared.line.Pass.{Pass}
 use Rattle.rpg_effect.specs.declared.line.Spacing.{Spacing}
 use Rattle.rpg_effect.specs.declared.outcome.End as rust
-use Rattle.rpg_store.proofs.Entries.{and_true}
+use Rattle.rpg_memory.proofs.Entries.{and_true}
 use Rattle.rpg_machine_lines.specs.Drafts.{draft_of}
 
 -- the same with other fields

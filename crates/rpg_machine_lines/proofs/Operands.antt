@@ -14,9 +14,9 @@ use Rattle.rpg_effect.specs.declared.operation.Operand.{Operand}
 use Rattle.rpg_effect.specs.declared.row.Shape.TheVariants as shapes
 use Rattle.rpg_machine_lines.specs.Entries.{IsFieldEntry}
 use Rattle.rpg_object_program.specs.Kept.{IsFieldRow}
-use Rattle.rpg_store.proofs.Entries.{and_true}
-use Rattle.rpg_store.specs.Fields.{AreForms, IsValue}
-use Rattle.rpg_store.specs.Fits.{Fits, HasForm}
+use Rattle.rpg_memory.proofs.Entries.{and_true}
+use Rattle.rpg_memory.specs.Fields.{AreForms, IsValue}
+use Rattle.rpg_memory.specs.Fits.{Fits, HasForm}
 
 not_true : (b : Bool) → b ≡ true → not b ≡ false
 not_true true h = refl

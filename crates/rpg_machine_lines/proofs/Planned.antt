@@ -27,9 +27,9 @@ use Rattle.rpg_object_program.specs.Constants.{word_at}
 use Rattle.rpg_object_program.specs.Object.{LineRow, Object, line_row}
 use Rattle.rpg_object_program.specs.declared.row.Line as rows
 use Rattle.rpg_store.specs.Contents.{IsEntryAt}
-use Rattle.rpg_store.specs.Fields.{AreForms}
-use Rattle.rpg_store.specs.Memory.{Working, forms_in}
-use Rattle.rpg_store.specs.declared.resolved.FixedEntry.{FixedEntry}
+use Rattle.rpg_memory.specs.Fields.{AreForms}
+use Rattle.rpg_memory.specs.Memory.{Working, forms_in}
+use Rattle.rpg_memory.specs.declared.resolved.FixedEntry.{FixedEntry}
 
 nothing_asked : (on : sets.FinSet nat_cmp) (a b c : Option Condition) → (has_condition a || (has_condition b || has_condition c)) ≡ false →
     (holds_if_any on a && (holds_if_any on b && holds_if_any on c)) ≡ true

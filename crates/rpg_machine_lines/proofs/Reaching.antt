@@ -17,7 +17,7 @@ use Rattle.rpg_machine_lines.specs.Drafts.{draft_in, drafted_in, with_field_in}
 use Rattle.rpg_machine_lines.specs.Plans.{reach_of}
 use Rattle.rpg_machine_lines.specs.Ready.{IsBlankBehind}
 use Rattle.rpg_object_program.specs.Constants.{word_at}
-use Rattle.rpg_store.specs.Memory.{Working, forms_in}
+use Rattle.rpg_memory.specs.Memory.{Working, forms_in}
 
 -- ---- the greatest end
 

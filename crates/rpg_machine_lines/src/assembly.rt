@@ -8,7 +8,7 @@ ghost use Rattle.rpg_machine_lines.specs.Drafts.{assembled_in, drafted_in, field
 ghost use Rattle.rpg_machine_lines.specs.Entries.{AreFieldEntries, IsFieldEntry};
 ghost use Rattle.rpg_machine_lines.specs.Plans.{IsFieldPlan, IsFixedField, AreFieldPlans, reach_of};
 ghost use Rattle.rpg_object_program.specs.Constants.{word_at};
-ghost use Rattle.rpg_store.specs.Memory.{forms_in};
+ghost use Rattle.rpg_memory.specs.Memory.{forms_in};
 
 use crate::field::{count_page, lay_fixed_value, lay_value};
 use crate::reading::position_of;
@@ -17,9 +17,9 @@ use rpg_effect::halt::Halt;
 use rpg_effect::line::LineField;
 use rpg_effect::outcome::End;
 use rpg_object_program::forms::form_at;
-use rpg_store::condition::three_hold;
-use rpg_store::memory::Memory;
-use rpg_store::resolved::FixedEntry;
+use rpg_memory::condition::three_hold;
+use rpg_memory::memory::Memory;
+use rpg_memory::resolved::FixedEntry;
 use rpg_store::store::Store;
 
 /// The most fields of a line.

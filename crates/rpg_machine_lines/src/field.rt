@@ -10,7 +10,7 @@ ghost use Rattle.rpg_machine_lines.specs.Right.{FitsEditing, IsRightField};
 ghost use Rattle.rpg_object_program.specs.Constants as constants;
 ghost use Rattle.rpg_object_program.specs.Object.{seen};
 ghost use Rattle.rpg_store.specs.Contents.{IsEntryAt};
-ghost use Rattle.rpg_store.specs.Memory.{forms_in};
+ghost use Rattle.rpg_memory.specs.Memory.{forms_in};
 
 use rpg_edit::{write_coded, write_plain, write_worded};
 use rpg_edit_widths::EditWord;
@@ -19,8 +19,8 @@ use rpg_effect::line::{Editing, LineField, Source};
 use rpg_object_program::forms::{form_at, kind_of};
 use rpg_object_program::row::Rows;
 use rpg_object_program::words::word_at;
-use rpg_store::memory::Memory;
-use rpg_store::resolved::FixedEntry;
+use rpg_memory::memory::Memory;
+use rpg_memory::resolved::FixedEntry;
 use rpg_store::store::Store;
 
 /// The word that a number of so many digits is edited by.

@@ -12,7 +12,7 @@ use crate::passage::put_lines;
 use crate::plan::Plan;
 use rpg_effect::line::Pass;
 use rpg_effect::outcome::End;
-use rpg_store::memory::Memory;
+use rpg_memory::memory::Memory;
 use rpg_store::store::Store;
 use std::alloc::AllocError;
 

@@ -8,7 +8,7 @@ ghost use Rattle.rpg_machine_lines.specs.Ready.{IsBlankBehind, IsNear};
 
 use crate::bytes::Output;
 use rpg_effect::line::{File, Spacing};
-use rpg_store::memory::Memory;
+use rpg_memory::memory::Memory;
 use rpg_store::store::Store;
 use std::alloc::AllocError;
 

@@ -2,12 +2,12 @@
 ghost use Rattle.std.specs.Prelude.{◌≡◌, true, IfSome, Some};
 ghost use Rattle.rpg_effect.specs.Rows as rules;
 ghost use Rattle.rpg_machine_lines.specs.Entries.{IsFieldEntry};
-ghost use Rattle.rpg_store.specs.Memory.{forms_in, position_in};
+ghost use Rattle.rpg_memory.specs.Memory.{forms_in, position_in};
 
 use rpg_effect::form::FieldForm;
 use rpg_effect::operation::Operand;
-use rpg_store::entry;
-use rpg_store::memory::Memory;
+use rpg_memory::entry;
+use rpg_memory::memory::Memory;
 use rpg_store::store::Store;
 
 /// The position that an operand names, where its index is in range; `form` is that of its field.

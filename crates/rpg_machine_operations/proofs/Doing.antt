@@ -15,7 +15,7 @@ use Rattle.rpg_effect.specs.declared.operation.Side.{Side}
 use Rattle.rpg_effect.specs.declared.form.Kind.{Kind}
 use Rattle.rpg_effect.specs.declared.row.Shape.{Shape}
 use Rattle.rpg_effect.specs.declared.row.Shape.TheVariants as shapes
-use Rattle.rpg_store.specs.Fields.{IsValue, reads_index}
+use Rattle.rpg_memory.specs.Fields.{IsValue, reads_index}
 use Rattle.rpg_machine_operations.specs.Good.{AreOperandEntries, IsOperandEntry, IsRightAction}
 use Rattle.rpg_machine_operations.specs.Words.{operand_field}
 use Rattle.rpg_machine_operations.proofs.Rights.{reads_shape}

@@ -17,11 +17,11 @@ use Rattle.rpg_effect.specs.declared.operation.Index.{Index}
 use Rattle.rpg_effect.specs.declared.operation.Index.TheVariants.{Blank, Literal, Field}
 use Rattle.rpg_effect.specs.declared.operation.Shows.{Shows}
 use Rattle.rpg_effect.specs.Ends.{Fault, GoesOn}
-use Rattle.rpg_store.specs.Fields.{AreForms, IsValue, reads_index}
+use Rattle.rpg_memory.specs.Fields.{AreForms, IsValue, reads_index}
 use Rattle.rpg_machine_operations.specs.Good.{FitsPosition, HasPosition}
-use Rattle.rpg_store.proofs.Entries.{index_value, and_true}
+use Rattle.rpg_memory.proofs.Entries.{index_value, and_true}
 use Rattle.rpg_effect.proofs.Searches.{reverse_more}
-use Rattle.rpg_store.proofs.Values.{length_low}
+use Rattle.rpg_memory.proofs.Values.{length_low}
 use Rattle.rpg_effect.specs.Forms.{form_at}
 
 pub record Between (from last p : ℕ) : Type 0 where

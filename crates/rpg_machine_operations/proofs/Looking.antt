@@ -10,9 +10,9 @@ use Rattle.rpg_effect.specs.declared.operation.Action.TheVariants.{LookUp}
 use Rattle.rpg_effect.specs.declared.operation.Entry.{Entry}
 use Rattle.rpg_effect.specs.declared.operation.Operand.{Operand}
 use Rattle.rpg_effect.specs.declared.operation.Shows.{Shows}
-use Rattle.rpg_store.specs.Fields.{resolved_entry}
-use Rattle.rpg_store.specs.Memory.{Working, entry_if_in_range, forms_in, position_in}
-use Rattle.rpg_store.specs.declared.resolved.Resolved.{Resolved}
+use Rattle.rpg_memory.specs.Fields.{resolved_entry}
+use Rattle.rpg_memory.specs.Memory.{Working, entry_if_in_range, forms_in, position_in}
+use Rattle.rpg_memory.specs.declared.resolved.Resolved.{Resolved}
 use Rattle.rpg_machine_operations.specs.Words.{entry_if_any, looked_up_in, operate_in}
 
 some_entry : (b : Bool) (e : Entry ℕ) (t : Option Resolved) → Some (option_map resolved_entry t) ≡ option_map (λ (x : Entry ℕ). Some x) (cond b (Some e) None) → (b ≡ true) × (option_map resolved_entry t ≡ Some e)

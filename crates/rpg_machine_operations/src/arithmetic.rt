@@ -8,8 +8,8 @@ ghost use Rattle.rpg_effect.specs.Forms.{length_of};
 ghost use Rattle.rpg_effect.specs.World.{number_at};
 ghost use Rattle.rpg_effect.specs.declared.form.Kind.TheVariants as kinds;
 ghost use Rattle.rpg_effect.specs.declared.operation.Action.TheVariants as actions;
-ghost use Rattle.rpg_store.specs.Fields.{IsValue};
-ghost use Rattle.rpg_store.specs.Memory.{NamesNumber, forms_in, rest_value};
+ghost use Rattle.rpg_memory.specs.Fields.{IsValue};
+ghost use Rattle.rpg_memory.specs.Memory.{NamesNumber, forms_in, rest_value};
 ghost use Rattle.rpg_machine_operations.specs.Words.{DidEffect, DidOperate, FitsResult, IsNumberOperand, act_in, assigned_in, computed_in, quotient_in, stored_value_in, with_remainder_of};
 
 use crate::resolving::number_named;
@@ -17,9 +17,9 @@ use rpg_decimal::{Num, Rest, Scale, Target, add, div, keep, mult, remainder, sub
 use rpg_effect::halt::Halt;
 use rpg_effect::operation::{Entry, Operand, Operator, Shows};
 use rpg_effect::outcome::End;
-use rpg_store::memory::Memory;
-use rpg_store::numbers::{number_at, target_of};
-use rpg_store::resolved::Resolved;
+use rpg_memory::memory::Memory;
+use rpg_memory::numbers::{number_at, target_of};
+use rpg_memory::resolved::Resolved;
 use rpg_store::store::Store;
 
 /// Stores a number, and lets the indicators follow it.

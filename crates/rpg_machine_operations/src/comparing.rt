@@ -1,8 +1,8 @@
 //! How entries stand to each other, and COMP.
 ghost use Rattle.std.specs.Prelude.{◌≡◌};
 ghost use Rattle.rpg_effect.specs.declared.operation.Action.TheVariants as actions;
-ghost use Rattle.rpg_store.specs.Fields.{IsResolved};
-ghost use Rattle.rpg_store.specs.Memory.{NamesLike};
+ghost use Rattle.rpg_memory.specs.Fields.{IsResolved};
+ghost use Rattle.rpg_memory.specs.Memory.{NamesLike};
 ghost use Rattle.rpg_machine_operations.specs.Words.{DidOperate, IsLikeOperand, compared_in, order_in};
 
 use crate::resolving::entry_named;
@@ -10,9 +10,9 @@ use rpg_decimal::{compare, compare_text};
 use rpg_effect::form::Kind;
 use rpg_effect::operation::{Operand, Shows};
 use rpg_effect::outcome::End;
-use rpg_store::memory::Memory;
-use rpg_store::numbers::number_at;
-use rpg_store::resolved::Resolved;
+use rpg_memory::memory::Memory;
+use rpg_memory::numbers::number_at;
+use rpg_memory::resolved::Resolved;
 use rpg_store::store::Store;
 use std::cmp::Ordering;
 

@@ -18,7 +18,7 @@ use rpg_effect::operation::{Action, Operand, Shows};
 use rpg_effect::outcome::End;
 use rpg_object_program::forms::{entries_of, form_at};
 use rpg_object_program::row::Rows;
-use rpg_store::memory::Memory;
+use rpg_memory::memory::Memory;
 use rpg_store::store::Store;
 
 /// The weight of an operation: one, and the entries that XFOOT and LOKUP go through.

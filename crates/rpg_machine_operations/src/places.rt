@@ -8,7 +8,7 @@ ghost use Rattle.rpg_effect.specs.World.{number_at};
 ghost use Rattle.rpg_effect.specs.declared.form.Kind.TheVariants as kinds;
 ghost use Rattle.rpg_effect.specs.declared.operation.Action.TheVariants as actions;
 ghost use Rattle.rpg_effect.specs.declared.operation.Side.TheVariants as sides;
-ghost use Rattle.rpg_store.specs.Memory.{NamesLike, NamesNumber, NamesText, forms_in};
+ghost use Rattle.rpg_memory.specs.Memory.{NamesLike, NamesNumber, NamesText, forms_in};
 ghost use Rattle.rpg_machine_operations.specs.Words.{DidEffect, DidOperate, FitsResult, IsLikeOperand, kind_in, moved_in, number_moved, number_after_in, source_in};
 ghost use Rattle.rpg_object_program.specs.Kept.{IsCharacter};
 
@@ -18,12 +18,12 @@ use rpg_effect::form::Kind;
 use rpg_effect::halt::Halt;
 use rpg_effect::operation::{Operand, Side};
 use rpg_effect::outcome::End;
-use rpg_store::memory::Memory;
-use rpg_store::resolved::Resolved;
+use rpg_memory::memory::Memory;
+use rpg_memory::resolved::Resolved;
 use rpg_store::store::Store;
 
 /// The digits of a number field.
-#[tactic(auto, using(rpg_store::proofs::Values::numbers))]
+#[tactic(auto, using(rpg_memory::proofs::Values::numbers))]
 fn figure_at<S: Store + Drop>(memory: &Memory<'_, S>, operand: Resolved) -> Figure
     requires { NamesNumber memory.now operand }
     ensures value { result.value ≡ number_at memory.now.world operand.entry.field operand.entry.position }

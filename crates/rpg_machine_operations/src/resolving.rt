@@ -2,15 +2,15 @@
 ghost use Rattle.std.specs.Prelude.{◌≡◌, IfSome};
 ghost use Rattle.std.specs.Option.{option_map};
 ghost use Rattle.rpg_effect.specs.declared.form.Kind.{Kind};
-ghost use Rattle.rpg_store.specs.Fields.{CanBeResolved, IsResolved, resolved_entry};
-ghost use Rattle.rpg_store.specs.Memory.{NamesNumber, entry_if_in_range};
+ghost use Rattle.rpg_memory.specs.Fields.{CanBeResolved, IsResolved, resolved_entry};
+ghost use Rattle.rpg_memory.specs.Memory.{NamesNumber, entry_if_in_range};
 ghost use Rattle.rpg_machine_operations.specs.Good.{IsRightOperand, written_operand};
 ghost use Rattle.rpg_machine_operations.specs.Words.{IsNumberOperand, entry_if_any, field_in, operand_field};
 
 use rpg_effect::operation::Operand;
-use rpg_store::entry::resolve;
-use rpg_store::memory::Memory;
-use rpg_store::resolved::Resolved;
+use rpg_memory::entry::resolve;
+use rpg_memory::memory::Memory;
+use rpg_memory::resolved::Resolved;
 use rpg_store::store::Store;
 
 /// The entry that an operand names: of whatever kind it is right for.

@@ -8,8 +8,8 @@ ghost use Rattle.rpg_effect.specs.Rows as rows_of;
 ghost use Rattle.rpg_effect.specs.Search as of;
 ghost use Rattle.rpg_effect.specs.declared.operation.Action.TheVariants as actions;
 ghost use Rattle.rpg_effect.specs.declared.operation.Found.{Found};
-ghost use Rattle.rpg_store.specs.Fields.{CanBeResolved, reads_index};
-ghost use Rattle.rpg_store.specs.Memory.{NamesLike, forms_in};
+ghost use Rattle.rpg_memory.specs.Fields.{CanBeResolved, reads_index};
+ghost use Rattle.rpg_memory.specs.Memory.{NamesLike, forms_in};
 ghost use Rattle.rpg_machine_operations.specs.Good.{FitsPosition, HasPosition, written_operand};
 ghost use Rattle.rpg_machine_operations.specs.Words.{DidEffect, DidOperate, HoldsPositions, IsLikeOperand, current_made, current_made_if_any, field_in, found_by, found_put, looked_up_in, nearest_by, operand_field, orders_in};
 
@@ -18,8 +18,8 @@ use crate::resolving::{entry_named, table_named};
 use rpg_effect::operation::{Entry, Found, Index, Operand, Shows};
 use rpg_effect::outcome::End;
 use rpg_object_program::forms::{form_at, is_table_form};
-use rpg_store::memory::Memory;
-use rpg_store::resolved::Resolved;
+use rpg_memory::memory::Memory;
+use rpg_memory::resolved::Resolved;
 use rpg_store::store::Store;
 use std::cmp::Ordering;
 
@@ -46,7 +46,7 @@ fn same_order(a: Ordering, b: Ordering) -> bool
 }
 
 /// Whether the entry at a position of factor 2 stands so to factor 1.
-#[tactic(auto, using(rpg_store::proofs::Values::other_value))]
+#[tactic(auto, using(rpg_memory::proofs::Values::other_value))]
 fn stands<S: Store + Drop>(
     memory: &Memory<'_, S>,
     factor1: Resolved,
@@ -133,7 +133,7 @@ fn start_of(factor2: Resolved) -> u16
 }
 
 /// Of the entries that stand so to factor 1 the first one, of smaller ones the last.
-#[tactic(auto, using(crate::proofs::Finding::start_within, rpg_store::proofs::Values::entries_high))]
+#[tactic(auto, using(crate::proofs::Finding::start_within, rpg_memory::proofs::Values::entries_high))]
 fn nearest<S: Store + Drop>(
     memory: &Memory<'_, S>,
     factor1: Resolved,
@@ -199,7 +199,7 @@ fn search<S: Store + Drop>(
 }
 
 /// Puts a position into an index field.
-#[tactic(auto, using(rpg_store::proofs::Entries::index_value, crate::proofs::Finding::held))]
+#[tactic(auto, using(rpg_memory::proofs::Entries::index_value, crate::proofs::Finding::held))]
 fn set_index<S: Store + Drop>(memory: &mut Memory<'_, S>, index: Index<u16>, position: u16)
     requires reads { reads_index memory.old.program.fields index ≡ true }
     requires holds { rows_of.can_hold (forms_in memory.old) index position ≡ true }

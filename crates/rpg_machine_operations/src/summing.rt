@@ -1,7 +1,7 @@
 //! XFOOT.
 ghost use Rattle.std.specs.Prelude.{◌≡◌, ◌<◌, ◌^◌, ◌+ℤ◌, unsigned_abs};
 ghost use Rattle.rpg_effect.specs.declared.operation.Action.TheVariants as actions;
-ghost use Rattle.rpg_store.specs.Memory.{NamesNumber};
+ghost use Rattle.rpg_memory.specs.Memory.{NamesNumber};
 ghost use Rattle.rpg_machine_operations.specs.Words.{DidOperate, FitsResult, IsNumberOperand, summed_in, total_in};
 
 use crate::arithmetic::store;
@@ -9,9 +9,9 @@ use crate::resolving::number_named;
 use rpg_decimal::{Scale, keep};
 use rpg_effect::operation::{Operand, Shows};
 use rpg_effect::outcome::End;
-use rpg_store::memory::Memory;
-use rpg_store::numbers::target_of;
-use rpg_store::resolved::Resolved;
+use rpg_memory::memory::Memory;
+use rpg_memory::numbers::target_of;
+use rpg_memory::resolved::Resolved;
 use rpg_store::store::Store;
 
 /// A sum with one number more.
@@ -39,7 +39,7 @@ fn sum<S: Store + Drop>(memory: &Memory<'_, S>, array: Resolved) -> i128
 }
 
 /// The result of XFOOT.
-#[tactic(auto, using(rpg_store::proofs::Values::numbers))]
+#[tactic(auto, using(rpg_memory::proofs::Values::numbers))]
 fn summed<S: Store + Drop>(
     memory: &Memory<'_, S>,
     half: bool,

@@ -15,7 +15,7 @@ use Rattle.rpg_machine.specs.Laws.{IsRightOutcome}
 use Rattle.rpg_machine.specs.Step.{Next, Stop, arrived, control_in, destination, effect, fault, outcome_of, step, went}
 use Rattle.rpg_object_program.specs.Instructions.{weight}
 use Rattle.rpg_meaning_calculations.specs.Agreement.{IsRunnable}
-use Rattle.rpg_store.proofs.Programs.{program_forms}
+use Rattle.rpg_memory.proofs.Programs.{program_forms}
 use Rattle.rpg_object_program.specs.Kept.{IsProgram}
 use Rattle.rpg_object_program.specs.Object.{Object}
 use Rattle.rpg_object_program.specs.Sections.{instruction_at, is_place, level_of}

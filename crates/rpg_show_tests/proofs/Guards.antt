@@ -11,10 +11,10 @@ use Rattle.rpg_effect.specs.declared.form.Kind.TheVariants as kinds
 use Rattle.rpg_object_program.specs.Kept.{IsCharacter, IsProgram}
 use Rattle.rpg_object_program.specs.Object.{Object}
 use Rattle.rpg_store.specs.First.{first_contents, first_currents}
-use Rattle.rpg_store.specs.Fits.{Fits, HasForm}
+use Rattle.rpg_memory.specs.Fits.{Fits, HasForm}
 use Rattle.rpg_store.specs.Store.{Currents, Values, IsNumber, IsText}
-use Rattle.rpg_store.proofs.FirstFits.{first_fits}
-use Rattle.rpg_store.proofs.Fitting.{fits-current, fits-insert}
+use Rattle.rpg_memory.proofs.FirstFits.{first_fits}
+use Rattle.rpg_memory.proofs.Fitting.{fits-current, fits-insert}
 use Rattle.rpg_show_tests.specs.Ready.{HasEntry, HoldsForms}
 
 in_number : (len : ℕ) (o : Option Value) → HasForm kinds.Number len o → IsNumber o

@@ -2,7 +2,7 @@
 use Rattle.std.specs.Prelude.{◌≡◌, ℕ, ◌≤◌, List, Some}
 use Rattle.rpg_effect.specs.Forms.{form_at}
 use Rattle.rpg_effect.specs.declared.form.FieldForm.{FieldForm}
-use Rattle.rpg_store.specs.Fits.{Fits}
+use Rattle.rpg_memory.specs.Fits.{Fits}
 use Rattle.rpg_store.specs.Store.{Currents, Values}
 
 pub record HoldsForms (forms mine : List FieldForm) (values : Values) (current : Currents) : Type 0 where

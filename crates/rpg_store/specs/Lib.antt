@@ -1,15 +1,9 @@
 pub mod Area
-pub mod Codes
 pub mod Contents
-pub mod Fields
 pub mod Filling
 pub mod First
-pub mod Fits
 pub mod Flat
 pub mod Listed
-pub mod Marked
-pub mod Memory
-pub mod Silent
 pub mod Slots
 pub mod Store
 pub mod Written

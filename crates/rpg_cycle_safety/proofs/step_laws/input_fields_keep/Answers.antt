@@ -5,7 +5,7 @@ use Rattle.rpg_effect.specs.Input.{input_fault}
 use Rattle.rpg_machine.specs.Outputs.{inputs_at}
 use Rattle.rpg_cycle_safety.proofs.Accepting.{inputs_right}
 use Rattle.rpg_cycle_safety.proofs.Filling.{record_keeps}
-use Rattle.rpg_store.proofs.Programs.{program_forms}
+use Rattle.rpg_memory.proofs.Programs.{program_forms}
 use Rattle.rpg_verify_rules.proofs.Soundness.{sound}
 use Rattle.rpg_cycle_safety.proofs.step_laws.input_fields_keep.Goals as goal
 

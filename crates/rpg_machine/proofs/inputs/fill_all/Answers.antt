@@ -3,7 +3,7 @@ use Rattle.std.proofs.lemmas.List.Elements.{All-rest}
 use Rattle.rpg_effect.specs.Input.{input_fault}
 use Rattle.rpg_machine.proofs.Filling.{field_next}
 use Rattle.rpg_machine.proofs.FirstEntries.{inputs_behind}
-use Rattle.rpg_store.specs.Memory.{Working, forms_in}
+use Rattle.rpg_memory.specs.Memory.{Working, forms_in}
 use Rattle.rpg_machine.proofs.inputs.fill_all.Goals as goal
 
 pub fields-init : goal.fields-init

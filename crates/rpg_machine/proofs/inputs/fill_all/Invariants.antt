@@ -2,7 +2,7 @@ use Rattle.std.proofs.Common.{◌≡◌, None, length}
 use Rattle.std.specs.List.{All}
 use Rattle.rpg_effect.specs.Input.{input_fault, record_in}
 use Rattle.rpg_machine.specs.FixedInputs.{AreFixedInputs}
-use Rattle.rpg_store.specs.Memory.{forms_in}
+use Rattle.rpg_memory.specs.Memory.{forms_in}
 use Rattle.rpg_machine.proofs.inputs.fill_all.Given as goal
 
 abbrev pub invariant-fields : goal.invariant-fields

@@ -8,7 +8,7 @@ use Rattle.rpg_machine.specs.Outputs.{output_effect, output_weight}
 use Rattle.rpg_machine.specs.declared.time.OutputTime.{OutputTime}
 use Rattle.rpg_machine.proofs.output.put_out.Goals as goal
 use Rattle.rpg_object_program.specs.Object.{lines_of}
-use Rattle.rpg_store.specs.Memory.{held_of}
+use Rattle.rpg_memory.specs.Memory.{held_of}
 
 pub put_details-requires-clause-room : goal.put_details-requires-clause-room
 put_details-requires-clause-room g c = subst (λ (x : List ℕ). HasLineRoom c.args.memory.now.program x) (sym c.deref_mut.ensures.value) c.requires.room

@@ -9,7 +9,7 @@ use Rattle.rpg_machine_lines.specs.Entries.{AreFieldEntries}
 use Rattle.rpg_machine_lines.specs.Plans.{reach_of}
 use Rattle.rpg_object_program.specs.Constants.{word_at}
 use Rattle.rpg_object_program.specs.Object.{Object}
-use Rattle.rpg_store.specs.Memory.{Working, forms_in}
+use Rattle.rpg_memory.specs.Memory.{Working, forms_in}
 use Rattle.rpg_machine_lines.proofs.assembly.assemble.Goals as goal
 
 pub fields-init : goal.fields-init

@@ -5,7 +5,7 @@ use Rattle.rpg_machine_lines.specs.Drafts.{draft_in, fields_drafted, fields_repl
 use Rattle.rpg_machine_lines.specs.Entries.{AreFieldEntries}
 use Rattle.rpg_machine_lines.specs.Plans.{AreFieldPlans, reach_of}
 use Rattle.rpg_object_program.specs.Constants.{word_at}
-use Rattle.rpg_store.specs.Memory.{forms_in}
+use Rattle.rpg_memory.specs.Memory.{forms_in}
 use Rattle.rpg_machine_lines.proofs.assembly.assemble.Given as goal
 
 abbrev pub invariant-fields : goal.invariant-fields

@@ -4,7 +4,7 @@ use Rattle.rpg_effect.specs.Values.{Text}
 use Rattle.rpg_effect.specs.World.{Fields, with_value}
 use Rattle.std.specs.Ordering.{nat_cmp}
 use Rattle.rpg_machine_lines.specs.Drafts.{fields_replaced}
-use Rattle.rpg_store.specs.Memory.{forms_in}
+use Rattle.rpg_memory.specs.Memory.{forms_in}
 use Rattle.rpg_machine_lines.proofs.Keeping.{blanked_text}
 use Rattle.rpg_machine_lines.proofs.field.blank_text.Goals as goal
 

@@ -10,7 +10,7 @@ use Rattle.rpg_machine_lines.specs.Drafts.{draft_in, fields_replaced}
 use Rattle.rpg_machine_lines.specs.Outputs.{output_of}
 use Rattle.rpg_object_program.specs.Constants.{word_at}
 use Rattle.rpg_object_program.specs.Object.{file_length, line_row, program_line}
-use Rattle.rpg_store.specs.Memory.{Working, held_of}
+use Rattle.rpg_memory.specs.Memory.{Working, held_of}
 use Rattle.rpg_machine_lines.proofs.line.put_line.Goals as goal
 
 pub put_on-requires-clause-spacing : goal.put_on-requires-clause-spacing

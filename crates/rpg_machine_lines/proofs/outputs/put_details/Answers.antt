@@ -8,7 +8,7 @@ use Rattle.rpg_effect.specs.declared.line.Pass.TheVariants as passes
 use Rattle.rpg_machine_lines.proofs.Following.{halted, went_on}
 use Rattle.rpg_machine_lines.specs.Outputs.{output_of, passage_effect}
 use Rattle.rpg_object_program.specs.Object.{Object}
-use Rattle.rpg_store.specs.Memory.{Working, held_of}
+use Rattle.rpg_memory.specs.Memory.{Working, held_of}
 use Rattle.rpg_machine_lines.proofs.outputs.put_details.Goals as goal
 
 pub returns-clause-done : goal.returns-clause-done

@@ -8,7 +8,7 @@ use Rattle.rpg_machine_lines.proofs.AllLines.{asked, unasked}
 use Rattle.rpg_machine_lines.proofs.Following.{ok_each}
 use Rattle.rpg_machine_lines.specs.Outputs.{output_of}
 use Rattle.rpg_object_program.specs.Object.{Object, line_row}
-use Rattle.rpg_store.specs.Memory.{held_of}
+use Rattle.rpg_memory.specs.Memory.{held_of}
 use Rattle.rpg_machine_lines.proofs.passage.put_if_asked.Goals as goal
 
 pub returns-then-is_asked-clause-done : goal.returns-then-is_asked-clause-done

@@ -14,7 +14,7 @@ use Rattle.rpg_machine_lines.specs.Plans.{IsPlannedLine}
 use Rattle.rpg_machine_lines.specs.Right.{IsRightLine}
 use Rattle.rpg_machine_lines.specs.declared.pass_lines.PassLine.{PassLine}
 use Rattle.rpg_object_program.specs.Object.{Object, line_row}
-use Rattle.rpg_store.specs.Memory.{held_of}
+use Rattle.rpg_memory.specs.Memory.{held_of}
 use Rattle.rpg_machine_lines.proofs.passage.put_lines.Goals as goal
 
 -- stands where nothing is listed

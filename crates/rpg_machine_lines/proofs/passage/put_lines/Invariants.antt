@@ -5,7 +5,7 @@ use Rattle.rpg_machine_lines.proofs.AllLines.{rest}
 use Rattle.rpg_machine_lines.specs.Outputs.{output_of}
 use Rattle.rpg_machine_lines.specs.PassLines.{pass_lines}
 use Rattle.rpg_machine_lines.specs.Ready.{IsNear}
-use Rattle.rpg_store.specs.Memory.{held_of}
+use Rattle.rpg_memory.specs.Memory.{held_of}
 use Rattle.rpg_machine_lines.proofs.passage.put_lines.Given as goal
 
 abbrev pub invariant-lines : goal.invariant-lines

@@ -6,7 +6,7 @@ use Rattle.rpg_effect.specs.Lines.{after_skip, after_space}
 use Rattle.rpg_machine_lines.proofs.Trimming.{front_trimmed}
 use Rattle.rpg_machine_lines.specs.Outputs.{output_of}
 use Rattle.rpg_object_program.specs.Object.{Object}
-use Rattle.rpg_store.specs.Memory.{Working, held_of, standing_of}
+use Rattle.rpg_memory.specs.Memory.{Working, held_of, standing_of}
 use Rattle.rpg_machine_lines.proofs.printer.print_line.Goals as goal
 
 pub returns : goal.returns

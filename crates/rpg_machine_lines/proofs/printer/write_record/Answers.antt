@@ -1,7 +1,7 @@
 use Rattle.std.proofs.Common.{refl}
 use Rattle.rpg_effect.proofs.Printing.{record_done}
 use Rattle.rpg_machine_lines.specs.Outputs.{output_of}
-use Rattle.rpg_store.specs.Memory.{held_of}
+use Rattle.rpg_memory.specs.Memory.{held_of}
 use Rattle.rpg_machine_lines.proofs.printer.write_record.Goals as goal
 
 pub returns : goal.returns

@@ -8,7 +8,7 @@ use Rattle.rpg_decimal.specs.declared.num.Target.{Target}
 use Rattle.rpg_effect.specs.Act.{divided, stored_value}
 use Rattle.rpg_effect.specs.Forms.{decimals_of, length_of}
 use Rattle.rpg_effect.specs.declared.form.FieldForm.{FieldForm}
-use Rattle.rpg_store.specs.Memory.{forms_in}
+use Rattle.rpg_memory.specs.Memory.{forms_in}
 use Rattle.rpg_machine_operations.proofs.arithmetic.divided.Goals as goal
 
 not_zero : (n : ℤ) → (n ≡ pos 0 → ⊥) → int_eq n (pos 0) ≡ false

@@ -15,7 +15,7 @@ use Rattle.rpg_paper.specs.Paper.{Position}
 use Rattle.rpg_machine.specs.Outputs.{FillsFields, length_at}
 use Rattle.rpg_machine.specs.Running.{Did, Running}
 use Rattle.rpg_machine.specs.State.{running_of}
-use Rattle.rpg_store.specs.Memory.{Working, forms_in, held_of}
+use Rattle.rpg_memory.specs.Memory.{Working, forms_in, held_of}
 use Rattle.rpg_object_program.specs.Object.{Object, input_length, seen, type_row}
 use Rattle.rpg_verify_rules.proofs.Values.{one_of_all}
 use Rattle.rpg_verify_rules.specs.Sound.{IsSound, IsSoundType}

@@ -1,0 +1,9 @@
+pub mod Entries
+pub mod FirstFits
+pub mod Fitting
+pub mod Fixing
+pub mod Keeping
+pub mod MarkedLemmas
+pub mod Programs
+pub mod Silent
+pub mod Values

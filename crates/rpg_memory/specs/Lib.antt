@@ -1,0 +1,6 @@
+pub mod Codes
+pub mod Fields
+pub mod Fits
+pub mod Marked
+pub mod Memory
+pub mod Silent

@@ -1,0 +1,103 @@
+-- What a memory stands for.
+use Rattle.std.specs.Prelude.{◌≡◌, ℕ, pos, Bool, List, [], ◌∷◌, Option, None, Some, false, is_some, if◌then◌else◌}
+use Rattle.std.specs.FinSet as set
+use Rattle.std.specs.Ordering.{nat_cmp}
+use Rattle.rpg_decimal_words.specs.Fraction.{Fraction, with_decimals}
+use Rattle.rpg_decimal.specs.declared.num.Rest.{Rest}
+use Rattle.rpg_paper.specs.Form.{Standing}
+use Rattle.rpg_effect.specs.Entries.{entry_of, position_of}
+use Rattle.rpg_effect.specs.Forms.{form_at, kind_of}
+use Rattle.rpg_effect.specs.Put.{Held}
+use Rattle.rpg_effect.specs.World.{Fields, World}
+use Rattle.rpg_effect.specs.declared.form.FieldForm.{FieldForm}
+use Rattle.rpg_effect.specs.declared.form.Kind.TheVariants as kinds
+use Rattle.rpg_effect.specs.declared.operation.Entry.{Entry}
+use Rattle.rpg_effect.specs.declared.operation.Operand.{Operand}
+use Rattle.rpg_memory.specs.Fields.{AreForms, IsResolved}
+use Rattle.rpg_memory.specs.declared.resolved.Resolved.{Resolved}
+use Rattle.rpg_object_program.specs.Object.{Object}
+use Rattle.rpg_memory.specs.Fits.{Fits}
+use Rattle.rpg_store.specs.Store.{Values, Currents}
+
+-- a program that runs: the line placed last, and the world, whose pages are counted from there
+pub record Working : Type 0 where
+  pub program : Object
+  pub last : Option ℕ
+  pub world : World nat_cmp
+
+-- the value of what a division left
+abbrev pub rest_value : Rest → Fraction
+rest_value r = with_decimals r.value r.dec.value
+
+-- L0 (100) and 1P (111) are on, no division has left anything, and the form is at line 1 of the first page, which is page 0 where pages
+-- are counted from the line placed last
+abbrev pub first_world : Fields nat_cmp → World nat_cmp
+first_world fields = record {
+  fields = fields;
+  on = set.from_list (100 ∷ 111 ∷ []);
+  remainder = with_decimals (pos 0) 0;
+  here = record { page = 0; line = 1 };
+  was_overflow = false;
+  has_turned_on = false;
+}
+
+abbrev pub first_working : Object → Fields nat_cmp → Working
+first_working p fields = record { program = p; last = None; world = first_world fields }
+
+-- ---- words on what a memory stands for
+
+-- what it holds of the paper, with its world
+abbrev pub held_of : Working → Held
+held_of w = record { last = w.last; world = w.world }
+
+abbrev pub forms_in : Working → ℕ → Option FieldForm
+forms_in w field = form_at w.program.fields field
+
+-- where the form stands
+abbrev pub standing_of : Working → Standing
+standing_of w = record { last = w.last; begun = w.world.here.page; line = w.world.here.line }
+
+-- a line was placed there: pages are counted from it
+abbrev pub behind_line : Working → Working
+behind_line w = record w { last = Some w.world.here.line; world = record w.world { here = record { page = 0; line = w.world.here.line } } }
+
+abbrev pub with_on : set.FinSet nat_cmp → World nat_cmp → World nat_cmp
+with_on on w = record w { on = on }
+
+-- one indicator on or off
+abbrev pub indicator_turned : ℕ → Bool → World nat_cmp → World nat_cmp
+indicator_turned n is_on w = with_on (if is_on then set.insert w.on n else set.remove w.on n) w
+
+abbrev pub with_remainder : Fraction → World nat_cmp → World nat_cmp
+with_remainder p w = record w { remainder = p }
+
+-- the position that an operand names now, and the entry, where it names one
+abbrev pub position_in : Working → Operand ℕ → Option ℕ
+position_in w o = position_of (forms_in w) w.world.fields o
+
+abbrev pub entry_if_in_range : Working → Operand ℕ → Option (Entry ℕ)
+entry_if_in_range w o = if is_some (position_in w o) then Some (entry_of (forms_in w) w.world.fields o) else None
+
+-- an operand was resolved to an entry of a number field, of a text field, or of a field of the kind of another operand's
+abbrev pub NamesNumber : Working → Resolved → Type 0
+NamesNumber w r = IsResolved w.program.fields kinds.Number r
+
+abbrev pub NamesText : Working → Resolved → Type 0
+NamesText w r = IsResolved w.program.fields kinds.Text r
+
+abbrev pub NamesLike : Working → Resolved → Resolved → Type 0
+NamesLike w a r = IsResolved w.program.fields (kind_of (forms_in w a.entry.field)) r
+
+-- ---- what every memory keeps
+
+module _ {S : Type 0} (store_forms : S → List FieldForm) (contents : S → Values) (currents : S → Currents) where
+  -- the store has the fields of the program, each with values of its form
+  pub record HoldsFields (forms : List FieldForm) (s : S) : Type 0 where
+    pub good : AreForms forms
+    pub own : store_forms s ≡ forms
+    pub fits : Fits forms (contents s) (currents s)
+
+module _ {S : Type 0} (contents : S → Values) (currents : S → Currents) where
+  -- the values and current entries of a store
+  abbrev pub stored_fields : S → Fields nat_cmp
+  stored_fields s = record { values = contents s; current = currents s }

@@ -1,0 +1,79 @@
+//! Movements of the printed form, and the indicator that they turn on.
+ghost use Rattle.std.specs.Prelude.{◌≡◌, ◌<◌, ◌≤◌, ◌++◌, OnErr, OnOk};
+ghost use Rattle.rpg_paper.specs.Form.{way_of};
+ghost use Rattle.rpg_text.specs.Texts.{trimmed};
+ghost use Rattle.rpg_effect.specs.Lines as lines;
+ghost use Rattle.rpg_memory.specs.Memory.{behind_line, standing_of};
+
+use crate::indicators::{turn_off, turn_on};
+use crate::memory::Memory;
+use rpg_store::store::Store;
+use std::alloc::AllocError;
+
+impl<'a, S: Store + Drop> Memory<'a, S> {
+    /// The overflow indicator of its program.
+    fn overflow(&self) -> Option<u8>
+        ensures { result ≡ self.now.program.overflow }
+    {
+        self.rows().overflow
+    }
+
+    /// The form moves some lines on.
+    #[tactic(auto, unfolding(rpg_effect::specs::Lines::after_movement))]
+    pub fn space(&mut self, spaces: u8)
+        requires spaces { spaces ≤ 3 }
+        requires few { self.old.world.here.page < 1000 }
+        ensures { self.new ≡ record self.old { world = lines.after_space self.old.program.overflow spaces self.old.world } }
+    {
+        let overflow = self.overflow();
+        if self.form.space(spaces) {
+            turn_on(&mut self.on, overflow);
+            self.has_turned_on = true;
+        }
+    }
+
+    /// The form moves to a line; 0 is no skip.
+    #[tactic(auto, unfolding(rpg_effect::specs::Lines::after_movement))]
+    pub fn skip(&mut self, line: u8)
+        requires line { line ≤ 66 }
+        requires few { self.old.world.here.page < 1000 }
+        ensures { self.new ≡ record self.old { world = lines.after_skip self.old.program.overflow line self.old.world } }
+    {
+        let overflow = self.overflow();
+        if line != 0 && self.form.skip(line) {
+            turn_on(&mut self.on, overflow);
+            self.has_turned_on = true;
+        }
+    }
+
+    /// The overflow indicator goes off where an overflow output has been done and no movement since has turned it on.
+    pub fn settle(&mut self)
+        ensures { self.new ≡ record self.old { world = lines.settled self.old.program.overflow self.old.world } }
+    {
+        let overflow = self.overflow();
+        if self.was_overflow && !self.has_turned_on {
+            turn_off(&mut self.on, overflow);
+        }
+        self.was_overflow = false;
+    }
+
+    /// From the end of an overflow output on, movements are watched.
+    pub fn watch_movements(&mut self)
+        ensures { self.new ≡ record self.old { world = lines.movements_watched self.old.world } }
+    {
+        self.was_overflow = true;
+        self.has_turned_on = false;
+    }
+
+    /// Places a line of text where the form stands.
+    pub fn place(&mut self, text: &[u8], print: &mut Vec<u8>) -> Result<(), AllocError>
+        ensures bytes { OnOk result (print.new.items ≡ print.old.items ++ way_of (standing_of self.old) ++ trimmed text.now) }
+        ensures placed { OnOk result (self.new ≡ behind_line self.old) }
+        ensures same { OnErr result (self.new ≡ self.old) }
+    {
+        match self.form.place(text, print) {
+            Ok(()) => Ok(()),
+            Err(_) => Err(AllocError),
+        }
+    }
+}

@@ -1,6 +1,0 @@
-use Rattle.std.proofs.Common.{refl}
-use Rattle.rpg_store.proofs.MarkedLemmas.{marked_none}
-use Rattle.rpg_store.proofs.indicators.Indicators.new.Goals as goal
-
-pub returns : goal.returns
-returns c = marked_none _ refl
