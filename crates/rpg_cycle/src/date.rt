@@ -10,8 +10,8 @@ ghost use Rattle.rpg_memory.specs.Memory.{forms_in};
 
 use rpg_decimal::read_zoned;
 use rpg_effect::form::{Class, FieldForm};
-use rpg_store::Store;
 use rpg_memory::memory::Memory;
+use rpg_store::Store;
 
 /// The date of a job: a number of six digits.
 #[derive(Clone, Copy)]

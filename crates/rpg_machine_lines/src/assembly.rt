@@ -16,10 +16,10 @@ use arrayvec::ArrayVec;
 use rpg_effect::halt::Halt;
 use rpg_effect::line::LineField;
 use rpg_effect::outcome::End;
-use rpg_object_program::forms::form_at;
 use rpg_memory::condition::three_hold;
 use rpg_memory::memory::Memory;
 use rpg_memory::resolved::FixedEntry;
+use rpg_object_program::forms::form_at;
 use rpg_store::store::Store;
 
 /// The most fields of a line.

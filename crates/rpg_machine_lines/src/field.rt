@@ -16,11 +16,11 @@ use rpg_edit::{write_coded, write_plain, write_worded};
 use rpg_edit_widths::EditWord;
 use rpg_effect::form::{FieldForm, Kind};
 use rpg_effect::line::{Editing, LineField, Source};
+use rpg_memory::memory::Memory;
+use rpg_memory::resolved::FixedEntry;
 use rpg_object_program::forms::{form_at, kind_of};
 use rpg_object_program::row::Rows;
 use rpg_object_program::words::word_at;
-use rpg_memory::memory::Memory;
-use rpg_memory::resolved::FixedEntry;
 use rpg_store::store::Store;
 
 /// The word that a number of so many digits is edited by.

@@ -13,8 +13,8 @@ use crate::field::{blank_all, fill_blanks};
 use crate::plan::LinePlan;
 use crate::printer::put_on;
 use rpg_effect::outcome::End;
-use rpg_object_program::row::Line;
 use rpg_memory::memory::Memory;
+use rpg_object_program::row::Line;
 use rpg_store::store::Store;
 use std::alloc::AllocError;
 

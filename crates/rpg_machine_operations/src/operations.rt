@@ -16,9 +16,9 @@ use crate::summing::cross_foot;
 use rpg_effect::halt::Halt;
 use rpg_effect::operation::{Action, Operand, Shows};
 use rpg_effect::outcome::End;
+use rpg_memory::memory::Memory;
 use rpg_object_program::forms::{entries_of, form_at};
 use rpg_object_program::row::Rows;
-use rpg_memory::memory::Memory;
 use rpg_store::store::Store;
 
 /// The weight of an operation: one, and the entries that XFOOT and LOKUP go through.

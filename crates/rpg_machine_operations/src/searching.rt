@@ -17,9 +17,9 @@ use crate::comparing::compared;
 use crate::resolving::{entry_named, table_named};
 use rpg_effect::operation::{Entry, Found, Index, Operand, Shows};
 use rpg_effect::outcome::End;
-use rpg_object_program::forms::{form_at, is_table_form};
 use rpg_memory::memory::Memory;
 use rpg_memory::resolved::Resolved;
+use rpg_object_program::forms::{form_at, is_table_form};
 use rpg_store::store::Store;
 use std::cmp::Ordering;
 

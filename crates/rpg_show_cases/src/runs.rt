@@ -2,10 +2,10 @@
 
 use rpg_cli::{Answer, Counted, Job, JobEnd, Report, execute, line, run_records};
 use rpg_cycle::{CycleEnd, Output, StartFault};
+use rpg_memory::first_values_fit;
+use rpg_memory::memory::Memory;
 use rpg_object::decode;
 use rpg_show_lines::{Outputs, records_of};
-use rpg_memory::memory::Memory;
-use rpg_memory::first_values_fit;
 use rpg_store::{ListedStore, Store};
 use rpg_verify::{Verified, verify};
 use std::alloc::{AllocError, Global};
