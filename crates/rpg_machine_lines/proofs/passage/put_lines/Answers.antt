@@ -4,10 +4,10 @@ use Rattle.rpg_effect.specs.Halts.{halt_number}
 use Rattle.rpg_effect.specs.Put.{IsDone}
 use Rattle.rpg_effect.specs.World.{holds_if_any}
 use Rattle.rpg_effect.specs.declared.outcome.End.TheVariants as answers
-use Rattle.rpg_machine_lines.proofs.AllLines.{all_done, one, rest_end, rest_halts, rest_next, right_at, without_needed}
-use Rattle.rpg_machine_lines.proofs.PassLines.{listed_many, names_next, next_is, next_listed, number_low}
+use Rattle.rpg_machine_lines.proofs.AllLines.{all_done, answered, asked, one, rest_end, rest_halts, rest_next, right_at, unasked, without_needed}
+use Rattle.rpg_machine_lines.proofs.PassLines.{listed_many, listed_of, names_next, next_is, next_listed, number_low}
 use Rattle.rpg_machine_lines.proofs.Planned.{plan_at, plans_many}
-use Rattle.rpg_machine_lines.specs.Outputs.{output_of}
+use Rattle.rpg_machine_lines.specs.Outputs.{line_effect, output_of}
 use Rattle.rpg_machine_lines.specs.PassLines.{pass_lines}
 use Rattle.rpg_machine_lines.specs.Passages.{needed_at}
 use Rattle.rpg_machine_lines.specs.Plans.{IsPlannedLine}
@@ -19,7 +19,7 @@ use Rattle.rpg_machine_lines.proofs.passage.put_lines.Goals as goal
 
 -- stands where nothing is listed
 abbrev none : PassLine
-none = record { number = 0; needed = None }
+none = record { number = 0; needed = None; is_enough = false }
 
 pub lines-preserved-then-not-may_be_asked : goal.lines-preserved-then-not-may_be_asked
 lines-preserved-then-not-may_be_asked g c =
@@ -38,7 +38,7 @@ lines-preserved-then-not-may_be_asked g c =
     let w = held_of c.lines.memory in
     let q = output_of c.lines.output in
     let fails : holds_if_any w.world.on (needed_at p.overflow l.time l.alternatives pass) ≡ false =
-    ap (holds_if_any w.world.on) (sym here.needed) ∙ ap (λ s. holds_if_any s (get_or listed i none).needed) (sym c.on.ensures)
+    ap (holds_if_any w.world.on) (sym here.needed) ∙ ap (λ s. holds_if_any s (get_or listed i none).needed) (sym c.on-on.ensures)
     ∙ sym c.may_be_asked.ensures ∙ c.if-not-may_be_asked.true in
     record {
       near = c.lines.invariant.near;
@@ -56,6 +56,32 @@ index-line-requires g c =
     let low = number_low p c.args.pass c.args.plan.now.passages has c.lines_at-listed-items.result.now told c.lines.listed-index none c.lines-test.true c.rows-rows.result.now.lines.items rows in
     omega (arith, low)
 
+pub lines-preserved-then-not-is_asked_then : goal.lines-preserved-then-not-is_asked_then
+lines-preserved-then-not-is_asked_then g c =
+    let p = c.args.memory.now.program in
+    let pass = c.args.pass in
+    let listed = c.lines_at-listed-items.result.now in
+    let i = c.lines.listed-index in
+    let l = c.index-line.result.now in
+    let rows = ap (λ (x : Object). x.lines) (sym c.rows-rows.ensures.same) in
+    let has = c.requires.plan.passages in
+    let told = c.lines_at-listed-items.ensures in
+    let is = names_next p pass c.args.plan.now.passages has listed told i none c.lines-test.true c.rows-rows.result.now.lines.items rows l c.index-line.ensures in
+    let low : i < length (pass_lines p pass) = omega (arith, c.lines-test.true, listed_many p pass c.args.plan.now.passages has listed told) in
+    let w = held_of c.lines.memory in
+    let q = output_of c.lines.output in
+    let same = ap (λ (x : Object). x.overflow) c.rows-rows.ensures.same in
+    let asks = answered p pass (get_or listed i none) (line_row l) (listed_of p pass c.args.plan.now.passages has listed told i none c.lines-test.true (line_row l) is)
+    c.on-on.result.now w.world.on c.rows-rows.result.now.overflow c.may_be_asked.result c.is_asked_then.result
+    c.on-on.ensures same c.may_be_asked.ensures c.if-not-may_be_asked.false c.is_asked_then.ensures in
+    record {
+      near = c.lines.invariant.near;
+      program = c.lines.invariant.program;
+      onward = λ e u t h.
+          c.lines.invariant.onward e u t (rest_next p pass (pass_lines p pass) (line_row l) i low is w w u q q t answers.GoesOn e refl
+          (unasked p pass (line_row l) w q (sym asks ∙ c.if-not-is_asked_then.true)) h);
+    }
+
 pub index-found-requires : goal.index-found-requires
 index-found-requires g c =
     let p = c.args.memory.now.program in
@@ -66,8 +92,8 @@ index-found-requires g c =
     let low = number_low p c.args.pass c.args.plan.now.passages has c.lines_at-listed-items.result.now told c.lines.listed-index none c.lines-test.true lines rows in
     omega (arith, low, plans_many p c.args.plan.now lines c.requires.plan rows)
 
-pub put_if_asked-requires-clause-right : goal.put_if_asked-requires-clause-right
-put_if_asked-requires-clause-right g c =
+pub put_asked-requires-clause-right : goal.put_asked-requires-clause-right
+put_asked-requires-clause-right g c =
     let p = c.args.memory.now.program in
     let lines = c.rows-rows.result.now.lines.items in
     let listed = c.lines_at-listed-items.result.now in
@@ -80,8 +106,8 @@ put_if_asked-requires-clause-right g c =
     subst (λ (x : Object). IsRightLine x (line_row l)) (sym c.lines.invariant.program)
     (right_at p lines (get_or listed i none).number l c.requires.right rows low c.index-line.ensures)
 
-pub put_if_asked-requires-clause-planned : goal.put_if_asked-requires-clause-planned
-put_if_asked-requires-clause-planned g c =
+pub put_asked-requires-clause-planned : goal.put_asked-requires-clause-planned
+put_asked-requires-clause-planned g c =
     let p = c.args.memory.now.program in
     let lines = c.rows-rows.result.now.lines.items in
     let listed = c.lines_at-listed-items.result.now in
@@ -108,15 +134,21 @@ lines-preserved g c =
     let is = names_next p pass c.args.plan.now.passages has listed told i none c.lines-test.true c.rows-rows.result.now.lines.items rows l c.index-line.ensures in
     let low : i < length (pass_lines p pass) = omega (arith, c.lines-test.true, listed_many p pass c.args.plan.now.passages has listed told) in
     let w = held_of c.lines.memory in
-    let v = held_of c.put_if_asked.new.memory in
+    let v = held_of c.put_asked.new.memory in
     let q = output_of c.lines.output in
-    let o = output_of c.put_if_asked.new.output in
-    let done = subst (λ (x : Object). IsDone (one x pass (line_row l)) w q (end_of c.in_ok-put_if_asked.field-0) v o) c.lines.invariant.program c.in_ok-put_if_asked.ensures.done in
+    let o = output_of c.put_asked.new.output in
+    let same = ap (λ (x : Object). x.overflow) c.rows-rows.ensures.same in
+    let asks = answered p pass (get_or listed i none) (line_row l) (listed_of p pass c.args.plan.now.passages has listed told i none c.lines-test.true (line_row l) is)
+    c.on-on.result.now w.world.on c.rows-rows.result.now.overflow c.may_be_asked.result c.is_asked_then.result
+    c.on-on.ensures same c.may_be_asked.ensures c.if-not-may_be_asked.false c.is_asked_then.ensures in
+    let put = subst (λ (x : Object). IsDone (line_effect x (line_row l)) w q (end_of c.in_ok-put_asked.field-0) v o) c.lines.invariant.program c.in_ok-put_asked.ensures.done in
+    let done : IsDone (one p pass (line_row l)) w q (end_of c.in_ok-put_asked.field-0) v o =
+    asked p pass l w v q o (end_of c.in_ok-put_asked.field-0) (sym asks ∙ c.if-not-is_asked_then.false) put in
     record {
-      near = c.in_ok-put_if_asked.ensures.near;
-      program = c.put_if_asked.ensures.program ∙ c.lines.invariant.program;
+      near = c.in_ok-put_asked.ensures.near;
+      program = c.put_asked.ensures.program ∙ c.lines.invariant.program;
       onward = λ e u t h.
-          c.lines.invariant.onward e u t (rest_next p pass (pass_lines p pass) (line_row l) i low is w v u q o t c.in_ok-put_if_asked.field-0 e c.in-GoesOn.is done h);
+          c.lines.invariant.onward e u t (rest_next p pass (pass_lines p pass) (line_row l) i low is w v u q o t c.in_ok-put_asked.field-0 e c.in-GoesOn.is done h);
     }
 
 pub returns-in-Halt-clause-done : goal.returns-in-Halt-clause-done
@@ -132,13 +164,19 @@ returns-in-Halt-clause-done g c =
     let is = names_next p pass c.args.plan.now.passages has listed told i none c.lines-test.true c.rows-rows.result.now.lines.items rows l c.index-line.ensures in
     let low : i < length (pass_lines p pass) = omega (arith, c.lines-test.true, listed_many p pass c.args.plan.now.passages has listed told) in
     let w = held_of c.lines.memory in
-    let v = held_of c.put_if_asked.new.memory in
+    let v = held_of c.put_asked.new.memory in
     let q = output_of c.lines.output in
-    let o = output_of c.put_if_asked.new.output in
+    let o = output_of c.put_asked.new.output in
     let k = c.in-Halt.halt in
-    let done = subst (λ (x : Object). IsDone (one x pass (line_row l)) w q (end_of c.in_ok-put_if_asked.field-0) v o) c.lines.invariant.program c.in_ok-put_if_asked.ensures.done in
+    let same = ap (λ (x : Object). x.overflow) c.rows-rows.ensures.same in
+    let asks = answered p pass (get_or listed i none) (line_row l) (listed_of p pass c.args.plan.now.passages has listed told i none c.lines-test.true (line_row l) is)
+    c.on-on.result.now w.world.on c.rows-rows.result.now.overflow c.may_be_asked.result c.is_asked_then.result
+    c.on-on.ensures same c.may_be_asked.ensures c.if-not-may_be_asked.false c.is_asked_then.ensures in
+    let put = subst (λ (x : Object). IsDone (line_effect x (line_row l)) w q (end_of c.in_ok-put_asked.field-0) v o) c.lines.invariant.program c.in_ok-put_asked.ensures.done in
+    let done : IsDone (one p pass (line_row l)) w q (end_of c.in_ok-put_asked.field-0) v o =
+    asked p pass l w v q o (end_of c.in_ok-put_asked.field-0) (sym asks ∙ c.if-not-is_asked_then.false) put in
     all_done p pass (held_of c.args.memory.now) v (output_of c.args.output.now) o (Halt (halt_number k))
-    (c.lines.invariant.onward (Halt (halt_number k)) v o (rest_halts p pass (pass_lines p pass) (line_row l) i low is w v q o c.in_ok-put_if_asked.field-0 k c.in-Halt.is done))
+    (c.lines.invariant.onward (Halt (halt_number k)) v o (rest_halts p pass (pass_lines p pass) (line_row l) i low is w v q o c.in_ok-put_asked.field-0 k c.in-Halt.is done))
 
 pub returns-clause-done : goal.returns-clause-done
 returns-clause-done g c =
