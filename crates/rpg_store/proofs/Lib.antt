@@ -2,6 +2,7 @@ pub mod ByEntry
 pub mod ByPart
 pub mod BySlot
 pub mod Bytes
+pub mod Counting
 pub mod Currents
 pub mod Filling
 pub mod FirstArea

@@ -1,5 +1,5 @@
 -- The values of fields by number and position, and the current entries of tables.
-use Rattle.std.specs.Prelude.{ℕ, Option, None, Some}
+use Rattle.std.specs.Prelude.{◌≡◌, ℕ, List, length, Option, None, Some}
 use Rattle.std.specs.FinMap as map
 use Rattle.std.specs.Ordering.{nat_cmp}
 use Rattle.rpg_effect.specs.Values.{Value, Number, Text, entry_cmp}
@@ -23,3 +23,7 @@ abbrev pub IsText : Option Value → Type 0
 IsText None = ⊥
 IsText (Some (Number n)) = ⊥
 IsText (Some (Text text)) = Unit {0}
+
+-- each text that is as long, written over a text, is then the entry's
+abbrev pub WritesText : (List ℕ → Values) → Values → ℕ → ℕ → List ℕ → Type 0
+WritesText after before field position text = (w : List ℕ) → length w ≡ length text → after w ≡ map.insert before (field, position) (Text w)

@@ -4,7 +4,7 @@ ghost use Rattle.std.specs.List.{flat_map};
 ghost use Rattle.rpg_effect.specs.Values.{held};
 ghost use Rattle.rpg_store.specs.First.{first_contents, first_currents};
 ghost use Rattle.rpg_store.specs.Listed.{listed_contents, listed_with_text, number_part, text_part};
-ghost use Rattle.rpg_store.specs.Slots.{currents, forms_of};
+ghost use Rattle.rpg_store.specs.Slots.{AreInOrder, currents, entries_count, forms_of};
 
 use crate::slot::{Slot, place, slots_of};
 use crate::store::Store;
@@ -96,7 +96,10 @@ fn texts_of(alloc: Global, count: usize, values: &[Vec<Value>]) -> Result<Vec<Ve
 }
 
 /// How many entries all fields have.
-fn entries_count(slots: &[Slot]) -> usize {
+fn entries_count(slots: &[Slot]) -> usize
+    requires { AreInOrder 0 slots.now }
+    ensures { result ≡ entries_count (forms_of slots.now) }
+{
     match slots.last() {
         Some(slot) => slot.first as usize + slot.form.entries as usize,
         None => 0,

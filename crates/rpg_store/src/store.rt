@@ -6,7 +6,7 @@ ghost use Rattle.rpg_effect.specs.Forms.{entries_of, form_at, is_table_form, len
 ghost use Rattle.rpg_effect.specs.Values.{Number, Text};
 ghost use Rattle.rpg_effect.specs.declared.form.FieldForm.{FieldForm};
 ghost use Rattle.rpg_store.specs.Contents.{IsEntryAt};
-ghost use Rattle.rpg_store.specs.Store.{Values, Currents, IsNumber, IsText};
+ghost use Rattle.rpg_store.specs.Store.{Values, Currents, IsNumber, IsText, WritesText};
 
 /// The values of fields, and the current entry of each table. Fields and positions count from 1; a field that is no array and
 /// no table has position 1 alone.
@@ -60,7 +60,7 @@ pub trait Store {
         requires { IsText (map.get (contents self.old) (field, position)) }
         ensures* writes_back { sem 𝓛 (Lends Self.row (Array byte 0) self.entry result (written self.old field position)) }
         ensures value { map.get (contents self.old) (field, position) ≡ Some (Text result.now) }
-        ensures contents { (w : List ℕ) → length w ≡ length result.now → contents (written self.old field position w) ≡ map.insert (contents self.old) (field, position) (Text w) }
+        ensures contents { WritesText (λ w. contents (written self.old field position w)) (contents self.old) field position result.now }
         ensures currents { (w : List ℕ) → currents (written self.old field position w) ≡ currents self.old }
         ensures forms { (w : List ℕ) → forms (written self.old field position w) ≡ forms self.old };
 
@@ -70,7 +70,7 @@ pub trait Store {
         requires place { IsEntryAt (forms self.old) place (field, position) }
         ensures* writes_back { sem 𝓛 (Lends Self.row (Array byte 0) self.entry result (written self.old field position)) }
         ensures value { map.get (contents self.old) (field, position) ≡ Some (Text result.now) }
-        ensures contents { (w : List ℕ) → length w ≡ length result.now → contents (written self.old field position w) ≡ map.insert (contents self.old) (field, position) (Text w) }
+        ensures contents { WritesText (λ w. contents (written self.old field position w)) (contents self.old) field position result.now }
         ensures currents { (w : List ℕ) → currents (written self.old field position w) ≡ currents self.old }
         ensures forms { (w : List ℕ) → forms (written self.old field position w) ≡ forms self.old };
 

@@ -23,6 +23,9 @@ slots_of-requires c =
 pub invariant_of-result : goal.invariant_of-result
 invariant_of-result c = subst (λ (slots : List Slot). AreInOrder 0 slots) (sym c.in_ok-slots.ensures) (order_from 0 c.deref.result.now)
 
+pub entries_count-count-requires : goal.entries_count-count-requires
+entries_count-count-requires c = subst (λ (slots : List Slot). AreInOrder 0 slots) (sym (c.deref-2.ensures.value ∙ c.in_ok-slots.ensures)) (order_from 0 c.deref.result.now)
+
 pub returns-clause-forms : goal.returns-clause-forms
 returns-clause-forms c =
     let same : c.deref.result.now ≡ c.args.program.now.fields = c.deref.ensures.value ∙ ap (λ (o : Object). o.fields) c.rows-tables.ensures.same in
