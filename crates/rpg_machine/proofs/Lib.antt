@@ -4,10 +4,10 @@ pub mod ByNumber
 pub mod Doing
 pub mod Effects
 pub mod Filling
+pub mod FindingSteps
 pub mod FirstEntries
 pub mod Firsts
 pub mod FixedSteps
-pub mod FoundActions
 pub mod Going
 pub mod Keeping
 pub mod KeepingLines

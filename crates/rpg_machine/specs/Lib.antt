@@ -5,8 +5,8 @@ pub mod Chain
 pub mod Codes
 pub mod Config
 pub mod Control
+pub mod Finding
 pub mod FixedInputs
-pub mod Fixing
 pub mod Inputs
 pub mod Laws
 pub mod Outputs

@@ -2,10 +2,10 @@
 #![tactic(auto)]
 
 mod accepted;
-mod actions;
 mod cells;
 pub mod control;
 mod fixed_inputs;
+mod found_steps;
 mod inputs;
 pub mod laws;
 mod machine;

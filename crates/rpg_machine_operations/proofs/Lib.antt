@@ -1,3 +1,4 @@
+pub mod Aligned
 pub mod Characters
 pub mod Doing
 pub mod Finding

@@ -1,6 +1,6 @@
 //! Arithmetic: what a result is, and what becomes of it.
-ghost use Rattle.std.specs.Prelude.{◌≡◌, ◌≢◌, ◌<◌, ◌≤◌, ◌^◌, pos, false, None, if◌then◌else◌, unsigned_abs, IfSome};
-ghost use Rattle.rpg_decimal_words.specs.Fraction.{stored_number, with_decimals};
+ghost use Rattle.std.specs.Prelude.{◌≡◌, ◌≢◌, ◌<◌, ◌≤◌, ◌+◌, ◌^◌, pos, true, false, None, if◌then◌else◌, unsigned_abs, IfSome};
+ghost use Rattle.rpg_decimal_words.specs.Fraction.{stored_number, times, with_decimals};
 ghost use Rattle.rpg_decimal.specs.Num.{value_of};
 ghost use Rattle.rpg_effect.specs.Act as acts;
 ghost use Rattle.rpg_effect.specs.Ends.{end_of};
@@ -10,10 +10,11 @@ ghost use Rattle.rpg_effect.specs.declared.form.Kind.TheVariants as kinds;
 ghost use Rattle.rpg_effect.specs.declared.operation.Action.TheVariants as actions;
 ghost use Rattle.rpg_memory.specs.Fields.{IsValue};
 ghost use Rattle.rpg_memory.specs.Memory.{NamesNumber, forms_in, rest_value};
+ghost use Rattle.rpg_machine_operations.specs.Fixed.{are_aligned};
 ghost use Rattle.rpg_machine_operations.specs.Words.{DidEffect, DidOperate, FitsResult, IsNumberOperand, act_in, assigned_in, computed_in, quotient_in, stored_value_in, with_remainder_of};
 
 use crate::resolving::number_named;
-use rpg_decimal::{Num, Rest, Scale, Target, add, div, keep, mult, remainder, sub};
+use rpg_decimal::{Num, Rest, Scale, Target, add, div, fit, keep, mult, remainder, sub};
 use rpg_effect::halt::Halt;
 use rpg_effect::operation::{Entry, Operand, Operator, Shows};
 use rpg_effect::outcome::End;
@@ -50,6 +51,39 @@ pub(crate) fn operated(operator: Operator, a: Num, b: Num, target: Target) -> i6
     }
 }
 
+/// The product of numbers that has the target's decimals.
+#[inline(always)]
+fn product_aligned(a: Num, b: Num, target: Target) -> i64
+    requires { a.dec + b.dec ≡ target.dec }
+    ensures value { result ≡ stored_number target.half target.dec target.len (times (value_of a) (value_of b)) }
+    ensures length { unsigned_abs result < 10 ^ target.len }
+{
+    let product = i128::from(a.value) * i128::from(b.value);
+    fit(product, target.len)
+}
+
+/// What an operator makes of two numbers, which has the target's decimals: no number is shifted.
+#[inline(always)]
+pub(crate) fn operated_aligned(operator: Operator, a: Num, b: Num, target: Target) -> i64
+    requires { are_aligned operator a.dec b.dec target.dec ≡ true }
+    ensures value { result ≡ stored_number target.half target.dec target.len (acts.computed operator (value_of a) (value_of b)) }
+    ensures length { unsigned_abs result < 10 ^ target.len }
+{
+    let a_there = Num {
+        value: a.value,
+        dec: target.dec,
+    };
+    let b_there = Num {
+        value: b.value,
+        dec: target.dec,
+    };
+    match operator {
+        Operator::Add => add(a_there, b_there, target),
+        Operator::Subtract => sub(a_there, b_there, target),
+        Operator::Multiply => product_aligned(a, b, target),
+    }
+}
+
 /// The result of ADD, SUB and MULT.
 fn computed<S: Store + Drop>(
     memory: &Memory<'_, S>,
@@ -78,6 +112,16 @@ pub(crate) fn kept_with_sign(is_negated: bool, b: Num, target: Target) -> i64
 {
     let scale = Scale { value: b.dec };
     keep(signed(is_negated, b.value), scale, target)
+}
+
+/// The same of a number with the target's decimals.
+#[inline(always)]
+pub(crate) fn kept_aligned(is_negated: bool, b: Num, target: Target) -> i64
+    requires { b.dec ≡ target.dec }
+    ensures value { result ≡ stored_number target.half target.dec target.len (with_decimals (acts.assigned is_negated b.value) b.dec) }
+    ensures length { unsigned_abs result < 10 ^ target.len }
+{
+    fit(signed(is_negated, b.value), target.len)
 }
 
 /// The result of Z-ADD and Z-SUB.
