@@ -92,10 +92,10 @@ fn with_fixed_field<S: Store + Drop>(
     text: &mut [u8],
     to_blank: &mut Entries,
     field: &LineField<u16>,
-    fixed: FixedEntry,
+    fixed: &FixedEntry,
 )
     requires right { faults.field_fault (forms_in memory.now) (word_at memory.now.program) (length text.old) field.now ≡ None }
-    requires fixed { IsFixedField memory.now.program.fields field.now fixed }
+    requires fixed { IsFixedField memory.now.program.fields field.now fixed.now }
     requires room { array_vec_len to_blank.old < 200 }
     requires entries { AreFieldEntries memory.now.program.fields to_blank.old.items }
     ensures drafted { drafted_in GoesOn memory.now text.new to_blank.new.items ≡ with_field_in memory.now text.old to_blank.old.items field.now }
@@ -118,10 +118,10 @@ fn with_planned_field<S: Store + Drop>(
     text: &mut [u8],
     to_blank: &mut Entries,
     field: &LineField<u16>,
-    found: Option<FixedEntry>,
+    found: &Option<FixedEntry>,
 ) -> End
     requires right { faults.field_fault (forms_in memory.old) (word_at memory.old.program) (length text.old) field.now ≡ None }
-    requires planned { IsFieldPlan memory.old.program.fields field.now found }
+    requires planned { IsFieldPlan memory.old.program.fields field.now found.now }
     requires room { array_vec_len to_blank.old < 200 }
     requires entries { AreFieldEntries memory.old.program.fields to_blank.old.items }
     ensures drafted { drafted_in (end_of result) memory.new text.new to_blank.new.items ≡ with_field_in memory.old text.old to_blank.old.items field.now }
@@ -157,7 +157,7 @@ pub fn assemble<S: Store + Drop>(
 {
     let (mut left, mut found) = (fields, plan);
     'fields: while let Some((field, behind)) = left.split_first() {
-        match with_planned_field(memory, text, to_blank, field, found[0]) {
+        match with_planned_field(memory, text, to_blank, field, &found[0]) {
             End::GoesOn => {}
             End::Halt(halt) => return End::Halt(halt),
         }
