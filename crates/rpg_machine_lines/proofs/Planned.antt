@@ -39,7 +39,7 @@ nothing_asked on None (Some x) c h = cc
 nothing_asked on None None (Some x) h = cc
 
 -- without conditions a field is put out
-always_put : (on : sets.FinSet nat_cmp) (cs : Conditions) → has_conditions cs ≡ false → three_hold on cs ≡ true
+pub always_put : (on : sets.FinSet nat_cmp) (cs : Conditions) → has_conditions cs ≡ false → three_hold on cs ≡ true
 always_put on cs h = nothing_asked on cs.first cs.second cs.third h
 
 module _ (forms : List FieldForm) (f : LineField ℕ) (e : FixedEntry) (i : IsFixedField forms f e) (fields : Fields nat_cmp) where
@@ -62,20 +62,20 @@ module _ (forms : List FieldForm) (f : LineField ℕ) (e : FixedEntry) (i : IsFi
 
 -- the field is laid over the line by the value of that entry
 fixed_drafted : (w : Working) (text : List ℕ) (es : List (ℕ × ℕ)) (f : LineField ℕ) (e : FixedEntry) → IsFixedField w.program.fields f e →
-    field_fault (forms_in w) (word_at w.program) (length text) f ≡ None →
+    three_hold w.world.on f.conditions ≡ true → field_fault (forms_in w) (word_at w.program) (length text) f ≡ None →
     with_field_in w text es f
     ≡ drafted_in GoesOn w (laid_over text f.end (field_text_in w f e.resolved.entry.position)) (remembered f.is_blanked (f.operand.field, e.resolved.entry.position) es)
 unfolding with_field
-fixed_drafted w text es f e i right = rw (always_put w.world.on f.conditions i.conditions, right, i.entry.position w.world.fields, i.source) refl
+fixed_drafted w text es f e i holds right = rw (holds, right, i.entry.position w.world.fields, i.source) refl
 
 -- the same of what the code laid and remembered
 pub fixed_laid : (w : Working) (text out : List ℕ) (es more : List (ℕ × ℕ)) (f : LineField ℕ) (e : FixedEntry) → IsFixedField w.program.fields f e →
-    field_fault (forms_in w) (word_at w.program) (length text) f ≡ None → out ≡ laid_over text f.end (field_text_in w f e.resolved.entry.position) →
+    three_hold w.world.on f.conditions ≡ true → field_fault (forms_in w) (word_at w.program) (length text) f ≡ None → out ≡ laid_over text f.end (field_text_in w f e.resolved.entry.position) →
     more ≡ remembered f.is_blanked (f.operand.field, e.resolved.entry.position) es → drafted_in GoesOn w out more ≡ with_field_in w text es f
-fixed_laid w text out es more f e i right laid kept =
+fixed_laid w text out es more f e i holds right laid kept =
     ap (λ (xs : List (ℕ × ℕ)). drafted_in GoesOn w out xs) kept
     ∙ ap (λ (t : List ℕ). drafted_in GoesOn w t (remembered f.is_blanked (f.operand.field, e.resolved.entry.position) es)) laid
-    ∙ sym (fixed_drafted w text es f e i right)
+    ∙ sym (fixed_drafted w text es f e i holds right)
 
 -- as much was found as there are lines
 pub plans_many : (p : Object) (plan : Plan) (ls : List rows.Line) → IsPlanOf p plan → p.lines ≡ map line_row ls → length plan.lines.items ≡ length ls

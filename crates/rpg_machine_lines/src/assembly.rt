@@ -1,9 +1,10 @@
 //! A line is assembled: the fields whose conditions hold are laid over blanks, in order.
-ghost use Rattle.std.specs.Prelude.{◌≡◌, ◌≤◌, ◌<◌, ◌+◌, length, drop, None};
+ghost use Rattle.std.specs.Prelude.{◌≡◌, ◌≤◌, ◌<◌, ◌+◌, length, drop, true, None};
 ghost use Rattle.arrayvec.specs.ArrayVec.{array_vec_len};
 ghost use Rattle.rpg_effect.specs.Ends.{GoesOn, end_of};
 ghost use Rattle.rpg_effect.specs.LineFaults as faults;
 ghost use Rattle.rpg_effect.specs.Lines as lines;
+ghost use Rattle.rpg_effect.specs.World.{three_hold};
 ghost use Rattle.rpg_machine_lines.specs.Drafts.{assembled_in, drafted_in, fields_replaced, with_field_in};
 ghost use Rattle.rpg_machine_lines.specs.Entries.{AreFieldEntries, IsFieldEntry};
 ghost use Rattle.rpg_machine_lines.specs.Plans.{IsFieldPlan, IsFixedField, AreFieldPlans, reach_of};
@@ -11,6 +12,7 @@ ghost use Rattle.rpg_object_program.specs.Constants.{word_at};
 ghost use Rattle.rpg_memory.specs.Memory.{forms_in};
 
 use crate::field::{count_page, lay_fixed_value, lay_value};
+use crate::plan::FieldPlan;
 use crate::reading::position_of;
 use arrayvec::ArrayVec;
 use rpg_effect::halt::Halt;
@@ -48,7 +50,8 @@ fn remember<S: Store + Drop>(
     }
 }
 
-/// One field, where its conditions hold.
+/// One field, where its conditions hold; its entry is looked for. Apart from the loop over fields, which seldom comes here.
+#[inline(never)]
 #[tactic(auto, using(crate::proofs::Fields::rightness), unfolding(rpg_effect::specs::Lines::with_field))]
 fn with_field<S: Store + Drop>(
     memory: &mut Memory<'_, S>,
@@ -85,17 +88,18 @@ fn with_field<S: Store + Drop>(
     }
 }
 
-/// One field that is always put out, by the entry that its operand names at all times.
+/// One field that is put out, by the entry that its operand names at all times.
 #[inline(always)]
 fn with_fixed_field<S: Store + Drop>(
     memory: &Memory<'_, S>,
     text: &mut [u8],
     to_blank: &mut Entries,
     field: &LineField<u16>,
-    fixed: FixedEntry,
+    fixed: &FixedEntry,
 )
     requires right { faults.field_fault (forms_in memory.now) (word_at memory.now.program) (length text.old) field.now ≡ None }
-    requires fixed { IsFixedField memory.now.program.fields field.now fixed }
+    requires holds { three_hold memory.now.world.on field.now.conditions ≡ true }
+    requires fixed { IsFixedField memory.now.program.fields field.now fixed.now }
     requires room { array_vec_len to_blank.old < 200 }
     requires entries { AreFieldEntries memory.now.program.fields to_blank.old.items }
     ensures drafted { drafted_in GoesOn memory.now text.new to_blank.new.items ≡ with_field_in memory.now text.old to_blank.old.items field.now }
@@ -112,16 +116,39 @@ fn with_fixed_field<S: Store + Drop>(
     );
 }
 
-/// One field, by what was found of it, and otherwise where its conditions hold.
+/// The same of a field that is put out where its conditions hold.
+#[tactic(auto, unfolding(rpg_effect::specs::Lines::with_field))]
+fn with_conditional_field<S: Store + Drop>(
+    memory: &Memory<'_, S>,
+    text: &mut [u8],
+    to_blank: &mut Entries,
+    field: &LineField<u16>,
+    fixed: &FixedEntry,
+)
+    requires right { faults.field_fault (forms_in memory.now) (word_at memory.now.program) (length text.old) field.now ≡ None }
+    requires fixed { IsFixedField memory.now.program.fields field.now fixed.now }
+    requires room { array_vec_len to_blank.old < 200 }
+    requires entries { AreFieldEntries memory.now.program.fields to_blank.old.items }
+    ensures drafted { drafted_in GoesOn memory.now text.new to_blank.new.items ≡ with_field_in memory.now text.old to_blank.old.items field.now }
+    ensures entries { AreFieldEntries memory.now.program.fields to_blank.new.items }
+    ensures few { array_vec_len to_blank.new ≤ array_vec_len to_blank.old + 1 }
+{
+    if three_hold(memory.on(), field.conditions) {
+        with_fixed_field(memory, text, to_blank, field, fixed);
+    }
+}
+
+/// One field, where its conditions hold, by what was found of it.
+#[tactic(auto, using(crate::proofs::Planned::always_put))]
 fn with_planned_field<S: Store + Drop>(
     memory: &mut Memory<'_, S>,
     text: &mut [u8],
     to_blank: &mut Entries,
     field: &LineField<u16>,
-    found: Option<FixedEntry>,
+    found: &FieldPlan,
 ) -> End
     requires right { faults.field_fault (forms_in memory.old) (word_at memory.old.program) (length text.old) field.now ≡ None }
-    requires planned { IsFieldPlan memory.old.program.fields field.now found }
+    requires planned { IsFieldPlan memory.old.program.fields field.now found.now }
     requires room { array_vec_len to_blank.old < 200 }
     requires entries { AreFieldEntries memory.old.program.fields to_blank.old.items }
     ensures drafted { drafted_in (end_of result) memory.new text.new to_blank.new.items ≡ with_field_in memory.old text.old to_blank.old.items field.now }
@@ -130,12 +157,13 @@ fn with_planned_field<S: Store + Drop>(
     ensures few { array_vec_len to_blank.new ≤ array_vec_len to_blank.old + 1 }
 {
     match found {
-        None => with_field(memory, text, to_blank, field),
-        Some(fixed) => {
-            with_fixed_field(memory, text, to_blank, field, fixed);
-            End::GoesOn
-        }
+        FieldPlan::Always(fixed) => with_fixed_field(memory, text, to_blank, field, fixed),
+        FieldPlan::Conditional(fixed) => with_conditional_field(
+            memory, text, to_blank, field, fixed,
+        ),
+        FieldPlan::Sought => return with_field(memory, text, to_blank, field),
     }
+    End::GoesOn
 }
 
 /// All fields, in order, until an index is bad.
@@ -144,7 +172,7 @@ pub fn assemble<S: Store + Drop>(
     text: &mut [u8],
     to_blank: &mut Entries,
     fields: &[LineField<u16>],
-    plan: &[Option<FixedEntry>],
+    plan: &[FieldPlan],
 ) -> End
     requires right { faults.AreRight (forms_in memory.old) (word_at memory.old.program) (length text.old) fields.now }
     requires room { array_vec_len to_blank.old + length fields.now ≤ 200 }
@@ -157,7 +185,7 @@ pub fn assemble<S: Store + Drop>(
 {
     let (mut left, mut found) = (fields, plan);
     'fields: while let Some((field, behind)) = left.split_first() {
-        match with_planned_field(memory, text, to_blank, field, found[0]) {
+        match with_planned_field(memory, text, to_blank, field, &found[0]) {
             End::GoesOn => {}
             End::Halt(halt) => return End::Halt(halt),
         }

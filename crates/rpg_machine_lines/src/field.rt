@@ -100,13 +100,13 @@ pub fn lay_fixed_value<S: Store + Drop>(
     memory: &Memory<'_, S>,
     text: &mut [u8],
     field: &LineField<u16>,
-    fixed: FixedEntry,
+    fixed: &FixedEntry,
 )
     requires right { IsRightField (forms_in memory.now) (constants.word_at memory.now.program) (length text.old) field.now }
-    requires form { Some fixed.resolved.form ≡ forms_in memory.now field.now.operand.field }
-    requires entry { IsFieldEntry memory.now.program.fields field.now.operand.field fixed.resolved.entry.position }
-    requires place { IsEntryAt memory.now.program.fields fixed.place (field.now.operand.field, fixed.resolved.entry.position) }
-    ensures text { text.new ≡ lines.laid_over text.old field.now.end (field_text_in memory.now field.now fixed.resolved.entry.position) }
+    requires form { Some fixed.now.resolved.form ≡ forms_in memory.now field.now.operand.field }
+    requires entry { IsFieldEntry memory.now.program.fields field.now.operand.field fixed.now.resolved.entry.position }
+    requires place { IsEntryAt memory.now.program.fields fixed.now.place (field.now.operand.field, fixed.now.resolved.entry.position) }
+    ensures text { text.new ≡ lines.laid_over text.old field.now.end (field_text_in memory.now field.now fixed.now.resolved.entry.position) }
 {
     memory.is_kept();
     let (number, entry) = (field.operand.field, fixed.resolved.entry.position);

@@ -37,7 +37,7 @@ pub fn put_line<S: Store + Drop>(
 {
     fill_blanks(text);
     to_blank.clear();
-    match assemble(memory, text, to_blank, &line.fields, &plan.entries) {
+    match assemble(memory, text, to_blank, &line.fields, &plan.fields) {
         End::GoesOn => {}
         End::Halt(halt) => return Ok(End::Halt(halt)),
     }

@@ -40,7 +40,7 @@ pub fn put_details<S: Store + Drop>(
     Ok(End::GoesOn)
 }
 
-/// Total output: T lines.
+/// Total output: T lines. Mostly none of them is asked for, which is found without entering their loop.
 pub fn put_totals<S: Store + Drop>(
     memory: &mut Memory<'_, S>,
     output: &mut Output,
@@ -56,6 +56,9 @@ pub fn put_totals<S: Store + Drop>(
     ensures near { OnOk result (IsNear memory.new.world.here) }
     ensures program { memory.new.program ≡ memory.old.program }
 {
+    if !plan.passages.may_ask(Pass::Total, memory.on()) {
+        return Ok(End::GoesOn);
+    }
     put_lines(memory, output, text, to_blank, Pass::Total, plan)
 }
 

@@ -98,14 +98,18 @@ impl Form {
         ensures form { self.new ≡ form_after_space lines self.old }
         ensures test { result ≡ turns_overflow_on (here_of self.old) (here_of self.new) }
     {
-        let line = self.line + lines;
+        let from = self.line;
+        if lines == 0 {
+            return false;
+        }
+        let line = from + lines;
         if line > PAGE_LINES {
             self.begun += 1;
             self.line = line - PAGE_LINES;
             return false;
         }
         self.line = line;
-        lines > 0 && line >= OVERFLOW_LINE
+        line >= OVERFLOW_LINE
     }
 
     /// Moves to the next such line that isn't before the present one. Answers whether this turns the overflow

@@ -9,5 +9,9 @@ pub(crate) fn append_times(out: &mut Vec<u8>, byte: u8, times: u16) -> Result<()
     ensures ok { OnOk result (out.new.items ≡ out.old.items ++ replicate times byte) }
     ensures err { OnErr result (take (vec_len out.old) out.new.items ≡ out.old.items) }
 {
+    if times == 1 {
+        out.push(byte)?;
+        return Ok(());
+    }
     out.resize(out.len() + usize::from(times), byte)
 }

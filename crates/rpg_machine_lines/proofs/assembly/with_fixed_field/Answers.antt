@@ -8,26 +8,26 @@ lay_fixed_value-requires-clause-right g c = right _ _ _ _ c.requires.right
 pub lay_fixed_value-requires-clause-form : goal.lay_fixed_value-requires-clause-form
 lay_fixed_value-requires-clause-form g c =
     let m = c.args.memory.now in
-    fixed_form m.program.fields c.args.field.now c.args.fixed c.requires.fixed m.world.fields
+    fixed_form m.program.fields c.args.field.now c.args.fixed.now c.requires.fixed m.world.fields
 
 pub lay_fixed_value-requires-clause-entry : goal.lay_fixed_value-requires-clause-entry
 lay_fixed_value-requires-clause-entry g c =
     let m = c.args.memory.now in
     let ok = right _ _ _ _ c.requires.right in
-    fixed_there m.program.fields c.args.field.now c.args.fixed c.requires.fixed m.world.fields c.is_kept.ensures.good c.is_kept.ensures.fits ok.there ok.index
+    fixed_there m.program.fields c.args.field.now c.args.fixed.now c.requires.fixed m.world.fields c.is_kept.ensures.good c.is_kept.ensures.fits ok.there ok.index
 
 pub lay_fixed_value-requires-clause-place : goal.lay_fixed_value-requires-clause-place
 lay_fixed_value-requires-clause-place g c =
     let m = c.args.memory.now in
-    fixed_place m.program.fields c.args.field.now c.args.fixed c.requires.fixed m.world.fields
+    fixed_place m.program.fields c.args.field.now c.args.fixed.now c.requires.fixed m.world.fields
 
 pub remember-requires-clause-entry : goal.remember-requires-clause-entry
 remember-requires-clause-entry g c =
     let m = c.args.memory.now in
     let ok = right _ _ _ _ c.requires.right in
-    fixed_there m.program.fields c.args.field.now c.args.fixed c.requires.fixed m.world.fields c.is_kept.ensures.good c.is_kept.ensures.fits ok.there ok.index
+    fixed_there m.program.fields c.args.field.now c.args.fixed.now c.requires.fixed m.world.fields c.is_kept.ensures.good c.is_kept.ensures.fits ok.there ok.index
 
 pub returns-clause-drafted : goal.returns-clause-drafted
 returns-clause-drafted g c =
-    fixed_laid c.args.memory.now c.args.text.now c.lay_fixed_value.new.text c.args.to_blank.now.items c.remember.new.to_blank.items c.args.field.now c.args.fixed
-    c.requires.fixed c.requires.right c.lay_fixed_value.ensures.text c.remember.ensures.items
+    fixed_laid c.args.memory.now c.args.text.now c.lay_fixed_value.new.text c.args.to_blank.now.items c.remember.new.to_blank.items c.args.field.now c.args.fixed.now
+    c.requires.fixed c.requires.holds c.requires.right c.lay_fixed_value.ensures.text c.remember.ensures.items
