@@ -222,6 +222,7 @@ pub(crate) fn put_out_overflow<S: Store + Drop>(machine: &mut Machine<S>) -> Res
 }
 
 /// Whether the selected record has a match, if one was selected.
+#[inline(always)]
 fn finds_match_of(program: &Verified, kept: &Kept, selected: Option<usize>) -> bool
     requires kept { AreFilesKept program.now kept.now }
     requires held { HoldsSelected program.now kept.now selected }
@@ -253,6 +254,7 @@ pub(crate) fn show_match<S: Store + Drop>(
 }
 
 /// 8. The columns of the selected record become values of fields.
+#[inline(always)]
 pub(crate) fn fill_fields<S: Store + Drop>(
     machine: &mut Machine<S>,
     kept: &Kept,

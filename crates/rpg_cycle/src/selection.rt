@@ -73,6 +73,7 @@ fn can_take(program: &Verified, file: InputFile, text: &[u8], is_seen: bool) -> 
 }
 
 /// Takes a record in: it is filled and identified, and waits unless its match value is lower than the file's last one.
+#[inline(always)]
 fn read<S: Store + Drop>(
     program: &Verified,
     machine: &mut Machine<S>,
@@ -137,6 +138,7 @@ fn take_in<S: Store + Drop>(
 }
 
 /// The indicator of a record's type goes on; its control fields are compared with the last bytes of their levels, and kept.
+#[inline(always)]
 fn compare_levels<S: Store + Drop>(
     program: &Verified,
     machine: &mut Machine<S>,

@@ -31,7 +31,7 @@ pub same_none : (rest : List ℕ) → same_bytes rest [] ≡ eqb (length rest) 0
 same_none [] = refl
 same_none (x ∷ xs) = sym (ne_eqb (length (x ∷ xs)) 0 (λ e. omega arith))
 
-both : (b c : Bool) → (b && c) ≡ true → (b ≡ true) × (c ≡ true)
+pub both : (b c : Bool) → (b && c) ≡ true → (b ≡ true) × (c ≡ true)
 both true c h = (refl, h)
 both false c h = cc
 

@@ -1,5 +1,5 @@
 -- Control fields whose bytes are the last ones of their levels.
-use Rattle.std.proofs.Common.{◌≡◌, ◌∙◌, ℕ, ◌<◌, ◌+◌, ◌-◌, zero, suc, Bool, true, false, cond, ◌&&◌, ◌||◌, not, eqb, eqb-true, eq-eqb, ne_eqb, List, [], ◌∷◌, ◌++◌, length, map, get_or, drop, Option, None, Some, refl, sym, ap, subst, append-nil, arith}
+use Rattle.std.proofs.Common.{◌≡◌, ◌∙◌, ℕ, ◌+◌, ◌-◌, zero, suc, Bool, true, false, cond, ◌&&◌, ◌||◌, not, eqb, eqb-true, eq-eqb, ne_eqb, leb, List, [], ◌∷◌, ◌++◌, length, map, get_or, Option, None, Some, refl, sym, ap, subst, append-nil, arith}
 use Rattle.std.proofs.Math.ListN.{set}
 use Rattle.std.proofs.lemmas.List.{length-map, set-get_or}
 use Rattle.std.specs.Cmp.Lexicographic.{pointwise}
@@ -7,8 +7,9 @@ use Rattle.std.specs.List.{slice_range}
 use Rattle.rpg_effect.specs.declared.input.ControlField.{ControlField}
 use Rattle.rpg_cycle_records.specs.Earlier.{or_before}
 use Rattle.rpg_cycle_records.specs.Keeping.{renewed}
-use Rattle.rpg_cycle_records.specs.Lasting.{AreLast, IsLast}
+use Rattle.rpg_cycle_records.specs.Lasting.{are_last, had, is_last}
 use Rattle.rpg_cycle_records.specs.Levels.{same_bytes, byte_of, compared, joined_bytes, has_level, level_bytes, differs, highest_broken}
+use Rattle.rpg_cycle_records.proofs.Joining.{both, same_bytes-true}
 
 -- ---- two texts
 
@@ -63,22 +64,46 @@ no_bytes (f ∷ fs) text k h = by_first (eqb f.level k) h (no_bytes fs text k)
     by_first true e go = cc
     by_first false e go = go e
 
-pub all_last : (last : List (Option (List ℕ))) (text : List ℕ) (fs : List ControlField) →
-    ((i : ℕ) (d : ControlField) → i < length fs → (has_level (drop (suc i) fs) (get_or fs i d).level ≡ false) × IsLast last text (get_or fs i d)) → AreLast last text fs
-all_last last text [] each = λ k there. cc
-all_last last text (f ∷ fs) each = λ k there. by_first k (all_last last text fs (λ i d h. each (suc i) d (omega (arith, h))) k) (eqb f.level k) refl there
+-- each level that the fields have has its last bytes
+abbrev pub AreLast : List (Option (List ℕ)) → List ℕ → List ControlField → Type 0
+AreLast last text fs = (k : ℕ) → has_level fs k ≡ true → get_or last (k - 1) None ≡ Some (joined_bytes fs text k)
+
+had_these : (o : Option (List ℕ)) (bytes : List ℕ) → had o bytes ≡ true → o ≡ Some bytes
+had_these None bytes h = cc
+had_these (Some last) bytes h = ap Some (same_bytes-true last bytes h)
+
+not_so : (b : Bool) → not b ≡ true → b ≡ false
+not_so true h = cc
+not_so false h = refl
+
+pub all_last : (last : List (Option (List ℕ))) (text : List ℕ) (fs : List ControlField) → are_last last text fs ≡ true → AreLast last text fs
+all_last last text [] all = λ k there. cc
+all_last last text (f ∷ fs) all = λ k there. by_first k (all_last last text fs rest.1 k) (eqb f.level k) refl there
   where
+    alone : (not (has_level fs f.level) ≡ true) × ((is_last last text f && are_last last text fs) ≡ true)
+    alone = both (not (has_level fs f.level)) (is_last last text f && are_last last text fs) all
+
+    rest : (is_last last text f ≡ true) × (are_last last text fs ≡ true)
+    rest = both (is_last last text f) (are_last last text fs) alone.1
+
+    first : get_or last (f.level - 1) None ≡ Some (compared text f)
+    first = had_these (get_or last (f.level - 1) None) (compared text f) (both (leb 1 f.level) (had (get_or last (f.level - 1) None) (compared text f)) rest.0).1
+
     Holds : ℕ → Type 0
     Holds k = has_level fs k ≡ true → get_or last (k - 1) None ≡ Some (joined_bytes fs text k)
 
     by_first : (k : ℕ) → Holds k → (b : Bool) → eqb f.level k ≡ b → (b || has_level fs k) ≡ true → get_or last (k - 1) None ≡ Some (cond b (compared text f) [] ++ joined_bytes fs text k)
     by_first k others true e there =
         let own : f.level ≡ k = eqb-true f.level k e in
-        let first = each 0 f (omega arith) in
         ap (λ n. get_or last (n - 1) None) (sym own)
-        ∙ first.1
-        ∙ ap Some (sym (ap (λ (bs : List ℕ). compared text f ++ bs) (no_bytes fs text k (ap (has_level fs) (sym own) ∙ first.0)) ∙ append-nil (compared text f)))
+        ∙ first
+        ∙ ap Some (sym (ap (λ (bs : List ℕ). compared text f ++ bs) (no_bytes fs text k (ap (has_level fs) (sym own) ∙ not_so (has_level fs f.level) alone.0)) ∙ append-nil (compared text f)))
     by_first k others false e there = others there
+
+-- so it is where there are none
+pub all_of_none : (last : List (Option (List ℕ))) (text : List ℕ) (fs : List ControlField) → length fs ≡ 0 → AreLast last text fs
+all_of_none last text [] none = λ k there. cc
+all_of_none last text (f ∷ fs) none = absurd (omega (arith, none))
 
 -- no level is broken then, and none is renewed
 last_level : (last : List (Option (List ℕ))) (text : List ℕ) (fs : List ControlField) (k : ℕ) → AreLast last text fs →

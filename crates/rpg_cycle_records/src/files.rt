@@ -53,6 +53,7 @@ impl KeptFile {
     /// Takes the match value of the record, which is of a type, the first of which is 0. The record waits, unless its value is lower than
     /// the file's last one; answers whether it does. It takes memory only where the room of a value is too small; on an error the value
     /// is of no use.
+    #[inline(always)]
     pub fn wait(
         &mut self,
         program: &Verified,

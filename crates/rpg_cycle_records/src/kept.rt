@@ -63,6 +63,7 @@ impl Kept {
 
     /// Whether a record that was selected from a file has a match: the record that waits in the other file has its match value, or the
     /// last one that was selected from there.
+    #[inline(always)]
     pub fn finds_match(&self, program: &Verified, row: usize) -> bool
         requires held { HoldsRecord program.now (file_of (slice_get program.now.types row)) (kept_at self.now (file_of (slice_get program.now.types row))) row }
         requires kept { AreFilesKept program.now self.now }

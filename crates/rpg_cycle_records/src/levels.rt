@@ -6,7 +6,7 @@ ghost use Rattle.rpg_cycle_records.specs.Earlier.{or_before};
 ghost use Rattle.rpg_cycle_records.specs.Keeping.{renewed, seen_bytes, seen_levels};
 ghost use Rattle.rpg_cycle_records.specs.Levels as spec;
 ghost use Rattle.rpg_cycle_records.specs.Fronts.{rest_behind};
-ghost use Rattle.rpg_cycle_records.specs.Lasting.{AreLast, IsLast};
+ghost use Rattle.rpg_cycle_records.specs.Lasting.{are_last, is_last};
 
 use rpg_effect::input::ControlField;
 use std::alloc::AllocError;
@@ -228,7 +228,7 @@ fn are_bytes_of(bytes: &[u8], text: &[u8], field: &ControlField) -> bool
 fn has_last_bytes(levels: &[LastBytes], text: &[u8], field: &ControlField) -> bool
     requires nine { length levels.now ≡ 9 }
     requires field { IsControlIn (length text.now) field.now }
-    ensures { result ≡ true → IsLast (seen_levels levels.now) text.now field.now }
+    ensures { result ≡ is_last (seen_levels levels.now) text.now field.now }
 {
     if field.level == 0 || field.level > 9 {
         return false;
@@ -242,7 +242,7 @@ fn has_last_bytes(levels: &[LastBytes], text: &[u8], field: &ControlField) -> bo
 fn are_all_last(levels: &[LastBytes], fields: &[ControlField], text: &[u8]) -> bool
     requires nine { length levels.now ≡ 9 }
     requires fields { All (IsControlIn (length text.now)) fields.now }
-    ensures { result ≡ true → AreLast (seen_levels levels.now) text.now fields.now }
+    ensures { result ≡ are_last (seen_levels levels.now) text.now fields.now }
 {
     for i in 0..fields.len() {
         let field = &fields[i];
@@ -274,10 +274,9 @@ fn renew_all(
     Ok(broken)
 }
 
-/// Compares the levels of a record, which is filled to its length, with the last bytes, L1 first, and keeps the record's. Answers the
-/// highest level that differs, 1 to 9, 0 for none. It takes memory only where the room of a level's bytes is too small; on an error
-/// some levels may be kept and others not.
-pub fn compare(
+/// Compares the levels of a record that has control fields, as `compare` does.
+#[inline(never)]
+fn compare_some(
     levels: &mut [LastBytes],
     fields: &[ControlField],
     text: &[u8],
@@ -292,4 +291,25 @@ pub fn compare(
         return Ok(0);
     }
     renew_all(levels, fields, text)
+}
+
+/// Compares the levels of a record, which is filled to its length, with the last bytes, L1 first, and keeps the record's. Answers the
+/// highest level that differs, 1 to 9, 0 for none. It takes memory only where the room of a level's bytes is too small; on an error
+/// some levels may be kept and others not.
+#[inline(always)]
+pub fn compare(
+    levels: &mut [LastBytes],
+    fields: &[ControlField],
+    text: &[u8],
+) -> Result<usize, AllocError>
+    requires nine { length levels.old ≡ 9 }
+    requires fields { All (IsControlIn (length text.now)) fields.now }
+    ensures broken { IfOk result (λ n. n ≡ spec.broken_in fields.now text.now (seen_levels levels.old)) }
+    ensures low { IfOk result (λ n. n ≤ 9) }
+    ensures kept { OnOk result (seen_levels levels.new ≡ renewed fields.now text.now 9 (seen_levels levels.old)) }
+{
+    if fields.is_empty() {
+        return Ok(0);
+    }
+    compare_some(levels, fields, text)
 }

@@ -52,11 +52,12 @@ impl MatchValue {
     }
 
     /// Whether both are there, and this one is greater than the other.
+    #[inline(always)]
     pub fn exceeds(&self, other: &MatchValue) -> bool
         ensures { result ≡ spec.exceeds (seen_value self.now) (seen_value other.now) }
     {
-        self.is_there
-            && other.is_there
+        other.is_there
+            && self.is_there
             && compare_values(&self.bytes, &other.bytes) == Ordering::Greater
     }
 
@@ -97,6 +98,7 @@ impl LastValues {
 
     /// Keeps the match value of a record of a type, the first of which is 0, as the last one of its file, if the type has match fields. The
     /// record is filled to its length. It takes memory only where the room is too small; on an error the value is of no use.
+    #[inline(always)]
     pub fn keep(&mut self, program: &Verified, row: usize, text: &[u8]) -> Result<(), AllocError>
         requires there { row < length program.now.types }
         requires filled { IsFilledAs program.now row text.now }
@@ -115,6 +117,7 @@ impl LastValues {
 }
 
 /// Adds the bytes of all levels, from L9 down.
+#[inline(never)]
 fn join_down(bytes: &mut Vec<u8>, fields: &[ControlField], text: &[u8]) -> Result<(), AllocError>
     requires { All (IsControlIn (length text.now)) fields.now }
     ensures { OnOk result (bytes.new.items ≡ bytes.old.items ++ spec.joined_down fields.now text.now 9) }
@@ -126,6 +129,7 @@ fn join_down(bytes: &mut Vec<u8>, fields: &[ControlField], text: &[u8]) -> Resul
 }
 
 /// Compares two values by the first place where they differ, and where there is none by their lengths.
+#[inline(never)]
 #[tactic(auto, using(crate::proofs::Order::by_shared))]
 fn compare_values(a: &[u8], b: &[u8]) -> Ordering
     ensures { result ≡ spec.value_cmp a.now b.now }
