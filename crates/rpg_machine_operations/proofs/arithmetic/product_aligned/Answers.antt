@@ -1,6 +1,5 @@
 use Rattle.std.proofs.Common.{◌≡◌, ◌+◌, ℤ, ◌<◌, ◌≤◌, ◌^◌, ◌*◌, ◌*ℤ◌, unsigned_abs, arith, rules, ap, ap₂, ◌∙◌, to_z-of_z, FitsSigned, w64}
 use Rattle.std.proofs.lemmas.Nat.{mul-le}
-use Rattle.rpg_decimal_words.specs.Fraction.{stored_number, with_decimals}
 use Rattle.rpg_decimal_words.specs.Whole.{fit}
 use Rattle.rpg_decimal.proofs.WholeLemmas.{aligned_same, back_64, stored-joined}
 use Rattle.rpg_machine_operations.proofs.Aligned.{product_fits, product_is}
