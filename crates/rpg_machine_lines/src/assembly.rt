@@ -116,30 +116,8 @@ fn with_fixed_field<S: Store + Drop>(
     );
 }
 
-/// The same of a field that is put out where its conditions hold.
-#[tactic(auto, unfolding(rpg_effect::specs::Lines::with_field))]
-fn with_conditional_field<S: Store + Drop>(
-    memory: &Memory<'_, S>,
-    text: &mut [u8],
-    to_blank: &mut Entries,
-    field: &LineField<u16>,
-    fixed: &FixedEntry,
-)
-    requires right { faults.field_fault (forms_in memory.now) (word_at memory.now.program) (length text.old) field.now ≡ None }
-    requires fixed { IsFixedField memory.now.program.fields field.now fixed.now }
-    requires room { array_vec_len to_blank.old < 200 }
-    requires entries { AreFieldEntries memory.now.program.fields to_blank.old.items }
-    ensures drafted { drafted_in GoesOn memory.now text.new to_blank.new.items ≡ with_field_in memory.now text.old to_blank.old.items field.now }
-    ensures entries { AreFieldEntries memory.now.program.fields to_blank.new.items }
-    ensures few { array_vec_len to_blank.new ≤ array_vec_len to_blank.old + 1 }
-{
-    if three_hold(memory.on(), field.conditions) {
-        with_fixed_field(memory, text, to_blank, field, fixed);
-    }
-}
-
 /// One field, where its conditions hold, by what was found of it.
-#[tactic(auto, using(crate::proofs::Planned::always_put))]
+#[tactic(auto, using(crate::proofs::Planned::always_put), unfolding(rpg_effect::specs::Lines::with_field))]
 fn with_planned_field<S: Store + Drop>(
     memory: &mut Memory<'_, S>,
     text: &mut [u8],
@@ -156,13 +134,17 @@ fn with_planned_field<S: Store + Drop>(
     ensures entries { AreFieldEntries memory.old.program.fields to_blank.new.items }
     ensures few { array_vec_len to_blank.new ≤ array_vec_len to_blank.old + 1 }
 {
-    match found {
-        FieldPlan::Always(fixed) => with_fixed_field(memory, text, to_blank, field, fixed),
-        FieldPlan::Conditional(fixed) => with_conditional_field(
-            memory, text, to_blank, field, fixed,
-        ),
+    let fixed = match found {
+        FieldPlan::Always(fixed) => fixed,
+        FieldPlan::Conditional(fixed) => {
+            if !three_hold(memory.on(), field.conditions) {
+                return End::GoesOn;
+            }
+            fixed
+        }
         FieldPlan::Sought => return with_field(memory, text, to_blank, field),
-    }
+    };
+    with_fixed_field(memory, text, to_blank, field, fixed);
     End::GoesOn
 }
 
