@@ -19,13 +19,14 @@ pub(crate) enum FirstLine {
     Incomplete { scanned: usize },
 }
 
-/// How many bytes are characters before the first that is none.
-fn characters(bytes: &[u8]) -> usize
+/// How many bytes are characters before the first that is none. Behind `limit` bytes, as no record goes on, they are tested one by one.
+fn characters(bytes: &[u8], limit: usize) -> usize
     ensures within { result ≤ length bytes.now }
     ensures all { list_all is_character (take result bytes.now) ≡ true }
     ensures other { result < length bytes.now → is_character (slice_index bytes.now result) ≡ false }
 {
-    let mut at = characters_by_sixteen(bytes);
+    let front = &bytes[..bytes.len().min(limit)];
+    let mut at = characters_by_sixteen(front);
     while at < bytes.len() && is_character(bytes[at]) {
         at += 1;
     }
@@ -70,12 +71,13 @@ fn line_ended_at(bytes: &[u8], len: usize, limit: usize) -> FirstLine
 }
 
 /// What stands at the front of the bytes, the first `scanned` of which are known to be characters.
+#[inline(always)]
 pub(crate) fn first_line(bytes: &[u8], scanned: usize, limit: usize) -> FirstLine
     requires inside { scanned ≤ length bytes.now }
     requires scanned { list_all is_character (take scanned bytes.now) ≡ true }
     ensures { IsFirstLine limit bytes.now result }
 {
-    let len = scanned + characters(&bytes[scanned..]);
+    let len = scanned + characters(&bytes[scanned..], limit);
     if len > limit {
         return FirstLine::Bad;
     }
