@@ -11,7 +11,7 @@ use Rattle.rpg_edit.specs.declared.suppression.Pass.{Pass}
 use Rattle.rpg_edit_marks.specs.Edited.{places, character, characters, marked_text}
 use Rattle.rpg_edit.specs.Written.{characters_before, Writes}
 
-places-append : (xs ys : List Mark) → places (xs ++ ys) ≡ places xs + places ys
+pub places-append : (xs ys : List Mark) → places (xs ++ ys) ≡ places xs + places ys
 places-append xs ys = sum_by-append _ xs ys
 
 pub before-append : (negative : Bool) (size kept fill : ℕ) (xs ys : List Mark) (k : ℕ) → characters_before negative size kept fill (xs ++ ys) k ≡ characters_before negative size kept fill xs (places ys + k) ++ characters_before negative size kept fill ys k

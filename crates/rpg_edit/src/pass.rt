@@ -3,12 +3,13 @@
 //! A number is written from its last mark to the first: what shows at a mark depends on the digits in front of those that follow it,
 //! and these are what is left of the number once it is divided by ten for each digit written.
 
-ghost use Rattle.std.specs.Prelude.{◌≡◌, ◌+◌, ◌/◌, ◌%◌, ◌^◌, ◌<◌, ◌≤◌, List, [], ◌∷◌, IsTrue, length, nat_le, replicate, true, unsigned_abs};
+ghost use Rattle.std.specs.Prelude.{◌≡◌, ◌+◌, ◌-◌, ◌/◌, ◌%◌, ◌^◌, ◌<◌, ◌≤◌, List, ◌==◌, ◌||◌, [], ◌∷◌, IsTrue, length, nat_le, nat_lt, not, replicate, true, unsigned_abs};
 ghost use Rattle.std.specs.List.{list_all};
 ghost use Rattle.std.specs.Int.{is_negative};
 ghost use Rattle.rpg_edit_marks.specs.Edited.{character, digit_character, is_begun, places};
-ghost use Rattle.rpg_edit.specs.Written.{is_clear, is_suppressed, IsUsedUp, Writes};
+ghost use Rattle.rpg_edit.specs.Written.{are_clear, is_clear, is_digit_last, is_suppressed, IsUsedUp, Writes};
 
+use crate::pairs::pair_of;
 use crate::suppression::{Number, Pass};
 use rpg_edit_marks::Mark;
 use rpg_edit_widths::Suppression;
@@ -52,26 +53,29 @@ impl Pass {
 
     /// Whether something is left of the number: what is next, a digit or a character before it, shows then.
     pub(crate) fn is_left(&self) -> bool
-        ensures { result ≡ is_begun self.now.number.size self.now.after }
+        ensures begun { result ≡ is_begun self.now.number.size self.now.after }
+        ensures rest { result ≡ not (self.now.rest == 0) }
     {
         self.rest != 0
     }
 
-    /// Whether nothing is left of the number, and no digit in front shows for all that.
-    pub(crate) fn is_used_up(&self) -> bool
-        ensures { IsTrue result → IsUsedUp self.now }
+    /// Whether the next digit shows.
+    fn is_clear(&self) -> bool
+        ensures { result ≡ is_clear self.now }
     {
-        self.rest == 0 && self.after > usize::from(self.suppression.kept)
+        self.rest != 0 || self.after < usize::from(self.suppression.kept)
     }
 
     /// Writes the fill at marks of which so many are digits, the others characters between digits, once the number is used up.
+    #[inline(always)]
     pub(crate) fn put_fill(&mut self, marks: usize, digits: usize, out: &mut [u8])
         requires used_up { IsUsedUp self.old }
+        requires some { 0 < digits }
         requires digits { digits ≤ marks }
         requires room { marks ≤ self.old.start }
         requires within { self.old.start ≤ length out.old }
         ensures { (ms : List Mark) → length ms ≡ marks → places ms ≡ digits → list_all is_suppressed ms ≡ true
-            → Writes ms self.old out.old self.new out.new }
+            → (nat_lt self.old.suppression.kept self.old.after || is_digit_last ms) ≡ true → Writes ms self.old out.old self.new out.new }
     {
         let start = self.start - marks;
         fill(self.suppression.fill, &mut out[start..self.start]);
@@ -148,6 +152,7 @@ impl Pass {
     }
 
     /// Writes digits that always show. Mostly they are two.
+    #[inline(always)]
     pub(crate) fn put_kept_digits(&mut self, count: u8, out: &mut [u8])
         requires kept { self.old.after + count ≤ self.old.suppression.kept }
         requires room { count ≤ self.old.start }
@@ -155,7 +160,7 @@ impl Pass {
         ensures { Writes (replicate count Mark.Digit) self.old out.old self.new out.new }
     {
         if count == 2 {
-            return self.put_kept_two(out);
+            return self.put_two(out);
         }
         for _ in 0..count {
             self.put_clear_digit(out);
@@ -173,19 +178,33 @@ impl Pass {
         out[self.start] = character;
     }
 
-    /// Writes two digits that always show, by one division of the number.
+    /// Writes two digits that show, by one division of the number.
     #[inline(always)]
-    fn put_kept_two(&mut self, out: &mut [u8])
-        requires kept { self.old.after + 2 ≤ self.old.suppression.kept }
+    fn put_two(&mut self, out: &mut [u8])
+        requires shows { are_clear self.old ≡ true }
         requires room { 2 ≤ self.old.start }
         requires within { self.old.start ≤ length out.old }
-        ensures { Writes (replicate 2 Mark.Digit) self.old out.old self.new out.new }
+        ensures writes { Writes (replicate 2 Mark.Digit) self.old out.old self.new out.new }
+        ensures rest { self.new.rest ≡ self.old.rest / 100 }
     {
         let rest = self.rest / 100;
-        let two = (self.rest - rest * 100) as u32;
-        let tens = tens_of(two);
-        self.put_known((two - tens * 10) as u8, self.rest / 10, out);
-        self.put_known(tens as u8, rest, out);
+        self.put_pair((self.rest - rest * 100) as u8, rest, out);
+    }
+
+    /// Writes two digits that show, of a number that is `rest` without them.
+    #[inline(always)]
+    fn put_pair(&mut self, two: u8, rest: u64, out: &mut [u8])
+        requires shows { are_clear self.old ≡ true }
+        requires two { two ≡ self.old.rest % 100 }
+        requires rest { rest ≡ self.old.rest / 100 }
+        requires room { 2 ≤ self.old.start }
+        requires within { self.old.start ≤ length out.old }
+        ensures writes { Writes (replicate 2 Mark.Digit) self.old out.old self.new out.new }
+        ensures rest { self.new.rest ≡ rest }
+    {
+        let (tens, ones) = pair_of(two);
+        self.put_known(ones, self.rest / 10, out);
+        self.put_known(tens, rest, out);
     }
 
     /// Writes a digit that shows.
@@ -194,17 +213,18 @@ impl Pass {
         requires shows { is_clear self.old ≡ true }
         requires room { 1 ≤ self.old.start }
         requires within { self.old.start ≤ length out.old }
-        ensures { Writes (Mark.Digit ∷ []) self.old out.old self.new out.new }
+        ensures writes { Writes (Mark.Digit ∷ []) self.old out.old self.new out.new }
+        ensures rest { self.new.rest ≡ self.old.rest / 10 }
     {
         let rest = self.rest / 10;
-        self.put_known((self.rest - rest * 10) as u8, rest, out);
+        self.put_known(b'0' + (self.rest - rest * 10) as u8, rest, out);
     }
 
     /// Writes a digit that shows, of a number that is `rest` without it.
     #[inline(always)]
-    fn put_known(&mut self, digit: u8, rest: u64, out: &mut [u8])
+    fn put_known(&mut self, character: u8, rest: u64, out: &mut [u8])
         requires shows { is_clear self.old ≡ true }
-        requires digit { digit ≡ self.old.rest % 10 }
+        requires digit { character ≡ 48 + self.old.rest % 10 }
         requires rest { rest ≡ self.old.rest / 10 }
         requires room { 1 ≤ self.old.start }
         requires within { self.old.start ≤ length out.old }
@@ -212,7 +232,7 @@ impl Pass {
         ensures rest { self.new.rest ≡ rest }
     {
         self.start -= 1;
-        out[self.start] = b'0' + digit;
+        out[self.start] = character;
         self.pass_digit(rest);
     }
 
@@ -234,21 +254,69 @@ impl Pass {
         let rest = self.rest / 1000;
         let three = (self.rest - rest * 1000) as u32;
         let hundreds = three / 100;
-        let two = three - hundreds * 100;
-        let tens = tens_of(two);
-        self.put_known((two - tens * 10) as u8, self.rest / 10, out);
-        self.put_known(tens as u8, self.rest / 10, out);
-        self.put_known(hundreds as u8, rest, out);
+        self.put_pair((three - hundreds * 100) as u8, self.rest / 100, out);
+        self.put_known(b'0' + hundreds as u8, rest, out);
+    }
+
+    /// Writes one or two digits of a number that has no more, or of which no more are wanted. Answers how many: as many as are wanted,
+    /// or nothing is left.
+    #[inline(always)]
+    pub(crate) fn put_last_digits(&mut self, most: usize, out: &mut [u8]) -> usize
+        requires shows { is_clear self.old ≡ true }
+        requires some { 0 < most }
+        requires few { IsTrue (nat_le most 2 || nat_lt self.old.rest 100) }
+        requires room { most ≤ self.old.start }
+        requires within { self.old.start ≤ length out.old }
+        ensures some { 0 < result }
+        ensures two { result ≤ 2 }
+        ensures most { result ≤ most }
+        ensures writes { Writes (replicate result Mark.Digit) self.old out.old self.new out.new }
+        ensures used { result < most → self.new.rest ≡ 0 }
+    {
+        if most == 1 || self.rest < 10 {
+            self.put_clear_digit(out);
+            return 1;
+        }
+        if self.rest < 100 {
+            self.put_pair(self.rest as u8, 0, out);
+        } else {
+            self.put_two(out);
+        }
+        2
+    }
+
+    /// Writes as many digits of such a number as show, which may be none.
+    #[inline(always)]
+    pub(crate) fn put_first_digits(&mut self, most: usize, out: &mut [u8]) -> usize
+        requires kept { self.old.suppression.kept ≤ self.old.after + 1 }
+        requires few { IsTrue (nat_le most 2 || nat_lt self.old.rest 100) }
+        requires room { most ≤ self.old.start }
+        requires within { self.old.start ≤ length out.old }
+        ensures two { result ≤ 2 }
+        ensures most { result ≤ most }
+        ensures writes { Writes (replicate result Mark.Digit) self.old out.old self.new out.new }
+        ensures used { result < most → IsUsedUp self.new }
+    {
+        if most == 0 || !self.is_clear() {
+            return 0;
+        }
+        self.put_last_digits(most, out)
     }
 
     /// Writes digits by threes while three more show, but no more than `most`. Answers how many.
-    fn put_threes(&mut self, most: u8, out: &mut [u8]) -> u8
+    #[inline(always)]
+    fn put_threes(&mut self, most: usize, out: &mut [u8]) -> usize
+        requires least { 3 ≤ most }
+        requires left { 100 ≤ self.old.rest }
         requires room { most ≤ self.old.start }
         requires within { self.old.start ≤ length out.old }
+        ensures least { 3 ≤ result }
         ensures most { result ≤ most }
+        ensures few { IsTrue (nat_le (most - result) 2 || nat_lt self.new.rest 100) }
         ensures writes { Writes (replicate result Mark.Digit) self.old out.old self.new out.new }
     {
-        let mut written = 0;
+        self.put_three(out);
+        let mut written = 3;
         while most - written >= 3 && self.has_three() {
             self.put_three(out);
             written += 3;
@@ -256,19 +324,24 @@ impl Pass {
         written
     }
 
-    /// Writes digits while something is left of the number, but no more than `most`. Answers how many.
-    pub(crate) fn put_shown_digits(&mut self, most: u8, out: &mut [u8]) -> u8
+    /// Writes the digits that show, but no more than `most`. Answers how many: so many, or nothing more shows.
+    #[inline(always)]
+    pub(crate) fn put_shown_digits(&mut self, most: usize, out: &mut [u8]) -> usize
+        requires kept { self.old.suppression.kept ≤ self.old.after + 1 }
         requires room { most ≤ self.old.start }
         requires within { self.old.start ≤ length out.old }
         ensures most { result ≤ most }
         ensures writes { Writes (replicate result Mark.Digit) self.old out.old self.new out.new }
+        ensures used { result < most → IsUsedUp self.new }
     {
-        let mut written = self.put_threes(most, out);
-        while written < most && self.is_left() {
-            self.put_digit(out);
-            written += 1;
+        if most < 3 || !self.has_three() {
+            return self.put_first_digits(most, out);
         }
-        written
+        let written = self.put_threes(most, out);
+        if written == most || !self.is_left() {
+            return written;
+        }
+        written + self.put_last_digits(most - written, out)
     }
 
     pub(crate) fn put_digits(&mut self, count: u8, out: &mut [u8])
@@ -295,37 +368,36 @@ impl Pass {
     }
 }
 
-/// The tens of a number of two digits, by the division of a byte, which costs least.
-#[inline(always)]
-fn tens_of(two: u32) -> u32
-    requires { two < 100 }
-    ensures { result ≡ two / 10 }
-{
-    u32::from(two as u8 / 10)
-}
-
 /// Fills a text. Mostly it is short, and costs less without a call.
+#[inline(always)]
 fn fill(character: u8, text: &mut [u8])
+    requires { 0 < length text.old }
     ensures { text.new ≡ replicate (length text.old) character }
 {
     match text.len() {
-        0 => {}
-        1 => text[0] = character,
-        2 => {
-            text[0] = character;
-            text[1] = character;
-        }
-        3 => {
-            text[0] = character;
-            text[1] = character;
-            text[2] = character;
-        }
-        4 => {
-            text[0] = character;
-            text[1] = character;
-            text[2] = character;
-            text[3] = character;
-        }
-        _ => text.fill(character),
+        0..=2 => fill_ends(character, 1, text),
+        3..=4 => fill_ends(character, 2, text),
+        5..=8 => fill_ends(character, 4, text),
+        9..=16 => fill_ends(character, 8, text),
+        _ => fill_all(character, text),
     }
+}
+
+/// Fills a text by so many characters at its front and as many at its end, which meet or overlap.
+#[inline(always)]
+fn fill_ends(character: u8, count: usize, text: &mut [u8])
+    requires within { count ≤ length text.old }
+    requires enough { length text.old ≤ count + count }
+    ensures { text.new ≡ replicate (length text.old) character }
+{
+    let last = text.len() - count;
+    fill_all(character, &mut text[..count]);
+    fill_all(character, &mut text[last..]);
+}
+
+#[inline(always)]
+fn fill_all(character: u8, text: &mut [u8])
+    ensures { text.new ≡ replicate (length text.old) character }
+{
+    text.fill(character);
 }

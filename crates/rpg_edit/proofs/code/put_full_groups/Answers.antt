@@ -1,14 +1,18 @@
 use Rattle.std.proofs.Common.{arith}
+use Rattle.rpg_edit_widths.proofs.Codes.{whole_commas}
 use Rattle.rpg_edit.proofs.Codes.{group_room, writes_group}
 use Rattle.rpg_edit.proofs.code.put_full_groups.Goals as goal
+
+pub put_three-requires-clause-room : goal.put_three-requires-clause-room
+put_three-requires-clause-room c = omega (arith, whole_commas c.args.digits, c.requires.room, c.requires.least)
 
 pub put_group_comma-requires-clause-room : goal.put_group_comma-requires-clause-room
 put_group_comma-requires-clause-room c =
     let so_far = c.loop-written.invariant in
     omega (arith, group_room c.loop-written.written c.args.digits so_far.full c.loop-written-test.true, c.requires.room, so_far.writes.start)
 
-pub put_three-requires-clause-room : goal.put_three-requires-clause-room
-put_three-requires-clause-room c =
+pub put_three-requires-in-loop-written-clause-room : goal.put_three-requires-in-loop-written-clause-room
+put_three-requires-in-loop-written-clause-room c =
     let so_far = c.loop-written.invariant in
     omega (arith, group_room c.loop-written.written c.args.digits so_far.full c.loop-written-test.true, c.requires.room, so_far.writes.start, c.put_group_comma.ensures.writes.start)
 
@@ -16,7 +20,8 @@ pub loop-written-preserved : goal.loop-written-preserved
 loop-written-preserved c =
     let so_far = c.loop-written.invariant in
     record {
-      writes = writes_group c.loop-written.written _ _ _ _ _ _ _ _ so_far.full so_far.writes c.put_group_comma.ensures.writes c.put_three.ensures;
+      writes = writes_group c.loop-written.written _ _ _ _ _ _ _ _ so_far.full so_far.writes c.put_group_comma.ensures.writes c.put_three-in-loop-written.ensures;
+      least = omega (arith, so_far.least);
       most = omega (arith, c.loop-written-test.true);
       full = omega (arith, so_far.full);
     }

@@ -5,7 +5,8 @@ use Rattle.rpg_edit.proofs.code.put_full_groups.Given as goal
 
 abbrev pub invariant-loop-written : goal.invariant-loop-written
 invariant-loop-written l = record {
-  writes : Writes (whole_marks true l.written) l.initial.pass l.initial.out l.pass l.out;
+  writes : Writes (whole_marks true l.written) l.fn.pass l.fn.out l.pass l.out;
+  least : 3 ≤ l.written;
   most : l.written ≤ l.digits;
   full : l.written % 3 ≡ 0;
 }

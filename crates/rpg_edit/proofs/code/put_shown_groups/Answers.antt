@@ -1,9 +1,25 @@
-use Rattle.std.proofs.Common.{arith, true}
-use Rattle.rpg_edit.proofs.Fills.{writes_before}
+use Rattle.std.proofs.Common.{ap, arith, subst, true}
+use Rattle.rpg_edit_widths.proofs.Codes.{whole_commas}
+use Rattle.rpg_edit.proofs.Codes.{first_digits}
+use Rattle.rpg_edit.proofs.Fills.{whole_places, writes_before}
+use Rattle.rpg_edit.specs.Written.{Writes}
 use Rattle.rpg_edit.proofs.code.put_shown_groups.Goals as goal
+
+pub put_first_digits-requires-clause-room : goal.put_first_digits-requires-clause-room
+put_first_digits-requires-clause-room c = omega (arith, whole_commas c.args.digits, c.requires.room)
 
 pub put_last_group-requires-clause-room : goal.put_last_group-requires-clause-room
 put_last_group-requires-clause-room c = omega (arith, c.requires.room, c.put_full_groups-written.ensures.writes.start)
+
+pub put_last_group-requires-clause-kept : goal.put_last_group-requires-clause-kept
+put_last_group-requires-clause-kept c =
+    let full = c.put_full_groups-written in
+    omega (arith, c.requires.kept, full.ensures.least, full.ensures.writes.after, whole_places true full.result, ap (λ s. s.kept) full.ensures.writes.suppression)
+
+pub returns-then-digits-lt3-clause-writes : goal.returns-then-digits-lt3-clause-writes
+returns-then-digits-lt3-clause-writes c =
+    let first = c.put_first_digits in
+    subst (λ ms. Writes ms c.args.pass.now c.args.out.now first.new.self first.new.out) (first_digits first.result (omega (arith, first.ensures.two))) first.ensures.writes
 
 pub returns-clause-writes : goal.returns-clause-writes
 returns-clause-writes c =

@@ -1,6 +1,8 @@
-use Rattle.std.proofs.Common.{arith}
-use Rattle.rpg_edit.proofs.Written.{writes-digit}
+use Rattle.rpg_edit.proofs.Written.{writes_digits}
 use Rattle.rpg_edit.proofs.suppression.Pass.put_shown_digits.Goals as goal
 
-pub loop-written-preserved : goal.loop-written-preserved
-loop-written-preserved c = (writes-digit c.loop-written.written _ _ _ _ _ _ c.loop-written.invariant.0 c.put_digit.ensures, omega arith)
+pub returns-clause-writes : goal.returns-clause-writes
+returns-clause-writes c =
+    let threes = c.put_threes-written in
+    let last = c.put_last_digits in
+    writes_digits threes.result last.result _ _ _ _ _ _ threes.ensures.writes last.ensures.writes
