@@ -1,5 +1,5 @@
 -- The marks of edit codes are written part by part.
-use Rattle.std.proofs.Common.{◌≡◌, ℕ, zero, suc, ◌+◌, ◌-◌, ◌%◌, ◌<◌, ◌≤◌, ◌≢◌, Bool, false, true, ◌&&◌, eqb, sym, subst, append-nil, length-append, ◌∙◌, List, [], ◌∷◌, ◌++◌, length, refl, ap, arith, add-one, replicate}
+use Rattle.std.proofs.Common.{◌≡◌, ℕ, zero, suc, ◌+◌, ◌-◌, ◌%◌, ◌<◌, ◌≤◌, ◌≢◌, Bool, false, true, ◌&&◌, eqb, sym, subst, append-nil, length-append, ◌∙◌, List, [], ◌∷◌, ◌++◌, length, refl, ap, arith, replicate}
 use Rattle.rpg_edit.proofs.Written.{places-append, writes-more}
 use Rattle.rpg_edit.specs.Written.{marks_before, Writes}
 use Rattle.std.proofs.lemmas.Bool.Decides.{nat_tests}

@@ -1,4 +1,4 @@
-use Rattle.std.proofs.Common.{◌-◌, ◌≤◌, ap, arith, true}
+use Rattle.std.proofs.Common.{◌-◌, ap, arith, true}
 use Rattle.rpg_edit_widths.proofs.Codes.{whole_commas}
 use Rattle.rpg_edit.proofs.Fills.{before_commas, before_hidden, before_many, before_places, commas_over, whole_places, writes_before}
 use Rattle.rpg_edit.specs.Written.{marks_before}

@@ -1,4 +1,4 @@
-use Rattle.std.proofs.Common.{◌≡◌, ◌+◌, ◌-◌, suc, ◌<◌, ap, arith, length, subst, true}
+use Rattle.std.proofs.Common.{◌≡◌, ◌+◌, ◌-◌, ◌<◌, ap, arith, length, subst, true}
 use Rattle.rpg_edit.proofs.Codes.{one_comma, whole-fewer, writes_last}
 use Rattle.rpg_edit.specs.Written.{marks_before, Writes}
 use Rattle.rpg_edit_widths.proofs.Codes.{whole_commas}

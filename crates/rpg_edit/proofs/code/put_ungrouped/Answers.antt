@@ -1,4 +1,4 @@
-use Rattle.std.proofs.Common.{◌≡◌, ◌-◌, ◌≤◌, ◌∙◌, ap, arith, false, subst}
+use Rattle.std.proofs.Common.{◌≡◌, ◌-◌, ◌∙◌, ap, arith, false, subst}
 use Rattle.rpg_edit_widths.proofs.Codes.{whole_plain}
 use Rattle.rpg_edit.proofs.Codes.{plain_digits}
 use Rattle.rpg_edit.proofs.Fills.{before_hidden, before_places, before_plain, plain_over, writes_before}

@@ -1,4 +1,3 @@
-use Rattle.std.proofs.Common.{◌≡◌, ◌/◌, arith}
 use Rattle.rpg_edit.proofs.Shown.{ones_clear, tens_clear}
 use Rattle.rpg_edit.proofs.Written.{writes-digit}
 use Rattle.rpg_edit.proofs.suppression.Pass.put_pair.Goals as goal
