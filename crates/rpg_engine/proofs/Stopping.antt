@@ -31,7 +31,9 @@ use Rattle.rpg_verify.specs.Bound.{bound}
 use Rattle.rpg_engine.specs.Faults.{Counts, FaultsAre}
 use Rattle.rpg_engine.specs.Inputs.{HasTooMany, OfInputs, records_of}
 use Rattle.rpg_engine.specs.Reporting.{GoesOnFor, HasParts, IsRunOver, Reports}
-use Rattle.rpg_engine.specs.Streaming.{FailsToRead, IsRunFault, MayBeAsked, SendsSome, StopsEarly, TakesNone, ended_stage}
+use Rattle.rpg_engine.specs.Streaming.{FailsToRead, IsRunFault, MayBeAsked, SendsSome, StopsEarly, TakesNone, ended_stage, run_fault}
+use Rattle.rpg_engine.specs.declared.fault.CycleFault.{CycleFault}
+use Rattle.rpg_engine.specs.declared.fault.CycleFault.TheVariants as stops
 use Rattle.rpg_engine.specs.declared.fault.RunFault.{RunFault}
 use Rattle.rpg_engine.specs.declared.fault.RunFault.TheVariants as faults
 use Rattle.rpg_engine.proofs.Bytes.{BeginsWith, disk_goes_on, front_sent, part_sent, print_ends, printed_begins, printed_so_far, stored_begins, stored_so_far}
@@ -108,44 +110,28 @@ module _ {R : Type 0} (remaining : R → Option (List ℕ)) where
   failed is_needed old new fails = told_of (input_of remaining old) (input_of remaining new) _ (λ x y. Unit {0}) (λ x y is. tt) fails.2.input
 
 module _ {R S : Type 0} (remaining : R → Option (List ℕ)) (others : S → Option (List ℕ)) (job : AtWork) (primary primary' : RecordReader R) (secondary secondary' : RecordReader S) where
-  abbrev DoesNone : RunFault → Type 0
+  abbrev DoesNone : CycleFault → Type 0
   DoesNone e = TakesNone remaining others job primary secondary e primary' secondary'
 
-  moves : (e : RunFault) → DoesNone e → Moves (input_of remaining primary) (input_of remaining primary') × Moves (input_of others secondary) (input_of others secondary')
-  moves (faults.Object fault) none = absurd none
-  moves faults.BadDate none = absurd none
-  moves faults.Read (inl none) = (failed remaining (job_needs_record job Primary) primary primary' none.0, still others secondary secondary' none.1)
-  moves faults.Read (inr none) = (asked remaining primary primary' none.0, failed others (job_needs_record job Secondary) secondary secondary' none.1)
-  moves (faults.Print sent) none = absurd none
-  moves (faults.Disk sent) none = absurd none
-  moves faults.NoMemory none = (asked remaining primary primary' none.0, asked others secondary secondary' none.1)
-
-  both_parts : (e : RunFault) → DoesNone e → (print print' disk disk' : Option (List ℕ)) (bytes : Bytes)
-      → AppendsPrefix print print' bytes.print → AppendsPrefix disk disk' bytes.disk → HasParts e print print' disk disk' bytes
-  both_parts (faults.Object fault) none print print' disk disk' bytes p d = absurd none
-  both_parts faults.BadDate none print print' disk disk' bytes p d = absurd none
-  both_parts faults.Read none print print' disk disk' bytes p d = (p, d)
-  both_parts (faults.Print sent) none print print' disk disk' bytes p d = absurd none
-  both_parts (faults.Disk sent) none print print' disk disk' bytes p d = absurd none
-  both_parts faults.NoMemory none print print' disk disk' bytes p d = (p, d)
+  moves : (e : CycleFault) → DoesNone e → Moves (input_of remaining primary) (input_of remaining primary') × Moves (input_of others secondary) (input_of others secondary')
+  moves stops.Read (inl none) = (failed remaining (job_needs_record job Primary) primary primary' none.0, still others secondary secondary' none.1)
+  moves stops.Read (inr none) = (asked remaining primary primary' none.0, failed others (job_needs_record job Secondary) secondary secondary' none.1)
+  moves stops.NoMemory none = (asked remaining primary primary' none.0, asked others secondary secondary' none.1)
 
   -- the file of the reader that failed
-  needed_of : (e : RunFault) → e ≡ faults.Read → DoesNone e → (f : InputFile) × (job_needs_record job f ≡ true)
-  needed_of (faults.Object fault) is none = absurd none
-  needed_of faults.BadDate is none = absurd none
-  needed_of faults.Read is (inl none) = (Primary, none.0.0)
-  needed_of faults.Read is (inr none) = (Secondary, none.1.0)
-  needed_of (faults.Print sent) is none = absurd none
-  needed_of (faults.Disk sent) is none = absurd none
-  needed_of faults.NoMemory is none = absurd (let never : faults.NoMemory ≡ faults.Read = is in cc)
+  needed_of : (e : CycleFault) → run_fault e ≡ faults.Read → DoesNone e → (f : InputFile) × (job_needs_record job f ≡ true)
+  needed_of stops.Read is (inl none) = (Primary, none.0.0)
+  needed_of stops.Read is (inr none) = (Secondary, none.1.0)
+  needed_of stops.NoMemory is none = absurd (let never : faults.NoMemory ≡ faults.Read = is in cc)
 
-  pub none_of_run : (e : RunFault) → DoesNone e → IsRunFault e
-  none_of_run (faults.Object fault) none = absurd none
-  none_of_run faults.BadDate none = absurd none
-  none_of_run faults.Read none = tt
-  none_of_run (faults.Print sent) none = tt
-  none_of_run (faults.Disk sent) none = tt
-  none_of_run faults.NoMemory none = tt
+both_parts : (e : CycleFault) (print print' disk disk' : Option (List ℕ)) (bytes : Bytes)
+    → AppendsPrefix print print' bytes.print → AppendsPrefix disk disk' bytes.disk → HasParts (run_fault e) print print' disk disk' bytes
+both_parts stops.Read print print' disk disk' bytes p d = (p, d)
+both_parts stops.NoMemory print print' disk disk' bytes p d = (p, d)
+
+pub none_of_run : (e : CycleFault) → IsRunFault (run_fault e)
+none_of_run stops.Read = tt
+none_of_run stops.NoMemory = tt
 
 pub some_of_run : (e : RunFault) (printed stored : ℕ) (print print' disk disk' : Option (List ℕ)) (lines records : List ℕ) → SendsSome e printed stored print print' disk disk' lines records → IsRunFault e
 some_of_run (faults.Object fault) printed stored print print' disk disk' lines records some = absurd some
@@ -170,11 +156,11 @@ runs_from : (first : AtWork) (day : ℤ) (primary secondary : List ℕ) (course 
 runs_from first day primary secondary course bytes is run = subst (λ (c : Config). Runs first.program [] (records_of primary secondary) c unread course) (sym (start_is first day is)) run.runs
 
 module _ {R S : Type 0} (remaining : R → Option (List ℕ)) (beside : S → Option (List ℕ)) (primary primary' : RecordReader R) (secondary secondary' : RecordReader S)
-    (first job : AtWork) (given others : Option (List ℕ)) (cycles most : ℕ) (print print' disk disk' : Option (List ℕ)) (gone_print gone_disk : ℕ) (e : RunFault)
+    (first job : AtWork) (given others : Option (List ℕ)) (cycles most : ℕ) (print print' disk disk' : Option (List ℕ)) (gone_print gone_disk : ℕ) (e : CycleFault)
     (s : Streams first given others job (source_of remaining primary) (source_of beside secondary) cycles most print print' disk disk' gone_print gone_disk)
     (none : TakesNone remaining beside job primary secondary e primary' secondary') where
   pub stopped_reading : (day : ℤ) → IsStart first day
-      → OfInputs given (input_of remaining primary').remaining others (input_of beside secondary').remaining (StopsEarly first.program day e print print' disk disk')
+      → OfInputs given (input_of remaining primary').remaining others (input_of beside secondary').remaining (StopsEarly first.program day (run_fault e) print print' disk disk')
   stopped_reading day is =
       let a = source_of remaining primary in
       let b = source_of beside secondary in
@@ -194,7 +180,7 @@ module _ {R S : Type 0} (remaining : R → Option (List ℕ)) (beside : S → Op
               parts = λ course bytes run.
                   let later = u.back course (runs_from first day xs ys course bytes is run) in
                   let output : course.output ≡ with_more s.out later.0.output = ap (λ (c : Course). c.output) later.2 in
-                  both_parts remaining beside job primary primary' secondary secondary' e none print print' disk disk' bytes (
+                  both_parts e print print' disk disk' bytes (
                     length (paper s.out.lines),
                     part_of print print' (printed course.output) bytes.print _ run.print
                         (front_sent print print' (printed course.output) (paper s.out.lines) (printed_so_far course.output s.out later.0.output output) s.sent_print),
@@ -350,24 +336,20 @@ module _ {R S : Type 0} (remaining : R → Option (List ℕ)) (beside : S → Op
     fact = λ more others_more can can_too. inr (too_many beside secondary secondary' others t reads others_more can_too);
   }
 
-  pub reading_faults : (job : AtWork) (of_primary of_secondary of_print of_print' of_disk of_disk' : ℕ) (e : RunFault) (X : Type 0) → TakesNone remaining beside job primary secondary e primary' secondary'
+  pub reading_faults : (job : AtWork) (of_primary of_secondary of_print of_print' of_disk of_disk' : ℕ) (e : CycleFault) (X : Type 0) → TakesNone remaining beside job primary secondary e primary' secondary'
       → faults_of (reader_of primary) ≡ of_primary → faults_of (reader_of secondary) ≡ of_secondary → of_print' ≡ of_print → of_disk' ≡ of_disk
-      → FaultsAre {X = X} (Err e) given (input_of remaining primary').remaining others (input_of beside secondary').remaining
+      → FaultsAre {X = X} (Err (run_fault e)) given (input_of remaining primary').remaining others (input_of beside secondary').remaining
       (counts of_primary of_secondary of_print of_disk) (counts (faults_of (reader_of primary')) (faults_of (reader_of secondary')) of_print' of_disk')
-  reading_faults job n m k k' l l' (faults.Object fault) X none h g p d = absurd none
-  reading_faults job n m k k' l l' faults.BadDate X none h g p d = absurd none
-  reading_faults job n m k k' l l' (faults.Print sent) X none h g p d = absurd none
-  reading_faults job n m k k' l l' (faults.Disk sent) X none h g p d = absurd none
-  reading_faults job n m k k' l l' faults.Read X (inl ((needs, fault.Device, reads), same)) h g p d =
+  reading_faults job n m k k' l l' stops.Read X (inl ((needs, fault.Device, reads), same)) h g p d =
       inl (same_counts _ _ _ _ _ _ _ _ (reads.faults ∙ ap (λ x. x + 1) h) (ap (λ r. faults_of (reader_of r)) same ∙ g) p d)
-  reading_faults job n m k k' l l' faults.Read X (inl ((needs, fault.TooMany, reads), same)) h g p d =
+  reading_faults job n m k k' l l' stops.Read X (inl ((needs, fault.TooMany, reads), same)) h g p d =
       inr (inr (
         same_counts _ _ _ _ _ _ _ _ (reads.faults ∙ h) (ap (λ r. faults_of (reader_of r)) same ∙ g) p d,
         primary_has reads (still beside secondary secondary' same),
       ))
-  reading_faults job n m k k' l l' faults.Read X (inr (asks, (needs, fault.Device, reads))) h g p d =
+  reading_faults job n m k k' l l' stops.Read X (inr (asks, (needs, fault.Device, reads))) h g p d =
       inr (inl (same_counts _ _ _ _ _ _ _ _ (asked_faults remaining primary primary' asks ∙ h) (reads.faults ∙ ap (λ x. x + 1) g) p d))
-  reading_faults job n m k k' l l' faults.Read X (inr (asks, (needs, fault.TooMany, reads))) h g p d =
+  reading_faults job n m k k' l l' stops.Read X (inr (asks, (needs, fault.TooMany, reads))) h g p d =
       inr (inr (same_counts _ _ _ _ _ _ _ _ (asked_faults remaining primary primary' asks ∙ h) (reads.faults ∙ g) p d, secondary_has (asked remaining primary primary' asks) reads))
-  reading_faults job n m k k' l l' faults.NoMemory X (asks, asks_too) h g p d =
+  reading_faults job n m k k' l l' stops.NoMemory X (asks, asks_too) h g p d =
       same_counts _ _ _ _ _ _ _ _ (asked_faults remaining primary primary' asks ∙ h) (asked_faults beside secondary secondary' asks_too ∙ g) p d

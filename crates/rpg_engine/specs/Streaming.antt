@@ -15,6 +15,8 @@ use Rattle.rpg_files.specs.declared.reader.ReadFault.{ReadFault}
 use Rattle.rpg_files.specs.declared.reader.RecordReader.{RecordReader}
 use Rattle.rpg_object_program.specs.Object.{Object}
 use Rattle.rpg_engine.specs.Reporting.{NeedsRecord, SendsFirstParts}
+use Rattle.rpg_engine.specs.declared.fault.CycleFault.{CycleFault}
+use Rattle.rpg_engine.specs.declared.fault.CycleFault.TheVariants as stops
 use Rattle.rpg_engine.specs.declared.fault.RunFault.{RunFault}
 use Rattle.rpg_engine.specs.declared.fault.RunFault.TheVariants as faults
 
@@ -58,12 +60,16 @@ abbrev pub FailsToRead : {R : Type 0} → (R → Option (List ℕ)) → Bool →
 FailsToRead remaining is_needed old new = (is_needed ≡ true) × (fault : ReadFault) × ReadsNext remaining old (Err fault) new
 
 -- no cycle was done: the primary's reader failed, or then the secondary's; or memory ran out when they had been asked
-abbrev pub TakesNone : {R S : Type 0} → (R → Option (List ℕ)) → (S → Option (List ℕ)) → AtWork → RecordReader R → RecordReader S → RunFault → RecordReader R → RecordReader S → Type 0
-TakesNone remaining others job primary secondary faults.Read primary' secondary' =
+abbrev pub TakesNone : {R S : Type 0} → (R → Option (List ℕ)) → (S → Option (List ℕ)) → AtWork → RecordReader R → RecordReader S → CycleFault → RecordReader R → RecordReader S → Type 0
+TakesNone remaining others job primary secondary stops.Read primary' secondary' =
     (FailsToRead remaining (job_needs_record job Primary) primary primary' × (secondary' ≡ secondary))
     ⊎ (MayBeAsked remaining primary primary' × FailsToRead others (job_needs_record job Secondary) secondary secondary')
-TakesNone remaining others job primary secondary faults.NoMemory primary' secondary' = MayBeAsked remaining primary primary' × MayBeAsked others secondary secondary'
-TakesNone remaining others job primary secondary e primary' secondary' = ⊥
+TakesNone remaining others job primary secondary stops.NoMemory primary' secondary' = MayBeAsked remaining primary primary' × MayBeAsked others secondary secondary'
+
+-- what a run tells of it
+abbrev pub run_fault : CycleFault → RunFault
+run_fault stops.Read = faults.Read
+run_fault stops.NoMemory = faults.NoMemory
 
 -- ---- its output
 

@@ -11,7 +11,7 @@ ghost use Rattle.rpg_files.specs.Reading.{answer_of, is_record, reader_of};
 ghost use Rattle.rpg_verify.specs.Bound.{bound};
 ghost use Rattle.rpg_engine.specs.Streaming.{Asks, IsBehindRecord, TakesCycle, TakesNone, ended_stage, record_with};
 
-use crate::fault::RunFault;
+use crate::fault::CycleFault;
 use rpg_cycle::{CycleEnd, Job, JobEnd, Seen};
 use rpg_files::{Next, ReadFault, RecordReader};
 use rpg_store::Store;
@@ -26,20 +26,20 @@ fn cycle_with<S: Store + Drop>(
     primary: Option<&[u8]>,
     secondary: Option<&[u8]>,
     seen: Seen,
-) -> Result<Option<JobEnd>, RunFault>
+) -> Result<Option<JobEnd>, CycleFault>
     requires primary { IsSeen seen.primary primary }
     requires secondary { IsSeen seen.secondary secondary }
     requires going { is_going job.old.stage ≡ true }
     ensures cycle { IfOk result (λ _. Cycles job.old (option_map (λ t. t.now) primary.entry) (option_map (λ t. t.now) secondary.entry) job.new) }
     ensures told { IfOk result (λ e. job.new.stage ≡ ended_stage e) }
     ensures bound { OnOk result (job.new.config.steps ≤ bound job.new.program) }
-    ensures memory { IfErr result (λ e. e ≡ RunFault.NoMemory) }
+    ensures memory { IfErr result (λ e. e ≡ CycleFault.NoMemory) }
 {
     match job.cycle_with_seen(primary, secondary, seen)? {
         CycleEnd::GoesOn => Ok(None),
         CycleEnd::EndOfJob => Ok(Some(JobEnd::EndOfJob)),
         CycleEnd::Halt(halt) => Ok(Some(JobEnd::Halt(halt))),
-        CycleEnd::Failed => Err(RunFault::NoMemory),
+        CycleEnd::Failed => Err(CycleFault::NoMemory),
     }
 }
 
@@ -81,7 +81,7 @@ pub(crate) fn next_cycle<S: Store + Drop, R1: Read, R2: Read>(
     job: &mut Job<'_, S>,
     primary: &mut RecordReader<'_, R1>,
     secondary: &mut RecordReader<'_, R2>,
-) -> Result<Option<JobEnd>, RunFault>
+) -> Result<Option<JobEnd>, CycleFault>
     requires primary { faults_of (reader_of primary.old) < 2 ^ 64 - 1 }
     requires secondary { faults_of (reader_of secondary.old) < 2 ^ 64 - 1 }
     requires going { is_going job.old.stage ≡ true }

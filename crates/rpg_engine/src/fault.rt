@@ -45,11 +45,43 @@ impl From<StartFault> for RunFault {
     }
 }
 
-impl From<ReadFault> for RunFault {
-    ghost from_gives = { λ _ e. e ≡ faults.Read };
+/// Why a cycle wasn't done: what `?` hands up from it, a byte, so that a cycle that goes well carries no count of what was sent.
+#[derive(Clone, Copy)]
+pub(crate) enum CycleFault {
+    Read,
+    NoMemory,
+}
 
-    fn from(_fault: ReadFault) -> RunFault {
-        RunFault::Read
+impl From<ReadFault> for CycleFault {
+    ghost use Rattle.rpg_engine.specs.declared.fault.CycleFault.TheVariants.{Read};
+
+    ghost from_gives = { λ _ e. e ≡ Read };
+
+    fn from(_fault: ReadFault) -> CycleFault {
+        CycleFault::Read
+    }
+}
+
+impl From<AllocError> for CycleFault {
+    ghost use Rattle.rpg_engine.specs.declared.fault.CycleFault.TheVariants.{NoMemory};
+
+    ghost from_gives = { λ _ e. e ≡ NoMemory };
+
+    fn from(_error: AllocError) -> CycleFault {
+        CycleFault::NoMemory
+    }
+}
+
+impl From<CycleFault> for RunFault {
+    ghost use Rattle.rpg_engine.specs.Streaming.{run_fault};
+
+    ghost from_gives = { λ fault e. e ≡ run_fault fault };
+
+    fn from(fault: CycleFault) -> RunFault {
+        match fault {
+            CycleFault::Read => RunFault::Read,
+            CycleFault::NoMemory => RunFault::NoMemory,
+        }
     }
 }
 

@@ -120,7 +120,7 @@ cycles-preserved g c =
 pub returns-in_err-ended-clause-only : goal.returns-in_err-ended-clause-only
 returns-in_err-ended-clause-only g c =
     let e = err_from_is_err_and c.from_residual.result c.from_residual.ensures.1 in
-    rw (e.1, e.2) (none_of_run g.R1.Read.remaining g.R2.Read.remaining c.cycles.job c.cycles.primary c.next_cycle.new.primary c.cycles.secondary c.next_cycle.new.secondary _ c.in_err-ended.ensures.none)
+    rw (e.1, e.2) (none_of_run _)
 
 pub returns-in_err-send_output-clause-only : goal.returns-in_err-send_output-clause-only
 returns-in_err-send_output-clause-only g c =
