@@ -152,7 +152,7 @@ const STATUSES: &str =
 
 /// The format of object programs, and what the program is proved with.
 const VERSION: &str =
-    "object programs of versions 1 and 2, proved with rattle-kit-13f logic dac8208d650f15bf";
+    "object programs of versions 1 and 2, proved with rattle-kit-13b logic dac8208d650f15bf";
 
 fn command_without_words<'a>(alloc: Global) -> Command<'a> {
     Command::new(alloc, "rpg2")
