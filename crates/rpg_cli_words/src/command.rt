@@ -150,9 +150,9 @@ fn with_subcommand<'a>(
 const STATUSES: &str =
     "Exit statuses:\n  0  all went well\n  1  a file or a device failed, or memory is wanting\n  2  the words are wrong, or the date, or a disk file or a secondary file is missing\n  3  the source is refused\n  4  the object program is refused\n  5  the job halted";
 
-/// The format of object programs, and what the program is proved with.
+/// The format of object programs, and the logic that the program is proved in. Several kits have the same logic.
 const VERSION: &str =
-    "object programs of versions 1 and 2, proved with rattle-kit-13b logic dac8208d650f15bf";
+    "object programs of versions 1 and 2, proved in Rattle's logic dac8208d650f15bf";
 
 fn command_without_words<'a>(alloc: Global) -> Command<'a> {
     Command::new(alloc, "rpg2")

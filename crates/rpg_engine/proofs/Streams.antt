@@ -1,11 +1,11 @@
 -- A run whose inputs are read, and whose output is sent, a cycle at a time.
 use Rattle.std.proofs.Common.{◌≡◌, ℕ, ◌+◌, ◌≤◌, max, Bool, true, false, List, [], ◌++◌, length, Option, None, refl, sym, ap, ◌∙◌, subst, append_assoc, arith, length-append}
-use Rattle.std.specs.Io.KnownBytes.{Appends, Consumes, IsAtEnd}
-use Rattle.std.proofs.KnownBytes.{Appends-nil, Appends-trans, Consumes-nil, Consumes-trans}
+use Rattle.std.specs.Io.KnownBytes.{Consumes, IsAtEnd}
+use Rattle.std.proofs.KnownBytes.{Consumes-nil, Consumes-trans}
 use Rattle.rpg_cycle.proofs.Cycling.{at_first, keeps}
 use Rattle.rpg_cycle.specs.Counting.{waiting_count}
 use Rattle.rpg_cycle.specs.Ends.{PhaseEnd, GoesOn, EndOfJob, Halt, Wrong}
-use Rattle.rpg_cycle.specs.Job.{AtWork, DoesCycle, feed_at, job_taken, with_feed}
+use Rattle.rpg_cycle.specs.Job.{AtWork, DoesCycle, feed_at, with_feed}
 use Rattle.rpg_cycle.specs.Phases.{Cycle, begun, needs_record}
 use Rattle.rpg_cycle.specs.Runs.{Records, left_behind, next_of}
 use Rattle.rpg_cycle.specs.Stages.{Ended, job_end, stage_at}
@@ -23,9 +23,9 @@ use Rattle.rpg_files.specs.Reading.{Advances, Input, count_of}
 use Rattle.rpg_files.specs.Records.{max_records, records}
 use Rattle.rpg_files.specs.declared.reader.RecordReader.{RecordReader}
 use Rattle.rpg_machine.specs.Config.{Config, Output, no_output, with_more}
-use Rattle.rpg_machine.specs.Running.{config_on, no_bytes}
+use Rattle.rpg_machine.specs.Running.{config_on}
 use Rattle.rpg_object_program.specs.Object.{Object}
-use Rattle.rpg_paper.specs.Paper.{last_position, last_position_from, paper}
+use Rattle.rpg_paper.specs.Paper.{bytes_from, last_position, last_position_from, paper}
 use Rattle.rpg_verify.specs.Bound.{bound}
 use Rattle.rpg_engine.specs.Inputs.{WasRead, records_of}
 use Rattle.rpg_engine.proofs.Bytes.{disk_goes_on, print_goes_on, put_by}
@@ -88,21 +88,15 @@ counted_on p f given is_needed x e a b s g on more can =
 
 -- ---- a run under way
 
--- A job that began over the bytes that were given has done so many cycles. Its output has gone out, so many bytes of it to each
--- writer; and whatever follows the bytes that were read, its cycles are those of the run over the records of all.
-pub record Streams (first : AtWork) (given others : Option (List ℕ)) (job : AtWork) (a b : Source) (cycles most : ℕ)
-    (print print' disk disk' : Option (List ℕ)) (gone_print gone_disk : ℕ) : Type 0 where
+-- A job that began over the bytes that were given has done so many cycles. Whatever follows the bytes that were read, its cycles are
+-- those of the run over the records of all.
+pub record Streams (first : AtWork) (given others : Option (List ℕ)) (job : AtWork) (a b : Source) (cycles most : ℕ) : Type 0 where
   pub program : job.program ≡ first.program
   pub earlier : List Selected
   pub out : Output
   pub left : job.left ≡ left_by job.program earlier
   pub orderly : AreMergedInOrder job.program earlier job.inputs
   pub last : job.last ≡ line_of (last_position out.lines)
-  pub empty : job.output ≡ no_bytes
-  pub sent_print : Appends print print' (paper out.lines)
-  pub sent_disk : Appends disk disk' (disk_bytes out.records)
-  pub printed : gone_print ≡ length (paper out.lines)
-  pub stored : gone_disk ≡ length (disk_bytes out.records)
   pub few : cycles + waiting_count job.inputs ≤ a.count + b.count
   pub primary : Stands given a
   pub secondary : Stands others b
@@ -110,22 +104,17 @@ pub record Streams (first : AtWork) (given others : Option (List ℕ)) (job : At
       → IsUnderWay first.program (config_on None first.config) (records_of (primary.since.read ++ more) (secondary.since.read ++ behind)) earlier (config_on (last_position out.lines) job.config) job.inputs
       (records_of (a.input.buffered ++ more) (b.input.buffered ++ behind)) cycles most out
 
-pub stream_begins : (first : AtWork) (a b : Source) (print disk : Option (List ℕ))
-    → first.left ≡ left_by first.program [] → first.inputs ≡ unread → first.last ≡ None → first.output ≡ no_bytes
+pub stream_begins : (first : AtWork) (a b : Source)
+    → first.left ≡ left_by first.program [] → first.inputs ≡ unread → first.last ≡ None
     → a.input.buffered ≡ [] → a.input.ended ≡ false → a.count ≡ 0 → b.input.buffered ≡ [] → b.input.ended ≡ false → b.count ≡ 0
-    → Streams first a.input.remaining b.input.remaining first a b 0 0 print print disk disk 0 0
-stream_begins first a b print disk left none last empty front unended count front_too unended_too count_too = record {
+    → (s : Streams first a.input.remaining b.input.remaining first a b 0 0) × (s.out ≡ no_output)
+stream_begins first a b left none last front unended count front_too unended_too count_too = (record {
   program = refl;
   earlier = [];
   out = no_output;
   left = left;
   orderly = subst (λ (i : Inputs). AreMergedInOrder first.program [] i) (sym none) (at_first first.program);
   last = last;
-  empty = empty;
-  sent_print = Appends-nil print;
-  sent_disk = Appends-nil disk;
-  printed = refl;
-  stored = refl;
   few = let waits : waiting_count first.inputs ≡ 0 = ap waiting_count none in omega (arith, waits);
   primary = stands a front unended count;
   secondary = stands b front_too unended_too count_too;
@@ -134,7 +123,7 @@ stream_begins first a b print disk left none last empty front unended count fron
       (subst (λ (x : List ℕ). IsUnderWay first.program (config_on None first.config) (records_of more behind) [] (config_on None first.config) unread (records_of (x ++ more) (b.input.buffered ++ behind)) 0 0 no_output) (sym front)
       (subst (λ (x : List ℕ). IsUnderWay first.program (config_on None first.config) (records_of more behind) [] (config_on None first.config) unread (records_of more (x ++ behind)) 0 0 no_output) (sym front_too)
       (begins first.program (config_on None first.config) (records_of more behind))));
-}
+}, refl)
   where
     stands : (s : Source) → s.input.buffered ≡ [] → s.input.ended ≡ false → s.count ≡ 0 → Stands s.input.remaining s
     stands s none unended zero = record {
@@ -148,8 +137,8 @@ both_records : (a b c d : List (List ℕ)) → a ≡ b → c ≡ d → (let r : 
 both_records a b c d h g = ap (λ x. let r : Records = record { primary = x; secondary = c } in r) h ∙ ap (λ x. let r : Records = record { primary = b; secondary = x } in r) g
 
 -- a run under way over two inputs, and what was read of each since
-module _ (first job : AtWork) (given others : Option (List ℕ)) (a b : Source) (cycles most : ℕ) (print print' disk disk' : Option (List ℕ)) (gone_print gone_disk : ℕ)
-    (s : Streams first given others job a b cycles most print print' disk disk' gone_print gone_disk) where
+module _ (first job : AtWork) (given others : Option (List ℕ)) (a b : Source) (cycles most : ℕ)
+    (s : Streams first given others job a b cycles most) where
   abbrev pub now : Config
   now = config_on (last_position s.out.lines) job.config
 
@@ -190,31 +179,33 @@ module _ (first job : AtWork) (given others : Option (List ℕ)) (a b : Source) 
         (rest more behind) cycles most s.out
     under_way_still = reads_on a'.input b'.input _ _ t.primary.input t.secondary.input
 
--- what the job puts out in this cycle
-pub output_is : (job mid : AtWork) (earlier : List Selected) (out : Output) (x y : Option (List ℕ)) (e : PhaseEnd) (does : DoesCycle job earlier (last_position out.lines) x y e mid) → job.output ≡ no_bytes → mid.output ≡ put_by e out does.out
-output_is job mid earlier out x y e does empty =
-    does.bytes
-    ∙ ap (λ (last : Option ℕ). with_feed (feed_at (stage_at e) last) (with_output (last_position out.lines) does.out.lines does.out.records job.output)) does.last
-    ∙ ap (λ (bytes : Bytes). with_feed (feed_at (stage_at e) (line_of (last_position_from (last_position out.lines) does.out.lines))) (with_output (last_position out.lines) does.out.lines does.out.records bytes)) empty
+-- what the job puts out in this cycle, behind what it had put out before
+pub output_is : (job mid : AtWork) (earlier : List Selected) (out : Output) (x y : Option (List ℕ)) (e : PhaseEnd) (does : DoesCycle job earlier (last_position out.lines) x y e mid)
+    → (mid.output.print ≡ job.output.print ++ (put_by e out does.out).print) × (mid.output.disk ≡ job.output.disk ++ (put_by e out does.out).disk)
+output_is job mid earlier out x y e does =
+    let last = line_of (last_position_from (last_position out.lines) does.out.lines) in
+    let is : mid.output ≡ with_feed (feed_at (stage_at e) last) (with_output (last_position out.lines) does.out.lines does.out.records job.output) =
+    does.bytes ∙ ap (λ (l : Option ℕ). with_feed (feed_at (stage_at e) l) (with_output (last_position out.lines) does.out.lines does.out.records job.output)) does.last in (
+      ap (λ (b : Bytes). b.print) is ∙ append_assoc job.output.print (bytes_from (last_position out.lines) does.out.lines) (feed_at (stage_at e) last),
+      ap (λ (b : Bytes). b.disk) is,
+    )
 
 pub steps_are : (job mid : AtWork) (earlier : List Selected) (out : Output) (x y : Option (List ℕ)) (e : PhaseEnd) (does : DoesCycle job earlier (last_position out.lines) x y e mid) → does.there.config.steps ≡ mid.config.steps
 steps_are job mid earlier out x y e does = ap (λ (c : Config). c.steps) does.config
 
+-- behind a cycle that goes on this is what was put out in all
+pub put_on : (out o : Output) (e : PhaseEnd) → e ≡ GoesOn
+    → (paper out.lines ++ (put_by e out o).print ≡ paper (with_more out o).lines) × (disk_bytes out.records ++ (put_by e out o).disk ≡ disk_bytes (with_more out o).records)
+put_on out o e on = (ap (λ (x : PhaseEnd). paper out.lines ++ (put_by x out o).print) on ∙ print_goes_on out o, disk_goes_on e out o)
+
 pub stream_goes_on : (first job mid : AtWork) (given others : Option (List ℕ)) (a b a' b' : Source) (cycles most greater : ℕ)
-    (print print' print'' disk disk' disk'' : Option (List ℕ)) (gone_print gone_disk gone_print' gone_disk' : ℕ)
-    (e : PhaseEnd) (s : Streams first given others job a b cycles most print print' disk disk' gone_print gone_disk) (t : TakesNext s.earlier (last_position s.out.lines) job a b e mid a' b')
-    → e ≡ GoesOn → greater ≡ max most mid.config.steps → Appends print' print'' mid.output.print → Appends disk' disk'' mid.output.disk
-    → gone_print' ≡ gone_print + length mid.output.print → gone_disk' ≡ gone_disk + length mid.output.disk
-    → Streams first given others (job_taken mid) a' b' (cycles + 1) greater print print'' disk disk'' gone_print' gone_disk'
-stream_goes_on first job mid given others a b a' b' cycles most greater print print' print'' disk disk' disk'' gone_print gone_disk gone_print' gone_disk' e s t on most_is sent_print sent_disk print_more disk_more =
+    (e : PhaseEnd) (s : Streams first given others job a b cycles most) (t : TakesNext s.earlier (last_position s.out.lines) job a b e mid a' b')
+    → e ≡ GoesOn → greater ≡ max most mid.config.steps
+    → (k : Streams first given others mid a' b' (cycles + 1) greater) × (k.out ≡ with_more s.out t.does.out)
+stream_goes_on first job mid given others a b a' b' cycles most greater e s t on most_is =
     let does = t.does in
     let there = does.there in
-    let put = output_is job mid s.earlier s.out t.x t.y e does s.empty in
     let line : last_position (s.out.lines ++ does.out.lines) ≡ last_position_from (last_position s.out.lines) does.out.lines = end_from-lines None s.out.lines does.out.lines in
-    let to_print : paper s.out.lines ++ mid.output.print ≡ paper (s.out.lines ++ does.out.lines) =
-    ap (λ (b : Bytes). paper s.out.lines ++ b.print) put ∙ ap (λ (x : PhaseEnd). paper s.out.lines ++ (put_by x s.out does.out).print) on ∙ print_goes_on s.out does.out in
-    let to_disk : disk_bytes s.out.records ++ mid.output.disk ≡ disk_bytes (s.out.records ++ does.out.records) =
-    ap (λ (b : Bytes). disk_bytes s.out.records ++ b.disk) put ∙ disk_goes_on e s.out does.out in
     let c = config_on (last_position s.out.lines) job.config in
     let p = job.program in
     let cycle : Cycle p s.earlier t.x t.y (begun p c job.inputs) GoesOn there does.out =
@@ -224,18 +215,13 @@ stream_goes_on first job mid given others a b a' b' cycles most greater print pr
     let fewer = fewer_wait p s.earlier t.x t.y c job.inputs there does.out s.orderly t.primary.needed t.secondary.needed cycle in
     let waits : waiting_count mid.inputs ≡ waiting_count there.inputs = ap waiting_count (does.inputs on) in
     let start = config_on None first.config in
-    record {
+    (record {
       program = does.program ∙ s.program;
       earlier = with_record there.selected s.earlier;
       out = with_more s.out does.out;
       left = does.left on ∙ ap (λ (p : Object). left_by p (with_record there.selected s.earlier)) (sym does.program);
       orderly = subst (λ (q : Object). AreMergedInOrder q (with_record there.selected s.earlier) mid.inputs) (sym does.program) order;
       last = does.last ∙ ap line_of (sym line);
-      empty = refl;
-      sent_print = subst (λ (bytes : List ℕ). Appends print print'' bytes) to_print (Appends-trans print print' print'' (paper s.out.lines) mid.output.print s.sent_print sent_print);
-      sent_disk = subst (λ (bytes : List ℕ). Appends disk disk'' bytes) to_disk (Appends-trans disk disk' disk'' (disk_bytes s.out.records) mid.output.disk s.sent_disk sent_disk);
-      printed = omega (arith, s.printed, print_more, length-append (paper s.out.lines) mid.output.print, ap length to_print);
-      stored = omega (arith, s.stored, disk_more, length-append (disk_bytes s.out.records) mid.output.disk, ap length to_disk);
       few = omega (arith, s.few, fewer, waits, t.primary.count on, t.secondary.count on);
       primary = record { since = more_read given a.input a'.input _ s.primary.since t.primary.input; counted = counted_on p Primary given (needs_record p c job.inputs Primary) t.x e a a' s.primary t.primary on };
       secondary = record { since = more_read others b.input b'.input _ s.secondary.since t.secondary.input; counted = counted_on p Secondary others (needs_record p c job.inputs Secondary) t.y e b b' s.secondary t.secondary on };
@@ -243,23 +229,40 @@ stream_goes_on first job mid given others a b a' b' cycles most greater print pr
           let rs = records_of (a.input.buffered ++ (t.primary.input.read ++ more)) (b.input.buffered ++ (t.secondary.input.read ++ behind)) in
           let ss = records_of (a'.input.buffered ++ more) (b'.input.buffered ++ behind) in
           let all = records_of ((s.primary.since.read ++ t.primary.input.read) ++ more) ((s.secondary.since.read ++ t.secondary.input.read) ++ behind) in
-          let one = head first job given others a b cycles most print print' disk disk' gone_print gone_disk s mid a' b' e t more behind can can_too in
-          let again = under_way_still first job given others a b cycles most print print' disk disk' gone_print gone_disk s mid a' b' e t more behind can can_too in
+          let one = head first job given others a b cycles most s mid a' b' e t more behind can can_too in
+          let again = under_way_still first job given others a b cycles most s mid a' b' e t more behind can can_too in
           let going : HeadCycle first.program s.earlier c job.inputs GoesOn there does.out rs ss = subst (λ (x : PhaseEnd). HeadCycle first.program s.earlier c job.inputs x there does.out rs ss) on one in
           let to : there.config ≡ config_on (last_position (s.out.lines ++ does.out.lines)) mid.config = does.config ∙ ap (λ previous. config_on previous mid.config) (sym line) in
           subst (λ (i : Inputs). IsUnderWay first.program start all (with_record there.selected s.earlier) (config_on (last_position (s.out.lines ++ does.out.lines)) mid.config) i ss (cycles + 1) greater (with_more s.out does.out)) (sym (does.inputs on))
           (subst (λ (x : Config). IsUnderWay first.program start all (with_record there.selected s.earlier) x there.inputs ss (cycles + 1) greater (with_more s.out does.out)) to
           (one_more first.program start all s.earlier c job.inputs rs ss cycles most greater s.out there does.out again going (most_is ∙ ap (max most) (sym (steps_are job mid s.earlier s.out t.x t.y e does)))));
-    }
+    }, refl)
 
 -- the steps stay in the bound of the program
-pub stays_bounded : (first job mid : AtWork) (given others : Option (List ℕ)) (a b a' b' : Source) (cycles most : ℕ) (print print' disk disk' : Option (List ℕ)) (gone_print gone_disk : ℕ)
-    (e : PhaseEnd) (s : Streams first given others job a b cycles most print print' disk disk' gone_print gone_disk) → TakesNext s.earlier (last_position s.out.lines) job a b e mid a' b'
+pub stays_bounded : (first job mid : AtWork) (given others : Option (List ℕ)) (a b a' b' : Source) (cycles most : ℕ)
+    (e : PhaseEnd) (s : Streams first given others job a b cycles most) → TakesNext s.earlier (last_position s.out.lines) job a b e mid a' b'
     → most ≤ bound first.program → mid.config.steps ≤ bound mid.program → max most mid.config.steps ≤ bound first.program
-stays_bounded first job mid given others a b a' b' cycles most print print' disk disk' gone_print gone_disk e s t small now_small =
+stays_bounded first job mid given others a b a' b' cycles most e s t small now_small =
     let same : bound mid.program ≡ bound first.program = ap bound (t.does.program ∙ s.program) in
     omega (arith, same)
 
 -- a reader has given no more records than an input may have
 pub few_given : {R : Type 0} (r : RecordReader R) → count_of r ≤ max_records
 few_given r = r.few
+
+-- what is said of a job holds whatever waits at it
+pub stream_sends : (first job mid : AtWork) (given others : Option (List ℕ)) (a b : Source) (cycles most : ℕ) (s : Streams first given others job a b cycles most) → mid ≡ record job { output = mid.output }
+    → (k : Streams first given others mid a b cycles most) × (k.out ≡ s.out)
+stream_sends first job mid given others a b cycles most s same =
+    subst (λ (j : AtWork). (k : Streams first given others j a b cycles most) × (k.out ≡ s.out)) (sym same) (record {
+      program = s.program;
+      earlier = s.earlier;
+      out = s.out;
+      left = s.left;
+      orderly = s.orderly;
+      last = s.last;
+      few = s.few;
+      primary = s.primary;
+      secondary = s.secondary;
+      under_way = s.under_way;
+    }, refl)

@@ -230,3 +230,18 @@ module _ {R S : Type 0} (remaining : R → Option (List ℕ)) (others : S → Op
       let done = cycles_behind job job' x y takes.cycles earlier leave order previous placed in
       let took = gone_on job job' earlier previous x y done.0 order done.1 (went done.0 (sym done.1.stage ∙ stage)) in
       (behind_first took one, behind_second took two)
+
+-- ---- a job of which output went out
+
+module _ (job mid : AtWork) (same : mid ≡ record job { output = mid.output }) where
+  pub same_going : is_going job.stage ≡ true → is_going mid.stage ≡ true
+  same_going going = ap (λ (j : AtWork). is_going j.stage) same ∙ going
+
+  pub limit_of_taken : {n : ℕ} → n ≡ job.program.record_length → n ≡ mid.program.record_length
+  limit_of_taken is = is ∙ sym (ap (λ (j : AtWork). j.program.record_length) same)
+
+  pub other_limit_of_taken : {n : ℕ} → n ≡ job.program.secondary_length → n ≡ mid.program.secondary_length
+  other_limit_of_taken is = is ∙ sym (ap (λ (j : AtWork). j.program.secondary_length) same)
+
+  pub still_behind : {R : Type 0} (f : InputFile) (reader : RecordReader R) → IsBehindRecord job f reader → IsBehindRecord mid f reader
+  still_behind f reader behind = λ open. behind (sym (ap (λ (j : AtWork). (input_at j.inputs f).is_over) same) ∙ open)

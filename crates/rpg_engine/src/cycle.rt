@@ -1,18 +1,20 @@
 //! The next cycle of a job, with what stands next in its files.
 
-ghost use Rattle.std.specs.Prelude.{◌≡◌, ◌-◌, ◌^◌, ◌<◌, ◌≤◌, IfErr, IfOk, Ok, OnOk, true};
+ghost use Rattle.std.specs.Prelude.{◌≡◌, ◌-◌, ◌^◌, ◌<◌, ◌≤◌, IfErr, IfOk, IsOk, Ok, OnOk, true};
 ghost use Rattle.std.specs.Option.{option_map};
 ghost use Rattle.rpg_cycle.specs.Doing.{IsSeen};
-ghost use Rattle.rpg_cycle.specs.Job.{Cycles};
+ghost use Rattle.rpg_cycle.specs.Job.{Cycles, job_needs_record};
 ghost use Rattle.rpg_cycle.specs.Stages.{is_going};
+ghost use Rattle.rpg_effect.specs.Fronts.{OnlyGrows};
 ghost use Rattle.rpg_effect.specs.declared.input.InputFile.TheVariants as files;
 ghost use Rattle.rpg_files.specs.Counting.{faults_of};
 ghost use Rattle.rpg_files.specs.Reading.{answer_of, is_record, reader_of};
 ghost use Rattle.rpg_verify.specs.Bound.{bound};
-ghost use Rattle.rpg_engine.specs.Streaming.{Asks, IsBehindRecord, TakesCycle, TakesNone, ended_stage, record_with};
+ghost use Rattle.rpg_engine.specs.Streaming.{Asks, IsBehindRecord, IsSureWhereAsked, TakesCycle, TakesNone, ended_stage, record_with};
+ghost use Rattle.rpg_engine.specs.declared.fault.CycleFault.TheVariants as stops;
 
 use crate::fault::CycleFault;
-use rpg_cycle::{CycleEnd, Job, JobEnd, Seen};
+use rpg_cycle::{CycleEnd, Job, JobEnd, Need, Seen};
 use rpg_files::{Next, ReadFault, RecordReader};
 use rpg_store::Store;
 use std::io::Read;
@@ -34,6 +36,7 @@ fn cycle_with<S: Store + Drop>(
     ensures told { IfOk result (λ e. job.new.stage ≡ ended_stage e) }
     ensures bound { OnOk result (job.new.config.steps ≤ bound job.new.program) }
     ensures memory { IfErr result (λ e. e ≡ CycleFault.NoMemory) }
+    ensures grows { OnlyGrows job.old.output job.new.output }
 {
     match job.cycle_with_seen(primary, secondary, seen)? {
         CycleEnd::GoesOn => Ok(None),
@@ -49,6 +52,7 @@ fn ask<R: Read>(records: &mut RecordReader<'_, R>, is_needed: bool) -> Result<Ne
     requires behind_record { is_needed ≡ true → is_record (answer_of records.old) ≡ true }
     ensures same_reader { records.new.reader.ghost_name ≡ records.old.reader.ghost_name }
     ensures asks { Asks R.remaining is_needed records.old result records.new }
+    ensures sure { IsSureWhereAsked is_needed records.old → IsOk result }
 {
     if is_needed {
         records.next()
@@ -79,12 +83,15 @@ fn is_given(next: Next) -> bool
 /// primary's reader first.
 pub(crate) fn next_cycle<S: Store + Drop, R1: Read, R2: Read>(
     job: &mut Job<'_, S>,
+    need: Need,
     primary: &mut RecordReader<'_, R1>,
     secondary: &mut RecordReader<'_, R2>,
 ) -> Result<Option<JobEnd>, CycleFault>
     requires primary { faults_of (reader_of primary.old) < 2 ^ 64 - 1 }
     requires secondary { faults_of (reader_of secondary.old) < 2 ^ 64 - 1 }
     requires going { is_going job.old.stage ≡ true }
+    requires needs_primary { need.primary ≡ job_needs_record job.old files.Primary }
+    requires needs_secondary { need.secondary ≡ job_needs_record job.old files.Secondary }
     requires behind_primary { IsBehindRecord job.old files.Primary primary.old }
     requires behind_secondary { IsBehindRecord job.old files.Secondary secondary.old }
     ensures same_primary { primary.new.reader.ghost_name ≡ primary.old.reader.ghost_name }
@@ -96,8 +103,9 @@ pub(crate) fn next_cycle<S: Store + Drop, R1: Read, R2: Read>(
     ensures faults_primary { OnOk result (faults_of (reader_of primary.new) ≡ faults_of (reader_of primary.old)) }
     ensures faults_secondary { OnOk result (faults_of (reader_of secondary.new) ≡ faults_of (reader_of secondary.old)) }
     ensures none { IfErr result (λ e. TakesNone R1.remaining R2.remaining job.old primary.old secondary.old e primary.new secondary.new) }
+    ensures sure { IsSureWhereAsked need.primary primary.old → IsSureWhereAsked need.secondary secondary.old → IfErr result (λ e. e ≡ stops.NoMemory) }
+    ensures grows { OnlyGrows job.old.output job.new.output }
 {
-    let need = job.needs();
     let first = ask(primary, need.primary)?;
     let second = ask(secondary, need.secondary)?;
     let seen = Seen {

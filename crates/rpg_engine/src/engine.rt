@@ -54,7 +54,8 @@ fn first_job<'a>(
 /// and what it writes to the disk file.
 ///
 /// The date is read before anything else is. Then a record is read of each file that the cycle needs one from, of the primary first, and
-/// the cycle's output is sent before the next, the printer's first. The memory that is taken doesn't grow with the number of records.
+/// its output waits until it comes to 32 KiB for a writer; all that waits is sent before a reader is asked for more, where memory runs out,
+/// and at the end, the printer's first. The memory that is taken doesn't grow with the number of records.
 pub fn execute_program<R1: Read, R2: Read, W1: Write, W2: Write>(
     alloc: Global,
     program: &Verified,

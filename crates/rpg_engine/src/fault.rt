@@ -72,19 +72,6 @@ impl From<AllocError> for CycleFault {
     }
 }
 
-impl From<CycleFault> for RunFault {
-    ghost use Rattle.rpg_engine.specs.Streaming.{run_fault};
-
-    ghost from_gives = { λ fault e. e ≡ run_fault fault };
-
-    fn from(fault: CycleFault) -> RunFault {
-        match fault {
-            CycleFault::Read => RunFault::Read,
-            CycleFault::NoMemory => RunFault::NoMemory,
-        }
-    }
-}
-
 impl From<AllocError> for RunFault {
     ghost from_gives = { λ _ e. e ≡ faults.NoMemory };
 

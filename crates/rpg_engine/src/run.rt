@@ -11,13 +11,14 @@ ghost use Rattle.rpg_engine.specs.Streaming.{IsRunFault};
 use crate::cycle::next_cycle;
 use crate::fault::RunFault;
 use crate::report::Report;
-use crate::sending::{Sent, send_output};
+use crate::sending::{Sent, fault_behind, send_before_reading, send_where_enough, waiting_in};
 use rpg_cycle::Job;
 use rpg_files::{Counted, RecordReader};
 use rpg_store::Store;
 use std::io::{Read, Write};
 
-/// Does the cycles of a job that hasn't begun, up to the one that ends it, and sends the output of each.
+/// Does the cycles of a job that hasn't begun, up to the one that ends it, and sends their output: where it comes to 32 KiB, before a
+/// device is asked for records, and at the end.
 pub(crate) fn run<S: Store + Drop, R1: Read, R2: Read, W1: Write, W2: Write>(
     job: &mut Job<'_, S>,
     primary: &mut RecordReader<'_, R1>,
@@ -46,11 +47,18 @@ pub(crate) fn run<S: Store + Drop, R1: Read, R2: Read, W1: Write, W2: Write>(
     let mut most = 0u64;
     let mut sent = Sent { print: 0, disk: 0 };
     'cycles: loop {
-        let ended = next_cycle(job, primary, secondary)?;
+        let need = job.needs();
+        send_before_reading(job, need, primary, secondary, print, disk, &mut sent)?;
+        let waiting = waiting_in(job.output());
+        let ended = match next_cycle(job, need, primary, secondary) {
+            Ok(ended) => ended,
+            Err(fault) => {
+                return Err(fault_behind(fault, print, disk, job.output(), waiting, sent));
+            }
+        };
         cycles += 1;
         most = most.max(job.steps());
-        send_output(print, disk, job.output(), &mut sent)?;
-        job.clear_output();
+        send_where_enough(job, ended.is_some(), print, disk, &mut sent)?;
         if let Some(ending) = ended {
             return Ok(Report {
                 ending,

@@ -1,15 +1,20 @@
-//! A cycle's output to its writers.
+//! What a run puts out, on its way to the writers: it waits at the job, so that a writer is called for many cycles at a time.
 
-ghost use Rattle.std.specs.Prelude.{◌≡◌, ◌+◌, ◌-◌, ◌^◌, ◌<◌, ◌≤◌, length, OnOk, IfErr};
+ghost use Rattle.std.specs.Prelude.{◌≡◌, ◌+◌, ◌-◌, ◌^◌, ◌<◌, ◌≤◌, ◌⊎◌, length, take, true, OnOk, IfErr};
 ghost use Rattle.std.specs.Io.KnownBytes.{Appends};
 ghost use Rattle.rpg_files.specs.Counting.{device_of, faults_of};
+ghost use Rattle.rpg_machine.specs.Running.{no_bytes};
 ghost use Rattle.rpg_engine.specs.Devices.{SendsSomeTo};
-ghost use Rattle.rpg_engine.specs.Streaming.{WriterFaults};
+ghost use Rattle.rpg_engine.specs.Streaming.{FaultsOfWriters, GoesOut, IsSureWhereAsked, StopsBy, WriterFaults};
 
-use crate::fault::RunFault;
-use rpg_cycle::Output;
-use rpg_files::{Counted, send};
-use std::io::Write;
+use crate::fault::{CycleFault, RunFault};
+use rpg_cycle::{Job, Need, Output};
+use rpg_files::{Counted, RecordReader, send};
+use rpg_store::Store;
+use std::io::{Read, Write};
+
+/// How many bytes of a file wait before they are sent.
+const ENOUGH: usize = 32_768;
 
 /// How many bytes have gone out to each writer.
 #[derive(Clone, Copy)]
@@ -18,33 +23,182 @@ pub(crate) struct Sent {
     pub disk: u128,
 }
 
-/// Sends the printer's bytes, and then the disk's.
-pub(crate) fn send_output<W1: Write, W2: Write>(
+/// How many bytes of each file wait.
+#[derive(Clone, Copy)]
+pub(crate) struct Waiting {
+    pub print: usize,
+    pub disk: usize,
+}
+
+/// How many bytes of each file wait in an output.
+#[inline(always)]
+pub(crate) fn waiting_in(output: &Output) -> Waiting
+    ensures print { result.print ≡ length output.now.print.items }
+    ensures disk { result.disk ≡ length output.now.disk.items }
+{
+    Waiting {
+        print: output.print.len(),
+        disk: output.disk.len(),
+    }
+}
+
+/// Sends bytes to the printer, and then bytes to the disk file.
+fn send_both<W1: Write, W2: Write>(
     print: &mut Counted<W1>,
     disk: &mut Counted<W2>,
-    output: &Output,
+    lines: &[u8],
+    records: &[u8],
     sent: &mut Sent,
 ) -> Result<(), RunFault>
     requires print { faults_of print.old < 2 ^ 64 - 1 }
     requires disk { faults_of disk.old < 2 ^ 64 - 1 }
     requires printed { sent.old.print ≤ 2 ^ 100 }
     requires stored { sent.old.disk ≤ 2 ^ 100 }
-    ensures printed { OnOk result (Appends (W1.contents (device_of print.old)) (W1.contents (device_of print.new)) output.now.print.items) }
-    ensures stored { OnOk result (Appends (W2.contents (device_of disk.old)) (W2.contents (device_of disk.new)) output.now.disk.items) }
-    ensures sent_print { OnOk result (sent.new.print ≡ sent.old.print + length output.now.print.items) }
-    ensures sent_disk { OnOk result (sent.new.disk ≡ sent.old.disk + length output.now.disk.items) }
-    ensures some { IfErr result (SendsSomeTo W1.contents W2.contents print disk sent.old.print sent.old.disk output.now.print.items output.now.disk.items) }
+    ensures printed { OnOk result (Appends (W1.contents (device_of print.old)) (W1.contents (device_of print.new)) lines.now) }
+    ensures stored { OnOk result (Appends (W2.contents (device_of disk.old)) (W2.contents (device_of disk.new)) records.now) }
+    ensures sent_print { OnOk result (sent.new.print ≡ sent.old.print + length lines.now) }
+    ensures sent_disk { OnOk result (sent.new.disk ≡ sent.old.disk + length records.now) }
+    ensures some { IfErr result (SendsSomeTo W1.contents W2.contents print disk sent.old.print sent.old.disk lines.now records.now) }
     ensures faults { WriterFaults result (faults_of print.old) (faults_of print.new) (faults_of disk.old) (faults_of disk.new) }
 {
-    if let Err(fault) = send(print, &output.print) {
+    if let Err(fault) = send(print, lines) {
         let sent = sent.print + fault.sent as u128;
         return Err(RunFault::Print { sent });
     }
-    sent.print += output.print.len() as u128;
-    if let Err(fault) = send(disk, &output.disk) {
+    sent.print += lines.len() as u128;
+    if let Err(fault) = send(disk, records) {
         let sent = sent.disk + fault.sent as u128;
         return Err(RunFault::Disk { sent });
     }
-    sent.disk += output.disk.len() as u128;
+    sent.disk += records.len() as u128;
     Ok(())
+}
+
+/// Sends all that waits at a job.
+#[inline(never)]
+fn send_waiting<S: Store + Drop, W1: Write, W2: Write>(
+    job: &mut Job<'_, S>,
+    print: &mut Counted<W1>,
+    disk: &mut Counted<W2>,
+    sent: &mut Sent,
+) -> Result<(), RunFault>
+    requires print { faults_of print.old < 2 ^ 64 - 1 }
+    requires disk { faults_of disk.old < 2 ^ 64 - 1 }
+    requires printed { sent.old.print ≤ 2 ^ 100 }
+    requires stored { sent.old.disk ≤ 2 ^ 100 }
+    ensures printed { OnOk result (Appends (W1.contents (device_of print.old)) (W1.contents (device_of print.new)) job.old.output.print) }
+    ensures stored { OnOk result (Appends (W2.contents (device_of disk.old)) (W2.contents (device_of disk.new)) job.old.output.disk) }
+    ensures sent_print { OnOk result (sent.new.print ≡ sent.old.print + length job.old.output.print) }
+    ensures sent_disk { OnOk result (sent.new.disk ≡ sent.old.disk + length job.old.output.disk) }
+    ensures few_printed { OnOk result (sent.new.print < sent.old.print + 2 ^ 64) }
+    ensures few_stored { OnOk result (sent.new.disk < sent.old.disk + 2 ^ 64) }
+    ensures taken { OnOk result (job.new ≡ record job.old { output = no_bytes }) }
+    ensures some { IfErr result (SendsSomeTo W1.contents W2.contents print disk sent.old.print sent.old.disk job.old.output.print job.old.output.disk) }
+    ensures faults { WriterFaults result (faults_of print.old) (faults_of print.new) (faults_of disk.old) (faults_of disk.new) }
+{
+    let output = job.output();
+    send_both(print, disk, &output.print, &output.disk, sent)?;
+    job.clear_output();
+    Ok(())
+}
+
+/// Whether no fault of a file can come in the next cycle: no record is needed of it, or what its reader has suffices.
+#[inline(always)]
+fn is_sure<R: Read>(records: &RecordReader<'_, R>, is_needed: bool) -> bool
+    ensures { result ≡ true → IsSureWhereAsked is_needed records.now }
+{
+    !is_needed || records.is_sure()
+}
+
+/// Sends what waits where a reader may fail in the next cycle: then its fault is told behind all that was put out before, and no other
+/// device's can follow it.
+#[inline(always)]
+pub(crate) fn send_before_reading<S: Store + Drop, R1: Read, R2: Read, W1: Write, W2: Write>(
+    job: &mut Job<'_, S>,
+    need: Need,
+    primary: &RecordReader<'_, R1>,
+    secondary: &RecordReader<'_, R2>,
+    print: &mut Counted<W1>,
+    disk: &mut Counted<W2>,
+    sent: &mut Sent,
+) -> Result<(), RunFault>
+    requires print { faults_of print.old < 2 ^ 64 - 1 }
+    requires disk { faults_of disk.old < 2 ^ 64 - 1 }
+    requires printed { sent.old.print ≤ 2 ^ 100 }
+    requires stored { sent.old.disk ≤ 2 ^ 100 }
+    ensures printed { OnOk result (GoesOut (W1.contents (device_of print.old)) (W1.contents (device_of print.new)) job.old.output.print job.new.output.print sent.old.print sent.new.print) }
+    ensures stored { OnOk result (GoesOut (W2.contents (device_of disk.old)) (W2.contents (device_of disk.new)) job.old.output.disk job.new.output.disk sent.old.disk sent.new.disk) }
+    ensures few_printed { OnOk result (sent.new.print < sent.old.print + 2 ^ 64) }
+    ensures few_stored { OnOk result (sent.new.disk < sent.old.disk + 2 ^ 64) }
+    ensures rest { OnOk result (job.new ≡ record job.old { output = job.new.output }) }
+    ensures ready { OnOk result ((job.new.output ≡ no_bytes) ⊎ (IsSureWhereAsked need.primary primary.now × IsSureWhereAsked need.secondary secondary.now)) }
+    ensures some { IfErr result (SendsSomeTo W1.contents W2.contents print disk sent.old.print sent.old.disk job.old.output.print job.old.output.disk) }
+    ensures faults { WriterFaults result (faults_of print.old) (faults_of print.new) (faults_of disk.old) (faults_of disk.new) }
+{
+    if is_sure(primary, need.primary) && is_sure(secondary, need.secondary) {
+        return Ok(());
+    }
+    send_waiting(job, print, disk, sent)
+}
+
+/// Sends what waits once enough of it does, or behind the last cycle.
+#[inline(always)]
+pub(crate) fn send_where_enough<S: Store + Drop, W1: Write, W2: Write>(
+    job: &mut Job<'_, S>,
+    is_last: bool,
+    print: &mut Counted<W1>,
+    disk: &mut Counted<W2>,
+    sent: &mut Sent,
+) -> Result<(), RunFault>
+    requires print { faults_of print.old < 2 ^ 64 - 1 }
+    requires disk { faults_of disk.old < 2 ^ 64 - 1 }
+    requires printed { sent.old.print ≤ 2 ^ 100 }
+    requires stored { sent.old.disk ≤ 2 ^ 100 }
+    ensures printed { OnOk result (GoesOut (W1.contents (device_of print.old)) (W1.contents (device_of print.new)) job.old.output.print job.new.output.print sent.old.print sent.new.print) }
+    ensures stored { OnOk result (GoesOut (W2.contents (device_of disk.old)) (W2.contents (device_of disk.new)) job.old.output.disk job.new.output.disk sent.old.disk sent.new.disk) }
+    ensures few_printed { OnOk result (sent.new.print < sent.old.print + 2 ^ 64) }
+    ensures few_stored { OnOk result (sent.new.disk < sent.old.disk + 2 ^ 64) }
+    ensures rest { OnOk result (job.new ≡ record job.old { output = job.new.output }) }
+    ensures all { is_last ≡ true → OnOk result (job.new.output ≡ no_bytes) }
+    ensures some { IfErr result (SendsSomeTo W1.contents W2.contents print disk sent.old.print sent.old.disk job.old.output.print job.old.output.disk) }
+    ensures faults { WriterFaults result (faults_of print.old) (faults_of print.new) (faults_of disk.old) (faults_of disk.new) }
+{
+    let waiting = waiting_in(job.output());
+    if !is_last && waiting.print < ENOUGH && waiting.disk < ENOUGH {
+        return Ok(());
+    }
+    send_waiting(job, print, disk, sent)
+}
+
+/// What is told where a cycle wasn't done. Where memory ran out what waited before that cycle goes out first, and a writer that fails then
+/// is told in its place; where a reader failed nothing was left that waits.
+#[inline(never)]
+pub(crate) fn fault_behind<W1: Write, W2: Write>(
+    fault: CycleFault,
+    print: &mut Counted<W1>,
+    disk: &mut Counted<W2>,
+    output: &Output,
+    waiting: Waiting,
+    mut sent: Sent,
+) -> RunFault
+    requires print { faults_of print.old < 2 ^ 64 - 1 }
+    requires disk { faults_of disk.old < 2 ^ 64 - 1 }
+    requires printed { sent.print ≤ 2 ^ 100 }
+    requires stored { sent.disk ≤ 2 ^ 100 }
+    requires lines { waiting.print ≤ length output.now.print.items }
+    requires records { waiting.disk ≤ length output.now.disk.items }
+    ensures stops { StopsBy fault result sent.print sent.disk (W1.contents (device_of print.old)) (W1.contents (device_of print.new)) (W2.contents (device_of disk.old)) (W2.contents (device_of disk.new))
+        (take waiting.print output.now.print.items) (take waiting.disk output.now.disk.items) }
+    ensures faults { FaultsOfWriters result (faults_of print.old) (faults_of print.new) (faults_of disk.old) (faults_of disk.new) }
+{
+    match fault {
+        CycleFault::Read => RunFault::Read,
+        CycleFault::NoMemory => {
+            let (lines, records) = (&output.print[..waiting.print], &output.disk[..waiting.disk]);
+            match send_both(print, disk, lines, records, &mut sent) {
+                Ok(()) => RunFault::NoMemory,
+                Err(fault) => fault,
+            }
+        }
+    }
 }

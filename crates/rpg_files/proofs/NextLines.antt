@@ -1,5 +1,5 @@
 -- How far the reading of a line can go on, and what it is at the end of the input.
-use Rattle.std.proofs.Common.{◌≡◌, ℕ, ◌+◌, ◌-◌, ◌<◌, ◌≤◌, Bool, true, false, if◌then◌else◌, List, length, drop, Option, refl, sym, ap, subst, arith, length-append, length-drop, inl, inr}
+use Rattle.std.proofs.Common.{◌≡◌, ℕ, ◌+◌, ◌-◌, ◌<◌, ◌≤◌, Bool, true, false, if◌then◌else◌, List, length, drop, Option, refl, sym, ap, subst, arith, length-append, length-drop, ◌⊎◌, inl, inr}
 use Rattle.rpg_files.specs.NextLine.{IsNextLine}
 use Rattle.rpg_files.specs.FirstLine.{IsIncomplete}
 use Rattle.rpg_files.specs.declared.input.NextLine.{NextLine}
@@ -14,6 +14,14 @@ open_short limit xs n is = elim is.behind [
 
 pub reads_longer : (a b : Option (List ℕ)) (old new : List ℕ) (ended ended' : Bool) → Reads a b old new ended ended' → length old ≤ length new
 reads_longer a b old new ended ended' reads = omega (arith, ap length reads.bytes, length-append old reads.read)
+
+-- once the end was seen, or the longest line is there with its end, no line is without an end while bytes can come
+pub never_open : (a b : Option (List ℕ)) (limit : ℕ) (old new : List ℕ) (ended ended' : Bool) → Reads a b old new ended ended' → ended' ≡ false → length new ≤ limit + 1
+    → (ended ≡ true) ⊎ (limit + 2 ≤ length old) → ⊥
+never_open a b limit old new ended ended' reads no_end short sure = elim sure [
+  | inl seen ↦ let still : ended' ≡ true = (reads.none_at_end seen).1 in cc
+  | inr whole ↦ let longer = reads_longer _ _ _ _ _ _ reads in omega arith
+]
 
 -- each read of a line without an end brings bytes, or the end of the input
 pub comes_nearer : (limit before after : ℕ) (ended ended' : Bool) → ended ≡ false → before ≤ limit + 1 → before ≤ after → (ended' ≡ false → before < after)

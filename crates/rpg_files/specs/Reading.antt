@@ -1,5 +1,5 @@
 -- What a reader of records is to its callers.
-use Rattle.std.specs.Prelude.{◌≡◌, ℕ, ◌+◌, ◌<◌, Bool, true, false, List, [], ◌∷◌, ◌++◌, length, take, drop, Option, Result, Ok, Err}
+use Rattle.std.specs.Prelude.{◌≡◌, ℕ, ◌+◌, ◌<◌, ◌&&◌, ◌||◌, nat_le, nat_lt, Bool, true, false, List, [], ◌∷◌, ◌++◌, length, take, drop, Option, Result, Ok, Err}
 use Rattle.std.specs.Io.KnownBytes.{Consumes, IsAtEnd}
 use Rattle.rpg_files.specs.Buffers.{left_in}
 use Rattle.rpg_files.specs.Counting.{device_of, faults_of}
@@ -56,6 +56,11 @@ pub record Input : Type 0 where
 
 abbrev pub input_of : {R : Type 0} → (R → Option (List ℕ)) → RecordReader R → Input
 input_of remaining r = record { buffered = buffered_of r; ended = has_ended r; remaining = remaining (device_of (reader_of r)) }
+
+-- no fault can come next: fewer records than an input may have were given, and the end of the input was seen, or bytes enough for the
+-- longest line wait in the buffer, with a carriage return and a line feed
+abbrev pub is_sure : {R : Type 0} → RecordReader R → Bool
+is_sure r = nat_lt r.count max_records && (r.is_ended || nat_le (r.limit + 2) (length (buffered_of r)))
 
 -- ---- a call
 

@@ -1,6 +1,6 @@
 //! Reads until it is certain what comes next.
 
-ghost use Rattle.std.specs.Prelude.{◌≡◌, ◌+◌, ◌-◌, ◌^◌, ◌<◌, false, length, OnOk, IfOk, true};
+ghost use Rattle.std.specs.Prelude.{◌≡◌, ◌+◌, ◌-◌, ◌^◌, ◌<◌, ◌≤◌, ◌⊎◌, false, length, IsOk, OnOk, IfOk, true};
 ghost use Rattle.rpg_files.specs.Counting.{faults_after, device_of, faults_of};
 ghost use Rattle.rpg_files.specs.Reads.{Reads};
 ghost use Rattle.rpg_files.specs.FirstLine.{IsIncomplete};
@@ -88,6 +88,7 @@ pub(crate) fn read_line<R: Read>(
     requires room { limit + 1 < capacity_of buffer.old }
     ensures read { Reads (R.remaining (device_of reader.old)) (R.remaining (device_of reader.new)) (left_in buffer.old) (left_in buffer.new) is_ended.old is_ended.new }
     ensures ok { IfOk result (λ line. IsNextLine limit (left_in buffer.new) is_ended.new line) }
+    ensures sure { (is_ended.old ≡ true) ⊎ (limit + 2 ≤ length (left_in buffer.old)) → IsOk result }
     ensures capacity { capacity_of buffer.new ≡ capacity_of buffer.old }
     ensures faults { faults_of reader.new ≡ faults_after (faults_of reader.old) result }
 {

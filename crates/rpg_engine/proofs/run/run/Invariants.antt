@@ -6,13 +6,13 @@ use Rattle.rpg_files.specs.Reading.{limit_of, reader_of}
 use Rattle.rpg_files.specs.Records.{max_records}
 use Rattle.rpg_verify.specs.Bound.{bound}
 use Rattle.rpg_engine.specs.Streaming.{IsBehindRecord}
-use Rattle.rpg_engine.proofs.Streams.{Streams}
+use Rattle.rpg_engine.proofs.Flows.{Flows}
 use Rattle.rpg_engine.proofs.Taking.{source_of}
 use Rattle.rpg_engine.proofs.run.run.Given as goal
 
 abbrev pub invariant-cycles : goal.invariant-cycles
 invariant-cycles g l = record {
-  streams : Streams l.initial.job (g.R1.Read.remaining (device_of (reader_of l.initial.primary))) (g.R2.Read.remaining (device_of (reader_of l.initial.secondary)))
+  flows : Flows l.initial.job (g.R1.Read.remaining (device_of (reader_of l.initial.primary))) (g.R2.Read.remaining (device_of (reader_of l.initial.secondary)))
       l.job (source_of g.R1.Read.remaining l.primary) (source_of g.R2.Read.remaining l.secondary) l.cycles l.most
       (g.W1.Write.contents (device_of l.initial.print)) (g.W1.Write.contents (device_of l.print))
       (g.W2.Write.contents (device_of l.initial.disk)) (g.W2.Write.contents (device_of l.disk)) l.sent.print l.sent.disk;
@@ -25,8 +25,8 @@ invariant-cycles g l = record {
   same_secondary : l.secondary.reader.ghost_name ≡ l.initial.secondary.reader.ghost_name;
   alone : l.initial.job.program.secondary_length ≡ 0 → l.secondary ≡ l.initial.secondary;
   few : l.cycles ≤ max_records + max_records;
-  few_printed : l.sent.print ≤ l.cycles * 18446744073709551616;
-  few_stored : l.sent.disk ≤ l.cycles * 18446744073709551616;
+  few_printed : l.sent.print ≤ l.cycles * 36893488147419103232;
+  few_stored : l.sent.disk ≤ l.cycles * 36893488147419103232;
   bounded : l.most ≤ bound l.initial.job.program;
   primary : faults_of (reader_of l.primary) ≡ faults_of (reader_of l.initial.primary);
   secondary : faults_of (reader_of l.secondary) ≡ faults_of (reader_of l.initial.secondary);

@@ -1,6 +1,6 @@
 use Rattle.std.proofs.Common.{◌≡◌, ◌+◌, ◌≤◌, length, arith}
 use Rattle.rpg_files.specs.Buffers.{capacity_of, left_in}
-use Rattle.rpg_files.proofs.NextLines.{open_short, reads_longer, comes_nearer, found_at_end}
+use Rattle.rpg_files.proofs.NextLines.{open_short, never_open, reads_longer, comes_nearer, found_at_end}
 use Rattle.rpg_files.proofs.input.read_line.Goals as goal
 
 pub returns-in-Bad-clause-ok : goal.returns-in-Bad-clause-ok
@@ -8,6 +8,11 @@ returns-in-Bad-clause-ok g c = λ more can. (rw c.bytes.ensures at c.in-Bad.ensu
 
 pub returns-then-is_ended-clause-ok : goal.returns-then-is_ended-clause-ok
 returns-then-is_ended-clause-ok g c = found_at_end _ _ _ _ _ c.bytes-then-is_ended.ensures c.if-is_ended.true c.last_line.ensures
+
+pub returns-in_err-read_more-clause-sure : goal.returns-in_err-read_more-clause-sure
+returns-in_err-read_more-clause-sure g c = λ sure.
+    let short = open_short c.args.limit c.bytes.result.now c.in-Incomplete.known c.in-Incomplete.ensures in
+    absurd (never_open _ _ c.args.limit _ _ _ _ c.reading.invariant.read c.if-is_ended.false (rw c.bytes.ensures at short) sure)
 
 pub read_more-requires-clause-room : goal.read_more-requires-clause-room
 read_more-requires-clause-room g c =
