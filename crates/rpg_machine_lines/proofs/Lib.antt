@@ -3,6 +3,7 @@ pub mod Assembling
 pub mod Entering
 pub mod Fields
 pub mod Following
+pub mod Growing
 pub mod Keeping
 pub mod Left
 pub mod Moving

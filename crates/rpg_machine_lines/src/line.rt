@@ -1,7 +1,8 @@
 //! One line is put out.
 ghost use Rattle.std.specs.Prelude.{◌≡◌, length, IfOk, OnOk};
 ghost use Rattle.rpg_effect.specs.Ends.{end_of};
-ghost use Rattle.rpg_machine_lines.specs.Outputs.{PutsOwn, line_effect};
+ghost use Rattle.rpg_effect.specs.Fronts.{OnlyGrows};
+ghost use Rattle.rpg_machine_lines.specs.Outputs.{PutsOwn, line_effect, output_of};
 ghost use Rattle.rpg_machine_lines.specs.Plans.{IsLinePlan};
 ghost use Rattle.rpg_machine_lines.specs.Ready.{IsNear};
 ghost use Rattle.rpg_machine_lines.specs.Right.{IsRightLine};
@@ -34,6 +35,7 @@ pub fn put_line<S: Store + Drop>(
     ensures done { IfOk result (λ e. PutsOwn (λ p. line_effect p (line_row line.now)) memory.old output.old (end_of e) memory.new output.new) }
     ensures near { OnOk result (IsNear memory.new.world.here) }
     ensures program { memory.new.program ≡ memory.old.program }
+    ensures grows { OnlyGrows (output_of output.old) (output_of output.new) }
 {
     fill_blanks(text);
     to_blank.clear();

@@ -1,7 +1,8 @@
 //! The outputs of a program: at detail time, at total time, at overflow, and at an EXCPT.
 ghost use Rattle.std.specs.Prelude.{◌≡◌, IfOk, OnOk};
 ghost use Rattle.rpg_effect.specs.Ends.{end_of};
-ghost use Rattle.rpg_machine_lines.specs.Outputs.{PutsOwn, detail_effect, exception_effect, overflow_detail_effect, overflow_effect, total_effect};
+ghost use Rattle.rpg_effect.specs.Fronts.{OnlyGrows};
+ghost use Rattle.rpg_machine_lines.specs.Outputs.{PutsOwn, detail_effect, exception_effect, output_of, overflow_detail_effect, overflow_effect, total_effect};
 ghost use Rattle.rpg_machine_lines.specs.Plans.{IsPlanOf};
 ghost use Rattle.rpg_machine_lines.specs.Ready.{IsNear};
 ghost use Rattle.rpg_machine_lines.specs.Right.{AreRightLines, HasLineRoom};
@@ -31,6 +32,7 @@ pub fn put_details<S: Store + Drop>(
     ensures done { IfOk result (λ e. PutsOwn detail_effect memory.old output.old (end_of e) memory.new output.new) }
     ensures near { OnOk result (IsNear memory.new.world.here) }
     ensures program { memory.new.program ≡ memory.old.program }
+    ensures grows { OnlyGrows (output_of output.old) (output_of output.new) }
 {
     match put_lines(memory, output, text, to_blank, Pass::Detail, plan)? {
         End::GoesOn => {}
@@ -55,6 +57,7 @@ pub fn put_totals<S: Store + Drop>(
     ensures done { IfOk result (λ e. PutsOwn total_effect memory.old output.old (end_of e) memory.new output.new) }
     ensures near { OnOk result (IsNear memory.new.world.here) }
     ensures program { memory.new.program ≡ memory.old.program }
+    ensures grows { OnlyGrows (output_of output.old) (output_of output.new) }
 {
     if !plan.passages.may_ask(Pass::Total, memory.on()) {
         return Ok(End::GoesOn);
@@ -77,6 +80,7 @@ fn put_overflow_details<S: Store + Drop>(
     ensures done { IfOk result (λ e. PutsOwn overflow_detail_effect memory.old output.old (end_of e) memory.new output.new) }
     ensures near { OnOk result (IsNear memory.new.world.here) }
     ensures program { memory.new.program ≡ memory.old.program }
+    ensures grows { OnlyGrows (output_of output.old) (output_of output.new) }
 {
     match put_lines(memory, output, text, to_blank, Pass::OverflowDetail, plan)? {
         End::GoesOn => {}
@@ -101,6 +105,7 @@ pub fn put_overflow<S: Store + Drop>(
     ensures done { IfOk result (λ e. PutsOwn overflow_effect memory.old output.old (end_of e) memory.new output.new) }
     ensures near { OnOk result (IsNear memory.new.world.here) }
     ensures program { memory.new.program ≡ memory.old.program }
+    ensures grows { OnlyGrows (output_of output.old) (output_of output.new) }
 {
     match put_lines(memory, output, text, to_blank, Pass::OverflowTotal, plan)? {
         End::GoesOn => {}
@@ -124,6 +129,7 @@ pub fn put_exceptions<S: Store + Drop>(
     ensures done { IfOk result (λ e. PutsOwn exception_effect memory.old output.old (end_of e) memory.new output.new) }
     ensures near { OnOk result (IsNear memory.new.world.here) }
     ensures program { memory.new.program ≡ memory.old.program }
+    ensures grows { OnlyGrows (output_of output.old) (output_of output.new) }
 {
     put_lines(memory, output, text, to_blank, Pass::Exception, plan)
 }

@@ -1,9 +1,10 @@
 //! Lines on the printer's form, and records on the disk.
-ghost use Rattle.std.specs.Prelude.{◌≡◌, ◌≤◌, ◌+◌, ◌++◌, ◌∷◌, [], true, OnOk};
+ghost use Rattle.std.specs.Prelude.{◌≡◌, ◌≤◌, ◌+◌, ◌++◌, ◌∷◌, [], take, true, vec_len, OnErr, OnOk};
 ghost use Rattle.rpg_effect.specs.Ends.{GoesOn};
+ghost use Rattle.rpg_effect.specs.Fronts.{OnlyGrows};
 ghost use Rattle.rpg_effect.specs.LineFaults.{is_spacing};
 ghost use Rattle.rpg_effect.specs.Lines as lines;
-ghost use Rattle.rpg_machine_lines.specs.Outputs.{Puts, form_moved};
+ghost use Rattle.rpg_machine_lines.specs.Outputs.{Puts, form_moved, output_of};
 ghost use Rattle.rpg_machine_lines.specs.Ready.{IsBlankBehind, IsNear};
 
 use crate::bytes::Output;
@@ -40,6 +41,7 @@ fn print_line<S: Store + Drop>(
     ensures done { OnOk result (Puts (lines.put_on memory.old.program.overflow File.Printer spacing text.now) memory.old output.old GoesOn memory.new output.new) }
     ensures near { OnOk result (IsNear memory.new.world.here) }
     ensures program { memory.new.program ≡ memory.old.program }
+    ensures grows { OnlyGrows (output_of output.old) (output_of output.new) }
 {
     move_form(memory, spacing.skip_before, spacing.space_before);
     memory.place(&text[..reach as usize], &mut output.print)?;
@@ -48,7 +50,8 @@ fn print_line<S: Store + Drop>(
 }
 
 fn append_record(disk: &mut Vec<u8>, text: &[u8]) -> Result<(), AllocError>
-    ensures { OnOk result (disk.new.items ≡ (disk.old.items ++ text.now) ++ 10 ∷ []) }
+    ensures items { OnOk result (disk.new.items ≡ (disk.old.items ++ text.now) ++ 10 ∷ []) }
+    ensures front { OnErr result (take (vec_len disk.old) disk.new.items ≡ disk.old.items) }
 {
     disk.extend_from_slice(text)?;
     disk.push(10)?;
@@ -64,6 +67,7 @@ fn write_record<S: Store + Drop>(
     text: &[u8],
 ) -> Result<(), AllocError>
     ensures done { OnOk result (Puts (lines.put_on memory.now.program.overflow File.Disk spacing text.now) memory.now output.old GoesOn memory.now output.new) }
+    ensures grows { OnlyGrows (output_of output.old) (output_of output.new) }
 {
     append_record(&mut output.disk, text)?;
     Ok(())
@@ -84,6 +88,7 @@ pub fn put_on<S: Store + Drop>(
     ensures done { OnOk result (Puts (lines.put_on memory.old.program.overflow file spacing text.now) memory.old output.old GoesOn memory.new output.new) }
     ensures near { OnOk result (IsNear memory.new.world.here) }
     ensures program { memory.new.program ≡ memory.old.program }
+    ensures grows { OnlyGrows (output_of output.old) (output_of output.new) }
 {
     match file {
         File::Printer => print_line(memory, output, spacing, text, reach),

@@ -70,6 +70,7 @@ impl<'a, S: Store + Drop> Memory<'a, S> {
         ensures bytes { OnOk result (print.new.items ≡ print.old.items ++ way_of (standing_of self.old) ++ trimmed text.now) }
         ensures placed { OnOk result (self.new ≡ behind_line self.old) }
         ensures same { OnErr result (self.new ≡ self.old) }
+        ensures same_bytes { OnErr result (print.new.items ≡ print.old.items) }
     {
         match self.form.place(text, print) {
             Ok(()) => Ok(()),

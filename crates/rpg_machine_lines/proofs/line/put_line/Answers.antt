@@ -1,4 +1,5 @@
 use Rattle.std.proofs.Common.{ℕ, List, ap, ◌∙◌, replicate, subst}
+use Rattle.rpg_effect.proofs.Fronts.{grows_not}
 use Rattle.rpg_effect.specs.Ends.{GoesOn, Halt, end_of}
 use Rattle.rpg_effect.specs.Forms.{form_at}
 use Rattle.rpg_effect.specs.Halts.{halt_number}
@@ -58,3 +59,6 @@ returns-clause-done g c =
     line_placed (form_at p.fields) (word_at p) p.overflow l (held_of m) (output_of c.args.output.now) d (held_of placed)
     (held_of c.blank_all.new.memory) (output_of c.put_on.new.output) c.requires.right.fault a put
     (ap (λ (x : Working). x.last) blanked) (ap (λ (x : Working). x.world) blanked)
+
+pub returns-in-Halt-clause-grows : goal.returns-in-Halt-clause-grows
+returns-in-Halt-clause-grows g c = grows_not (output_of c.args.output.now)

@@ -1,4 +1,5 @@
 use Rattle.std.proofs.Common.{subst}
+use Rattle.rpg_effect.proofs.Fronts.{grows_on}
 use Rattle.rpg_effect.specs.Ends.{end_of}
 use Rattle.rpg_effect.specs.Put.{IsDone}
 use Rattle.rpg_effect.specs.declared.line.Pass.TheVariants as passes
@@ -32,3 +33,8 @@ returns-in-Halt-clause-done g c =
     let o = output_of c.put_lines.new.output in
     let total = passage_effect p passes.OverflowTotal in
     halted total (overflow_detail_effect p) w v q o _ c.in_ok-put_lines.ensures.done c.in-Halt.halt c.in-Halt.is
+
+pub returns-clause-grows : goal.returns-clause-grows
+returns-clause-grows g c =
+    grows_on (output_of c.args.output.now) (output_of c.put_lines.new.output) (output_of c.put_overflow_details.new.output)
+    c.put_lines.ensures.grows c.put_overflow_details.ensures.grows

@@ -1,4 +1,5 @@
 use Rattle.std.proofs.Common.{ap, ◌∙◌, sym}
+use Rattle.rpg_effect.proofs.Fronts.{grows_not}
 use Rattle.rpg_effect.specs.declared.line.Pass.TheVariants as passes
 use Rattle.rpg_machine_lines.proofs.AllLines.{none_put}
 use Rattle.rpg_machine_lines.specs.Outputs.{output_of}
@@ -12,3 +13,6 @@ returns-then-not-may_ask-clause-done g c =
     let found = c.args.plan.now.passages in
     none_put p passes.Total found c.requires.plan.passages (held_of c.args.memory.now) (output_of c.args.output.now)
     (ap (λ s. may_ask s (listed_at found passes.Total)) (sym c.on.ensures) ∙ sym c.may_ask.ensures ∙ c.if-not-may_ask.true)
+
+pub returns-then-not-may_ask-clause-grows : goal.returns-then-not-may_ask-clause-grows
+returns-then-not-may_ask-clause-grows g c = grows_not (output_of c.args.output.now)

@@ -1,4 +1,5 @@
 use Rattle.std.proofs.Common.{◌≡◌, ◌<◌, ◌≤◌, false, None, refl, sym, ap, ◌∙◌, arith, length, get_or, subst}
+use Rattle.rpg_effect.proofs.Fronts.{grows_not, grows_on}
 use Rattle.rpg_effect.specs.Ends.{GoesOn, Halt, end_of}
 use Rattle.rpg_effect.specs.Halts.{halt_number}
 use Rattle.rpg_effect.specs.Put.{IsDone}
@@ -20,6 +21,14 @@ use Rattle.rpg_machine_lines.proofs.passage.put_lines.Goals as goal
 -- stands where nothing is listed
 abbrev none : PassLine
 none = record { number = 0; needed = None; is_enough = false }
+
+pub lines-init : goal.lines-init
+lines-init g c = record {
+  near = c.requires.near;
+  program = refl;
+  grows = grows_not (output_of c.args.output.now);
+  onward = λ e v o h. h;
+}
 
 pub lines-preserved-then-not-may_be_asked : goal.lines-preserved-then-not-may_be_asked
 lines-preserved-then-not-may_be_asked g c =
@@ -43,6 +52,7 @@ lines-preserved-then-not-may_be_asked g c =
     record {
       near = c.lines.invariant.near;
       program = c.lines.invariant.program;
+      grows = c.lines.invariant.grows;
       onward = λ e u t h.
           c.lines.invariant.onward e u t (rest_next p pass (pass_lines p pass) l i low is w w u q q t answers.GoesOn e refl (without_needed p pass l w q fails) h);
     }
@@ -77,6 +87,7 @@ lines-preserved-then-not-is_asked_then g c =
     record {
       near = c.lines.invariant.near;
       program = c.lines.invariant.program;
+      grows = c.lines.invariant.grows;
       onward = λ e u t h.
           c.lines.invariant.onward e u t (rest_next p pass (pass_lines p pass) (line_row l) i low is w w u q q t answers.GoesOn e refl
           (unasked p pass (line_row l) w q (sym asks ∙ c.if-not-is_asked_then.true)) h);
@@ -147,6 +158,7 @@ lines-preserved g c =
     record {
       near = c.in_ok-put_asked.ensures.near;
       program = c.put_asked.ensures.program ∙ c.lines.invariant.program;
+      grows = grows_on (output_of c.args.output.now) (output_of c.lines.output) (output_of c.put_asked.new.output) c.lines.invariant.grows c.put_asked.ensures.grows;
       onward = λ e u t h.
           c.lines.invariant.onward e u t (rest_next p pass (pass_lines p pass) (line_row l) i low is w v u q o t c.in_ok-put_asked.field-0 e c.in-GoesOn.is done h);
     }
@@ -190,3 +202,11 @@ returns-clause-done g c =
     let q = output_of c.lines.output in
     all_done p pass (held_of c.args.memory.now) w (output_of c.args.output.now) q GoesOn
     (c.lines.invariant.onward GoesOn w q (rest_end p pass (pass_lines p pass) c.lines.listed-index w q high))
+
+pub returns-in_err-put_asked-clause-grows : goal.returns-in_err-put_asked-clause-grows
+returns-in_err-put_asked-clause-grows g c =
+    grows_on (output_of c.args.output.now) (output_of c.lines.output) (output_of c.put_asked.new.output) c.lines.invariant.grows c.put_asked.ensures.grows
+
+pub returns-in-Halt-clause-grows : goal.returns-in-Halt-clause-grows
+returns-in-Halt-clause-grows g c =
+    grows_on (output_of c.args.output.now) (output_of c.lines.output) (output_of c.put_asked.new.output) c.lines.invariant.grows c.put_asked.ensures.grows

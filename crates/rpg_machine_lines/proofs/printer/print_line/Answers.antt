@@ -1,8 +1,10 @@
-use Rattle.std.proofs.Common.{◌≡◌, ◌++◌, Some, refl, ap, ◌∙◌, arith}
+use Rattle.std.proofs.Common.{◌≡◌, ℕ, List, ◌++◌, Some, refl, ap, ◌∙◌, append_assoc, arith}
 use Rattle.rpg_paper.specs.Form.{way_of}
 use Rattle.rpg_text.specs.Texts.{trimmed}
+use Rattle.rpg_effect.proofs.Fronts.{grows_same}
 use Rattle.rpg_effect.proofs.Printing.{from_line, print_done}
 use Rattle.rpg_effect.specs.Lines.{after_skip, after_space}
+use Rattle.rpg_machine_lines.proofs.Growing.{grows_print}
 use Rattle.rpg_machine_lines.proofs.Trimming.{front_trimmed}
 use Rattle.rpg_machine_lines.specs.Outputs.{output_of}
 use Rattle.rpg_object_program.specs.Object.{Object}
@@ -31,4 +33,11 @@ returns g c =
           refl;
       near = omega (arith, first, c.move_form-2.ensures.few);
       program = ap (λ (m : Working). m.program) after ∙ own;
+      grows = grows_print (output_of c.args.output.now) (record { print = c.place.new.print.items; disk = c.args.output.now.disk.items }) _
+          (c.in_ok-place.ensures.bytes ∙ append_assoc c.args.output.now.print.items _ _) refl;
     }
+
+pub returns-in_err-place-clause-grows : goal.returns-in_err-place-clause-grows
+returns-in_err-place-clause-grows g c =
+    grows_same (output_of c.args.output.now) (record { print = c.place.new.print.items; disk = c.args.output.now.disk.items })
+    (ap (λ (x : List ℕ). record { print = x; disk = c.args.output.now.disk.items }) c.in_err-place.ensures.same_bytes)
