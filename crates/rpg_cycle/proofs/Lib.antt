@@ -6,6 +6,7 @@ pub mod Cycling
 pub mod Dating
 pub mod Ending
 pub mod Files
+pub mod Growing
 pub mod InTurn
 pub mod JobCycles
 pub mod Machining

@@ -5,6 +5,7 @@ ghost use Rattle.rpg_cycle.specs.Doing.{CycleEnds, CycleGoesOn, IsSeen};
 ghost use Rattle.rpg_cycle.specs.Selecting.{RenewsLeft};
 ghost use Rattle.rpg_cycle.specs.Stages.{IfStops, UnlessNoMemory, job_end};
 ghost use Rattle.rpg_cycle_records.specs.Holding.{AreFilesKept};
+ghost use Rattle.rpg_effect.specs.Fronts.{OnlyGrows};
 ghost use Rattle.rpg_machine.specs.Ready.{IsReady};
 ghost use Rattle.rpg_verify.specs.Bound.{bound};
 
@@ -40,6 +41,7 @@ pub(crate) fn run_cycle<S: Store + Drop>(
     ensures there { IfOk result (λ t. ForSome t (λ t. t < length machine.old.program.types)) }
     ensures left { IfOk result (λ t. RenewsLeft machine.old.program t kept.old kept.new) }
     ensures kept { IfOk result (λ t. AreFilesKept machine.old.program kept.new) }
+    ensures grows { OnlyGrows machine.old.output machine.new.output }
 {
     let program = machine.program();
     is_bounded(program);

@@ -100,6 +100,7 @@ impl<'a> Job<'a, FlatStore> {
 impl<'a, S: Store + Drop> Job<'a, S> {
     ghost use Rattle.std.specs.Prelude.{◌≤◌, ◌&&◌, true, false, ◌↔◌, None, IfOk, OnErr, IsOk, IsErrOf};
     ghost use Rattle.rpg_cycle.specs.Doing.{IsSeen, next_text};
+    ghost use Rattle.rpg_effect.specs.Fronts.{OnlyGrows};
     ghost use Rattle.rpg_effect.specs.declared.input.InputFile.TheVariants as files;
     ghost use Rattle.rpg_cycle.specs.Job as of;
     ghost use Rattle.rpg_cycle.specs.Phases.{takes_records};
@@ -184,11 +185,13 @@ impl<'a, S: Store + Drop> Job<'a, S> {
         ensures over { is_going self.old.stage ≡ false → IsOk result × (self.new ≡ self.old) }
         ensures failed { OnErr result (self.new.stage ≡ Failed) }
         ensures bound { of.KeepsBound self.new }
+        ensures grows { OnlyGrows self.old.output self.new.output }
     {
         self.cycle_with_seen(primary, secondary, NOTHING_SEEN)
     }
 
     /// The same with records of which it was seen that they have characters alone: their bytes aren't tested again.
+    #[tactic(auto, using(rpg_effect::proofs::Fronts::grows_not))]
     pub fn cycle_with_seen(
         &mut self,
         primary: Option<&[u8]>,
@@ -202,6 +205,7 @@ impl<'a, S: Store + Drop> Job<'a, S> {
         ensures over { is_going self.old.stage ≡ false → IsOk result × (self.new ≡ self.old) }
         ensures failed { OnErr result (self.new.stage ≡ Failed) }
         ensures bound { of.KeepsBound self.new }
+        ensures grows { OnlyGrows self.old.output self.new.output }
     {
         match self.progress {
             Progress::Going => {
@@ -228,6 +232,7 @@ impl<'a, S: Store + Drop> Job<'a, S> {
         ensures ran { IfOk result (λ g. stage_of g ≡ Failed → ⊥) }
         ensures failed { OnErr result (self.new.stage ≡ Failed) }
         ensures bound { IfOk result (λ _. self.new.config.steps ≤ bound self.new.program) }
+        ensures grows { OnlyGrows self.old.output self.new.output }
     {
         self.progress = Progress::Failed;
         let (machine, kept) = (&mut self.machine, &mut self.kept);

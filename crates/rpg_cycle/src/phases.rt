@@ -12,6 +12,7 @@ ghost use Rattle.rpg_cycle.specs.Phases as spec;
 ghost use Rattle.rpg_cycle.specs.Spending.{Spends, section_cost, fields_weight, reach, full_page_weight, totals_weight};
 ghost use Rattle.rpg_cycle.specs.Stages.{IfStops, UnlessNoMemory, job_end};
 ghost use Rattle.rpg_effect.specs.Ends as effects;
+ghost use Rattle.rpg_effect.specs.Fronts.{OnlyGrows};
 ghost use Rattle.rpg_machine.specs.Outputs.{output_weight};
 ghost use Rattle.rpg_machine.specs.declared.time.OutputTime.TheVariants as times;
 ghost use Rattle.rpg_object_program.specs.Kept.{IsIndicator};
@@ -54,6 +55,7 @@ fn put_out<S: Store + Drop>(machine: &mut Machine<S>, time: OutputTime) -> Resul
     ensures stops { IfStops result (λ e. DoesAlone (spec.output machine.old.program time) machine.old (job_end e) machine.new) }
     ensures ready { IfOk result (λ _. IsReady machine.new) }
     ensures spends { UnlessNoMemory result (Spends machine.old.program (output_weight machine.old.program time) machine.old machine.new) }
+    ensures grows { OnlyGrows machine.old.output machine.new.output }
 {
     let end = machine.output(time)?;
     go_on(end)
@@ -68,6 +70,7 @@ fn calculate<S: Store + Drop>(machine: &mut Machine<S>, section: Section) -> Res
     ensures stops { IfStops result (λ e. DoesAlone (spec.section machine.old.program section) machine.old (job_end e) machine.new) }
     ensures ready { IfOk result (λ _. IsReady machine.new) }
     ensures spends { UnlessNoMemory result (Spends machine.old.program (section_cost machine.old.program section) machine.old machine.new) }
+    ensures grows { OnlyGrows machine.old.output machine.new.output }
 {
     let end = machine.section(section)?;
     go_on(end)
@@ -81,6 +84,7 @@ pub(crate) fn put_out_details<S: Store + Drop>(machine: &mut Machine<S>) -> Resu
     ensures stops { IfStops result (λ e. DoesOwn spec.detail_lines machine.old (job_end e) machine.new) }
     ensures ready { IfOk result (λ _. IsReady machine.new) }
     ensures spends { UnlessNoMemory result (Spends machine.old.program (output_weight machine.old.program times.Detail) machine.old machine.new) }
+    ensures grows { OnlyGrows machine.old.output machine.new.output }
 {
     put_out(machine, OutputTime::Detail)
 }
@@ -155,6 +159,7 @@ fn do_totals<S: Store + Drop>(machine: &mut Machine<S>) -> Result<(), Stop>
     ensures stops { IfStops result (λ e. DoesOwn spec.totals machine.old (job_end e) machine.new) }
     ensures ready { IfOk result (λ _. IsReady machine.new) }
     ensures spends { UnlessNoMemory result (Spends machine.old.program (totals_weight machine.old.program) machine.old machine.new) }
+    ensures grows { OnlyGrows machine.old.output machine.new.output }
 {
     is_bounded(machine.program());
     calculate(machine, Section::Total)?;
@@ -173,6 +178,7 @@ pub(crate) fn take_total_time<S: Store + Drop>(
     ensures stops { IfStops result (λ e. DoesAlone (spec.total_time_by machine.old.program has_any has_control) machine.old (job_end e) machine.new) }
     ensures ready { IfOk result (λ _. IsReady machine.new) }
     ensures spends { UnlessNoMemory result (Spends machine.old.program (totals_weight machine.old.program) machine.old machine.new) }
+    ensures grows { OnlyGrows machine.old.output machine.new.output }
 {
     if is_bypassed(machine, has_any, has_control) {
         return Ok(());
@@ -214,6 +220,7 @@ pub(crate) fn put_out_overflow<S: Store + Drop>(machine: &mut Machine<S>) -> Res
     ensures stops { IfStops result (λ e. DoesOwn spec.overflow_lines machine.old (job_end e) machine.new) }
     ensures ready { IfOk result (λ _. IsReady machine.new) }
     ensures spends { UnlessNoMemory result (Spends machine.old.program (full_page_weight machine.old.program) machine.old machine.new) }
+    ensures grows { OnlyGrows machine.old.output machine.new.output }
 {
     if has_no_overflow(machine, overflow_of(machine.program())) {
         return Ok(());
@@ -267,6 +274,7 @@ pub(crate) fn fill_fields<S: Store + Drop>(
     ensures stops { IfStops result (λ e. FillsSelected kept.now selected machine.old (job_end e) machine.new) }
     ensures ready { IfOk result (λ _. IsReady machine.new) }
     ensures spends { UnlessNoMemory result (Spends machine.old.program (fields_weight machine.old.program selected) machine.old machine.new) }
+    ensures grows { OnlyGrows machine.old.output machine.new.output }
 {
     match selected {
         None => Ok(()),
@@ -286,6 +294,7 @@ pub(crate) fn calculate_details<S: Store + Drop>(machine: &mut Machine<S>) -> Re
     ensures stops { IfStops result (λ e. DoesOwn spec.detail_calculations machine.old (job_end e) machine.new) }
     ensures ready { IfOk result (λ _. IsReady machine.new) }
     ensures spends { UnlessNoMemory result (Spends machine.old.program (section_cost machine.old.program sections.Detail) machine.old machine.new) }
+    ensures grows { OnlyGrows machine.old.output machine.new.output }
 {
     calculate(machine, Section::Detail)
 }

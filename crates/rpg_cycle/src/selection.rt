@@ -51,6 +51,7 @@ fn take_type<S: Store + Drop>(
     ensures goes { IfOk result (λ t. TakesType program.now file text.now machine.old t machine.new) }
     ensures stops { IfStops result (λ e. IsUntaken program.now file text.now machine.old e machine.new) }
     ensures ready { IfOk result (λ _. IsReady machine.old → IsReady machine.new) }
+    ensures output { machine.new.output ≡ machine.old.output }
 {
     let found = identify(program, file, text);
     machine.charge(found.codes);
@@ -92,6 +93,7 @@ fn read<S: Store + Drop>(
     ensures takes { UnlessNoMemory result (SpendsTakingIn program.now file machine.old machine.new) }
     ensures few { IfOk result (λ _. machine.new.config.steps ≤ machine.old.config.steps + 20009) }
     ensures kept { IfOk result (λ _. IsFileKept program.now file kept.new) }
+    ensures output { machine.new.output ≡ machine.old.output }
 {
     if !can_take(program, file, text, is_seen) {
         return Err(Stop::Ends(JobEnd::Halt(Halt::BadRecord)));
@@ -126,6 +128,7 @@ fn take_in<S: Store + Drop>(
     ensures takes { UnlessNoMemory result (SpendsTakingIn program.now file machine.old machine.new) }
     ensures few { IfOk result (λ _. machine.new.config.steps ≤ machine.old.config.steps + 20009) }
     ensures kept { IfOk result (λ _. IsFileKept program.now file kept.new) }
+    ensures output { machine.new.output ≡ machine.old.output }
 {
     if !kept.takes_in(program, file) {
         return Ok(());
@@ -152,6 +155,7 @@ fn compare_levels<S: Store + Drop>(
     requires whole { IsFilledAs program.now row text.now }
     ensures compared { OnOk result (ComparesLevels program.now row text.now levels.old machine.old levels.new machine.new) }
     ensures ready { OnOk result (IsReady machine.old → IsReady machine.new) }
+    ensures output { machine.new.output ≡ machine.old.output }
 {
     turn_type_on(machine, indicator_of(program, row));
     let fields = control_fields(program, row);
@@ -180,6 +184,7 @@ fn select_waiting<S: Store + Drop>(
     ensures ready { IfOk result (λ _. IsReady machine.old → IsReady machine.new) }
     ensures spends { IfOk result (λ t. Spends program.now (compared_weight program.now t) machine.old machine.new) }
     ensures left { IfOk result (λ t. RenewsSeen program.now t kept.new.record.items levels.old values.old levels.new values.new) }
+    ensures output { machine.new.output ≡ machine.old.output }
 {
     let Some(row) = kept.waiting else {
         return Ok(None);
@@ -207,6 +212,7 @@ fn select_one<S: Store + Drop>(
     ensures held { IfOk result (λ t. HoldsSelected program.now kept.new t) }
     ensures kept { IfOk result (λ t. AreFilesKept program.now kept.new) }
     ensures left { IfOk result (λ t. RenewsLeft program.now t kept.old kept.new) }
+    ensures output { machine.new.output ≡ machine.old.output }
 {
     match chosen(program, &kept.primary, &kept.secondary) {
         None => {
@@ -250,6 +256,7 @@ pub(crate) fn select_record<S: Store + Drop>(
     ensures held { IfOk result (λ t. HoldsSelected program.now kept.new t) }
     ensures kept { IfOk result (λ t. AreFilesKept program.now kept.new) }
     ensures left { IfOk result (λ t. RenewsLeft program.now t kept.old kept.new) }
+    ensures output { machine.new.output ≡ machine.old.output }
 {
     if machine.indicator(LAST_RECORD) {
         turn_all(machine, &LEVELS, true);

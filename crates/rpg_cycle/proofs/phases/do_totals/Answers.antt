@@ -4,6 +4,7 @@ use Rattle.rpg_cycle.specs.Phases.{output}
 use Rattle.rpg_machine.specs.Outputs.{output_weight}
 use Rattle.rpg_machine.specs.declared.time.OutputTime.TheVariants as times
 use Rattle.rpg_object_program.specs.Object.{Object}
+use Rattle.rpg_cycle.proofs.Growing.{and_grows}
 use Rattle.rpg_cycle.proofs.phases.do_totals.Goals as goal
 
 pub returns-in_err-calculate-clause-stops : goal.returns-in_err-calculate-clause-stops
@@ -21,3 +22,6 @@ returns-clause-spends g c =
     memory_map c.put_out.result _ _
     (λ h. and_then c.in_ok-calculate.ensures.spends (of_same (λ (q : Object). output_weight q times.Total) (same_program c.in_ok-calculate.ensures.goes) h))
     c.put_out.ensures.spends
+
+pub returns-clause-grows : goal.returns-clause-grows
+returns-clause-grows g c = and_grows c.in_ok-calculate.ensures.grows c.put_out.ensures.grows

@@ -11,6 +11,8 @@ use Rattle.rpg_cycle.specs.Stages.{job_end}
 use Rattle.rpg_effect.specs.Ends as effects
 use Rattle.rpg_object_program.specs.Object.{Object}
 use Rattle.rpg_effect.specs.declared.outcome.End as answers
+use Rattle.rpg_cycle.proofs.Growing.{did_grow}
+use Rattle.rpg_effect.proofs.Fronts.{grows_not}
 use Rattle.rpg_cycle.proofs.phases.fill_fields.Goals as goal
 
 pub returns-in-None-clause-goes : goal.returns-in-None-clause-goes
@@ -46,3 +48,9 @@ returns-in-Some-clause-spends g c =
 pub text-text-requires : goal.text-text-requires
 text-text-requires g c =
     subst (λ (q : Object). c.in-Some.row < length q.types) (sym c.program.ensures) (c.requires.held c.in-Some.row c.in-Some.is).there
+
+pub returns-in-None-clause-grows : goal.returns-in-None-clause-grows
+returns-in-None-clause-grows g c = grows_not c.args.machine.now.output
+
+pub returns-in-Some-clause-grows : goal.returns-in-Some-clause-grows
+returns-in-Some-clause-grows g c = did_grow c.fill_fields-end.ensures.done

@@ -1,6 +1,7 @@
 use Rattle.std.proofs.Common.{sym, ◌∙◌}
 use Rattle.rpg_cycle.proofs.Composing.{ok_map, stops_map, left_out, not_left_out}
 use Rattle.rpg_cycle.specs.Phases as spec
+use Rattle.rpg_effect.proofs.Fronts.{grows_not}
 use Rattle.rpg_cycle.proofs.phases.take_total_time.Goals as goal
 
 pub returns-then-is_bypassed-clause-goes : goal.returns-then-is_bypassed-clause-goes
@@ -20,3 +21,6 @@ returns-clause-stops g c =
     (λ e h. not_left_out (spec.is_bypassed c.args.machine.now.program c.args.has_any c.args.has_control) _ c.args.machine.now c.do_totals.new.machine _
     (λ previous. sym c.is_bypassed.ensures ∙ c.if-is_bypassed.false) h)
     c.do_totals.ensures.stops
+
+pub returns-then-is_bypassed-clause-grows : goal.returns-then-is_bypassed-clause-grows
+returns-then-is_bypassed-clause-grows g c = grows_not c.args.machine.now.output

@@ -11,6 +11,8 @@ use Rattle.rpg_cycle.specs.Selecting.{RenewsLeft}
 use Rattle.rpg_cycle.specs.Stages.{Going, Ended, is_going, job_end, stage_of}
 use Rattle.rpg_object_program.specs.Object.{Object}
 use Rattle.rpg_verify.specs.Bound.{bound}
+use Rattle.rpg_cycle.proofs.Growing.{and_grows}
+use Rattle.rpg_effect.specs.Fronts.{OnlyGrows}
 use Rattle.rpg_cycle.proofs.jobs.Job.cycle_on.Goals as goal
 
 pub returns-in-Ok-clause-done : goal.returns-in-Ok-clause-done
@@ -56,7 +58,7 @@ returns-in_ok-finish-in-Err-Ends-clause-done g c =
       does = λ previous l. (
         job_end e,
         ends p behind.earlier previous x y i.machine c.run_cycle.new.machine c.finish.new.self (left_of i.kept) (left_of kept) (inputs_of i.kept) (inputs_of kept) (stage_of i.progress) d.0 e
-            same behind.leave behind.orderly l d.1 c.in_ok-finish-in-Err-Ends.ensures,
+            same behind.leave behind.orderly l d.1 c.in_ok-finish-in-Err-Ends.ensures.finished,
       );
     })
 
@@ -90,3 +92,19 @@ pub run_cycle-requires-clause-kept : goal.run_cycle-requires-clause-kept
 run_cycle-requires-clause-kept g c =
     let going = ap (λ (r : of.AtWork). is_going r.stage) c.self.view_is ∙ c.requires.going in
     subst (λ (o : Object). AreFilesKept o c.self.inside.kept) (sym (c.self.invariant.program going)) (c.self.invariant.files going)
+
+pub returns-in-Ok-clause-grows : goal.returns-in-Ok-clause-grows
+returns-in-Ok-clause-grows g c =
+    subst (λ (old : of.AtWork). OnlyGrows old.output c.run_cycle.new.machine.output) c.self.view_is c.in-Ok.ensures.grows
+
+pub returns-in_ok-finish-in-Err-Ends-clause-grows : goal.returns-in_ok-finish-in-Err-Ends-clause-grows
+returns-in_ok-finish-in-Err-Ends-clause-grows g c =
+    subst (λ (old : of.AtWork). OnlyGrows old.output c.finish.new.self.output) c.self.view_is (and_grows c.in-Err-Ends.ensures.grows c.in_ok-finish-in-Err-Ends.ensures.grows)
+
+pub returns-in_err-finish-in-Err-Ends-clause-grows : goal.returns-in_err-finish-in-Err-Ends-clause-grows
+returns-in_err-finish-in-Err-Ends-clause-grows g c =
+    subst (λ (old : of.AtWork). OnlyGrows old.output c.finish.new.self.output) c.self.view_is (and_grows c.in-Err-Ends.ensures.grows c.in_err-finish-in-Err-Ends.ensures.grows)
+
+pub returns-in-Err-NoMemory-clause-grows : goal.returns-in-Err-NoMemory-clause-grows
+returns-in-Err-NoMemory-clause-grows g c =
+    subst (λ (old : of.AtWork). OnlyGrows old.output c.run_cycle.new.machine.output) c.self.view_is c.in-Err-NoMemory.ensures.grows
