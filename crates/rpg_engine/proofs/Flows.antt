@@ -51,11 +51,11 @@ module _ (first job : AtWork) (given others : Option (List ℕ)) (a b : Source) 
   module _ (mid : AtWork) (a' b' : Source) (e : PhaseEnd) (t : TakesNext f.streams.earlier (last_position f.streams.out.lines) job a b e mid a' b') where
     pub printed_behind : IsSent print print' mid.output.print gone_print (paper f.streams.out.lines ++ (put_by e f.streams.out t.does.out).print)
     printed_behind = put_more print print' job.output.print gone_print (paper f.streams.out.lines) f.printed mid.output.print _
-    (output_is job mid f.streams.earlier f.streams.out t.x t.y e t.does).0
+        (output_is job mid f.streams.earlier f.streams.out t.x t.y e t.does).0
 
     pub stored_behind : IsSent disk disk' mid.output.disk gone_disk (disk_bytes f.streams.out.records ++ (put_by e f.streams.out t.does.out).disk)
     stored_behind = put_more disk disk' job.output.disk gone_disk (disk_bytes f.streams.out.records) f.stored mid.output.disk _
-    (output_is job mid f.streams.earlier f.streams.out t.x t.y e t.does).1
+        (output_is job mid f.streams.earlier f.streams.out t.x t.y e t.does).1
 
     pub flow_goes_on : (greater : ℕ) → e ≡ GoesOn → greater ≡ max most mid.config.steps → Flows first given others mid a' b' (cycles + 1) greater print print' disk disk' gone_print gone_disk
     flow_goes_on greater on most_is =

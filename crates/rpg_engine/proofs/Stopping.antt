@@ -157,11 +157,11 @@ runs_from : (first : AtWork) (day : ℤ) (primary secondary : List ℕ) (course 
 runs_from first day primary secondary course bytes is run = subst (λ (c : Config). Runs first.program [] (records_of primary secondary) c unread course) (sym (start_is first day is)) run.runs
 
 -- the job needed a record of a file, and each writer has all that was put out
-pub record ReadFails (job : AtWork) (printed stored : List ℕ) (print print' disk disk' : Option (List ℕ)) : Type 0 where
+pub record ReadFails (job : AtWork) (lines records : List ℕ) (print print' disk disk' : Option (List ℕ)) : Type 0 where
   pub file : InputFile
   pub needed : job_needs_record job file ≡ true
-  pub printed : Appends print print' printed
-  pub stored : Appends disk disk' stored
+  pub printed : Appends print print' lines
+  pub stored : Appends disk disk' records
 
 -- of each run's bytes that begin with these, a fault leaves such parts
 abbrev pub LeavesParts : RunFault → (lines records : List ℕ) → (print print' disk disk' : Option (List ℕ)) → Type 0

@@ -244,4 +244,4 @@ module _ (job mid : AtWork) (same : mid ≡ record job { output = mid.output }) 
   other_limit_of_taken is = is ∙ sym (ap (λ (j : AtWork). j.program.secondary_length) same)
 
   pub still_behind : {R : Type 0} (f : InputFile) (reader : RecordReader R) → IsBehindRecord job f reader → IsBehindRecord mid f reader
-  still_behind f reader behind = λ open. behind (sym (ap (λ (j : AtWork). (input_at j.inputs f).is_over) same) ∙ open)
+  still_behind f reader behind = λ not_over. behind (sym (ap (λ (j : AtWork). (input_at j.inputs f).is_over) same) ∙ not_over)

@@ -183,7 +183,7 @@ cycles-preserved g c =
     let few = stays_bounded c.args.job.now job mid _ _ a b a' b' c.cycles.cycles c.cycles.most took.0 s took.1 c.cycles.invariant.bounded c.in-Ok.ensures.bound in
     let behind = both_behind g.R1.Read.remaining g.R2.Read.remaining job mid c.cycles.primary c.next_cycle.new.primary c.cycles.secondary c.next_cycle.new.secondary
     (same_going c.cycles.job job sends.rest c.cycles.invariant.going) takes s.earlier s.left s.orderly (last_position s.out.lines) s.last stage
-    (still_behind c.cycles.job job sends.rest files.Primary _ c.cycles.invariant.behind_primary) (still_behind c.cycles.job job sends.rest files.Secondary _ c.cycles.invariant.behind_secondary) in
+    (still_behind c.cycles.job job sends.rest files.Primary c.cycles.primary c.cycles.invariant.behind_primary) (still_behind c.cycles.job job sends.rest files.Secondary c.cycles.secondary c.cycles.invariant.behind_secondary) in
     let all = c.in_ok-send_where_enough.ensures in
     let next = c.send_where_enough.new.job in
     let on = flow_goes_on c.args.job.now job _ _ a b c.cycles.cycles c.cycles.most _ _ _ _ _ _ f mid a' b' took.0 took.1 c.max-most.result (went took.0 (sym took.1.does.stage ∙ stage)) most in
@@ -192,8 +192,8 @@ cycles-preserved g c =
     record {
       flows = later;
       going = same_going mid next all.rest (ap is_going stage);
-      behind_primary = still_behind mid next all.rest files.Primary _ behind.0;
-      behind_secondary = still_behind mid next all.rest files.Secondary _ behind.1;
+      behind_primary = still_behind mid next all.rest files.Primary c.next_cycle.new.primary behind.0;
+      behind_secondary = still_behind mid next all.rest files.Secondary c.next_cycle.new.secondary behind.1;
       limit_primary = limit_stays g.R1.Read.remaining _ _ c.cycles.primary c.next_cycle.new.primary takes.asks_primary ∙ limit_of_taken c.cycles.job job sends.rest c.cycles.invariant.limit_primary ∙ sym (ap (λ (p : Object). p.record_length) taken);
       limit_secondary = limit_stays g.R2.Read.remaining _ _ c.cycles.secondary c.next_cycle.new.secondary takes.asks_secondary ∙ other_limit_of_taken c.cycles.job job sends.rest c.cycles.invariant.limit_secondary ∙ sym (ap (λ (p : Object). p.secondary_length) taken);
       same_primary = c.in-Ok.ensures.same_primary ∙ c.cycles.invariant.same_primary;
