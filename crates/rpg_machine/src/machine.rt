@@ -129,6 +129,7 @@ impl<'a, S: Store + Drop> Machine<'a, S> {
     }
 
     /// Runs detail or total calculations from their first place.
+    #[inline(always)]
     pub fn section(&mut self, section: Section) -> Result<End, AllocError>
         requires ready { IsReady self.old }
         requires section { has_end section ≡ true }
