@@ -10,6 +10,7 @@ pub mod Firsts
 pub mod FixedSteps
 pub mod FoundThere
 pub mod Going
+pub mod Growing
 pub mod Keeping
 pub mod KeepingLines
 pub mod Leading
