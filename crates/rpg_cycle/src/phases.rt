@@ -62,6 +62,7 @@ fn put_out<S: Store + Drop>(machine: &mut Machine<S>, time: OutputTime) -> Resul
 }
 
 /// A section of calculations.
+#[inline(always)]
 fn calculate<S: Store + Drop>(machine: &mut Machine<S>, section: Section) -> Result<(), Stop>
     requires section { has_end section ≡ true }
     requires ready { IsReady machine.old }
@@ -287,6 +288,7 @@ pub(crate) fn fill_fields<S: Store + Drop>(
 }
 
 /// 9. Detail calculations.
+#[inline(always)]
 pub(crate) fn calculate_details<S: Store + Drop>(machine: &mut Machine<S>) -> Result<(), Stop>
     requires ready { IsReady machine.old }
     requires few { machine.old.config.steps ≤ 2 ^ 60 }

@@ -8,7 +8,9 @@ pub mod FindingSteps
 pub mod FirstEntries
 pub mod Firsts
 pub mod FixedSteps
+pub mod FoundThere
 pub mod Going
+pub mod Growing
 pub mod Keeping
 pub mod KeepingLines
 pub mod Leading
@@ -18,6 +20,7 @@ pub mod OnPaper
 pub mod OneRun
 pub mod Orderly
 pub mod Paying
+pub mod Ran
 pub mod Ranges
 pub mod Readiness
 pub mod Records
@@ -27,5 +30,4 @@ pub mod Standing
 pub mod Starting
 pub mod Staying
 pub mod Steps
-pub mod StepsAt
 pub mod Work

@@ -11,6 +11,7 @@ pub mod Inputs
 pub mod Laws
 pub mod Outputs
 pub mod Potential
+pub mod Ran
 pub mod Ready
 pub mod Run
 pub mod Running

@@ -5,6 +5,7 @@ mod accepted;
 mod cells;
 pub mod control;
 mod fixed_inputs;
+mod found_run;
 mod found_steps;
 mod inputs;
 pub mod laws;

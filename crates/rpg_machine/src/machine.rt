@@ -90,6 +90,7 @@ impl<'a, S: Store + Drop> Machine<'a, S> {
     ghost use Rattle.std.specs.Prelude.{◌≡◌, ◌<◌, ◌≤◌, ◌^◌, All, length, true, IfOk, OnOk};
     ghost use Rattle.std.specs.FinSet as set;
     ghost use Rattle.rpg_effect.specs.Ends.{end_of};
+    ghost use Rattle.rpg_effect.specs.Fronts.{OnlyGrows};
     ghost use Rattle.rpg_machine.specs.Config.{here};
     ghost use Rattle.rpg_machine.specs.Outputs.{FillsFields, PutsOut, length_at};
     ghost use Rattle.rpg_machine.specs.Potential.{PaysForSection};
@@ -129,6 +130,7 @@ impl<'a, S: Store + Drop> Machine<'a, S> {
     }
 
     /// Runs detail or total calculations from their first place.
+    #[inline(always)]
     pub fn section(&mut self, section: Section) -> Result<End, AllocError>
         requires ready { IsReady self.old }
         requires section { has_end section ≡ true }
@@ -136,6 +138,7 @@ impl<'a, S: Store + Drop> Machine<'a, S> {
         ensures done { IfOk result (λ e. Did (RunsTo self.old.program section) self.old (end_of e) self.new) }
         ensures ready { IfOk result (λ e. e ≡ End.GoesOn → IsReady self.new) }
         ensures bound { OnOk result (PaysForSection section self.old self.new) }
+        ensures grows { OnlyGrows self.old.output self.new.output }
     {
         self.program.is_orderly();
         let end = run_section(&self.program, &mut self.state, section)?;
@@ -148,6 +151,7 @@ impl<'a, S: Store + Drop> Machine<'a, S> {
         requires steps { self.old.config.steps < 2 ^ 63 }
         ensures done { IfOk result (λ e. Did (PutsOut self.old.program time) self.old (end_of e) self.new) }
         ensures ready { IfOk result (λ e. e ≡ End.GoesOn → IsReady self.new) }
+        ensures grows { OnlyGrows self.old.output self.new.output }
     {
         self.program.is_orderly();
         let weight = self.program.weight_of(time);
@@ -230,7 +234,8 @@ impl<'a, S: Store + Drop> Machine<'a, S> {
 
     /// Ends the last line on the printer.
     pub fn finish(&mut self) -> Result<(), AllocError>
-        ensures { OnOk result (self.new ≡ of.finished self.old) }
+        ensures finished { OnOk result (self.new ≡ of.finished self.old) }
+        ensures grows { OnlyGrows self.old.output self.new.output }
     {
         if self.state.memory.last().is_some() {
             self.state.writer.output.print.push(b'\n')?;

@@ -1,9 +1,10 @@
 //! The outputs of a cycle.
 ghost use Rattle.std.specs.Prelude.{◌≡◌, length, IfOk, OnOk};
 ghost use Rattle.rpg_effect.specs.Ends.{end_of};
+ghost use Rattle.rpg_effect.specs.Fronts.{OnlyGrows};
 ghost use Rattle.rpg_machine.specs.Outputs as spec;
 ghost use Rattle.rpg_machine.specs.Outputs.{output_weight};
-ghost use Rattle.rpg_machine_lines.specs.Outputs.{PutsOwn};
+ghost use Rattle.rpg_machine_lines.specs.Outputs.{PutsOwn, output_of};
 ghost use Rattle.rpg_machine_lines.specs.Plans.{IsPlanOf};
 ghost use Rattle.rpg_machine_lines.specs.Ready.{IsNear};
 ghost use Rattle.rpg_machine_lines.specs.Right.{AreRightLines, HasLineRoom};
@@ -17,6 +18,7 @@ use rpg_store::store::Store;
 use std::alloc::AllocError;
 
 /// Puts out the lines of a time, which weigh so much. Where no line is a T line, total time costs nothing.
+#[tactic(auto, using(rpg_effect::proofs::Fronts::grows_not))]
 pub(crate) fn put_out<S: Store + Drop>(
     memory: &mut Memory<'_, S>,
     writer: &mut Writer,
@@ -33,6 +35,7 @@ pub(crate) fn put_out<S: Store + Drop>(
     ensures near { OnOk result (IsNear memory.new.world.here) }
     ensures own { memory.new.program ≡ memory.old.program }
     ensures room { length writer.new.text.items ≡ length writer.old.text.items }
+    ensures grows { OnlyGrows (output_of writer.old.output) (output_of writer.new.output) }
 {
     let output = &mut writer.output;
     let text = &mut writer.text;
