@@ -163,6 +163,7 @@ impl<'a, S: Store + Drop> Machine<'a, S> {
     }
 
     /// Fills the fields of a record type, the first of which is 0, from a record that has all columns of its file's records.
+    #[inline(always)]
     pub fn fill_fields(&mut self, row: usize, text: &[u8]) -> End
         requires ready { IsReady self.old }
         requires steps { self.old.config.steps < 2 ^ 63 }
