@@ -1,5 +1,5 @@
 -- Outputs that only grow.
-use Rattle.std.proofs.Common.{◌≡◌, ℕ, List, [], ◌++◌, Option, refl, sym, ap, ◌∙◌, append_assoc, append-nil}
+use Rattle.std.proofs.Common.{◌≡◌, ℕ, List, [], ◌++◌, Option, sym, ap, ◌∙◌, append_assoc, append-nil}
 use Rattle.rpg_effect.specs.Fronts.{OnlyGrows}
 use Rattle.rpg_effect.specs.Put.{Bytes, disk_bytes, with_output}
 use Rattle.rpg_paper.specs.Paper.{Placed, Position, bytes_from}
