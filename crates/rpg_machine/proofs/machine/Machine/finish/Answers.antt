@@ -1,4 +1,4 @@
-use Rattle.std.proofs.Common.{List, [], ◌∷◌, ap, sym, ◌∙◌, subst, refl, append-nil}
+use Rattle.std.proofs.Common.{[], ◌∷◌, ap, sym, ◌∙◌, subst, refl, append-nil}
 use Rattle.rpg_effect.proofs.Fronts.{grows_not}
 use Rattle.rpg_effect.specs.Fronts.{OnlyGrows}
 use Rattle.rpg_effect.specs.Put.{Bytes}
