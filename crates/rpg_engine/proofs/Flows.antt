@@ -1,5 +1,5 @@
 -- A run under way, with what its writers have had of its output and what waits at the job.
-use Rattle.std.proofs.Common.{◌≡◌, ℕ, ◌+◌, List, [], ◌++◌, max, false, Option, None, sym, ap, ◌∙◌, subst}
+use Rattle.std.proofs.Common.{◌≡◌, ℕ, ◌+◌, List, [], ◌++◌, max, false, Option, None, sym, ap, subst}
 use Rattle.rpg_cycle.specs.Ends.{PhaseEnd, GoesOn}
 use Rattle.rpg_cycle.specs.Job.{AtWork}
 use Rattle.rpg_cycle_records.specs.Earlier.{left_by}

@@ -1,5 +1,5 @@
 -- A run that is reported, and one that stops early.
-use Rattle.std.proofs.Common.{◌≡◌, ℕ, ℤ, ◌⊎◌, ◌+◌, ◌<◌, ◌≤◌, ◌&&◌, ◌==◌, max, Bool, true, false, List, [], ◌∷◌, ◌++◌, length, Option, Some, None, Err, refl, sym, ap, ◌∙◌, subst, append_assoc, append-nil, arith, inl, inr}
+use Rattle.std.proofs.Common.{◌≡◌, ℕ, ℤ, ◌⊎◌, ◌+◌, ◌<◌, ◌≤◌, ◌&&◌, ◌==◌, max, Bool, true, false, List, [], ◌∷◌, ◌++◌, length, Option, Some, None, Err, refl, sym, ap, ◌∙◌, subst, append_assoc, arith, inl, inr}
 use Rattle.std.proofs.lemmas.Bool.{cases_Bool}
 use Rattle.std.specs.Io.KnownBytes.{Appends}
 use Rattle.rpg_cycle.specs.Ends.{PhaseEnd}
@@ -21,7 +21,7 @@ use Rattle.rpg_files.specs.Records.{begins_with_line_feed, max_records, onto_fir
 use Rattle.rpg_files.specs.Sending.{AppendsFirst, AppendsPrefix}
 use Rattle.rpg_files.specs.declared.reader.ReadFault.TheVariants as fault
 use Rattle.rpg_files.specs.declared.reader.RecordReader.{RecordReader}
-use Rattle.rpg_machine.specs.Config.{Config, Output, with_more}
+use Rattle.rpg_machine.specs.Config.{Config, with_more}
 use Rattle.rpg_machine.specs.Run.{running_place}
 use Rattle.rpg_machine.specs.Running.{config_on, no_bytes}
 use Rattle.rpg_object_program.specs.Object.{Object}

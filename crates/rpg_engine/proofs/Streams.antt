@@ -1,5 +1,5 @@
 -- A run whose inputs are read, and whose output is sent, a cycle at a time.
-use Rattle.std.proofs.Common.{◌≡◌, ℕ, ◌+◌, ◌≤◌, max, Bool, true, false, List, [], ◌++◌, length, Option, None, refl, sym, ap, ◌∙◌, subst, append_assoc, arith, length-append}
+use Rattle.std.proofs.Common.{◌≡◌, ℕ, ◌+◌, ◌≤◌, max, Bool, true, false, List, [], ◌++◌, length, Option, None, refl, sym, ap, ◌∙◌, subst, append_assoc, arith}
 use Rattle.std.specs.Io.KnownBytes.{Consumes, IsAtEnd}
 use Rattle.std.proofs.KnownBytes.{Consumes-nil, Consumes-trans}
 use Rattle.rpg_cycle.proofs.Cycling.{at_first, keeps}
@@ -108,22 +108,25 @@ pub stream_begins : (first : AtWork) (a b : Source)
     → first.left ≡ left_by first.program [] → first.inputs ≡ unread → first.last ≡ None
     → a.input.buffered ≡ [] → a.input.ended ≡ false → a.count ≡ 0 → b.input.buffered ≡ [] → b.input.ended ≡ false → b.count ≡ 0
     → (s : Streams first a.input.remaining b.input.remaining first a b 0 0) × (s.out ≡ no_output)
-stream_begins first a b left none last front unended count front_too unended_too count_too = (record {
-  program = refl;
-  earlier = [];
-  out = no_output;
-  left = left;
-  orderly = subst (λ (i : Inputs). AreMergedInOrder first.program [] i) (sym none) (at_first first.program);
-  last = last;
-  few = let waits : waiting_count first.inputs ≡ 0 = ap waiting_count none in omega (arith, waits);
-  primary = stands a front unended count;
-  secondary = stands b front_too unended_too count_too;
-  under_way = λ more behind can can_too.
-      subst (λ (i : Inputs). IsUnderWay first.program (config_on None first.config) (records_of more behind) [] (config_on None first.config) i (records_of (a.input.buffered ++ more) (b.input.buffered ++ behind)) 0 0 no_output) (sym none)
-      (subst (λ (x : List ℕ). IsUnderWay first.program (config_on None first.config) (records_of more behind) [] (config_on None first.config) unread (records_of (x ++ more) (b.input.buffered ++ behind)) 0 0 no_output) (sym front)
-      (subst (λ (x : List ℕ). IsUnderWay first.program (config_on None first.config) (records_of more behind) [] (config_on None first.config) unread (records_of more (x ++ behind)) 0 0 no_output) (sym front_too)
-      (begins first.program (config_on None first.config) (records_of more behind))));
-}, refl)
+stream_begins first a b left none last front unended count front_too unended_too count_too = (
+  record {
+    program = refl;
+    earlier = [];
+    out = no_output;
+    left = left;
+    orderly = subst (λ (i : Inputs). AreMergedInOrder first.program [] i) (sym none) (at_first first.program);
+    last = last;
+    few = let waits : waiting_count first.inputs ≡ 0 = ap waiting_count none in omega (arith, waits);
+    primary = stands a front unended count;
+    secondary = stands b front_too unended_too count_too;
+    under_way = λ more behind can can_too.
+        subst (λ (i : Inputs). IsUnderWay first.program (config_on None first.config) (records_of more behind) [] (config_on None first.config) i (records_of (a.input.buffered ++ more) (b.input.buffered ++ behind)) 0 0 no_output) (sym none)
+        (subst (λ (x : List ℕ). IsUnderWay first.program (config_on None first.config) (records_of more behind) [] (config_on None first.config) unread (records_of (x ++ more) (b.input.buffered ++ behind)) 0 0 no_output) (sym front)
+        (subst (λ (x : List ℕ). IsUnderWay first.program (config_on None first.config) (records_of more behind) [] (config_on None first.config) unread (records_of more (x ++ behind)) 0 0 no_output) (sym front_too)
+        (begins first.program (config_on None first.config) (records_of more behind))));
+  },
+  refl,
+)
   where
     stands : (s : Source) → s.input.buffered ≡ [] → s.input.ended ≡ false → s.count ≡ 0 → Stands s.input.remaining s
     stands s none unended zero = record {
@@ -214,29 +217,31 @@ stream_goes_on first job mid given others a b a' b' cycles most greater e s t on
     subst (λ (i : Inputs). AreMergedInOrder p (with_record there.selected s.earlier) i) (sym (does.inputs on)) (keeps p s.earlier t.x t.y c job.inputs there does.out s.orderly cycle) in
     let fewer = fewer_wait p s.earlier t.x t.y c job.inputs there does.out s.orderly t.primary.needed t.secondary.needed cycle in
     let waits : waiting_count mid.inputs ≡ waiting_count there.inputs = ap waiting_count (does.inputs on) in
-    let start = config_on None first.config in
-    (record {
-      program = does.program ∙ s.program;
-      earlier = with_record there.selected s.earlier;
-      out = with_more s.out does.out;
-      left = does.left on ∙ ap (λ (p : Object). left_by p (with_record there.selected s.earlier)) (sym does.program);
-      orderly = subst (λ (q : Object). AreMergedInOrder q (with_record there.selected s.earlier) mid.inputs) (sym does.program) order;
-      last = does.last ∙ ap line_of (sym line);
-      few = omega (arith, s.few, fewer, waits, t.primary.count on, t.secondary.count on);
-      primary = record { since = more_read given a.input a'.input _ s.primary.since t.primary.input; counted = counted_on p Primary given (needs_record p c job.inputs Primary) t.x e a a' s.primary t.primary on };
-      secondary = record { since = more_read others b.input b'.input _ s.secondary.since t.secondary.input; counted = counted_on p Secondary others (needs_record p c job.inputs Secondary) t.y e b b' s.secondary t.secondary on };
-      under_way = λ more behind can can_too.
-          let rs = records_of (a.input.buffered ++ (t.primary.input.read ++ more)) (b.input.buffered ++ (t.secondary.input.read ++ behind)) in
-          let ss = records_of (a'.input.buffered ++ more) (b'.input.buffered ++ behind) in
-          let all = records_of ((s.primary.since.read ++ t.primary.input.read) ++ more) ((s.secondary.since.read ++ t.secondary.input.read) ++ behind) in
-          let one = head first job given others a b cycles most s mid a' b' e t more behind can can_too in
-          let again = under_way_still first job given others a b cycles most s mid a' b' e t more behind can can_too in
-          let going : HeadCycle first.program s.earlier c job.inputs GoesOn there does.out rs ss = subst (λ (x : PhaseEnd). HeadCycle first.program s.earlier c job.inputs x there does.out rs ss) on one in
-          let to : there.config ≡ config_on (last_position (s.out.lines ++ does.out.lines)) mid.config = does.config ∙ ap (λ previous. config_on previous mid.config) (sym line) in
-          subst (λ (i : Inputs). IsUnderWay first.program start all (with_record there.selected s.earlier) (config_on (last_position (s.out.lines ++ does.out.lines)) mid.config) i ss (cycles + 1) greater (with_more s.out does.out)) (sym (does.inputs on))
-          (subst (λ (x : Config). IsUnderWay first.program start all (with_record there.selected s.earlier) x there.inputs ss (cycles + 1) greater (with_more s.out does.out)) to
-          (one_more first.program start all s.earlier c job.inputs rs ss cycles most greater s.out there does.out again going (most_is ∙ ap (max most) (sym (steps_are job mid s.earlier s.out t.x t.y e does)))));
-    }, refl)
+    let start = config_on None first.config in (
+      record {
+        program = does.program ∙ s.program;
+        earlier = with_record there.selected s.earlier;
+        out = with_more s.out does.out;
+        left = does.left on ∙ ap (λ (p : Object). left_by p (with_record there.selected s.earlier)) (sym does.program);
+        orderly = subst (λ (q : Object). AreMergedInOrder q (with_record there.selected s.earlier) mid.inputs) (sym does.program) order;
+        last = does.last ∙ ap line_of (sym line);
+        few = omega (arith, s.few, fewer, waits, t.primary.count on, t.secondary.count on);
+        primary = record { since = more_read given a.input a'.input _ s.primary.since t.primary.input; counted = counted_on p Primary given (needs_record p c job.inputs Primary) t.x e a a' s.primary t.primary on };
+        secondary = record { since = more_read others b.input b'.input _ s.secondary.since t.secondary.input; counted = counted_on p Secondary others (needs_record p c job.inputs Secondary) t.y e b b' s.secondary t.secondary on };
+        under_way = λ more behind can can_too.
+            let rs = records_of (a.input.buffered ++ (t.primary.input.read ++ more)) (b.input.buffered ++ (t.secondary.input.read ++ behind)) in
+            let ss = records_of (a'.input.buffered ++ more) (b'.input.buffered ++ behind) in
+            let all = records_of ((s.primary.since.read ++ t.primary.input.read) ++ more) ((s.secondary.since.read ++ t.secondary.input.read) ++ behind) in
+            let one = head first job given others a b cycles most s mid a' b' e t more behind can can_too in
+            let again = under_way_still first job given others a b cycles most s mid a' b' e t more behind can can_too in
+            let going : HeadCycle first.program s.earlier c job.inputs GoesOn there does.out rs ss = subst (λ (x : PhaseEnd). HeadCycle first.program s.earlier c job.inputs x there does.out rs ss) on one in
+            let to : there.config ≡ config_on (last_position (s.out.lines ++ does.out.lines)) mid.config = does.config ∙ ap (λ previous. config_on previous mid.config) (sym line) in
+            subst (λ (i : Inputs). IsUnderWay first.program start all (with_record there.selected s.earlier) (config_on (last_position (s.out.lines ++ does.out.lines)) mid.config) i ss (cycles + 1) greater (with_more s.out does.out)) (sym (does.inputs on))
+            (subst (λ (x : Config). IsUnderWay first.program start all (with_record there.selected s.earlier) x there.inputs ss (cycles + 1) greater (with_more s.out does.out)) to
+            (one_more first.program start all s.earlier c job.inputs rs ss cycles most greater s.out there does.out again going (most_is ∙ ap (max most) (sym (steps_are job mid s.earlier s.out t.x t.y e does)))));
+      },
+      refl,
+    )
 
 -- the steps stay in the bound of the program
 pub stays_bounded : (first job mid : AtWork) (given others : Option (List ℕ)) (a b a' b' : Source) (cycles most : ℕ)
@@ -254,15 +259,18 @@ few_given r = r.few
 pub stream_sends : (first job mid : AtWork) (given others : Option (List ℕ)) (a b : Source) (cycles most : ℕ) (s : Streams first given others job a b cycles most) → mid ≡ record job { output = mid.output }
     → (k : Streams first given others mid a b cycles most) × (k.out ≡ s.out)
 stream_sends first job mid given others a b cycles most s same =
-    subst (λ (j : AtWork). (k : Streams first given others j a b cycles most) × (k.out ≡ s.out)) (sym same) (record {
-      program = s.program;
-      earlier = s.earlier;
-      out = s.out;
-      left = s.left;
-      orderly = s.orderly;
-      last = s.last;
-      few = s.few;
-      primary = s.primary;
-      secondary = s.secondary;
-      under_way = s.under_way;
-    }, refl)
+    subst (λ (j : AtWork). (k : Streams first given others j a b cycles most) × (k.out ≡ s.out)) (sym same) (
+      record {
+        program = s.program;
+        earlier = s.earlier;
+        out = s.out;
+        left = s.left;
+        orderly = s.orderly;
+        last = s.last;
+        few = s.few;
+        primary = s.primary;
+        secondary = s.secondary;
+        under_way = s.under_way;
+      },
+      refl,
+    )
