@@ -14,7 +14,8 @@ use Rattle.rpg_engine.specs.Faults.{FaultsAre, device_counts}
 use Rattle.rpg_engine.specs.Inputs.{OfInputs}
 use Rattle.rpg_engine.specs.Refusing.{IsJobOf}
 use Rattle.rpg_engine.specs.Reporting.{JobEndsWell, Reports, SendsParts}
-use Rattle.rpg_engine.specs.Streaming.{SendsSome, StopsEarly}
+use Rattle.rpg_engine.specs.Streaming.{GoesOut, SendsSome, StopsBy, StopsEarly}
+use Rattle.rpg_engine.specs.declared.fault.CycleFault.{CycleFault}
 use Rattle.rpg_engine.specs.declared.fault.RunFault.{RunFault}
 use Rattle.rpg_engine.specs.declared.report.Report.{Report}
 
@@ -60,10 +61,19 @@ module _ {R S : Type 0} (remaining : R → Option (List ℕ)) (others : S → Op
       (device_counts (reader_of primary.entry.now) (reader_of secondary.entry.now) print.entry.now disk.entry.now)
       (device_counts (reader_of primary.exit.now) (reader_of secondary.exit.now) print.exit.now disk.exit.now)
 
+-- of what waited for a writer that is lent to a call a first part went out
+abbrev pub GoesOutTo : {W : Type 0} → (W → Option (List ℕ)) → Lent W → (waiting left : List ℕ) → (sent sent' : ℕ) → Type 0
+GoesOutTo contents writer waiting left sent sent' = GoesOut (contents (device_of writer.entry.now)) (contents (device_of writer.exit.now)) waiting left sent sent'
+
 module _ {P D : Type 0} (contents : P → Option (List ℕ)) (stored : D → Option (List ℕ)) where
   -- what a part of a cycle's output did to both writers
   abbrev pub SendsSomeTo : Lent P → Lent D → ℕ → ℕ → (lines records : List ℕ) → RunFault → Type 0
   SendsSomeTo print disk printed gone lines records e = SendsSome e printed gone (contents (device_of print.entry.now)) (contents (device_of print.exit.now))
+      (stored (device_of disk.entry.now)) (stored (device_of disk.exit.now)) lines records
+
+  -- a cycle wasn't done, and these bytes waited
+  abbrev pub StopsTo : CycleFault → Lent P → Lent D → ℕ → ℕ → (lines records : List ℕ) → RunFault → Type 0
+  StopsTo fault print disk printed gone lines records e = StopsBy fault e printed gone (contents (device_of print.entry.now)) (contents (device_of print.exit.now))
       (stored (device_of disk.entry.now)) (stored (device_of disk.exit.now)) lines records
 
 module _ {R S P D : Type 0} (remaining : R → Option (List ℕ)) (others : S → Option (List ℕ)) (contents : P → Option (List ℕ)) (stored : D → Option (List ℕ)) where

@@ -4,8 +4,8 @@ ghost use Rattle.std.specs.Prelude.{◌≡◌, ◌+◌, ◌-◌, ◌^◌, ◌<�
 ghost use Rattle.std.specs.Io.KnownBytes.{Appends};
 ghost use Rattle.rpg_files.specs.Counting.{device_of, faults_of};
 ghost use Rattle.rpg_machine.specs.Running.{no_bytes};
-ghost use Rattle.rpg_engine.specs.Devices.{SendsSomeTo};
-ghost use Rattle.rpg_engine.specs.Streaming.{FaultsOfWriters, GoesOut, IsSureWhereAsked, StopsBy, WriterFaults};
+ghost use Rattle.rpg_engine.specs.Devices.{GoesOutTo, SendsSomeTo, StopsTo};
+ghost use Rattle.rpg_engine.specs.Streaming.{FaultsOfWriters, IsSureWhereAsked, WriterFaults};
 
 use crate::fault::{CycleFault, RunFault};
 use rpg_cycle::{Job, Need, Output};
@@ -126,8 +126,8 @@ pub(crate) fn send_before_reading<S: Store + Drop, R1: Read, R2: Read, W1: Write
     requires disk { faults_of disk.old < 2 ^ 64 - 1 }
     requires printed { sent.old.print ≤ 2 ^ 100 }
     requires stored { sent.old.disk ≤ 2 ^ 100 }
-    ensures printed { OnOk result (GoesOut (W1.contents (device_of print.old)) (W1.contents (device_of print.new)) job.old.output.print job.new.output.print sent.old.print sent.new.print) }
-    ensures stored { OnOk result (GoesOut (W2.contents (device_of disk.old)) (W2.contents (device_of disk.new)) job.old.output.disk job.new.output.disk sent.old.disk sent.new.disk) }
+    ensures printed { OnOk result (GoesOutTo W1.contents print job.old.output.print job.new.output.print sent.old.print sent.new.print) }
+    ensures stored { OnOk result (GoesOutTo W2.contents disk job.old.output.disk job.new.output.disk sent.old.disk sent.new.disk) }
     ensures few_printed { OnOk result (sent.new.print < sent.old.print + 2 ^ 64) }
     ensures few_stored { OnOk result (sent.new.disk < sent.old.disk + 2 ^ 64) }
     ensures rest { OnOk result (job.new ≡ record job.old { output = job.new.output }) }
@@ -154,8 +154,8 @@ pub(crate) fn send_where_enough<S: Store + Drop, W1: Write, W2: Write>(
     requires disk { faults_of disk.old < 2 ^ 64 - 1 }
     requires printed { sent.old.print ≤ 2 ^ 100 }
     requires stored { sent.old.disk ≤ 2 ^ 100 }
-    ensures printed { OnOk result (GoesOut (W1.contents (device_of print.old)) (W1.contents (device_of print.new)) job.old.output.print job.new.output.print sent.old.print sent.new.print) }
-    ensures stored { OnOk result (GoesOut (W2.contents (device_of disk.old)) (W2.contents (device_of disk.new)) job.old.output.disk job.new.output.disk sent.old.disk sent.new.disk) }
+    ensures printed { OnOk result (GoesOutTo W1.contents print job.old.output.print job.new.output.print sent.old.print sent.new.print) }
+    ensures stored { OnOk result (GoesOutTo W2.contents disk job.old.output.disk job.new.output.disk sent.old.disk sent.new.disk) }
     ensures few_printed { OnOk result (sent.new.print < sent.old.print + 2 ^ 64) }
     ensures few_stored { OnOk result (sent.new.disk < sent.old.disk + 2 ^ 64) }
     ensures rest { OnOk result (job.new ≡ record job.old { output = job.new.output }) }
@@ -187,8 +187,8 @@ pub(crate) fn fault_behind<W1: Write, W2: Write>(
     requires stored { sent.disk ≤ 2 ^ 100 }
     requires lines { waiting.print ≤ length output.now.print.items }
     requires records { waiting.disk ≤ length output.now.disk.items }
-    ensures stops { StopsBy fault result sent.print sent.disk (W1.contents (device_of print.old)) (W1.contents (device_of print.new)) (W2.contents (device_of disk.old)) (W2.contents (device_of disk.new))
-        (take waiting.print output.now.print.items) (take waiting.disk output.now.disk.items) }
+    ensures stops { StopsTo W1.contents W2.contents fault print disk sent.print sent.disk
+        (take waiting.print output.now.print.items) (take waiting.disk output.now.disk.items) result }
     ensures faults { FaultsOfWriters result (faults_of print.old) (faults_of print.new) (faults_of disk.old) (faults_of disk.new) }
 {
     match fault {

@@ -1,4 +1,6 @@
 use Rattle.std.proofs.Common.{ℕ, Option, ◌≤◌, ◌<◌, ◌^◌, length, refl, sym, ap, subst, ◌∙◌, arith}
+use Rattle.rpg_effect.proofs.Fronts.{grows_same}
+use Rattle.rpg_cycle.proofs.Growing.{alone_grows, and_grows, and_same, does_grow}
 use Rattle.rpg_cycle.proofs.Composing.{memory_both, ok_of_err, own, passed_map, passed_memory, passed_stops, same_program}
 use Rattle.rpg_cycle.proofs.Nine.{begins, by_renewed, last, step, stop}
 use Rattle.rpg_cycle.proofs.Spending.{all_bounded, and_less, and_then, at_no_cost, few_steps, full_reach, lines_bounded, low_here, low_left, low_right, low_there, of_same, selected_low, taken_bounded}
@@ -18,8 +20,6 @@ use Rattle.rpg_machine.specs.declared.time.OutputTime.TheVariants as times
 use Rattle.rpg_object_program.specs.Object.{Object}
 use Rattle.rpg_object_program.specs.declared.section.Section.TheVariants as sections
 use Rattle.rpg_verify.specs.Bound.{bound}
-use Rattle.rpg_cycle.proofs.Growing.{alone_grows, and_grows, and_same, does_grow}
-use Rattle.rpg_effect.proofs.Fronts.{grows_same}
 use Rattle.rpg_cycle.proofs.cycle.run_cycle.Goals as goal
 
 pub returns-in_err-put_out_details-clause-stops : goal.returns-in_err-put_out_details-clause-stops
@@ -738,77 +738,58 @@ calculate_details-requires-clause-ready g c = c.in_ok-fill_fields.ensures.ready
 
 pub returns-in_err-put_out_details-clause-grows : goal.returns-in_err-put_out_details-clause-grows
 returns-in_err-put_out_details-clause-grows g c =
-    let g0 = grows_same c.args.machine.now.output c.refill.new.self.output (ap (λ (r : Running). r.output) c.refill.ensures.refilled) in
-    and_grows g0 c.in_err-put_out_details.ensures.grows
+    and_grows (grows_same c.args.machine.now.output c.refill.new.self.output (ap (λ (r : Running). r.output) c.refill.ensures.refilled)) c.in_err-put_out_details.ensures.grows
 
 pub returns-in_err-halt_where_asked-clause-grows : goal.returns-in_err-halt_where_asked-clause-grows
 returns-in_err-halt_where_asked-clause-grows g c =
-    let g0 = grows_same c.args.machine.now.output c.refill.new.self.output (ap (λ (r : Running). r.output) c.refill.ensures.refilled) in
-    and_grows g0 c.in_ok-put_out_details.ensures.grows
+    and_grows (grows_same c.args.machine.now.output c.refill.new.self.output (ap (λ (r : Running). r.output) c.refill.ensures.refilled)) c.in_ok-put_out_details.ensures.grows
 
 pub returns-in_err-selected-clause-grows : goal.returns-in_err-selected-clause-grows
 returns-in_err-selected-clause-grows g c =
-    let g0 = grows_same c.args.machine.now.output c.refill.new.self.output (ap (λ (r : Running). r.output) c.refill.ensures.refilled) in
-    let g1 = and_grows g0 c.in_ok-put_out_details.ensures.grows in
-    let g3 = and_grows g1 (alone_grows c.set_off.ensures.goes) in
-    and_same g3 c.in_err-selected.ensures.output
+    let details = and_grows (grows_same c.args.machine.now.output c.refill.new.self.output (ap (λ (r : Running). r.output) c.refill.ensures.refilled)) c.in_ok-put_out_details.ensures.grows in
+    and_same (and_grows details (alone_grows c.set_off.ensures.goes)) c.in_err-selected.ensures.output
 
 pub returns-in_err-take_total_time-clause-grows : goal.returns-in_err-take_total_time-clause-grows
 returns-in_err-take_total_time-clause-grows g c =
-    let g0 = grows_same c.args.machine.now.output c.refill.new.self.output (ap (λ (r : Running). r.output) c.refill.ensures.refilled) in
-    let g1 = and_grows g0 c.in_ok-put_out_details.ensures.grows in
-    let g3 = and_grows g1 (alone_grows c.set_off.ensures.goes) in
-    let g4 = and_same g3 c.in_ok-selected.ensures.output in
-    and_grows g4 c.in_err-take_total_time.ensures.grows
+    let details = and_grows (grows_same c.args.machine.now.output c.refill.new.self.output (ap (λ (r : Running). r.output) c.refill.ensures.refilled)) c.in_ok-put_out_details.ensures.grows in
+    let selected = and_same (and_grows details (alone_grows c.set_off.ensures.goes)) c.in_ok-selected.ensures.output in
+    and_grows selected c.in_err-take_total_time.ensures.grows
 
 pub returns-in_err-end_where_last-clause-grows : goal.returns-in_err-end_where_last-clause-grows
 returns-in_err-end_where_last-clause-grows g c =
-    let g0 = grows_same c.args.machine.now.output c.refill.new.self.output (ap (λ (r : Running). r.output) c.refill.ensures.refilled) in
-    let g1 = and_grows g0 c.in_ok-put_out_details.ensures.grows in
-    let g3 = and_grows g1 (alone_grows c.set_off.ensures.goes) in
-    let g4 = and_same g3 c.in_ok-selected.ensures.output in
-    and_grows g4 c.in_ok-take_total_time.ensures.grows
+    let details = and_grows (grows_same c.args.machine.now.output c.refill.new.self.output (ap (λ (r : Running). r.output) c.refill.ensures.refilled)) c.in_ok-put_out_details.ensures.grows in
+    let selected = and_same (and_grows details (alone_grows c.set_off.ensures.goes)) c.in_ok-selected.ensures.output in
+    and_grows selected c.in_ok-take_total_time.ensures.grows
 
 pub returns-in_err-put_out_overflow-clause-grows : goal.returns-in_err-put_out_overflow-clause-grows
 returns-in_err-put_out_overflow-clause-grows g c =
-    let g0 = grows_same c.args.machine.now.output c.refill.new.self.output (ap (λ (r : Running). r.output) c.refill.ensures.refilled) in
-    let g1 = and_grows g0 c.in_ok-put_out_details.ensures.grows in
-    let g3 = and_grows g1 (alone_grows c.set_off.ensures.goes) in
-    let g4 = and_same g3 c.in_ok-selected.ensures.output in
-    let g5 = and_grows g4 c.in_ok-take_total_time.ensures.grows in
-    and_grows g5 c.in_err-put_out_overflow.ensures.grows
+    let details = and_grows (grows_same c.args.machine.now.output c.refill.new.self.output (ap (λ (r : Running). r.output) c.refill.ensures.refilled)) c.in_ok-put_out_details.ensures.grows in
+    let selected = and_same (and_grows details (alone_grows c.set_off.ensures.goes)) c.in_ok-selected.ensures.output in
+    let totals = and_grows selected c.in_ok-take_total_time.ensures.grows in
+    and_grows totals c.in_err-put_out_overflow.ensures.grows
 
 pub returns-in_err-fill_fields-clause-grows : goal.returns-in_err-fill_fields-clause-grows
 returns-in_err-fill_fields-clause-grows g c =
-    let g0 = grows_same c.args.machine.now.output c.refill.new.self.output (ap (λ (r : Running). r.output) c.refill.ensures.refilled) in
-    let g1 = and_grows g0 c.in_ok-put_out_details.ensures.grows in
-    let g3 = and_grows g1 (alone_grows c.set_off.ensures.goes) in
-    let g4 = and_same g3 c.in_ok-selected.ensures.output in
-    let g5 = and_grows g4 c.in_ok-take_total_time.ensures.grows in
-    let g7 = and_grows g5 c.in_ok-put_out_overflow.ensures.grows in
-    let g8 = and_grows g7 (does_grow c.show_match.ensures.goes) in
-    and_grows g8 c.in_err-fill_fields.ensures.grows
+    let details = and_grows (grows_same c.args.machine.now.output c.refill.new.self.output (ap (λ (r : Running). r.output) c.refill.ensures.refilled)) c.in_ok-put_out_details.ensures.grows in
+    let selected = and_same (and_grows details (alone_grows c.set_off.ensures.goes)) c.in_ok-selected.ensures.output in
+    let totals = and_grows selected c.in_ok-take_total_time.ensures.grows in
+    let shown = and_grows (and_grows totals c.in_ok-put_out_overflow.ensures.grows) (does_grow c.show_match.ensures.goes) in
+    and_grows shown c.in_err-fill_fields.ensures.grows
 
 pub returns-in_err-calculate_details-clause-grows : goal.returns-in_err-calculate_details-clause-grows
 returns-in_err-calculate_details-clause-grows g c =
-    let g0 = grows_same c.args.machine.now.output c.refill.new.self.output (ap (λ (r : Running). r.output) c.refill.ensures.refilled) in
-    let g1 = and_grows g0 c.in_ok-put_out_details.ensures.grows in
-    let g3 = and_grows g1 (alone_grows c.set_off.ensures.goes) in
-    let g4 = and_same g3 c.in_ok-selected.ensures.output in
-    let g5 = and_grows g4 c.in_ok-take_total_time.ensures.grows in
-    let g7 = and_grows g5 c.in_ok-put_out_overflow.ensures.grows in
-    let g8 = and_grows g7 (does_grow c.show_match.ensures.goes) in
-    let g9 = and_grows g8 c.in_ok-fill_fields.ensures.grows in
-    and_grows g9 c.in_err-calculate_details.ensures.grows
+    let details = and_grows (grows_same c.args.machine.now.output c.refill.new.self.output (ap (λ (r : Running). r.output) c.refill.ensures.refilled)) c.in_ok-put_out_details.ensures.grows in
+    let selected = and_same (and_grows details (alone_grows c.set_off.ensures.goes)) c.in_ok-selected.ensures.output in
+    let totals = and_grows selected c.in_ok-take_total_time.ensures.grows in
+    let shown = and_grows (and_grows totals c.in_ok-put_out_overflow.ensures.grows) (does_grow c.show_match.ensures.goes) in
+    let filled = and_grows shown c.in_ok-fill_fields.ensures.grows in
+    and_grows filled c.in_err-calculate_details.ensures.grows
 
 pub returns-clause-grows : goal.returns-clause-grows
 returns-clause-grows g c =
-    let g0 = grows_same c.args.machine.now.output c.refill.new.self.output (ap (λ (r : Running). r.output) c.refill.ensures.refilled) in
-    let g1 = and_grows g0 c.in_ok-put_out_details.ensures.grows in
-    let g3 = and_grows g1 (alone_grows c.set_off.ensures.goes) in
-    let g4 = and_same g3 c.in_ok-selected.ensures.output in
-    let g5 = and_grows g4 c.in_ok-take_total_time.ensures.grows in
-    let g7 = and_grows g5 c.in_ok-put_out_overflow.ensures.grows in
-    let g8 = and_grows g7 (does_grow c.show_match.ensures.goes) in
-    let g9 = and_grows g8 c.in_ok-fill_fields.ensures.grows in
-    and_grows g9 c.in_ok-calculate_details.ensures.grows
+    let details = and_grows (grows_same c.args.machine.now.output c.refill.new.self.output (ap (λ (r : Running). r.output) c.refill.ensures.refilled)) c.in_ok-put_out_details.ensures.grows in
+    let selected = and_same (and_grows details (alone_grows c.set_off.ensures.goes)) c.in_ok-selected.ensures.output in
+    let totals = and_grows selected c.in_ok-take_total_time.ensures.grows in
+    let shown = and_grows (and_grows totals c.in_ok-put_out_overflow.ensures.grows) (does_grow c.show_match.ensures.goes) in
+    let filled = and_grows shown c.in_ok-fill_fields.ensures.grows in
+    and_grows filled c.in_ok-calculate_details.ensures.grows
