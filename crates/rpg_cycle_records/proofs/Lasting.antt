@@ -100,11 +100,6 @@ all_last last text (f ∷ fs) all = λ k there. by_first k (all_last last text f
         ∙ ap Some (sym (ap (λ (bs : List ℕ). compared text f ++ bs) (no_bytes fs text k (ap (has_level fs) (sym own) ∙ not_so (has_level fs f.level) alone.0)) ∙ append-nil (compared text f)))
     by_first k others false e there = others there
 
--- so it is where there are none
-pub all_of_none : (last : List (Option (List ℕ))) (text : List ℕ) (fs : List ControlField) → length fs ≡ 0 → AreLast last text fs
-all_of_none last text [] none = λ k there. cc
-all_of_none last text (f ∷ fs) none = absurd (omega (arith, none))
-
 -- no level is broken then, and none is renewed
 last_level : (last : List (Option (List ℕ))) (text : List ℕ) (fs : List ControlField) (k : ℕ) → AreLast last text fs →
     (differs (get_or last (k - 1) None) (level_bytes fs text k) ≡ false) × (or_before (get_or last (k - 1) None) (level_bytes fs text k) ≡ get_or last (k - 1) None)

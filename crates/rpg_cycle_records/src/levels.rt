@@ -274,25 +274,6 @@ fn renew_all(
     Ok(broken)
 }
 
-/// Compares the levels of a record that has control fields, as `compare` does.
-#[inline(never)]
-fn compare_some(
-    levels: &mut [LastBytes],
-    fields: &[ControlField],
-    text: &[u8],
-) -> Result<usize, AllocError>
-    requires nine { length levels.old ≡ 9 }
-    requires fields { All (IsControlIn (length text.now)) fields.now }
-    ensures broken { IfOk result (λ n. n ≡ spec.broken_in fields.now text.now (seen_levels levels.old)) }
-    ensures low { IfOk result (λ n. n ≤ 9) }
-    ensures kept { OnOk result (seen_levels levels.new ≡ renewed fields.now text.now 9 (seen_levels levels.old)) }
-{
-    if are_all_last(levels, fields, text) {
-        return Ok(0);
-    }
-    renew_all(levels, fields, text)
-}
-
 /// Compares the levels of a record, which is filled to its length, with the last bytes, L1 first, and keeps the record's. Answers the
 /// highest level that differs, 1 to 9, 0 for none. It takes memory only where the room of a level's bytes is too small; on an error
 /// some levels may be kept and others not.
@@ -308,8 +289,8 @@ pub fn compare(
     ensures low { IfOk result (λ n. n ≤ 9) }
     ensures kept { OnOk result (seen_levels levels.new ≡ renewed fields.now text.now 9 (seen_levels levels.old)) }
 {
-    if fields.is_empty() {
+    if are_all_last(levels, fields, text) {
         return Ok(0);
     }
-    compare_some(levels, fields, text)
+    renew_all(levels, fields, text)
 }

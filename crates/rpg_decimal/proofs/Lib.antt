@@ -4,5 +4,6 @@ mod OrderLemmas
 pub mod PlaceLemmas
 mod QuotientLemmas
 mod SumLemmas
+mod Table
 pub mod WholeLemmas
 pub mod ZonedLemmas

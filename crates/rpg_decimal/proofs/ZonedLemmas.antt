@@ -1,9 +1,11 @@
 -- Texts of numbers.
-use Rattle.std.proofs.Common.{◌≡◌, ℕ, zero, suc, ◌+◌, ◌-◌, ◌*◌, ◌/◌, ◌%◌, ◌^◌, ◌<◌, ◌≤◌, Bool, true, false, ◌&&◌, ℤ, pos, negsuc, neg_ℤ, unsigned_abs, List, [], ◌∷◌, ◌++◌, map, length, get_or, slice_index, refl, sym, ap, ap₂, ◌∙◌, arith, nat_eq, ◌==◌, subst, add-one, Some, None, Result, Ok, Err, IsErr, to_z, of_z, w64, ◌-ℤ◌, cond, mod-eq_of_lt, div-add-mod', pow-suc, take, drop, set}
+use Rattle.std.proofs.Common.{◌≡◌, ℕ, zero, suc, ◌+◌, ◌-◌, ◌*◌, ◌/◌, ◌%◌, ◌^◌, ◌<◌, ◌≤◌, Bool, true, false, ◌&&◌, ℤ, pos, negsuc, neg_ℤ, unsigned_abs, List, [], ◌∷◌, ◌++◌, map, length, slice_index, refl, sym, ap, ap₂, ◌∙◌, arith, nat_eq, ◌==◌, subst, add-one, Some, None, Result, Ok, Err, IsErr, to_z, of_z, w64, ◌-ℤ◌, cond, if◌then◌else◌, mod-eq_of_lt, div-add-mod', pow-suc, set, mul_comm}
 use Rattle.std.proofs.lemmas.Bool.{and_parts, and_from, or_left, or_right, false_from_ne_true, agree_below_at, eqb-true, le-ltb}
 use Rattle.std.proofs.lemmas.Bool.Decides.{nat_tests}
 use Rattle.std.proofs.lemmas.Int.{ints}
-use Rattle.std.proofs.lemmas.List.{get_or_push, length_push, length-take-le, length-map, drop_more, drop_all, set_at}
+use Rattle.std.proofs.Math.Nat.{div-div-eq-div-mul}
+use Rattle.std.proofs.lemmas.List.{get_or_push, length_push, length-map, set_at}
+use Rattle.std.specs.Int.{is_negative}
 use Rattle.std.specs.Result.{result_ok}
 use Rattle.rpg_decimal_words.specs.Place.{place_value, lowest_digits, signed_number}
 use Rattle.rpg_decimal_words.specs.Zoned.{may_stand, IsGoodAt, is_numeric, is_digit, is_minus, digit_of, minus_letter, last_of, spelled_number, number_in, last_character, zoned_text, Spells, IsFirstBad}
@@ -132,15 +134,34 @@ numeric-zoned k (negsuc a) = numeric-digits (k - 1) (suc a / 10) (minus_letter (
 pub Spells-zoned : (k : ℕ) (n : ℤ) → 1 ≤ k → unsigned_abs n < 10 ^ k → Spells (zoned_text k n) n
 Spells-zoned k n low h = record { good = numeric-zoned k n; value = sym (spelled-zoned k n low h) }
 
--- the text as it is written: the digits in front, then the last character
-pub written_is : (old front : List ℕ) (n : ℤ) (size c : ℕ) → 1 ≤ length old → front ≡ map (λ d. 48 + d) (lowest_digits (length (take (length old - 1) old)) (size / 10))
-    → size ≡ unsigned_abs n → c ≡ last_character n → set (front ++ drop (length old - 1) old) (length old - 1) c ≡ zoned_text (length old) n
-written_is old front n size c some front_is size_is c_is =
-    let k = length old - 1 in
-    let taken : length (take k old) ≡ k = length-take-le k old (omega arith) in
-    let ds = lowest_digits (length (take k old)) (size / 10) in
-    let long : length front ≡ k = ap length front_is ∙ length-map ds (λ d. 48 + d) ∙ length-digits (length (take k old)) (size / 10) ∙ taken in
-    ap (λ l. set (front ++ l) k c) (drop_more old k 0 (omega arith))
-    ∙ set_at front (get_or old k 0) (drop (k + 1) old) c k long
-    ∙ ap (λ l. front ++ c ∷ l) (drop_all (k + 1) old (omega arith))
-    ∙ ap₂ (λ f x. f ++ x ∷ []) (front_is ∙ ap₂ (λ j m. map (λ d. 48 + d) (lowest_digits j (m / 10))) taken size_is) c_is
+-- the digits of a size, its last one apart
+last_apart : (k m : ℕ) → map (λ d. 48 + d) (lowest_digits (suc k) m) ≡ map (λ d. 48 + d) (lowest_digits k (m / 10)) ++ (48 + m % 10) ∷ []
+last_apart zero m = let e : m / 10 ^ 0 ≡ m = omega arith in ap (λ x. (48 + x % 10) ∷ []) e
+last_apart (suc k) m =
+    let e : m / 10 ^ suc k ≡ m / 10 / 10 ^ k = ap (λ p. m / p) (pow-suc 10 k ∙ mul_comm (10 ^ k) 10) ∙ sym (div-div-eq-div-mul m 10 (10 ^ k)) in
+    ap₂ (λ x ds. (48 + x % 10) ∷ ds) e (last_apart k m)
+
+-- the digits as they are written
+pub written_digits : (k size : ℕ) (text : List ℕ) → 1 ≤ k → text ≡ map (λ d. 48 + d) (lowest_digits k size)
+    → text ≡ map (λ d. 48 + d) (lowest_digits (k - 1) (size / 10)) ++ (48 + size % 10) ∷ []
+written_digits k size text some text_is =
+    let e : k ≡ suc (k - 1) = omega arith in
+    text_is ∙ ap (λ j. map (λ d. 48 + d) (lowest_digits j size)) e ∙ last_apart (k - 1) size
+
+-- they are the text of a number that isn't below zero
+pub written_plus : (k : ℕ) (n : ℤ) (size : ℕ) (text : List ℕ) → 1 ≤ k → size ≡ unsigned_abs n → is_negative n ≡ false → text ≡ map (λ d. 48 + d) (lowest_digits k size) → text ≡ zoned_text k n
+written_plus k n size text some size_is plus text_is =
+    written_digits k size text some text_is
+    ∙ ap (λ m. map (λ d. 48 + d) (lowest_digits (k - 1) (m / 10)) ++ (48 + m % 10) ∷ []) size_is
+    ∙ ap (λ b. map (λ d. 48 + d) (lowest_digits (k - 1) (unsigned_abs n / 10)) ++ (if b then minus_letter (unsigned_abs n % 10) else 48 + unsigned_abs n % 10) ∷ []) (sym plus)
+
+-- of one below zero another character stands in the last place
+pub written_minus : (k : ℕ) (n : ℤ) (size c : ℕ) (text : List ℕ) → 1 ≤ k → size ≡ unsigned_abs n → c ≡ last_character n → text ≡ map (λ d. 48 + d) (lowest_digits k size)
+    → set text (k - 1) c ≡ zoned_text k n
+written_minus k n size c text some size_is c_is text_is =
+    let ds = lowest_digits (k - 1) (size / 10) in
+    let front = map (λ d. 48 + d) ds in
+    let long : length front ≡ k - 1 = length-map ds (λ d. 48 + d) ∙ length-digits (k - 1) (size / 10) in
+    ap (λ l. set l (k - 1) c) (written_digits k size text some text_is)
+    ∙ set_at front (48 + size % 10) [] c (k - 1) long
+    ∙ ap₂ (λ m x. map (λ d. 48 + d) (lowest_digits (k - 1) (m / 10)) ++ x ∷ []) size_is c_is

@@ -7,6 +7,7 @@ mod laws;
 mod moves;
 mod num;
 mod order;
+mod pairs;
 mod whole;
 mod zoned;
 
@@ -18,5 +19,6 @@ pub use laws::{
 pub use moves::{Source, move_left, move_left_text, move_right, move_right_text};
 pub use num::{Figure, Num, Rest, Scale, Target};
 pub use order::{compare, compare_text};
+pub use pairs::pair_of;
 pub use whole::{align, fit};
 pub use zoned::{BadDigit, read_zoned, write_zoned};

@@ -1,23 +1,39 @@
 //! The order of numbers and of texts, for COMP and searches.
-ghost use Rattle.std.specs.Prelude.{◌≡◌, ◌+◌, ◌<◌, ◌≤◌, ◌==◌, position, unwrap_or, slice_index_or};
+ghost use Rattle.std.specs.Prelude.{◌≡◌, ◌+◌, ◌^◌, ◌<◌, ◌≤◌, ◌==◌, ◌*ℤ◌, pos, position, unsigned_abs, unwrap_or, slice_index_or};
 ghost use Rattle.rpg_decimal_words.specs.Fraction.{fraction_cmp};
 ghost use Rattle.rpg_decimal.specs.Num.{value_of};
 ghost use Rattle.rpg_decimal_words.specs.Order.{rank, text_cmp};
 
 use crate::arithmetic::widened;
 use crate::num::Num;
+use crate::whole::power_of_ten;
 use std::cmp::Ordering;
 
 /// The characters, lowest first: the collating sequence of this profile.
 const COLLATING_SEQUENCE: &[u8; 95] =
     b" .<(+|&!$*);-/,%_>?`:#@'=\"abcdefghijklmnopqr~stuvwxyz^[]{ABCDEFGHI}JKLMNOPQR\\STUVWXYZ0123456789";
 
-/// Compares the values of two numbers.
+/// As many zeros as any value may get behind it in 64 bits.
+const FEW_ZEROS: u8 = 3;
+
+/// A value with a few zeros behind it.
+fn lengthened(value: i64, zeros: u8) -> i64
+    requires value_in { unsigned_abs value < 10 ^ 15 }
+    requires zeros_in { zeros ≤ 3 }
+    ensures { result ≡ value *ℤ pos (10 ^ zeros) }
+{
+    value * power_of_ten(zeros) as i64
+}
+
+/// Compares the values of two numbers. Those of few decimals stay within 64 bits.
 pub fn compare(a: Num, b: Num) -> Ordering
     ensures { result ≡ fraction_cmp (value_of a) (value_of b) }
 {
     if a.dec == b.dec {
         return a.value.cmp(&b.value);
+    }
+    if a.dec <= FEW_ZEROS && b.dec <= FEW_ZEROS {
+        return lengthened(a.value, b.dec).cmp(&lengthened(b.value, a.dec));
     }
     widened(a.value, b.dec).cmp(&widened(b.value, a.dec))
 }

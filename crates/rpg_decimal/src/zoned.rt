@@ -1,10 +1,12 @@
 //! Numbers as texts: a digit in each place, and the sign over the last one: `}` and J to R stand for minus
 //! 0 to 9, `{` and A to I for plus 0 to 9.
-ghost use Rattle.std.specs.Prelude.{◌≡◌, ◌+◌, ◌/◌, ◌%◌, ◌<◌, ◌≤◌, ◌^◌, unsigned_abs, length, map, IfOk, IfErr, OnOk, EachIndex};
+ghost use Rattle.std.specs.Prelude.{◌≡◌, ◌+◌, ◌-◌, ◌/◌, ◌%◌, ◌<◌, ◌≤◌, ◌^◌, true, unsigned_abs, length, map, set, IfOk, IfErr, OnOk, EachIndex};
+ghost use Rattle.std.specs.Int.{is_negative};
 ghost use Rattle.std.specs.Result.{result_ok};
 ghost use Rattle.rpg_decimal_words.specs.Place.{lowest_digits, place_value};
 ghost use Rattle.rpg_decimal_words.specs.Zoned.{digit_of, is_minus, may_stand, last_character, number_in, zoned_text, IsGoodAt, Spells, IsFirstBad};
 
+use crate::pairs::pair_of;
 use thiserror::Error;
 
 /// A character that no number has at its place, counted from 0.
@@ -50,17 +52,14 @@ fn may_stand(last: bool, c: u8) -> bool
     }
 }
 
-/// The last character that is written for a number.
+/// The last character that is written for a number below zero.
 fn last_character(n: i64) -> u8
+    requires { is_negative n ≡ true }
     ensures { result ≡ last_character n }
 {
-    let digit = (n.unsigned_abs() % 10) as u8;
-    if n >= 0 {
-        b'0' + digit
-    } else if digit == 0 {
-        b'}'
-    } else {
-        b'I' + digit
+    match (n.unsigned_abs() % 10) as u8 {
+        0 => b'}',
+        digit => b'I' + digit,
     }
 }
 
@@ -107,17 +106,33 @@ fn last_digit(size: u64, front: u64) -> u8
     b'0' + (size - front * 10) as u8
 }
 
+/// Writes the lowest two digits of a number before a place, and answers the number that stands in front of them.
+#[inline(always)]
+fn write_pair(size: u64, text: &mut [u8], place: usize) -> u64
+    requires low { 2 ≤ place }
+    requires within { place ≤ length text.old }
+    ensures front { result ≡ size / 100 }
+    ensures digits { text.new ≡ set (set text.old (place - 1) (48 + size % 10)) (place - 2) (48 + size / 10 % 10) }
+{
+    let front = size / 100;
+    let (tens, ones) = pair_of((size - front * 100) as u8);
+    text[place - 1] = ones;
+    text[place - 2] = tens;
+    front
+}
+
 /// Writes the lowest digits of a number, as many as the text has places.
 fn write_digits(size: u64, text: &mut [u8])
     ensures { text.new ≡ map (λ d. 48 + d) (lowest_digits (length text.old) size) }
 {
     let mut rest = size;
     let mut place = text.len();
-    while place > 0 {
-        place -= 1;
-        let front = rest / 10;
-        text[place] = last_digit(rest, front);
-        rest = front;
+    while place >= 2 {
+        rest = write_pair(rest, text, place);
+        place -= 2;
+    }
+    if place == 1 {
+        text[0] = last_digit(rest, rest / 10);
     }
 }
 
@@ -129,7 +144,9 @@ pub fn write_zoned(n: i64, text: &mut [u8])
     ensures text { text.new ≡ zoned_text (length text.old) n }
     ensures spells { Spells text.new n }
 {
-    let last = text.len() - 1;
-    write_digits(n.unsigned_abs() / 10, &mut text[..last]);
-    text[last] = last_character(n);
+    write_digits(n.unsigned_abs(), text);
+    if n < 0 {
+        let last = text.len() - 1;
+        text[last] = last_character(n);
+    }
 }

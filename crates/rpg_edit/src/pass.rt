@@ -9,8 +9,8 @@ ghost use Rattle.std.specs.Int.{is_negative};
 ghost use Rattle.rpg_edit_marks.specs.Edited.{character, digit_character, is_begun, places};
 ghost use Rattle.rpg_edit.specs.Written.{are_clear, is_clear, is_digit_last, is_suppressed, IsUsedUp, Writes};
 
-use crate::pairs::pair_of;
 use crate::suppression::{Number, Pass};
+use rpg_decimal::pair_of;
 use rpg_edit_marks::Mark;
 use rpg_edit_widths::Suppression;
 

@@ -131,6 +131,7 @@ fn fill_one<S: Store + Drop>(
 }
 
 /// Fills the fields of a record, in order, until one halts.
+#[inline(always)]
 #[tactic(auto, unfolding(rpg_effect::specs::Input::record_in))]
 pub(crate) fn fill_all<S: Store + Drop>(
     memory: &mut Memory<'_, S>,

@@ -8,7 +8,7 @@ static PAIRS: [u8; 200] =
 
 /// The characters of the tens and of the ones.
 #[inline(always)]
-pub(crate) fn pair_of(two: u8) -> (u8, u8)
+pub fn pair_of(two: u8) -> (u8, u8)
     requires { two < 100 }
     ensures tens { result.0 ≡ 48 + two / 10 }
     ensures ones { result.1 ≡ 48 + two % 10 }
