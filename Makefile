@@ -3,7 +3,7 @@
 EXAMPLE := sales
 RPG2 := crates/rpg2/out/rpg2
 
-.PHONY: run try test bench examples
+.PHONY: run try test edits bench examples
 
 # Proves and builds rpg2, shows the example report's source, compiles, verifies and runs it: what rpg2 says of each, and the printed form.
 run: $(RPG2)
@@ -19,6 +19,10 @@ try:
 # The gate: every proof from nothing, every program as two compilers build it, the wrong bodies that the contracts refuse, every case.
 test: examples
 	tests/all.py
+
+# All wrong bodies, over the libraries that the gate built: before a version, and after a change to a contract.
+edits:
+	tests/edits.py
 
 # The files that a person finds in examples/ are those that the cases run.
 examples:
