@@ -90,8 +90,6 @@ class Case:
             self.length = int(value)
         elif word == "device":
             self.is_over_devices = True
-        elif word == "again":
-            self.part = Part()
         else:
             self.unknown = word
 

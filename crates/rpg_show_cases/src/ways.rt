@@ -1,21 +1,34 @@
-//! The ways in which an object program runs: over a reader and writers, and by either store over a list of records.
+//! The ways in which an accepted program runs beside `rpg2`: over lists of records, by the store in one area of bytes and by the store that
+//! keeps each value apart.
 
-use rpg_cli::{Answer, Counted, Job, JobEnd, Report, execute, line, run_records};
-use rpg_cycle::{CycleEnd, Output, StartFault};
+use crate::lines::line_of;
+use rpg_cycle::{CycleEnd, Output, run_records};
+use rpg_engine::{Job, JobEnd, Report};
 use rpg_memory::first_values_fit;
 use rpg_memory::memory::Memory;
 use rpg_object::decode;
-use rpg_show_lines::{Outputs, records_of};
+use rpg_show_lines::{Case, Outputs, records_of, text_of};
 use rpg_store::{ListedStore, Store};
 use rpg_verify::{Verified, verify};
 use std::alloc::{AllocError, Global};
 
 /// What an object program runs on: the date, and the bytes of its inputs.
-#[derive(Clone, Copy)]
+#[derive(Drop)]
 pub struct Given<'a> {
     pub date: &'a [u8],
-    pub input: &'a [u8],
-    pub secondary: &'a [u8],
+    pub input: Vec<u8>,
+    pub secondary: Vec<u8>,
+}
+
+impl<'a> Given<'a> {
+    /// What a case gives.
+    pub fn of(alloc: Global, case: &Case<'a>) -> Result<Given<'a>, AllocError> {
+        Ok(Given {
+            date: case.date.as_bytes(),
+            input: text_of(alloc, case.input.as_slice())?,
+            secondary: text_of(alloc, case.secondary.as_slice())?,
+        })
+    }
 }
 
 /// The records of both inputs.
@@ -26,62 +39,15 @@ pub struct BothRecords {
 }
 
 impl BothRecords {
-    pub fn of(alloc: Global, given: Given<'_>) -> Result<BothRecords, AllocError> {
+    pub fn of(alloc: Global, given: &Given<'_>) -> Result<BothRecords, AllocError> {
         Ok(BothRecords {
-            primary: records_of(alloc, given.input)?,
-            secondary: records_of(alloc, given.secondary)?,
+            primary: records_of(alloc, &given.input)?,
+            secondary: records_of(alloc, &given.secondary)?,
         })
     }
 
     fn count(&self) -> usize {
         self.primary.len().saturating_add(self.secondary.len())
-    }
-}
-
-/// What `execute` answered, and what it sent.
-#[derive(Drop)]
-pub struct Streamed {
-    pub answer: Answer,
-    pub print: Vec<u8>,
-    pub disk: Vec<u8>,
-}
-
-/// What a program puts out over a list of records.
-#[derive(Drop)]
-pub struct Listed {
-    /// By the store in one area of bytes.
-    pub records: Option<Outputs>,
-    /// By the store that keeps each value apart.
-    pub values: Option<Outputs>,
-}
-
-/// The line of `rpg2` for an answer.
-pub fn line_of(alloc: Global, answer: &Answer) -> Result<Vec<u8>, AllocError> {
-    Vec::from_slice(alloc, line(answer).text.as_slice())
-}
-
-/// Runs an object over a reader and writers.
-pub fn run_streamed(alloc: Global, object: &[u8], given: Given<'_>) -> Streamed {
-    let mut input = Counted::new(given.input);
-    let mut secondary = Counted::new(given.secondary);
-    let mut print = Counted::new(Vec::new(alloc));
-    let mut disk = Counted::new(Vec::new(alloc));
-    let told = execute(
-        alloc,
-        object,
-        given.date,
-        &mut input,
-        &mut secondary,
-        &mut print,
-        &mut disk,
-    );
-    Streamed {
-        answer: match told {
-            Ok(report) => Answer::from(report),
-            Err(fault) => Answer::from(fault),
-        },
-        print: print.into_device(),
-        disk: disk.into_device(),
     }
 }
 
@@ -99,32 +65,20 @@ pub fn record_at(records: &[Vec<u8>], turn: usize) -> Option<&[u8]> {
     }
 }
 
-/// Runs an object in the two other ways over its inputs' records: nothing where it is refused.
-pub fn run_listed(alloc: Global, object: &[u8], given: Given<'_>) -> Result<Listed, AllocError> {
-    let records = BothRecords::of(alloc, given)?;
-    match accepted(alloc, object) {
-        None => Ok(Listed {
-            records: None,
-            values: None,
-        }),
-        Some(program) => run_in_both(alloc, &program, given.date, &records),
-    }
-}
-
-fn run_in_both(
+fn outputs_of(
     alloc: Global,
-    program: &Verified,
-    date: &[u8],
-    records: &BothRecords,
-) -> Result<Listed, AllocError> {
-    Ok(Listed {
-        records: run_listed_records(alloc, program, date, records)?,
-        values: run_listed_values(alloc, program, date, records)?,
-    })
+    report: Report,
+    output: Output,
+) -> Result<Option<Outputs>, AllocError> {
+    Ok(Some(Outputs {
+        answer: line_of(alloc, &Ok(report))?,
+        print: output.print,
+        disk: output.disk,
+    }))
 }
 
-/// Runs a program over lists of records: nothing on a date that is none.
-fn run_listed_records(
+/// Runs a program over lists of records: nothing where it doesn't begin.
+pub fn run_by_area(
     alloc: Global,
     program: &Verified,
     date: &[u8],
@@ -141,25 +95,12 @@ fn run_listed_records(
             };
             outputs_of(alloc, report, run.output)
         }
-        Err(StartFault::BadDate) => Ok(None),
-        Err(StartFault::NoMemory) => Err(AllocError),
+        Err(_) => Ok(None),
     }
 }
 
-fn outputs_of(
-    alloc: Global,
-    report: Report,
-    output: Output,
-) -> Result<Option<Outputs>, AllocError> {
-    Ok(Some(Outputs {
-        answer: line_of(alloc, &Answer::from(report))?,
-        print: output.print,
-        disk: output.disk,
-    }))
-}
-
-/// Runs a program by the store that keeps each value apart: nothing on a date that is none.
-fn run_listed_values(
+/// Runs a program by the store that keeps each value apart: nothing where it doesn't begin.
+pub fn run_by_values(
     alloc: Global,
     program: &Verified,
     date: &[u8],
@@ -170,8 +111,7 @@ fn run_listed_values(
     let memory = Memory::new(program.program(), store);
     match Job::start_in(alloc, program, date, memory) {
         Ok(mut job) => run_out(alloc, program.bound(), &mut job, records),
-        Err(StartFault::BadDate) => Ok(None),
-        Err(StartFault::NoMemory) => Err(AllocError),
+        Err(_) => Ok(None),
     }
 }
 
