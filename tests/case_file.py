@@ -28,6 +28,7 @@ class Run:
     date: str = DATE
     is_run: bool = False
     is_over_devices: bool = False
+    most: str | None = None
     input: bytes = b""
     secondary: bytes = b""
     print: bytes = b""
@@ -59,6 +60,7 @@ class Case:
     part: Part = field(default_factory=Part)
     lines: dict[str, list[str]] = field(default_factory=dict)  # of one run
     is_over_devices: bool = False
+    most: str | None = None
     unknown: str | None = None
 
     def begin(self, name: str) -> None:
@@ -67,7 +69,7 @@ class Case:
         self.allowance, self.date, self.unknown = ALLOWANCE, DATE, None
 
     def end_run(self) -> None:
-        self.part, self.lines, self.is_over_devices = Part(), {}, False
+        self.part, self.lines, self.is_over_devices, self.most = Part(), {}, False, None
 
     def begin_part(self, word: str, value: str) -> None:
         self.part = Part(word, int(value) if word in ("card", "byte") else 0)
@@ -90,6 +92,8 @@ class Case:
             self.length = int(value)
         elif word == "device":
             self.is_over_devices = True
+        elif word == "most":
+            self.most = value
         else:
             self.unknown = word
 
@@ -132,6 +136,7 @@ class Case:
             date=self.date,
             is_run="input" in self.lines,
             is_over_devices=self.is_over_devices,
+            most=self.most,
             compiled=hex_of(self.lines["compiled"]) if "compiled" in self.lines else None,
             unknown=self.unknown,
             **{it: text_of(self.lines.get(it, [])) for it in ("input", "secondary", "print", "disk")},

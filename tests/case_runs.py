@@ -61,8 +61,9 @@ class Runner:
         """Runs the object over the inputs."""
         self.file("input", self.run.input)
         self.file("secondary", self.run.secondary)
-        files = ["--secondary", "secondary", "--disk", "disk"]
-        told = self.command("run", "object", "input", "print", f"--date={self.run.date}", *files)
+        words = [f"--date={self.run.date}", "--secondary", "secondary", "--disk", "disk"]
+        words += [] if self.run.most is None else ["--most", self.run.most]
+        told = self.command("run", "object", "input", "print", *words)
         told.print, told.disk = written(self.folder / "print"), written(self.folder / "disk")
         return told
 

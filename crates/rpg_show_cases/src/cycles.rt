@@ -3,7 +3,7 @@
 use crate::lines::bytes_of;
 use crate::ways::{BothRecords, Given, record_at};
 use rpg_cli_text::TextWriter;
-use rpg_cycle::{CycleEnd, Output};
+use rpg_cycle::{CycleEnd, Output, StartFault};
 use rpg_engine::Job;
 use rpg_show_lines::Outputs;
 use rpg_store::Store;
@@ -110,7 +110,8 @@ pub fn cycles_of(
     };
     let records = BothRecords::of(alloc, given)?;
     match Job::start(alloc, program, given.date) {
-        Err(_) => tale.text.write_str("no start"),
+        Err(StartFault::NoMemory) => tale.text.write_str("no memory"),
+        Err(StartFault::BadDate) => tale.text.write_str("bad date"),
         Ok(mut job) => tell_cycles(&mut tale, &mut job, &records)?,
     }
     Ok(Outputs {
