@@ -83,7 +83,12 @@ fn told_over_input(
     match task {
         Task::Sweep => Ok(Outputs::said(alloc, sweep(alloc, object, &given)?)),
         Task::Cycles => cycled(alloc, object, &given),
-        _ => run_over(alloc, object, &given, case.devices.unwrap_or(Devices::new())),
+        _ => run_over(
+            alloc,
+            object,
+            &given,
+            case.devices.unwrap_or(Devices::new()),
+        ),
     }
 }
 
