@@ -2,7 +2,9 @@
 
 import os
 import re
+import select
 import shutil
+import subprocess
 import tempfile
 from dataclasses import dataclass, field
 from pathlib import Path
@@ -10,7 +12,10 @@ from typing import IO
 
 from case_file import hex_of, lines_in, text_of
 from outcome import Outcome
-from program import Limits, Program
+from program import SECONDS, Limits, Program
+
+# How many seconds a record waits for what comes of it.
+PATIENCE = 20
 
 # What a character stands for behind a backslash in a word; any other stands for itself.
 IN_WORDS = {b"n": b"\n", b"f": b"\f", b"r": b"\r", b"u": b"\x1f", b"o": b"\xff"}
@@ -64,7 +69,7 @@ class Session:
         does = getattr(self, f"do_{verb}", None)
         if does is None:
             return b"no such command\n"
-        if verb in ("text", "hex"):
+        if verb in ("text", "hex", "prompt"):
             return does(rest, command.lines)
         return does(*rest.split())
 
@@ -98,6 +103,42 @@ class Session:
             answer = self.program.run(list(words[1:]), self.folder, self.given, out=part, limits=Limits(file=room))
             part.seek(0)
             return part.read() + answer.text + f"status {answer.status}\n".encode()
+
+    def do_to(self, device: str, *words: str) -> bytes:
+        """Gives words where standard output is a device: what is told on standard error, and the status."""
+        with open(device, "wb") as out:
+            answer = self.program.run(list(words[1:]), self.folder, self.given, out=out)
+        return answer.text + f"status {answer.status}\n".encode()
+
+    def do_closed(self, *words: str) -> bytes:
+        """Gives words where nobody reads standard output any more."""
+        left, out = os.pipe()
+        os.close(left)
+        try:
+            answer = self.program.run(list(words[1:]), self.folder, self.given, out=out)
+        finally:
+            os.close(out)
+        return answer.text + f"status {answer.status}\n".encode()
+
+    def do_prompt(self, words: str, lines: list[str]) -> bytes:
+        """Gives words, and one record after the other on standard input: the next only once something came for the one before."""
+        with subprocess.Popen(
+            words.split(),
+            executable=self.program.path,
+            cwd=self.folder,
+            stdin=subprocess.PIPE,
+            stdout=subprocess.PIPE,
+            stderr=subprocess.STDOUT,
+            bufsize=0,
+        ) as command:
+            said = b""
+            for line in filter(None, lines):
+                command.stdin.write(text_of([line]))
+                is_heard = select.select([command.stdout], [], [], PATIENCE)[0]
+                said += os.read(command.stdout.fileno(), 1 << 16) if is_heard else b"nothing came\n"
+            command.stdin.close()
+            said += command.stdout.read()
+            return said + f"status {command.wait(SECONDS)}\n".encode()
 
     def do_text(self, name: str, lines: list[str]) -> bytes:
         self.path(name).write_bytes(text_of(lines))
