@@ -1,9 +1,10 @@
 """A plain evaluator of jobs: what the cards of a source mean over records, by names and labels. It shares nothing with rpg2."""
 
+from collections.abc import Iterator
 from dataclasses import dataclass, field
 from fractions import Fraction
 
-from cards import Alternatives, Calculation, Condition, Entry, Factor, InputField, Line, Literal, NotEvaluated, Source
+from cards import Alternatives, Calculation, Condition, Entry, Factor, InputField, Line, Literal, NotEvaluated, Shows, Source, Table
 from values import Form, Halt, Held, compared, cut, moved, read, stored
 
 LEVELS = [f"L{it}" for it in range(1, 10)]
@@ -95,12 +96,12 @@ class Evaluator:
     def define(self, name: str, form: Form) -> None:
         self.fields.setdefault(name, Field(form, [form.nothing()]))
 
-    def tables_with_data(self):
+    def tables_with_data(self) -> Iterator[tuple[Table, list[str] | None]]:
         data = iter(self.source.data)
         for table in self.source.tables:
             yield table, next(data) if table.on_a_card else None
 
-    def define_tables(self, table, data: list[str] | None) -> None:
+    def define_tables(self, table: Table, data: list[str] | None) -> None:
         """Defines a table or an array, and the alternating one beside it, with the entries that the data have."""
         both = [it for it in (table, table.other) if it is not None]
         width = sum(it.form.length for it in both)
@@ -120,7 +121,7 @@ class Evaluator:
     def turn(self, names: list[str], is_on: bool) -> None:
         self.on = self.on | set(names) if is_on else self.on - set(names)
 
-    def show(self, shows, order: int | None) -> None:
+    def show(self, shows: Shows, order: int | None) -> None:
         """Those that are named go off, and the one of what came out goes on."""
         self.turn(shows.named(), False)
         if order is not None and shows.of(order):

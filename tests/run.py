@@ -10,6 +10,7 @@ where nothing was shown of a build. README.md says how the files are written.
 
 import argparse
 import os
+import subprocess
 import sys
 import tempfile
 from collections.abc import Callable, Iterable
@@ -32,12 +33,16 @@ AT_ONCE = 20
 Job = Callable[[], list[Outcome]]
 
 
+def shown_run(program: Program, run: Run) -> Outcome:
+    with tempfile.TemporaryDirectory() as folder:
+        try:
+            return case_runs.show(program, Path(folder), run)
+        except (OSError, subprocess.SubprocessError) as why:
+            return Outcome(run.place, f"FAILS: {run.name}", f"\n{why}")
+
+
 def shown_runs(program: Program, runs: list[Run]) -> list[Outcome]:
-    outcomes = []
-    for run in runs:
-        with tempfile.TemporaryDirectory() as folder:
-            outcomes.append(case_runs.show(program, Path(folder), run))
-    return outcomes
+    return [shown_run(program, it) for it in runs]
 
 
 def shown_told(program: Program, path: Path) -> list[Outcome]:

@@ -73,6 +73,13 @@ class Session:
             return does(rest, command.lines)
         return does(*rest.split())
 
+    def seen(self, command: Command) -> bytes:
+        """What is seen of a command; or why it can't be done, as where a file isn't there."""
+        try:
+            return self.obey(command)
+        except (OSError, subprocess.SubprocessError, IndexError, TypeError, ValueError) as why:
+            return f"it can't be done: {why}\n".encode()
+
     def path(self, name: str) -> Path:
         return self.folder / name
 
@@ -209,4 +216,4 @@ def show(program: Program, path: Path, top: Path) -> list[Outcome]:
         folder = Path(name)
         furnish(folder, top)
         session = Session(program, folder, given)
-        return [compared(path, it, session.obey(it), text) for it, text in zip(commands, wanted, strict=True)]
+        return [compared(path, it, session.seen(it), text) for it, text in zip(commands, wanted, strict=True)]
