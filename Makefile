@@ -3,7 +3,7 @@
 EXAMPLE := sales
 RPG2 := crates/rpg2/out/rpg2
 
-.PHONY: run try test edits bench examples
+.PHONY: run try test edits bench
 
 # Proves and builds rpg2, shows the example report's source, compiles, verifies and runs it: what rpg2 says of each, and the printed form.
 run: $(RPG2)
@@ -17,17 +17,12 @@ try:
 	@build/example.sh out/rpg2-unproved $(EXAMPLE)
 
 # The gate: every proof from nothing, every program as two compilers build it, the wrong bodies that the contracts refuse, every case.
-test: examples
+test:
 	tests/all.py
 
 # All wrong bodies, over the libraries that the gate built: before a version, and after a change to a contract.
 edits:
 	tests/edits.py
-
-# The files that a person finds in examples/ are those that the cases run.
-examples:
-	@for file in $(filter-out %.cases %.objects %.session %.md,$(wildcard crates/rpg_show_cases/data/*)); do cmp examples/*/$$(basename $$file) $$file || exit 1; done
-	@cmp docs/MESSAGES.md crates/rpg_show_cases/data/MESSAGES.md
 
 # The example's total over 1,000,000 records beside awk's and a sales report beside COBOL's; what decoding and verifying the largest programs
 # takes; and what compiling costs.
