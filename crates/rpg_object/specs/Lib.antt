@@ -1,3 +1,4 @@
+pub mod AllTables
 pub mod Decoding
 pub mod Fields
 pub mod FirstValues

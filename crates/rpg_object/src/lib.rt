@@ -1,6 +1,7 @@
 //! Object programs as bytes: what they spell, and which number is the first to break its rule.
 #![tactic(auto)]
 
+mod all_tables;
 mod decoding;
 mod encoding;
 mod field;
