@@ -20,7 +20,7 @@ use Rattle.rpg_object.specs.declared.header.Counts.{Counts}
 use Rattle.rpg_object.specs.declared.header.Header.{Header}
 use Rattle.rpg_object.specs.Fields.{fields}
 use Rattle.rpg_object.specs.Header.{header_format, most_instructions}
-use Rattle.rpg_object.specs.Program.{calculation_tables, procedure_tables, Tables, tables, object_of, header_of, tables_of, body, object_name, spelling, wholly_read, begins_with, reading, fault_in, first_fault, FaultStays}
+use Rattle.rpg_object.specs.Program.{Tables, tables, object_of, header_of, tables_of, body, object_name, spelling, wholly_read, begins_with, reading, fault_in, first_fault, FaultStays}
 use Rattle.rpg_object.specs.Subroutines.{subroutines}
 use Rattle.rpg_object.proofs.FieldLaws.{fields_law}
 use Rattle.rpg_object.proofs.HeaderLaws.{header_law}
@@ -28,7 +28,7 @@ use Rattle.rpg_object.proofs.SubroutineLaws.{subroutines_law}
 use Rattle.rpg_object.proofs.ValueLaws.{values_law}
 
 tables_law : (v : Version) (c : Counts) → IsFormat (tables v c)
-unfolding tables procedure_tables calculation_tables
+unfolding tables
 tables_law v c =
     pair_law _ _ (fields_law c.fields) (λ fs.
     pair_law _ _ (values_law fs) (λ vs.
@@ -51,7 +51,7 @@ abbrev with_header : Header × Tables → Header → Header × Tables
 with_header a h = (h, a.1)
 
 there : (a : Header × Tables) → (pair header_format (λ h. tables h.version h.counts)).Holds a → (header_of (object_of a), tables_of (object_of a)) ≡ a
-unfolding tables procedure_tables calculation_tables pair fields subroutines times_with
+unfolding tables pair fields subroutines times_with
 there a h =
     let f : length a.1.0 ≡ a.0.counts.fields = h.1.0.0 in
     let t : length a.1.1.1.0 ≡ a.0.counts.types = h.1.1.1.0.0 in

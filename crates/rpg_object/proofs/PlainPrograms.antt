@@ -10,7 +10,7 @@ use Rattle.rpg_object_rows.specs.Types.{record_type_format}
 use Rattle.rpg_object_rows.proofs.InstructionKept.{instruction_kept, instruction_from}
 use Rattle.rpg_object_rows.proofs.LineLaws.{line_kept, line_from}
 use Rattle.rpg_object_rows.proofs.TypeLaws.{plain_kept, type_kept, type_from}
-use Rattle.rpg_object.specs.Program.{calculation_tables, procedure_tables, body, counts_of, header_of, settings_of, tables}
+use Rattle.rpg_object.specs.Program.{body, counts_of, header_of, settings_of, tables}
 use Rattle.rpg_object.proofs.FieldLaws.{fields_kept, storage_kept, fields_from}
 use Rattle.rpg_object.proofs.HeaderLaws.{AreSettings, AreCounts, IsHeader, header_kept, header_from}
 use Rattle.rpg_object.proofs.SubroutineLaws.{subroutines_kept, instructions_within, subroutines_from}
@@ -19,14 +19,14 @@ use Rattle.rpg_object.proofs.ValueLaws.{values_kept, values_from}
 
 -- in version 1 there is neither a secondary file nor a match field
 plain_program : (p : Object) → body.Holds p → p.version ≡ versions.One → IsPlain p
-unfolding body tables procedure_tables calculation_tables row pair
+unfolding body tables row pair
 plain_program p h one = record {
   secondary = (header_kept (header_of p) h.0).plain one;
   types = all_from_table (record_type_format p.version) IsPlainType (λ t k. plain_kept p.version t k one) (length p.types) p.types h.1.1.1.0;
 }
 
 pub program_kept : (p : Object) → body.Holds p → IsProgram p
-unfolding body tables procedure_tables calculation_tables row pair
+unfolding body tables row pair
 program_kept p h =
     let head = header_kept (header_of p) h.0 in
     let s : AreSettings (settings_of p) = head.settings in
@@ -96,7 +96,7 @@ types_from p h =
     (λ k d lt. (h.types k d lt, λ one. (h.plain one).types k d lt))
 
 pub program_from : (p : Object) → IsProgram p → body.Holds p
-unfolding body tables procedure_tables calculation_tables row pair
+unfolding body tables row pair
 program_from p h =
     let few = h.few_instructions in (
       header_from (header_of p) (header_plain p h),

@@ -8,7 +8,7 @@ use Rattle.rpg_object_rows.specs.Types.{record_type_format}
 use Rattle.rpg_object.specs.Fields.{fields}
 use Rattle.rpg_object.specs.FirstValues.{values_format}
 use Rattle.rpg_object.specs.Header.{header_format}
-use Rattle.rpg_object.specs.Program.{calculation_tables, procedure_tables, body, header_of, tables}
+use Rattle.rpg_object.specs.Program.{body, header_of, tables}
 use Rattle.rpg_object.specs.Subroutines.{subroutines}
 use Rattle.rpg_object.proofs.SubroutineLaws.{subroutines_text}
 
@@ -42,7 +42,7 @@ module _ (p : Object) where
 
   -- its header, then its tables
   body_text : body.spelling p ≡ rest_text all_subroutines_text
-  unfolding body tables procedure_tables calculation_tables row pair
+  unfolding body tables row pair
   body_text = ap rest_text (subroutines_text _ _ p.subroutines ∙ sym (subroutines_text (length p.subroutines) 8192 p.subroutines))
 
   regrouped : (old a b c d e f g h : List ℕ) → (((((((old ++ a) ++ b) ++ c) ++ d) ++ e) ++ f) ++ g) ++ h ≡ old ++ (a ++ (b ++ (c ++ (d ++ (e ++ (f ++ (g ++ h)))))))

@@ -1,4 +1,3 @@
-pub mod AllTables
 pub mod Decoding
 pub mod Fields
 pub mod FirstValues

@@ -21,33 +21,19 @@ use Rattle.rpg_object.specs.FirstValues.{values_format}
 use Rattle.rpg_object.specs.Header.{header_format, most_instructions}
 use Rattle.rpg_object.specs.Subroutines.{subroutines}
 
-abbrev pub CalculationTables : Type 0
-CalculationTables = List (Instruction ℕ) × (List (Instruction ℕ) × List SubroutineRow)
-
-abbrev pub ProcedureTables : Type 0
-ProcedureTables = List (TypeRow ℕ) × (List LineRow × CalculationTables)
-
 abbrev pub Tables : Type 0
-Tables = List FieldForm × (List (List Value) × ProcedureTables)
+Tables = List FieldForm × (List (List Value) × (List (TypeRow ℕ) × (List LineRow × (List (Instruction ℕ) × (List (Instruction ℕ) × List SubroutineRow)))))
 
--- detail, total, subroutines
-unfoldable pub calculation_tables : Counts → Format CalculationTables
-calculation_tables c =
-    pair (table c.detail instruction) (λ detail.
-    pair (table c.total instruction) (λ total.
-    subroutines c.subroutines (most_instructions - c.detail - c.total)))
-
--- what is done with the fields: types, lines, calculations
-unfoldable pub procedure_tables : Version → Counts → Format ProcedureTables
-procedure_tables v c =
-    pair (table c.types (record_type_format v)) (λ ts.
-    pair (table c.lines line) (λ ls. calculation_tables c))
-
--- fields, first values, and what is done with them
+-- fields, first values, types, lines, detail, total, subroutines
 unfoldable pub tables : Version → Counts → Format Tables
 tables v c =
     pair (fields c.fields) (λ fs.
-    pair (values_format fs) (λ vs. procedure_tables v c))
+    pair (values_format fs) (λ vs.
+    pair (table c.types (record_type_format v)) (λ ts.
+    pair (table c.lines line) (λ ls.
+    pair (table c.detail instruction) (λ detail.
+    pair (table c.total instruction) (λ total.
+    subroutines c.subroutines (most_instructions - c.detail - c.total)))))))
 
 -- the program of a header and its tables
 abbrev pub object_of : Header × Tables → Object

@@ -8,12 +8,15 @@ ghost use Rattle.rpg_object_program.specs.Object.{Object, seen};
 ghost use Rattle.rpg_object.specs.Decoding.{fault_text, FaultIs, IsOkBarMemory};
 ghost use Rattle.rpg_object.specs.Program.{body, first_fault, reading, spelling};
 
-use crate::all_tables::{rows_with, tables_at};
-use crate::header::header_at;
+use crate::field::fields_at;
+use crate::first_value::values_at;
+use crate::header::{INSTRUCTIONS, header_at};
+use crate::subroutine::subroutines_at;
 use rpg_object_format::fault::{Code, ReadFault};
 use rpg_object_format::number::fault_at;
 use rpg_object_program::Program;
 use rpg_object_program::row::Rows;
+use rpg_object_rows::{instructions_at, lines_at, record_types_at};
 use std::alloc::Global;
 use std::error::Error;
 use std::fmt;
@@ -41,13 +44,42 @@ impl fmt::Display for DecodeFault {
 impl Error for DecodeFault {}
 
 /// Reads the rows behind the name.
-#[tactic(auto, unfolding(rpg_object_format::specs::Format::pair, rpg_object_format::specs::Format::row, crate::specs::Program::body))]
+#[tactic(auto, unfolding(rpg_object_format::specs::Format::pair, rpg_object_format::specs::Format::row, crate::specs::Program::tables, crate::specs::Program::body))]
 fn body_at(alloc: Global, bytes: &[u8]) -> Result<(Rows, &[u8]), ReadFault>
     ensures { Gives (λ x. (seen x.0, x.1.now)) result (body.reading bytes.now) }
 {
     let (header, rest) = header_at(bytes)?;
-    let (tables, rest) = tables_at(alloc, header, rest)?;
-    Ok((rows_with(header, tables), rest))
+    let settings = header.settings;
+    let counts = header.counts;
+    let left = INSTRUCTIONS
+        .saturating_sub(counts.detail)
+        .saturating_sub(counts.total);
+    let (fields, rest) = fields_at(alloc, counts.fields, rest)?;
+    let (values, rest) = values_at(alloc, &fields, rest)?;
+    let (types, rest) = record_types_at(alloc, header.version, counts.types, rest)?;
+    let (lines, rest) = lines_at(alloc, counts.lines, rest)?;
+    let (detail, rest) = instructions_at(alloc, counts.detail, rest)?;
+    let (total, rest) = instructions_at(alloc, counts.total, rest)?;
+    let (subroutines, rest) = subroutines_at(alloc, counts.subroutines, left, rest)?;
+    Ok((
+        Rows {
+            version: header.version,
+            allowance: settings.allowance,
+            record_length: settings.record_length,
+            secondary_length: header.secondary_length,
+            printer_length: settings.printer_length,
+            disk_length: settings.disk_length,
+            overflow: settings.overflow,
+            fields,
+            values,
+            types,
+            lines,
+            detail,
+            total,
+            subroutines,
+        },
+        rest,
+    ))
 }
 
 /// The rows that the bytes spell, all of the bytes.

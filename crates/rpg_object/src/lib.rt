@@ -1,7 +1,6 @@
 //! Object programs as bytes: what they spell, and which number is the first to break its rule.
 #![tactic(auto)]
 
-mod all_tables;
 mod decoding;
 mod encoding;
 mod field;

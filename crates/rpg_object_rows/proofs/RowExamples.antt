@@ -23,7 +23,7 @@ use Rattle.rpg_object_rows.specs.Indicators.{alternative, condition_format, cond
 use Rattle.rpg_object_rows.specs.Operands.{operand}
 use Rattle.rpg_object_rows.specs.Lines.{line, line_field, line_field_parts, line_parts, spacing}
 use Rattle.rpg_object_rows.specs.Shapes.{no_number, row_where}
-use Rattle.rpg_object_rows.specs.Types.{control_field_format, input_field_format, record_code_format, record_type_format, type_parts, type_tables}
+use Rattle.rpg_object_rows.specs.Types.{control_field_format, input_field_format, record_code_format, record_type_format, type_parts}
 
 abbrev of_field : ℕ → Operand ℕ
 of_field k = record { field = k; index = Blank }
@@ -54,19 +54,19 @@ a_type = record {
 }
 
 types : (record_type_format One).reading (1 ∷ 0 ∷ 0 ∷ 1 ∷ 0 ∷ 1 ∷ 0 ∷ 1 ∷ 0 ∷ 1 ∷ 1 ∷ 67 ∷ 2 ∷ 1 ∷ 0 ∷ 3 ∷ 0 ∷ 4 ∷ 0 ∷ 5 ∷ 0 ∷ 6 ∷ 0 ∷ 7 ∷ 10 ∷ 11 ∷ 12 ∷ 0 ∷ []) ≡ Ok (a_type, [])
-unfolding record_type_format type_parts type_tables record_code_format control_field_format input_field_format shows_format row_where no_number read_byte read_two read_times byte two_bytes pair row times_with
+unfolding record_type_format type_parts record_code_format control_field_format input_field_format shows_format row_where no_number read_byte read_two read_times byte two_bytes pair row times_with
 types = refl
 
 too_many_codes : (record_type_format One).reading (1 ∷ 0 ∷ 0 ∷ 101 ∷ 0 ∷ 0 ∷ 0 ∷ 0 ∷ []) ≡ breaks 6 PastLimit
-unfolding record_type_format type_parts type_tables record_code_format control_field_format input_field_format shows_format row_where no_number read_byte read_two read_times byte two_bytes pair row times_with
+unfolding record_type_format type_parts record_code_format control_field_format input_field_format shows_format row_where no_number read_byte read_two read_times byte two_bytes pair row times_with
 too_many_codes = refl
 
 no_level : (record_type_format One).reading (1 ∷ 0 ∷ 0 ∷ 0 ∷ 0 ∷ 1 ∷ 0 ∷ 0 ∷ 10 ∷ 0 ∷ 0 ∷ 1 ∷ 0 ∷ 1 ∷ []) ≡ breaks 6 NotAllowed
-unfolding record_type_format type_parts type_tables record_code_format control_field_format input_field_format shows_format row_where no_number read_byte read_two read_times byte two_bytes pair row times_with
+unfolding record_type_format type_parts record_code_format control_field_format input_field_format shows_format row_where no_number read_byte read_two read_times byte two_bytes pair row times_with
 no_level = refl
 
 not_the_primary : (record_type_format One).reading (1 ∷ 1 ∷ 0 ∷ 0 ∷ 0 ∷ 0 ∷ 0 ∷ 0 ∷ []) ≡ breaks 7 Unused
-unfolding record_type_format type_parts type_tables record_code_format control_field_format input_field_format shows_format row_where no_number read_byte read_two read_times byte two_bytes pair row times_with
+unfolding record_type_format type_parts record_code_format control_field_format input_field_format shows_format row_where no_number read_byte read_two read_times byte two_bytes pair row times_with
 not_the_primary = refl
 
 -- of the secondary file, with a match field of level 1
@@ -81,15 +81,15 @@ matched_type = record {
 }
 
 matched_types : (record_type_format Two).reading (2 ∷ 1 ∷ 0 ∷ 0 ∷ 0 ∷ 0 ∷ 0 ∷ 0 ∷ 0 ∷ 1 ∷ 1 ∷ 1 ∷ 0 ∷ 3 ∷ 0 ∷ 4 ∷ []) ≡ Ok (matched_type, [])
-unfolding record_type_format type_parts type_tables record_code_format control_field_format input_field_format shows_format row_where no_number read_byte read_two read_times byte two_bytes pair row times_with
+unfolding record_type_format type_parts record_code_format control_field_format input_field_format shows_format row_where no_number read_byte read_two read_times byte two_bytes pair row times_with
 matched_types = refl
 
 no_third_file : (record_type_format Two).reading (1 ∷ 2 ∷ 0 ∷ 0 ∷ 0 ∷ 0 ∷ 0 ∷ 0 ∷ 0 ∷ 0 ∷ []) ≡ breaks 9 NotAllowed
-unfolding record_type_format type_parts type_tables record_code_format control_field_format input_field_format shows_format row_where no_number read_byte read_two read_times byte two_bytes pair row times_with
+unfolding record_type_format type_parts record_code_format control_field_format input_field_format shows_format row_where no_number read_byte read_two read_times byte two_bytes pair row times_with
 no_third_file = refl
 
 too_many_matches : (record_type_format Two).reading (1 ∷ 0 ∷ 0 ∷ 0 ∷ 0 ∷ 0 ∷ 0 ∷ 0 ∷ 0 ∷ 10 ∷ []) ≡ breaks 2 PastLimit
-unfolding record_type_format type_parts type_tables record_code_format control_field_format input_field_format shows_format row_where no_number read_byte read_two read_times byte two_bytes pair row times_with
+unfolding record_type_format type_parts record_code_format control_field_format input_field_format shows_format row_where no_number read_byte read_two read_times byte two_bytes pair row times_with
 too_many_matches = refl
 
 -- ---- lines

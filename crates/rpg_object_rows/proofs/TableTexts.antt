@@ -10,7 +10,7 @@ use Rattle.rpg_object_program.specs.declared.row.Version.TheVariants as versions
 use Rattle.rpg_object_rows.specs.Indicators.{alternative}
 use Rattle.rpg_object_rows.specs.Lines.{line, line_field, line_head, line_parts, spacing}
 use Rattle.rpg_object_rows.specs.Shapes.{no_number, row_where}
-use Rattle.rpg_object_rows.specs.Types.{control_field_format, input_field_format, record_code_format, record_type_format, type_head, type_parts, type_tables}
+use Rattle.rpg_object_rows.specs.Types.{control_field_format, input_field_format, record_code_format, record_type_format, type_head, type_parts}
 
 -- the bytes of rows
 abbrev texts : {X : Type 0} → (X → List ℕ) → List X → List ℕ
@@ -25,7 +25,7 @@ abbrev tables_text : TypeRow ℕ → List ℕ
 tables_text t = texts record_code_format.spelling t.codes ++ (texts control_field_format.spelling t.levels ++ (texts input_field_format.spelling t.inputs ++ texts control_field_format.spelling t.matches))
 
 type_text : (v : Version) (t : TypeRow ℕ) → (v ≡ versions.One → IsPlainType t) → (record_type_format v).spelling t ≡ type_head v t ++ tables_text t
-unfolding record_type_format type_parts type_tables byte two_bytes pair row row_where no_number times_with
+unfolding record_type_format type_parts byte two_bytes pair row row_where no_number times_with
 type_text versions.One t plain = rw (plain refl).file refl
 type_text versions.Two t plain = refl
 

@@ -13,7 +13,7 @@ use Rattle.rpg_object_program.specs.Kept.{IsCodeRow, IsControlRow, IsInputRow, I
 use Rattle.rpg_object_program.specs.declared.row.Version.{Version}
 use Rattle.rpg_object_program.specs.declared.row.Version.TheVariants as versions
 use Rattle.rpg_text.specs.Texts.{is_between}
-use Rattle.rpg_object_rows.specs.Types.{TypeParts, control_field_format, input_field_format, input_file, input_file_by_number, input_file_number, is_two, match_count, record_code_format, record_type_format, type_parts, type_tables}
+use Rattle.rpg_object_rows.specs.Types.{TypeParts, control_field_format, input_field_format, input_file, input_file_by_number, input_file_number, is_two, match_count, record_code_format, record_type_format, type_parts}
 use Rattle.rpg_object_rows.proofs.Choices.{all_from_table, between, counted, few, flag_from, table_from_all, within}
 use Rattle.rpg_object_rows.proofs.IndicatorLaws.{indicator_law, shows_law}
 use Rattle.rpg_object_rows.proofs.IndicatorsKept.{indicator_from, indicator_kept, shows_from, shows_kept}
@@ -43,7 +43,7 @@ match_count_law : (v : Version) → IsFormat (match_count v)
 match_count_law v = where_used_law (is_two v) _ 0 no_number (count_law 9) no_number_law
 
 type_parts_law : (v : Version) → IsFormat (type_parts v)
-unfolding type_parts type_tables
+unfolding type_parts
 type_parts_law v =
     pair_law _ _ indicator_law (λ i. pair_law _ _ (input_file_law v) (λ file.
     pair_law _ _ (count_law 100) (λ codes. pair_law _ _ (count_law 100) (λ levels. pair_law _ _ (count_law 500) (λ inputs. pair_law _ _ (match_count_law v) (λ matches.
@@ -58,7 +58,7 @@ counts_are a {c} {c'} {l} {l'} {i} {i'} {m} {m'} ec el ei em =
     ap (λ (k : ℕ). with_counts a k l i m) ec ∙ ap (λ (k : ℕ). with_counts a c' k i m) el ∙ ap (λ (k : ℕ). with_counts a c' l' k m) ei ∙ ap (λ (k : ℕ). with_counts a c' l' i' k) em
 
 type_there : (v : Version) (a : TypeParts) → (type_parts v).Holds a → with_counts a (length a.1.1.1.1.1.1.0) (length a.1.1.1.1.1.1.1.0) (length a.1.1.1.1.1.1.1.1.0) (length a.1.1.1.1.1.1.1.1.1) ≡ a
-unfolding type_parts type_tables pair times_with
+unfolding type_parts pair times_with
 type_there v a h =
     let codes : length a.1.1.1.1.1.1.0 ≡ a.1.1.0 = h.1.1.1.1.1.1.0.0 in
     let levels : length a.1.1.1.1.1.1.1.0 ≡ a.1.1.1.0 = h.1.1.1.1.1.1.1.0.0 in
@@ -136,7 +136,7 @@ none_left (x ∷ xs) e = absurd (omega arith)
 -- ---- what record types keep, whole
 
 pub type_kept : (v : Version) (t : TypeRow ℕ) → (record_type_format v).Holds t → IsTypeRow t
-unfolding record_type_format type_parts type_tables pair row two_bytes
+unfolding record_type_format type_parts pair row two_bytes
 type_kept v t h = record {
   indicator = indicator_kept t.indicator h.0;
   few_codes = counted 100 (length t.codes) h.1.1.0.0;
@@ -150,14 +150,14 @@ type_kept v t h = record {
 }
 
 pub plain_kept : (v : Version) (t : TypeRow ℕ) → (record_type_format v).Holds t → v ≡ versions.One → IsPlainType t
-unfolding record_type_format type_parts type_tables pair row
+unfolding record_type_format type_parts pair row
 plain_kept v t h one = record {
   file = primary_kept v t.file h.1.0 one;
   matches = none_left t.matches (no_matches v (length t.matches) h.1.1.1.1.1.0 one);
 }
 
 pub type_from : (v : Version) (t : TypeRow ℕ) → IsTypeRow t → (v ≡ versions.One → IsPlainType t) → (record_type_format v).Holds t
-unfolding record_type_format type_parts type_tables pair row byte two_bytes
+unfolding record_type_format type_parts pair row byte two_bytes
 type_from v t h plain =
     let codes = h.few_codes in
     let levels = h.few_levels in

@@ -59,27 +59,16 @@ input_field_format = row
     (λ f. (f.from, (f.to, (f.field, (f.shows, tt)))))
     (pair any_number (λ from. pair any_number (λ to. pair any_number (λ field. pair shows_format (λ s. unused_byte)))))
 
-abbrev pub TypeTables : Type 0
-TypeTables = List RecordCode × (List ControlField × (List (InputField ℕ) × List ControlField))
-
 abbrev pub TypeParts : Type 0
-TypeParts = Option ℕ × (InputFile × (ℕ × (ℕ × (ℕ × (ℕ × TypeTables)))))
-
-abbrev pub tables_of : TypeRow ℕ → TypeTables
-tables_of t = (t.codes, (t.levels, (t.inputs, t.matches)))
-
--- so many codes, levels, input fields and match fields
-unfoldable pub type_tables : ℕ → ℕ → ℕ → ℕ → Format TypeTables
-type_tables codes levels inputs matches =
-    pair (table codes record_code_format) (λ cs. pair (table levels control_field_format) (λ ls.
-    pair (table inputs input_field_format) (λ is. table matches control_field_format)))
+TypeParts = Option ℕ × (InputFile × (ℕ × (ℕ × (ℕ × (ℕ × (List RecordCode × (List ControlField × (List (InputField ℕ) × List ControlField))))))))
 
 -- indicator, file, counts of codes, levels, input fields and match fields, and these
 unfoldable pub type_parts : Version → Format TypeParts
 type_parts v =
     pair indicator_format (λ i. pair (input_file v) (λ file.
     pair (count 100) (λ codes. pair (count 100) (λ levels. pair (count 500) (λ inputs. pair (match_count v) (λ matches.
-    type_tables codes levels inputs matches))))))
+    pair (table codes record_code_format) (λ cs. pair (table levels control_field_format) (λ ls.
+    pair (table inputs input_field_format) (λ is. table matches control_field_format)))))))))
 
 unfoldable pub record_type_format : Version → Format (TypeRow ℕ)
 record_type_format v = row
@@ -91,7 +80,7 @@ record_type_format v = row
       inputs = p.1.1.1.1.1.1.1.1.0;
       matches = p.1.1.1.1.1.1.1.1.1;
     })
-    (λ t. (t.indicator, (t.file, (length t.codes, (length t.levels, (length t.inputs, (length t.matches, tables_of t)))))))
+    (λ t. (t.indicator, (t.file, (length t.codes, (length t.levels, (length t.inputs, (length t.matches, (t.codes, (t.levels, (t.inputs, t.matches))))))))))
     (type_parts v)
 
 -- the bytes of a record type before its tables

@@ -1,6 +1,6 @@
 //! Record types, with their codes, control fields and input fields.
 
-ghost use Rattle.std.specs.Prelude.{◌≡◌, ℕ, ◌++◌, All, IfOk, length, map, OnOk};
+ghost use Rattle.std.specs.Prelude.{◌≡◌, ℕ, ◌++◌, All, length, map, OnOk};
 ghost use Rattle.rpg_effect.specs.declared.input.ControlField as control;
 ghost use Rattle.rpg_effect.specs.declared.input.InputField as input;
 ghost use Rattle.rpg_effect.specs.declared.input.RecordCode as code;
@@ -223,48 +223,9 @@ fn put_match_count(out: &mut Vec<u8>, version: Version, count: u16) -> Result<()
     }
 }
 
-/// What stands before the tables of a record type.
-#[derive(Clone, Copy)]
-struct TypeHead {
-    indicator: Option<u8>,
-    file: InputFile,
-    codes: u16,
-    levels: u16,
-    inputs: u16,
-    matches: u16,
-}
-
-/// Reads the tables of a record type, behind its head.
-#[tactic(auto, unfolding(rpg_object_format::specs::Format::pair, rpg_object_format::specs::Format::times_with, crate::specs::Types::type_tables))]
-fn type_behind(
-    alloc: Global,
-    head: TypeHead,
-    bytes: &[u8],
-) -> Result<(RecordType, &[u8]), ReadFault>
-    ensures tables { Gives (λ x. (rows.tables_of (type_row x.0), x.1.now)) result ((rows.type_tables head.codes head.levels head.inputs head.matches).reading bytes.now) }
-    ensures indicator { IfOk result (λ x. x.0.indicator ≡ head.indicator) }
-    ensures file { IfOk result (λ x. x.0.file ≡ head.file) }
-{
-    let (codes, rest) = rows_at(alloc, head.codes, bytes)?;
-    let (levels, rest) = rows_at(alloc, head.levels, rest)?;
-    let (inputs, rest) = rows_at(alloc, head.inputs, rest)?;
-    let (matches, rest) = rows_at(alloc, head.matches, rest)?;
-    Ok((
-        RecordType {
-            file: head.file,
-            indicator: head.indicator,
-            codes,
-            levels,
-            inputs,
-            matches,
-        },
-        rest,
-    ))
-}
-
 /// Reads a record type, as the version spells it. More than 100 codes, 100 control fields, 500 input fields or 9 match
 /// fields are B7.
-#[tactic(auto, unfolding(rpg_object_format::specs::Format::byte, rpg_object_format::specs::Format::two_bytes, rpg_object_format::specs::Format::pair, rpg_object_format::specs::Format::row, crate::specs::Types::type_parts, crate::specs::Types::record_type_format))]
+#[tactic(auto, unfolding(rpg_object_format::specs::Format::byte, rpg_object_format::specs::Format::two_bytes, rpg_object_format::specs::Format::pair, rpg_object_format::specs::Format::row, rpg_object_format::specs::Format::times_with, crate::specs::Types::type_parts, crate::specs::Types::record_type_format))]
 pub fn record_type_at(
     alloc: Global,
     version: Version,
@@ -274,20 +235,25 @@ pub fn record_type_at(
 {
     let (indicator, rest) = indicator_at(bytes)?;
     let (file, rest) = input_file_at(version, rest)?;
-    let (codes, rest) = count_at(rest, 100)?;
-    let (levels, rest) = count_at(rest, 100)?;
-    let (inputs, rest) = count_at(rest, 500)?;
-    let (matches, rest) = match_count_at(version, rest)?;
-    let head = TypeHead {
-        indicator,
-        file,
-        codes,
-        levels,
-        inputs,
-        matches,
-    };
-    let (record_type, rest) = type_behind(alloc, head, rest)?;
-    Ok((record_type, rest))
+    let (code_count, rest) = count_at(rest, 100)?;
+    let (level_count, rest) = count_at(rest, 100)?;
+    let (input_count, rest) = count_at(rest, 500)?;
+    let (match_count, rest) = match_count_at(version, rest)?;
+    let (codes, rest) = rows_at(alloc, code_count, rest)?;
+    let (levels, rest) = rows_at(alloc, level_count, rest)?;
+    let (inputs, rest) = rows_at(alloc, input_count, rest)?;
+    let (matches, rest) = rows_at(alloc, match_count, rest)?;
+    Ok((
+        RecordType {
+            file,
+            indicator,
+            codes,
+            levels,
+            inputs,
+            matches,
+        },
+        rest,
+    ))
 }
 
 /// Writes the numbers of a record type before its tables.
