@@ -17,16 +17,28 @@ pub struct BothWays {
     pub values: Option<Outputs>,
 }
 
-/// The bytes of the object, or those that the source is compiled to: none where it has a fault.
-pub fn object_of(alloc: Global, case: &Case<'_>) -> Result<Vec<u8>, AllocError> {
-    if let Kind::Object = case.kind {
-        return case.object(alloc);
-    }
+/// The text of the case's cards.
+fn source_of(alloc: Global, case: &Case<'_>) -> Result<Vec<u8>, AllocError> {
     let cards = case.cards(alloc)?;
-    let source = text_of(alloc, &cards)?;
-    match compile(alloc, &source, case.allowance.max(1)) {
+    text_of(alloc, &cards)
+}
+
+/// The bytes that a source is compiled to: none where it has a fault.
+fn compiled(alloc: Global, source: &[u8], allowance: u16) -> Result<Vec<u8>, AllocError> {
+    match compile(alloc, source, allowance.max(1)) {
         Ok(program) => encode(alloc, &program),
         Err(_) => Ok(Vec::new(alloc)),
+    }
+}
+
+/// The bytes of the object, or those that the source is compiled to.
+pub fn object_of(alloc: Global, case: &Case<'_>) -> Result<Vec<u8>, AllocError> {
+    match case.kind {
+        Kind::Object => case.object(alloc),
+        Kind::Source => {
+            let source = source_of(alloc, case)?;
+            compiled(alloc, &source, case.allowance)
+        }
     }
 }
 
