@@ -155,20 +155,85 @@ impl<'a> Request<'a> {
             _ => None,
         }
     }
+
+    /// Whether the work of a command goes to standard output, so that the line of its answer can't.
+    pub fn writes_standard_output(&self) -> bool {
+        match self {
+            Request::Run(words) => words.writes_standard_output(),
+            _ => false,
+        }
+    }
+
+    fn conflict(&self) -> Option<WordFault> {
+        match self {
+            Request::Run(words) => words.conflict(),
+            _ => None,
+        }
+    }
 }
+
+/// A fault of the words that clap doesn't see.
+#[derive(Clone, Copy)]
+struct WordFault {
+    kind: ErrorKind,
+    message: &'static str,
+}
+
+const COMMAND_WANTED: WordFault = WordFault {
+    kind: ErrorKind::MissingSubcommand,
+    message: "a command is wanted",
+};
+
+const TWO_INPUTS: WordFault = WordFault {
+    kind: ErrorKind::ArgumentConflict,
+    message: "'--secondary <FILE>' and '<INPUT>' are both standard input",
+};
+
+const TWO_OUTPUTS: WordFault = WordFault {
+    kind: ErrorKind::ArgumentConflict,
+    message: "'--disk <FILE>' and '<PRINT>' are both standard output",
+};
 
 /// What stands for standard input or output in place of a file.
 const STANDARD: &str = "-";
 
+/// Whether a word that may name a file is standard input or output.
+pub fn is_standard(path: &str) -> bool {
+    path == STANDARD
+}
+
+fn may_be_standard(path: Option<&str>) -> bool {
+    match path {
+        Some(path) => is_standard(path),
+        None => false,
+    }
+}
+
 impl<'a> RunWords<'a> {
     /// The file of records; none where they come from standard input.
     pub fn input_file(&self) -> Option<&'a str> {
-        (self.input != STANDARD).then_some(self.input)
+        (!is_standard(self.input)).then_some(self.input)
     }
 
     /// Where the printed lines go; none where that is standard output.
     pub fn print_file(&self) -> Option<&'a str> {
-        (self.print != STANDARD).then_some(self.print)
+        (!is_standard(self.print)).then_some(self.print)
+    }
+
+    /// Whether printed lines or the records of a disk file go to standard output.
+    pub fn writes_standard_output(&self) -> bool {
+        is_standard(self.print) || may_be_standard(self.disk)
+    }
+
+    /// What is wrong with words that name a standard stream twice.
+    fn conflict(&self) -> Option<WordFault> {
+        if is_standard(self.input) && may_be_standard(self.secondary) {
+            Some(TWO_INPUTS)
+        } else if is_standard(self.print) && may_be_standard(self.disk) {
+            Some(TWO_OUTPUTS)
+        } else {
+            None
+        }
     }
 
     fn path(&self, word: FileWord) -> Option<&'a str> {
@@ -239,41 +304,41 @@ pub fn refuse_same_file(alloc: Global, same: SameFile) -> Refusal {
     Refusal::of(same_file_error(alloc, same))
 }
 
-fn compile_words<'a>(given: &ArgMatches<'a>) -> Option<CompileWords<'a>> {
+fn compile_words<'a>(given: &ArgMatches<'a>) -> Option<Request<'a>> {
     let allowance = given.get_one::<u16>("allowance")?;
     if allowance == 0 {
         return None;
     }
-    Some(CompileWords {
+    Some(Request::Compile(CompileWords {
         source: given.get_str("SRC")?,
         object: given.get_str("OBJ")?,
         allowance,
         faults: given.get_one::<u16>("faults")?,
-    })
+    }))
 }
 
-fn check_words<'a>(given: &ArgMatches<'a>) -> Option<CheckWords<'a>> {
-    Some(CheckWords {
+fn check_words<'a>(given: &ArgMatches<'a>) -> Option<Request<'a>> {
+    Some(Request::Check(CheckWords {
         source: given.get_str("SRC")?,
         faults: given.get_one::<u16>("faults")?,
-    })
+    }))
 }
 
-fn verify_words<'a>(given: &ArgMatches<'a>) -> Option<VerifyWords<'a>> {
-    Some(VerifyWords {
+fn verify_words<'a>(given: &ArgMatches<'a>) -> Option<Request<'a>> {
+    Some(Request::Verify(VerifyWords {
         object: given.get_str("OBJ")?,
-    })
+    }))
 }
 
-fn show_words<'a>(given: &ArgMatches<'a>) -> Option<ShowWords<'a>> {
-    Some(ShowWords {
+fn show_words<'a>(given: &ArgMatches<'a>) -> Option<Request<'a>> {
+    Some(Request::Show(ShowWords {
         object: given.get_str("OBJ")?,
         source: given.get_str("source"),
-    })
+    }))
 }
 
-fn run_words<'a>(given: &ArgMatches<'a>) -> Option<RunWords<'a>> {
-    Some(RunWords {
+fn run_words<'a>(given: &ArgMatches<'a>) -> Option<Request<'a>> {
+    Some(Request::Run(RunWords {
         object: given.get_str("OBJ")?,
         input: given.get_str("INPUT")?,
         print: given.get_str("PRINT")?,
@@ -282,32 +347,42 @@ fn run_words<'a>(given: &ArgMatches<'a>) -> Option<RunWords<'a>> {
         disk: given.get_str("disk"),
         most: given.get_one::<u64>("most"),
         source: given.get_str("source"),
+    }))
+}
+
+fn explain_words<'a>(given: &ArgMatches<'a>) -> Request<'a> {
+    Request::Explain(ExplainWords {
+        code: given.get_str("CODE"),
+        number: given.get_str("N"),
     })
 }
 
-fn explain_words<'a>(given: &ArgMatches<'a>) -> ExplainWords<'a> {
-    ExplainWords {
-        code: given.get_str("CODE"),
-        number: given.get_str("N"),
-    }
-}
-
-fn request_in<'a>(matches: &ArgMatches<'a>) -> Option<Request<'a>> {
+fn given_words<'a>(matches: &ArgMatches<'a>) -> Option<Request<'a>> {
     match matches.subcommand()? {
-        ("compile", given) => compile_words(given).map(Request::Compile),
-        ("check", given) => check_words(given).map(Request::Check),
-        ("list", given) => list_words(given).map(Request::List),
-        ("cards", given) => cards_words(given).map(Request::Cards),
-        ("verify", given) => verify_words(given).map(Request::Verify),
-        ("show", given) => show_words(given).map(Request::Show),
-        ("run", given) => run_words(given).map(Request::Run),
-        ("explain", given) => Some(Request::Explain(explain_words(given))),
+        ("compile", given) => compile_words(given),
+        ("check", given) => check_words(given),
+        ("list", given) => list_words(given),
+        ("cards", given) => cards_words(given),
+        ("verify", given) => verify_words(given),
+        ("show", given) => show_words(given),
+        ("run", given) => run_words(given),
+        ("explain", given) => Some(explain_words(given)),
         _ => None,
     }
 }
 
-fn command_wanted(command: &mut Command<'_>) -> Error {
-    match command.error(ErrorKind::MissingSubcommand, "a command is wanted") {
+fn request_in<'a>(matches: &ArgMatches<'a>) -> Result<Request<'a>, WordFault> {
+    let Some(request) = given_words(matches) else {
+        return Err(COMMAND_WANTED);
+    };
+    match request.conflict() {
+        None => Ok(request),
+        Some(fault) => Err(fault),
+    }
+}
+
+fn error_of(command: &mut Command<'_>, fault: WordFault) -> Error {
+    match command.error(fault.kind, fault.message) {
         Ok(error) => error,
         Err(error) => Error::from(error),
     }
@@ -317,8 +392,8 @@ fn read<'a>(alloc: Global, words: &'a [String]) -> Result<Request<'a>, Error> {
     let mut command = command(alloc)?;
     let matches = command.try_get_matches_from_mut(words)?;
     match request_in(&matches) {
-        Some(request) => Ok(request),
-        None => Err(command_wanted(&mut command)),
+        Ok(request) => Ok(request),
+        Err(fault) => Err(error_of(&mut command, fault)),
     }
 }
 
