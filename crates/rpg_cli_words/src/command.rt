@@ -56,31 +56,26 @@ fn arg<'a>(alloc: Global, word: &Word) -> Result<Arg<'a>, AllocError> {
     }
 }
 
-/// Adds a word to a command.
-fn with_word<'a>(
-    command: Command<'a>,
-    alloc: Global,
-    word: &Word,
-) -> Result<Command<'a>, AllocError> {
-    command.arg(arg(alloc, word)?)
+fn args_of<'a>(alloc: Global, words: &[Word]) -> Result<Vec<Arg<'a>>, AllocError> {
+    let mut args = Vec::new(alloc);
+    for word in words {
+        args.push(arg(alloc, word)?)?;
+    }
+    Ok(args)
 }
 
 /// A command with its words.
 fn command_of<'a>(alloc: Global, row: &CommandWords) -> Result<Command<'a>, AllocError> {
-    let mut command = Command::new(alloc, row.name).about(row.about);
-    for word in row.words {
-        command = with_word(command, alloc, word)?;
-    }
-    Ok(command)
+    let args = args_of(alloc, row.words)?;
+    Command::new(alloc, row.name).about(row.about).args(args)
 }
 
-/// Adds a command to the program's.
-fn with_command<'a>(
-    command: Command<'a>,
-    alloc: Global,
-    row: &CommandWords,
-) -> Result<Command<'a>, AllocError> {
-    command.subcommand(command_of(alloc, row)?)
+fn commands<'a>(alloc: Global) -> Result<Vec<Command<'a>>, AllocError> {
+    let mut commands = Vec::new(alloc);
+    for row in &COMMANDS {
+        commands.push(command_of(alloc, row)?)?;
+    }
+    Ok(commands)
 }
 
 /// What each exit status tells, below the commands.
@@ -106,9 +101,6 @@ fn with_rules<'a>(command: Command<'a>) -> Command<'a> {
 }
 
 pub(crate) fn command<'a>(alloc: Global) -> Result<Command<'a>, AllocError> {
-    let mut command = with_rules(with_statuses(with_texts(Command::new(alloc, "rpg2"))));
-    for row in &COMMANDS {
-        command = with_command(command, alloc, row)?;
-    }
-    Ok(command)
+    let commands = commands(alloc)?;
+    with_rules(with_statuses(with_texts(Command::new(alloc, "rpg2")))).subcommands(commands)
 }

@@ -132,7 +132,7 @@ impl FileWord {
     }
 }
 
-/// Two words that name one file, by whatever names. The second would empty it.
+/// Two words that name one file, by whatever names, or one standard stream. The second would empty it, or take what is the first one's.
 #[derive(Clone, Copy)]
 pub struct SameFile {
     pub earlier: FileWord,
@@ -163,36 +163,7 @@ impl<'a> Request<'a> {
             _ => false,
         }
     }
-
-    fn conflict(&self) -> Option<WordFault> {
-        match self {
-            Request::Run(words) => words.conflict(),
-            _ => None,
-        }
-    }
 }
-
-/// A fault of the words that clap doesn't see.
-#[derive(Clone, Copy)]
-struct WordFault {
-    kind: ErrorKind,
-    message: &'static str,
-}
-
-const COMMAND_WANTED: WordFault = WordFault {
-    kind: ErrorKind::MissingSubcommand,
-    message: "a command is wanted",
-};
-
-const TWO_INPUTS: WordFault = WordFault {
-    kind: ErrorKind::ArgumentConflict,
-    message: "'--secondary <FILE>' and '<INPUT>' are both standard input",
-};
-
-const TWO_OUTPUTS: WordFault = WordFault {
-    kind: ErrorKind::ArgumentConflict,
-    message: "'--disk <FILE>' and '<PRINT>' are both standard output",
-};
 
 /// What stands for standard input or output in place of a file.
 const STANDARD: &str = "-";
@@ -215,22 +186,23 @@ impl<'a> RunWords<'a> {
         (!is_standard(self.input)).then_some(self.input)
     }
 
-    /// Where the printed lines go; none where that is standard output.
-    pub fn print_file(&self) -> Option<&'a str> {
-        (!is_standard(self.print)).then_some(self.print)
-    }
-
     /// Whether printed lines or the records of a disk file go to standard output.
     pub fn writes_standard_output(&self) -> bool {
         is_standard(self.print) || may_be_standard(self.disk)
     }
 
-    /// What is wrong with words that name a standard stream twice.
-    fn conflict(&self) -> Option<WordFault> {
+    /// Two words that name standard input, or standard output: what one of them reads or writes would be mixed with the other's.
+    pub fn shared_stream(&self) -> Option<SameFile> {
         if is_standard(self.input) && may_be_standard(self.secondary) {
-            Some(TWO_INPUTS)
+            Some(SameFile {
+                earlier: FileWord::Input,
+                written: FileWord::Secondary,
+            })
         } else if is_standard(self.print) && may_be_standard(self.disk) {
-            Some(TWO_OUTPUTS)
+            Some(SameFile {
+                earlier: FileWord::Print,
+                written: FileWord::Disk,
+            })
         } else {
             None
         }
@@ -357,7 +329,7 @@ fn explain_words<'a>(given: &ArgMatches<'a>) -> Request<'a> {
     })
 }
 
-fn given_words<'a>(matches: &ArgMatches<'a>) -> Option<Request<'a>> {
+fn request_in<'a>(matches: &ArgMatches<'a>) -> Option<Request<'a>> {
     match matches.subcommand()? {
         ("compile", given) => compile_words(given),
         ("check", given) => check_words(given),
@@ -371,18 +343,8 @@ fn given_words<'a>(matches: &ArgMatches<'a>) -> Option<Request<'a>> {
     }
 }
 
-fn request_in<'a>(matches: &ArgMatches<'a>) -> Result<Request<'a>, WordFault> {
-    let Some(request) = given_words(matches) else {
-        return Err(COMMAND_WANTED);
-    };
-    match request.conflict() {
-        None => Ok(request),
-        Some(fault) => Err(fault),
-    }
-}
-
-fn error_of(command: &mut Command<'_>, fault: WordFault) -> Error {
-    match command.error(fault.kind, fault.message) {
+fn command_wanted(command: &mut Command<'_>) -> Error {
+    match command.error(ErrorKind::MissingSubcommand, "a command is wanted") {
         Ok(error) => error,
         Err(error) => Error::from(error),
     }
@@ -392,12 +354,15 @@ fn read<'a>(alloc: Global, words: &'a [String]) -> Result<Request<'a>, Error> {
     let mut command = command(alloc)?;
     let matches = command.try_get_matches_from_mut(words)?;
     match request_in(&matches) {
-        Ok(request) => Ok(request),
-        Err(fault) => Err(error_of(&mut command, fault)),
+        Some(request) => Ok(request),
+        None => Err(command_wanted(&mut command)),
     }
 }
 
 /// The request that the words ask for. The first word is the program's name.
 pub fn request_of<'a>(alloc: Global, words: &'a [String]) -> Result<Request<'a>, Refusal> {
-    read(alloc, words).map_err(|error| Refusal { error })
+    match read(alloc, words) {
+        Ok(request) => Ok(request),
+        Err(error) => Err(Refusal { error }),
+    }
 }

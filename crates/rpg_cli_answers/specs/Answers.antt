@@ -15,8 +15,8 @@ use Rattle.rpg_engine.specs.declared.fault.RunFault.TheVariants as runs
 use Rattle.rpg_engine.specs.declared.object.ObjectFault.{ObjectFault}
 use Rattle.rpg_engine.specs.declared.object.ObjectFault.TheVariants as objects
 use Rattle.rpg_engine.specs.declared.report.Report.{Report}
-use Rattle.rpg_cli.specs.declared.answer.Answer.{Answer}
-use Rattle.rpg_cli.specs.declared.answer.Answer.TheVariants as answer
+use Rattle.rpg_cli_answers.specs.declared.answer.Answer.{Answer}
+use Rattle.rpg_cli_answers.specs.declared.answer.Answer.TheVariants as answer
 
 -- ---- lines
 

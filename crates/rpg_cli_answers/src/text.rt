@@ -2,7 +2,7 @@
 
 ghost use Rattle.std.specs.Prelude.{◌≡◌, ◌+◌, ◌≤◌, ◌++◌, length, decimal};
 ghost use Rattle.arrayvec.specs.ArrayVec.{array_vec_len};
-ghost use Rattle.rpg_cli.specs.Answers as answers;
+ghost use Rattle.rpg_cli_answers.specs.Answers as answers;
 
 use crate::answer::{Answer, Line};
 use arrayvec::ArrayVec;

@@ -1,7 +1,7 @@
 //! A run over any reader and writers.
 
 ghost use Rattle.std.specs.Prelude.{◌≡◌, ℤ, ◌-◌, ◌^◌, ◌<◌, IfErr, IfOk, None, Some};
-ghost use Rattle.rpg_cli.specs.Running.{TellsFaults, TellsRun};
+ghost use Rattle.rpg_cli_run.specs.Running.{TellsFaults, TellsRun};
 ghost use Rattle.rpg_engine.specs.Faults.{device_counts};
 ghost use Rattle.rpg_engine.specs.Inputs.{OfInputs};
 ghost use Rattle.rpg_engine.specs.Refusing.{IsToldOfDate};
@@ -9,7 +9,7 @@ ghost use Rattle.rpg_engine.specs.Reporting.{JobEndsWell, Reports, SendsParts};
 ghost use Rattle.rpg_engine.specs.Starting.{date_in};
 ghost use Rattle.rpg_files.specs.Counting.{device_of, faults_of};
 
-use crate::answer::{Answer, named};
+use rpg_cli_answers::{Answer, named};
 use rpg_cli_files::flush_device;
 use rpg_cli_words::FileWord;
 use rpg_engine::{Report, Verified, execute_program};
