@@ -8,20 +8,9 @@ use rpg_cli_words::{FileWord, Request, RunWords};
 use rpg_engine::RunFault;
 use std::alloc::{AllocError, Global};
 
-/// Writes foreign text: a character as it is, all else as a question mark.
-fn write_shown(out: &mut TextWriter, text: &str) {
-    for byte in text.as_bytes() {
-        let shown = match *byte {
-            b' '..=b'~' => *byte as char,
-            _ => '?',
-        };
-        out.write_char(shown);
-    }
-}
-
 /// A file by its path and its word.
 fn write_name(out: &mut TextWriter, request: &Request, word: FileWord) {
-    write_shown(out, request.path(word).unwrap_or(""));
+    out.write_shown(request.path(word).unwrap_or("").as_bytes());
     write!(out, " ({})", word.name());
 }
 
@@ -84,7 +73,7 @@ fn write_input_fault(out: &mut TextWriter, request: &Request, reasons: Reasons) 
 
 fn write_bad_date(out: &mut TextWriter, words: &RunWords) {
     out.write_str("--date is six digits, as 112676; it was '");
-    write_shown(out, words.date);
+    out.write_shown(words.date.as_bytes());
     out.write_str("'\n");
 }
 

@@ -6,17 +6,6 @@ use rpg_cli_text::TextWriter;
 use rpg_engine::{ObjectFault, decode_object};
 use std::alloc::{AllocError, Global};
 
-/// Writes foreign text: a character as it is, all else as a question mark.
-fn write_shown(out: &mut TextWriter, text: &str) {
-    for byte in text.as_bytes() {
-        let shown = match *byte {
-            b' '..=b'~' => *byte as char,
-            _ => '?',
-        };
-        out.write_char(shown);
-    }
-}
-
 fn wanted_message(
     alloc: Global,
     path: &str,
@@ -26,7 +15,7 @@ fn wanted_message(
     let mut out = TextWriter::new(alloc);
     if let Ok(program) = decode_object(alloc, object) {
         let rows = program.rows();
-        write_shown(&mut out, path);
+        out.write_shown(path.as_bytes());
         match answer {
             Answer::DiskFileWanted => write!(
                 out,

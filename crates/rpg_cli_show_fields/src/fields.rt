@@ -3,35 +3,38 @@
 use crate::layout::{field_place, value_bytes};
 use crate::named::NamedRows;
 use crate::uses::Uses;
-use crate::values::{is_empty, value_text};
+use crate::values::{is_empty, write_value};
 use rpg_cli_source::{SourceRows, name_text};
+use rpg_cli_text::TextWriter;
 use rpg_effect::form::{Class, FieldForm, Kind};
 use rpg_effect::value::Value;
 use rpg_object_program::row::Rows;
 use std::alloc::{AllocError, Global};
-use std::fmt::Write;
 
-/// How long the values are: digits and decimals of a number, characters of a text.
-fn kind_text(alloc: Global, form: FieldForm) -> Result<String, AllocError> {
+/// Writes how long the values are: digits and decimals of a number, characters of a text.
+fn write_kind(out: &mut TextWriter, form: FieldForm) {
     let length = form.length;
     let decimals = form.decimals;
     match form.kind {
-        Kind::Number => format!(in alloc; "number {length}.{decimals}"),
-        Kind::Text => format!(in alloc; "text {length}"),
+        Kind::Number => write!(out, "number {length}.{decimals}"),
+        Kind::Text => write!(out, "text {length}"),
     }
 }
 
-/// A field's form.
-pub fn form_text(alloc: Global, form: FieldForm) -> Result<String, AllocError> {
-    let kind = kind_text(alloc, form)?;
+/// Writes a field's form.
+pub fn write_form(out: &mut TextWriter, form: FieldForm) {
     let entries = form.entries;
-    let order = if form.is_ascending { ", ascending" } else { "" };
+    let is_series = matches!(&form.class, Class::Array | Class::Table);
     match form.class {
-        Class::Plain => Ok(kind),
-        Class::Date => format!(in alloc; "date {kind}"),
-        Class::Constant => format!(in alloc; "constant {kind}"),
-        Class::Array => format!(in alloc; "array of {entries}: {kind}{order}"),
-        Class::Table => format!(in alloc; "table of {entries}: {kind}{order}"),
+        Class::Plain => {}
+        Class::Date => out.write_str("date "),
+        Class::Constant => out.write_str("constant "),
+        Class::Array => write!(out, "array of {entries}: "),
+        Class::Table => write!(out, "table of {entries}: "),
+    }
+    write_kind(out, form);
+    if is_series && form.is_ascending {
+        out.write_str(", ascending");
     }
 }
 
@@ -40,52 +43,47 @@ fn are_listed(values: &[Value]) -> bool {
     values.len() > 1 && !values.iter().all(is_empty)
 }
 
-/// What a field has at the start of a job.
-fn first_text(alloc: Global, form: FieldForm, values: &[Value]) -> Result<String, AllocError> {
+/// Writes what a field has at the start of a job.
+fn write_first(out: &mut TextWriter, form: FieldForm, values: &[Value]) {
     let Some(first) = values.first() else {
-        return Ok(String::new(alloc));
+        return;
     };
     if matches!(&form.class, Class::Date) {
-        return String::from_str(alloc, "the date of the job");
-    }
-    if are_listed(values) {
-        return String::from_str(alloc, "below");
-    }
-    match first {
-        Value::Text(_) if is_empty(first) => String::from_str(alloc, "blanks"),
-        _ => value_text(alloc, first, form.decimals),
+        out.write_str("the date of the job");
+    } else if are_listed(values) {
+        out.write_str("below");
+    } else if matches!(first, Value::Text(_)) && is_empty(first) {
+        out.write_str("blanks");
+    } else {
+        write_value(out, first, form.decimals);
     }
 }
 
-/// The columns of a field's name and of the card that defines it first, which are blank of a field that has none.
-fn name_columns(alloc: Global, source: &SourceRows, number: u16) -> Result<String, AllocError> {
-    let name = match source.field_name(number) {
-        Some(name) => name_text(alloc, name)?,
-        None => String::new(alloc),
-    };
-    let card = match source.field_card(number) {
-        Some(card) => format!(in alloc; "{card}")?,
-        None => String::new(alloc),
-    };
-    format!(in alloc; "{name:<6}  {card:>4}  ")
+/// Writes the columns of a field's name and of the card that defines it first, which are blank of a field that has none.
+fn write_name_columns(out: &mut TextWriter, source: &SourceRows, number: u16) {
+    let name = source.field_name(number).map_or("", name_text);
+    write!(out, "{name:<6}  ");
+    match source.field_card(number) {
+        Some(card) => write!(out, "{card:>4}  "),
+        None => out.write_str("      "),
+    }
 }
 
-/// The row of a field before its uses.
-fn field_row(
-    alloc: Global,
-    named: NamedRows<'_>,
-    index: usize,
-    form: FieldForm,
-) -> Result<String, AllocError> {
+/// Writes the row of a field before its uses.
+fn write_row(out: &mut TextWriter, named: NamedRows<'_>, index: usize, form: FieldForm) {
     let at = field_place(index);
     let number = index.saturating_add(1);
-    let form_words = form_text(alloc, form)?;
-    let first = first_text(alloc, form, values_at(named.rows, index))?;
-    let names = match named.source {
-        Some(source) => name_columns(alloc, source, field_number(index))?,
-        None => String::new(alloc),
-    };
-    format!(in alloc; "{at:>6}  #{number:<5}{names}{form_words:<32}  {first:<20}")
+    write!(out, "{at:>6}  #{number:<5}");
+    if let Some(source) = named.source {
+        write_name_columns(out, source, field_number(index));
+    }
+    let form_end = out.len().saturating_add(32);
+    write_form(out, form);
+    out.pad_to(form_end);
+    out.write_str("  ");
+    let first_end = out.len().saturating_add(20);
+    write_first(out, form, values_at(named.rows, index));
+    out.pad_to(first_end);
 }
 
 /// The number of the field of an index.
@@ -102,72 +100,60 @@ fn values_at(rows: &Rows, index: usize) -> &[Value] {
 }
 
 /// Writes a row for each field.
-pub fn put_fields(alloc: Global, out: &mut String, named: NamedRows<'_>) -> Result<(), AllocError> {
+pub fn write_fields(
+    alloc: Global,
+    out: &mut TextWriter,
+    named: NamedRows<'_>,
+) -> Result<(), AllocError> {
     let rows = named.rows;
     let uses = Uses::of(alloc, rows)?;
-    let names = match named.source {
-        Some(_) => "name    card  ",
-        None => "",
-    };
-    writeln!(
-        out,
-        "\n    at  FIELD {names}form                              first value           used"
-    )?;
+    out.write_str("\n    at  FIELD ");
+    if named.source.is_some() {
+        out.write_str("name    card  ");
+    }
+    out.write_str("form                              first value           used\n");
     for (index, form) in rows.fields.iter().enumerate() {
-        let mut row = field_row(alloc, named, index, *form)?;
-        uses.put(&mut row, index)?;
-        writeln!(out, "{}", row.trim_end())?;
+        write_row(out, named, index, *form);
+        uses.write(out, index);
+        out.end_line();
     }
     Ok(())
 }
 
 /// Writes the entries of a field, each on its line.
-fn put_entries(
-    alloc: Global,
-    out: &mut String,
-    begin: usize,
-    form: FieldForm,
-    values: &[Value],
-) -> Result<(), AllocError> {
+fn write_entries(out: &mut TextWriter, begin: usize, form: FieldForm, values: &[Value]) {
     let mut at = begin;
     for (i, value) in values.iter().enumerate() {
         let entry = i.saturating_add(1);
-        let text = value_text(alloc, value, form.decimals)?;
-        writeln!(out, "{at:>6}    {entry:>4}  {text}")?;
+        write!(out, "{at:>6}    {entry:>4}  ");
+        write_value(out, value, form.decimals);
+        out.write_char('\n');
         at = at.saturating_add(usize::from(form.length));
     }
-    Ok(())
 }
 
-fn put_listed(
-    alloc: Global,
-    out: &mut String,
+fn write_listed(
+    out: &mut TextWriter,
     named: NamedRows<'_>,
     index: usize,
     at: usize,
     form: FieldForm,
-) -> Result<(), AllocError> {
+) {
     let values = values_at(named.rows, index);
-    if !are_listed(values) {
-        return Ok(());
+    if are_listed(values) {
+        let number = index.saturating_add(1);
+        write!(out, "\n    at  FIRST VALUES OF #{number}");
+        named.write_name(out, field_number(index));
+        out.write_char('\n');
+        write_entries(out, at, form, values);
     }
-    let number = index.saturating_add(1);
-    let name = named.name_behind(alloc, field_number(index))?;
-    writeln!(out, "\n    at  FIRST VALUES OF #{number}{name}")?;
-    put_entries(alloc, out, at, form, values)
 }
 
 /// Writes the first values of arrays and tables that aren't all zero or blank.
-pub fn put_first_values(
-    alloc: Global,
-    out: &mut String,
-    named: NamedRows<'_>,
-    begin: usize,
-) -> Result<(), AllocError> {
+pub fn write_first_values(out: &mut TextWriter, named: NamedRows<'_>, begin: usize) {
     let mut at = begin;
     for (index, form) in named.rows.fields.iter().enumerate() {
-        put_listed(alloc, out, named, index, at, *form)?;
+        write_listed(out, named, index, at, *form);
         at = at.saturating_add(value_bytes(*form));
     }
-    Ok(())
 }

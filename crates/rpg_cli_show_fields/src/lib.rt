@@ -12,13 +12,13 @@ mod values;
 mod words;
 
 pub use editing::{code_letter, fill_words};
-pub use fields::{form_text, put_fields, put_first_values};
+pub use fields::{write_fields, write_first_values, write_form};
 pub use layout::{
     CODE, INPUT, INSTRUCTION, LEVEL, LINE_FIELD, Layout, SUBROUTINE, line_bytes, line_head_bytes,
     type_bytes, type_head_bytes,
 };
-pub use named::{NamedRows, put_card};
-pub use operands::{card_operand, field_text, operand_text};
-pub use spacing::{put_spacing, time_word};
-pub use values::{quoted, value_text};
-pub use words::{Indicator, put_condition, put_conditions, put_named, put_shown};
+pub use named::{NamedRows, write_card};
+pub use operands::{write_card_operand, write_field, write_operand};
+pub use spacing::{time_word, write_spacing};
+pub use values::{write_quoted, write_value};
+pub use words::{Indicator, write_condition, write_conditions, write_named, write_shown};

@@ -1,9 +1,8 @@
 //! A program's rows, with what its source says of them.
 
 use rpg_cli_source::{SourceRows, name_text};
+use rpg_cli_text::TextWriter;
 use rpg_object_program::row::Rows;
-use std::alloc::{AllocError, Global};
-use std::fmt::Write;
 
 /// The rows of a program, and what its source says of them, where that is known.
 #[derive(Clone, Copy)]
@@ -13,21 +12,17 @@ pub struct NamedRows<'a> {
 }
 
 impl NamedRows<'_> {
-    /// The name of a field with a blank before it; nothing where it has none or the source isn't known.
-    pub fn name_behind(self, alloc: Global, field: u16) -> Result<String, AllocError> {
-        let mut out = String::new(alloc);
+    /// Writes the name of a field with a blank before it; nothing where it has none or the source isn't known.
+    pub fn write_name(self, out: &mut TextWriter, field: u16) {
         if let Some(name) = self.source.and_then(|source| source.field_name(field)) {
-            out.push(' ')?;
-            out.push_str(name_text(alloc, name)?.as_str())?;
+            write!(out, " {}", name_text(name));
         }
-        Ok(out)
     }
 }
 
 /// Writes the card of a row behind it, where it is known.
-pub fn put_card(out: &mut String, card: Option<u16>) -> Result<(), AllocError> {
-    match card {
-        Some(card) => write!(out, " (card {card})"),
-        None => Ok(()),
+pub fn write_card(out: &mut TextWriter, card: Option<u16>) {
+    if let Some(card) = card {
+        write!(out, " (card {card})");
     }
 }

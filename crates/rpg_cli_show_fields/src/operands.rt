@@ -1,15 +1,14 @@
 //! What stands in factors, results and output fields.
 
 use crate::named::NamedRows;
-use crate::values::value_text;
+use crate::values::write_value;
 use rpg_cli_source::{SourceRows, name_text};
+use rpg_cli_text::TextWriter;
 use rpg_effect::form::Class;
 use rpg_effect::operation::{Index, Operand};
 use rpg_effect::value::Value;
 use rpg_object_program::forms::form_at;
 use rpg_object_program::row::Rows;
-use std::alloc::{AllocError, Global};
-use std::fmt::Write;
 
 /// The value of a constant, and its decimals.
 fn constant_of(rows: &Rows, field: u16) -> Option<(&Value, u8)> {
@@ -23,81 +22,60 @@ fn constant_of(rows: &Rows, field: u16) -> Option<(&Value, u8)> {
     }
 }
 
-/// A field by its number; a constant with its value.
-fn number_text(alloc: Global, rows: &Rows, field: u16) -> Result<String, AllocError> {
-    match constant_of(rows, field) {
-        Some((value, decimals)) => {
-            let text = value_text(alloc, value, decimals)?;
-            format!(in alloc; "#{field}={text}")
-        }
-        None => format!(in alloc; "#{field}"),
-    }
-}
-
-/// Appends the name of a field, if it has one.
-fn put_name(
-    alloc: Global,
-    out: &mut String,
-    source: &SourceRows,
-    field: u16,
-) -> Result<(), AllocError> {
+/// Writes the name of a field; its number where it has none.
+fn write_name(out: &mut TextWriter, source: &SourceRows, field: u16) {
     match source.field_name(field) {
-        Some(name) => out.push_str(name_text(alloc, name)?.as_str()),
+        Some(name) => out.write_str(name_text(name)),
         None => write!(out, "#{field}"),
     }
 }
 
-/// A field by its number, and where the source is known with its name behind; a constant with its value.
-pub fn field_text(alloc: Global, named: NamedRows<'_>, field: u16) -> Result<String, AllocError> {
+/// Writes a field by its number, and where the source is known with its name behind; a constant with its value.
+pub fn write_field(out: &mut TextWriter, named: NamedRows<'_>, field: u16) {
     let operand = Operand {
         field,
         index: Index::Blank,
     };
-    operand_text(alloc, named, operand)
+    write_operand(out, named, operand);
 }
 
-/// A field with its index, if it has one. Where the source is known, what its cards have stands behind.
-pub fn operand_text(
-    alloc: Global,
-    named: NamedRows<'_>,
-    operand: Operand<u16>,
-) -> Result<String, AllocError> {
+/// Writes a field with its index, if it has one. Where the source is known, what its cards have stands behind.
+pub fn write_operand(out: &mut TextWriter, named: NamedRows<'_>, operand: Operand<u16>) {
     let NamedRows { rows, source } = named;
-    let mut out = number_text(alloc, rows, operand.field)?;
+    let constant = constant_of(rows, operand.field);
+    write!(out, "#{}", operand.field);
+    if let Some((value, decimals)) = constant {
+        out.write_char('=');
+        write_value(out, value, decimals);
+    }
     match operand.index {
         Index::Blank => {}
-        Index::Literal(entry) => write!(out, ",{entry}")?,
-        Index::Field(field) => write!(out, ",#{field}")?,
+        Index::Literal(entry) => write!(out, ",{entry}"),
+        Index::Field(field) => write!(out, ",#{field}"),
     }
-    match source {
-        Some(source) if constant_of(rows, operand.field).is_none() => {
-            let name = card_operand(alloc, rows, source, operand)?;
-            write!(out, " {name}")?;
-        }
-        _ => {}
+    if let (Some(source), None) = (source, constant) {
+        out.write_char(' ');
+        write_card_operand(out, rows, source, operand);
     }
-    Ok(out)
 }
 
-/// A field with its index as cards have it: by names, and a constant by its value.
-pub fn card_operand(
-    alloc: Global,
+/// Writes a field with its index as cards have it: by names, and a constant by its value.
+pub fn write_card_operand(
+    out: &mut TextWriter,
     rows: &Rows,
     source: &SourceRows,
     operand: Operand<u16>,
-) -> Result<String, AllocError> {
-    let mut out = String::new(alloc);
+) {
     match constant_of(rows, operand.field) {
-        Some((value, decimals)) => out.push_str(value_text(alloc, value, decimals)?.as_str())?,
-        None => put_name(alloc, &mut out, source, operand.field)?,
+        Some((value, decimals)) => write_value(out, value, decimals),
+        None => write_name(out, source, operand.field),
     }
     match operand.index {
         Index::Blank => {}
-        Index::Literal(entry) => write!(out, ",{entry}")?,
+        Index::Literal(entry) => write!(out, ",{entry}"),
         Index::Field(field) => {
-            out.push(',')?;
-            put_name(alloc, &mut out, source, field)?;
+            out.write_char(',');
+            write_name(out, source, field);
         }
     }
-    Ok(out)
 }

@@ -1,8 +1,7 @@
 //! When a line is put out, and how the form moves.
 
+use rpg_cli_text::TextWriter;
 use rpg_effect::line::{Spacing, Time};
-use std::alloc::AllocError;
-use std::fmt::Write;
 
 pub fn time_word(time: Time) -> &'static str {
     match time {
@@ -14,17 +13,16 @@ pub fn time_word(time: Time) -> &'static str {
 }
 
 /// Writes a movement of the form, unless it is none.
-fn put_movement(out: &mut String, words: &str, lines: u8, when: &str) -> Result<(), AllocError> {
-    if lines == 0 {
-        return Ok(());
+fn write_movement(out: &mut TextWriter, words: &str, lines: u8, when: &str) {
+    if lines > 0 {
+        write!(out, ", {words} {lines} {when}");
     }
-    write!(out, ", {words} {lines} {when}")
 }
 
 /// Writes how the form moves before and behind a line.
-pub fn put_spacing(out: &mut String, spacing: Spacing) -> Result<(), AllocError> {
-    put_movement(out, "skip to", spacing.skip_before, "before")?;
-    put_movement(out, "space", spacing.space_before, "before")?;
-    put_movement(out, "skip to", spacing.skip_after, "after")?;
-    put_movement(out, "space", spacing.space_after, "after")
+pub fn write_spacing(out: &mut TextWriter, spacing: Spacing) {
+    write_movement(out, "skip to", spacing.skip_before, "before");
+    write_movement(out, "space", spacing.space_before, "before");
+    write_movement(out, "skip to", spacing.skip_after, "after");
+    write_movement(out, "space", spacing.space_after, "after");
 }

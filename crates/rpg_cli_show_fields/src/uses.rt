@@ -1,12 +1,12 @@
 //! Where each field is used.
 
+use rpg_cli_text::TextWriter;
 use rpg_effect::line::{Editing, LineField};
 use rpg_effect::operation::{Index, Instruction, Operand};
 use rpg_effect::row::Use;
 use rpg_object_program::columns::columns_of;
 use rpg_object_program::row::{Line, RecordType, Rows};
 use std::alloc::{AllocError, Global};
-use std::fmt::Write;
 
 /// The most numbers that are told of a kind of use.
 const MOST_TOLD: usize = 12;
@@ -33,19 +33,18 @@ impl Numbers {
     }
 
     /// Writes the numbers behind a word, if there are some.
-    fn put(&self, out: &mut String, word: &str) -> Result<(), AllocError> {
+    fn write(&self, out: &mut TextWriter, word: &str) {
         if self.list.is_empty() {
-            return Ok(());
+            return;
         }
-        write!(out, "  {word}")?;
+        write!(out, "  {word}");
         for number in self.list.iter().take(MOST_TOLD) {
-            write!(out, " {number}")?;
+            write!(out, " {number}");
         }
         let more = self.list.len().saturating_sub(MOST_TOLD);
         if more > 0 {
-            write!(out, " and {more} more")?;
+            write!(out, " and {more} more");
         }
-        Ok(())
     }
 }
 
@@ -92,11 +91,11 @@ impl FieldUses {
         }
     }
 
-    fn put(&self, out: &mut String) -> Result<(), AllocError> {
-        self.types.put(out, "from type")?;
-        self.setting.put(out, "set at")?;
-        self.using.put(out, "used at")?;
-        self.lines.put(out, "on line")
+    fn write(&self, out: &mut TextWriter) {
+        self.types.write(out, "from type");
+        self.setting.write(out, "set at");
+        self.using.write(out, "used at");
+        self.lines.write(out, "on line");
     }
 }
 
@@ -223,10 +222,9 @@ impl Uses {
     }
 
     /// Writes what uses the field of an index, the first being 0.
-    pub fn put(&self, out: &mut String, index: usize) -> Result<(), AllocError> {
-        match self.fields.get(index) {
-            Some(uses) => uses.put(out),
-            None => Ok(()),
+    pub fn write(&self, out: &mut TextWriter, index: usize) {
+        if let Some(uses) = self.fields.get(index) {
+            uses.write(out);
         }
     }
 }

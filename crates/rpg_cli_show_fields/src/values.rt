@@ -1,49 +1,34 @@
 //! Values of fields.
 
+use rpg_cli_text::TextWriter;
 use rpg_effect::value::Value;
 use rpg_text::shown;
-use std::alloc::{AllocError, Global};
 
-/// A text between apostrophes, each apostrophe in it twice, as on a card.
-pub fn quoted(alloc: Global, text: &[u8]) -> Result<String, AllocError> {
-    let mut out = String::new(alloc);
-    out.push('\'')?;
+/// Writes a text between apostrophes, each apostrophe in it twice, as on a card.
+pub fn write_quoted(out: &mut TextWriter, text: &[u8]) {
+    out.write_char('\'');
     for byte in text {
         if *byte == b'\'' {
-            out.push('\'')?;
+            out.write_char('\'');
         }
-        out.push(shown(*byte) as char)?;
+        out.write_char(shown(*byte) as char);
     }
-    out.push('\'')?;
-    Ok(out)
+    out.write_char('\'');
 }
 
-/// The digits of a number, one at least before its decimals.
-fn padded(alloc: Global, number: u64, decimals: usize) -> Result<String, AllocError> {
-    let digits = format!(in alloc; "{number}")?;
-    let mut out = String::new(alloc);
-    for _ in digits.len()..=decimals {
-        out.push('0')?;
+/// Writes a number with its decimal point, and one digit at least before it.
+fn write_number(out: &mut TextWriter, number: i64, decimals: u8) {
+    let sign = if number < 0 { "-" } else { "" };
+    let digits = number.unsigned_abs();
+    if decimals == 0 {
+        write!(out, "{sign}{digits}");
+        return;
     }
-    out.push_str(digits.as_str())?;
-    Ok(out)
-}
-
-/// A number with its decimal point.
-fn decimal(alloc: Global, number: i64, decimals: usize) -> Result<String, AllocError> {
-    let digits = padded(alloc, number.unsigned_abs(), decimals)?;
-    let point = digits.len().saturating_sub(decimals);
-    let mut out = String::new(alloc);
-    if number < 0 {
-        out.push('-')?;
-    }
-    for (i, digit) in digits.bytes().enumerate() {
-        if i == point {
-            out.push('.')?;
-        }
-        out.push(digit as char)?;
-    }
-    Ok(out)
+    let unit = 10u64.saturating_pow(u32::from(decimals)).max(1);
+    let whole = digits / unit;
+    let part = digits % unit;
+    let places = usize::from(decimals);
+    write!(out, "{sign}{whole}.{part:0places$}");
 }
 
 /// Whether a value is zero or blank.
@@ -54,10 +39,10 @@ pub fn is_empty(value: &Value) -> bool {
     }
 }
 
-/// A value as it would be written: a number with its decimals, a text between apostrophes.
-pub fn value_text(alloc: Global, value: &Value, decimals: u8) -> Result<String, AllocError> {
+/// Writes a value: a number with its decimals, a text between apostrophes.
+pub fn write_value(out: &mut TextWriter, value: &Value, decimals: u8) {
     match value {
-        Value::Number(number) => decimal(alloc, *number, usize::from(decimals)),
-        Value::Text(text) => quoted(alloc, text),
+        Value::Number(number) => write_number(out, *number, decimals),
+        Value::Text(text) => write_quoted(out, text),
     }
 }

@@ -1,9 +1,8 @@
 //! Indicators and conditions as they are written on cards.
 
+use rpg_cli_text::TextWriter;
 use rpg_effect::condition::{Condition, Conditions};
-use std::alloc::AllocError;
 use std::fmt;
-use std::fmt::Write;
 
 /// An indicator, by its number from 1 to 129.
 #[derive(Clone, Copy)]
@@ -48,47 +47,31 @@ fn overflow_letter(number: u8) -> char {
 }
 
 /// Writes a condition: the indicator, with N before it where it must be off.
-pub fn put_condition(out: &mut String, condition: Condition) -> Result<(), AllocError> {
+pub fn write_condition(out: &mut TextWriter, condition: Condition) {
     let indicator = Indicator(condition.indicator);
-    if condition.is_negated {
-        write!(out, " N{indicator}")
-    } else {
-        write!(out, " {indicator}")
-    }
-}
-
-fn put_if_there(out: &mut String, condition: Option<Condition>) -> Result<(), AllocError> {
-    match condition {
-        Some(condition) => put_condition(out, condition),
-        None => Ok(()),
-    }
+    let negation = if condition.is_negated { "N" } else { "" };
+    write!(out, " {negation}{indicator}");
 }
 
 /// Writes the conditions that are there.
-pub fn put_conditions(out: &mut String, conditions: Conditions) -> Result<(), AllocError> {
-    put_if_there(out, conditions.first)?;
-    put_if_there(out, conditions.second)?;
-    put_if_there(out, conditions.third)
+pub fn write_conditions(out: &mut TextWriter, conditions: Conditions) {
+    for condition in [conditions.first, conditions.second, conditions.third] {
+        if let Some(condition) = condition {
+            write_condition(out, condition);
+        }
+    }
 }
 
 /// Writes an indicator, if there is one.
-pub fn put_named(out: &mut String, indicator: Option<u8>) -> Result<(), AllocError> {
-    match indicator {
-        Some(number) => {
-            let indicator = Indicator(number);
-            write!(out, "  {indicator}")
-        }
-        None => Ok(()),
+pub fn write_named(out: &mut TextWriter, indicator: Option<u8>) {
+    if let Some(number) = indicator {
+        write!(out, "  {}", Indicator(number));
     }
 }
 
 /// Writes an indicator behind what it shows, if there is one.
-pub fn put_shown(out: &mut String, word: &str, indicator: Option<u8>) -> Result<(), AllocError> {
-    match indicator {
-        Some(number) => {
-            let indicator = Indicator(number);
-            write!(out, "  {word} {indicator}")
-        }
-        None => Ok(()),
+pub fn write_shown(out: &mut TextWriter, word: &str, indicator: Option<u8>) {
+    if let Some(number) = indicator {
+        write!(out, "  {word} {}", Indicator(number));
     }
 }

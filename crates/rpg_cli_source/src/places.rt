@@ -36,7 +36,7 @@ fn group_at(cards: &[SpecCard], first: usize) -> &[SpecCard] {
 }
 
 /// A place for the indicator that the calculation waits for, if it does.
-fn put_level(places: &mut Vec<u16>, card: &SpecCard) -> Result<(), AllocError> {
+fn push_level(places: &mut Vec<u16>, card: &SpecCard) -> Result<(), AllocError> {
     let Some(calculation) = card.calculation() else {
         return Ok(());
     };
@@ -54,7 +54,7 @@ fn has_conditions(card: &SpecCard) -> bool {
 }
 
 /// A place for the conditions of each card that has some.
-fn put_tests(places: &mut Vec<u16>, cards: &[SpecCard]) -> Result<(), AllocError> {
+fn push_tests(places: &mut Vec<u16>, cards: &[SpecCard]) -> Result<(), AllocError> {
     for card in cards {
         if has_conditions(card) {
             places.push(card.number)?;
@@ -64,15 +64,15 @@ fn put_tests(places: &mut Vec<u16>, cards: &[SpecCard]) -> Result<(), AllocError
 }
 
 /// The places of the instructions that a calculation becomes: those of its conditions, and then that of its operation, which the last card has.
-fn put_group(places: &mut Vec<u16>, cards: &[SpecCard]) -> Result<(), AllocError> {
+fn push_group(places: &mut Vec<u16>, cards: &[SpecCard]) -> Result<(), AllocError> {
     let (Some(first), Some(last)) = (cards.first(), cards.last()) else {
         return Ok(());
     };
     if !ends_in_instruction(last) {
         return Ok(());
     }
-    put_level(places, first)?;
-    put_tests(places, cards)?;
+    push_level(places, first)?;
+    push_tests(places, cards)?;
     Ok(places.push(last.number)?)
 }
 
@@ -81,7 +81,7 @@ pub(crate) fn place_cards(alloc: Global, cards: &[SpecCard]) -> Result<Vec<u16>,
     let mut places = Vec::new(alloc);
     for (i, card) in cards.iter().enumerate() {
         if begins(card) {
-            put_group(&mut places, group_at(cards, i))?;
+            push_group(&mut places, group_at(cards, i))?;
         }
     }
     Ok(places)

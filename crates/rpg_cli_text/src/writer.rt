@@ -1,5 +1,6 @@
 //! A text that is written piece by piece, and asked once at its end whether memory sufficed.
 
+use rpg_text::shown;
 use std::alloc::{AllocError, Global};
 use std::fmt::Display;
 
@@ -33,11 +34,36 @@ impl TextWriter {
         }
     }
 
+    /// Appends a foreign text: what is no character from blank to `~` becomes a question mark, so that no terminal is told anything by it.
+    pub fn write_shown(&mut self, text: &[u8]) {
+        for byte in text {
+            self.write_char(shown(*byte) as char);
+        }
+    }
+
     /// Appends what `write!(writer, ..)` formats.
     pub fn write_fmt(&mut self, piece: impl Display + Drop) {
         if !self.ran_out {
             self.ran_out = write!(self.text, "{piece}").is_err();
         }
+    }
+
+    /// Appends blanks until the text has so many bytes.
+    pub fn pad_to(&mut self, length: usize) {
+        for _ in self.text.len()..length {
+            self.write_char(' ');
+        }
+    }
+
+    /// Ends a line, without the blanks that it ends in.
+    pub fn end_line(&mut self) {
+        for _ in 0..self.text.len() {
+            if !self.text.ends_with(' ') {
+                break;
+            }
+            let _ = self.text.pop();
+        }
+        self.write_char('\n');
     }
 
     /// The text's length in bytes so far.
