@@ -1,8 +1,8 @@
 //! Bytes that are no object program.
 
-use crate::counted::put_count;
-use crate::shown::put_shown;
+use crate::counted::write_count;
 use crate::spot::{Spot, spot_at};
+use rpg_cli_text::TextWriter;
 use rpg_object_format::fault::Code;
 use std::alloc::{AllocError, Global};
 
@@ -10,59 +10,48 @@ use std::alloc::{AllocError, Global};
 const MOST_SHOWN: usize = 32;
 
 /// What was looked for at an offset.
-fn put_wanted(alloc: Global, out: &mut String, spot: Option<Spot>) -> Result<(), AllocError> {
+fn write_wanted(out: &mut TextWriter, spot: Option<Spot>) {
     let Some(spot) = spot else {
-        return out.push_str("the object program ends there");
+        out.write_str("the object program ends there");
+        return;
     };
-    out.push_str(spot.part.name)?;
+    out.write_str(spot.part.name);
     if let Some(row) = spot.row {
         let table = spot.table;
-        out.push_str(format!(in alloc; " of {table} {row}")?.as_str())?;
+        write!(out, " of {table} {row}");
     }
-    out.push_str(" was looked for there")
+    out.write_str(" was looked for there");
 }
 
 /// So many bytes from an offset on, as far as the file goes.
-fn put_bytes(
-    alloc: Global,
-    out: &mut String,
-    bytes: &[u8],
-    offset: usize,
-    count: usize,
-) -> Result<(), AllocError> {
+fn write_bytes(out: &mut TextWriter, bytes: &[u8], offset: usize, count: usize) {
     for byte in bytes.iter().skip(offset).take(count) {
-        out.push_str(format!(in alloc; " {byte:02x}")?.as_str())?;
+        write!(out, " {byte:02x}");
     }
-    Ok(())
 }
 
 /// What stands at an offset in the place of so many bytes.
-fn put_found(
-    alloc: Global,
-    out: &mut String,
-    bytes: &[u8],
-    offset: usize,
-    count: usize,
-) -> Result<(), AllocError> {
+fn write_found(out: &mut TextWriter, bytes: &[u8], offset: usize, count: usize) {
     match bytes.len().saturating_sub(offset).min(count) {
         0 => {
-            out.push_str(", and the file has ")?;
-            return put_count(alloc, out, bytes.len(), "byte", "bytes");
+            out.write_str(", and the file has ");
+            write_count(out, bytes.len(), "byte", "bytes");
         }
         1 => {
-            out.push_str(", and byte")?;
-            put_bytes(alloc, out, bytes, offset, 1)?;
-            return out.push_str(" stands there");
+            out.write_str(", and byte");
+            write_bytes(out, bytes, offset, 1);
+            out.write_str(" stands there");
         }
         found => {
-            out.push_str(", and bytes")?;
-            put_bytes(alloc, out, bytes, offset, found.min(MOST_SHOWN))?;
-            if found > MOST_SHOWN {
-                out.push_str(" ..")?;
-            }
+            out.write_str(", and bytes");
+            write_bytes(out, bytes, offset, found.min(MOST_SHOWN));
+            out.write_str(if found > MOST_SHOWN {
+                " .. stand there"
+            } else {
+                " stand there"
+            });
         }
     }
-    out.push_str(" stand there")
 }
 
 /// What is told of bytes that are no object program: the code's sentence, what was looked for at the offset, and what stands there. `path`
@@ -74,17 +63,18 @@ pub fn bytes_message(
     offset: usize,
     code: Code,
 ) -> Result<String, AllocError> {
-    let mut out = String::new(alloc);
-    put_shown(&mut out, path)?;
-    out.push_str(": ")?;
-    out.push_str(code.text())?;
-    out.push_str(": ")?;
-    out.push_str(code.sentence())?;
-    out.push_str(format!(in alloc; ": offset {offset}: ")?.as_str())?;
+    let mut out = TextWriter::new(alloc);
+    out.write_shown(path.as_bytes());
+    write!(
+        out,
+        ": {}: {}: offset {offset}: ",
+        code.text(),
+        code.sentence()
+    );
     let spot = spot_at(bytes, offset);
-    put_wanted(alloc, &mut out, spot)?;
+    write_wanted(&mut out, spot);
     let count = spot.map_or(1, |spot| spot.part.bytes);
-    put_found(alloc, &mut out, bytes, offset, count)?;
-    out.push('\n')?;
-    Ok(out)
+    write_found(&mut out, bytes, offset, count);
+    out.write_char('\n');
+    out.finish()
 }

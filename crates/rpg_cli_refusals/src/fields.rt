@@ -1,55 +1,43 @@
 //! Fields and indicators in words.
 
-use crate::counted::put_count;
+use crate::counted::write_count;
+use rpg_cli_text::TextWriter;
 use rpg_effect::condition::Conditions;
 use rpg_effect::form::{Class, FieldForm, Kind, is_array};
 use rpg_effect::operation::{Index, Operand, Shows};
 use rpg_object_program::forms::form_at;
 use rpg_object_program::row::Rows;
-use std::alloc::{AllocError, Global};
 
 /// An indicator by the name that it has on cards.
-pub(crate) fn put_indicator(
-    alloc: Global,
-    out: &mut String,
-    indicator: u8,
-) -> Result<(), AllocError> {
-    let text = match indicator {
-        0..=99 => format!(in alloc; "{indicator:02}")?,
-        100..=109 => format!(in alloc; "L{}", indicator - 100)?,
-        110 => format!(in alloc; "LR")?,
-        111 => format!(in alloc; "1P")?,
-        112..=118 => format!(in alloc; "O{}", (b'A' + (indicator - 112)) as char)?,
-        119 => format!(in alloc; "OV")?,
-        120..=128 => format!(in alloc; "H{}", indicator - 119)?,
-        129 => format!(in alloc; "MR")?,
-        _ => format!(in alloc; "number {indicator}")?,
-    };
-    out.push_str(text.as_str())
+pub(crate) fn write_indicator(out: &mut TextWriter, indicator: u8) {
+    match indicator {
+        0..=99 => write!(out, "{indicator:02}"),
+        100..=109 => write!(out, "L{}", indicator - 100),
+        110 => out.write_str("LR"),
+        111 => out.write_str("1P"),
+        112..=118 => write!(out, "O{}", (b'A' + (indicator - 112)) as char),
+        119 => out.write_str("OV"),
+        120..=128 => write!(out, "H{}", indicator - 119),
+        129 => out.write_str("MR"),
+        _ => write!(out, "number {indicator}"),
+    }
 }
 
-fn put_indicator_if_any(
-    alloc: Global,
-    out: &mut String,
-    indicator: Option<u8>,
-) -> Result<(), AllocError> {
-    match indicator {
-        None => Ok(()),
-        Some(indicator) => {
-            out.push(' ')?;
-            put_indicator(alloc, out, indicator)
-        }
+fn write_indicator_if_any(out: &mut TextWriter, indicator: Option<u8>) {
+    if let Some(indicator) = indicator {
+        out.write_char(' ');
+        write_indicator(out, indicator);
     }
 }
 
 /// The indicators, each with a blank before it; ` none` where there is none.
-pub(crate) fn put_shows(alloc: Global, out: &mut String, shows: Shows) -> Result<(), AllocError> {
+pub(crate) fn write_shows(out: &mut TextWriter, shows: Shows) {
     if shows.plus.is_none() && shows.minus.is_none() && shows.zero.is_none() {
-        return out.push_str(" none");
+        out.write_str(" none");
     }
-    put_indicator_if_any(alloc, out, shows.plus)?;
-    put_indicator_if_any(alloc, out, shows.minus)?;
-    put_indicator_if_any(alloc, out, shows.zero)
+    write_indicator_if_any(out, shows.plus);
+    write_indicator_if_any(out, shows.minus);
+    write_indicator_if_any(out, shows.zero);
 }
 
 /// The indicators that are asked.
@@ -61,70 +49,65 @@ pub(crate) fn asked(conditions: Conditions) -> Shows {
     }
 }
 
-fn put_class(alloc: Global, out: &mut String, form: FieldForm) -> Result<(), AllocError> {
-    match form.class {
-        Class::Plain => return out.push_str("a "),
-        Class::Constant => return out.push_str("a constant, a "),
-        Class::Date => return out.push_str("the date, a "),
-        Class::Array => out.push_str("an array of ")?,
-        Class::Table => out.push_str("a table of ")?,
+/// The class of a field, and of an array or a table how many entries it has.
+fn write_class(out: &mut TextWriter, form: FieldForm) {
+    let series = match form.class {
+        Class::Plain => "",
+        Class::Constant => "a constant, ",
+        Class::Date => "the date, ",
+        Class::Array => "an array of ",
+        Class::Table => "a table of ",
+    };
+    out.write_str(series);
+    if matches!(&form.class, Class::Array | Class::Table) {
+        write_count(out, usize::from(form.entries), "entry", "entries");
+        out.write_str(", each ");
     }
-    put_count(alloc, out, usize::from(form.entries), "entry", "entries")?;
-    out.push_str(", each a ")
+    out.write_str("a ");
 }
 
 /// How many digits of a number are decimals.
-fn put_decimals(
-    alloc: Global,
-    out: &mut String,
-    length: u16,
-    decimals: u8,
-) -> Result<(), AllocError> {
+fn write_decimals(out: &mut TextWriter, length: u16, decimals: u8) {
     match (length, decimals) {
-        (_, 0) => Ok(()),
-        (1, _) => out.push_str(", a decimal"),
-        (_, 1) => out.push_str(", 1 of them a decimal"),
-        _ => out.push_str(format!(in alloc; ", {decimals} of them decimals")?.as_str()),
+        (_, 0) => {}
+        (1, _) => out.write_str(", a decimal"),
+        (_, 1) => out.write_str(", 1 of them a decimal"),
+        _ => write!(out, ", {decimals} of them decimals"),
     }
 }
 
 /// What a field is: its class, its kind and its length.
-fn put_form(alloc: Global, out: &mut String, form: FieldForm) -> Result<(), AllocError> {
-    put_class(alloc, out, form)?;
+fn write_form(out: &mut TextWriter, form: FieldForm) {
+    write_class(out, form);
     let length = usize::from(form.length);
     match form.kind {
         Kind::Text => {
-            out.push_str("text of ")?;
-            put_count(alloc, out, length, "character", "characters")
+            out.write_str("text of ");
+            write_count(out, length, "character", "characters");
         }
         Kind::Number => {
-            out.push_str("number of ")?;
-            put_count(alloc, out, length, "digit", "digits")?;
-            put_decimals(alloc, out, form.length, form.decimals)
+            out.write_str("number of ");
+            write_count(out, length, "digit", "digits");
+            write_decimals(out, form.length, form.decimals);
         }
     }
 }
 
 /// The numbers that fields have.
-fn put_numbers(alloc: Global, out: &mut String, rows: &Rows) -> Result<(), AllocError> {
+fn write_numbers(out: &mut TextWriter, rows: &Rows) {
     match rows.fields.len() {
-        0 => out.push_str("and there are no fields"),
-        1 => out.push_str("and the only field is 1"),
-        count => out.push_str(format!(in alloc; "and fields are 1 to {count}")?.as_str()),
+        0 => out.write_str("and there are no fields"),
+        1 => out.write_str("and the only field is 1"),
+        count => write!(out, "and fields are 1 to {count}"),
     }
 }
 
 /// A field by its number, and what it is.
-pub(crate) fn put_field(
-    alloc: Global,
-    out: &mut String,
-    rows: &Rows,
-    field: u16,
-) -> Result<(), AllocError> {
-    out.push_str(format!(in alloc; "field {field}, ")?.as_str())?;
+pub(crate) fn write_field(out: &mut TextWriter, rows: &Rows, field: u16) {
+    write!(out, "field {field}, ");
     match form_at(rows, field) {
-        Some(form) => put_form(alloc, out, form),
-        None => put_numbers(alloc, out, rows),
+        Some(form) => write_form(out, form),
+        None => write_numbers(out, rows),
     }
 }
 
@@ -134,22 +117,15 @@ fn is_indexed(rows: &Rows, field: u16) -> bool {
 }
 
 /// An operand: its field and its index.
-pub(crate) fn put_operand(
-    alloc: Global,
-    out: &mut String,
-    rows: &Rows,
-    operand: Operand<u16>,
-) -> Result<(), AllocError> {
-    put_field(alloc, out, rows, operand.field)?;
+pub(crate) fn write_operand(out: &mut TextWriter, rows: &Rows, operand: Operand<u16>) {
+    write_field(out, rows, operand.field);
     match operand.index {
-        Index::Blank if is_indexed(rows, operand.field) => out.push_str(", without an index"),
-        Index::Blank => Ok(()),
-        Index::Literal(index) => {
-            out.push_str(format!(in alloc; ", with index {index}")?.as_str())
-        }
+        Index::Blank if is_indexed(rows, operand.field) => out.write_str(", without an index"),
+        Index::Blank => {}
+        Index::Literal(index) => write!(out, ", with index {index}"),
         Index::Field(field) => {
-            out.push_str(", with an index in ")?;
-            put_field(alloc, out, rows, field)
+            out.write_str(", with an index in ");
+            write_field(out, rows, field);
         }
     }
 }

@@ -1,9 +1,9 @@
 //! Instructions in words, and where they stand.
 
+use rpg_cli_text::TextWriter;
 use rpg_effect::operation::Instruction;
 use rpg_object_program::row::Rows;
 use rpg_object_program::section::Section;
-use std::alloc::{AllocError, Global};
 
 /// A section with its place among all instructions.
 #[derive(Clone, Copy)]
@@ -61,17 +61,12 @@ pub(crate) fn part_at(rows: &Rows, place: usize) -> Part<'_> {
 }
 
 /// The name of a section.
-pub(crate) fn put_section(
-    alloc: Global,
-    out: &mut String,
-    part: Part<'_>,
-) -> Result<(), AllocError> {
+pub(crate) fn write_section(out: &mut TextWriter, part: Part<'_>) {
     match part.section {
-        Section::Detail => out.push_str("the detail calculations"),
-        Section::Total => out.push_str("the total calculations"),
+        Section::Detail => out.write_str("the detail calculations"),
+        Section::Total => out.write_str("the total calculations"),
         Section::Subroutine(number) => {
-            let level = part.level;
-            out.push_str(format!(in alloc; "subroutine {number}, of level {level}")?.as_str())
+            write!(out, "subroutine {number}, of level {}", part.level);
         }
     }
 }

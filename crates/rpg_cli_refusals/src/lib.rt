@@ -10,12 +10,10 @@ mod lines;
 mod parts;
 mod places;
 mod rules;
-mod shown;
 mod spot;
 mod subroutines;
 mod types;
 
 pub use bytes::bytes_message;
-pub use places::put_instruction_at;
+pub use places::write_instruction_at;
 pub use rules::rule_message;
-pub use shown::put_shown;

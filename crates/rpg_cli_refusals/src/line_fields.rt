@@ -1,6 +1,7 @@
 //! V10 to V15: which field of a line breaks a rule, as far as a look at the field alone tells.
 
-use crate::fields::{put_field, put_operand};
+use crate::fields::{write_field, write_operand};
+use rpg_cli_text::TextWriter;
 use rpg_effect::condition::{Condition, Conditions};
 use rpg_effect::form::{Kind, same_kind};
 use rpg_effect::line::{Editing, LineField, Source};
@@ -12,7 +13,6 @@ use rpg_object_program::forms::{
 };
 use rpg_object_program::row::Rows;
 use rpg_verify_rules::LineRule;
-use std::alloc::{AllocError, Global};
 
 fn asks_mr(condition: Option<Condition>) -> bool {
     condition.is_some_and(|condition| condition.indicator == 129)
@@ -96,49 +96,33 @@ fn keeps(rule: LineRule, rows: &Rows, length: u16, field: LineField<u16>) -> boo
 }
 
 /// The edit word of a field.
-fn put_word(
-    alloc: Global,
-    out: &mut String,
-    rows: &Rows,
-    editing: Editing<u16>,
-) -> Result<(), AllocError> {
-    match editing {
-        Editing::Plain | Editing::Code(_) => Ok(()),
-        Editing::Word(word) => {
-            out.push_str(", edited by the word in ")?;
-            put_field(alloc, out, rows, word)
-        }
+fn write_word(out: &mut TextWriter, rows: &Rows, editing: Editing<u16>) {
+    if let Editing::Word(word) = editing {
+        out.write_str(", edited by the word in ");
+        write_field(out, rows, word);
     }
 }
 
 /// What a field puts out, and where it ends.
-fn put_line_field(
-    alloc: Global,
-    out: &mut String,
-    rows: &Rows,
-    at: usize,
-    field: LineField<u16>,
-) -> Result<(), AllocError> {
-    out.push_str(format!(in alloc; "; its field {at} is ")?.as_str())?;
-    put_operand(alloc, out, rows, field.operand)?;
-    put_word(alloc, out, rows, field.editing)?;
-    let end = field.end;
-    out.push_str(format!(in alloc; ", and ends at place {end}")?.as_str())
+fn write_line_field(out: &mut TextWriter, rows: &Rows, at: usize, field: LineField<u16>) {
+    write!(out, "; its field {at} is ");
+    write_operand(out, rows, field.operand);
+    write_word(out, rows, field.editing);
+    write!(out, ", and ends at place {}", field.end);
 }
 
 /// The first field of a line that breaks a rule, where a look at the field alone tells.
-pub(crate) fn put_fields(
-    alloc: Global,
-    out: &mut String,
+pub(crate) fn write_fields(
+    out: &mut TextWriter,
     rows: &Rows,
     rule: LineRule,
     length: u16,
     fields: &[LineField<u16>],
-) -> Result<(), AllocError> {
+) {
     for (at, field) in fields.iter().enumerate() {
         if !keeps(rule, rows, length, *field) {
-            return put_line_field(alloc, out, rows, at, *field);
+            write_line_field(out, rows, at, *field);
+            return;
         }
     }
-    Ok(())
 }

@@ -1,4 +1,4 @@
-//! The parts of rows, by their places among the row's bytes.
+//! The parts of rows, in the order of the row's bytes.
 
 use rpg_object_program::row::Version;
 
@@ -9,146 +9,167 @@ pub(crate) struct RowPart {
     pub bytes: usize,
 }
 
-fn byte(name: &'static str) -> RowPart {
-    RowPart { name, bytes: 1 }
-}
+/// The parts of a row: how many bytes each has, and what it is called.
+type RowParts = &'static [(usize, &'static str)];
 
-fn two_bytes(name: &'static str) -> RowPart {
-    RowPart { name, bytes: 2 }
+pub(crate) const FIELD: RowParts = &[
+    (1, "the kind, 1 or 2,"),
+    (1, "the class, 0 to 4,"),
+    (2, "the length"),
+    (1, "the decimals"),
+    (1, "the sequence"),
+    (2, "the entries"),
+];
+
+pub(crate) const RECORD_CODE: RowParts = &[
+    (2, "a code's position"),
+    (1, "a code's negation, 0 or 1,"),
+    (1, "a code's character"),
+];
+
+pub(crate) const CONTROL_FIELD: RowParts = &[
+    (1, "a control field's level, 1 to 9,"),
+    (1, "a control field's kind, 0 or 1,"),
+    (2, "a control field's column"),
+    (2, "a control field's column"),
+];
+
+pub(crate) const MATCH_FIELD: RowParts = &[
+    (1, "a match field's level, 1 to 9,"),
+    (1, "a match field's kind, 0 or 1,"),
+    (2, "a match field's column"),
+    (2, "a match field's column"),
+];
+
+pub(crate) const INPUT_FIELD: RowParts = &[
+    (2, "an input field's column"),
+    (2, "an input field's column"),
+    (2, "an input field's number"),
+    (1, "an input field's indicator, 0 to 129,"),
+    (1, "an input field's indicator, 0 to 129,"),
+    (1, "an input field's indicator, 0 to 129,"),
+    (1, "a number that is always 0"),
+];
+
+pub(crate) const LINE: RowParts = &[
+    (1, "the file, 1 or 2,"),
+    (1, "the time, 1 to 4,"),
+    (1, "a space or a skip"),
+    (1, "a space or a skip"),
+    (1, "a space or a skip"),
+    (1, "a space or a skip"),
+    (2, "the count of alternatives, 1 to 50,"),
+    (2, "the count of fields, at most 200,"),
+    (2, "a number that is always 0"),
+];
+
+/// An alternative has one or more conditions behind their count.
+pub(crate) const ALTERNATIVE: RowParts = &[
+    (2, "the count of an alternative's conditions, at most 60,"),
+    (1, "a condition of an alternative"),
+];
+
+pub(crate) const LINE_FIELD: RowParts = &[
+    (1, "a field's kind, 1 or 2,"),
+    (1, "a field's editing"),
+    (1, "a field's fill"),
+    (1, "a field's blank after, 0 or 1,"),
+    (2, "a field's number"),
+    (2, "a field's index"),
+    (2, "a field's edit word"),
+    (2, "a field's end"),
+    (1, "a field's condition, 0 to 129,"),
+    (1, "a field's condition, 0 to 129,"),
+    (1, "a field's condition, 0 to 129,"),
+    (1, "a field's negations, 0 to 7,"),
+];
+
+pub(crate) const INSTRUCTION: RowParts = &[
+    (1, "the operation, 1 to 19,"),
+    (1, "half adjust, 0 or 1,"),
+    (2, "factor 1"),
+    (2, "factor 1"),
+    (2, "factor 2"),
+    (2, "factor 2"),
+    (2, "the result"),
+    (2, "the result"),
+    (1, "an indicator, 0 to 129,"),
+    (1, "an indicator, 0 to 129,"),
+    (1, "an indicator, 0 to 129,"),
+    (2, "the target"),
+    (1, "the negations, 0 to 7,"),
+];
+
+pub(crate) const SUBROUTINE: RowParts = &[(2, "the level"), (2, "the count of instructions")];
+
+/// The header before its last part.
+const HEADER: RowParts = &[
+    (6, "the name RPGOBJ"),
+    (2, "version 1 or 2"),
+    (2, "the allowance, 1 to 65,535,"),
+    (2, "the length of a record, 1 to 9,999,"),
+    (2, "the length of a printed line, 0 to 132,"),
+    (2, "the length of a disk record, 0 to 9,999,"),
+    (2, "the overflow indicator, 0 or 112 to 119,"),
+    (2, "the count of fields, at most 4,000,"),
+    (2, "the count of record types, at most 200,"),
+    (2, "the count of output lines, at most 1,000,"),
+    (2, "the count of detail instructions, at most 8,192,"),
+    (
+        2,
+        "the count of total instructions, at most 8,192 with those before,",
+    ),
+    (2, "the count of subroutines, at most 100,"),
+];
+
+const TYPE: RowParts = &[
+    (1, "the indicator, 0 to 129,"),
+    (1, "the file, 0 or 1,"),
+    (2, "the count of record codes, at most 100,"),
+    (2, "the count of control fields, at most 100,"),
+    (2, "the count of input fields, at most 500,"),
+    (2, "the count of match fields, at most 9,"),
+];
+
+const ALWAYS_ZERO: &str = "a number that is always 0";
+
+/// The part that a byte of a row is in; the last where it is behind them all.
+pub(crate) fn part_at(parts: RowParts, place: usize) -> RowPart {
+    let mut part = RowPart { name: "", bytes: 1 };
+    let mut end: usize = 0;
+    for (bytes, name) in parts {
+        part = RowPart {
+            name: *name,
+            bytes: *bytes,
+        };
+        end = end.saturating_add(*bytes);
+        if place < end {
+            break;
+        }
+    }
+    part
 }
 
 pub(crate) fn header_part(version: Version, place: usize) -> RowPart {
-    match place {
-        0..=5 => RowPart {
-            name: "the name RPGOBJ",
-            bytes: 6,
+    match (version, place) {
+        (_, 0..=29) => part_at(HEADER, place),
+        (Version::One, _) => RowPart {
+            name: ALWAYS_ZERO,
+            bytes: 2,
         },
-        6 | 7 => two_bytes("version 1 or 2"),
-        8 | 9 => two_bytes("the allowance, 1 to 65,535,"),
-        10 | 11 => two_bytes("the length of a record, 1 to 9,999,"),
-        12 | 13 => two_bytes("the length of a printed line, 0 to 132,"),
-        14 | 15 => two_bytes("the length of a disk record, 0 to 9,999,"),
-        16 | 17 => two_bytes("the overflow indicator, 0 or 112 to 119,"),
-        18 | 19 => two_bytes("the count of fields, at most 4,000,"),
-        20 | 21 => two_bytes("the count of record types, at most 200,"),
-        22 | 23 => two_bytes("the count of output lines, at most 1,000,"),
-        24 | 25 => two_bytes("the count of detail instructions, at most 8,192,"),
-        26 | 27 => two_bytes("the count of total instructions, at most 8,192 with those before,"),
-        28 | 29 => two_bytes("the count of subroutines, at most 100,"),
-        _ => match version {
-            Version::One => two_bytes("a number that is always 0"),
-            Version::Two => two_bytes("the length of a secondary record, 0 to 9,999,"),
+        (Version::Two, _) => RowPart {
+            name: "the length of a secondary record, 0 to 9,999,",
+            bytes: 2,
         },
-    }
-}
-
-pub(crate) fn field_part(place: usize) -> RowPart {
-    match place {
-        0 => byte("the kind, 1 or 2,"),
-        1 => byte("the class, 0 to 4,"),
-        2 | 3 => two_bytes("the length"),
-        4 => byte("the decimals"),
-        5 => byte("the sequence"),
-        _ => two_bytes("the entries"),
     }
 }
 
 pub(crate) fn type_part(version: Version, place: usize) -> RowPart {
-    match place {
-        0 => byte("the indicator, 0 to 129,"),
-        1 => match version {
-            Version::One => byte("a number that is always 0"),
-            Version::Two => byte("the file, 0 or 1,"),
+    match (version, place) {
+        (Version::One, 1) => RowPart {
+            name: ALWAYS_ZERO,
+            bytes: 1,
         },
-        2 | 3 => two_bytes("the count of record codes, at most 100,"),
-        4 | 5 => two_bytes("the count of control fields, at most 100,"),
-        6 | 7 => two_bytes("the count of input fields, at most 500,"),
-        _ => two_bytes("the count of match fields, at most 9,"),
-    }
-}
-
-pub(crate) fn record_code_part(place: usize) -> RowPart {
-    match place {
-        0 | 1 => two_bytes("a code's position"),
-        2 => byte("a code's negation, 0 or 1,"),
-        _ => byte("a code's character"),
-    }
-}
-
-pub(crate) fn level_part(place: usize) -> RowPart {
-    match place {
-        0 => byte("a control field's level, 1 to 9,"),
-        1 => byte("a control field's kind, 0 or 1,"),
-        _ => two_bytes("a control field's column"),
-    }
-}
-
-pub(crate) fn match_part(place: usize) -> RowPart {
-    match place {
-        0 => byte("a match field's level, 1 to 9,"),
-        1 => byte("a match field's kind, 0 or 1,"),
-        _ => two_bytes("a match field's column"),
-    }
-}
-
-pub(crate) fn input_part(place: usize) -> RowPart {
-    match place {
-        0..=3 => two_bytes("an input field's column"),
-        4 | 5 => two_bytes("an input field's number"),
-        6..=8 => byte("an input field's indicator, 0 to 129,"),
-        _ => byte("a number that is always 0"),
-    }
-}
-
-pub(crate) fn line_part(place: usize) -> RowPart {
-    match place {
-        0 => byte("the file, 1 or 2,"),
-        1 => byte("the time, 1 to 4,"),
-        2..=5 => byte("a space or a skip"),
-        6 | 7 => two_bytes("the count of alternatives, 1 to 50,"),
-        8 | 9 => two_bytes("the count of fields, at most 200,"),
-        _ => two_bytes("a number that is always 0"),
-    }
-}
-
-pub(crate) fn alternative_part(place: usize) -> RowPart {
-    match place {
-        0 | 1 => two_bytes("the count of an alternative's conditions, at most 60,"),
-        _ => byte("a condition of an alternative"),
-    }
-}
-
-pub(crate) fn line_field_part(place: usize) -> RowPart {
-    match place {
-        0 => byte("a field's kind, 1 or 2,"),
-        1 => byte("a field's editing"),
-        2 => byte("a field's fill"),
-        3 => byte("a field's blank after, 0 or 1,"),
-        4 | 5 => two_bytes("a field's number"),
-        6 | 7 => two_bytes("a field's index"),
-        8 | 9 => two_bytes("a field's edit word"),
-        10 | 11 => two_bytes("a field's end"),
-        12..=14 => byte("a field's condition, 0 to 129,"),
-        _ => byte("a field's negations, 0 to 7,"),
-    }
-}
-
-pub(crate) fn instruction_part(place: usize) -> RowPart {
-    match place {
-        0 => byte("the operation, 1 to 19,"),
-        1 => byte("half adjust, 0 or 1,"),
-        2..=5 => two_bytes("factor 1"),
-        6..=9 => two_bytes("factor 2"),
-        10..=13 => two_bytes("the result"),
-        14..=16 => byte("an indicator, 0 to 129,"),
-        17 | 18 => two_bytes("the target"),
-        _ => byte("the negations, 0 to 7,"),
-    }
-}
-
-pub(crate) fn subroutine_part(place: usize) -> RowPart {
-    match place {
-        0 | 1 => two_bytes("the level"),
-        _ => two_bytes("the count of instructions"),
+        _ => part_at(TYPE, place),
     }
 }

@@ -1,13 +1,13 @@
 //! V16 to V22: what stands in an instruction.
 
-use crate::fields::{asked, put_operand, put_shows};
-use crate::instructions::{Part, part_at, put_section};
+use crate::fields::{asked, write_operand, write_shows};
+use crate::instructions::{Part, part_at, write_section};
+use rpg_cli_text::TextWriter;
 use rpg_effect::operation::{Instruction, Operand, Shows};
 use rpg_effect::row::{Marks, Row, Use};
 use rpg_object_program::columns::{columns_of, has_kind, is_good, is_writable_use};
 use rpg_object_program::row::Rows;
 use rpg_verify_rules::PlaceRule;
-use std::alloc::{AllocError, Global};
 
 /// An operand of an instruction, by the column that it stands in.
 #[derive(Clone, Copy)]
@@ -45,39 +45,26 @@ fn broken_column(rule: PlaceRule, rows: &Rows, row: Row<Operand<u16>>) -> Option
     let to = broken(rule, rows, "the result", row.result);
     match rule {
         PlaceRule::V18 => to,
-        _ => match broken(rule, rows, "factor 1", row.factor1) {
-            Some(column) => Some(column),
-            None => match broken(rule, rows, "factor 2", row.factor2) {
-                Some(column) => Some(column),
-                None => to,
-            },
-        },
+        _ => broken(rule, rows, "factor 1", row.factor1)
+            .or(broken(rule, rows, "factor 2", row.factor2))
+            .or(to),
     }
 }
 
 /// What an operand is.
-fn put_column(
-    alloc: Global,
-    out: &mut String,
-    rows: &Rows,
-    column: Column,
-) -> Result<(), AllocError> {
-    out.push_str("; ")?;
-    out.push_str(column.name)?;
-    out.push_str(" is ")?;
-    put_operand(alloc, out, rows, column.used.operand)
+fn write_column(out: &mut TextWriter, rows: &Rows, column: Column) {
+    write!(out, "; {} is ", column.name);
+    write_operand(out, rows, column.used.operand);
 }
 
-fn put_used(
-    alloc: Global,
-    out: &mut String,
+fn write_used(
+    out: &mut TextWriter,
     rows: &Rows,
     name: &'static str,
     used: Option<Use<Operand<u16>>>,
-) -> Result<(), AllocError> {
-    match used {
-        None => Ok(()),
-        Some(used) => put_column(alloc, out, rows, Column { name, used }),
+) {
+    if let Some(used) = used {
+        write_column(out, rows, Column { name, used });
     }
 }
 
@@ -92,132 +79,88 @@ fn named(row: Row<Operand<u16>>, instruction: Instruction<u16>) -> Option<Shows>
     }
 }
 
-fn put_named(
-    alloc: Global,
-    out: &mut String,
-    rows: &Rows,
-    instruction: Instruction<u16>,
-) -> Result<(), AllocError> {
+fn write_named(out: &mut TextWriter, rows: &Rows, instruction: Instruction<u16>) {
     let row = columns_of(rows, instruction);
     if let Some(shows) = named(row, instruction) {
-        out.push_str("; its indicators:")?;
-        put_shows(alloc, out, shows)?;
+        out.write_str("; its indicators:");
+        write_shows(out, shows);
     }
-    match row.marks {
-        Marks::Sought(_) => put_used(alloc, out, rows, "factor 2", row.factor2),
-        Marks::Unmarked | Marks::Shown(_) | Marks::Wanted(_) => Ok(()),
+    if let Marks::Sought(_) = row.marks {
+        write_used(out, rows, "factor 2", row.factor2);
     }
 }
 
-fn put_found(
-    alloc: Global,
-    out: &mut String,
-    rows: &Rows,
-    row: Row<Operand<u16>>,
-) -> Result<(), AllocError> {
-    put_used(alloc, out, rows, "factor 2", row.factor2)?;
-    put_used(alloc, out, rows, "the result", row.result)
+fn write_found(out: &mut TextWriter, rows: &Rows, row: Row<Operand<u16>>) {
+    write_used(out, rows, "factor 2", row.factor2);
+    write_used(out, rows, "the result", row.result);
 }
 
 /// Where a branch leads, and where it may.
-fn put_target(
-    alloc: Global,
-    out: &mut String,
-    part: Part<'_>,
-    instruction: Instruction<u16>,
-) -> Result<(), AllocError> {
+fn write_target(out: &mut TextWriter, part: Part<'_>, instruction: Instruction<u16>) {
     let Instruction::Branch { target, .. } = instruction else {
-        return Ok(());
+        return;
     };
     let first = part.first;
     let end = part.end();
-    out.push_str(format!(in alloc;
+    write!(
+        out,
         "; it leads to {target}; they begin at {first} and end at {end}"
-    )?.as_str())
+    );
 }
 
 /// How many subroutines there are.
-fn put_subroutines(alloc: Global, out: &mut String, rows: &Rows) -> Result<(), AllocError> {
+fn write_subroutines(out: &mut TextWriter, rows: &Rows) {
     match rows.subroutines.len() {
-        0 => out.push_str("; there is none"),
-        1 => out.push_str("; the only one is subroutine 0"),
-        count => out.push_str(format!(in alloc; "; there are {count}, counted from 0")?.as_str()),
+        0 => out.write_str("; there is none"),
+        1 => out.write_str("; the only one is subroutine 0"),
+        count => write!(out, "; there are {count}, counted from 0"),
     }
 }
 
 /// What a call calls.
-fn put_called(
-    alloc: Global,
-    out: &mut String,
-    rows: &Rows,
-    instruction: Instruction<u16>,
-) -> Result<(), AllocError> {
+fn write_called(out: &mut TextWriter, rows: &Rows, instruction: Instruction<u16>) {
     let Instruction::Call { subroutine } = instruction else {
-        return Ok(());
+        return;
     };
-    out.push_str(format!(in alloc; "; it calls subroutine {subroutine}")?.as_str())?;
+    write!(out, "; it calls subroutine {subroutine}");
     match rows.subroutines.get(usize::from(subroutine)) {
-        Some(called) => {
-            let level = called.level;
-            out.push_str(format!(in alloc; ", of level {level}")?.as_str())
-        }
-        None => put_subroutines(alloc, out, rows),
+        Some(called) => write!(out, ", of level {}", called.level),
+        None => write_subroutines(out, rows),
     }
 }
 
 /// Which instruction it is.
-fn put_place(
-    alloc: Global,
-    out: &mut String,
-    part: Part<'_>,
-    place: usize,
-    instruction: Instruction<u16>,
-) -> Result<(), AllocError> {
-    out.push_str("the ")?;
-    out.push_str(instruction.name())?;
-    out.push_str(format!(in alloc; " at place {place} of ")?.as_str())?;
-    put_section(alloc, out, part)
+fn write_place(out: &mut TextWriter, part: Part<'_>, place: usize, instruction: Instruction<u16>) {
+    write!(out, "the {} at place {place} of ", instruction.name());
+    write_section(out, part);
 }
 
 /// Which instruction stands at a place, counted through the whole program.
-pub fn put_instruction_at(
-    alloc: Global,
-    out: &mut String,
-    rows: &Rows,
-    place: usize,
-) -> Result<(), AllocError> {
+pub fn write_instruction_at(out: &mut TextWriter, rows: &Rows, place: usize) {
     let part = part_at(rows, place);
-    match part.at(place) {
-        Some(instruction) => put_place(alloc, out, part, place, instruction),
-        None => Ok(()),
+    if let Some(instruction) = part.at(place) {
+        write_place(out, part, place, instruction);
     }
 }
 
 /// Which instruction breaks a rule of V16 to V22, and what stands in it.
-pub(crate) fn put_instruction(
-    alloc: Global,
-    out: &mut String,
-    rows: &Rows,
-    rule: PlaceRule,
-    place: usize,
-) -> Result<(), AllocError> {
+pub(crate) fn write_instruction(out: &mut TextWriter, rows: &Rows, rule: PlaceRule, place: usize) {
     let part = part_at(rows, place);
     let Some(instruction) = part.at(place) else {
-        return Ok(());
+        return;
     };
-    out.push_str(": ")?;
-    put_place(alloc, out, part, place, instruction)?;
+    out.write_str(": ");
+    write_place(out, part, place, instruction);
     let row = columns_of(rows, instruction);
     match rule {
         PlaceRule::V16 | PlaceRule::V17 | PlaceRule::V18 => {
-            match broken_column(rule, rows, row) {
-                Some(column) => put_column(alloc, out, rows, column),
-                None => Ok(()),
+            if let Some(column) = broken_column(rule, rows, row) {
+                write_column(out, rows, column);
             }
         }
-        PlaceRule::V19 => put_named(alloc, out, rows, instruction),
-        PlaceRule::V20 => put_found(alloc, out, rows, row),
-        PlaceRule::V21 => put_target(alloc, out, part, instruction),
-        PlaceRule::V22 => put_called(alloc, out, rows, instruction),
+        PlaceRule::V19 => write_named(out, rows, instruction),
+        PlaceRule::V20 => write_found(out, rows, row),
+        PlaceRule::V21 => write_target(out, part, instruction),
+        PlaceRule::V22 => write_called(out, rows, instruction),
     }
 }

@@ -1,40 +1,32 @@
 //! Rules that an object program breaks.
 
-use crate::fields::put_indicator;
-use crate::lines::put_line;
-use crate::places::put_instruction;
-use crate::shown::put_shown;
-use crate::subroutines::put_subroutine;
-use crate::types::put_type;
+use crate::fields::write_indicator;
+use crate::lines::write_line;
+use crate::places::write_instruction;
+use crate::subroutines::write_subroutine;
+use crate::types::write_type;
+use rpg_cli_text::TextWriter;
 use rpg_object_program::Program;
 use rpg_object_program::row::Rows;
 use rpg_verify_rules::{BrokenRule, Rule};
 use std::alloc::{AllocError, Global};
 
-fn put_overflow(alloc: Global, out: &mut String, rows: &Rows) -> Result<(), AllocError> {
-    match rows.overflow {
-        None => Ok(()),
-        Some(indicator) => {
-            out.push_str(": it is ")?;
-            put_indicator(alloc, out, indicator)
-        }
+fn write_overflow(out: &mut TextWriter, rows: &Rows) {
+    if let Some(indicator) = rows.overflow {
+        out.write_str(": it is ");
+        write_indicator(out, indicator);
     }
 }
 
 /// What stands in the row that breaks a rule.
-fn put_row(
-    alloc: Global,
-    out: &mut String,
-    rows: &Rows,
-    broken: BrokenRule,
-) -> Result<(), AllocError> {
+fn write_row(out: &mut TextWriter, rows: &Rows, broken: BrokenRule) {
     let BrokenRule { rule, row } = broken;
     match rule {
-        Rule::Overflow => put_overflow(alloc, out, rows),
-        Rule::Type(rule) => put_type(alloc, out, rows, rule, row),
-        Rule::Line(rule) => put_line(alloc, out, rows, rule, row),
-        Rule::Place(rule) => put_instruction(alloc, out, rows, rule, row),
-        Rule::Subroutine(_) => put_subroutine(alloc, out, rows, row),
+        Rule::Overflow => write_overflow(out, rows),
+        Rule::Type(rule) => write_type(out, rows, rule, row),
+        Rule::Line(rule) => write_line(out, rows, rule, row),
+        Rule::Place(rule) => write_instruction(out, rows, rule, row),
+        Rule::Subroutine(_) => write_subroutine(out, rows, row),
     }
 }
 
@@ -45,12 +37,11 @@ pub fn rule_message(
     program: &Program,
     broken: BrokenRule,
 ) -> Result<String, AllocError> {
-    let mut out = String::new(alloc);
-    put_shown(&mut out, path)?;
+    let mut out = TextWriter::new(alloc);
+    out.write_shown(path.as_bytes());
     let number = broken.rule.number();
-    out.push_str(format!(in alloc; ": V{number}: ")?.as_str())?;
-    out.push_str(broken.rule.sentence())?;
-    put_row(alloc, &mut out, program.rows(), broken)?;
-    out.push('\n')?;
-    Ok(out)
+    write!(out, ": V{number}: {}", broken.rule.sentence());
+    write_row(&mut out, program.rows(), broken);
+    out.write_char('\n');
+    out.finish()
 }

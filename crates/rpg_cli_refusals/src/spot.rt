@@ -1,8 +1,8 @@
 //! What stands at an offset of an object program's bytes. The counts before it are taken as they are.
 
 use crate::parts::{
-    RowPart, alternative_part, field_part, header_part, input_part, instruction_part, level_part,
-    line_field_part, line_part, match_part, record_code_part, subroutine_part, type_part,
+    ALTERNATIVE, CONTROL_FIELD, FIELD, INPUT_FIELD, INSTRUCTION, LINE, LINE_FIELD, MATCH_FIELD,
+    RECORD_CODE, RowPart, SUBROUTINE, header_part, part_at, type_part,
 };
 use rpg_object_program::row::Version;
 
@@ -79,7 +79,7 @@ fn in_header(walk: &mut Walk<'_>) -> Option<Spot> {
 fn in_fields(walk: &mut Walk<'_>) -> Option<Spot> {
     let count = walk.number(18);
     let place = walk.within(count.saturating_mul(8))?;
-    row_spot(field_part(place % 8), "field", place / 8 + 1)
+    row_spot(part_at(FIELD, place % 8), "field", place / 8 + 1)
 }
 
 fn in_values(walk: &mut Walk<'_>) -> Option<Spot> {
@@ -112,16 +112,16 @@ fn in_type(walk: &mut Walk<'_>, row: usize) -> Option<Spot> {
         return row_spot(type_part(version, place), table, row);
     }
     if let Some(place) = walk.within(codes.saturating_mul(4)) {
-        return row_spot(record_code_part(place % 4), table, row);
+        return row_spot(part_at(RECORD_CODE, place % 4), table, row);
     }
     if let Some(place) = walk.within(levels.saturating_mul(6)) {
-        return row_spot(level_part(place % 6), table, row);
+        return row_spot(part_at(CONTROL_FIELD, place % 6), table, row);
     }
     if let Some(place) = walk.within(inputs.saturating_mul(10)) {
-        return row_spot(input_part(place % 10), table, row);
+        return row_spot(part_at(INPUT_FIELD, place % 10), table, row);
     }
     let place = walk.within(matches.saturating_mul(6))?;
-    row_spot(match_part(place % 6), table, row)
+    row_spot(part_at(MATCH_FIELD, place % 6), table, row)
 }
 
 fn in_types(walk: &mut Walk<'_>) -> Option<Spot> {
@@ -137,7 +137,7 @@ fn in_alternatives(walk: &mut Walk<'_>, count: usize, row: usize) -> Option<Spot
     for _ in 0..count {
         let conditions = walk.ahead(0);
         if let Some(place) = walk.within(conditions.saturating_mul(2).saturating_add(2)) {
-            return row_spot(alternative_part(place), "line", row);
+            return row_spot(part_at(ALTERNATIVE, place), "line", row);
         }
     }
     None
@@ -147,13 +147,13 @@ fn in_line(walk: &mut Walk<'_>, row: usize) -> Option<Spot> {
     let alternatives = walk.ahead(6);
     let fields = walk.ahead(8);
     if let Some(place) = walk.within(12) {
-        return row_spot(line_part(place), "line", row);
+        return row_spot(part_at(LINE, place), "line", row);
     }
     if let Some(spot) = in_alternatives(walk, alternatives, row) {
         return Some(spot);
     }
     let place = walk.within(fields.saturating_mul(16))?;
-    row_spot(line_field_part(place % 16), "line", row)
+    row_spot(part_at(LINE_FIELD, place % 16), "line", row)
 }
 
 fn in_lines(walk: &mut Walk<'_>) -> Option<Spot> {
@@ -169,7 +169,7 @@ fn in_lines(walk: &mut Walk<'_>) -> Option<Spot> {
 fn in_instructions(walk: &mut Walk<'_>, count: usize, first: usize) -> Option<Spot> {
     let place = walk.within(count.saturating_mul(20))?;
     row_spot(
-        instruction_part(place % 20),
+        part_at(INSTRUCTION, place % 20),
         "instruction",
         first.saturating_add(place / 20),
     )
@@ -180,7 +180,7 @@ fn in_subroutines(walk: &mut Walk<'_>, before: usize) -> Option<Spot> {
     for row in 0..walk.number(28) {
         let count = walk.ahead(2);
         if let Some(place) = walk.within(4) {
-            return row_spot(subroutine_part(place), "subroutine", row);
+            return row_spot(part_at(SUBROUTINE, place), "subroutine", row);
         }
         if let Some(spot) = in_instructions(walk, count, first) {
             return Some(spot);

@@ -1,10 +1,10 @@
 //! V23 and V24: what stands in a subroutine.
 
-use crate::counted::put_count;
+use crate::counted::write_count;
+use rpg_cli_text::TextWriter;
 use rpg_effect::operation::Instruction;
 use rpg_object_program::row::{Rows, Subroutine};
 use rpg_verify_rules::is_return;
-use std::alloc::{AllocError, Global};
 
 /// The place of the first RET outside subroutines.
 fn stray_return(rows: &Rows) -> Option<usize> {
@@ -19,43 +19,27 @@ fn stray_return(rows: &Rows) -> Option<usize> {
 }
 
 /// What the last instruction is.
-fn put_last(alloc: Global, out: &mut String, subroutine: &Subroutine) -> Result<(), AllocError> {
-    match subroutine.instructions.last() {
-        None => out.push_str(", without instructions"),
-        Some(last) => {
-            let count = subroutine.instructions.len();
-            out.push_str(", of ")?;
-            put_count(alloc, out, count, "instruction", "instructions")?;
-            out.push_str(", the last ")?;
-            out.push_str(last.name())?;
-            match *last {
-                Instruction::Return { subroutine } => {
-                    out.push_str(format!(in alloc; " of subroutine {subroutine}")?.as_str())
-                }
-                _ => Ok(()),
-            }
-        }
+fn write_last(out: &mut TextWriter, subroutine: &Subroutine) {
+    let Some(last) = subroutine.instructions.last() else {
+        out.write_str(", without instructions");
+        return;
+    };
+    out.write_str(", of ");
+    let count = subroutine.instructions.len();
+    write_count(out, count, "instruction", "instructions");
+    write!(out, ", the last {}", last.name());
+    if let Instruction::Return { subroutine } = *last {
+        write!(out, " of subroutine {subroutine}");
     }
 }
 
 /// Which subroutine breaks V23 or V24, and what stands in it.
-pub(crate) fn put_subroutine(
-    alloc: Global,
-    out: &mut String,
-    rows: &Rows,
-    row: usize,
-) -> Result<(), AllocError> {
-    if row == 0 {
-        if let Some(place) = stray_return(rows) {
-            return out.push_str(format!(in alloc;
-                ": the RET at place {place} stands in no subroutine"
-            )?.as_str());
-        }
+pub(crate) fn write_subroutine(out: &mut TextWriter, rows: &Rows, row: usize) {
+    let stray = if row == 0 { stray_return(rows) } else { None };
+    if let Some(place) = stray {
+        write!(out, ": the RET at place {place} stands in no subroutine");
+    } else if let Some(subroutine) = rows.subroutines.get(row) {
+        write!(out, ": subroutine {row}, of level {}", subroutine.level);
+        write_last(out, subroutine);
     }
-    let Some(subroutine) = rows.subroutines.get(row) else {
-        return Ok(());
-    };
-    let level = subroutine.level;
-    out.push_str(format!(in alloc; ": subroutine {row}, of level {level}")?.as_str())?;
-    put_last(alloc, out, subroutine)
 }

@@ -1,41 +1,32 @@
 //! V3 to V7, V25 and V26: what stands in a record type.
 
-use crate::fields::{put_field, put_indicator, put_shows};
+use crate::fields::{write_field, write_indicator, write_shows};
+use rpg_cli_text::TextWriter;
 use rpg_effect::form::{Kind, is_plain, same_kind};
 use rpg_effect::input::{ControlField, InputField, RecordCode};
 use rpg_object_program::forms::{form_at, kind_of, length_of};
 use rpg_object_program::row::{RecordType, Rows};
 use rpg_verify_rules::TypeRule;
-use std::alloc::{AllocError, Global};
 
 /// Whether columns are those of a record of that length, and not turned round.
 fn are_columns(length: u16, from: u16, to: u16) -> bool {
     1 <= from && from <= to && to <= length
 }
 
-fn put_codes(
-    alloc: Global,
-    out: &mut String,
-    length: u16,
-    codes: &[RecordCode],
-) -> Result<(), AllocError> {
+fn write_codes(out: &mut TextWriter, length: u16, codes: &[RecordCode]) {
     for (at, code) in codes.iter().enumerate() {
         let position = code.position;
         if !are_columns(length, position, position) {
-            return out.push_str(format!(in alloc;
+            write!(
+                out,
                 "; its code {at} is at position {position}, and a record has {length}"
-            )?.as_str());
+            );
+            return;
         }
     }
-    Ok(())
 }
 
-fn put_levels(
-    alloc: Global,
-    out: &mut String,
-    length: u16,
-    levels: &[ControlField],
-) -> Result<(), AllocError> {
+fn write_levels(out: &mut TextWriter, length: u16, levels: &[ControlField]) {
     for (at, field) in levels.iter().enumerate() {
         let ControlField {
             level,
@@ -44,12 +35,13 @@ fn put_levels(
             ..
         } = *field;
         if !are_columns(length, from, to) {
-            return out.push_str(format!(in alloc;
+            write!(
+                out,
                 "; its control field {at}, of L{level}, is columns {from} to {to}, and a record has {length}"
-            )?.as_str());
+            );
+            return;
         }
     }
-    Ok(())
 }
 
 /// Whether a match field before that place is of that level.
@@ -57,12 +49,7 @@ fn stands_before(matches: &[ControlField], at: usize, level: u8) -> bool {
     matches.iter().take(at).any(|field| field.level == level)
 }
 
-fn put_matches(
-    alloc: Global,
-    out: &mut String,
-    length: u16,
-    matches: &[ControlField],
-) -> Result<(), AllocError> {
+fn write_matches(out: &mut TextWriter, length: u16, matches: &[ControlField]) {
     for (at, field) in matches.iter().enumerate() {
         let ControlField {
             level,
@@ -71,17 +58,20 @@ fn put_matches(
             ..
         } = *field;
         if !are_columns(length, from, to) {
-            return out.push_str(format!(in alloc;
+            write!(
+                out,
                 "; its match field {at}, of M{level}, is columns {from} to {to}, and a record has {length}"
-            )?.as_str());
+            );
+            return;
         }
         if stands_before(matches, at, level) {
-            return out.push_str(format!(in alloc;
+            write!(
+                out,
                 "; its match field {at} is of M{level}, as one before it is"
-            )?.as_str());
+            );
+            return;
         }
     }
-    Ok(())
 }
 
 /// Whether columns of a record of that length fit a plain field.
@@ -93,13 +83,7 @@ fn fits(rows: &Rows, length: u16, input: InputField<u16>) -> bool {
         && u32::from(input.to) + 1 == u32::from(input.from) + u32::from(length_of(form))
 }
 
-fn put_inputs(
-    alloc: Global,
-    out: &mut String,
-    rows: &Rows,
-    length: u16,
-    inputs: &[InputField<u16>],
-) -> Result<(), AllocError> {
+fn write_inputs(out: &mut TextWriter, rows: &Rows, length: u16, inputs: &[InputField<u16>]) {
     for (at, input) in inputs.iter().enumerate() {
         let InputField {
             from,
@@ -108,13 +92,14 @@ fn put_inputs(
             ..
         } = *input;
         if !fits(rows, length, *input) {
-            out.push_str(format!(in alloc;
+            write!(
+                out,
                 "; its input field {at} is columns {from} to {to} of a record's {length}, for "
-            )?.as_str())?;
-            return put_field(alloc, out, rows, field);
+            );
+            write_field(out, rows, field);
+            return;
         }
     }
-    Ok(())
 }
 
 fn may_be_set(indicator: Option<u8>) -> bool {
@@ -134,57 +119,39 @@ fn is_marked(rows: &Rows, input: InputField<u16>) -> bool {
         && (is_number || (shows.plus.is_none() && shows.minus.is_none()))
 }
 
-fn put_marks(
-    alloc: Global,
-    out: &mut String,
-    rows: &Rows,
-    inputs: &[InputField<u16>],
-) -> Result<(), AllocError> {
+fn write_marks(out: &mut TextWriter, rows: &Rows, inputs: &[InputField<u16>]) {
     for (at, input) in inputs.iter().enumerate() {
         if !is_marked(rows, *input) {
-            out.push_str(format!(in alloc; "; its input field {at} is for ")?.as_str())?;
-            put_field(alloc, out, rows, input.field)?;
-            out.push_str(", with the indicators")?;
-            return put_shows(alloc, out, input.shows);
+            write!(out, "; its input field {at} is for ");
+            write_field(out, rows, input.field);
+            out.write_str(", with the indicators");
+            write_shows(out, input.shows);
+            return;
         }
     }
-    Ok(())
 }
 
-fn put_turned_on(
-    alloc: Global,
-    out: &mut String,
-    record_type: &RecordType,
-) -> Result<(), AllocError> {
-    match record_type.indicator {
-        None => Ok(()),
-        Some(indicator) => {
-            out.push_str("; it turns on ")?;
-            put_indicator(alloc, out, indicator)
-        }
+fn write_turned_on(out: &mut TextWriter, record_type: &RecordType) {
+    if let Some(indicator) = record_type.indicator {
+        out.write_str("; it turns on ");
+        write_indicator(out, indicator);
     }
 }
 
 /// Which record type breaks a rule of V3 to V7, V25 or V26, and what stands in it.
-pub(crate) fn put_type(
-    alloc: Global,
-    out: &mut String,
-    rows: &Rows,
-    rule: TypeRule,
-    row: usize,
-) -> Result<(), AllocError> {
+pub(crate) fn write_type(out: &mut TextWriter, rows: &Rows, rule: TypeRule, row: usize) {
     let Some(record_type) = rows.types.get(row) else {
-        return Ok(());
+        return;
     };
     let length = rows.input_length(record_type.file);
-    out.push_str(format!(in alloc; ": record type {row}")?.as_str())?;
+    write!(out, ": record type {row}");
     match rule {
-        TypeRule::V3 => put_codes(alloc, out, length, &record_type.codes),
-        TypeRule::V4 => put_turned_on(alloc, out, record_type),
-        TypeRule::V5 => put_levels(alloc, out, length, &record_type.levels),
-        TypeRule::V6 => put_inputs(alloc, out, rows, length, &record_type.inputs),
-        TypeRule::V7 => put_marks(alloc, out, rows, &record_type.inputs),
-        TypeRule::V25 => out.push_str("; it is of the secondary file"),
-        TypeRule::V26 => put_matches(alloc, out, length, &record_type.matches),
+        TypeRule::V3 => write_codes(out, length, &record_type.codes),
+        TypeRule::V4 => write_turned_on(out, record_type),
+        TypeRule::V5 => write_levels(out, length, &record_type.levels),
+        TypeRule::V6 => write_inputs(out, rows, length, &record_type.inputs),
+        TypeRule::V7 => write_marks(out, rows, &record_type.inputs),
+        TypeRule::V25 => out.write_str("; it is of the secondary file"),
+        TypeRule::V26 => write_matches(out, length, &record_type.matches),
     }
 }
