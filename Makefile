@@ -3,32 +3,26 @@
 EXAMPLE := sales
 RPG2 := crates/rpg2/out/rpg2
 
-.PHONY: run test bench examples
+.PHONY: run try test edits bench
 
-# Builds rpg2, shows the example report's source, compiles, verifies and runs it: what rpg2 says of each, and the printed form.
+# Proves and builds rpg2, shows the example report's source, compiles, verifies and runs it: what rpg2 says of each, and the printed form.
 run: $(RPG2)
+	@build/example.sh $(RPG2) $(EXAMPLE)
+
+# The same by a program that nothing has proved, in a few minutes: for a first look. It says of itself that it isn't proved.
+try:
 	@mkdir -p out
-	@cat examples/$(EXAMPLE)/$(EXAMPLE).rpg
-	@echo
-	@echo '$$ rpg2 compile $(EXAMPLE).rpg $(EXAMPLE).obj'
-	@$(RPG2) compile examples/$(EXAMPLE)/$(EXAMPLE).rpg out/$(EXAMPLE).obj
-	@echo '$$ rpg2 verify $(EXAMPLE).obj'
-	@$(RPG2) verify out/$(EXAMPLE).obj
-	@echo '$$ rpg2 run $(EXAMPLE).obj $(EXAMPLE).txt $(EXAMPLE).print --date 010576'
-	@$(RPG2) run out/$(EXAMPLE).obj examples/$(EXAMPLE)/$(EXAMPLE).txt out/$(EXAMPLE).print --date 010576
-	@echo
-	@cat out/$(EXAMPLE).print
-	@cmp out/$(EXAMPLE).print examples/$(EXAMPLE)/$(EXAMPLE).expected
+	@echo 'NOT PROVED: rpg2 is compiled without its proofs, which takes about 3 minutes on 4 processors; make run proves it'
+	@bench/unproved.py --marked out/rpg2-unproved
+	@build/example.sh out/rpg2-unproved $(EXAMPLE)
 
-# The gate: every proof from nothing, every must-fail edit, every test, every program as two compilers build it.
-test: examples
-	rt ci
+# The gate: every proof from nothing, every program as two compilers build it, the wrong bodies that the contracts refuse, every case.
+test:
+	tests/all.py
 
-# The gate runs the examples as rpg_show_cases has them: these are the files that a person finds in examples/. And it compares the pages of codes,
-# as `rpg2 explain` prints them, with what docs/MESSAGES.md has.
-examples:
-	@for file in $(filter-out %.cases %.objects %.session %.md,$(wildcard crates/rpg_show_cases/data/*)); do cmp examples/*/$$(basename $$file) $$file || exit 1; done
-	@cmp docs/MESSAGES.md crates/rpg_show_cases/data/MESSAGES.md
+# All wrong bodies, over the libraries that the gate built: before a version, and after a change to a contract.
+edits:
+	tests/edits.py
 
 # The example's total over 1,000,000 records beside awk's and a sales report beside COBOL's; what decoding and verifying the largest programs
 # takes; and what compiling costs.
@@ -39,6 +33,6 @@ bench: $(RPG2)
 
 # Only what is proved is built: docs/develop/GATE.md says how long that takes. A program that is newer than all it is made of is left as it is.
 $(RPG2): FORCE
-	@build/rpg2.sh
+	@build/rpg2.py
 
 FORCE:

@@ -2,15 +2,15 @@
 """Measures the processor minutes of the gate, crate by crate.
 
 usage, at the top of the repository:
-    bench/gate.py                        runs `rt ci`, whose own lines come through as it prints them
-    bench/gate.py rt must-fail NAME..    measures another command of rt in the same way
+    bench/gate.py                           runs tests/all.py, whose own lines come through as it prints them
+    bench/gate.py make run                  measures another command in the same way
 
 Behind the command's own lines it prints a table, a line for each crate, in seconds of a processor:
     proof   the check of the crate from nothing
     tests   the check of the crate with its tests
-    edits   the checks of its must-fail edits
+    edits   the checks of its wrong bodies, by tests/edits.py
     build   LLVM and Rattle's own compiler on a proved program
-    tried   how many must-fail edits it has
+    tried   how many wrong bodies it has
 and then what belongs to no crate (rt itself, the runs of programs and tests, what ended between two looks at the processes), the
 whole in processor minutes, and the wall time. Its status is the command's. The whole is exact, since the system counts it;
 the parts are what each process had used when it was last looked at, a fifth of a second before its end or less.
@@ -67,7 +67,7 @@ def task_of(pid):
     if "--crate-name" not in words or not words[0].endswith("/rattle"):
         return None
     crate = words[words.index("--crate-name") + 1]
-    if "rt-edit-" in folder:
+    if "/edits-" in folder:
         return crate, "edits"
     if "--test" in words:
         return crate, "tests"
@@ -95,7 +95,7 @@ def look(top, known, used):
 
 def edits_of(crate):
     try:
-        return sum(name.endswith(".edit") for name in os.listdir(f"crates/{crate}/must-fail"))
+        return sum(name.endswith(".edit") for name in os.listdir(f"crates/{crate}/refused"))
     except OSError:
         return 0
 
@@ -128,7 +128,7 @@ def main(words):
         print("bench/gate.py runs at the top of the repository", file=sys.stderr)
         return 2
     began = time.monotonic()
-    command = subprocess.Popen(words or ["rt", "ci"])
+    command = subprocess.Popen(words or ["tests/all.py"])
     known, used = {}, {}
     while command.poll() is None:
         look(command.pid, known, used)

@@ -1,19 +1,25 @@
 -- Types by the card in front, and what follows their headings.
-use Rattle.std.proofs.Common.{◌≡◌, ℕ, ◌+◌, ◌<◌, List, ◌∷◌, length, get_or, drop, map, Option, None, Some, refl, sym, ap, ◌∙◌}
+use Rattle.std.proofs.Common.{◌≡◌, ℕ, ◌+◌, ◌<◌, List, ◌∷◌, ◌++◌, length, get_or, drop, map, Option, None, Some, refl, sym, ap, ◌∙◌, append_assoc}
 use Rattle.std.proofs.lemmas.List.{at_drop_more}
-use Rattle.std.specs.Option.{option_and_then, option_or}
+use Rattle.std.specs.List.{cons_option, filter_map, flat_map}
+use Rattle.std.specs.Option.{option_and_then, option_or, option_to_list}
 use Rattle.rpg_cards.specs.Cards.{input_on, type_in, type_on}
 use Rattle.rpg_cards.specs.Files.{file_by}
 use Rattle.rpg_cards.specs.Groups.{followers, following, groups_from, input_card_role, input_role, opening, role_on}
 use Rattle.rpg_cards.specs.Keys.{Key}
 use Rattle.rpg_cards.specs.declared.spec_card.SpecCard.{SpecCard}
-use Rattle.rpg_compile_layouts.specs.Parts.{type_behind, types_from}
+use Rattle.rpg_compile_layouts.specs.Parts.{codes_behind, fields_behind, levels_behind, type_behind, types_from}
 use Rattle.rpg_effect.specs.Input.{TypeRow}
+use Rattle.rpg_effect.specs.declared.input.ControlField.{ControlField}
 use Rattle.rpg_effect.specs.declared.input.InputFile.{InputFile}
+use Rattle.rpg_effect.specs.declared.input.RecordCode.{RecordCode}
+use Rattle.rpg_sheet_specs.specs.declared.indicator.Three.{Three}
+use Rattle.rpg_sheet_specs.specs.declared.input.InputField.{InputField}
+use Rattle.rpg_sheet_specs.specs.declared.input.RecordCode as card
 use Rattle.rpg_sheet_specs.specs.declared.input.InputSpec.{InputSpec}
 use Rattle.rpg_sheet_specs.specs.declared.input.InputSpec.TheVariants as input
 use Rattle.rpg_sheet_specs.specs.declared.input.RecordType.{RecordType}
-use Rattle.rpg_compile_program.specs.Types.{card_type, input_file}
+use Rattle.rpg_compile_program.specs.Types.{and_card_codes, card_type, codes_of, field_at_level, input_fields_in, input_file}
 
 -- ---- the card in front
 
@@ -58,3 +64,27 @@ next_input cards i c s lt is on =
     at_drop_more (followers input_role) cards i c lt
     ∙ ap (λ (d : SpecCard). following (input_role d.spec) (followers input_role (drop (i + 1) cards))) (sym is)
     ∙ ap (λ o. following (role_on input_card_role o) (followers input_role (drop (i + 1) cards))) (sym on)
+
+pub next_field : (cards : List SpecCard) (i : ℕ) (c : SpecCard) (f : InputField) → i < length cards → c ≡ get_or cards i c → Some (input.Field f) ≡ input_on c.spec
+    → fields_behind (drop i cards) ≡ f ∷ fields_behind (drop (i + 1) cards)
+next_field cards i c f lt is on = ap input_fields_in (next_input cards i c (input.Field f) lt is on)
+
+-- the codes of an AND card more
+pub codes_more : (cards : List SpecCard) (i : ℕ) (c : SpecCard) (cs : Three (Option card.RecordCode)) (old new all : List RecordCode) → i < length cards → c ≡ get_or cards i c → Some (input.And cs) ≡ input_on c.spec
+    → new ≡ old ++ codes_of cs → old ++ codes_behind (drop i cards) ≡ all → new ++ codes_behind (drop (i + 1) cards) ≡ all
+codes_more cards i c cs old new all lt is on put so_far =
+    let rest = codes_behind (drop (i + 1) cards) in
+    ap (λ xs. xs ++ rest) put ∙ append_assoc old (codes_of cs) rest
+    ∙ ap (λ xs. old ++ xs) (sym (ap (flat_map and_card_codes) (next_input cards i c (input.And cs) lt is on))) ∙ so_far
+
+-- the level of a field more, if it has one
+cons_list : {X : Type 0} (o : Option X) (xs : List X) → option_to_list o ++ xs ≡ cons_option o xs
+cons_list None xs = refl
+cons_list (Some x) xs = refl
+
+pub levels_more : (level_of : InputField → Option ℕ) (cards : List SpecCard) (i : ℕ) (c : SpecCard) (f : InputField) (made : Option ControlField) (old new all : List ControlField) → i < length cards → c ≡ get_or cards i c → Some (input.Field f) ≡ input_on c.spec
+    → made ≡ field_at_level level_of f → new ≡ old ++ option_to_list made → old ++ levels_behind level_of (drop i cards) ≡ all → new ++ levels_behind level_of (drop (i + 1) cards) ≡ all
+levels_more level_of cards i c f made old new all lt is on here put so_far =
+    let rest = levels_behind level_of (drop (i + 1) cards) in
+    ap (λ xs. xs ++ rest) put ∙ append_assoc old (option_to_list made) rest
+    ∙ ap (λ xs. old ++ xs) (cons_list made rest ∙ ap (λ o. cons_option o rest) here ∙ sym (ap (filter_map (field_at_level level_of)) (next_field cards i c f lt is on))) ∙ so_far

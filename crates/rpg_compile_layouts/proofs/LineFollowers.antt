@@ -18,6 +18,8 @@ use Rattle.rpg_compile_layouts.specs.Rows.{alternatives_behind, field_row, outpu
 use Rattle.rpg_compile_layouts.specs.Within.{AreFew, IsLineWithin}
 use Rattle.rpg_object_program.specs.Kept.{IsConditionRow, IsLineFieldRow, IsLineRow, IsSpacingRow}
 use Rattle.rpg_effect_renaming.specs.Naming.{renamed_field}
+use Rattle.rpg_sheet_specs.specs.declared.indicator.Condition as card
+use Rattle.rpg_sheet_specs.specs.declared.indicator.Three.{Three}
 use Rattle.rpg_sheet_specs.specs.declared.output.OutputField.{OutputField}
 use Rattle.rpg_sheet_specs.specs.declared.output.OutputRecord.{OutputRecord}
 use Rattle.rpg_sheet_specs.specs.declared.output.OutputSpec.{OutputSpec}
@@ -75,6 +77,25 @@ next_output cards i c s lt is on =
 pub next_field : (t : Table) (cards : List SpecCard) (i : ℕ) (c : SpecCard) (f : OutputField) → i < length cards → c ≡ get_or cards i c → Some (output.Field f) ≡ output_on c.spec
     → output_rows_behind t (drop i cards) ≡ field_row t f ∷ output_rows_behind t (drop (i + 1) cards)
 next_field t cards i c f lt is on = ap (λ os. map (renamed_field (key_number t)) (map line_field_of (output_fields_in os))) (next_output cards i c (output.Field f) lt is on)
+
+-- ---- alternatives, a card more
+
+pub alternatives_and : (cards : List SpecCard) (i : ℕ) (c : SpecCard) (cs : Three (Option card.Condition)) (before now : List Condition) → i < length cards → c ≡ get_or cards i c → Some (output.And cs) ≡ output_on c.spec
+    → now ≡ before ++ standing cs → alternatives_behind before (drop i cards) ≡ alternatives_behind now (drop (i + 1) cards)
+alternatives_and cards i c cs before now lt is on put =
+    ap (line_alternatives before) (next_output cards i c (output.And cs) lt is on) ∙ ap (λ cs. alternatives_behind cs (drop (i + 1) cards)) (sym put)
+
+pub alternatives_or : (cards : List SpecCard) (i : ℕ) (c : SpecCard) (cs : Three (Option card.Condition)) (before now : List Condition) → i < length cards → c ≡ get_or cards i c → Some (output.Or cs) ≡ output_on c.spec
+    → now ≡ standing cs → alternatives_behind before (drop i cards) ≡ before ∷ alternatives_behind now (drop (i + 1) cards)
+alternatives_or cards i c cs before now lt is on put =
+    ap (line_alternatives before) (next_output cards i c (output.Or cs) lt is on) ∙ ap (λ cs. before ∷ alternatives_behind cs (drop (i + 1) cards)) (sym put)
+
+pub alternatives_none : (cards : List SpecCard) (i : ℕ) (c : SpecCard) (before : List Condition) → i < length cards → c ≡ get_or cards i c → None ≡ output_on c.spec
+    → alternatives_behind before (drop i cards) ≡ alternatives_behind before (drop (i + 1) cards)
+alternatives_none cards i c before lt is none =
+    at_drop_more (alternatives_behind before) cards i c lt
+    ∙ ap (λ (d : SpecCard). line_alternatives before (following (output_role d.spec) (followers output_role (drop (i + 1) cards)))) (sym is)
+    ∙ ap (λ o. line_alternatives before (following (role_on output_card_role o) (followers output_role (drop (i + 1) cards)))) (sym none)
 
 -- ---- a whole line
 

@@ -45,7 +45,8 @@ fn alternatives_from(
                 alternatives.push(open)?;
                 open = standing(alloc, *others)?;
             }
-            Some(OutputSpec::Field(_)) | None => {}
+            Some(OutputSpec::Field(_)) => {}
+            None => {}
         }
     }
     alternatives.push(open)?;

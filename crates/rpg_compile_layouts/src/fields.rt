@@ -6,7 +6,7 @@ ghost use Rattle.rpg_effect.specs.Values.{held};
 ghost use Rattle.rpg_faults_flow.specs.Kept.{KeepsRule};
 ghost use Rattle.rpg_faults_limits.specs.Names.{bad_size};
 ghost use Rattle.rpg_symbols.specs.Fields.{storage};
-ghost use Rattle.rpg_compile_program.specs.Data.{values_of};
+ghost use Rattle.rpg_compile_program.specs.Data.{field_values, loaded, values_of};
 ghost use Rattle.rpg_compile_program.specs.Table as fields;
 
 use crate::constants::{add_constants, constants_of};
@@ -37,12 +37,11 @@ pub fn fields_of(alloc: Global, cards: &[SpecCard]) -> Result<Fields, AllocError
     ensures values { IfOk result (λ f. map (λ vs. map held vs.items) f.values.items ≡ values_of cards.now) }
     ensures kept { IfOk result (λ f. All IsConstant (constants cards.now)) }
 {
-    let loaded = Loaded::of_cards(alloc, cards)?;
     let NameTable {
         symbols,
         mut forms,
         mut values,
-    } = NameTable::of_cards(alloc, &loaded, cards)?;
+    } = names_of(alloc, cards)?;
     let names = forms.len() as u16;
     let constants = constants_of(alloc, cards)?;
     add_constants(alloc, constants.as_slice(), &mut forms, &mut values)?;
@@ -51,4 +50,18 @@ pub fn fields_of(alloc: Global, cards: &[SpecCard]) -> Result<Fields, AllocError
         forms,
         values,
     })
+}
+
+/// The names that cards define, with the data that the cards have for them.
+fn names_of(alloc: Global, cards: &[SpecCard]) -> Result<NameTable, AllocError>
+    requires few { length (fields.defined_fields cards.now) ≤ 4000 }
+    requires storage { storage (fields.defined_fields cards.now) ≤ 65535 }
+    requires sizes { KeepsRule (λ before c after. bad_size c) cards.now }
+    ensures symbols { IfOk result (λ t. t.symbols ≡ fields.defined_fields cards.now) }
+    ensures forms { IfOk result (λ t. t.forms.items ≡ fields.name_forms (fields.defined_fields cards.now)) }
+    ensures values { IfOk result (λ t. map (λ vs. map held vs.items) t.values.items ≡ map (field_values (loaded cards.now)) (fields.defined_fields cards.now)) }
+{
+    let loaded = Loaded::of_cards(alloc, cards)?;
+    let table = NameTable::of_cards(alloc, &loaded, cards)?;
+    Ok(table)
 }

@@ -1,6 +1,7 @@
 //! The control fields and the match fields of record types.
 
-ghost use Rattle.std.specs.Prelude.{◌≡◌, All, IfOk, IfSome};
+ghost use Rattle.std.specs.Prelude.{◌≡◌, ◌++◌, All, IfOk, IfSome, OnOk};
+ghost use Rattle.std.specs.Option.{option_to_list};
 ghost use Rattle.rpg_cards.specs.Levels.{control_level, match_level};
 ghost use Rattle.rpg_compile_layouts.specs.Parts.{levels_behind};
 ghost use Rattle.rpg_object_program.specs.Kept.{IsControlRow};
@@ -19,15 +20,12 @@ pub(crate) fn levels_of(alloc: Global, behind: &[SpecCard]) -> Result<Vec<Contro
 {
     let mut levels = Vec::new(alloc);
     for card in behind {
-        match card.input() {
+        let field = match card.input() {
             Some(InputSpec::Type(_)) => return Ok(levels),
-            Some(InputSpec::Field(field)) => {
-                if let Some(level) = level_of(field) {
-                    levels.push(level)?;
-                }
-            }
-            Some(InputSpec::And(_)) | None => {}
-        }
+            Some(InputSpec::Field(field)) => field,
+            Some(InputSpec::And(_)) | None => continue,
+        };
+        push_level(&mut levels, level_of(field))?;
     }
     Ok(levels)
 }
@@ -43,17 +41,27 @@ pub(crate) fn matches_of(
 {
     let mut matches = Vec::new(alloc);
     for card in behind {
-        match card.input() {
+        let field = match card.input() {
             Some(InputSpec::Type(_)) => return Ok(matches),
-            Some(InputSpec::Field(field)) => {
-                if let Some(level) = match_of(field) {
-                    matches.push(level)?;
-                }
-            }
-            Some(InputSpec::And(_)) | None => {}
-        }
+            Some(InputSpec::Field(field)) => field,
+            Some(InputSpec::And(_)) | None => continue,
+        };
+        push_level(&mut matches, match_of(field))?;
     }
     Ok(matches)
+}
+
+/// Puts a level that a field has behind the others.
+fn push_level(levels: &mut Vec<ControlField>, level: Option<ControlField>) -> Result<(), AllocError>
+    requires rows { All IsControlRow levels.old.items }
+    requires row { IfSome level IsControlRow }
+    ensures levels { OnOk result (levels.new.items ≡ levels.old.items ++ option_to_list level) }
+    ensures kept { OnOk result (All IsControlRow levels.new.items) }
+{
+    if let Some(level) = level {
+        levels.push(level)?;
+    }
+    Ok(())
 }
 
 fn level_of(field: &InputField) -> Option<ControlField>

@@ -1,6 +1,6 @@
 //! The names of a program.
 
-ghost use Rattle.std.specs.Prelude.{◌≡◌, ◌≤◌, length, map, IfOk, OnOk};
+ghost use Rattle.std.specs.Prelude.{◌≡◌, ◌≤◌, [], ◌∷◌, codes, length, map, IfOk, OnOk};
 ghost use Rattle.rpg_cards.specs.Names.{definitions_on};
 ghost use Rattle.rpg_effect.specs.Values.{held};
 ghost use Rattle.rpg_compile_program.specs.Data.{field_values};
@@ -53,12 +53,8 @@ impl NameTable {
         };
         let date = symbols.form(1);
         let page = symbols.form(2);
-        let mut forms = Vec::new(alloc);
-        forms.push(date)?;
-        forms.push(page)?;
-        let mut values = Vec::new(alloc);
-        values.push(loaded.values_of(alloc, &Name::new(b"UDATE"), &date)?)?;
-        values.push(loaded.values_of(alloc, &Name::new(b"PAGE"), &page)?)?;
+        let values = given_values(alloc, loaded, &date, &page)?;
+        let forms = vec![in alloc; date, page]?;
         Ok(NameTable {
             symbols,
             forms,
@@ -154,4 +150,18 @@ impl NameTable {
             Err(DefineFault::NoMemory) => Err(AllocError),
         }
     }
+}
+
+/// What the fields of these forms hold that every program has.
+fn given_values(
+    alloc: Global,
+    loaded: &Loaded,
+    date: &FieldForm,
+    page: &FieldForm,
+) -> Result<Vec<Vec<Value>>, AllocError>
+    ensures { IfOk result (λ v. map (λ vs. map held vs.items) v.items ≡ field_values loaded.now (codes "UDATE", date.now) ∷ field_values loaded.now (codes "PAGE", page.now) ∷ []) }
+{
+    let date = loaded.values_of(alloc, &Name::new(b"UDATE"), date)?;
+    let page = loaded.values_of(alloc, &Name::new(b"PAGE"), page)?;
+    Ok(vec![in alloc; date, page]?)
 }

@@ -1,5 +1,6 @@
 pub mod Codes
 pub mod Counting
+pub mod Cycled
 pub mod Dating
 pub mod Doing
 pub mod Ends

@@ -1,8 +1,7 @@
 //! One cycle.
-ghost use Rattle.std.specs.Prelude.{◌≡◌, ◌≤◌, ◌<◌, IfOk, length};
-ghost use Rattle.std.specs.Option.{ForSome};
-ghost use Rattle.rpg_cycle.specs.Doing.{CycleEnds, CycleGoesOn, IsSeen};
-ghost use Rattle.rpg_cycle.specs.Selecting.{RenewsLeft};
+ghost use Rattle.std.specs.Prelude.{◌≡◌, ◌≤◌, IfOk, length};
+ghost use Rattle.rpg_cycle.specs.Cycled.{HasCycled};
+ghost use Rattle.rpg_cycle.specs.Doing.{CycleEnds, IsSeen};
 ghost use Rattle.rpg_cycle.specs.Stages.{IfStops, UnlessNoMemory, job_end};
 ghost use Rattle.rpg_cycle_records.specs.Holding.{AreFilesKept};
 ghost use Rattle.rpg_effect.specs.Fronts.{OnlyGrows};
@@ -34,13 +33,9 @@ pub(crate) fn run_cycle<S: Store + Drop>(
     requires ready { IsReady machine.old }
     requires nine { length kept.old.levels.items ≡ 9 }
     requires kept { AreFilesKept machine.old.program kept.old }
-    ensures goes { IfOk result (λ t. CycleGoesOn machine.old.program kept.old primary.entry secondary.entry machine.old t kept.new machine.new) }
+    ensures goes { IfOk result (λ t. HasCycled machine.old.program kept.old primary.entry secondary.entry machine.old t kept.new machine.new) }
     ensures stops { IfStops result (λ e. CycleEnds machine.old.program kept.old primary.entry secondary.entry machine.old (job_end e) machine.new) }
-    ensures ready { IfOk result (λ _. IsReady machine.new) }
     ensures few { UnlessNoMemory result (machine.new.config.steps ≤ bound machine.old.program) }
-    ensures there { IfOk result (λ t. ForSome t (λ t. t < length machine.old.program.types)) }
-    ensures left { IfOk result (λ t. RenewsLeft machine.old.program t kept.old kept.new) }
-    ensures kept { IfOk result (λ t. AreFilesKept machine.old.program kept.new) }
     ensures grows { OnlyGrows machine.old.output machine.new.output }
 {
     let program = machine.program();

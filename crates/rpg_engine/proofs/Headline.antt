@@ -1,13 +1,13 @@
 -- Each run of an accepted program ends well, and there is one.
-use Rattle.std.proofs.Common.{ℕ, List, ◌++◌, Option, subst, sym, arith}
+use Rattle.std.proofs.Common.{ℕ, List, ◌++◌, Option}
 use Rattle.std.specs.Prelude.{ℤ}
 use Rattle.rpg_cycle.specs.Counting.{records_count}
 use Rattle.rpg_cycle.specs.Job.{first_fields}
 use Rattle.rpg_cycle.specs.Runs.{Course, IsRun, Records}
-use Rattle.rpg_cycle_safety.specs.Coming.{HasRun, IsJobEnd, RunsWell}
+use Rattle.rpg_cycle_safety.specs.Coming.{HasRun, RunsWell}
 use Rattle.rpg_effect.specs.Put.{Bytes}
 use Rattle.rpg_object_program.specs.Object.{Object}
-use Rattle.rpg_engine.specs.Inputs.{OfInputs, records_of}
+use Rattle.rpg_engine.specs.Inputs.{OfFronts, OfInputs, records_of}
 use Rattle.rpg_engine.specs.Reporting.{JobEndsWell, Reports, SendsParts}
 use Rattle.rpg_engine.specs.Streaming.{StopsEarly}
 use Rattle.rpg_engine.specs.declared.fault.RunFault.{RunFault}
@@ -24,21 +24,31 @@ of_each given left others rest Fact Other each h = record {
 
 module _ (p : Object) (day : ℤ) where
   ends_well : (each : (rs : Records) (course : Course) (bytes : Bytes) → IsRun p day (first_fields p) rs course bytes → RunsWell p (records_count rs) course)
-      (report : Report) (print print' disk disk' : Option (List ℕ)) (primary secondary : List ℕ) → Reports p day report print print' disk disk' primary secondary → JobEndsWell p report primary secondary
+      (report : Report) (print print' disk disk' : Option (List ℕ)) (primary secondary : List ℕ) → Reports p day report print print' disk disk' primary secondary → JobEndsWell p day report primary secondary
   ends_well each report print print' disk disk' primary secondary r =
-      let well = each (records_of primary secondary) r.course r.bytes r.run in
       record {
-        ending = subst IsJobEnd (sym r.ending) well.ending;
-        cycles = let same = r.cycles in let few = well.cycles in omega arith;
-        steps = let same = r.most in let few = well.few in omega arith;
+        course = r.course;
+        bytes = r.bytes;
+        run = r.run;
+        well = each (records_of primary secondary) r.course r.bytes r.run;
+        ending = r.ending;
+        cycles = r.cycles;
+        most = r.most;
       }
 
   pub report_ends_well : ((rs : Records) (course : Course) (bytes : Bytes) → IsRun p day (first_fields p) rs course bytes → RunsWell p (records_count rs) course)
       → (given left others rest : Option (List ℕ)) (report : Report) (print print' disk disk' : Option (List ℕ)) → OfInputs given left others rest (Reports p day report print print' disk disk')
-      → OfInputs given left others rest (JobEndsWell p report)
+      → OfInputs given left others rest (JobEndsWell p day report)
   report_ends_well each given left others rest report print print' disk disk' h = of_each given left others rest _ _ (ends_well each report print print' disk disk') h
 
-  pub with_run : ((rs : Records) → HasRun p day (first_fields p) rs) → (given left others rest : Option (List ℕ)) (e : RunFault) (print print' disk disk' : Option (List ℕ))
-      → OfInputs given left others rest (StopsEarly p day e print print' disk disk') → OfInputs given left others rest (SendsParts p day e print print' disk disk')
-  with_run exists given left others rest e print print' disk disk' h =
-      of_each given left others rest _ _ (λ primary secondary stops. record { run = exists (records_of primary secondary); parts = stops.parts; needs = stops.needs }) h
+  pub with_run : ((rs : Records) → HasRun p day (first_fields p) rs) → (given left others rest : Option (List ℕ)) (e : RunFault) (none_failed : Type 0) (print print' disk disk' : Option (List ℕ))
+      → OfFronts given left others rest (StopsEarly p day e none_failed print print' disk disk') → OfFronts given left others rest (SendsParts p day e none_failed print print' disk disk')
+  with_run exists given left others rest e none_failed print print' disk disk' h = record {
+    primary = h.primary;
+    secondary = h.secondary;
+    fact = record {
+      run = λ more behind can can_too. exists (records_of (h.primary.read ++ more) (h.secondary.read ++ behind));
+      stops = h.fact.stops;
+      needs = h.fact.needs;
+    };
+  }

@@ -11,3 +11,4 @@ pub mod Sent
 pub mod Stopping
 pub mod Streams
 pub mod Taking
+pub mod Whose

@@ -24,17 +24,9 @@ use Rattle.rpg_machine.specs.Config.{Config, Output, charged}
 use Rattle.rpg_machine.specs.Outputs.{PutsOut}
 use Rattle.rpg_machine.specs.declared.time.OutputTime.TheVariants as times
 use Rattle.rpg_object_program.specs.Object.{Object, has_file}
+use Rattle.rpg_engine.specs.Reporting.{AreAlike, IsBad}
 
 -- ---- records that are alike to a cycle
-
--- a record that no program can take
-abbrev pub IsBad : Object → InputFile → Option (List ℕ) → Type 0
-IsBad p f None = ⊥
-IsBad p f (Some r) = is_good_record p f r ≡ false
-
--- they are the same, or both are bad
-abbrev pub AreAlike : Object → InputFile → Option (List ℕ) → Option (List ℕ) → Type 0
-AreAlike p f x y = (x ≡ y) ⊎ (IsBad p f x × IsBad p f y)
 
 -- where one phase does what the other does
 abbrev pub Follows : Phase → Phase → Type 0

@@ -1,17 +1,21 @@
 -- A job that never began.
-use Rattle.std.proofs.Common.{◌≡◌, ℕ, ℤ, false, List, [], Option, None, Some, Result, Ok, Err, IfErr, IfOk, refl, sym, ap, subst, arith}
+use Rattle.std.proofs.Common.{◌≡◌, ℕ, ℤ, false, List, [], Option, None, Some, Result, Ok, Err, IfErr, IfOk, refl, sym, ap, subst, arith, inl}
 use Rattle.std.proofs.KnownBytes.{Appends-nil, Consumes-nil}
 use Rattle.rpg_effect.specs.Put.{Bytes}
+use Rattle.rpg_effect.specs.declared.input.InputFile.{InputFile}
 use Rattle.rpg_files.specs.Sending.{AppendsPrefix}
+use Rattle.rpg_files.specs.declared.reader.ReadFault.{ReadFault}
+use Rattle.rpg_machine.specs.Config.{no_output}
+use Rattle.rpg_machine.specs.Running.{no_bytes}
 use Rattle.rpg_object_program.specs.Object.{Object}
-use Rattle.rpg_engine.specs.Inputs.{OfInputs, WasRead}
+use Rattle.rpg_engine.specs.Inputs.{Front, OfFronts, OfInputs, WasRead}
 use Rattle.rpg_cycle.specs.Starting.{date_in}
 use Rattle.rpg_cycle.specs.Job.{AtWork, Starts, first_fields, job_started}
 use Rattle.rpg_verify_rules.specs.Accepted.{IsAccepted}
 use Rattle.rpg_engine.specs.Objects.{HasObjectFault, IsRefused, SpellsProgram}
 use Rattle.rpg_engine.specs.Refusing.{HasDay, IsJobOf, IsToldOf, IsToldOfDate, MayRun, start_fault}
 use Rattle.rpg_engine.specs.Streaming.{IsRunFault, StopsEarly}
-use Rattle.rpg_engine.specs.Reporting.{HasParts, JobEndsWell, Reports, SendsParts}
+use Rattle.rpg_engine.specs.Reporting.{HasParts, HasSent, IsPutOut, JobEndsWell, MayBePutOut, Reports, SendsParts}
 use Rattle.rpg_cycle.specs.declared.ends.StartFault.{StartFault}
 use Rattle.rpg_cycle.specs.declared.ends.StartFault.TheVariants as starting
 use Rattle.rpg_engine.specs.declared.object.ObjectFault.{ObjectFault}
@@ -26,22 +30,38 @@ none_sent a bytes = (0, (omega arith, Appends-nil a))
 none_read : (a : Option (List ℕ)) → WasRead a a
 none_read a = record { read = []; ended = false; consumed = Consumes-nil a; at_end = λ is. absurd cc }
 
-at_once : (a b print disk : Option (List ℕ)) (e : RunFault) (p : Object) (day : ℤ) → (e ≡ faults.Read → ⊥) → ((bytes : Bytes) → HasParts e print print disk disk bytes) → OfInputs a a b b (StopsEarly p day e print print disk disk)
-at_once a b print disk e p day other parts = record {
+-- before the first cycle nothing was put out
+at_once : (a b print disk : Option (List ℕ)) (e : RunFault) (none_failed : Type 0) (p : Object) (day : ℤ) → ((file : InputFile) (why : ReadFault) → e ≡ faults.Read file why → ⊥)
+    → ((bytes : Bytes) → HasParts e print print disk disk bytes) → ((primary secondary : List ℕ) → IsPutOut p day primary secondary no_bytes → MayBePutOut e p day primary secondary no_bytes)
+    → HasSent e none_failed print print disk disk no_bytes → OfFronts a a b b (StopsEarly p day e none_failed print print disk disk)
+at_once a b print disk e none_failed p day other parts may sent = record {
   primary = none_read a;
   secondary = none_read b;
-  fact = λ more others_more can can_too. record { parts = λ course bytes run. parts bytes; needs = λ is. absurd (other is) };
+  fact = record {
+    stops = λ more others_more can can_too. record {
+      parts = λ course bytes run. parts bytes;
+      bytes = no_bytes;
+      put_out = may _ _ (0, no_output, (refl, tt), refl);
+      sent = sent;
+    };
+    needs = λ file why is. absurd (other file why is);
+  };
 }
 
-pub object_refused : (a b print disk : Option (List ℕ)) (fault : ObjectFault) (object : List ℕ) (p : Object) (day : ℤ) → HasObjectFault fault object → OfInputs a a b b (StopsEarly p day (faults.Object fault) print print disk disk)
-object_refused a b print disk fault object p day is = at_once a b print disk (faults.Object fault) p day (λ is. cc) (λ bytes. (none_sent print bytes.print, none_sent disk bytes.disk))
+pub object_refused : (a b print disk : Option (List ℕ)) (none_failed : Type 0) (fault : ObjectFault) (object : List ℕ) (p : Object) (day : ℤ) → HasObjectFault fault object
+    → OfFronts a a b b (StopsEarly p day (faults.Object fault) none_failed print print disk disk)
+object_refused a b print disk none_failed fault object p day is =
+    at_once a b print disk (faults.Object fault) none_failed p day (λ file why is. absurd cc) (λ bytes. (none_sent print bytes.print, none_sent disk bytes.disk)) (λ xs ys put. inl put) tt
 
-pub not_started : (a b print disk : Option (List ℕ)) (fault : StartFault) (p : Object) (day : ℤ) → OfInputs a a b b (StopsEarly p day (start_fault fault) print print disk disk)
-not_started a b print disk starting.BadDate p day = at_once a b print disk faults.BadDate p day (λ is. cc) (λ bytes. (none_sent print bytes.print, none_sent disk bytes.disk))
-not_started a b print disk starting.NoMemory p day = at_once a b print disk faults.NoMemory p day (λ is. cc) (λ bytes. (none_sent print bytes.print, none_sent disk bytes.disk))
+pub no_room : (a b print disk : Option (List ℕ)) (none_failed : Type 0) (p : Object) (day : ℤ) → OfFronts a a b b (StopsEarly p day faults.NoMemory none_failed print print disk disk)
+no_room a b print disk none_failed p day =
+    at_once a b print disk faults.NoMemory none_failed p day (λ file why is. absurd cc) (λ bytes. (none_sent print bytes.print, none_sent disk bytes.disk)) (λ xs ys put. put)
+    (none_sent print [], none_sent disk [], λ none. (Appends-nil print, Appends-nil disk))
 
-pub no_room : (a b print disk : Option (List ℕ)) (p : Object) (day : ℤ) → OfInputs a a b b (StopsEarly p day faults.NoMemory print print disk disk)
-no_room a b print disk p day = at_once a b print disk faults.NoMemory p day (λ is. cc) (λ bytes. (none_sent print bytes.print, none_sent disk bytes.disk))
+pub not_started : (a b print disk : Option (List ℕ)) (none_failed : Type 0) (fault : StartFault) (p : Object) (day : ℤ) → OfFronts a a b b (StopsEarly p day (start_fault fault) none_failed print print disk disk)
+not_started a b print disk none_failed starting.BadDate p day =
+    at_once a b print disk faults.BadDate none_failed p day (λ file why is. absurd cc) (λ bytes. (none_sent print bytes.print, none_sent disk bytes.disk)) (λ xs ys put. inl put) tt
+not_started a b print disk none_failed starting.NoMemory p day = no_room a b print disk none_failed p day
 
 -- ---- a job that began
 
@@ -69,18 +89,25 @@ reports_same date p day job a a' b b' c c' d d' print print' disk disk' report e
     inputs_same a a' b b' c c' d d' (Reports p day report print print' disk disk') e f g h
     (same_job date p day job (λ r x. OfInputs a b c d (Reports r x report print print' disk disk')) holds starts dated)
 
-pub parts_same : (date : List ℕ) (p : Object) (day : ℤ) (job : AtWork) (a a' b b' c c' d d' print print' disk disk' : Option (List ℕ)) (fault : RunFault) → a ≡ a' → b ≡ b' → c ≡ c' → d ≡ d'
-    → ((x : ℤ) → job ≡ job_started job.program x (first_fields job.program) → OfInputs a b c d (StopsEarly job.program x fault print print' disk disk'))
-    → Starts p date (first_fields p) job → date_in date ≡ Some day → OfInputs a' b' c' d' (StopsEarly p day fault print print' disk disk')
-parts_same date p day job a a' b b' c c' d d' print print' disk disk' fault e f g h holds starts dated =
-    inputs_same a a' b b' c c' d d' (StopsEarly p day fault print print' disk disk') e f g h
-    (same_job date p day job (λ r x. OfInputs a b c d (StopsEarly r x fault print print' disk disk')) holds starts dated)
+fronts_same : (a a' b b' c c' d d' : Option (List ℕ)) (Fact : Front → Front → Type 0) → a ≡ a' → b ≡ b' → c ≡ c' → d ≡ d' → OfFronts a b c d Fact → OfFronts a' b' c' d' Fact
+fronts_same a a' b b' c c' d d' Fact e f g h holds =
+    subst (λ (x : Option (List ℕ)). OfFronts x b' c' d' Fact) e
+    (subst (λ (x : Option (List ℕ)). OfFronts a x c' d' Fact) f
+    (subst (λ (x : Option (List ℕ)). OfFronts a b x d' Fact) g
+    (subst (λ (x : Option (List ℕ)). OfFronts a b c x Fact) h holds)))
+
+pub parts_same : (date : List ℕ) (p : Object) (day : ℤ) (job : AtWork) (a a' b b' c c' d d' print print' disk disk' : Option (List ℕ)) (fault : RunFault) (none_failed : Type 0) → a ≡ a' → b ≡ b' → c ≡ c' → d ≡ d'
+    → ((x : ℤ) → job ≡ job_started job.program x (first_fields job.program) → OfFronts a b c d (StopsEarly job.program x fault none_failed print print' disk disk'))
+    → Starts p date (first_fields p) job → date_in date ≡ Some day → OfFronts a' b' c' d' (StopsEarly p day fault none_failed print print' disk disk')
+parts_same date p day job a a' b b' c c' d d' print print' disk disk' fault none_failed e f g h holds starts dated =
+    fronts_same a a' b b' c c' d d' (StopsEarly p day fault none_failed print print' disk disk') e f g h
+    (same_job date p day job (λ r x. OfFronts a b c d (StopsEarly r x fault none_failed print print' disk disk')) holds starts dated)
 
 pub told_of_run : {X : Type 0} (result : Result X RunFault) (date : List ℕ) → HasDay date → IfErr result IsRunFault → IsToldOfDate result date
 told_of_run (Ok x) date has only = has
 told_of_run (Err (faults.Object fault)) date has only = absurd only
 told_of_run (Err faults.BadDate) date has only = absurd only
-told_of_run (Err faults.Read) date has only = has
+told_of_run (Err (faults.Read file fault)) date has only = has
 told_of_run (Err (faults.Print sent)) date has only = has
 told_of_run (Err (faults.Disk sent)) date has only = has
 told_of_run (Err faults.NoMemory) date has only = tt
@@ -102,7 +129,7 @@ pub told_of_program : {X : Type 0} (result : Result X RunFault) (object date : L
 told_of_program (Ok x) object date p spells accepted has = may_run object date p spells accepted has
 told_of_program (Err (faults.Object fault)) object date p spells accepted told = absurd told
 told_of_program (Err faults.BadDate) object date p spells accepted none = (p, spells, accepted, none)
-told_of_program (Err faults.Read) object date p spells accepted has = may_run object date p spells accepted has
+told_of_program (Err (faults.Read file fault)) object date p spells accepted has = may_run object date p spells accepted has
 told_of_program (Err (faults.Print sent)) object date p spells accepted has = may_run object date p spells accepted has
 told_of_program (Err (faults.Disk sent)) object date p spells accepted has = may_run object date p spells accepted has
 told_of_program (Err faults.NoMemory) object date p spells accepted told = tt
@@ -125,14 +152,15 @@ pub reports_of : (object date : List ℕ) (q p : Object) (day : ℤ) (a b c d pr
 reports_of object date q p day a b c d print print' disk disk' report holds only is = of_program object date q p day (λ r x. OfInputs a b c d (Reports r x report print print' disk disk')) holds only is
 
 pub headline_of : (object date : List ℕ) (q p : Object) (day : ℤ) (a b c d : Option (List ℕ)) (report : Report)
-    → ((x : ℤ) → date_in date ≡ Some x → OfInputs a b c d (JobEndsWell q report)) → ((r : Object) → SpellsProgram object r → q ≡ r) → IsJobOf object date p day
-    → OfInputs a b c d (JobEndsWell p report)
-headline_of object date q p day a b c d report holds only is = of_program object date q p day (λ r x. OfInputs a b c d (JobEndsWell r report)) holds only is
+    → ((x : ℤ) → date_in date ≡ Some x → OfInputs a b c d (JobEndsWell q x report)) → ((r : Object) → SpellsProgram object r → q ≡ r) → IsJobOf object date p day
+    → OfInputs a b c d (JobEndsWell p day report)
+headline_of object date q p day a b c d report holds only is = of_program object date q p day (λ r x. OfInputs a b c d (JobEndsWell r x report)) holds only is
 
-pub parts_of : (object date : List ℕ) (q p : Object) (day : ℤ) (a b c d print print' disk disk' : Option (List ℕ)) (e : RunFault)
-    → ((x : ℤ) → date_in date ≡ Some x → OfInputs a b c d (SendsParts q x e print print' disk disk')) → ((r : Object) → SpellsProgram object r → q ≡ r) → IsJobOf object date p day
-    → OfInputs a b c d (SendsParts p day e print print' disk disk')
-parts_of object date q p day a b c d print print' disk disk' e holds only is = of_program object date q p day (λ r x. OfInputs a b c d (SendsParts r x e print print' disk disk')) holds only is
+pub parts_of : (object date : List ℕ) (q p : Object) (day : ℤ) (a b c d print print' disk disk' : Option (List ℕ)) (e : RunFault) (none_failed : Type 0)
+    → ((x : ℤ) → date_in date ≡ Some x → OfFronts a b c d (SendsParts q x e none_failed print print' disk disk')) → ((r : Object) → SpellsProgram object r → q ≡ r) → IsJobOf object date p day
+    → OfFronts a b c d (SendsParts p day e none_failed print print' disk disk')
+parts_of object date q p day a b c d print print' disk disk' e none_failed holds only is =
+    of_program object date q p day (λ r x. OfFronts a b c d (SendsParts r x e none_failed print print' disk disk')) holds only is
 
 -- ---- an object whose program is refused
 

@@ -1,5 +1,5 @@
 -- What went out of all that was put out, and what waits.
-use Rattle.std.proofs.Common.{◌≡◌, ℕ, ◌+◌, List, [], ◌++◌, length, take, Option, refl, sym, ap, ◌∙◌, subst, append_assoc, append-nil, arith, length-append}
+use Rattle.std.proofs.Common.{◌≡◌, ℕ, ◌+◌, ◌<◌, List, [], ◌++◌, length, take, Option, refl, sym, ap, ◌∙◌, subst, append_assoc, append-nil, arith, length-append}
 use Rattle.std.proofs.Math.Seq.{take-length}
 use Rattle.std.proofs.lemmas.List.{take-append-le}
 use Rattle.std.specs.Io.KnownBytes.{Appends}
@@ -64,9 +64,24 @@ module _ (a b : Option (List ℕ)) (waiting : List ℕ) (sent : ℕ) (all : List
   pub first_sent : (c : Option (List ℕ)) (whole : List ℕ) (n : ℕ) → BeginsWith whole all → AppendsFirst b c n waiting → AppendsFirst a c (sent + n) whole
   first_sent c whole n begins part = subst (λ (k : ℕ). AppendsFirst a c (k + n) whole) (sym s.count) (part_sent a b c whole s.gone waiting n (behind_gone whole begins) s.out part)
 
+  -- and no more than all that was put out
+  pub strictly_sent : (n : ℕ) → n < length waiting → sent + n < length all
+  strictly_sent n few = let long = length-append s.gone waiting in let same = ap length s.order in omega (arith, s.count, long, same, few)
+
+  -- some of it
+  pub some_sent : (c : Option (List ℕ)) (whole : List ℕ) → BeginsWith whole all → AppendsPrefix b c waiting → AppendsPrefix a c whole
+  some_sent c whole begins part = (sent + part.0, first_sent c whole part.0 begins part.1)
+
   -- or all of it
+  pub rest_sent : (c : Option (List ℕ)) → Appends b c waiting → Appends a c all
+  rest_sent c out = subst (λ (x : List ℕ). Appends a c x) s.order (Appends-trans a b c s.gone waiting s.out out)
+
   pub waiting_sent : (c : Option (List ℕ)) (whole : List ℕ) → BeginsWith whole all → Appends b c waiting → AppendsPrefix a c whole
   waiting_sent c whole begins out = (length (s.gone ++ waiting), front_sent a c whole (s.gone ++ waiting) (behind_gone whole begins) (Appends-trans a b c s.gone waiting s.out out))
+
+-- bytes begin with themselves
+pub begins_whole : (bytes : List ℕ) → BeginsWith bytes bytes
+begins_whole bytes = record { more = []; is = sym (append-nil bytes) }
 
 -- what stood there before is the front of what stands there now
 pub front_is : (old new more : List ℕ) (n : ℕ) → new ≡ old ++ more → n ≡ length old → take n new ≡ old

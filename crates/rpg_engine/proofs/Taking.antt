@@ -25,11 +25,12 @@ use Rattle.rpg_files.specs.declared.reader.RecordReader.{RecordReader}
 use Rattle.rpg_machine.specs.Running.{config_on}
 use Rattle.rpg_object_program.specs.Object.{Object, input_length}
 use Rattle.rpg_paper.specs.Paper.{Position}
+use Rattle.rpg_engine.specs.Reporting.{AreAlike, IsBad}
 use Rattle.rpg_engine.specs.Streaming.{Asks, IsBehindRecord, TakesCycle, record_with}
-use Rattle.rpg_engine.proofs.Passing.{AreAlike, IfNeeded, IsBad, Takes, cycle_takes, in_list, needed_takes}
+use Rattle.rpg_engine.proofs.Passing.{IfNeeded, Takes, cycle_takes, in_list, needed_takes}
 
 -- what is told of the bytes to come, told otherwise
-pub told_of : (old new : Input) (F G : List ℕ → List ℕ → Type 0) → ((x y : List ℕ) → F x y → G x y) → Advances old new F → Advances old new G
+abbrev pub told_of : (old new : Input) (F G : List ℕ → List ℕ → Type 0) → ((x y : List ℕ) → F x y → G x y) → Advances old new F → Advances old new G
 told_of old new F G tells adv = record {
   read = adv.read;
   consumed = adv.consumed;
@@ -70,7 +71,7 @@ pub record Gives (p : Object) (f : InputFile) (is_needed : Bool) (x : Option (Li
   pub count : e ≡ GoesOn → new.count ≡ old.count + length (in_list x)
   pub needed : IfNeeded is_needed x
 
-no_character : (p : Object) (f : InputFile) → is_good_record p f (0 ∷ []) ≡ false
+pub no_character : (p : Object) (f : InputFile) → is_good_record p f (0 ∷ []) ≡ false
 no_character p f = and_right _ _ refl
 
 module _ {R : Type 0} (remaining : R → Option (List ℕ)) where

@@ -1,7 +1,9 @@
 -- Whose fault it is that a run gave no report.
 use Rattle.std.specs.Prelude.{◌≡◌, ℕ, ◌+◌, ◌⊎◌, List, Option, Result, Err}
+use Rattle.rpg_effect.specs.declared.input.InputFile.TheVariants.{Primary, Secondary}
 use Rattle.rpg_files.specs.Counting.{faults_of}
 use Rattle.rpg_files.specs.declared.counting.Counted.{Counted}
+use Rattle.rpg_files.specs.declared.reader.ReadFault.TheVariants as reading
 use Rattle.rpg_engine.specs.Inputs.{HasTooMany, OfInputs}
 use Rattle.rpg_engine.specs.declared.fault.RunFault.{RunFault}
 use Rattle.rpg_engine.specs.declared.fault.RunFault.TheVariants as faults
@@ -16,12 +18,15 @@ pub record Counts : Type 0 where
 abbrev pub device_counts : {R S P D : Type 0} → (input : Counted R) (secondary : Counted S) (print : Counted P) (disk : Counted D) → Counts
 device_counts input secondary print disk = record { primary = faults_of input; secondary = faults_of secondary; print = faults_of print; disk = faults_of disk }
 
--- A fault of a writer is told exactly where its count rose by one, and one of a reader exactly where a reader's count rose or where
--- the bytes of one have too many records; no other count rises.
+-- A fault of a device is told exactly where its count rose by one, and too many records of a file where its bytes have them. Where memory
+-- ran out a writer may have failed over what still went out, which isn't told. No other count rises.
 abbrev pub FaultsAre : {X : Type 0} → Result X RunFault → (given left others rest : Option (List ℕ)) → Counts → Counts → Type 0
 FaultsAre (Err (faults.Print sent)) given left others rest old new = new ≡ record old { print = old.print + 1 }
 FaultsAre (Err (faults.Disk sent)) given left others rest old new = new ≡ record old { disk = old.disk + 1 }
-FaultsAre (Err faults.Read) given left others rest old new =
-    (new ≡ record old { primary = old.primary + 1 }) ⊎ ((new ≡ record old { secondary = old.secondary + 1 })
-    ⊎ ((new ≡ old) × OfInputs given left others rest HasTooMany))
+FaultsAre (Err (faults.Read Primary reading.Device)) given left others rest old new = new ≡ record old { primary = old.primary + 1 }
+FaultsAre (Err (faults.Read Secondary reading.Device)) given left others rest old new = new ≡ record old { secondary = old.secondary + 1 }
+FaultsAre (Err (faults.Read Primary reading.TooMany)) given left others rest old new = (new ≡ old) × OfInputs given left others rest (λ primary secondary. HasTooMany primary)
+FaultsAre (Err (faults.Read Secondary reading.TooMany)) given left others rest old new = (new ≡ old) × OfInputs given left others rest (λ primary secondary. HasTooMany secondary)
+FaultsAre (Err faults.NoMemory) given left others rest old new =
+    (new ≡ old) ⊎ ((new ≡ record old { print = old.print + 1 }) ⊎ (new ≡ record old { disk = old.disk + 1 }))
 FaultsAre result given left others rest old new = new ≡ old

@@ -1,5 +1,5 @@
 -- What is said of two inputs of each of which some bytes were read.
-use Rattle.std.specs.Prelude.{◌≡◌, ℕ, ◌<◌, ◌⊎◌, Bool, true, List, ◌++◌, length, Option}
+use Rattle.std.specs.Prelude.{◌≡◌, ℕ, ◌<◌, Bool, true, List, ◌++◌, length, Option}
 use Rattle.std.specs.Io.KnownBytes.{Consumes, IsAtEnd}
 use Rattle.rpg_cycle.specs.Runs.{Records}
 use Rattle.rpg_files.specs.NextLine.{CanFollow}
@@ -19,10 +19,28 @@ pub record OfInputs (given left others rest : Option (List ℕ)) (Fact : List �
   pub secondary : WasRead others rest
   pub fact : (more behind : List ℕ) → CanFollow primary.ended more → CanFollow secondary.ended behind → Fact (primary.read ++ more) (secondary.read ++ behind)
 
+-- what was read of an input, and whether its end was seen
+pub record Front : Type 0 where
+  pub read : List ℕ
+  pub ended : Bool
+
+abbrev pub front_of : {given left : Option (List ℕ)} → WasRead given left → Front
+front_of w = record { read = w.read; ended = w.ended }
+
+-- So much was read of a primary and of a secondary input, and Fact holds of that.
+pub record OfFronts (given left others rest : Option (List ℕ)) (Fact : Front → Front → Type 0) : Type 0 where
+  pub primary : WasRead given left
+  pub secondary : WasRead others rest
+  pub fact : Fact (front_of primary) (front_of secondary)
+
+-- Fact holds of every two inputs that begin so.
+abbrev pub OfEach : Front → Front → (List ℕ → List ℕ → Type 0) → Type 0
+OfEach a b Fact = (more behind : List ℕ) → CanFollow a.ended more → CanFollow b.ended behind → Fact (a.read ++ more) (b.read ++ behind)
+
 -- the records of both
 abbrev pub records_of : List ℕ → List ℕ → Records
 records_of primary secondary = record { primary = records primary; secondary = records secondary }
 
--- one of them has more records than an input may have
-abbrev pub HasTooMany : List ℕ → List ℕ → Type 0
-HasTooMany primary secondary = (max_records < length (records primary)) ⊎ (max_records < length (records secondary))
+-- it has more records than an input may have
+abbrev pub HasTooMany : List ℕ → Type 0
+HasTooMany bytes = max_records < length (records bytes)

@@ -26,7 +26,7 @@ abbrev pub IsToldOf : {X : Type 0} → Result X RunFault → List ℕ → List �
 IsToldOf (Ok x) object date = MayRun object date
 IsToldOf (Err (faults.Object fault)) object date = HasObjectFault fault object
 IsToldOf (Err faults.BadDate) object date = (p : Object) × SpellsProgram object p × IsAccepted p × (date_in date ≡ None)
-IsToldOf (Err faults.Read) object date = MayRun object date
+IsToldOf (Err (faults.Read file fault)) object date = MayRun object date
 IsToldOf (Err (faults.Print sent)) object date = MayRun object date
 IsToldOf (Err (faults.Disk sent)) object date = MayRun object date
 IsToldOf (Err faults.NoMemory) object date = Unit {0}
@@ -40,7 +40,7 @@ abbrev pub IsToldOfDate : {X : Type 0} → Result X RunFault → List ℕ → Ty
 IsToldOfDate (Ok x) date = HasDay date
 IsToldOfDate (Err (faults.Object fault)) date = ⊥
 IsToldOfDate (Err faults.BadDate) date = date_in date ≡ None
-IsToldOfDate (Err faults.Read) date = HasDay date
+IsToldOfDate (Err (faults.Read file fault)) date = HasDay date
 IsToldOfDate (Err (faults.Print sent)) date = HasDay date
 IsToldOfDate (Err (faults.Disk sent)) date = HasDay date
 IsToldOfDate (Err faults.NoMemory) date = Unit {0}

@@ -1,28 +1,34 @@
 -- What is reported of a run, and what each writer has of its output.
-use Rattle.std.specs.Prelude.{◌≡◌, ℕ, zero, suc, ◌+◌, ◌<◌, ◌≤◌, ℤ, true, List, [], Option, Some}
+use Rattle.std.specs.Prelude.{◌≡◌, ℕ, zero, suc, ◌+◌, ◌<◌, ◌≤◌, ◌⊎◌, ℤ, true, false, List, [], ◌++◌, length, Option, None, Some}
 use Rattle.std.specs.Io.KnownBytes.{Appends}
 use Rattle.rpg_cycle.specs.Counting.{records_count}
 use Rattle.rpg_cycle.specs.Ends.{GoesOn}
 use Rattle.rpg_cycle.specs.Job.{first_fields}
 use Rattle.rpg_cycle.specs.Phases.{Cycle, UnderWay, begun, needs_record}
-use Rattle.rpg_cycle.specs.Runs.{Course, IsRun, Records, left_behind, next_of}
+use Rattle.rpg_cycle.specs.Runs.{Course, IsRun, Records, first_if_any, left_behind, next_of}
 use Rattle.rpg_cycle.specs.Stages.{job_end}
 use Rattle.rpg_cycle.specs.Starting.{date_in, job_start}
 use Rattle.rpg_cycle_records.specs.Earlier.{Selected, with_record}
+use Rattle.rpg_cycle_records.specs.Identifying.{is_good_record}
 use Rattle.rpg_cycle_records.specs.Waiting.{Inputs, unread}
-use Rattle.rpg_cycle_safety.specs.Coming.{HasRun, IsJobEnd, RunsWell}
+use Rattle.rpg_cycle_safety.specs.Coming.{HasRun, RunsWell}
 use Rattle.rpg_effect.specs.Put.{Bytes, disk_bytes}
 use Rattle.rpg_effect.specs.declared.input.InputFile.{InputFile}
 use Rattle.rpg_effect.specs.declared.input.InputFile.TheVariants.{Primary, Secondary}
+use Rattle.rpg_files.specs.NextLine.{CanFollow}
+use Rattle.rpg_files.specs.Records.{max_records, records}
 use Rattle.rpg_files.specs.Sending.{AppendsFirst, AppendsPrefix}
+use Rattle.rpg_files.specs.declared.reader.ReadFault.{ReadFault}
+use Rattle.rpg_files.specs.declared.reader.ReadFault.TheVariants as reading
 use Rattle.rpg_machine.specs.Config.{Config, Output, no_output, with_more}
 use Rattle.rpg_machine.specs.Run.{running_place}
 use Rattle.rpg_object_program.specs.Kept.{IsProgram}
 use Rattle.rpg_object_program.specs.Object.{Object}
 use Rattle.rpg_paper.specs.Paper.{paper}
+use Rattle.rpg_text.specs.Lines.{is_line}
 use Rattle.rpg_verify.specs.Bound.{bound}
 use Rattle.rpg_verify_rules.specs.Accepted.{IsAccepted}
-use Rattle.rpg_engine.specs.Inputs.{records_of}
+use Rattle.rpg_engine.specs.Inputs.{Front, OfEach, records_of}
 use Rattle.rpg_engine.specs.declared.fault.RunFault.{RunFault}
 use Rattle.rpg_engine.specs.declared.fault.RunFault.TheVariants as faults
 use Rattle.rpg_engine.specs.declared.report.Report.{Report}
@@ -45,12 +51,16 @@ pub record Reports (p : Object) (day : ℤ) (report : Report) (print print' disk
   pub printed : Appends print print' bytes.print
   pub stored : Appends disk disk' bytes.disk
 
--- The job ended: at its end or at a halt that has a number from 1 to 8, within one cycle more than both inputs have records; and no cycle took
--- more steps than the program's bound. Nothing in it was wrong.
-pub record JobEndsWell (p : Object) (report : Report) (primary secondary : List ℕ) : Type 0 where
-  pub ending : IsJobEnd (job_end report.ending)
-  pub cycles : report.cycles ≤ records_count (records_of primary secondary) + 1
-  pub steps : report.most ≤ bound p
+-- The report is of a run that ends well: at the end of the job or at a halt that has a number from 1 to 8, never wrong, within one cycle more
+-- than both inputs have records; and no cycle takes more steps than the program's bound.
+pub record JobEndsWell (p : Object) (day : ℤ) (report : Report) (primary secondary : List ℕ) : Type 0 where
+  pub course : Course
+  pub bytes : Bytes
+  pub run : IsRunOver p day primary secondary course bytes
+  pub well : RunsWell p (records_count (records_of primary secondary)) course
+  pub ending : job_end report.ending ≡ course.ending
+  pub cycles : report.cycles ≡ course.cycles
+  pub most : report.most ≡ course.most
 
 -- an accepted program has a run over any records of both files, on any date, from its first values
 abbrev pub HasRunOnAnyDay : Object → Type 0
@@ -82,19 +92,88 @@ GoesOnFor (suc n) p earlier rs c i out Then =
     × (out ≡ with_more first more)
     × GoesOnFor n p (with_record d.selected earlier) (left_behind p c i rs) d.config d.inputs more Then
 
+-- so many cycles of the run over the inputs' records
+abbrev pub WentOn : ℕ → Object → ℤ → (primary secondary : List ℕ) → Output → (List Selected → Records → Config → Inputs → Type 0) → Type 0
+WentOn cycles p day primary secondary out Then = GoesOnFor cycles p [] (records_of primary secondary) (job_start p day (first_fields p)) unread out Then
+
+-- ---- what the writers have
+
+abbrev pub bytes_of : Output → Bytes
+bytes_of out = record { print = paper out.lines; disk = disk_bytes out.records }
+
+-- these bytes had been put out by the end of a cycle that went on
+abbrev pub IsPutOut : Object → ℤ → (primary secondary : List ℕ) → Bytes → Type 0
+IsPutOut p day primary secondary bytes = (cycles : ℕ) × (out : Output) × WentOn cycles p day primary secondary out (λ earlier rs c i. Unit {0}) × (bytes ≡ bytes_of out)
+
+-- or, unless memory ran out, by the end of the one that ended the job
+abbrev pub MayBePutOut : RunFault → Object → ℤ → (primary secondary : List ℕ) → Bytes → Type 0
+MayBePutOut faults.NoMemory p day primary secondary bytes = IsPutOut p day primary secondary bytes
+MayBePutOut e p day primary secondary bytes = IsPutOut p day primary secondary bytes ⊎ ((course : Course) × IsRunOver p day primary secondary course bytes)
+
+-- The printer is sent these bytes before the disk file: the printer failed before it had its own, or the disk file, and the printer had them
+-- all. Where memory ran out each writer has them, unless one failed over them.
+abbrev pub HasSent : RunFault → (none_failed : Type 0) → (print print' disk disk' : Option (List ℕ)) → Bytes → Type 0
+HasSent (faults.Print sent) none_failed print print' disk disk' bytes = AppendsFirst print print' sent bytes.print × (sent < length bytes.print) × AppendsPrefix disk disk' bytes.disk
+HasSent (faults.Disk sent) none_failed print print' disk disk' bytes = Appends print print' bytes.print × AppendsFirst disk disk' sent bytes.disk × (sent < length bytes.disk)
+HasSent faults.NoMemory none_failed print print' disk disk' bytes =
+    AppendsPrefix print print' bytes.print × AppendsPrefix disk disk' bytes.disk × (none_failed → Appends print print' bytes.print × Appends disk disk' bytes.disk)
+HasSent e none_failed print print' disk disk' bytes = Unit {0}
+
+-- of the run over the inputs' records each writer has a first part, and so much of what had been put out by the end of a cycle
+pub record StopsOver (p : Object) (day : ℤ) (e : RunFault) (none_failed : Type 0) (print print' disk disk' : Option (List ℕ)) (primary secondary : List ℕ) : Type 0 where
+  pub parts : SendsFirstParts p day e print print' disk disk' primary secondary
+  pub bytes : Bytes
+  pub put_out : MayBePutOut e p day primary secondary bytes
+  pub sent : HasSent e none_failed print print' disk disk' bytes
+
+-- ---- a reader that failed
+
+-- a record that no program can take
+abbrev pub IsBad : Object → InputFile → Option (List ℕ) → Type 0
+IsBad p f None = ⊥
+IsBad p f (Some r) = is_good_record p f r ≡ false
+
+-- they are the same, or both are bad
+abbrev pub AreAlike : Object → InputFile → Option (List ℕ) → Option (List ℕ) → Type 0
+AreAlike p f x y = (x ≡ y) ⊎ (IsBad p f x × IsBad p f y)
+
+abbrev pub records_in : InputFile → Records → List (List ℕ)
+records_in Primary rs = rs.primary
+records_in Secondary rs = rs.secondary
+
+-- what follows the bytes that were read of a file
+abbrev pub following : InputFile → (more behind : List ℕ) → List ℕ
+following Primary more behind = more
+following Secondary more behind = behind
+
+-- Of these records those are left, and the next hadn't been read: of what is left a part of a line was read, and no more; or it is one more
+-- than an input may have.
+abbrev pub IsUnread : ReadFault → (all left : List (List ℕ)) → (part more : List ℕ) → Type 0
+IsUnread reading.Device all left part more = (is_line part ≡ true) × (left ≡ records (part ++ more))
+IsUnread reading.TooMany all left part more = (0 < length left) × (length all ≡ max_records + length left)
+
+-- The next cycle needs a record of a file that hadn't been read. The primary's reader is asked first: where it isn't the one that failed, what is
+-- needed of its file is known, whatever follows.
+pub record WaitsFor (p : Object) (file : InputFile) (fault : ReadFault) (all left : Records) (c : Config) (i : Inputs) (part more : List ℕ) (known : Option (List ℕ)) : Type 0 where
+  pub needed : needs_record p c i file ≡ true
+  pub unread : IsUnread fault (records_in file all) (records_in file left) part more
+  pub first : file ≡ Secondary → needs_record p c i Primary ≡ true → AreAlike p Primary known (first_if_any left.primary)
+
 -- The job hadn't ended: of the run over the inputs' records so many cycles went on, each writer has just what they put out, and the next
--- needs a record of a file. So each run over them has more cycles.
-pub record NeedsRecord (p : Object) (day : ℤ) (print print' disk disk' : Option (List ℕ)) (primary secondary : List ℕ) : Type 0 where
+-- waits for a record of the reader that failed. So each run over them has more cycles.
+pub record NeedsRecord (p : Object) (day : ℤ) (file : InputFile) (fault : ReadFault) (print print' disk disk' : Option (List ℕ)) (a b : Front) : Type 0 where
   pub cycles : ℕ
   pub out : Output
-  pub file : InputFile
-  pub goes_on : GoesOnFor cycles p [] (records_of primary secondary) (job_start p day (first_fields p)) unread out (λ earlier rs c i. needs_record p c i file ≡ true)
+  pub part : List ℕ
+  pub known : Option (List ℕ)
   pub printed : Appends print print' (paper out.lines)
   pub stored : Appends disk disk' (disk_bytes out.records)
-  pub longer : (course : Course) (bytes : Bytes) → IsRunOver p day primary secondary course bytes → cycles < course.cycles
+  pub goes_on : (more behind : List ℕ) → CanFollow a.ended more → CanFollow b.ended behind → WentOn cycles p day (a.read ++ more) (b.read ++ behind) out
+      (λ earlier rs c i. WaitsFor p file fault (records_of (a.read ++ more) (b.read ++ behind)) rs c i part (following file more behind) known)
+  pub longer : OfEach a b (λ primary secondary. (course : Course) (bytes : Bytes) → IsRunOver p day primary secondary course bytes → cycles < course.cycles)
 
--- there is a run over the inputs' records, and each writer has such parts of its bytes; where a reader failed the job needed a record
-pub record SendsParts (p : Object) (day : ℤ) (e : RunFault) (print print' disk disk' : Option (List ℕ)) (primary secondary : List ℕ) : Type 0 where
-  pub run : HasRun p day (first_fields p) (records_of primary secondary)
-  pub parts : SendsFirstParts p day e print print' disk disk' primary secondary
-  pub needs : e ≡ faults.Read → NeedsRecord p day print print' disk disk' primary secondary
+-- there is a run over the inputs' records, and each writer has such parts of its bytes; where a reader failed the job waited for its record
+pub record SendsParts (p : Object) (day : ℤ) (e : RunFault) (none_failed : Type 0) (print print' disk disk' : Option (List ℕ)) (a b : Front) : Type 0 where
+  pub run : OfEach a b (λ primary secondary. HasRun p day (first_fields p) (records_of primary secondary))
+  pub stops : OfEach a b (StopsOver p day e none_failed print print' disk disk')
+  pub needs : (file : InputFile) (fault : ReadFault) → e ≡ faults.Read file fault → NeedsRecord p day file fault print print' disk disk' a b

@@ -1,5 +1,5 @@
 -- What is asked of two readers for a cycle, and what becomes of its output.
-use Rattle.std.specs.Prelude.{◌≡◌, ℕ, ℤ, ◌+◌, ◌++◌, ◌⊎◌, Bool, true, false, List, [], ◌∷◌, length, Option, None, Some, Result, Ok, Err}
+use Rattle.std.specs.Prelude.{◌≡◌, ℕ, ℤ, ◌+◌, ◌<◌, ◌++◌, ◌⊎◌, Bool, true, false, List, [], ◌∷◌, length, Option, None, Some, Result, Ok, Err}
 use Rattle.std.specs.Io.KnownBytes.{Appends}
 use Rattle.rpg_cycle.specs.Job.{AtWork, Cycles, job_needs_record}
 use Rattle.rpg_cycle.specs.Stages.{Ended, Going, Stage, job_end}
@@ -8,13 +8,14 @@ use Rattle.rpg_cycle_records.specs.Waiting.{input_at}
 use Rattle.rpg_effect.specs.declared.input.InputFile.{InputFile}
 use Rattle.rpg_effect.specs.declared.input.InputFile.TheVariants.{Primary, Secondary}
 use Rattle.rpg_files.specs.Reading.{ReadsNext, answer_of, is_record, is_sure, record_of}
-use Rattle.rpg_files.specs.Sending.{AppendsFirst}
+use Rattle.rpg_files.specs.Sending.{AppendsFirst, AppendsPrefix}
 use Rattle.rpg_files.specs.declared.reader.Next.{Next}
 use Rattle.rpg_files.specs.declared.reader.Next.TheVariants as next
 use Rattle.rpg_files.specs.declared.reader.ReadFault.{ReadFault}
 use Rattle.rpg_files.specs.declared.reader.RecordReader.{RecordReader}
 use Rattle.rpg_object_program.specs.Object.{Object}
-use Rattle.rpg_engine.specs.Reporting.{NeedsRecord, SendsFirstParts}
+use Rattle.rpg_engine.specs.Inputs.{Front, OfEach}
+use Rattle.rpg_engine.specs.Reporting.{NeedsRecord, StopsOver}
 use Rattle.rpg_engine.specs.declared.fault.CycleFault.{CycleFault}
 use Rattle.rpg_engine.specs.declared.fault.CycleFault.TheVariants as stops
 use Rattle.rpg_engine.specs.declared.fault.RunFault.{RunFault}
@@ -55,20 +56,22 @@ pub record TakesCycle {R S : Type 0} (remaining : R → Option (List ℕ)) (othe
   pub asks_secondary : Asks others (job_needs_record job Secondary) secondary (Ok second) secondary'
   pub cycles : Cycles job (record_with primary' first) (record_with secondary' second) job'
 
--- a reader was asked, if it was
-abbrev pub MayBeAsked : {R : Type 0} → (R → Option (List ℕ)) → RecordReader R → RecordReader R → Type 0
-MayBeAsked remaining old new = (is_needed : Bool) × (answer : Next) × Asks remaining is_needed old (Ok answer) new
+-- a reader was asked where that was needed, and it answered
+abbrev pub HasAnswered : {R : Type 0} → (R → Option (List ℕ)) → Bool → RecordReader R → RecordReader R → Type 0
+HasAnswered remaining is_needed old new = (answer : Next) × Asks remaining is_needed old (Ok answer) new
 
 -- a reader of which a record was needed failed
-abbrev pub FailsToRead : {R : Type 0} → (R → Option (List ℕ)) → Bool → RecordReader R → RecordReader R → Type 0
-FailsToRead remaining is_needed old new = (is_needed ≡ true) × (fault : ReadFault) × ReadsNext remaining old (Err fault) new
+abbrev pub FailsToRead : {R : Type 0} → (R → Option (List ℕ)) → Bool → ReadFault → RecordReader R → RecordReader R → Type 0
+FailsToRead remaining is_needed fault old new = (is_needed ≡ true) × ReadsNext remaining old (Err fault) new
 
 -- no cycle was done: the primary's reader failed, or then the secondary's; or memory ran out when they had been asked
 abbrev pub TakesNone : {R S : Type 0} → (R → Option (List ℕ)) → (S → Option (List ℕ)) → AtWork → RecordReader R → RecordReader S → CycleFault → RecordReader R → RecordReader S → Type 0
-TakesNone remaining others job primary secondary stops.Read primary' secondary' =
-    (FailsToRead remaining (job_needs_record job Primary) primary primary' × (secondary' ≡ secondary))
-    ⊎ (MayBeAsked remaining primary primary' × FailsToRead others (job_needs_record job Secondary) secondary secondary')
-TakesNone remaining others job primary secondary stops.NoMemory primary' secondary' = MayBeAsked remaining primary primary' × MayBeAsked others secondary secondary'
+TakesNone remaining others job primary secondary (stops.Read Primary fault) primary' secondary' =
+    FailsToRead remaining (job_needs_record job Primary) fault primary primary' × (secondary' ≡ secondary)
+TakesNone remaining others job primary secondary (stops.Read Secondary fault) primary' secondary' =
+    HasAnswered remaining (job_needs_record job Primary) primary primary' × FailsToRead others (job_needs_record job Secondary) fault secondary secondary'
+TakesNone remaining others job primary secondary stops.NoMemory primary' secondary' =
+    HasAnswered remaining (job_needs_record job Primary) primary primary' × HasAnswered others (job_needs_record job Secondary) secondary secondary'
 
 -- ---- its output
 
@@ -82,29 +85,29 @@ pub record GoesOut (old new : Option (List ℕ)) (waiting left : List ℕ) (sent
 -- what the writers have after bytes were sent in part, and what the fault says of it, so many bytes having gone out before
 abbrev pub SendsSome : RunFault → ℕ → ℕ → Option (List ℕ) → Option (List ℕ) → Option (List ℕ) → Option (List ℕ) → List ℕ → List ℕ → Type 0
 SendsSome (faults.Print sent) printed stored print print' disk disk' lines records =
-    (n : ℕ) × (sent ≡ printed + n) × AppendsFirst print print' n lines × (disk' ≡ disk)
+    (n : ℕ) × (sent ≡ printed + n) × AppendsFirst print print' n lines × (disk' ≡ disk) × (n < length lines)
 SendsSome (faults.Disk sent) printed stored print print' disk disk' lines records =
-    (n : ℕ) × (sent ≡ stored + n) × Appends print print' lines × AppendsFirst disk disk' n records
+    (n : ℕ) × (sent ≡ stored + n) × Appends print print' lines × AppendsFirst disk disk' n records × (n < length records)
 SendsSome e printed stored print print' disk disk' lines records = ⊥
 
--- memory ran out, and then all bytes went out that waited, unless a writer failed
-abbrev pub SendsWhereWanting : RunFault → ℕ → ℕ → Option (List ℕ) → Option (List ℕ) → Option (List ℕ) → Option (List ℕ) → List ℕ → List ℕ → Type 0
-SendsWhereWanting faults.NoMemory printed stored print print' disk disk' lines records = Appends print print' lines × Appends disk disk' records
-SendsWhereWanting e printed stored print print' disk disk' lines records = SendsSome e printed stored print print' disk disk' lines records
+-- all bytes went out that waited, unless a writer failed
+abbrev pub GoesOutUnless : (none_failed : Type 0) → Option (List ℕ) → Option (List ℕ) → Option (List ℕ) → Option (List ℕ) → List ℕ → List ℕ → Type 0
+GoesOutUnless none_failed print print' disk disk' lines records =
+    AppendsPrefix print print' lines × AppendsPrefix disk disk' records × (none_failed → Appends print print' lines × Appends disk disk' records)
 
 -- what is told of a cycle that wasn't done, and what the writers have then of the bytes that waited; a reader's fault is told at once
-abbrev pub StopsBy : CycleFault → RunFault → ℕ → ℕ → Option (List ℕ) → Option (List ℕ) → Option (List ℕ) → Option (List ℕ) → List ℕ → List ℕ → Type 0
-StopsBy stops.Read e printed stored print print' disk disk' lines records = (e ≡ faults.Read) × (print' ≡ print) × (disk' ≡ disk)
-StopsBy stops.NoMemory e printed stored print print' disk disk' lines records = SendsWhereWanting e printed stored print print' disk disk' lines records
+abbrev pub StopsBy : CycleFault → RunFault → (none_failed : Type 0) → Option (List ℕ) → Option (List ℕ) → Option (List ℕ) → Option (List ℕ) → List ℕ → List ℕ → Type 0
+StopsBy (stops.Read file fault) e none_failed print print' disk disk' lines records = (e ≡ faults.Read file fault) × (print' ≡ print) × (disk' ≡ disk)
+StopsBy stops.NoMemory e none_failed print print' disk disk' lines records = (e ≡ faults.NoMemory) × GoesOutUnless none_failed print print' disk disk' lines records
 
--- a run stopped early: each writer has such parts of its output, and where a reader failed the job needed a record
-pub record StopsEarly (p : Object) (day : ℤ) (e : RunFault) (print print' disk disk' : Option (List ℕ)) (primary secondary : List ℕ) : Type 0 where
-  pub parts : SendsFirstParts p day e print print' disk disk' primary secondary
-  pub needs : e ≡ faults.Read → NeedsRecord p day print print' disk disk' primary secondary
+-- a run stopped early: each writer has such parts of its output, and where a reader failed the job waited for its record
+pub record StopsEarly (p : Object) (day : ℤ) (e : RunFault) (none_failed : Type 0) (print print' disk disk' : Option (List ℕ)) (a b : Front) : Type 0 where
+  pub stops : OfEach a b (StopsOver p day e none_failed print print' disk disk')
+  pub needs : (file : InputFile) (fault : ReadFault) → e ≡ faults.Read file fault → NeedsRecord p day file fault print print' disk disk' a b
 
 -- of a fault of a run that has begun
 abbrev pub IsRunFault : RunFault → Type 0
-IsRunFault faults.Read = Unit {0}
+IsRunFault (faults.Read file fault) = Unit {0}
 IsRunFault (faults.Print sent) = Unit {0}
 IsRunFault (faults.Disk sent) = Unit {0}
 IsRunFault faults.NoMemory = Unit {0}
@@ -114,6 +117,8 @@ IsRunFault e = ⊥
 abbrev pub FaultsOfWriters : RunFault → (print print' disk disk' : ℕ) → Type 0
 FaultsOfWriters (faults.Print sent) print print' disk disk' = (print' ≡ print + 1) × (disk' ≡ disk)
 FaultsOfWriters (faults.Disk sent) print print' disk disk' = (print' ≡ print) × (disk' ≡ disk + 1)
+FaultsOfWriters faults.NoMemory print print' disk disk' =
+    ((print' ≡ print) × (disk' ≡ disk)) ⊎ (((print' ≡ print + 1) × (disk' ≡ disk)) ⊎ ((print' ≡ print) × (disk' ≡ disk + 1)))
 FaultsOfWriters e print print' disk disk' = (print' ≡ print) × (disk' ≡ disk)
 
 abbrev pub WriterFaults : {X : Type 0} → Result X RunFault → (print print' disk disk' : ℕ) → Type 0

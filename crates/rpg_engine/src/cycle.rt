@@ -15,6 +15,7 @@ ghost use Rattle.rpg_engine.specs.declared.fault.CycleFault.TheVariants as stops
 
 use crate::fault::CycleFault;
 use rpg_cycle::{CycleEnd, Job, JobEnd, Need, Seen};
+use rpg_effect::input::InputFile;
 use rpg_files::{Next, ReadFault, RecordReader};
 use rpg_store::Store;
 use std::io::Read;
@@ -106,8 +107,24 @@ pub(crate) fn next_cycle<S: Store + Drop, R1: Read, R2: Read>(
     ensures sure { IsSureWhereAsked need.primary primary.old → IsSureWhereAsked need.secondary secondary.old → IfErr result (λ e. e ≡ stops.NoMemory) }
     ensures grows { OnlyGrows job.old.output job.new.output }
 {
-    let first = ask(primary, need.primary)?;
-    let second = ask(secondary, need.secondary)?;
+    let first = match ask(primary, need.primary) {
+        Ok(next) => next,
+        Err(fault) => {
+            return Err(CycleFault::Read {
+                file: InputFile::Primary,
+                fault,
+            });
+        }
+    };
+    let second = match ask(secondary, need.secondary) {
+        Ok(next) => next,
+        Err(fault) => {
+            return Err(CycleFault::Read {
+                file: InputFile::Secondary,
+                fault,
+            });
+        }
+    };
     let seen = Seen {
         primary: is_given(first),
         secondary: is_given(second),

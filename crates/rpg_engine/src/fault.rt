@@ -5,6 +5,7 @@ ghost use Rattle.rpg_engine.specs.declared.fault.RunFault.TheVariants as faults;
 
 use crate::object::ObjectFault;
 use rpg_cycle::StartFault;
+use rpg_effect::input::InputFile;
 use rpg_files::ReadFault;
 use std::alloc::AllocError;
 
@@ -15,8 +16,8 @@ pub enum RunFault {
     Object(ObjectFault),
     /// The date isn't six digits.
     BadDate,
-    /// A reader failed, or had more than 10,000,000 records.
-    Read,
+    /// The reader of a file failed, or the file has more than 10,000,000 records.
+    Read { file: InputFile, fault: ReadFault },
     /// The printer failed when this many bytes had gone out.
     Print { sent: u128 },
     /// The disk file failed when this many bytes had gone out.
@@ -45,21 +46,11 @@ impl From<StartFault> for RunFault {
     }
 }
 
-/// Why a cycle wasn't done: what `?` hands up from it, a byte, so that a cycle that goes well carries no count of what was sent.
+/// Why a cycle wasn't done: what `?` hands up from it, small, so that a cycle that goes well carries no count of what was sent.
 #[derive(Clone, Copy)]
 pub(crate) enum CycleFault {
-    Read,
+    Read { file: InputFile, fault: ReadFault },
     NoMemory,
-}
-
-impl From<ReadFault> for CycleFault {
-    ghost use Rattle.rpg_engine.specs.declared.fault.CycleFault.TheVariants.{Read};
-
-    ghost from_gives = { λ _ e. e ≡ Read };
-
-    fn from(_fault: ReadFault) -> CycleFault {
-        CycleFault::Read
-    }
 }
 
 impl From<AllocError> for CycleFault {

@@ -20,6 +20,8 @@ pub use rpg_cycle::{
     Halt, Job, JobEnd, Need, run_records, runs_are_one, runs_are_short, runs_stand_right,
     unneeded_records_are_ignored,
 };
+pub use rpg_effect::input::InputFile;
+pub use rpg_files::ReadFault;
 pub use rpg_object::Code;
 pub use rpg_object_program::Program;
 pub use rpg_object_program::section::{Place, Section};

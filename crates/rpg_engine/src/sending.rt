@@ -4,8 +4,9 @@ ghost use Rattle.std.specs.Prelude.{◌≡◌, ◌+◌, ◌-◌, ◌^◌, ◌<�
 ghost use Rattle.std.specs.Io.KnownBytes.{Appends};
 ghost use Rattle.rpg_files.specs.Counting.{device_of, faults_of};
 ghost use Rattle.rpg_machine.specs.Running.{no_bytes};
-ghost use Rattle.rpg_engine.specs.Devices.{GoesOutTo, SendsSomeTo, StopsTo};
+ghost use Rattle.rpg_engine.specs.Devices.{GoesOutTo, GoesOutUnlessTo, SendsSomeTo, StopsTo};
 ghost use Rattle.rpg_engine.specs.Streaming.{FaultsOfWriters, IsSureWhereAsked, WriterFaults};
+ghost use Rattle.rpg_engine.specs.declared.fault.RunFault.TheVariants as faults;
 
 use crate::fault::{CycleFault, RunFault};
 use rpg_cycle::{Job, Need, Output};
@@ -170,8 +171,26 @@ pub(crate) fn send_where_enough<S: Store + Drop, W1: Write, W2: Write>(
     send_waiting(job, print, disk, sent)
 }
 
-/// What is told where a cycle wasn't done. Where memory ran out what waited before that cycle goes out first, and a writer that fails then
-/// is told in its place; where a reader failed nothing was left that waits.
+/// Sends bytes to the printer, and then bytes to the disk file, unless the printer fails. Whether one failed isn't told.
+fn send_or_leave<W1: Write, W2: Write>(
+    print: &mut Counted<W1>,
+    disk: &mut Counted<W2>,
+    lines: &[u8],
+    records: &[u8],
+    mut sent: Sent,
+)
+    requires print { faults_of print.old < 2 ^ 64 - 1 }
+    requires disk { faults_of disk.old < 2 ^ 64 - 1 }
+    requires printed { sent.print ≤ 2 ^ 100 }
+    requires stored { sent.disk ≤ 2 ^ 100 }
+    ensures out { GoesOutUnlessTo W1.contents W2.contents print disk lines.now records.now }
+    ensures faults { FaultsOfWriters faults.NoMemory (faults_of print.old) (faults_of print.new) (faults_of disk.old) (faults_of disk.new) }
+{
+    let _told = send_both(print, disk, lines, records, &mut sent);
+}
+
+/// What is told where a cycle wasn't done. Where memory ran out what waited before that cycle still goes out, and a writer that fails then
+/// isn't told: memory ran out before. Where a reader failed nothing was left that waits.
 #[inline(never)]
 pub(crate) fn fault_behind<W1: Write, W2: Write>(
     fault: CycleFault,
@@ -179,7 +198,7 @@ pub(crate) fn fault_behind<W1: Write, W2: Write>(
     disk: &mut Counted<W2>,
     output: &Output,
     waiting: Waiting,
-    mut sent: Sent,
+    sent: Sent,
 ) -> RunFault
     requires print { faults_of print.old < 2 ^ 64 - 1 }
     requires disk { faults_of disk.old < 2 ^ 64 - 1 }
@@ -187,18 +206,16 @@ pub(crate) fn fault_behind<W1: Write, W2: Write>(
     requires stored { sent.disk ≤ 2 ^ 100 }
     requires lines { waiting.print ≤ length output.now.print.items }
     requires records { waiting.disk ≤ length output.now.disk.items }
-    ensures stops { StopsTo W1.contents W2.contents fault print disk sent.print sent.disk
+    ensures stops { StopsTo W1.contents W2.contents fault print disk
         (take waiting.print output.now.print.items) (take waiting.disk output.now.disk.items) result }
     ensures faults { FaultsOfWriters result (faults_of print.old) (faults_of print.new) (faults_of disk.old) (faults_of disk.new) }
 {
     match fault {
-        CycleFault::Read => RunFault::Read,
+        CycleFault::Read { file, fault } => RunFault::Read { file, fault },
         CycleFault::NoMemory => {
             let (lines, records) = (&output.print[..waiting.print], &output.disk[..waiting.disk]);
-            match send_both(print, disk, lines, records, &mut sent) {
-                Ok(()) => RunFault::NoMemory,
-                Err(fault) => fault,
-            }
+            send_or_leave(print, disk, lines, records, sent);
+            RunFault::NoMemory
         }
     }
 }

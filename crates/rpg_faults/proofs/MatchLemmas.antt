@@ -347,6 +347,10 @@ matched cards = match_fields (followers input_role cards)
 pub matched_none : (fs : List InputField) (found : Option (List ℕ)) → AreGood fs found → found ≡ good_matches (fs ++ matched [])
 matched_none fs found good = good.lengths ∙ ap good_matches (sym (append-nil fs))
 
+pub no_cards : (cards : List SpecCard) → length cards ≡ 0 → cards ≡ []
+no_cards [] none = refl
+no_cards (c ∷ cards) none = absurd (omega arith)
+
 module _ (fs : List InputField) (c : SpecCard) (rest : List SpecCard) where
   of_role : (r : Role RecordType InputSpec) → input_role c.spec ≡ r → matched (c ∷ rest) ≡ match_fields (following r (followers input_role rest))
   of_role r is = ap (λ (r : Role RecordType InputSpec). match_fields (following r (followers input_role rest))) is

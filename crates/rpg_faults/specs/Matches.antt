@@ -2,11 +2,13 @@
 use Rattle.std.specs.Prelude.{◌≡◌, ℕ, List, [], ◌∷◌, ◌++◌, Bool, false, min, map, take, sum_by, Option, None, Some}
 use Rattle.std.specs.List.{list_any}
 use Rattle.std.specs.Option.{option_map}
-use Rattle.rpg_cards.specs.Groups.{group_count, groups, input_role, open_group}
+use Rattle.rpg_cards.specs.Groups.{followers, group_count, groups, input_role, open_group}
 use Rattle.rpg_cards.specs.Levels.{is_at, match_level}
 use Rattle.rpg_cards.specs.declared.spec_card.SpecCard.{SpecCard}
 use Rattle.rpg_faults.specs.Lengths.{input_specs_in}
 use Rattle.rpg_faults.specs.Places.{first_matches, good_matches, has_bad, has_twice, input_columns, levels, match_fields}
+use Rattle.rpg_faults.specs.declared.matches.Further.{Further}
+use Rattle.rpg_faults.specs.declared.matches.Further.TheVariants as further
 use Rattle.rpg_faults.specs.declared.matches.Matches.{Matches}
 use Rattle.rpg_faults.specs.declared.matches.OpenMatches.{OpenMatches}
 use Rattle.rpg_sheet_specs.specs.declared.input.InputField.{InputField}
@@ -42,3 +44,13 @@ pub record AreGood (fs : List InputField) (found : Option (List ℕ)) : Type 0 w
 abbrev pub AreWith : List InputField → InputField → Option (List ℕ) → Type 0
 AreWith fs f (Some lengths) = AreGood (fs ++ f ∷ []) (Some lengths)
 AreWith fs f None = (rest : List InputField) → good_matches (fs ++ f ∷ rest) ≡ None
+
+-- those of the cards up to the next type, with fields that stand before
+abbrev pub matches_up_to : List InputField → List SpecCard → Option (List ℕ)
+matches_up_to fs cards = good_matches (fs ++ match_fields (followers input_role cards))
+
+-- what a further card makes of the lengths of the fields before it, whatever follows
+abbrev pub MakesOf : List InputField → SpecCard → Option (List ℕ) → Further → Type 0
+MakesOf fs card found further.OtherType = (rest : List SpecCard) → found ≡ matches_up_to fs (card ∷ rest)
+MakesOf fs card found further.Bad = (rest : List SpecCard) → None ≡ matches_up_to fs (card ∷ rest)
+MakesOf fs card found (further.Found more) = (gs : List InputField) × AreGood gs more × ((rest : List SpecCard) → matches_up_to gs rest ≡ matches_up_to fs (card ∷ rest))

@@ -3,7 +3,7 @@
 ghost use Rattle.std.specs.Prelude.{◌≡◌, ◌+◌, ◌-◌, ◌≤◌, [], ◌∷◌, ◌++◌, ◌&&◌, List, Some, false, nat_le, nat_lt, slice_index_or};
 ghost use Rattle.rpg_cards.specs.Groups.{followers, input_role};
 ghost use Rattle.rpg_cards.specs.declared.spec_card.SpecCard.{SpecCard};
-ghost use Rattle.rpg_faults.specs.Matches.{AreGood, AreMatches, AreOpenMatches, AreWith, matches_of};
+ghost use Rattle.rpg_faults.specs.Matches.{AreGood, AreMatches, AreOpenMatches, AreWith, MakesOf, matches_of};
 ghost use Rattle.rpg_faults.specs.Before.{AddsCard, AddsField, TellsInput};
 ghost use Rattle.rpg_faults.specs.Places as rules;
 ghost use Rattle.rpg_sheet_specs.specs.declared.input.InputField.{InputField};
@@ -32,6 +32,17 @@ pub(crate) struct Matches {
     /// The lengths of M1 to M9 in the first type that has match fields, all of them good.
     first: Option<[u16; 9]>,
     open_type: Option<OpenMatches>,
+}
+
+/// What a further card makes of the match fields of a type.
+#[derive(Clone, Copy)]
+enum Further {
+    /// It is another type's.
+    OtherType,
+    /// A level stands twice, or the columns are bad.
+    Bad,
+    /// The lengths with those of the card.
+    Found(Option<[u16; 9]>),
 }
 
 impl OpenMatches {
@@ -165,29 +176,34 @@ fn are_other(first: Option<[u16; 9]>, own: Option<[u16; 9]>) -> bool
 fn good_matches(after: &[SpecCard]) -> Option<[u16; 9]>
     ensures { result ≡ rules.good_matches (rules.match_fields (followers input_role after.now)) }
 {
-    matches_behind(None, after)
+    let mut found = None;
+    let mut rest = after;
+    'cards: while let Some((card, behind)) = rest.split_first() {
+        match matches_on(found, card) {
+            Further::OtherType => return found,
+            Further::Bad => return None,
+            Further::Found(lengths) => found = lengths,
+        }
+        rest = behind;
+    }
+    found
 }
 
-/// The same with the lengths of match fields that stand before.
-fn matches_behind(found: Option<[u16; 9]>, after: &[SpecCard]) -> Option<[u16; 9]>
-    ensures { (fs : List InputField) → AreGood fs found → result ≡ rules.good_matches (fs ++ rules.match_fields (followers input_role after.now)) }
+/// What a further card makes of the lengths of match fields that stand before it.
+fn matches_on(found: Option<[u16; 9]>, card: &SpecCard) -> Further
+    ensures { (fs : List InputField) → AreGood fs found → MakesOf fs card.now found result }
 {
-    let Some((card, rest)) = after.split_first() else {
-        return found;
-    };
     match card.input() {
-        Some(InputSpec::Type(_)) => found,
+        Some(InputSpec::Type(_)) => Further::OtherType,
         Some(InputSpec::Field(field)) => match field.match_level {
-            None => matches_behind(found, rest),
-            Some(level) => {
-                let columns = columns_of(field);
-                let number = level.number();
-                let lengths = lengths_with(found, number, columns)?;
-                matches_behind(Some(lengths), rest)
-            }
+            None => Further::Found(found),
+            Some(level) => match lengths_with(found, level.number(), columns_of(field)) {
+                None => Further::Bad,
+                Some(lengths) => Further::Found(Some(lengths)),
+            },
         },
-        Some(InputSpec::And(_)) => matches_behind(found, rest),
-        None => matches_behind(found, rest),
+        Some(InputSpec::And(_)) => Further::Found(found),
+        None => Further::Found(found),
     }
 }
 

@@ -1,15 +1,16 @@
 -- What stands at the front of bytes whose first ones are characters.
-use Rattle.std.proofs.Common.{◌≡◌, ◌≢◌, ℕ, zero, suc, ◌+◌, ◌-◌, ◌<◌, ◌≤◌, true, false, ◌&&◌, nat_eq, List, [], ◌∷◌, ◌++◌, length, take, drop, get_or, refl, sym, ap, subst, ◌∙◌, arith, length-drop, add-one, inl, inr}
+use Rattle.std.proofs.Common.{◌≡◌, ◌≢◌, ℕ, zero, suc, ◌+◌, ◌-◌, ◌<◌, ◌≤◌, true, false, not, ◌&&◌, nat_eq, List, [], ◌∷◌, ◌++◌, length, take, drop, get_or, refl, sym, ap, subst, ◌∙◌, arith, length-drop, add-one, inl, inr}
 use Rattle.std.specs.List.{list_all}
-use Rattle.std.proofs.lemmas.Bool.{and_from, and_left, and_right, le-leb, ne_eqb}
+use Rattle.std.proofs.lemmas.Bool.{and_from, and_parts, and_left, and_right, le-leb, ne_eqb}
 use Rattle.std.proofs.lemmas.List.{length-take-le, append-nil, drop_all, take_all, take_rest}
 use Rattle.std.proofs.lemmas.List.Folds.{list_all-append}
 use Rattle.std.proofs.Math.Seq.{take-add}
+use Rattle.rpg_text.specs.Lines.{is_line, is_line_feed}
 use Rattle.rpg_text.specs.Texts.{is_character}
 use Rattle.rpg_files.specs.Records.{records, begins_with_line_feed, is_good, BeginsBad}
 use Rattle.rpg_files.specs.FirstLine.{IsFirstRecord, IsIncomplete}
 use Rattle.rpg_files.specs.NextLine.{CanFollow, IsNextRecord}
-use Rattle.rpg_files.proofs.Characters.{line_first, return_first, long_begins_bad, other_begins_bad, whole_first}
+use Rattle.rpg_files.proofs.Characters.{not_ten, line_first, return_first, long_begins_bad, other_begins_bad, whole_first}
 
 -- bytes cut at one of them
 cut_at : (xs more : List ℕ) (n : ℕ) → n < length xs → xs ++ more ≡ take n xs ++ get_or xs n 0 ∷ (drop (suc n) xs ++ more)
@@ -98,6 +99,22 @@ pub joined_slice : (xs : List ℕ) (a n : ℕ) → list_all is_character (take a
 joined_slice xs a n first behind =
     let count : a + n - a ≡ n = omega arith in
     rw (take-add a n xs, list_all-append is_character (take a xs) (take n (drop a xs))) (and_from _ _ first (ap (λ k. list_all is_character (take k (drop a xs))) (sym count) ∙ behind))
+
+-- ---- a line without an end has no line feed
+
+characters_line : (xs : List ℕ) → list_all is_character xs ≡ true → is_line xs ≡ true
+characters_line [] all = refl
+characters_line (b ∷ xs) all = let parts = and_parts _ _ all in rw (not_ten b parts.0) (characters_line xs parts.1)
+
+pub open_line : (limit : ℕ) (xs : List ℕ) (n : ℕ) → IsIncomplete limit xs n → is_line xs ≡ true
+open_line limit xs n is =
+    let cut : xs ≡ take n xs ++ drop n xs = sym (append-nil xs) ∙ cut_before xs [] n ∙ ap (λ (ys : List ℕ). take n xs ++ ys) (append-nil (drop n xs)) in
+    let back : is_line (drop n xs) ≡ true = elim is.behind [ inl none ↦ ap is_line none | inr one ↦ ap is_line one ] in
+    ap is_line cut ∙ list_all-append (λ b. not (is_line_feed b)) (take n xs) (drop n xs) ∙ and_from _ _ (characters_line (take n xs) is.characters) back
+
+pub empty_line : (xs : List ℕ) → length xs ≡ 0 → is_line xs ≡ true
+empty_line [] none = refl
+empty_line (x ∷ xs) none = absurd (omega arith)
 
 -- ---- at the end of the input
 

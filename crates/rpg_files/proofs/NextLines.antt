@@ -1,5 +1,6 @@
 -- How far the reading of a line can go on, and what it is at the end of the input.
-use Rattle.std.proofs.Common.{◌≡◌, ℕ, ◌+◌, ◌-◌, ◌<◌, ◌≤◌, Bool, true, false, if◌then◌else◌, List, length, drop, Option, refl, sym, ap, subst, arith, length-append, length-drop, ◌⊎◌, inl, inr}
+use Rattle.std.proofs.Common.{◌≡◌, ℕ, ◌+◌, ◌-◌, ◌<◌, ◌≤◌, Bool, true, false, if◌then◌else◌, List, ◌++◌, length, drop, Option, refl, sym, ap, ap₂, ◌∙◌, subst, append_assoc, arith, length-append, length-drop, ◌⊎◌, inl, inr}
+use Rattle.std.proofs.KnownBytes.{Consumes-trans}
 use Rattle.rpg_files.specs.NextLine.{IsNextLine}
 use Rattle.rpg_files.specs.FirstLine.{IsIncomplete}
 use Rattle.rpg_files.specs.declared.input.NextLine.{NextLine}
@@ -14,6 +15,16 @@ open_short limit xs n is = elim is.behind [
 
 pub reads_longer : (a b : Option (List ℕ)) (old new : List ℕ) (ended ended' : Bool) → Reads a b old new ended ended' → length old ≤ length new
 reads_longer a b old new ended ended' reads = omega (arith, ap length reads.bytes, length-append old reads.read)
+
+-- one read behind others
+pub reads_trans : (a b c : Option (List ℕ)) (xs ys zs : List ℕ) (e f g : Bool) → Reads a b xs ys e f → Reads b c ys zs f g → Reads a c xs zs e g
+reads_trans a b c xs ys zs e f g one two = record {
+  read = one.read ++ two.read;
+  consumed = Consumes-trans a b c one.read two.read one.consumed two.consumed;
+  bytes = two.bytes ∙ ap (λ (front : List ℕ). front ++ two.read) one.bytes ∙ append_assoc xs one.read two.read;
+  none_at_end = λ ended. let first = one.none_at_end ended in let second = two.none_at_end first.1 in (ap₂ (◌++◌) first.0 second.0, second.1);
+  at_end = λ ended before. two.at_end ended (λ seen. one.at_end seen before);
+}
 
 -- once the end was seen, or the longest line is there with its end, no line is without an end while bytes can come
 pub never_open : (a b : Option (List ℕ)) (limit : ℕ) (old new : List ℕ) (ended ended' : Bool) → Reads a b old new ended ended' → ended' ≡ false → length new ≤ limit + 1

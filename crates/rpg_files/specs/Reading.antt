@@ -1,6 +1,7 @@
 -- What a reader of records is to its callers.
 use Rattle.std.specs.Prelude.{◌≡◌, ℕ, ◌+◌, ◌<◌, ◌&&◌, ◌||◌, nat_le, nat_lt, Bool, true, false, List, [], ◌∷◌, ◌++◌, length, take, drop, Option, Result, Ok, Err}
 use Rattle.std.specs.Io.KnownBytes.{Consumes, IsAtEnd}
+use Rattle.rpg_text.specs.Lines.{is_line}
 use Rattle.rpg_files.specs.Buffers.{left_in}
 use Rattle.rpg_files.specs.Counting.{device_of, faults_of}
 use Rattle.rpg_files.specs.NextLine.{CanFollow}
@@ -77,7 +78,7 @@ GivesNext limit count record_bytes (Ok next.Record) old new = (count < max_recor
 GivesNext limit count record_bytes (Ok next.Bad) old new = (count < max_records) × BeginsBad limit old
 GivesNext limit count record_bytes (Ok next.End) old new = (old ≡ []) × (new ≡ [])
 GivesNext limit count record_bytes (Err fault.TooMany) old new = (count ≡ max_records) × (0 < length old)
-GivesNext limit count record_bytes (Err fault.Device) old new = Unit {0}
+GivesNext limit count record_bytes (Err fault.Device) old new = old ≡ new
 
 -- Some bytes were read behind the buffered ones, none once the end was seen. Whatever follows these, Fact holds of all the
 -- bytes that were to come before and of those that are to come now.
@@ -101,12 +102,13 @@ device_faults_after n (Ok x) = n
 device_faults_after n (Err fault.Device) = n + 1
 device_faults_after n (Err fault.TooMany) = n
 
--- a call of `next` behind a record
+-- a call of `next` behind a record; where the device failed no whole line waits
 pub record ReadsNext {R : Type 0} (remaining : R → Option (List ℕ)) (old : RecordReader R) (answer : Result Next ReadFault) (new : RecordReader R) : Type 0 where
   pub limit : limit_of new ≡ limit_of old
   pub count : count_of new ≡ count_after (count_of old) answer
   pub faults : faults_of (reader_of new) ≡ device_faults_after (faults_of (reader_of old)) answer
   pub input : Advances (input_of remaining old) (input_of remaining new) (GivesNext (limit_of old) (count_of old) (record_of new) answer)
+  pub waits : answer ≡ Err fault.Device → is_line (buffered_of new) ≡ true
 
 -- a reader that has read nothing, for records of so many bytes at most
 pub record IsFresh {R : Type 0} (bytes : ℕ) (r : RecordReader R) : Type 0 where

@@ -1,6 +1,6 @@
 //! The bytes that were read and not yet given.
 
-ghost use Rattle.std.specs.Prelude.{◌≡◌, ◌+◌, ◌-◌, ◌^◌, ◌<◌, ◌≤◌, drop, length, take, vec_len, IfOk};
+ghost use Rattle.std.specs.Prelude.{◌≡◌, ◌+◌, ◌-◌, ◌^◌, ◌<◌, ◌≤◌, drop, length, take, vec_len, IfErr, IfOk};
 ghost use Rattle.std.specs.Io.KnownBytes.{ReadConsumes};
 ghost use Rattle.rpg_files.specs.Counting.{faults_after, device_of, faults_of};
 
@@ -62,6 +62,7 @@ impl Buffer {
         requires faults { faults_of reader.old < 2 ^ 64 - 1 }
         requires room { length (left_in self.old) < capacity_of self.old }
         ensures bytes { Fills (R.remaining (device_of reader.old)) (R.remaining (device_of reader.new)) (left_in self.old) (left_in self.new) result }
+        ensures same { IfErr result (λ _. left_in self.new ≡ left_in self.old) }
         ensures capacity { capacity_of self.new ≡ capacity_of self.old }
         ensures faults { faults_of reader.new ≡ faults_after (faults_of reader.old) result }
     {

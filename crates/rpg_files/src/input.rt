@@ -1,6 +1,7 @@
 //! Reads until it is certain what comes next.
 
-ghost use Rattle.std.specs.Prelude.{◌≡◌, ◌+◌, ◌-◌, ◌^◌, ◌<◌, ◌≤◌, ◌⊎◌, false, length, IsOk, OnOk, IfOk, true};
+ghost use Rattle.std.specs.Prelude.{◌≡◌, ◌+◌, ◌-◌, ◌^◌, ◌<◌, ◌≤◌, ◌⊎◌, false, length, IsOk, OnOk, IfErr, IfOk, true};
+ghost use Rattle.rpg_text.specs.Lines.{is_line};
 ghost use Rattle.rpg_files.specs.Counting.{faults_after, device_of, faults_of};
 ghost use Rattle.rpg_files.specs.Reads.{Reads};
 ghost use Rattle.rpg_files.specs.FirstLine.{IsIncomplete};
@@ -32,6 +33,7 @@ fn read_more<R: Read>(
     requires room { length (left_in buffer.old) < capacity_of buffer.old }
     requires open { is_ended.old ≡ false }
     ensures read { Reads (R.remaining (device_of reader.old)) (R.remaining (device_of reader.new)) (left_in buffer.old) (left_in buffer.new) is_ended.old is_ended.new }
+    ensures same { IfErr result (λ _. left_in buffer.new ≡ left_in buffer.old) }
     ensures more { OnOk result (is_ended.new ≡ false → length (left_in buffer.old) < length (left_in buffer.new)) }
     ensures capacity { capacity_of buffer.new ≡ capacity_of buffer.old }
     ensures faults { faults_of reader.new ≡ faults_after (faults_of reader.old) result }
@@ -53,6 +55,7 @@ pub(crate) fn has_more<R: Read>(
     requires room { 0 < capacity_of buffer.old }
     ensures read { Reads (R.remaining (device_of reader.old)) (R.remaining (device_of reader.new)) (left_in buffer.old) (left_in buffer.new) is_ended.old is_ended.new }
     ensures ok { IfOk result (λ more. HasMore more (left_in buffer.new) is_ended.new) }
+    ensures waits { IfErr result (λ _. is_line (left_in buffer.new) ≡ true) }
     ensures capacity { capacity_of buffer.new ≡ capacity_of buffer.old }
     ensures faults { faults_of reader.new ≡ faults_after (faults_of reader.old) result }
 {
@@ -88,6 +91,7 @@ pub(crate) fn read_line<R: Read>(
     requires room { limit + 1 < capacity_of buffer.old }
     ensures read { Reads (R.remaining (device_of reader.old)) (R.remaining (device_of reader.new)) (left_in buffer.old) (left_in buffer.new) is_ended.old is_ended.new }
     ensures ok { IfOk result (λ line. IsNextLine limit (left_in buffer.new) is_ended.new line) }
+    ensures waits { IfErr result (λ _. is_line (left_in buffer.new) ≡ true) }
     ensures sure { (is_ended.old ≡ true) ⊎ (limit + 2 ≤ length (left_in buffer.old)) → IsOk result }
     ensures capacity { capacity_of buffer.new ≡ capacity_of buffer.old }
     ensures faults { faults_of reader.new ≡ faults_after (faults_of reader.old) result }

@@ -1,6 +1,6 @@
 //! All bytes of an output to a writer.
 
-ghost use Rattle.std.specs.Prelude.{◌≡◌, ◌-◌, ◌^◌, ◌<◌, OnOk, IfErr};
+ghost use Rattle.std.specs.Prelude.{◌≡◌, ◌-◌, ◌^◌, ◌<◌, length, OnOk, IfErr};
 ghost use Rattle.std.specs.Io.KnownBytes.{Appends};
 ghost use Rattle.rpg_files.specs.Counting.{faults_after, device_of, faults_of};
 ghost use Rattle.rpg_files.specs.Sending.{AppendsFirst};
@@ -19,6 +19,7 @@ pub fn send<W: Write>(writer: &mut Counted<W>, bytes: &[u8]) -> Result<(), Write
     requires { faults_of writer.old < 2 ^ 64 - 1 }
     ensures ok { OnOk result (Appends (W.contents (device_of writer.old)) (W.contents (device_of writer.new)) bytes.now) }
     ensures err { IfErr result (λ e. AppendsFirst (W.contents (device_of writer.old)) (W.contents (device_of writer.new)) e.sent bytes.now) }
+    ensures part { IfErr result (λ e. e.sent < length bytes.now) }
     ensures faults { faults_of writer.new ≡ faults_after (faults_of writer.old) result }
 {
     let mut sent = 0;

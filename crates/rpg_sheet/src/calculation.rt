@@ -1,12 +1,16 @@
 //! The calculation sheet (C).
 
-ghost use Rattle.std.specs.Prelude.{◌≡◌, [], OnOk, IfErr};
-ghost use Rattle.rpg_sheet_specs.specs.Columns.{IsLeastColumn};
+ghost use Rattle.std.specs.Prelude.{◌≡◌, [], codes, OnOk, IfErr};
+ghost use Rattle.rpg_sheet_specs.specs.Columns as columns;
+ghost use Rattle.rpg_sheet_specs.specs.Columns.{IsLeastColumn, ◌⊛◌};
 ghost use Rattle.rpg_sheet_specs.specs.Tables as tables;
+ghost use Rattle.rpg_sheet_specs.specs.Values as values;
 
 use crate::card::Card;
 use crate::columns::{at, conditions, indicators};
-use rpg_sheet_specs::{CalculationSpec, ColumnFault};
+use rpg_sheet_specs::{
+    CalculationSpec, ColumnFault, Condition, ControlLevel, Factor, Operation, Three,
+};
 
 #[tactic(auto, unfolding(rpg_sheet_specs::specs::Tables::calculation_card, rpg_sheet_specs::specs::Columns::values, rpg_sheet_specs::specs::Columns::at_with, rpg_sheet_specs::specs::Columns::also, rpg_sheet_specs::specs::Columns::past, rpg_sheet_specs::specs::Columns::blank))]
 pub(crate) fn calculation_card(card: &Card) -> Result<CalculationSpec, ColumnFault>
@@ -17,6 +21,33 @@ pub(crate) fn calculation_card(card: &Card) -> Result<CalculationSpec, ColumnFau
     let factor_1 = card.optional_factor(18, 27)?;
     let operation = card.optional_operation(28, 32)?;
     let factor_2 = card.optional_factor(33, 42)?;
+    calculation_with(
+        card,
+        control_level,
+        conditions,
+        factor_1,
+        operation,
+        factor_2,
+    )
+}
+
+/// The calculation of these factors, with the columns behind them.
+#[tactic(auto, unfolding(rpg_sheet_specs::specs::Columns::values, rpg_sheet_specs::specs::Columns::at_with, rpg_sheet_specs::specs::Columns::also))]
+fn calculation_with(
+    card: &Card,
+    control_level: ControlLevel,
+    conditions: Three<Option<Condition>>,
+    factor_1: Option<Factor>,
+    operation: Option<Operation>,
+    factor_2: Option<Factor>,
+) -> Result<CalculationSpec, ColumnFault>
+    ensures { result ≡ (columns.values (tables.calculation_spec control_level conditions factor_1 operation factor_2)
+        ⊛ columns.at 43 48 (values.blank_or values.entry)
+        ⊛ columns.at 49 51 (values.blank_or values.number)
+        ⊛ columns.at 52 52 (values.blank_or values.digits)
+        ⊛ columns.at 53 53 (values.marked (codes "H"))
+        ⊛ tables.indicators 54 55 56 57 58 59).reading card.now }
+{
     let result_field = card.optional_entry(43, 48)?;
     let length = card.optional_number(49, 51)?;
     let decimals = card.optional_digit(52, 52)?;

@@ -1,12 +1,14 @@
 //! The extension sheet (E).
 
-ghost use Rattle.std.specs.Prelude.{◌≡◌, [], OnOk, IfErr};
-ghost use Rattle.rpg_sheet_specs.specs.Columns.{IsLeastColumn};
+ghost use Rattle.std.specs.Prelude.{◌≡◌, [], codes, OnOk, IfErr};
+ghost use Rattle.rpg_sheet_specs.specs.Columns as columns;
+ghost use Rattle.rpg_sheet_specs.specs.Columns.{IsLeastColumn, ◌⊛◌, ◌⊘◌};
 ghost use Rattle.rpg_sheet_specs.specs.Tables as tables;
+ghost use Rattle.rpg_sheet_specs.specs.Values as values;
 
 use crate::card::Card;
 use crate::columns::at;
-use rpg_sheet_specs::{ColumnFault, ExtensionSpec, TableSpec};
+use rpg_sheet_specs::{ColumnFault, ExtensionSpec, TableSpec, Word};
 use rpg_text::is_blank;
 
 #[tactic(auto, unfolding(rpg_sheet_specs::specs::Tables::extension, rpg_sheet_specs::specs::Columns::values, rpg_sheet_specs::specs::Columns::at_with, rpg_sheet_specs::specs::Columns::also, rpg_sheet_specs::specs::Columns::past, rpg_sheet_specs::specs::Columns::blank))]
@@ -18,6 +20,24 @@ pub(crate) fn extension(card: &Card) -> Result<ExtensionSpec, ColumnFault>
     let entries_per_card = card.optional_number(33, 35)?;
     let entries = card.number(36, 39)?;
     let length = card.number(40, 42)?;
+    extension_with(card, name, entries_per_card, entries, length)
+}
+
+/// The table of this name and these sizes, with the columns behind them.
+#[tactic(auto, unfolding(rpg_sheet_specs::specs::Columns::values, rpg_sheet_specs::specs::Columns::at_with, rpg_sheet_specs::specs::Columns::also, rpg_sheet_specs::specs::Columns::past, rpg_sheet_specs::specs::Columns::blank))]
+fn extension_with(
+    card: &Card,
+    name: Word<6>,
+    entries_per_card: Option<u16>,
+    entries: u16,
+    length: u16,
+) -> Result<ExtensionSpec, ColumnFault>
+    ensures { result ≡ (columns.values (tables.extension_spec name entries_per_card entries length)
+        ⊘ columns.blank 43 43
+        ⊛ columns.at 44 44 (values.blank_or values.digits)
+        ⊛ columns.at 45 45 (values.marked (codes "A"))
+        ⊛ tables.alternating).reading card.now }
+{
     card.blank(43, 43)?;
     let decimals = card.optional_digit(44, 44)?;
     let ascending = at(45, 45, rpg_sheet_values::marked(b"A", card.columns(45, 45)))?;

@@ -1,12 +1,15 @@
 //! The file description sheet (F).
 
-ghost use Rattle.std.specs.Prelude.{◌≡◌, [], OnOk, IfErr};
-ghost use Rattle.rpg_sheet_specs.specs.Columns.{IsLeastColumn, cols};
+ghost use Rattle.std.specs.Prelude.{◌≡◌, [], ◌∷◌, codes, if◌then◌else◌, OnOk, IfErr};
+ghost use Rattle.rpg_sheet_specs.specs.Columns as columns;
+ghost use Rattle.rpg_sheet_specs.specs.Columns.{IsLeastColumn, cols, ◌⊛◌, ◌⊘◌};
 ghost use Rattle.rpg_sheet_specs.specs.Tables as tables;
+ghost use Rattle.rpg_sheet_specs.specs.Values as values;
+ghost use Rattle.rpg_sheet_specs.specs.declared.file.FileRole.TheVariants as roles;
 
 use crate::card::Card;
 use crate::columns::at;
-use rpg_sheet_specs::{ColumnFault, FileRole, FileSpec, Within};
+use rpg_sheet_specs::{ColumnFault, FileRole, FileSpec, Within, Word};
 
 #[tactic(auto, unfolding(rpg_sheet_specs::specs::Tables::file, rpg_sheet_specs::specs::Columns::values, rpg_sheet_specs::specs::Columns::at_with, rpg_sheet_specs::specs::Columns::also, rpg_sheet_specs::specs::Columns::past, rpg_sheet_specs::specs::Columns::blank))]
 pub(crate) fn file(card: &Card) -> Result<FileSpec, ColumnFault>
@@ -18,6 +21,24 @@ pub(crate) fn file(card: &Card) -> Result<FileSpec, ColumnFault>
     let ends_job = at(17, 17, rpg_sheet_values::marked(b"E", card.columns(17, 17)))?;
     let ascending = at(18, 18, rpg_sheet_values::marked(b"A", card.columns(18, 18)))?;
     at(19, 19, rpg_sheet_values::only(b"F", card.columns(19, 19)))?;
+    file_with(card, name, role, ends_job, ascending)
+}
+
+/// The file of this name and role, with the columns behind them.
+#[tactic(auto, unfolding(rpg_sheet_specs::specs::Columns::values, rpg_sheet_specs::specs::Columns::at_with, rpg_sheet_specs::specs::Columns::also, rpg_sheet_specs::specs::Columns::past, rpg_sheet_specs::specs::Columns::blank))]
+fn file_with(
+    card: &Card,
+    name: Word<8>,
+    role: FileRole,
+    ends_job: bool,
+    ascending: bool,
+) -> Result<FileSpec, ColumnFault>
+    ensures { result ≡ (columns.values (tables.file_spec name role ends_job ascending)
+        ⊛ columns.at 24 27 values.number
+        ⊛ tables.file_overflow
+        ⊛ columns.at 40 46 tables.device_named
+        ⊘ columns.blank 47 74).reading card.now }
+{
     let record_length = card.number(24, 27)?;
     let overflow = file_overflow(card)?;
     let device = rpg_sheet_values::device(card.columns(40, 46));
@@ -72,16 +93,25 @@ impl Card {
 fn role(card: &Card) -> Option<FileRole>
     ensures { result ≡ tables.role card.now (cols 16 16 card.now) }
 {
-    if card.columns(15, 15) == b"I".as_slice() {
-        if card.columns(16, 16) == b"P".as_slice() {
-            Some(FileRole::Primary)
-        } else if card.columns(16, 16) == b"S".as_slice() {
-            Some(FileRole::Secondary)
+    let is_read = card.columns(15, 15) == b"I".as_slice();
+    role_by(is_read, card.columns(16, 16))
+}
+
+/// The role that this spelling gives a file that is read, or one that isn't.
+fn role_by(is_read: bool, text: &[u8]) -> Option<FileRole>
+    ensures { result ≡ values.one_of (if is_read then (codes "P", roles.Primary) ∷ (codes "S", roles.Secondary) ∷ [] else (codes " ", roles.Output) ∷ []) text.now }
+{
+    if !is_read {
+        return if text == b" ".as_slice() {
+            Some(FileRole::Output)
         } else {
             None
-        }
-    } else if card.columns(16, 16) == b" ".as_slice() {
-        Some(FileRole::Output)
+        };
+    }
+    if text == b"P".as_slice() {
+        Some(FileRole::Primary)
+    } else if text == b"S".as_slice() {
+        Some(FileRole::Secondary)
     } else {
         None
     }

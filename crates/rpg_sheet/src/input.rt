@@ -1,12 +1,14 @@
 //! The input sheet (I).
 
 ghost use Rattle.std.specs.Prelude.{◌≡◌, [], OnOk, IfErr};
-ghost use Rattle.rpg_sheet_specs.specs.Columns.{IsLeastColumn};
+ghost use Rattle.rpg_sheet_specs.specs.Columns as columns;
+ghost use Rattle.rpg_sheet_specs.specs.Columns.{IsLeastColumn, ◌⊛◌, ◌⊘◌};
 ghost use Rattle.rpg_sheet_specs.specs.Tables as tables;
+ghost use Rattle.rpg_sheet_specs.specs.Values as values;
 
 use crate::card::Card;
 use crate::columns::{at, indicators};
-use rpg_sheet_specs::{ColumnFault, InputField, InputSpec, RecordCode, RecordType, Three};
+use rpg_sheet_specs::{ColumnFault, InputField, InputSpec, RecordCode, RecordType, Three, Word};
 use rpg_text::is_blank;
 
 #[tactic(auto, unfolding(rpg_sheet_specs::specs::Tables::input_card, rpg_sheet_specs::specs::Columns::values, rpg_sheet_specs::specs::Columns::also, rpg_sheet_specs::specs::Columns::where_card))]
@@ -121,6 +123,25 @@ fn field_card(card: &Card) -> Result<InputField, ColumnFault>
     let to = card.number(48, 51)?;
     let decimals = card.optional_digit(52, 52)?;
     let name = card.name(53, 58)?;
+    field_with(card, from, to, decimals, name)
+}
+
+/// The field with these columns and this name, and the columns behind them.
+#[tactic(auto, unfolding(rpg_sheet_specs::specs::Columns::values, rpg_sheet_specs::specs::Columns::at_with, rpg_sheet_specs::specs::Columns::also, rpg_sheet_specs::specs::Columns::past, rpg_sheet_specs::specs::Columns::blank))]
+fn field_with(
+    card: &Card,
+    from: u16,
+    to: u16,
+    decimals: Option<u8>,
+    name: Word<6>,
+) -> Result<InputField, ColumnFault>
+    ensures { result ≡ (columns.values (tables.input_field from to decimals name)
+        ⊛ columns.at 59 60 (values.blank_or tables.control_field_level)
+        ⊛ columns.at 61 62 (values.blank_or tables.match_field_level)
+        ⊘ columns.blank 63 64
+        ⊛ tables.indicators 65 66 67 68 69 70
+        ⊘ columns.blank 71 74).reading card.now }
+{
     let level = card.optional_level(b'L', 59, 60)?;
     let match_level = card.optional_level(b'M', 61, 62)?;
     card.blank(63, 64)?;

@@ -1,8 +1,10 @@
 //! Words that stand for one of a few things.
 
-ghost use Rattle.std.specs.Prelude.{◌≡◌, length, Some};
+ghost use Rattle.std.specs.Prelude.{◌≡◌, length, Some, [], ◌∷◌, codes};
 ghost use Rattle.rpg_sheet_specs.specs.Cards as cards;
 ghost use Rattle.rpg_sheet_specs.specs.Tables as tables;
+ghost use Rattle.rpg_sheet_specs.specs.Values as values;
+ghost use Rattle.rpg_sheet_specs.specs.declared.calculation.Operation.TheVariants as op;
 
 use crate::indicators::indicator_within;
 use crate::numbers::digits;
@@ -70,7 +72,16 @@ pub fn operation(text: &[u8]) -> Option<Operation>
         Some(Operation::Divide)
     } else if text == b"MVR  ".as_slice() {
         Some(Operation::MoveRemainder)
-    } else if text == b"Z-ADD".as_slice() {
+    } else {
+        operation_but_arithmetic(text)
+    }
+}
+
+/// An operation that isn't ADD, SUB, MULT, DIV or MVR.
+fn operation_but_arithmetic(text: &[u8]) -> Option<Operation>
+    ensures { result ≡ values.one_of ((codes "Z-ADD", op.ZeroAdd) ∷ (codes "Z-SUB", op.ZeroSubtract) ∷ (codes "XFOOT", op.CrossFoot) ∷ (codes "COMP ", op.Compare) ∷ (codes "LOKUP", op.LookUp) ∷ (codes "MOVE ", op.Move) ∷ (codes "MOVEL", op.MoveLeft) ∷ (codes "SETON", op.SetOn) ∷ (codes "SETOF", op.SetOff) ∷ (codes "GOTO ", op.GoTo) ∷ (codes "EXSR ", op.Call) ∷ (codes "TAG  ", op.Label) ∷ (codes "BEGSR", op.BeginSubroutine) ∷ (codes "ENDSR", op.EndSubroutine) ∷ (codes "EXCPT", op.Except) ∷ []) text.now }
+{
+    if text == b"Z-ADD".as_slice() {
         Some(Operation::ZeroAdd)
     } else if text == b"Z-SUB".as_slice() {
         Some(Operation::ZeroSubtract)
@@ -80,7 +91,16 @@ pub fn operation(text: &[u8]) -> Option<Operation>
         Some(Operation::Compare)
     } else if text == b"LOKUP".as_slice() {
         Some(Operation::LookUp)
-    } else if text == b"MOVE ".as_slice() {
+    } else {
+        operation_but_on_numbers(text)
+    }
+}
+
+/// A move, a setting or a branch, and what comes behind them in the table.
+fn operation_but_on_numbers(text: &[u8]) -> Option<Operation>
+    ensures { result ≡ values.one_of ((codes "MOVE ", op.Move) ∷ (codes "MOVEL", op.MoveLeft) ∷ (codes "SETON", op.SetOn) ∷ (codes "SETOF", op.SetOff) ∷ (codes "GOTO ", op.GoTo) ∷ (codes "EXSR ", op.Call) ∷ (codes "TAG  ", op.Label) ∷ (codes "BEGSR", op.BeginSubroutine) ∷ (codes "ENDSR", op.EndSubroutine) ∷ (codes "EXCPT", op.Except) ∷ []) text.now }
+{
+    if text == b"MOVE ".as_slice() {
         Some(Operation::Move)
     } else if text == b"MOVEL".as_slice() {
         Some(Operation::MoveLeft)
@@ -90,7 +110,16 @@ pub fn operation(text: &[u8]) -> Option<Operation>
         Some(Operation::SetOff)
     } else if text == b"GOTO ".as_slice() {
         Some(Operation::GoTo)
-    } else if text == b"EXSR ".as_slice() {
+    } else {
+        operation_of_control(text)
+    }
+}
+
+/// A label, a subroutine or EXCPT.
+fn operation_of_control(text: &[u8]) -> Option<Operation>
+    ensures { result ≡ values.one_of ((codes "EXSR ", op.Call) ∷ (codes "TAG  ", op.Label) ∷ (codes "BEGSR", op.BeginSubroutine) ∷ (codes "ENDSR", op.EndSubroutine) ∷ (codes "EXCPT", op.Except) ∷ []) text.now }
+{
+    if text == b"EXSR ".as_slice() {
         Some(Operation::Call)
     } else if text == b"TAG  ".as_slice() {
         Some(Operation::Label)

@@ -1,44 +1,71 @@
-//! Lines of calls of numbers, editing and the form as data: tells of each line of the files that its words name whether the call's answer is what
-//! the line says.
+//! Lines of calls as data, of numbers, editing, the form, names and cards: tells of each line of the files that its words name whether the call's
+//! answer is what the line says.
 //!
 //! README.md says how a line is written.
 #![tactic(auto)]
 
+mod cards;
 mod decimal;
 mod edited;
 mod errors;
+mod levels;
 mod moves;
+mod names;
 mod printed;
 
+use rpg_cli_text::TextWriter;
 use rpg_paper::Form;
 use rpg_show_lines::{Line, Report};
+use rpg_symbols::Symbols;
 use std::alloc::{AllocError, Global};
 use std::io::{self, Write};
 use std::{env, fs};
 
 /// What the lines of a file speak of, one behind another.
 #[derive(Drop)]
-struct State {
+struct State<'a> {
     form: Form,
+    symbols: Symbols,
+    card: &'a str,
 }
 
-impl State {
-    fn new() -> State {
-        State { form: Form::new() }
+impl<'a> State<'a> {
+    fn new(alloc: Global) -> Result<State<'a>, AllocError> {
+        Ok(State {
+            form: Form::new(),
+            symbols: names::no_names(alloc)?,
+            card: "",
+        })
     }
 
     /// Whether a line tells its call's answer, where it can be read.
-    fn is_told(&mut self, alloc: Global, line: &str) -> Result<Option<bool>, AllocError> {
+    fn is_told(&mut self, alloc: Global, line: &'a str) -> Result<Option<bool>, AllocError> {
         let mut line = Line::new(line);
         let Some(call) = line.word() else {
             return Ok(None);
         };
-        if call == "say" {
-            return errors::is_told(alloc, line);
+        match call {
+            "say" => errors::is_told(alloc, line),
+            "new_symbols" => {
+                self.symbols = names::no_names(alloc)?;
+                Ok(Some(true))
+            }
+            _ => self.is_answer(alloc, call, line),
         }
+    }
+
+    fn is_answer(
+        &mut self,
+        alloc: Global,
+        call: &str,
+        line: Line<'a>,
+    ) -> Result<Option<bool>, AllocError> {
         let told = decimal::is_told(call, line)
             .or(moves::is_told(call, line))
-            .or(edited::is_told(call, line));
+            .or(edited::is_told(call, line))
+            .or(names::is_told(&mut self.symbols, call, line))
+            .or(levels::is_told(alloc, call, line))
+            .or(cards::is_told(alloc, &mut self.card, call, line));
         match told {
             Some(told) => Ok(Some(told)),
             None => printed::is_told(alloc, &mut self.form, call, line),
@@ -47,24 +74,26 @@ impl State {
 }
 
 /// Tells of the lines of a file. An empty line and one that begins with `#` say nothing.
-fn tell(alloc: Global, out: &mut Vec<u8>, path: &str, text: &str) -> Result<(), AllocError> {
-    let mut state = State::new();
+fn tell(alloc: Global, out: &mut TextWriter, path: &str, text: &str) -> Result<(), AllocError> {
+    let mut state = State::new(alloc)?;
     let mut report = Report::new(path);
     for line in text.lines() {
         if report.has_call(line) {
             let is_told = state.is_told(alloc, line)?;
-            report.note(alloc, out, line, is_told)?;
+            report.note(out, line, is_told);
         }
     }
-    report.end(alloc, out)
+    report.end(out);
+    Ok(())
 }
 
 fn main(rt: HostRuntime) -> io::Result<()> {
     let words: Vec<String> = env::args(&rt)?.collect(rt.alloc())?;
-    let mut out = Vec::new(rt.alloc());
+    let mut out = TextWriter::new(rt.alloc());
     for path in words.iter().skip(1) {
         let text = fs::read_to_string(&rt, path.as_str())?;
         tell(rt.alloc(), &mut out, path.as_str(), text.as_str())?;
     }
-    io::writer(&rt).write_all(&out)
+    let told = out.finish()?;
+    io::writer(&rt).write_all(told.as_str().as_bytes())
 }

@@ -2,8 +2,10 @@
 
 ghost use Rattle.std.specs.Prelude.{Some};
 
-use crate::runs::{Given, line_of};
-use rpg_cli::{Answer, Counted, Report, RunFault, execute};
+use crate::lines::line_of;
+use crate::ways::Given;
+use rpg_engine::execute;
+use rpg_files::Counted;
 use rpg_files::fakes::{Interrupting, ShortReader, ShortWriter};
 use rpg_show_lines::{Devices, Outputs};
 use std::alloc::{AllocError, Global};
@@ -75,22 +77,6 @@ fn disk_writer(alloc: Global, devices: Devices) -> CaseWriter {
     }
 }
 
-/// The line of `rpg2`, and behind it how many bytes a writer that failed had taken.
-fn line_told(alloc: Global, told: Result<Report, RunFault>) -> Result<Vec<u8>, AllocError> {
-    let sent = match &told {
-        Err(RunFault::Print { sent }) => format!(in alloc; ", {sent} bytes of print")?,
-        Err(RunFault::Disk { sent }) => format!(in alloc; ", {sent} bytes of disk")?,
-        _ => String::new(alloc),
-    };
-    let answer = match told {
-        Ok(report) => Answer::from(report),
-        Err(fault) => Answer::from(fault),
-    };
-    let mut line = line_of(alloc, &answer)?;
-    line.extend_from_slice(sent.as_str().as_bytes())?;
-    Ok(line)
-}
-
 /// What a writer has taken.
 fn taken(writer: Counted<CaseWriter>) -> Vec<u8> {
     writer.into_device().device.device.written
@@ -100,11 +86,11 @@ fn taken(writer: Counted<CaseWriter>) -> Vec<u8> {
 pub fn run_over(
     alloc: Global,
     object: &[u8],
-    given: Given<'_>,
+    given: &Given<'_>,
     devices: Devices,
 ) -> Result<Outputs, AllocError> {
-    let mut input = Counted::new(reader(devices, devices.input, given.input));
-    let mut secondary = Counted::new(reader(devices, devices.secondary, given.secondary));
+    let mut input = Counted::new(reader(devices, devices.input, &given.input));
+    let mut secondary = Counted::new(reader(devices, devices.secondary, &given.secondary));
     let mut print = Counted::new(print_writer(alloc, devices));
     let mut disk = Counted::new(disk_writer(alloc, devices));
     let told = execute(
@@ -117,7 +103,7 @@ pub fn run_over(
         &mut disk,
     );
     Ok(Outputs {
-        answer: line_told(alloc, told)?,
+        answer: line_of(alloc, &told)?,
         print: taken(print),
         disk: taken(disk),
     })

@@ -1,31 +1,77 @@
-//! Cases, objects by hand and sessions as data: does what the files say that its words name, and prints a line for each run of a case and
-//! for each object, and what comes of each command of a session.
+//! Cases as data, of which calls of the library are shown: does what the files say that its words name, and prints a line for each run.
 //!
-//! README.md says how they are written.
+//! README.md says which these are, and tests/README.md how cases are written.
 #![tactic(auto)]
 
-mod answers;
-mod command;
 mod cycles;
 mod damage;
 mod devices;
-mod object;
-mod objects;
-mod runs;
-mod session;
-mod stage;
+mod lines;
 mod sweep;
 mod trial;
+mod ways;
 
-use objects::say_all;
-use rpg_show_lines::{Case, Question, write_report};
-use session::play;
+use rpg_faults::{FaultCode, SourceCode, SourceFault};
+use rpg_sheet::SheetCode;
+use rpg_show_lines::{Case, Outputs, Question, Task, write_report};
 use std::alloc::Global;
 use std::io::{self, Write};
 use std::{env, fs};
-use trial::told_of;
+use trial::{object_of, run_in_both_ways, told_of};
 
-/// Does what the case asks, and writes the line that tells what came of it.
+/// Refusals, as an error prints them.
+const REFUSALS: [SourceFault; 3] = [
+    SourceFault::At {
+        card: 5,
+        code: SourceCode::Sheet(SheetCode::S1),
+        columns: None,
+    },
+    SourceFault::At {
+        card: 5,
+        code: SourceCode::Fault(FaultCode::F16),
+        columns: None,
+    },
+    SourceFault::NoMemory,
+];
+
+/// Writes the line that tells what came of a way of running, or that the object doesn't run.
+fn write_way<W: Write>(
+    alloc: Global,
+    out: &mut W,
+    name: &str,
+    told: Option<Outputs>,
+    wanted: &Outputs,
+) -> io::Result<()> {
+    match told {
+        Some(told) => write_report(alloc, out, name, &told, wanted),
+        None => {
+            out.write_all(b"DIFFERS: ")?;
+            out.write_all(name.as_bytes())?;
+            out.write_all(b": it doesn't run\n")
+        }
+    }
+}
+
+/// Whether a job is to end as it does without a fault: another answer is shown by tests/run.py alone.
+fn is_report(line: &str) -> bool {
+    line.starts_with("end of job") || line.starts_with("halt ")
+}
+
+/// Runs the case's object in both ways.
+fn run_ways<W: Write>(
+    alloc: Global,
+    out: &mut W,
+    case: &Case<'_>,
+    wanted: &Outputs,
+) -> io::Result<()> {
+    let object = object_of(alloc, case)?;
+    let ways = run_in_both_ways(alloc, case, &object)?;
+    write_way(alloc, out, case.name, ways.area, wanted)?;
+    let other = format!(in alloc; "{}, by the other store", case.name)?;
+    write_way(alloc, out, other.as_str(), ways.values, wanted)
+}
+
+/// Does what the case asks, and writes the lines that tell what came of it.
 fn run_case<W: Write>(
     alloc: Global,
     out: &mut W,
@@ -37,9 +83,21 @@ fn run_case<W: Write>(
         out.write_all(case.name.as_bytes())?;
         return out.write_all(b": a mark that isn't known\n");
     }
-    let told = told_of(alloc, case, question.task)?;
     let wanted = case.wanted(alloc, question.line)?;
-    write_report(alloc, out, case.name, &told, &wanted)
+    match question.task {
+        Task::Verify => Ok(()),
+        Task::Run if case.devices.is_none() => {
+            if case.is_run && is_report(question.line) {
+                run_ways(alloc, out, case, &wanted)?;
+            }
+            Ok(())
+        }
+        task => {
+            let object = object_of(alloc, case)?;
+            let told = told_of(alloc, case, task, &object)?;
+            write_report(alloc, out, case.name, &told, &wanted)
+        }
+    }
 }
 
 /// Runs the cases of a file.
@@ -59,13 +117,10 @@ fn main(rt: HostRuntime) -> io::Result<()> {
     let mut out = io::writer(&rt);
     for path in words.iter().skip(1) {
         let text = fs::read_to_string(&rt, path.as_str())?;
-        if path.as_str().ends_with(".session") {
-            play(&rt, text.as_str())?;
-        } else if path.as_str().ends_with(".objects") {
-            say_all(&rt, text.as_str())?;
-        } else {
-            run_all(rt.alloc(), &mut out, text.as_str())?;
-        }
+        run_all(rt.alloc(), &mut out, text.as_str())?;
     }
-    answers::say(&rt)
+    for fault in &REFUSALS {
+        println!(rt; "{fault}")?;
+    }
+    Ok(())
 }

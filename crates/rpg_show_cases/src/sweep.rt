@@ -1,24 +1,56 @@
 //! Sweeps: an object cut to each length, and with each of its bytes changed to each other value.
 
-use crate::runs::{Given, Streamed, line_of, run_streamed};
-use rpg_cli::Answer;
+use crate::lines::line_of;
+use crate::ways::Given;
+use rpg_engine::{Report, RunFault, execute};
+use rpg_files::Counted;
 use rpg_show_lines::{Tally, put};
 use std::alloc::{AllocError, Global};
 
+/// What `execute` answered, and what it sent.
+#[derive(Drop)]
+struct Streamed {
+    told: Result<Report, RunFault>,
+    print: Vec<u8>,
+    disk: Vec<u8>,
+}
+
+/// Runs an object over a reader and writers.
+fn run_streamed(alloc: Global, object: &[u8], given: &Given<'_>) -> Streamed {
+    let mut input = Counted::new(given.input.as_slice());
+    let mut secondary = Counted::new(given.secondary.as_slice());
+    let mut print = Counted::new(Vec::new(alloc));
+    let mut disk = Counted::new(Vec::new(alloc));
+    let told = execute(
+        alloc,
+        object,
+        given.date,
+        &mut input,
+        &mut secondary,
+        &mut print,
+        &mut disk,
+    );
+    Streamed {
+        told,
+        print: print.into_device(),
+        disk: disk.into_device(),
+    }
+}
+
 /// Whether a job took more steps in a cycle than its bound.
-fn is_past_bound(answer: &Answer) -> bool {
-    match answer {
-        Answer::Ended(report) => report.most > report.bound,
-        _ => false,
+fn is_past_bound(told: &Result<Report, RunFault>) -> bool {
+    match told {
+        Ok(report) => report.most > report.bound,
+        Err(_) => false,
     }
 }
 
 fn add(alloc: Global, tally: &mut Tally, streamed: &Streamed) -> Result<(), AllocError> {
-    let line = line_of(alloc, &streamed.answer)?;
+    let line = line_of(alloc, &streamed.told)?;
     tally.add_bytes(&line);
     tally.add_bytes(&streamed.print);
     tally.add_bytes(&streamed.disk);
-    if is_past_bound(&streamed.answer) {
+    if is_past_bound(&streamed.told) {
         return tally.count(alloc, "past the bound");
     }
     tally.add_line(alloc, &line)
@@ -29,7 +61,7 @@ fn cut(
     alloc: Global,
     tally: &mut Tally,
     object: &[u8],
-    given: Given<'_>,
+    given: &Given<'_>,
 ) -> Result<(), AllocError> {
     for length in 0..object.len() {
         add(alloc, tally, &run_streamed(alloc, &object[..length], given))?;
@@ -43,7 +75,7 @@ fn change(
     tally: &mut Tally,
     object: &mut [u8],
     place: usize,
-    given: Given<'_>,
+    given: &Given<'_>,
 ) -> Result<(), AllocError> {
     let Some(kept) = object.get(place).copied() else {
         return Ok(());
@@ -59,7 +91,7 @@ fn change(
 }
 
 /// What is told of the sweep of an object.
-pub fn sweep(alloc: Global, object: &[u8], given: Given<'_>) -> Result<Vec<u8>, AllocError> {
+pub fn sweep(alloc: Global, object: &[u8], given: &Given<'_>) -> Result<Vec<u8>, AllocError> {
     let mut tally = Tally::new(alloc);
     cut(alloc, &mut tally, object, given)?;
     let mut damaged = Vec::from_slice(alloc, object)?;

@@ -1,79 +1,86 @@
-//! What a case gives when it is compiled and run in memory.
+//! What a question of a case gives, where calls of the library answer it.
 
 use crate::cycles::cycles_of;
 use crate::damage::damage;
 use crate::devices::run_over;
-use crate::runs::{Given, accepted, line_of, run_listed, run_streamed};
 use crate::sweep::sweep;
-use rpg_cli::{Answer, compile_to_bytes, verify_bytes};
+use crate::ways::{BothRecords, Given, accepted, run_by_area, run_by_values};
+use rpg_compile::compile;
 use rpg_object::{decode, encode};
-use rpg_show_lines::{Case, Kind, Outputs, Spelling, Task, Told, text_of};
+use rpg_show_lines::{Case, Devices, Kind, Outputs, Task, text_of};
 use std::alloc::{AllocError, Global};
 
-/// What is told of one run.
-fn told_once(outputs: Outputs, object: Vec<u8>) -> Told {
-    Told {
-        outputs,
-        listed_records: None,
-        listed_values: None,
-        object,
+/// What both ways of running an object give, or nothing where it doesn't run.
+#[derive(Drop)]
+pub struct BothWays {
+    pub area: Option<Outputs>,
+    pub values: Option<Outputs>,
+}
+
+/// The text of the case's cards.
+fn source_of(alloc: Global, case: &Case<'_>) -> Result<Vec<u8>, AllocError> {
+    let cards = case.cards(alloc)?;
+    text_of(alloc, &cards)
+}
+
+/// The bytes that a source is compiled to: none where it has a fault.
+fn compiled(alloc: Global, source: &[u8], allowance: u16) -> Result<Vec<u8>, AllocError> {
+    match compile(alloc, source, allowance.max(1)) {
+        Ok(program) => encode(alloc, &program),
+        Err(_) => Ok(Vec::new(alloc)),
     }
 }
 
-/// What is told where nothing is printed or stored.
-fn said(answer: Vec<u8>, object: Vec<u8>, alloc: Global) -> Told {
-    let outputs = Outputs {
-        answer,
-        print: Vec::new(alloc),
-        disk: Vec::new(alloc),
+/// The bytes of the object, or those that the source is compiled to.
+pub fn object_of(alloc: Global, case: &Case<'_>) -> Result<Vec<u8>, AllocError> {
+    match case.kind {
+        Kind::Object => case.object(alloc),
+        Kind::Source => {
+            let source = source_of(alloc, case)?;
+            compiled(alloc, &source, case.allowance)
+        }
+    }
+}
+
+/// Runs an object in both ways over its inputs' records.
+pub fn run_in_both_ways(
+    alloc: Global,
+    case: &Case<'_>,
+    object: &[u8],
+) -> Result<BothWays, AllocError> {
+    let Some(program) = accepted(alloc, object) else {
+        return Ok(BothWays {
+            area: None,
+            values: None,
+        });
     };
-    told_once(outputs, object)
-}
-
-/// What is told of an answer where nothing runs.
-fn answered(alloc: Global, answer: Answer, object: Vec<u8>) -> Result<Told, AllocError> {
-    Ok(said(line_of(alloc, &answer)?, object, alloc))
-}
-
-/// What the object gives when it runs, in each way.
-fn run(alloc: Global, given: Given<'_>, object: Vec<u8>) -> Result<Told, AllocError> {
-    let streamed = run_streamed(alloc, &object, given);
-    let answer = line_of(alloc, &streamed.answer)?;
-    let listed = run_listed(alloc, &object, given)?;
-    Ok(Told {
-        outputs: Outputs {
-            answer,
-            print: streamed.print,
-            disk: streamed.disk,
-        },
-        listed_records: listed.records,
-        listed_values: listed.values,
-        object,
+    let given = Given::of(alloc, case)?;
+    let records = BothRecords::of(alloc, &given)?;
+    Ok(BothWays {
+        area: run_by_area(alloc, &program, given.date, &records)?,
+        values: run_by_values(alloc, &program, given.date, &records)?,
     })
 }
 
-/// What the object gives when it runs cycle by cycle; nothing where it is refused.
-fn cycled(alloc: Global, given: Given<'_>, object: Vec<u8>) -> Result<Told, AllocError> {
-    match accepted(alloc, &object) {
-        Some(program) => Ok(told_once(cycles_of(alloc, &program, given)?, object)),
-        None => Ok(said(Vec::new(alloc), object, alloc)),
+/// Whether the program that the bytes spell is spelled as they are; or why they spell none.
+fn spelled(alloc: Global, object: &[u8]) -> Result<Vec<u8>, AllocError> {
+    match decode(alloc, object) {
+        Ok(program) if encode(alloc, &program)?.as_slice() == object => {
+            Vec::from_slice(alloc, b"again")
+        }
+        Ok(_) => Vec::from_slice(alloc, b"other bytes"),
+        Err(fault) => {
+            let words = format!(in alloc; "{fault}")?;
+            Vec::from_slice(alloc, words.as_str().as_bytes())
+        }
     }
 }
 
-/// What the verifier says of the object.
-fn verified(alloc: Global, object: Vec<u8>) -> Result<Told, AllocError> {
-    let answer = match verify_bytes(alloc, &object) {
-        Ok(bound) => Answer::Accepted { bound },
-        Err(fault) => Answer::from(fault),
-    };
-    answered(alloc, answer, object)
-}
-
-/// The bytes that spell the object's program, or none where it is refused.
-fn spelled_again(alloc: Global, object: &[u8]) -> Result<Vec<u8>, AllocError> {
-    match decode(alloc, object) {
-        Ok(program) => encode(alloc, &program),
-        Err(_) => Ok(Vec::new(alloc)),
+/// What a job's cycles put out; nothing where the object is refused.
+fn cycled(alloc: Global, object: &[u8], given: &Given<'_>) -> Result<Outputs, AllocError> {
+    match accepted(alloc, object) {
+        Some(program) => cycles_of(alloc, &program, given),
+        None => Ok(Outputs::said(alloc, Vec::new(alloc))),
     }
 }
 
@@ -82,64 +89,31 @@ fn told_over_input(
     alloc: Global,
     case: &Case<'_>,
     task: Task,
-    object: Vec<u8>,
-) -> Result<Told, AllocError> {
-    let input = text_of(alloc, case.input.as_slice())?;
-    let secondary = text_of(alloc, case.secondary.as_slice())?;
-    let given = Given {
-        date: case.date.as_bytes(),
-        input: &input,
-        secondary: &secondary,
-    };
-    match (task, case.devices) {
-        (Task::Sweep, _) => Ok(said(sweep(alloc, &object, given)?, object, alloc)),
-        (Task::Cycles, _) => cycled(alloc, given, object),
-        (_, None) => run(alloc, given, object),
-        (_, Some(devices)) => {
-            let outputs = run_over(alloc, &object, given, devices)?;
-            Ok(told_once(outputs, object))
-        }
-    }
-}
-
-fn told_of_bytes(
-    alloc: Global,
-    case: &Case<'_>,
-    task: Task,
-    object: Vec<u8>,
-) -> Result<Told, AllocError> {
+    object: &[u8],
+) -> Result<Outputs, AllocError> {
+    let given = Given::of(alloc, case)?;
     match task {
-        Task::Verify => verified(alloc, object),
-        Task::Damage => Ok(said(damage(alloc, &object)?, object, alloc)),
-        Task::Run | Task::Sweep | Task::Cycles => told_over_input(alloc, case, task, object),
-    }
-}
-
-fn told_of_object(alloc: Global, case: &Case<'_>, task: Task) -> Result<Told, AllocError> {
-    let object = case.object(alloc)?;
-    let mut told = told_of_bytes(alloc, case, task, object)?;
-    if let Spelling::Again = case.spelling {
-        told.object = spelled_again(alloc, &told.object)?;
-    }
-    Ok(told)
-}
-
-fn told_of_source(alloc: Global, case: &Case<'_>, task: Task) -> Result<Told, AllocError> {
-    let cards = case.cards(alloc)?;
-    let source = text_of(alloc, &cards)?;
-    match compile_to_bytes(alloc, &source, case.allowance.max(1)) {
-        Err(fault) => answered(alloc, Answer::from(fault), Vec::new(alloc)),
-        Ok(object) if matches!(&task, Task::Run) && !case.is_run => {
-            answered(alloc, Answer::Compiled, object)
-        }
-        Ok(object) => told_of_bytes(alloc, case, task, object),
+        Task::Sweep => Ok(Outputs::said(alloc, sweep(alloc, object, &given)?)),
+        Task::Cycles => cycled(alloc, object, &given),
+        _ => run_over(
+            alloc,
+            object,
+            &given,
+            case.devices.unwrap_or(Devices::new()),
+        ),
     }
 }
 
 /// What the case's task gives.
-pub fn told_of(alloc: Global, case: &Case<'_>, task: Task) -> Result<Told, AllocError> {
-    match case.kind {
-        Kind::Object => told_of_object(alloc, case, task),
-        Kind::Source => told_of_source(alloc, case, task),
+pub fn told_of(
+    alloc: Global,
+    case: &Case<'_>,
+    task: Task,
+    object: &[u8],
+) -> Result<Outputs, AllocError> {
+    match task {
+        Task::Spell => Ok(Outputs::said(alloc, spelled(alloc, object)?)),
+        Task::Damage => Ok(Outputs::said(alloc, damage(alloc, object)?)),
+        _ => told_over_input(alloc, case, task, object),
     }
 }

@@ -3,7 +3,7 @@
 use crate::bytes::put_over;
 use crate::devices::Devices;
 use crate::mark::{Mark, mark_of};
-use crate::outcome::{Outputs, Wanted};
+use crate::outcome::Outputs;
 use crate::spelling::{hex_of, push_hex, text_of};
 use std::alloc::{AllocError, Global};
 
@@ -18,6 +18,8 @@ pub enum Kind {
 pub enum Task {
     Verify,
     Run,
+    /// The object is read and spelled again.
+    Spell,
     /// The object is damaged in each place and run.
     Sweep,
     /// The object is run cycle by cycle, and past its end.
@@ -46,8 +48,6 @@ enum Part {
     Secondary,
     Print,
     Disk,
-    /// Hex of the object that the source is compiled to.
-    Compiled,
 }
 
 /// A line that stands for another card, or for the bytes from `at` on.
@@ -57,16 +57,6 @@ struct Change<'a> {
     line: &'a str,
 }
 
-/// What is asked of an object's bytes.
-#[derive(Clone, Copy)]
-pub enum Spelling {
-    Unasked,
-    /// They are those that the case has.
-    Given,
-    /// They are spelled as they were read.
-    Again,
-}
-
 /// A case, as far as it was read. The source or object stays for the cases behind it; its changes are the case's own.
 #[derive(Drop)]
 pub struct Case<'a> {
@@ -74,6 +64,8 @@ pub struct Case<'a> {
     pub kind: Kind,
     text: Vec<&'a str>,
     changes: Vec<Change<'a>>,
+    /// Where the object's bytes are cut off, if they are.
+    length: Option<usize>,
     pub allowance: u16,
     pub date: &'a str,
     /// Whether the case has an input: a source that has none is only compiled.
@@ -85,8 +77,6 @@ pub struct Case<'a> {
     disk: Vec<&'a str>,
     /// What the devices of a run do, where it isn't all that they are asked.
     pub devices: Option<Devices>,
-    pub spelling: Spelling,
-    compiled: Vec<&'a str>,
     /// Whether a mark of the case isn't known.
     pub is_bad: bool,
     part: Part,
@@ -101,6 +91,7 @@ impl<'a> Case<'a> {
             kind: Kind::Source,
             text: Vec::new(alloc),
             changes: Vec::new(alloc),
+            length: None,
             allowance: 1_000,
             date: "010576",
             is_run: false,
@@ -109,8 +100,6 @@ impl<'a> Case<'a> {
             print: Vec::new(alloc),
             disk: Vec::new(alloc),
             devices: None,
-            spelling: Spelling::Unasked,
-            compiled: Vec::new(alloc),
             is_bad: false,
             part: Part::Prose,
             times: 1,
@@ -128,6 +117,7 @@ impl<'a> Case<'a> {
             }
             Some(Mark::Verify(answer)) => (Task::Verify, answer),
             Some(Mark::Answer(answer)) => (Task::Run, answer),
+            Some(Mark::Spelled(answer)) => (Task::Spell, answer),
             Some(Mark::Sweep(answer)) => (Task::Sweep, answer),
             Some(Mark::Cycles(answer)) => (Task::Cycles, answer),
             Some(Mark::Damage(answer)) => (Task::Damage, answer),
@@ -146,9 +136,7 @@ impl<'a> Case<'a> {
         self.secondary.clear();
         self.print.clear();
         self.disk.clear();
-        self.compiled.clear();
         self.devices = None;
-        self.spelling = Spelling::Unasked;
         self.begin_part(Part::Prose);
     }
 
@@ -169,7 +157,6 @@ impl<'a> Case<'a> {
             Part::Secondary => self.secondary.push(line)?,
             Part::Print => self.print.push(line)?,
             Part::Disk => self.disk.push(line)?,
-            Part::Compiled => self.compiled.push(line)?,
         }
         Ok(())
     }
@@ -191,16 +178,12 @@ impl<'a> Case<'a> {
             Mark::Device(said) => self.take_device(said),
             Mark::Print => self.begin_part(Part::Print),
             Mark::Disk => self.begin_part(Part::Disk),
-            Mark::Compiled => {
-                self.spelling = Spelling::Given;
-                self.begin_part(Part::Compiled);
-            }
-            Mark::Again => {
-                self.spelling = Spelling::Again;
-                self.begin_part(Part::Prose);
-            }
+            // What a source is compiled to is shown by tests/run.py.
+            Mark::Compiled => self.begin_part(Part::Prose),
+            Mark::Length(length) => self.length = Some(length),
             Mark::Verify(_)
             | Mark::Answer(_)
+            | Mark::Spelled(_)
             | Mark::Sweep(_)
             | Mark::Cycles(_)
             | Mark::Damage(_)
@@ -212,6 +195,7 @@ impl<'a> Case<'a> {
         self.end_run();
         self.name = name;
         self.changes.clear();
+        self.length = None;
         self.allowance = 1_000;
         self.date = "010576";
         self.is_bad = false;
@@ -249,26 +233,18 @@ impl<'a> Case<'a> {
             push_hex(&mut bytes, change.line)?;
             put_over(&mut object, change.at, &bytes)?;
         }
+        if let Some(length) = self.length {
+            object.truncate(length);
+        }
         Ok(object)
     }
 
-    fn wanted_object(&self, alloc: Global) -> Result<Option<Vec<u8>>, AllocError> {
-        match self.spelling {
-            Spelling::Unasked => Ok(None),
-            Spelling::Given => Ok(Some(hex_of(alloc, self.compiled.as_slice())?)),
-            Spelling::Again => Ok(Some(self.object(alloc)?)),
-        }
-    }
-
     /// What the case wants, with this line.
-    pub fn wanted(&self, alloc: Global, answer: &str) -> Result<Wanted, AllocError> {
-        Ok(Wanted {
-            outputs: Outputs {
-                answer: Vec::from_slice(alloc, answer.as_bytes())?,
-                print: text_of(alloc, self.print.as_slice())?,
-                disk: text_of(alloc, self.disk.as_slice())?,
-            },
-            object: self.wanted_object(alloc)?,
+    pub fn wanted(&self, alloc: Global, answer: &str) -> Result<Outputs, AllocError> {
+        Ok(Outputs {
+            answer: Vec::from_slice(alloc, answer.as_bytes())?,
+            print: text_of(alloc, self.print.as_slice())?,
+            disk: text_of(alloc, self.disk.as_slice())?,
         })
     }
 }

@@ -21,7 +21,7 @@ pub struct Devices {
 
 impl Devices {
     /// Devices that do all that they are asked.
-    pub(crate) fn new() -> Devices {
+    pub fn new() -> Devices {
         Devices {
             pieces: usize::MAX,
             input: usize::MAX,

@@ -19,12 +19,12 @@ mod spelling;
 mod tally;
 
 pub use bytes::put;
-pub use case::{Case, Kind, Question, Spelling, Task};
+pub use case::{Case, Kind, Question, Task};
 pub use devices::Devices;
 pub use escapes::unescaped;
 pub use line::{Line, Size};
 pub use number::Number;
-pub use outcome::{Outputs, Told, Wanted, write_report};
+pub use outcome::{Outputs, write_report};
 pub use records::records_of;
 pub use report::Report;
 pub use saying::says;

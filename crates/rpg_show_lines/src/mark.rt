@@ -26,12 +26,14 @@ pub enum Mark<'a> {
     Disk,
     /// `--- compiled`: the object's bytes in hex follow.
     Compiled,
-    /// `--- again`: the object is to be spelled as it was read.
-    Again,
+    /// `--- length N`: the object is cut to N bytes.
+    Length(usize),
     /// `--- verify LINE` ends a run that verifies the object.
     Verify(&'a str),
     /// `--- answer LINE` ends a run that runs it.
     Answer(&'a str),
+    /// `--- spelled LINE` ends a run that reads it and spells it again.
+    Spelled(&'a str),
     /// `--- sweep LINE` ends a run that runs it damaged in each place.
     Sweep(&'a str),
     /// `--- cycles LINE` ends a run that goes past the job's end.
@@ -51,10 +53,10 @@ fn mark_with_text<'a>(word: &str, value: &'a str) -> Mark<'a> {
         "print" => Mark::Print,
         "disk" => Mark::Disk,
         "compiled" => Mark::Compiled,
-        "again" => Mark::Again,
         "date" => Mark::Date(value),
         "verify" => Mark::Verify(value),
         "answer" => Mark::Answer(value),
+        "spelled" => Mark::Spelled(value),
         "sweep" => Mark::Sweep(value),
         "cycles" => Mark::Cycles(value),
         "damage" => Mark::Damage(value),
@@ -67,6 +69,7 @@ fn mark_with_number<'a>(word: &str, number: usize, value: &'a str) -> Mark<'a> {
     match word {
         "card" | "byte" => Mark::Change(number),
         "times" => Mark::Times(number),
+        "length" => Mark::Length(number),
         "allowance" => Mark::Allowance(number),
         _ => mark_with_text(word, value),
     }

@@ -1,6 +1,6 @@
 //! What is told of the lines of a file.
 
-use std::alloc::{AllocError, Global};
+use rpg_cli_text::TextWriter;
 
 /// What is told of the lines of a file: those that aren't as told one by one, and the number of the others.
 #[derive(Drop)]
@@ -27,30 +27,22 @@ impl<'a> Report<'a> {
     }
 
     /// Appends what is told of the line counted last, where it isn't as told or can't be read.
-    pub fn note(
-        &mut self,
-        alloc: Global,
-        out: &mut Vec<u8>,
-        line: &str,
-        is_told: Option<bool>,
-    ) -> Result<(), AllocError> {
+    pub fn note(&mut self, out: &mut TextWriter, line: &str, is_told: Option<bool>) {
         let word = match is_told {
             Some(true) => {
                 self.told = self.told.saturating_add(1);
-                return Ok(());
+                return;
             }
             Some(false) => "OTHERWISE",
             None => "BAD",
         };
         let (path, number) = (self.path, self.number);
-        let words = format!(in alloc; "{path}, line {number}: {word}: {line}\n")?;
-        out.extend_from_slice(words.as_str().as_bytes())
+        write!(out, "{path}, line {number}: {word}: {line}\n");
     }
 
     /// Appends how many lines are as told.
-    pub fn end(&self, alloc: Global, out: &mut Vec<u8>) -> Result<(), AllocError> {
+    pub fn end(&self, out: &mut TextWriter) {
         let (path, told) = (self.path, self.told);
-        let words = format!(in alloc; "{path}: {told} as told\n")?;
-        out.extend_from_slice(words.as_str().as_bytes())
+        write!(out, "{path}: {told} as told\n");
     }
 }

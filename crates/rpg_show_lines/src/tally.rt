@@ -1,5 +1,6 @@
 //! What came of the objects of a sweep.
 
+use rpg_cli_text::TextWriter;
 use std::alloc::{AllocError, Global};
 use std::collections::BTreeMap;
 
@@ -63,13 +64,14 @@ impl Tally {
 
     /// The counts in the order of their kinds, and the check sum.
     pub fn line(&self, alloc: Global) -> Result<Vec<u8>, AllocError> {
-        let mut line = Vec::new(alloc);
+        let mut out = TextWriter::new(alloc);
         for (kind, count) in self.counts.iter() {
-            let words = format!(in alloc; "{} {count}, ", kind.as_str())?;
-            line.extend_from_slice(words.as_str().as_bytes())?;
+            let kind = kind.as_str();
+            write!(out, "{kind} {count}, ");
         }
-        let words = format!(in alloc; "sum {}", self.sum)?;
-        line.extend_from_slice(words.as_str().as_bytes())?;
-        Ok(line)
+        let sum = self.sum;
+        write!(out, "sum {sum}");
+        let line = out.finish()?;
+        Vec::from_slice(alloc, line.as_str().as_bytes())
     }
 }

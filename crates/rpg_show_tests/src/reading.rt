@@ -7,11 +7,11 @@ ghost use Rattle.rpg_files.specs.Reading.{reader_of};
 use crate::telling::{next_of, tell, word_of};
 use rpg_files::fakes::{Interrupting, LineFeeds, ShortReader};
 use rpg_files::{Counted, Next, ReadFault, RecordReader, RecordRoom};
+use std::alloc::{AllocError, Global};
 use std::io::Read;
-use std::test::Fail;
 
-#[test]
-fn records_do_not_depend_on_the_cuts(rt: HostRuntime) -> Result<(), Fail> {
+/// Records don't depend on the cuts between reads.
+pub fn does_not_depend_on_cuts(alloc: Global) -> Result<bool, AllocError> {
     let rows: [(&[u8], &[u8]); 14] = [
         (b"007\r\n35", b"007|35|end end"),
         (b"007\n35\n", b"007|35|end end"),
@@ -35,22 +35,22 @@ fn records_do_not_depend_on_the_cuts(rt: HostRuntime) -> Result<(), Fail> {
                 most,
                 until_fault: usize::MAX,
             };
-            let told = tell(rt.alloc(), device, 3)?;
-            assert_eq!(rt; told.as_slice(), wanted);
+            let told = tell(alloc, device, 3)?;
+            if told.as_slice() != wanted {
+                return Ok(false);
+            }
         }
     }
-    Ok(())
+    Ok(true)
 }
 
-#[test]
-fn a_carriage_return_and_line_feed_stand_at_every_place_of_a_cut(
-    rt: HostRuntime,
-) -> Result<(), Fail> {
+/// Carriage return and line feed stand at every place of a cut.
+pub fn ends_lines_at_every_cut(alloc: Global) -> Result<bool, AllocError> {
     for len in 0..15 {
         let digits: &[u8] = &b"12345678901234"[..len];
-        let mut input = digits.to_vec(rt.alloc())?;
+        let mut input = digits.to_vec(alloc)?;
         input.extend_from_slice(b"\r\n35\r\n")?;
-        let mut wanted = digits.to_vec(rt.alloc())?;
+        let mut wanted = digits.to_vec(alloc)?;
         wanted.extend_from_slice(b"|35|end end")?;
         for most in [1, 2, 3, 7] {
             let device = ShortReader {
@@ -58,15 +58,17 @@ fn a_carriage_return_and_line_feed_stand_at_every_place_of_a_cut(
                 most,
                 until_fault: usize::MAX,
             };
-            let told = tell(rt.alloc(), device, 14)?;
-            assert_eq!(rt; told, wanted);
+            let told = tell(alloc, device, 14)?;
+            if told.as_slice() != wanted.as_slice() {
+                return Ok(false);
+            }
         }
     }
-    Ok(())
+    Ok(true)
 }
 
-#[test]
-fn a_device_fails_after_each_number_of_bytes(rt: HostRuntime) -> Result<(), Fail> {
+/// A device fails after each number of bytes.
+pub fn may_fail_after_each_byte(alloc: Global) -> Result<bool, AllocError> {
     let rows: [&[u8]; 9] = [
         b"device device",
         b"device device",
@@ -84,14 +86,16 @@ fn a_device_fails_after_each_number_of_bytes(rt: HostRuntime) -> Result<(), Fail
             most: 1,
             until_fault,
         };
-        let told = tell(rt.alloc(), device, 3)?;
-        assert_eq!(rt; told.as_slice(), wanted);
+        let told = tell(alloc, device, 3)?;
+        if told.as_slice() != wanted {
+            return Ok(false);
+        }
     }
-    Ok(())
+    Ok(true)
 }
 
-#[test]
-fn a_device_may_interrupt_999_times_before_each_byte(rt: HostRuntime) -> Result<(), Fail> {
+/// A device may interrupt 999 times before each byte.
+pub fn may_interrupt(alloc: Global) -> Result<bool, AllocError> {
     let rows: [(u32, &[u8]); 3] = [
         (1, b"07|35|end end"),
         (999, b"07|35|end end"),
@@ -107,10 +111,12 @@ fn a_device_may_interrupt_999_times_before_each_byte(rt: HostRuntime) -> Result<
             times,
             interrupted: 0,
         };
-        let told = tell(rt.alloc(), device, 3)?;
-        assert_eq!(rt; told.as_slice(), wanted);
+        let told = tell(alloc, device, 3)?;
+        if told.as_slice() != wanted {
+            return Ok(false);
+        }
     }
-    Ok(())
+    Ok(true)
 }
 
 /// How many records there are, and the answer behind them.
@@ -128,8 +134,8 @@ fn count<R: Read>(reader: &mut RecordReader<'_, R>) -> (u64, Result<Next, ReadFa
     (20_000_000, Ok(Next::Record))
 }
 
-#[test]
-fn an_input_has_ten_million_records_at_most(rt: HostRuntime) -> Result<(), Fail> {
+/// An input has ten million records at most.
+pub fn has_ten_million_records(alloc: Global) -> Result<bool, AllocError> {
     let rows: [(usize, &[u8]); 3] = [
         (9_999_999, b"end"),
         (10_000_000, b"end"),
@@ -137,12 +143,14 @@ fn an_input_has_ten_million_records_at_most(rt: HostRuntime) -> Result<(), Fail>
     ];
     for (left, wanted) in rows {
         let mut device = Counted::new(LineFeeds { left });
-        let room = RecordRoom::new(rt.alloc(), 80)?;
+        let room = RecordRoom::new(alloc, 80)?;
         let mut reader = RecordReader::new(&mut device, room);
         let (records, answer) = count(&mut reader);
-        assert_eq!(rt; records, left.min(10_000_000) as u64);
-        assert_eq!(rt; word_of(answer), wanted);
-        assert_eq!(rt; word_of(next_of(&mut reader, 20_000_000)), wanted);
+        let is_counted = records == left.min(10_000_000) as u64;
+        let is_told = word_of(answer) == wanted;
+        if !is_counted || !is_told || word_of(next_of(&mut reader, 20_000_000)) != wanted {
+            return Ok(false);
+        }
     }
-    Ok(())
+    Ok(true)
 }

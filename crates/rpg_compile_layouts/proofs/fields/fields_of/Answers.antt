@@ -1,5 +1,4 @@
 use Rattle.std.proofs.Common.{◌∙◌, ◌++◌, ap, map}
-use Rattle.rpg_compile_layouts.proofs.LoadedLemmas.{same_values}
 use Rattle.rpg_compile_program.specs.Data.{constant_values, field_values, loaded}
 use Rattle.rpg_compile_program.specs.Table.{defined_fields}
 use Rattle.rpg_compile_layouts.proofs.fields.fields_of.Goals as goal
@@ -8,5 +7,5 @@ pub returns-clause-values : goal.returns-clause-values
 returns-clause-values c =
     let cards = c.args.cards.now in
     c.in_ok-add_constants.ensures.values
-    ∙ ap (λ vs. vs ++ map constant_values c.as_slice.result.now) (c.in_ok-symbols.ensures.values ∙ same_values c.in_ok-loaded.loaded (loaded cards) (defined_fields cards) c.in_ok-loaded.ensures)
+    ∙ ap (λ vs. vs ++ map constant_values c.as_slice.result.now) c.in_ok-symbols.ensures.values
     ∙ ap (λ cs. map (field_values (loaded cards)) (defined_fields cards) ++ map constant_values cs) (c.as_slice.ensures.keys ∙ c.in_ok-constants.ensures)

@@ -249,7 +249,13 @@ returns-clause-goes g c =
     let l8 = step l7 shown in
     let filled = subst (λ (o : Object). DoesWith (spec.fill_fields o) (selected_in o k t) c.show_match.new.machine GoesOn c.fill_fields.new.machine) q8 c.in_ok-fill_fields.ensures.goes in
     let l9 = step l8 (filled (inputs_of k)) in
-    last l9 (own spec.detail_calculations q9 (c.in_ok-calculate_details.ensures.goes.each s))
+    record {
+      goes = last l9 (own spec.detail_calculations q9 (c.in_ok-calculate_details.ensures.goes.each s));
+      ready = c.in_ok-calculate_details.ensures.ready;
+      there = λ n e. subst (λ (o : Object). n < length o.types) c.program-program.ensures (c.in_ok-selected.ensures.held n e).there;
+      left = renewed;
+      kept = subst (λ (o : Object). AreFilesKept o c.select_record.new.kept) c.program-program.ensures c.in_ok-selected.ensures.kept;
+    }
 
 -- ---- what is spent
 
@@ -537,137 +543,26 @@ calculate_details-requires-clause-few g c =
 pub returns-in_err-put_out_details-clause-goes : goal.returns-in_err-put_out_details-clause-goes
 returns-in_err-put_out_details-clause-goes g c = ok_of_err c.from_residual.result _ _ c.from_residual.ensures.1
 
-pub returns-in_err-put_out_details-clause-ready : goal.returns-in_err-put_out_details-clause-ready
-returns-in_err-put_out_details-clause-ready g c = ok_of_err c.from_residual.result _ _ c.from_residual.ensures.1
-
-pub returns-in_err-put_out_details-clause-there : goal.returns-in_err-put_out_details-clause-there
-returns-in_err-put_out_details-clause-there g c = ok_of_err c.from_residual.result _ _ c.from_residual.ensures.1
-
-pub returns-in_err-put_out_details-clause-left : goal.returns-in_err-put_out_details-clause-left
-returns-in_err-put_out_details-clause-left g c = ok_of_err c.from_residual.result _ _ c.from_residual.ensures.1
-
-pub returns-in_err-put_out_details-clause-kept : goal.returns-in_err-put_out_details-clause-kept
-returns-in_err-put_out_details-clause-kept g c = ok_of_err c.from_residual.result _ _ c.from_residual.ensures.1
-
 pub returns-in_err-halt_where_asked-clause-goes : goal.returns-in_err-halt_where_asked-clause-goes
 returns-in_err-halt_where_asked-clause-goes g c = ok_of_err c.from_residual-in_err-halt_where_asked.result _ _ c.from_residual-in_err-halt_where_asked.ensures.1
-
-pub returns-in_err-halt_where_asked-clause-ready : goal.returns-in_err-halt_where_asked-clause-ready
-returns-in_err-halt_where_asked-clause-ready g c = ok_of_err c.from_residual-in_err-halt_where_asked.result _ _ c.from_residual-in_err-halt_where_asked.ensures.1
-
-pub returns-in_err-halt_where_asked-clause-there : goal.returns-in_err-halt_where_asked-clause-there
-returns-in_err-halt_where_asked-clause-there g c = ok_of_err c.from_residual-in_err-halt_where_asked.result _ _ c.from_residual-in_err-halt_where_asked.ensures.1
-
-pub returns-in_err-halt_where_asked-clause-left : goal.returns-in_err-halt_where_asked-clause-left
-returns-in_err-halt_where_asked-clause-left g c = ok_of_err c.from_residual-in_err-halt_where_asked.result _ _ c.from_residual-in_err-halt_where_asked.ensures.1
-
-pub returns-in_err-halt_where_asked-clause-kept : goal.returns-in_err-halt_where_asked-clause-kept
-returns-in_err-halt_where_asked-clause-kept g c = ok_of_err c.from_residual-in_err-halt_where_asked.result _ _ c.from_residual-in_err-halt_where_asked.ensures.1
 
 pub returns-in_err-selected-clause-goes : goal.returns-in_err-selected-clause-goes
 returns-in_err-selected-clause-goes g c = ok_of_err c.from_residual-in_err-selected.result _ _ c.from_residual-in_err-selected.ensures.1
 
-pub returns-in_err-selected-clause-ready : goal.returns-in_err-selected-clause-ready
-returns-in_err-selected-clause-ready g c = ok_of_err c.from_residual-in_err-selected.result _ _ c.from_residual-in_err-selected.ensures.1
-
-pub returns-in_err-selected-clause-there : goal.returns-in_err-selected-clause-there
-returns-in_err-selected-clause-there g c = ok_of_err c.from_residual-in_err-selected.result _ _ c.from_residual-in_err-selected.ensures.1
-
-pub returns-in_err-selected-clause-left : goal.returns-in_err-selected-clause-left
-returns-in_err-selected-clause-left g c = ok_of_err c.from_residual-in_err-selected.result _ _ c.from_residual-in_err-selected.ensures.1
-
-pub returns-in_err-selected-clause-kept : goal.returns-in_err-selected-clause-kept
-returns-in_err-selected-clause-kept g c = ok_of_err c.from_residual-in_err-selected.result _ _ c.from_residual-in_err-selected.ensures.1
-
 pub returns-in_err-take_total_time-clause-goes : goal.returns-in_err-take_total_time-clause-goes
 returns-in_err-take_total_time-clause-goes g c = ok_of_err c.from_residual-in_err-take_total_time.result _ _ c.from_residual-in_err-take_total_time.ensures.1
-
-pub returns-in_err-take_total_time-clause-ready : goal.returns-in_err-take_total_time-clause-ready
-returns-in_err-take_total_time-clause-ready g c = ok_of_err c.from_residual-in_err-take_total_time.result _ _ c.from_residual-in_err-take_total_time.ensures.1
-
-pub returns-in_err-take_total_time-clause-there : goal.returns-in_err-take_total_time-clause-there
-returns-in_err-take_total_time-clause-there g c = ok_of_err c.from_residual-in_err-take_total_time.result _ _ c.from_residual-in_err-take_total_time.ensures.1
-
-pub returns-in_err-take_total_time-clause-left : goal.returns-in_err-take_total_time-clause-left
-returns-in_err-take_total_time-clause-left g c = ok_of_err c.from_residual-in_err-take_total_time.result _ _ c.from_residual-in_err-take_total_time.ensures.1
-
-pub returns-in_err-take_total_time-clause-kept : goal.returns-in_err-take_total_time-clause-kept
-returns-in_err-take_total_time-clause-kept g c = ok_of_err c.from_residual-in_err-take_total_time.result _ _ c.from_residual-in_err-take_total_time.ensures.1
 
 pub returns-in_err-end_where_last-clause-goes : goal.returns-in_err-end_where_last-clause-goes
 returns-in_err-end_where_last-clause-goes g c = ok_of_err c.from_residual-in_err-end_where_last.result _ _ c.from_residual-in_err-end_where_last.ensures.1
 
-pub returns-in_err-end_where_last-clause-ready : goal.returns-in_err-end_where_last-clause-ready
-returns-in_err-end_where_last-clause-ready g c = ok_of_err c.from_residual-in_err-end_where_last.result _ _ c.from_residual-in_err-end_where_last.ensures.1
-
-pub returns-in_err-end_where_last-clause-there : goal.returns-in_err-end_where_last-clause-there
-returns-in_err-end_where_last-clause-there g c = ok_of_err c.from_residual-in_err-end_where_last.result _ _ c.from_residual-in_err-end_where_last.ensures.1
-
-pub returns-in_err-end_where_last-clause-left : goal.returns-in_err-end_where_last-clause-left
-returns-in_err-end_where_last-clause-left g c = ok_of_err c.from_residual-in_err-end_where_last.result _ _ c.from_residual-in_err-end_where_last.ensures.1
-
-pub returns-in_err-end_where_last-clause-kept : goal.returns-in_err-end_where_last-clause-kept
-returns-in_err-end_where_last-clause-kept g c = ok_of_err c.from_residual-in_err-end_where_last.result _ _ c.from_residual-in_err-end_where_last.ensures.1
-
 pub returns-in_err-put_out_overflow-clause-goes : goal.returns-in_err-put_out_overflow-clause-goes
 returns-in_err-put_out_overflow-clause-goes g c = ok_of_err c.from_residual-in_err-put_out_overflow.result _ _ c.from_residual-in_err-put_out_overflow.ensures.1
-
-pub returns-in_err-put_out_overflow-clause-ready : goal.returns-in_err-put_out_overflow-clause-ready
-returns-in_err-put_out_overflow-clause-ready g c = ok_of_err c.from_residual-in_err-put_out_overflow.result _ _ c.from_residual-in_err-put_out_overflow.ensures.1
-
-pub returns-in_err-put_out_overflow-clause-there : goal.returns-in_err-put_out_overflow-clause-there
-returns-in_err-put_out_overflow-clause-there g c = ok_of_err c.from_residual-in_err-put_out_overflow.result _ _ c.from_residual-in_err-put_out_overflow.ensures.1
-
-pub returns-in_err-put_out_overflow-clause-left : goal.returns-in_err-put_out_overflow-clause-left
-returns-in_err-put_out_overflow-clause-left g c = ok_of_err c.from_residual-in_err-put_out_overflow.result _ _ c.from_residual-in_err-put_out_overflow.ensures.1
-
-pub returns-in_err-put_out_overflow-clause-kept : goal.returns-in_err-put_out_overflow-clause-kept
-returns-in_err-put_out_overflow-clause-kept g c = ok_of_err c.from_residual-in_err-put_out_overflow.result _ _ c.from_residual-in_err-put_out_overflow.ensures.1
 
 pub returns-in_err-fill_fields-clause-goes : goal.returns-in_err-fill_fields-clause-goes
 returns-in_err-fill_fields-clause-goes g c = ok_of_err c.from_residual-in_err-fill_fields.result _ _ c.from_residual-in_err-fill_fields.ensures.1
 
-pub returns-in_err-fill_fields-clause-ready : goal.returns-in_err-fill_fields-clause-ready
-returns-in_err-fill_fields-clause-ready g c = ok_of_err c.from_residual-in_err-fill_fields.result _ _ c.from_residual-in_err-fill_fields.ensures.1
-
-pub returns-in_err-fill_fields-clause-there : goal.returns-in_err-fill_fields-clause-there
-returns-in_err-fill_fields-clause-there g c = ok_of_err c.from_residual-in_err-fill_fields.result _ _ c.from_residual-in_err-fill_fields.ensures.1
-
-pub returns-in_err-fill_fields-clause-left : goal.returns-in_err-fill_fields-clause-left
-returns-in_err-fill_fields-clause-left g c = ok_of_err c.from_residual-in_err-fill_fields.result _ _ c.from_residual-in_err-fill_fields.ensures.1
-
-pub returns-in_err-fill_fields-clause-kept : goal.returns-in_err-fill_fields-clause-kept
-returns-in_err-fill_fields-clause-kept g c = ok_of_err c.from_residual-in_err-fill_fields.result _ _ c.from_residual-in_err-fill_fields.ensures.1
-
 pub returns-in_err-calculate_details-clause-goes : goal.returns-in_err-calculate_details-clause-goes
 returns-in_err-calculate_details-clause-goes g c = ok_of_err c.from_residual-in_err-calculate_details.result _ _ c.from_residual-in_err-calculate_details.ensures.1
-
-pub returns-in_err-calculate_details-clause-ready : goal.returns-in_err-calculate_details-clause-ready
-returns-in_err-calculate_details-clause-ready g c = ok_of_err c.from_residual-in_err-calculate_details.result _ _ c.from_residual-in_err-calculate_details.ensures.1
-
-pub returns-in_err-calculate_details-clause-there : goal.returns-in_err-calculate_details-clause-there
-returns-in_err-calculate_details-clause-there g c = ok_of_err c.from_residual-in_err-calculate_details.result _ _ c.from_residual-in_err-calculate_details.ensures.1
-
-pub returns-in_err-calculate_details-clause-left : goal.returns-in_err-calculate_details-clause-left
-returns-in_err-calculate_details-clause-left g c = ok_of_err c.from_residual-in_err-calculate_details.result _ _ c.from_residual-in_err-calculate_details.ensures.1
-
-pub returns-in_err-calculate_details-clause-kept : goal.returns-in_err-calculate_details-clause-kept
-returns-in_err-calculate_details-clause-kept g c = ok_of_err c.from_residual-in_err-calculate_details.result _ _ c.from_residual-in_err-calculate_details.ensures.1
-
-pub returns-clause-ready : goal.returns-clause-ready
-returns-clause-ready g c = c.in_ok-calculate_details.ensures.ready
-
-pub returns-clause-there : goal.returns-clause-there
-returns-clause-there g c =
-    λ n e. subst (λ (o : Object). n < length o.types) c.program-program.ensures (c.in_ok-selected.ensures.held n e).there
-
-pub returns-clause-left : goal.returns-clause-left
-returns-clause-left g c =
-    subst (λ (o : Object). RenewsLeft o c.in_ok-selected.selected c.args.kept.now c.select_record.new.kept) c.program-program.ensures c.in_ok-selected.ensures.left
-
-pub returns-clause-kept : goal.returns-clause-kept
-returns-clause-kept g c =
-    subst (λ (o : Object). AreFilesKept o c.select_record.new.kept) c.program-program.ensures c.in_ok-selected.ensures.kept
 
 pub put_out_details-requires-clause-ready : goal.put_out_details-requires-clause-ready
 put_out_details-requires-clause-ready g c = c.refill.ensures.ready c.requires.ready

@@ -8,8 +8,8 @@ use Rattle.rpg_engine.proofs.engine.execute.Goals as goal
 pub returns-in_err-program-clause-early : goal.returns-in_err-program-clause-early
 returns-in_err-program-clause-early g c =
     let e = err_from_is_err_and c.from_residual.result c.from_residual.ensures.1 in
-    rw (e.1, e.2) (λ p day job. with_run p day (λ rs. c.runs_end_well.ensures.exists p c.args.date.now day rs job.spells.program job.accepted job.dated) _ _ _ _ _ _ _ _ _
-    (object_refused _ _ _ _ _ c.args.object.now p day c.in_err-program.ensures.refused))
+    rw (e.1, e.2) (λ p day job. with_run p day (λ rs. c.runs_end_well.ensures.exists p c.args.date.now day rs job.spells.program job.accepted job.dated) _ _ _ _ _ _ _ _ _ _
+    (object_refused _ _ _ _ _ _ c.args.object.now p day c.in_err-program.ensures.refused))
 
 pub returns-in_err-program-clause-refused : goal.returns-in_err-program-clause-refused
 returns-in_err-program-clause-refused g c =
@@ -40,4 +40,4 @@ returns-clause-headline g c =
 
 pub returns-clause-early : goal.returns-clause-early
 returns-clause-early g c =
-    on_err c.execute_program.result _ _ (λ e holds p day job. parts_of c.args.object.now c.args.date.now c.in_ok-program.program p day _ _ _ _ _ _ _ _ e holds c.in_ok-program.ensures.only job) c.execute_program.ensures.early
+    on_err c.execute_program.result _ _ (λ e holds p day job. parts_of c.args.object.now c.args.date.now c.in_ok-program.program p day _ _ _ _ _ _ _ _ e _ holds c.in_ok-program.ensures.only job) c.execute_program.ensures.early

@@ -1,4 +1,5 @@
-use Rattle.std.proofs.Common.{◌≤◌, sym, ap, ◌∙◌, subst}
+use Rattle.std.proofs.Common.{◌<◌, ◌≤◌, length, sym, ap, ◌∙◌, subst}
+use Rattle.std.specs.Option.{ForSome}
 use Rattle.rpg_cycle.proofs.JobCycles.{job, goes_on, ends, one_more}
 use Rattle.rpg_cycle.proofs.Spending.{some_before}
 use Rattle.rpg_cycle.specs.Doing.{CycleEnds, CycleGoesOn, next_text}
@@ -26,8 +27,8 @@ returns-in-Ok-clause-done g c =
     let same = c.self.invariant.program going in
     let t = c.in-Ok.selected in
     let kept = c.run_cycle.new.kept in
-    let went = subst (λ (o : Object). CycleGoesOn o i.kept c.args.primary c.args.secondary i.machine t kept c.run_cycle.new.machine) same c.in-Ok.ensures.goes in
-    let renewed = subst (λ (o : Object). RenewsLeft o t i.kept kept) same c.in-Ok.ensures.left in
+    let went = subst (λ (o : Object). CycleGoesOn o i.kept c.args.primary c.args.secondary i.machine t kept c.run_cycle.new.machine) same c.in-Ok.ensures.goes.goes in
+    let renewed = subst (λ (o : Object). RenewsLeft o t i.kept kept) same c.in-Ok.ensures.goes.left in
     let was = job p i.machine (left_of i.kept) (inputs_of i.kept) (stage_of i.progress) in
     let new = job p c.run_cycle.new.machine (left_of c.note.new.self) (inputs_of c.note.new.self) Going in
     subst (λ (old : of.AtWork). of.Cycles old x y new) c.self.view_is (record {
@@ -73,20 +74,25 @@ invariant_of-self g c =
     let same = c.self.invariant.program going in
     let t = c.in-Ok.selected in
     let kept = c.run_cycle.new.kept in
-    let went = subst (λ (o : Object). CycleGoesOn o i.kept c.args.primary c.args.secondary i.machine t kept c.run_cycle.new.machine) same c.in-Ok.ensures.goes in
-    let renewed = subst (λ (o : Object). RenewsLeft o t i.kept kept) same c.in-Ok.ensures.left in
+    let went = subst (λ (o : Object). CycleGoesOn o i.kept c.args.primary c.args.secondary i.machine t kept c.run_cycle.new.machine) same c.in-Ok.ensures.goes.goes in
+    let renewed = subst (λ (o : Object). RenewsLeft o t i.kept kept) same c.in-Ok.ensures.goes.left in
     let o = some_before i.machine.last in
     let old = job p i.machine (left_of i.kept) (inputs_of i.kept) (stage_of i.progress) in
     let done = goes_on p behind.earlier o.0 x y i.machine c.run_cycle.new.machine (left_of i.kept) (left_of c.note.new.self) (inputs_of i.kept) (inputs_of kept) (stage_of i.progress) t (text_in p kept t)
     same behind.leave behind.orderly o.1 (c.note.ensures.left ∙ ap (noted p t) renewed) went in
     record {
-      program = λ on. c.in-Ok.ensures.goes.program ∙ same;
-      ready = λ on. c.in-Ok.ensures.ready;
+      program = λ on. c.in-Ok.ensures.goes.goes.program ∙ same;
+      ready = λ on. c.in-Ok.ensures.goes.ready;
       behind = λ on. subst (λ (j : Inputs). of.IsBehind p (left_of c.note.new.self) j) (sym c.note.ensures.inputs)
           (one_more old (job p c.run_cycle.new.machine (left_of c.note.new.self) (inputs_of kept) Going) behind.earlier o.0 x y behind.orderly done);
-      files = λ on. c.note.ensures.kept (subst (λ (o : Object). AreFilesKept o kept) same c.in-Ok.ensures.kept);
+      files = λ on. c.note.ensures.kept (subst (λ (o : Object). AreFilesKept o kept) same c.in-Ok.ensures.goes.kept);
       few = λ on. subst (λ (o : Object). c.run_cycle.new.machine.config.steps ≤ bound o) same c.in-Ok.ensures.few;
     }
+
+pub note-requires : goal.note-requires
+note-requires g c =
+    let going = ap (λ (r : of.AtWork). is_going r.stage) c.self.view_is ∙ c.requires.going in
+    subst (λ (o : Object). ForSome c.in-Ok.selected (λ n. n < length o.types)) (c.self.invariant.program going) c.in-Ok.ensures.goes.there
 
 pub run_cycle-requires-clause-kept : goal.run_cycle-requires-clause-kept
 run_cycle-requires-clause-kept g c =

@@ -1,0 +1,21 @@
+use Rattle.std.proofs.Common.{◌≡◌, Some}
+use Rattle.rpg_cards.specs.Cards.{input_on}
+use Rattle.rpg_cards.specs.Levels.{control_level}
+use Rattle.rpg_compile_layouts.proofs.Followers.{levels_more}
+use Rattle.rpg_compile_layouts.proofs.levels.levels_of.Goals as goal
+use Rattle.rpg_sheet_specs.specs.declared.input.InputSpec.TheVariants as input
+
+pub loop-card-preserved : goal.loop-card-preserved
+loop-card-preserved c =
+    let cards = c.args.behind.now in
+    let i = c.loop-card.card-index in
+    let card = c.card-item.result in
+    let field = c.in-Some-Field.field in
+    let read = c.in-Some-Field.ensures in
+    let same = c.in-Some-Field.field-0-is in
+    let here = c.in-Some-Field.field-is in
+    let on : Some (input.Field field) ≡ input_on card.spec = cc in
+    record {
+      so_far = levels_more control_level cards i card field c.level_of.result c.loop-card.levels.items c.push_level.new.levels.items _ c.loop-card-test.true c.card-item.is on c.level_of.ensures.value c.in_ok-push_level.ensures.levels c.loop-card.invariant.so_far;
+      rows = c.in_ok-push_level.ensures.kept;
+    }

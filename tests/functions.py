@@ -1,0 +1,95 @@
+"""Finds the functions of a Rattle source by the places of their bodies, under the paths that rattle prints."""
+
+import re
+from dataclasses import dataclass
+
+# Comments, texts and characters, whose brackets and words are no code.
+IGNORED = re.compile(r'//[^\n]*|b?"(?:\\.|[^"\\])*"|b?\'(?:\\[^\n]{1,8}?|[^\\\'\n])\'', re.S)
+CLAUSE = re.compile(r"\b(?:requires|ensures)\*?(?:\s+\w+)?\s*\{|\bghost\s+\w+\s*:\s*\{")
+ITEM = re.compile(r"^[ \t]*(?:pub(?:\([^)]*\))?\s+)?(?:(?:const|unsafe|extern\s*\w*)\s+)*(fn|mod|trait|impl)\b", re.M)
+
+
+@dataclass(frozen=True)
+class Item:
+    """A function, an impl, a trait or a module: where it starts, where its body does, and where it ends."""
+
+    kind: str
+    name: str
+    start: int
+    body: int
+    end: int
+
+
+def blanked(text):
+    """Blanks for a piece of text, its lines kept."""
+    return re.sub(r"[^\n]", " ", text)
+
+
+def closed(text, at):
+    """The place after the bracket that closes the one at this place."""
+    depth = 0
+    for spot in range(at, len(text)):
+        depth += (text[spot] in "{([") - (text[spot] in "})]")
+        if not depth:
+            return spot + 1
+    return len(text)
+
+
+def code_of(text):
+    """The text with comments, literals and clauses blanked, so that each bracket left is the code's."""
+    text = IGNORED.sub(lambda it: blanked(it[0]), text)
+    at = 0
+    while it := CLAUSE.search(text, at):
+        at = closed(text, it.end() - 1)
+        text = text[: it.start()] + blanked(text[it.start() : at]) + text[at:]
+    return text
+
+
+def impl_name(head):
+    """The name under which rattle has an impl: `impl<T: B> Trait<A> for Type<T>` is TypeTraitA, and `impl<T> Type<T>` is Type."""
+    head = head.replace("->", "  ").split(" where ")[0].strip()
+    if head.startswith("<"):
+        depth = 0
+        for at, sign in enumerate(head):
+            depth += (sign == "<") - (sign == ">")
+            if not depth:
+                head = head[at + 1 :].strip()
+                break
+    ends = [re.match(r"[&\s]*(?:\w+::)*(\w+)\s*(?:<(.*)>)?", part) for part in head.replace("!", "").split(" for ")]
+    if len(ends) == 1:
+        return ends[0][1]
+    given = [it.strip().split("::")[-1] for it in (ends[0][2] or "").split(",")]
+    return ends[1][1] + ends[0][1] + "".join(it for it in given if re.fullmatch(r"\w+", it))
+
+
+def items(text):
+    """The items of a source that have a body, outer ones first."""
+    code = code_of(text)
+    for it in ITEM.finditer(code):
+        at = it.end()
+        while at < len(code) and code[at] not in "{;":
+            at = closed(code, at) if code[at] in "([" else at + 1
+        if at < len(code) and code[at] == "{":
+            head = " ".join(code[it.end() : at].split())
+            name = impl_name(head) if it[1] == "impl" else re.match(r"\w+", head)[0]
+            yield Item(it[1], name, it.start(), at, closed(code, at))
+
+
+def function_at(place, text, at):
+    """The path below the crate of the function in whose body this place lies, or None. `place` is the source's path in the crate's folder."""
+    around = [it for it in items(text) if it.start <= at < it.end]
+    inner = next((it for it in around if it.kind == "fn" and at > it.body), None)
+    if inner is None:
+        return None
+    modules = [it for it in place.removeprefix("src/").removesuffix(".rt").split("/") if it != "mod"]
+    if modules in (["lib"], ["main"]) or is_of_another_file(around, text):
+        modules = []
+    return "::".join([*modules, *(it.name for it in around if it.kind != "fn"), inner.name])
+
+
+def is_of_another_file(around, text):
+    """Whether a method is one of a type that another file declares: its path is then that file's, and its end serves."""
+    impl = next((it for it in around if it.kind == "impl"), None)
+    if impl is None or " for " in text[impl.start : impl.body]:
+        return False
+    return not re.search(rf"\b(?:struct|enum|union|trait)\s+{impl.name}\b", text)

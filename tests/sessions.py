@@ -1,0 +1,219 @@
+"""Sessions: commands that are given one after the other in one folder, and what each says."""
+
+import os
+import re
+import select
+import shutil
+import subprocess
+import tempfile
+from dataclasses import dataclass, field
+from pathlib import Path
+from typing import IO
+
+from case_file import hex_of, lines_in, text_of
+from outcome import Outcome
+from program import SECONDS, Limits, Program
+
+# How many seconds a record waits for what comes of it.
+PATIENCE = 20
+
+# What a character stands for behind a backslash in a word; any other stands for itself.
+IN_WORDS = {b"n": b"\n", b"f": b"\f", b"r": b"\r", b"u": b"\x1f", b"o": b"\xff"}
+
+
+@dataclass
+class Command:
+    """A command, and the lines behind it, which are a file or prose."""
+
+    number: int
+    words: str
+    lines: list[str] = field(default_factory=list)
+
+
+def commands_in(path: Path) -> list[Command]:
+    commands = []
+    for number, line in enumerate(lines_in(path), start=1):
+        if line.startswith("$ "):
+            commands.append(Command(number, line[2:]))
+        elif commands:
+            commands[-1].lines.append(line)
+    return commands
+
+
+def wanted_of(commands: list[Command], text: bytes) -> list[bytes]:
+    """What is wanted of each command: a session's text has each command in a line of its own, and what it says behind it."""
+    places, at = [], 0
+    for command in commands:
+        head = f"$ {command.words}\n".encode("latin-1")
+        at = text.index(head, at)
+        places.append((at, at + len(head)))
+        at += len(head)
+    ends = [start for start, _ in places[1:]] + [len(text)]
+    return [text[start:end] for (_, start), end in zip(places, ends)]
+
+
+def unescaped(word: str) -> bytes:
+    found = re.sub(rb"\\(.)", lambda it: IN_WORDS.get(it[1], it[1]), word.encode("latin-1"), flags=re.DOTALL)
+    return bytes(found)
+
+
+class Session:
+    """A folder in which commands are obeyed. All that they are given on standard input is one file, which each reads on from the last."""
+
+    def __init__(self, program: Program, folder: Path, given: IO[bytes]):
+        self.program, self.folder, self.given = program, folder, given
+
+    def obey(self, command: Command) -> bytes:
+        """Does what a command says, and answers what is seen of it."""
+        verb, _, rest = command.words.partition(" ")
+        does = getattr(self, f"do_{verb}", None)
+        if does is None:
+            return b"no such command\n"
+        if verb in ("text", "hex", "prompt"):
+            return does(rest, command.lines)
+        return does(*rest.split())
+
+    def seen(self, command: Command) -> bytes:
+        """What is seen of a command; or why it can't be done, as where a file isn't there."""
+        try:
+            return self.obey(command)
+        except (OSError, subprocess.SubprocessError, IndexError, TypeError, ValueError) as why:
+            return f"it can't be done: {why}\n".encode()
+
+    def path(self, name: str) -> Path:
+        return self.folder / name
+
+    def said(self, words: tuple[str, ...], limits: Limits = Limits(), shows_all: bool = True) -> bytes:
+        """What rpg2 says on both streams, and its status; one of 0 only where all is shown."""
+        answer = self.program.run([unescaped(it) for it in words[1:]], self.folder, self.given, limits=limits)
+        status = f"status {answer.status}\n" if answer.status or shows_all else ""
+        return answer.text + status.encode()
+
+    def do_rpg2(self, *words: str) -> bytes:
+        return self.said(("rpg2", *words), shows_all=False)
+
+    def do_told(self, *words: str) -> bytes:
+        return self.said(words)
+
+    def do_full(self, room: str, *words: str) -> bytes:
+        return self.said(words, Limits(file=int(room)))
+
+    def do_scarce(self, room: str, *words: str) -> bytes:
+        return self.said(words, Limits(memory=int(room)))
+
+    def do_unheard(self, *words: str) -> bytes:
+        """Gives words where standard output takes all but the last line."""
+        with tempfile.TemporaryFile() as whole, tempfile.TemporaryFile() as part:
+            self.program.run(list(words[1:]), self.folder, self.given, out=whole)
+            whole.seek(0)
+            room = sum(map(len, whole.readlines()[:-1]))
+            answer = self.program.run(list(words[1:]), self.folder, self.given, out=part, limits=Limits(file=room))
+            part.seek(0)
+            return part.read() + answer.text + f"status {answer.status}\n".encode()
+
+    def do_to(self, device: str, *words: str) -> bytes:
+        """Gives words where standard output is a device: what is told on standard error, and the status."""
+        with open(device, "wb") as out:
+            answer = self.program.run(list(words[1:]), self.folder, self.given, out=out)
+        return answer.text + f"status {answer.status}\n".encode()
+
+    def do_closed(self, *words: str) -> bytes:
+        """Gives words where nobody reads standard output any more."""
+        left, out = os.pipe()
+        os.close(left)
+        try:
+            answer = self.program.run(list(words[1:]), self.folder, self.given, out=out)
+        finally:
+            os.close(out)
+        return answer.text + f"status {answer.status}\n".encode()
+
+    def do_prompt(self, words: str, lines: list[str]) -> bytes:
+        """Gives words, and one record after the other on standard input: the next only once something came for the one before."""
+        with subprocess.Popen(
+            words.split(),
+            executable=self.program.path,
+            cwd=self.folder,
+            stdin=subprocess.PIPE,
+            stdout=subprocess.PIPE,
+            stderr=subprocess.STDOUT,
+            bufsize=0,
+        ) as command:
+            said = b""
+            for line in filter(None, lines):
+                command.stdin.write(text_of([line]))
+                is_heard = select.select([command.stdout], [], [], PATIENCE)[0]
+                said += os.read(command.stdout.fileno(), 1 << 16) if is_heard else b"nothing came\n"
+            command.stdin.close()
+            said += command.stdout.read()
+            return said + f"status {command.wait(SECONDS)}\n".encode()
+
+    def do_text(self, name: str, lines: list[str]) -> bytes:
+        self.path(name).write_bytes(text_of(lines))
+        return b""
+
+    def do_hex(self, name: str, lines: list[str]) -> bytes:
+        self.path(name).write_bytes(hex_of(lines))
+        return b""
+
+    def do_fill(self, name: str, count: str, value: str) -> bytes:
+        self.path(name).write_bytes(bytes([int(value)]) * int(count))
+        return b""
+
+    def do_folder(self, name: str) -> bytes:
+        self.path(name).mkdir()
+        return b""
+
+    def do_name(self, name: str, other: str) -> bytes:
+        os.link(self.path(name), self.path(other))
+        return b""
+
+    def do_link(self, name: str, other: str) -> bytes:
+        self.path(other).symlink_to(name)
+        return b""
+
+    def do_copy(self, name: str, other: str) -> bytes:
+        shutil.copyfile(self.path(name), self.path(other))
+        return b""
+
+    def do_change(self, name: str, other: str, place: str, value: str) -> bytes:
+        changed = bytearray(self.path(name).read_bytes())
+        changed[int(place)] = int(value)
+        self.path(other).write_bytes(changed)
+        return b""
+
+    def do_show(self, name: str) -> bytes:
+        return self.path(name).read_bytes() if self.path(name).exists() else b"no file\n"
+
+    def do_byte(self, name: str, place: str) -> bytes:
+        return f"{self.path(name).read_bytes()[int(place)]}\n".encode()
+
+    def do_pages(self, name: str) -> bytes:
+        """Whether `rpg2 explain` prints a file, and behind it an empty line."""
+        pages = self.program.run(["explain"], self.folder).text
+        is_same = pages == self.path(name).read_bytes() + b"\n"
+        return b"the pages of all codes\n" if is_same else b"another text\n"
+
+
+def furnish(folder: Path, top: Path) -> None:
+    """Puts the examples and the pages of codes into a folder."""
+    for path in [*top.glob("examples/*/*"), top / "docs/MESSAGES.md"]:
+        shutil.copyfile(path, folder / path.name)
+
+
+def compared(path: Path, command: Command, came: bytes, wanted: bytes) -> Outcome:
+    place = f"{path.name}:{command.number}"
+    if came == wanted:
+        return Outcome(place, f"ok: {command.words}")
+    sides = f"\n--- wanted\n{wanted.decode('latin-1')}--- came\n{came.decode('latin-1')}"
+    return Outcome(place, f"DIFFERS: {command.words}", sides)
+
+
+def show(program: Program, path: Path, top: Path) -> list[Outcome]:
+    """Obeys the commands of a session, and compares what each says with the text beside the session."""
+    commands = commands_in(path)
+    wanted = wanted_of(commands, path.with_suffix(".wanted").read_bytes())
+    with tempfile.TemporaryDirectory() as name, open(path.with_name("stdin"), "rb", buffering=0) as given:
+        folder = Path(name)
+        furnish(folder, top)
+        session = Session(program, folder, given)
+        return [compared(path, it, session.seen(it), text) for it, text in zip(commands, wanted, strict=True)]
