@@ -6,12 +6,12 @@ ghost use Rattle.rpg_object_program.specs.Object.{seen};
 ghost use Rattle.rpg_object_program.specs.Sections.{first_place, place_behind};
 ghost use Rattle.rpg_object_program.specs.declared.section.Section.TheVariants as sections;
 
+use rpg_cli_text::TextWriter;
 use rpg_effect::line::Time;
 use rpg_object_program::row::{Line, RecordType, Rows, Version};
 use rpg_object_program::section::{Place, Section};
 use rpg_verify::Verified;
 use std::alloc::{AllocError, Global};
-use std::fmt::Write;
 
 /// The path costs of places, as far as they are known.
 #[derive(Drop)]
@@ -53,14 +53,14 @@ fn subroutine_cost(verified: &Verified, subroutine: u16, number: u16) -> u64
     })
 }
 
-fn put_detail(costs: &mut Vec<u64>, verified: &Verified) -> Result<(), AllocError> {
+fn push_detail(costs: &mut Vec<u64>, verified: &Verified) -> Result<(), AllocError> {
     for place in 0..verified.program().rows().detail.len() {
         costs.push(detail_cost(verified, place as u16))?;
     }
     Ok(())
 }
 
-fn put_total(costs: &mut Vec<u64>, verified: &Verified) -> Result<(), AllocError> {
+fn push_total(costs: &mut Vec<u64>, verified: &Verified) -> Result<(), AllocError> {
     let rows = verified.program().rows();
     let first = rows.detail.len();
     for place in first..first + rows.total.len() {
@@ -69,7 +69,7 @@ fn put_total(costs: &mut Vec<u64>, verified: &Verified) -> Result<(), AllocError
     Ok(())
 }
 
-fn put_subroutine(
+fn push_subroutine(
     costs: &mut Vec<u64>,
     verified: &Verified,
     subroutine: u16,
@@ -86,8 +86,8 @@ fn put_subroutine(
     Ok(())
 }
 
-/// Puts the costs of all subroutines, of which the first begins at a place.
-fn put_subroutines(
+/// Notes the costs of all subroutines, of which the first begins at a place.
+fn push_subroutines(
     costs: &mut Vec<u64>,
     verified: &Verified,
     rows: &Rows,
@@ -101,7 +101,7 @@ fn put_subroutines(
     let mut number: u16 = 0;
     for subroutine in &rows.subroutines {
         let count = subroutine.instructions.len();
-        put_subroutine(costs, verified, number, first, count)?;
+        push_subroutine(costs, verified, number, first, count)?;
         first += count;
         number += 1;
     }
@@ -119,27 +119,24 @@ impl Costs {
     /// The costs of the places of an accepted program.
     pub fn of(alloc: Global, verified: &Verified) -> Result<Self, AllocError> {
         let mut places = Vec::new(alloc);
-        put_detail(&mut places, verified)?;
-        put_total(&mut places, verified)?;
+        push_detail(&mut places, verified)?;
+        push_total(&mut places, verified)?;
         let rows = verified.program().rows();
         let begin = rows.detail.len() + rows.total.len();
-        put_subroutines(&mut places, verified, rows, begin)?;
+        push_subroutines(&mut places, verified, rows, begin)?;
         Ok(Costs { places })
     }
 
     /// The cost of a place, or 0.
     fn at(&self, place: usize) -> u64 {
-        match self.places.get(place) {
-            Some(cost) => *cost,
-            None => 0,
-        }
+        self.places.get(place).copied().unwrap_or(0)
     }
 
-    /// The cost of a place as it is written: nothing where it isn't known.
-    pub fn text(&self, alloc: Global, place: usize) -> Result<String, AllocError> {
+    /// Writes the cost of a place in its column, which is blank where it isn't known.
+    pub fn write_column(&self, out: &mut TextWriter, place: usize) {
         match self.places.get(place) {
-            Some(cost) => format!(in alloc; "{cost}"),
-            None => Ok(String::new(alloc)),
+            Some(cost) => write!(out, "{cost:>6}"),
+            None => out.write_str("      "),
         }
     }
 }
@@ -193,50 +190,42 @@ fn types_words(version: Version) -> &'static str {
 }
 
 /// Writes the bound and what it is made of.
-pub(crate) fn put_bound(
-    out: &mut String,
-    verified: &Verified,
-    costs: &Costs,
-) -> Result<(), AllocError> {
+pub(crate) fn write_bound(out: &mut TextWriter, verified: &Verified, costs: &Costs) {
     let rows = verified.program().rows();
     let bound = verified.bound();
     let types = types_weight(rows);
     let lines = lines_weight(rows);
     let detail = first_cost(costs, 0, rows.detail.len());
     let total = first_cost(costs, rows.detail.len(), rows.total.len());
-    let overflow = match rows.overflow {
-        Some(_) => lines,
-        None => 0,
-    };
+    let overflow = if rows.overflow.is_some() { lines } else { 0 };
     let spent = bound
         .saturating_sub(types)
         .saturating_sub(lines)
         .saturating_sub(overflow)
         .saturating_sub(detail)
         .saturating_sub(total);
-    writeln!(
+    write!(
         out,
-        "  accepted, bound {bound}: a cycle takes at most so many steps, of these"
-    )?;
-    put_part(out, types, types_words(rows.version))?;
-    put_part(
+        "  accepted, bound {bound}: a cycle takes at most so many steps, of these\n"
+    );
+    write_part(out, types, types_words(rows.version));
+    write_part(
         out,
         lines,
         "for heading, detail and total lines and their fields",
-    )?;
-    put_part(out, overflow, "for the same at an overflow")?;
-    put_part(
+    );
+    write_part(out, overflow, "for the same at an overflow");
+    write_part(
         out,
         detail,
         "for detail calculations, without what is spent",
-    )?;
-    put_part(out, total, "for total calculations, without what is spent")?;
-    put_part(out, spent, "for all that branches back and calls lead to")
+    );
+    write_part(out, total, "for total calculations, without what is spent");
+    write_part(out, spent, "for all that branches back and calls lead to");
 }
 
-fn put_part(out: &mut String, steps: u64, words: &str) -> Result<(), AllocError> {
-    if steps == 0 {
-        return Ok(());
+fn write_part(out: &mut TextWriter, steps: u64, words: &str) {
+    if steps > 0 {
+        write!(out, "    {steps:>14} {words}\n");
     }
-    writeln!(out, "    {steps:>14} {words}")
 }

@@ -1,17 +1,20 @@
 //! Instructions, as the calculation sheet has them: factor 1, operation, factor 2, result and indicators.
 
 use crate::bound::Costs;
-use crate::refusal::{Table, put_if_broken};
+use crate::refusal::{Table, write_if_broken};
 use rpg_cli_show_fields::{
-    INSTRUCTION, Layout, NamedRows, SUBROUTINE, operand_text, put_conditions, put_named, put_shown,
+    INSTRUCTION, Layout, NamedRows, SUBROUTINE, write_conditions, write_named, write_operand,
+    write_shown,
 };
+use rpg_cli_text::TextWriter;
 use rpg_effect::condition::{Conditions, has_conditions};
 use rpg_effect::operation::{Action, Instruction, Operand, Shows};
 use rpg_effect::row::Use;
 use rpg_object_program::columns::row_of;
 use rpg_verify::BrokenRule;
-use std::alloc::{AllocError, Global};
-use std::fmt::Write;
+
+/// The column of factor 1 of what has none, with a blank behind.
+const NO_FACTOR: &str = "               ";
 
 fn is_half_adjusted(action: Action<Operand<u16>>) -> bool {
     match action {
@@ -35,123 +38,101 @@ struct ShownWords {
     zero: &'static str,
 }
 
-fn put_three(out: &mut String, words: ShownWords, shows: Shows) -> Result<(), AllocError> {
-    put_shown(out, words.plus, shows.plus)?;
-    put_shown(out, words.minus, shows.minus)?;
-    put_shown(out, words.zero, shows.zero)
+const RESULTS: ShownWords = ShownWords {
+    plus: "plus",
+    minus: "minus",
+    zero: "zero",
+};
+
+const ORDERS: ShownWords = ShownWords {
+    plus: "high",
+    minus: "low",
+    zero: "equal",
+};
+
+fn write_three(out: &mut TextWriter, words: ShownWords, shows: Shows) {
+    write_shown(out, words.plus, shows.plus);
+    write_shown(out, words.minus, shows.minus);
+    write_shown(out, words.zero, shows.zero);
 }
 
-fn put_all_named(out: &mut String, named: Shows) -> Result<(), AllocError> {
-    put_named(out, named.plus)?;
-    put_named(out, named.minus)?;
-    put_named(out, named.zero)
+fn write_all_named(out: &mut TextWriter, named: Shows) {
+    write_named(out, named.plus);
+    write_named(out, named.minus);
+    write_named(out, named.zero);
 }
 
-fn put_indicators(out: &mut String, action: Action<Operand<u16>>) -> Result<(), AllocError> {
-    let results = ShownWords {
-        plus: "plus",
-        minus: "minus",
-        zero: "zero",
-    };
-    let orders = ShownWords {
-        plus: "high",
-        minus: "low",
-        zero: "equal",
-    };
+fn write_indicators(out: &mut TextWriter, action: Action<Operand<u16>>) {
     match action {
         Action::Compute { shows, .. }
         | Action::Divide { shows, .. }
         | Action::Assign { shows, .. }
         | Action::TakeRemainder { shows, .. }
-        | Action::CrossFoot { shows, .. } => put_three(out, results, shows),
+        | Action::CrossFoot { shows, .. } => write_three(out, RESULTS, shows),
         Action::Compare { shows, .. } | Action::LookUp { shows, .. } => {
-            put_three(out, orders, shows)
+            write_three(out, ORDERS, shows);
         }
-        Action::SetIndicators { named, .. } => put_all_named(out, named),
-        Action::Move { .. } => Ok(()),
+        Action::SetIndicators { named, .. } => write_all_named(out, named),
+        Action::Move { .. } => {}
     }
 }
 
-fn used_text(
-    alloc: Global,
+/// Writes an operand, if there is one, in a column of so many characters and a blank.
+fn write_column(
+    out: &mut TextWriter,
     named: NamedRows<'_>,
     used: Option<Use<Operand<u16>>>,
-) -> Result<String, AllocError> {
-    match used {
-        Some(used) => operand_text(alloc, named, used.operand),
-        None => Ok(String::new(alloc)),
+    width: usize,
+) {
+    let end = out.len().saturating_add(width);
+    if let Some(used) = used {
+        write_operand(out, named, used.operand);
     }
+    out.pad_to(end);
+    out.write_char(' ');
 }
 
-fn put_action(
-    alloc: Global,
-    out: &mut String,
-    named: NamedRows<'_>,
-    action: Action<Operand<u16>>,
-) -> Result<(), AllocError> {
+fn write_action(out: &mut TextWriter, named: NamedRows<'_>, action: Action<Operand<u16>>) {
     let row = row_of(named.rows, action);
-    let factor1 = used_text(alloc, named, row.factor1)?;
-    let factor2 = used_text(alloc, named, row.factor2)?;
-    let result = used_text(alloc, named, row.result)?;
-    let word = action.name();
-    let half = if is_half_adjusted(action) { "H" } else { "" };
-    match named.source {
-        None => write!(
-            out,
-            "{factor1:<14} {word:<6} {factor2:<14} {result:<8} {half:<1}"
-        )?,
-        Some(_) => write!(
-            out,
-            "{factor1:<14} {word:<6} {factor2:<14} {result:<14} {half:<1}"
-        )?,
-    }
-    put_indicators(out, action)
+    let result_width = if named.source.is_some() { 14 } else { 8 };
+    write_column(out, named, row.factor1, 14);
+    write!(out, "{:<6} ", action.name());
+    write_column(out, named, row.factor2, 14);
+    write_column(out, named, row.result, result_width);
+    out.write_char(if is_half_adjusted(action) { 'H' } else { ' ' });
+    write_indicators(out, action);
 }
 
 /// Writes where a branch leads, and under which conditions.
-fn put_branch(
-    out: &mut String,
-    is_taken_where: bool,
-    conditions: Conditions,
-    target: u16,
-) -> Result<(), AllocError> {
-    let word = if is_taken_where { "JUMP" } else { "SKIP" };
-    let blank = "";
-    write!(out, "{blank:<14} {word:<6} to {target}")?;
-    if !has_conditions(conditions) {
-        return Ok(());
+fn write_branch(out: &mut TextWriter, is_taken_where: bool, conditions: Conditions, target: u16) {
+    let (word, when) = if is_taken_where {
+        ("JUMP", ", when")
+    } else {
+        ("SKIP", ", unless")
+    };
+    write!(out, "{NO_FACTOR}{word:<6} to {target}");
+    if has_conditions(conditions) {
+        out.write_str(when);
+        write_conditions(out, conditions);
     }
-    out.push_str(if is_taken_where { ", when" } else { ", unless" })?;
-    put_conditions(out, conditions)
 }
 
-/// Writes an instruction that has no operands.
-fn put_plain(out: &mut String, word: &str) -> Result<(), AllocError> {
-    let blank = "";
-    write!(out, "{blank:<14} {word}")
+/// Writes a call or a return.
+fn write_call(out: &mut TextWriter, word: &str, subroutine: u16) {
+    write!(out, "{NO_FACTOR}{word:<6} subroutine {subroutine}");
 }
 
-fn put_call(out: &mut String, word: &str, subroutine: u16) -> Result<(), AllocError> {
-    let blank = "";
-    write!(out, "{blank:<14} {word:<6} subroutine {subroutine}")
-}
-
-fn put_instruction(
-    alloc: Global,
-    out: &mut String,
-    named: NamedRows<'_>,
-    instruction: Instruction<u16>,
-) -> Result<(), AllocError> {
+fn write_instruction(out: &mut TextWriter, named: NamedRows<'_>, instruction: Instruction<u16>) {
     match instruction {
-        Instruction::Act(action) => put_action(alloc, out, named, action),
-        Instruction::Except => put_plain(out, "EXCPT"),
+        Instruction::Act(action) => write_action(out, named, action),
+        Instruction::Except => write!(out, "{NO_FACTOR}EXCPT"),
         Instruction::Branch {
             is_taken_where,
             conditions,
             target,
-        } => put_branch(out, is_taken_where, conditions, target),
-        Instruction::Call { subroutine } => put_call(out, "CALL", subroutine),
-        Instruction::Return { subroutine } => put_call(out, "RET", subroutine),
+        } => write_branch(out, is_taken_where, conditions, target),
+        Instruction::Call { subroutine } => write_call(out, "CALL", subroutine),
+        Instruction::Return { subroutine } => write_call(out, "RET", subroutine),
     }
 }
 
@@ -170,87 +151,71 @@ struct Known<'a> {
     broken: Option<BrokenRule>,
 }
 
-/// The column of the card that an instruction was made of; nothing where the source isn't known.
-fn card_column(alloc: Global, named: NamedRows<'_>, place: usize) -> Result<String, AllocError> {
-    match named.source.map(|source| source.place_card(place)) {
-        None => Ok(String::new(alloc)),
-        Some(None) => String::from_str(alloc, "       "),
-        Some(Some(card)) => format!(in alloc; "  {card:>5}"),
+/// Writes the column of the card that an instruction was made of; nothing where the source isn't known.
+fn write_card_column(out: &mut TextWriter, named: NamedRows<'_>, place: usize) {
+    if let Some(source) = named.source {
+        match source.place_card(place) {
+            Some(card) => write!(out, "  {card:>5}"),
+            None => out.write_str("       "),
+        }
     }
 }
 
 /// Writes the instructions of a section.
-fn put_section(
-    alloc: Global,
-    out: &mut String,
-    known: Known<'_>,
-    begin: Begin,
-    code: &[Instruction<u16>],
-) -> Result<(), AllocError> {
+fn write_section(out: &mut TextWriter, known: Known<'_>, begin: Begin, code: &[Instruction<u16>]) {
     let Begin { mut at, mut place } = begin;
     for instruction in code {
-        let cost = known.costs.text(alloc, place)?;
-        let card = card_column(alloc, known.named, place)?;
-        let mut row = format!(in alloc; "{at:>6} {place:>5} {cost:>6}{card}  ")?;
-        put_instruction(alloc, &mut row, known.named, *instruction)?;
-        writeln!(out, "{}", row.trim_end())?;
-        put_if_broken(out, known.broken, Table::Places, place)?;
+        write!(out, "{at:>6} {place:>5} ");
+        known.costs.write_column(out, place);
+        write_card_column(out, known.named, place);
+        out.write_str("  ");
+        write_instruction(out, known.named, *instruction);
+        out.end_line();
+        write_if_broken(out, known.broken, Table::Places, place);
         at = at.saturating_add(INSTRUCTION);
         place = place.saturating_add(1);
     }
-    Ok(())
 }
 
-fn put_heading(
-    out: &mut String,
-    named: NamedRows<'_>,
-    name: &str,
-    count: usize,
-) -> Result<(), AllocError> {
+fn write_heading(out: &mut TextWriter, named: NamedRows<'_>, name: &str, count: usize) {
     if count == 0 {
-        return writeln!(out, "\n        {name}: none");
+        write!(out, "\n        {name}: none\n");
+        return;
     }
     let card = if named.source.is_some() {
         "   card"
     } else {
         ""
     };
-    writeln!(out, "\n    at place   path{card}  {name}")
+    write!(out, "\n    at place   path{card}  {name}\n");
 }
 
 /// Writes a subroutine's level and its instructions.
-fn put_subroutines(
-    alloc: Global,
-    out: &mut String,
-    known: Known<'_>,
-    begin: Begin,
-) -> Result<(), AllocError> {
+fn write_subroutines(out: &mut TextWriter, known: Known<'_>, begin: Begin) {
     let Begin { mut at, mut place } = begin;
     for (number, subroutine) in known.named.rows.subroutines.iter().enumerate() {
         let level = subroutine.level;
         let code = &subroutine.instructions;
-        writeln!(
+        write!(
             out,
-            "{at:>6}               subroutine {number}, level {level}"
-        )?;
-        put_if_broken(out, known.broken, Table::Subroutines, number)?;
+            "{at:>6}               subroutine {number}, level {level}\n"
+        );
+        write_if_broken(out, known.broken, Table::Subroutines, number);
         at = at.saturating_add(SUBROUTINE);
-        put_section(alloc, out, known, Begin { at, place }, code)?;
+        write_section(out, known, Begin { at, place }, code);
         at = at.saturating_add(code.len().saturating_mul(INSTRUCTION));
         place = place.saturating_add(code.len());
     }
-    Ok(())
 }
 
 /// Writes the instructions of all sections.
-pub(crate) fn put_sections(
-    alloc: Global,
-    out: &mut String,
+pub(crate) fn write_sections(
+    out: &mut TextWriter,
     named: NamedRows<'_>,
     layout: Layout,
     costs: &Costs,
     broken: Option<BrokenRule>,
-) -> Result<(), AllocError> {
+) {
     let known = Known {
         named,
         costs,
@@ -258,17 +223,17 @@ pub(crate) fn put_sections(
     };
     let rows = named.rows;
     let at = layout.detail;
-    put_heading(out, named, "DETAIL CALCULATIONS", rows.detail.len())?;
-    put_section(alloc, out, known, Begin { at, place: 0 }, &rows.detail)?;
+    write_heading(out, named, "DETAIL CALCULATIONS", rows.detail.len());
+    write_section(out, known, Begin { at, place: 0 }, &rows.detail);
     let at = layout.total;
     let place = rows.detail.len();
-    put_heading(out, named, "TOTAL CALCULATIONS", rows.total.len())?;
-    put_section(alloc, out, known, Begin { at, place }, &rows.total)?;
+    write_heading(out, named, "TOTAL CALCULATIONS", rows.total.len());
+    write_section(out, known, Begin { at, place }, &rows.total);
     let at = layout.subroutines;
     let place = place.saturating_add(rows.total.len());
-    put_heading(out, named, "SUBROUTINES", rows.subroutines.len())?;
+    write_heading(out, named, "SUBROUTINES", rows.subroutines.len());
     if rows.subroutines.is_empty() {
-        put_if_broken(out, broken, Table::Subroutines, 0)?;
+        write_if_broken(out, broken, Table::Subroutines, 0);
     }
-    put_subroutines(alloc, out, known, Begin { at, place })
+    write_subroutines(out, known, Begin { at, place });
 }

@@ -1,32 +1,33 @@
 //! A program as a text.
 
-use crate::bound::{Costs, put_bound};
-use crate::header::put_header;
-use crate::instructions::put_sections;
-use crate::lines::put_lines;
-use crate::refusal::put_rule;
-use crate::types::put_types;
-use rpg_cli_show_fields::{Layout, NamedRows, put_fields, put_first_values};
+use crate::bound::{Costs, write_bound};
+use crate::header::write_header;
+use crate::instructions::write_sections;
+use crate::lines::write_lines;
+use crate::refusal::write_rule;
+use crate::types::write_types;
+use rpg_cli_show_fields::{Layout, NamedRows, write_fields, write_first_values};
 use rpg_cli_source::SourceRows;
+use rpg_cli_text::TextWriter;
 use rpg_object_program::Program;
 use rpg_verify::{BrokenRule, Verified, VerifyFault, verify};
 use std::alloc::{AllocError, Global};
-use std::fmt::Write;
 
 /// Writes the tables of a program.
-fn put_tables(
+fn write_tables(
     alloc: Global,
-    out: &mut String,
+    out: &mut TextWriter,
     named: NamedRows<'_>,
     costs: &Costs,
     broken: Option<BrokenRule>,
 ) -> Result<(), AllocError> {
     let layout = Layout::of(named.rows);
-    put_fields(alloc, out, named)?;
-    put_first_values(alloc, out, named, layout.values)?;
-    put_types(alloc, out, named, layout.types, broken)?;
-    put_lines(alloc, out, named, layout.lines, broken)?;
-    put_sections(alloc, out, named, layout, costs, broken)
+    write_fields(alloc, out, named)?;
+    write_first_values(out, named, layout.values);
+    write_types(out, named, layout.types, broken);
+    write_lines(out, named, layout.lines, broken);
+    write_sections(out, named, layout, costs, broken);
+    Ok(())
 }
 
 fn accepted_text(
@@ -37,11 +38,11 @@ fn accepted_text(
     let rows = verified.program().rows();
     let named = NamedRows { rows, source };
     let costs = Costs::of(alloc, verified)?;
-    let mut out = String::new(alloc);
-    put_header(&mut out, rows, Layout::of(rows), None)?;
-    put_bound(&mut out, verified, &costs)?;
-    put_tables(alloc, &mut out, named, &costs, None)?;
-    Ok(out)
+    let mut out = TextWriter::new(alloc);
+    write_header(&mut out, rows, Layout::of(rows), None);
+    write_bound(&mut out, verified, &costs);
+    write_tables(alloc, &mut out, named, &costs, None)?;
+    out.finish()
 }
 
 fn refused_text(
@@ -53,12 +54,12 @@ fn refused_text(
     let rows = program.rows();
     let named = NamedRows { rows, source };
     let row = broken.row;
-    let mut out = String::new(alloc);
-    put_header(&mut out, rows, Layout::of(rows), Some(broken))?;
-    write!(&mut out, "  refused  row {row} by ")?;
-    put_rule(&mut out, broken)?;
-    put_tables(alloc, &mut out, named, &Costs::none(alloc), Some(broken))?;
-    Ok(out)
+    let mut out = TextWriter::new(alloc);
+    write_header(&mut out, rows, Layout::of(rows), Some(broken));
+    write!(out, "  refused  row {row} by ");
+    write_rule(&mut out, broken);
+    write_tables(alloc, &mut out, named, &Costs::none(alloc), Some(broken))?;
+    out.finish()
 }
 
 /// The text of a program that isn't accepted.

@@ -1,8 +1,7 @@
 //! The rule that a refused program breaks, told behind the row that breaks it.
 
+use rpg_cli_text::TextWriter;
 use rpg_verify::{BrokenRule, Rule};
-use std::alloc::AllocError;
-use std::fmt::Write;
 
 /// A table of which a rule speaks.
 #[derive(Clone, Copy)]
@@ -25,24 +24,24 @@ fn speaks_of(rule: Rule, table: Table) -> bool {
 }
 
 /// Writes the rule and what is wrong.
-pub(crate) fn put_rule(out: &mut String, broken: BrokenRule) -> Result<(), AllocError> {
+pub(crate) fn write_rule(out: &mut TextWriter, broken: BrokenRule) {
     let rule = broken.rule;
     let sentence = rule.sentence();
-    writeln!(out, "{rule}: {sentence}")
+    write!(out, "{rule}: {sentence}\n");
 }
 
 /// Tells the rule if this row breaks it.
-pub(crate) fn put_if_broken(
-    out: &mut String,
+pub(crate) fn write_if_broken(
+    out: &mut TextWriter,
     broken: Option<BrokenRule>,
     table: Table,
     row: usize,
-) -> Result<(), AllocError> {
+) {
     match broken {
         Some(broken) if broken.row == row && speaks_of(broken.rule, table) => {
-            out.push_str("        ^ ")?;
-            put_rule(out, broken)
+            out.write_str("        ^ ");
+            write_rule(out, broken);
         }
-        _ => Ok(()),
+        _ => {}
     }
 }

@@ -4,7 +4,7 @@ use Rattle.rpg_object_program.specs.Sections.{first_in, first_place, instruction
 use Rattle.rpg_object_program.specs.declared.section.Section.TheVariants as sections
 use Rattle.rpg_verify_rules.proofs.Sectioning.{left, fewer_left}
 use Rattle.rpg_verify_rules.proofs.Spanning.{at_zero, first_behind, subroutine_at, subroutine_span}
-use Rattle.rpg_cli_show.proofs.bound.put_subroutines.Goals as goal
+use Rattle.rpg_cli_show.proofs.bound.push_subroutines.Goals as goal
 
 pub loop-subroutine-init : goal.loop-subroutine-init
 loop-subroutine-init c =
@@ -16,8 +16,8 @@ loop-subroutine-init c =
       begins = sym (at_zero c.args.begin (map subroutine_row c.args.rows.now.subroutines.items));
     }
 
-pub put_subroutine-requires-clause-few : goal.put_subroutine-requires-clause-few
-put_subroutine-requires-clause-few c =
+pub push_subroutine-requires-clause-few : goal.push_subroutine-requires-clause-few
+push_subroutine-requires-clause-few c =
     let subs = c.args.rows.now.subroutines.items in
     let i = c.loop-subroutine.subroutine-index in
     let s = c.subroutine-item.result in
@@ -29,8 +29,8 @@ put_subroutine-requires-clause-few c =
     let long : c.len-count.result ≡ length s.instructions.items = search rules in
     omega (arith, fewer, few, long)
 
-pub put_subroutine-requires-clause-first : goal.put_subroutine-requires-clause-first
-put_subroutine-requires-clause-first c =
+pub push_subroutine-requires-clause-first : goal.push_subroutine-requires-clause-first
+push_subroutine-requires-clause-first c =
     let p = seen c.args.rows.now in
     let subs = c.args.rows.now.subroutines.items in
     let i = c.loop-subroutine.subroutine-index in
@@ -45,8 +45,8 @@ put_subroutine-requires-clause-first c =
     subst (λ n. f ≡ first_place c.args.verified.now (sections.Subroutine n)) (sym c.loop-subroutine.invariant.counted)
     (subst (λ q. f ≡ first_place q (sections.Subroutine i)) c.requires.same span.first)
 
-pub put_subroutine-requires-clause-end : goal.put_subroutine-requires-clause-end
-put_subroutine-requires-clause-end c =
+pub push_subroutine-requires-clause-end : goal.push_subroutine-requires-clause-end
+push_subroutine-requires-clause-end c =
     let p = seen c.args.rows.now in
     let subs = c.args.rows.now.subroutines.items in
     let i = c.loop-subroutine.subroutine-index in
