@@ -5,7 +5,7 @@ use rpg_cli_answers::{Answer, Listener, Reasons};
 use rpg_cli_files::{FileFault, Reason};
 use rpg_cli_text::TextWriter;
 use rpg_cli_words::{FileWord, Request, RunWords};
-use rpg_engine::RunFault;
+use rpg_engine::{InputFile, ReadFault, RunFault};
 use std::alloc::{AllocError, Global};
 
 /// A file by its path and its word.
@@ -30,6 +30,14 @@ fn write_file_fault(out: &mut TextWriter, request: &Request, word: FileWord, fau
     }
 }
 
+/// The system's reason for a fault, if it's known, and the line's end.
+fn write_reason(out: &mut TextWriter, reason: Option<Reason>) {
+    match reason {
+        Some(reason) => write!(out, ": {}\n", reason.text()),
+        None => out.write_char('\n'),
+    }
+}
+
 /// What is told of a file that couldn't be written while the job ran.
 fn write_print_fault(
     out: &mut TextWriter,
@@ -40,34 +48,42 @@ fn write_print_fault(
 ) {
     write_name(out, request, word);
     write!(out, ": it can't be written after {sent} bytes");
-    match reason {
-        Some(reason) => write!(out, ": {}\n", reason.text()),
-        None => out.write_char('\n'),
-    }
+    write_reason(out, reason);
 }
 
-/// What is told of an input that couldn't be read while the job ran.
-fn write_read_fault(out: &mut TextWriter, request: &Request, word: FileWord, reason: Reason) {
+/// What is told of an input that couldn't be read while the job ran, or had too many records.
+fn write_read_fault(
+    out: &mut TextWriter,
+    request: &Request,
+    word: FileWord,
+    fault: ReadFault,
+    reason: Option<Reason>,
+) {
     write_name(out, request, word);
-    write!(out, ": it can't be read to its end: {}\n", reason.text());
-}
-
-/// What is told where an input has too many records. Of two it isn't known which.
-fn write_too_many(out: &mut TextWriter, request: &Request) {
-    write_name(out, request, FileWord::Input);
-    if request.path(FileWord::Secondary).is_some() {
-        out.write_str(" or ");
-        write_name(out, request, FileWord::Secondary);
+    match fault {
+        ReadFault::Device => {
+            out.write_str(": it can't be read to its end");
+            write_reason(out, reason);
+        }
+        ReadFault::TooMany => out.write_str(": it has more than 10,000,000 records\n"),
     }
-    out.write_str(": it has more than 10,000,000 records\n");
 }
 
-/// What is told where an input failed while the job ran, or had too many records.
-fn write_input_fault(out: &mut TextWriter, request: &Request, reasons: Reasons) {
-    match (reasons.input, reasons.secondary) {
-        (Some(reason), _) => write_read_fault(out, request, FileWord::Input, reason),
-        (None, Some(reason)) => write_read_fault(out, request, FileWord::Secondary, reason),
-        (None, None) => write_too_many(out, request),
+/// What is told of the input that failed.
+fn write_input_fault(
+    out: &mut TextWriter,
+    request: &Request,
+    file: InputFile,
+    fault: ReadFault,
+    reasons: Reasons,
+) {
+    match file {
+        InputFile::Primary => {
+            write_read_fault(out, request, FileWord::Input, fault, reasons.input)
+        }
+        InputFile::Secondary => {
+            write_read_fault(out, request, FileWord::Secondary, fault, reasons.secondary)
+        }
     }
 }
 
@@ -80,7 +96,9 @@ fn write_bad_date(out: &mut TextWriter, words: &RunWords) {
 /// What is told of a device that failed while the job ran, or of a date that is none.
 fn write_run_fault(out: &mut TextWriter, request: &Request, fault: RunFault, reasons: Reasons) {
     match (fault, request) {
-        (RunFault::Read, _) => write_input_fault(out, request, reasons),
+        (RunFault::Read { file, fault }, _) => {
+            write_input_fault(out, request, file, fault, reasons)
+        }
         (RunFault::Print { sent }, _) => {
             write_print_fault(out, request, FileWord::Print, sent, reasons.print)
         }

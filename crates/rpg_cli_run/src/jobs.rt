@@ -179,33 +179,41 @@ fn emptied_devices<R: Files + Input + Print>(
     })
 }
 
+impl<F: Drop, S: Drop, P: Drop> Devices<F, S, P> {
+    /// Why the last call of each failed, if it did.
+    fn reasons(&self) -> Reasons {
+        Reasons {
+            input: self.input.fault(),
+            secondary: self.secondary.fault(),
+            print: self.print.fault(),
+            disk: self.disk.fault(),
+        }
+    }
+}
+
 /// Runs an accepted program over its devices. Where one of them failed it's told why.
 fn run_devices<F: Read + Write + Drop, S: Read + Drop, P: Write + Drop>(
     alloc: Global,
     program: &Verified,
     date: &[u8],
-    devices: Devices<F, S, P>,
+    devices: &mut Devices<F, S, P>,
 ) -> Result<Report, Stop> {
-    let mut input = Counted::new(devices.input);
-    let mut secondary = Counted::new(devices.secondary);
-    let mut print = Counted::new(devices.print);
-    let mut disk = Counted::new(devices.disk);
     let ran = run_over(
         alloc,
         program,
         date,
-        &mut input,
-        &mut secondary,
-        &mut print,
-        &mut disk,
+        &mut Counted::new(&mut devices.input),
+        &mut Counted::new(&mut devices.secondary),
+        &mut Counted::new(&mut devices.print),
+        &mut Counted::new(&mut devices.disk),
     );
-    let reasons = Reasons {
-        input: input.into_device().fault(),
-        secondary: secondary.into_device().fault(),
-        print: print.into_device().fault(),
-        disk: disk.into_device().fault(),
-    };
-    ran.map_err(|answer| Stop::Job { answer, reasons })
+    match ran {
+        Ok(report) => Ok(report),
+        Err(answer) => Err(Stop::Job {
+            answer,
+            reasons: devices.reasons(),
+        }),
+    }
 }
 
 /// Opens the files of a run, empties those that are written, and runs the program over them, if it was accepted.
@@ -217,9 +225,9 @@ fn run_program<R: Files + Input + Print + AllocGlobal>(
 ) -> Result<Report, Stop> {
     let files = open_files(rt, words, wanted)?;
     keep_files(rt, words, &files)?;
-    let devices = emptied_devices(rt, files)?;
+    let mut devices = emptied_devices(rt, files)?;
     match accepted {
-        Ok(program) => run_devices(rt.alloc(), &program, words.date.as_bytes(), devices),
+        Ok(program) => run_devices(rt.alloc(), &program, words.date.as_bytes(), &mut devices),
         Err(fault) => Err(Answer::Object(fault).into()),
     }
 }

@@ -1,7 +1,7 @@
 //! Files that two words name.
 
 use rpg_cli_files::{FileIdentity, Opened, identity, identity_at};
-use rpg_cli_words::{FileWord, SameFile};
+use rpg_cli_words::{FileWord, SameFile, Shared};
 use std::rt::Files;
 
 /// A word of the command line, and the regular file that it names, if it names one.
@@ -61,6 +61,7 @@ pub fn refuse_same_file(written: NamedFile, others: &[NamedFile]) -> Result<(), 
             return Err(SameFile {
                 earlier: earlier.word,
                 written: written.word,
+                shared: Shared::File,
             });
         }
     }

@@ -8,6 +8,6 @@ mod words;
 
 pub use listing::{CardsWanted, CardsWords, ListWords};
 pub use request::{
-    CheckWords, CompileWords, ExplainWords, FileWord, Refusal, Request, RunWords, SameFile,
+    CheckWords, CompileWords, ExplainWords, FileWord, Refusal, Request, RunWords, SameFile, Shared,
     ShowWords, VerifyWords, is_standard, refuse_bytes, refuse_same_file, request_of,
 };

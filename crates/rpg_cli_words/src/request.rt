@@ -137,6 +137,26 @@ impl FileWord {
 pub struct SameFile {
     pub earlier: FileWord,
     pub written: FileWord,
+    pub shared: Shared,
+}
+
+/// What two words name.
+#[derive(Clone, Copy)]
+pub enum Shared {
+    File,
+    StandardInput,
+    StandardOutput,
+}
+
+impl Shared {
+    /// What is said between the two words, and after them.
+    fn texts(self) -> (&'static str, &'static str) {
+        match self {
+            Shared::File => ("is the same file as", ""),
+            Shared::StandardInput => ("and", " are both standard input"),
+            Shared::StandardOutput => ("and", " are both standard output"),
+        }
+    }
 }
 
 impl<'a> Request<'a> {
@@ -197,11 +217,13 @@ impl<'a> RunWords<'a> {
             Some(SameFile {
                 earlier: FileWord::Input,
                 written: FileWord::Secondary,
+                shared: Shared::StandardInput,
             })
         } else if is_standard(self.print) && may_be_standard(self.disk) {
             Some(SameFile {
                 earlier: FileWord::Print,
                 written: FileWord::Disk,
+                shared: Shared::StandardOutput,
             })
         } else {
             None
@@ -267,7 +289,8 @@ pub fn refuse_bytes(alloc: Global) -> Refusal {
 
 fn same_file_error(alloc: Global, same: SameFile) -> Result<Error, AllocError> {
     let (written, earlier) = (same.written.text(), same.earlier.text());
-    let message = format!(in alloc; "'{written}' is the same file as '{earlier}'")?;
+    let (between, after) = same.shared.texts();
+    let message = format!(in alloc; "'{written}' {between} '{earlier}'{after}")?;
     fault_of_words(alloc, ErrorKind::ArgumentConflict, message.as_str())
 }
 
