@@ -3,8 +3,9 @@
 use crate::card::Columns;
 use crate::fault::{LineFault, ShorthandFault};
 use crate::marks::{begins_data, ends_source};
+use rpg_cli_text::TextWriter;
 use rpg_text::{first_line, has_only_characters, trimmed};
-use std::alloc::{AllocError, Global};
+use std::alloc::Global;
 
 /// The last line that may be a card.
 const LAST_LINE: u16 = 2000;
@@ -12,63 +13,69 @@ const LAST_LINE: u16 = 2000;
 /// How many columns a card has.
 const COLUMNS: usize = 80;
 
-fn put_line(out: &mut String, line: &[u8]) -> Result<(), AllocError> {
+pub(crate) fn write_line(out: &mut TextWriter, line: &[u8]) {
     for character in trimmed(line) {
-        out.push(char::from(*character))?;
+        out.write_char(char::from(*character));
     }
-    out.push('\n')
+    out.write_char('\n');
 }
 
 /// Writes the card of a line: one of data as it is, others by their items.
-fn put_card(out: &mut String, line: &[u8], is_data: bool) -> Result<Option<LineFault>, AllocError> {
+fn write_card(out: &mut TextWriter, line: &[u8], is_data: bool) -> Result<(), LineFault> {
     if !has_only_characters(line) {
-        return Ok(Some(LineFault::NoCharacter));
+        return Err(LineFault::NoCharacter);
     }
-    if is_data && trimmed(line).len() > COLUMNS {
-        return Ok(Some(LineFault::TooLong));
+    if !is_data {
+        write_line(out, Columns::of(line)?.as_slice());
+    } else if trimmed(line).len() <= COLUMNS {
+        write_line(out, line);
+    } else {
+        return Err(LineFault::TooLong);
     }
-    if is_data {
-        put_line(out, line)?;
-        return Ok(None);
+    Ok(())
+}
+
+/// The next line and those after it: none at the end of the deck.
+fn next_line(rest: &[u8]) -> Option<(&[u8], &[u8])> {
+    if rest.is_empty() {
+        return None;
     }
-    match Columns::of(line) {
-        Ok(columns) => {
-            put_line(out, columns.as_slice())?;
-            Ok(None)
+    let (line, more) = first_line(rest);
+    if ends_source(line) {
+        None
+    } else {
+        Some((line, more))
+    }
+}
+
+fn refused(line: u16, fault: LineFault) -> ShorthandFault {
+    ShorthandFault::At { line, fault }
+}
+
+fn write_deck(out: &mut TextWriter, shorthand: &[u8]) -> Result<(), ShorthandFault> {
+    let mut rest = shorthand;
+    let mut is_data = false;
+    for number in 1..=LAST_LINE {
+        let Some((line, more)) = next_line(rest) else {
+            return Ok(());
+        };
+        is_data = is_data || begins_data(line);
+        if let Err(fault) = write_card(out, line, is_data) {
+            return Err(refused(number, fault));
         }
-        Err(fault) => Ok(Some(fault)),
+        rest = more;
+    }
+    match next_line(rest) {
+        None => Ok(()),
+        Some(_) => Err(refused(LAST_LINE + 1, LineFault::TooMany)),
     }
 }
 
 /// The cards that lines of shorthand stand for, a line each without the blanks at its end, up to the line `/*`, which isn't among them. A line is
 /// the form type of a card, a blank, and then for each text its column, `=` and the text; a line `**` begins data, which are cards as they
-/// are. The first line that is no card is told.
+/// are. The first line that is no card is an error.
 pub fn deck_of(alloc: Global, shorthand: &[u8]) -> Result<String, ShorthandFault> {
-    let mut out = String::new(alloc);
-    let mut rest = shorthand;
-    let mut is_data = false;
-    for number in 1..=LAST_LINE {
-        if rest.is_empty() {
-            return Ok(out);
-        }
-        let (line, more) = first_line(rest);
-        if ends_source(line) {
-            return Ok(out);
-        }
-        is_data = is_data || begins_data(line);
-        if let Some(fault) = put_card(&mut out, line, is_data)? {
-            return Err(ShorthandFault::At {
-                line: number,
-                fault,
-            });
-        }
-        rest = more;
-    }
-    if rest.is_empty() || ends_source(first_line(rest).0) {
-        return Ok(out);
-    }
-    Err(ShorthandFault::At {
-        line: LAST_LINE + 1,
-        fault: LineFault::TooMany,
-    })
+    let mut out = TextWriter::new(alloc);
+    write_deck(&mut out, shorthand)?;
+    Ok(out.finish()?)
 }

@@ -1,9 +1,8 @@
-//! What is told of a line of shorthand that is no card.
+//! What is wrong with a line of shorthand that is no card.
 
 use crate::fault::LineFault;
-use rpg_cli_messages::put_shown;
+use rpg_cli_text::TextWriter;
 use std::alloc::{AllocError, Global};
-use std::fmt::Write;
 
 /// What is wrong with a line of the file that `path` names.
 pub fn line_message(
@@ -12,9 +11,9 @@ pub fn line_message(
     line: u16,
     fault: LineFault,
 ) -> Result<String, AllocError> {
-    let mut out = String::new(alloc);
+    let mut out = TextWriter::new(alloc);
     let sentence = fault.sentence();
-    put_shown(&mut out, path.as_bytes())?;
-    writeln!(&mut out, ":{line}: {sentence}")?;
-    Ok(out)
+    out.write_shown(path.as_bytes());
+    write!(out, ":{line}: {sentence}\n");
+    out.finish()
 }

@@ -1,13 +1,14 @@
 //! From cards to shorthand.
 
+use crate::deck::write_line;
 use crate::items::column_at;
 use crate::marks::{begins_data, ends_source};
 use rpg_cli_messages::begins_range;
+use rpg_cli_text::TextWriter;
 use rpg_faults::{SourceCode, SourceFault};
 use rpg_sheet::SheetCode;
 use rpg_text::{first_line, has_only_characters, trimmed};
-use std::alloc::{AllocError, Global};
-use std::fmt::Write;
+use std::alloc::Global;
 
 /// The last card that a source may have.
 const LAST_CARD: u16 = 2000;
@@ -67,55 +68,47 @@ fn begins_item(open: Open, line: &[u8], place: usize) -> bool {
     !open.item || (open.within.is_columns() && begins_range(line, column))
 }
 
-/// Writes a character of a card, and answers what is open behind it.
-fn put_character(
-    out: &mut String,
+/// Writes a character of a card, and answers what is open after it.
+fn write_character(
+    out: &mut TextWriter,
     open: Open,
     line: &[u8],
     place: usize,
     character: u8,
-) -> Result<Open, AllocError> {
+) -> Open {
     let column = place.saturating_add(1);
     let behind = line.get(column..).unwrap_or(&[]);
     if place == FORM_TYPE || (character == b' ' && ends_item(open, behind)) {
-        return Ok(Open {
+        return Open {
             item: false,
             ..open
-        });
+        };
     }
     if begins_item(open, line, place) {
-        write!(out, " {column}=")?;
+        write!(out, " {column}=");
     }
-    out.push(char::from(character))?;
-    Ok(Open {
+    out.write_char(char::from(character));
+    Open {
         item: true,
         within: open.within.behind(character),
-    })
+    }
 }
 
 /// Writes a card as a line of shorthand. A comment is one text.
-fn put_shorthand(out: &mut String, line: &[u8]) -> Result<(), AllocError> {
+fn write_shorthand(out: &mut TextWriter, line: &[u8]) {
     let text = trimmed(line);
     if text.is_empty() {
-        return Ok(());
+        return;
     }
     let form = text.get(FORM_TYPE).copied().unwrap_or(b' ');
-    out.push(char::from(form))?;
+    out.write_char(char::from(form));
     let mut open = Open {
         item: false,
         within: Within::of(text),
     };
     for (place, character) in text.iter().enumerate() {
-        open = put_character(out, open, text, place, *character)?;
+        open = write_character(out, open, text, place, *character);
     }
-    Ok(())
-}
-
-fn put_data(out: &mut String, line: &[u8]) -> Result<(), AllocError> {
-    for character in trimmed(line) {
-        out.push(char::from(*character))?;
-    }
-    Ok(())
 }
 
 /// Why a line is no card.
@@ -137,35 +130,40 @@ fn refused(card: u16, code: SheetCode) -> SourceFault {
     }
 }
 
-/// The cards of a source as lines of shorthand, up to the card `/*`, which isn't among them. An item begins behind a blank and where a range of the
-/// card's sheet begins; a text between apostrophes is one item with its blanks. The first card that has more than 80 characters, or a byte that is none,
-/// is told, and card 2,001; nothing else is asked of the cards.
-pub fn shorthand_of(alloc: Global, source: &[u8]) -> Result<String, SourceFault> {
-    let mut out = String::new(alloc);
+fn write_cards(out: &mut TextWriter, source: &[u8]) -> Result<(), SourceFault> {
     let mut rest = source;
     let mut is_data = false;
     for card in 1..=LAST_CARD {
         if rest.is_empty() {
-            return Ok(out);
+            return Ok(());
         }
         let (line, more) = first_line(rest);
         if let Some(code) = code_of(line) {
             return Err(refused(card, code));
         }
         if ends_source(line) {
-            return Ok(out);
+            return Ok(());
         }
         is_data = is_data || begins_data(line);
         if is_data {
-            put_data(&mut out, line)?;
+            write_line(out, line);
         } else {
-            put_shorthand(&mut out, line)?;
+            write_shorthand(out, line);
+            out.write_char('\n');
         }
-        out.push('\n')?;
         rest = more;
     }
     if rest.is_empty() || ends_source(first_line(rest).0) {
-        return Ok(out);
+        return Ok(());
     }
     Err(refused(LAST_CARD + 1, SheetCode::S6))
+}
+
+/// The cards of a source as lines of shorthand, up to the card `/*`, which isn't among them. An item begins after a blank and where a range of the
+/// card's sheet begins; a text between apostrophes is one item with its blanks. The first card that has more than 80 characters, or a byte that is none,
+/// is an error, and so is card 2,001; nothing else is asked of the cards.
+pub fn shorthand_of(alloc: Global, source: &[u8]) -> Result<String, SourceFault> {
+    let mut out = TextWriter::new(alloc);
+    write_cards(&mut out, source)?;
+    Ok(out.finish()?)
 }

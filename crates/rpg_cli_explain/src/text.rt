@@ -2,6 +2,7 @@
 
 use crate::page::Page;
 use crate::topic::{BYTES, HALTS, SHEETS, Topic, WARNINGS};
+use rpg_cli_text::TextWriter;
 use rpg_faults::FaultCode;
 use rpg_verify_rules::RULES;
 use std::alloc::{AllocError, Global};
@@ -10,125 +11,99 @@ use std::alloc::{AllocError, Global};
 const TITLE: &str =
     "# What rpg2's codes mean\n\nrpg2 explain CODE prints the part of this page on one code, as F16, S5, V21, B5 or halt 4; rpg2 explain\nprints it all. A line of cards has its columns as on a sheet: column 1 is the first of the line.\n";
 
-fn put_code(alloc: Global, out: &mut String, topic: Topic) -> Result<(), AllocError> {
+fn write_code(out: &mut TextWriter, topic: Topic) {
     match topic {
-        Topic::Sheet(code) => out.push_str(code.text().as_str()),
-        Topic::Fault(code) => out.push_str(code.text().as_str()),
-        Topic::Warning(code) => out.push_str(code.text()),
+        Topic::Sheet(code) => out.write_str(code.text().as_str()),
+        Topic::Fault(code) => out.write_str(code.text().as_str()),
+        Topic::Warning(code) => out.write_str(code.text()),
         Topic::Halt(halt) => {
             let number = halt.number();
-            out.push_str(format!(in alloc; "halt {number}")?.as_str())
+            write!(out, "halt {number}");
         }
         Topic::Rule(rule) => {
             let number = rule.number();
-            out.push_str(format!(in alloc; "V{number}")?.as_str())
+            write!(out, "V{number}");
         }
-        Topic::Bytes(code) => out.push_str(code.text()),
+        Topic::Bytes(code) => out.write_str(code.text()),
     }
 }
 
-/// A part of a page below a line that names it.
-fn put_part(out: &mut String, name: &str, part: &str) -> Result<(), AllocError> {
-    out.push_str("\n")?;
-    out.push_str(name)?;
-    out.push_str("\n\n")?;
-    out.push_str(part)?;
-    out.push_str("\n")
-}
-
-fn put_sentence(out: &mut String, name: &str, sentence: &str) -> Result<(), AllocError> {
-    out.push_str("\n")?;
-    out.push_str(name)?;
-    out.push_str(sentence)?;
-    out.push_str(".\n")
-}
-
-fn put_page(alloc: Global, out: &mut String, topic: Topic) -> Result<(), AllocError> {
+fn write_page(out: &mut TextWriter, topic: Topic) {
     let Page {
         given,
         breaks,
         keeps,
         advice,
     } = topic.page();
-    out.push_str("## ")?;
-    put_code(alloc, out, topic)?;
-    out.push_str(": ")?;
-    out.push_str(topic.sentence())?;
-    out.push_str("\n")?;
+    let sentence = topic.sentence();
+    let behind = topic.behind();
+    out.write_str("## ");
+    write_code(out, topic);
+    write!(out, ": {sentence}\n");
     if !given.is_empty() {
-        out.push_str("\n")?;
-        out.push_str(given)?;
-        out.push_str("\n")?;
+        write!(out, "\n{given}\n");
     }
-    put_part(out, "Breaks it:", breaks)?;
-    put_part(out, "Keeps it:", keeps)?;
-    put_sentence(out, "What to do: ", advice)?;
-    put_sentence(out, "Then: ", topic.behind())
+    write!(out, "\nBreaks it:\n\n{breaks}\n\nKeeps it:\n\n{keeps}\n");
+    write!(out, "\nWhat to do: {advice}.\n\nThen: {behind}.\n");
 }
 
 /// The page of a code.
 pub fn page_text(alloc: Global, topic: Topic) -> Result<String, AllocError> {
-    let mut out = String::new(alloc);
-    put_page(alloc, &mut out, topic)?;
-    Ok(out)
+    let mut out = TextWriter::new(alloc);
+    write_page(&mut out, topic);
+    out.finish()
 }
 
-fn put_sources(alloc: Global, out: &mut String) -> Result<(), AllocError> {
+fn write_next_page(out: &mut TextWriter, topic: Topic) {
+    out.write_char('\n');
+    write_page(out, topic);
+}
+
+fn write_sources(out: &mut TextWriter) {
     for code in SHEETS {
-        out.push_str("\n")?;
-        put_page(alloc, out, Topic::Sheet(code))?;
+        write_next_page(out, Topic::Sheet(code));
     }
-    Ok(())
 }
 
-fn put_faults(alloc: Global, out: &mut String) -> Result<(), AllocError> {
+fn write_faults(out: &mut TextWriter) {
     for code in FaultCode::all() {
-        out.push_str("\n")?;
-        put_page(alloc, out, Topic::Fault(code))?;
+        write_next_page(out, Topic::Fault(code));
     }
-    Ok(())
 }
 
-fn put_warnings(alloc: Global, out: &mut String) -> Result<(), AllocError> {
+fn write_warnings(out: &mut TextWriter) {
     for code in WARNINGS {
-        out.push_str("\n")?;
-        put_page(alloc, out, Topic::Warning(code))?;
+        write_next_page(out, Topic::Warning(code));
     }
-    Ok(())
 }
 
-fn put_halts(alloc: Global, out: &mut String) -> Result<(), AllocError> {
+fn write_halts(out: &mut TextWriter) {
     for halt in HALTS {
-        out.push_str("\n")?;
-        put_page(alloc, out, Topic::Halt(halt))?;
+        write_next_page(out, Topic::Halt(halt));
     }
-    Ok(())
 }
 
-fn put_rules(alloc: Global, out: &mut String) -> Result<(), AllocError> {
+fn write_rules(out: &mut TextWriter) {
     for rule in RULES {
-        out.push_str("\n")?;
-        put_page(alloc, out, Topic::Rule(rule))?;
+        write_next_page(out, Topic::Rule(rule));
     }
-    Ok(())
 }
 
-fn put_bytes(alloc: Global, out: &mut String) -> Result<(), AllocError> {
+fn write_bytes(out: &mut TextWriter) {
     for code in BYTES {
-        out.push_str("\n")?;
-        put_page(alloc, out, Topic::Bytes(code))?;
+        write_next_page(out, Topic::Bytes(code));
     }
-    Ok(())
 }
 
 /// All pages, as docs/MESSAGES.md has them.
 pub fn all_pages(alloc: Global) -> Result<String, AllocError> {
-    let mut out = String::from_str(alloc, TITLE)?;
-    put_sources(alloc, &mut out)?;
-    put_faults(alloc, &mut out)?;
-    put_warnings(alloc, &mut out)?;
-    put_halts(alloc, &mut out)?;
-    put_rules(alloc, &mut out)?;
-    put_bytes(alloc, &mut out)?;
-    Ok(out)
+    let mut out = TextWriter::new(alloc);
+    out.write_str(TITLE);
+    write_sources(&mut out);
+    write_faults(&mut out);
+    write_warnings(&mut out);
+    write_halts(&mut out);
+    write_rules(&mut out);
+    write_bytes(&mut out);
+    out.finish()
 }

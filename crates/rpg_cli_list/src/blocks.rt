@@ -1,12 +1,11 @@
-//! The blocks of a listing: rows of one file under a heading, each with the cards behind its first.
+//! The blocks of a listing: rows of one file under a heading, each with the cards after its first.
 
 use rpg_cards::SpecCard;
 use rpg_cli_list_names::name_text;
+use rpg_cli_text::TextWriter;
 use rpg_sheet_specs::Word;
-use std::alloc::{AllocError, Global};
-use std::fmt::Write;
 
-/// The cards behind the first of a row, up to the place where the next row begins.
+/// The cards after the first of a row, up to the place where the next row begins.
 pub(crate) fn followers(behind: &[SpecCard], next: Option<usize>) -> &[SpecCard] {
     match next {
         Some(next) => behind.get(..next).unwrap_or(&[]),
@@ -15,20 +14,19 @@ pub(crate) fn followers(behind: &[SpecCard], next: Option<usize>) -> &[SpecCard]
 }
 
 /// What the rows are, the file where a card names it, and the length of its records with the word for what it counts.
-pub(crate) fn put_heading(
-    alloc: Global,
-    out: &mut String,
+pub(crate) fn write_heading(
+    out: &mut TextWriter,
     rows: &str,
     name: Option<&Word<8>>,
     length: Option<(u16, &str)>,
-) -> Result<(), AllocError> {
-    write!(out, "\n{rows}")?;
+) {
+    write!(out, "\n{rows}");
     if let Some(name) = name {
-        let name = name_text(alloc, name.as_slice())?;
-        write!(out, " OF {name}")?;
+        let name = name_text(name.as_slice());
+        write!(out, " OF {name}");
     }
-    match length {
-        Some((length, counted)) => writeln!(out, ", {length} {counted}"),
-        None => out.push('\n'),
+    if let Some((length, counted)) = length {
+        write!(out, ", {length} {counted}");
     }
+    out.write_char('\n');
 }

@@ -1,6 +1,8 @@
 //! A line or a record as it is drawn below a ruler.
 
-use crate::words::put_ruler;
+use crate::words::write_ruler;
+use rpg_cli_text::TextWriter;
+use rpg_text::trimmed;
 use std::alloc::{AllocError, Global};
 
 /// The most places that are drawn: a printed line has no more.
@@ -48,15 +50,15 @@ impl Chart {
         }
     }
 
-    pub fn put(&self, out: &mut String) -> Result<(), AllocError> {
-        out.push_str(MARGIN)?;
-        put_ruler(out, self.places.len())?;
-        out.push('\n')?;
-        let text = rpg_text::trimmed(&self.places);
+    pub fn write(&self, out: &mut TextWriter) {
+        out.write_str(MARGIN);
+        write_ruler(out, self.places.len());
+        out.write_char('\n');
+        let text = trimmed(&self.places);
         if !text.is_empty() {
-            out.push_str(MARGIN)?;
-            rpg_cli_messages::put_shown(out, text)?;
+            out.write_str(MARGIN);
+            out.write_shown(text);
         }
-        out.push('\n')
+        out.write_char('\n');
     }
 }

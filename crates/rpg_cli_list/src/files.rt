@@ -4,9 +4,9 @@ use indexmap::IndexMap;
 use rpg_cards::{FileUse, SpecCard, use_of};
 use rpg_cli_list_names::name_text;
 use rpg_cli_show_fields::Indicator;
+use rpg_cli_text::TextWriter;
 use rpg_sheet_specs::{FileSpec, Word};
 use std::alloc::{AllocError, Global};
-use std::fmt::Write;
 
 /// What the first F card of a file says of it.
 #[derive(Clone, Copy)]
@@ -77,20 +77,18 @@ impl FileIndex {
     }
 
     /// Writes a row for each file.
-    pub fn put(&self, alloc: Global, out: &mut String) -> Result<(), AllocError> {
+    pub fn write(&self, out: &mut TextWriter) {
         if self.files.is_empty() {
-            return Ok(());
+            return;
         }
-        out.push_str("\nFILES\n")?;
+        out.write_str("\nFILES\n");
         for (name, file) in &self.files {
-            let text = name_text(alloc, name.as_slice())?;
-            put_file(out, text.as_str(), *file)?;
+            write_file(out, name_text(name.as_slice()), *file);
         }
-        Ok(())
     }
 }
 
-fn put_file(out: &mut String, name: &str, file: DescribedFile) -> Result<(), AllocError> {
+fn write_file(out: &mut TextWriter, name: &str, file: DescribedFile) {
     let DescribedFile {
         card,
         serves_as,
@@ -102,10 +100,10 @@ fn put_file(out: &mut String, name: &str, file: DescribedFile) -> Result<(), All
     write!(
         out,
         "  {name:<8}  {serves:<9}  {record_length:>4} {words}  card {card}"
-    )?;
+    );
     if let Some(number) = overflow {
         let indicator = Indicator(number);
-        write!(out, ", turns on {indicator} where a page is full")?;
+        write!(out, ", turns on {indicator} where a page is full");
     }
-    out.push('\n')
+    out.write_char('\n');
 }

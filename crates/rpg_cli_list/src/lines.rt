@@ -1,19 +1,19 @@
 //! Lines: when each is put out, how it looks, and where its fields stand.
 
-use crate::blocks::{followers, put_heading};
+use crate::blocks::{followers, write_heading};
 use crate::chart::{Chart, first_place};
 use crate::files::{DescribedFile, FileIndex, length_words};
 use crate::picture::picture;
-use crate::words::put_when;
+use crate::words::write_when;
 use rpg_cards::{FileUse, IndexedCards, SpecCard, time_of};
 use rpg_cli_list_names::name_text;
-use rpg_cli_show_fields::{code_letter, fill_words, put_spacing, quoted, time_word};
+use rpg_cli_show_fields::{code_letter, fill_words, time_word, write_quoted, write_spacing};
+use rpg_cli_text::TextWriter;
 use rpg_edit_marks::Fill;
 use rpg_effect::line::Spacing;
 use rpg_faults_operands::fill_in;
 use rpg_sheet_specs::{Entry, EntryIndex, Movement, OutputField, OutputRecord, OutputSpec};
 use std::alloc::{AllocError, Global};
-use std::fmt::Write;
 
 /// How the form moves: where nothing is said a line is spaced after.
 fn spacing_of(movement: Movement) -> Spacing {
@@ -44,36 +44,36 @@ fn spacing_of(movement: Movement) -> Spacing {
 }
 
 /// When a line is put out.
-fn put_head(
-    out: &mut String,
+fn write_head(
+    out: &mut TextWriter,
     card: u16,
     record: &OutputRecord,
     file: Option<DescribedFile>,
     cards: &[SpecCard],
-) -> Result<(), AllocError> {
+) {
     let time = time_word(time_of(record.time));
-    write!(out, "  line, card {card}: {time}")?;
+    write!(out, "  line, card {card}: {time}");
     match file {
         Some(file) if file.serves_as == FileUse::Printer => {
-            put_spacing(out, spacing_of(record.movement))?;
+            write_spacing(out, spacing_of(record.movement));
         }
         _ => {}
     }
-    put_when(out, ", when", record.conditions)?;
+    write_when(out, ", when", record.conditions);
     for card in cards {
         match card.output() {
-            Some(OutputSpec::And(conditions)) => put_when(out, " and", *conditions)?,
-            Some(OutputSpec::Or(conditions)) => put_when(out, ", or", *conditions)?,
+            Some(OutputSpec::And(conditions)) => write_when(out, " and", *conditions),
+            Some(OutputSpec::Or(conditions)) => write_when(out, ", or", *conditions),
             _ => {}
         }
     }
-    out.push('\n')
+    out.write_char('\n');
 }
 
 /// Draws the fields of a line.
-fn put_chart(
+fn write_chart(
     alloc: Global,
-    out: &mut String,
+    out: &mut TextWriter,
     source: &IndexedCards,
     length: u16,
     cards: &[SpecCard],
@@ -84,7 +84,8 @@ fn put_chart(
             draw_field(alloc, &mut chart, source, field)?;
         }
     }
-    chart.put(out)
+    chart.write(out);
+    Ok(())
 }
 
 fn draw_field(
@@ -103,100 +104,96 @@ fn draw_field(
 }
 
 /// The places of a field: its end alone where it isn't known how wide it is.
-fn places_text(
+fn write_places(
     alloc: Global,
+    out: &mut TextWriter,
     source: &IndexedCards,
     field: &OutputField,
-) -> Result<String, AllocError> {
+) -> Result<(), AllocError> {
     let end = field.end;
     let width = picture(alloc, source, field)?.map(|text| text.len());
     match width.and_then(|width| first_place(width, end)) {
-        Some(first) => format!(in alloc; "{first:>4}-{end:<4}"),
-        None => format!(in alloc; "    -{end:<4}"),
+        Some(first) => write!(out, "{first:>4}-{end:<4}"),
+        None => write!(out, "    -{end:<4}"),
     }
+    Ok(())
 }
 
-fn put_entry(alloc: Global, out: &mut String, entry: &Entry) -> Result<(), AllocError> {
-    let name = name_text(alloc, entry.name.as_slice())?;
-    out.push_str(name.as_str())?;
+fn write_entry(out: &mut TextWriter, entry: &Entry) {
+    out.write_str(name_text(entry.name.as_slice()));
     match &entry.index {
-        None => Ok(()),
+        None => {}
         Some(EntryIndex::Literal(index)) => write!(out, ",{index}"),
         Some(EntryIndex::Name(index)) => {
-            let index = name_text(alloc, index.as_slice())?;
-            write!(out, ",{index}")
+            out.write_char(',');
+            out.write_str(name_text(index.as_slice()));
         }
     }
 }
 
 /// The field or the constant, and how it is edited.
-fn put_printed(alloc: Global, out: &mut String, field: &OutputField) -> Result<(), AllocError> {
+fn write_printed(out: &mut TextWriter, field: &OutputField) {
     if let Some(entry) = &field.operand {
-        put_entry(alloc, out, entry)?;
+        write_entry(out, entry);
     }
     if let Some(code) = field.code {
         let letter = code_letter(code);
         let filled = fill_words(fill_in(&field.text).unwrap_or(Fill::Blank));
-        return write!(out, " by code {letter}{filled}");
-    }
-    match &field.text {
-        None => Ok(()),
-        Some(text) => {
-            let by = if field.operand.is_some() {
-                " by word "
-            } else {
-                ""
-            };
-            let text = quoted(alloc, text.as_slice())?;
-            write!(out, "{by}{text}")
+        write!(out, " by code {letter}{filled}");
+    } else if let Some(text) = &field.text {
+        if field.operand.is_some() {
+            out.write_str(" by word ");
         }
+        write_quoted(out, text.as_slice());
     }
 }
 
-fn put_field(
+fn write_field(
     alloc: Global,
-    out: &mut String,
+    out: &mut TextWriter,
     source: &IndexedCards,
     card: u16,
     field: &OutputField,
 ) -> Result<(), AllocError> {
-    let places = places_text(alloc, source, field)?;
-    write!(out, "  {card:>6}  {places}  ")?;
-    put_printed(alloc, out, field)?;
+    write!(out, "  {card:>6}  ");
+    write_places(alloc, out, source, field)?;
+    out.write_str("  ");
+    write_printed(out, field);
     if field.blank_after {
-        out.push_str(", blank after")?;
+        out.write_str(", blank after");
     }
-    put_when(out, ", when", field.conditions)?;
-    out.push('\n')
+    write_when(out, ", when", field.conditions);
+    out.write_char('\n');
+    Ok(())
 }
 
 /// Writes a line with its fields.
-fn put_line(
+fn write_line(
     alloc: Global,
-    out: &mut String,
+    out: &mut TextWriter,
     source: &IndexedCards,
     file: Option<DescribedFile>,
     cards: &[SpecCard],
 ) -> Result<(), AllocError> {
     if let Some(file) = file {
-        put_chart(alloc, out, source, file.record_length, cards)?;
+        write_chart(alloc, out, source, file.record_length, cards)?;
     }
     if !cards.iter().any(|card| card.output_field().is_some()) {
         return Ok(());
     }
-    out.push_str("    card  places     printed\n")?;
+    out.write_str("    card  places     printed\n");
     for card in cards {
         if let Some(field) = card.output_field() {
-            put_field(alloc, out, source, card.number, field)?;
+            write_field(alloc, out, source, card.number, field)?;
         }
     }
     Ok(())
 }
 
 /// Writes all lines as they are put out.
-pub(crate) fn put_lines(
+pub(crate) fn write_lines(
     alloc: Global,
-    out: &mut String,
+    out: &mut TextWriter,
     files: &FileIndex,
     source: &IndexedCards,
 ) -> Result<(), AllocError> {
@@ -212,13 +209,13 @@ pub(crate) fn put_lines(
         }
         if is_first || record.file.is_some() {
             let length = file.map(|file| (file.record_length, length_words(file.serves_as)));
-            put_heading(alloc, out, "LINES", record.file.as_ref(), length)?;
+            write_heading(out, "LINES", record.file.as_ref(), length);
         }
         is_first = false;
         let behind = cards.get(place.saturating_add(1)..).unwrap_or(&[]);
         let behind = followers(behind, behind.iter().position(|card| card.line().is_some()));
-        put_head(out, card.number, record, file, behind)?;
-        put_line(alloc, out, source, file, behind)?;
+        write_head(out, card.number, record, file, behind);
+        write_line(alloc, out, source, file, behind)?;
     }
     Ok(())
 }

@@ -2,25 +2,11 @@
 
 use rpg_cards::{SpecCard, is_table};
 use rpg_cli_list_names::name_text;
+use rpg_cli_text::TextWriter;
 use rpg_sheet_specs::{ExtensionSpec, TableSpec};
-use std::alloc::{AllocError, Global};
-use std::fmt::Write;
 
-fn decimals_text(alloc: Global, decimals: Option<u8>) -> Result<String, AllocError> {
-    match decimals {
-        Some(decimals) => format!(in alloc; "{decimals}"),
-        None => Ok(String::new(alloc)),
-    }
-}
-
-fn put_table(
-    alloc: Global,
-    out: &mut String,
-    card: u16,
-    extension: &ExtensionSpec,
-    table: &TableSpec,
-) -> Result<(), AllocError> {
-    let name = name_text(alloc, table.name.as_slice())?;
+fn write_table(out: &mut TextWriter, card: u16, extension: &ExtensionSpec, table: &TableSpec) {
+    let name = name_text(table.name.as_slice());
     let kind = if is_table(&table.name) {
         "table"
     } else {
@@ -28,54 +14,53 @@ fn put_table(
     };
     let entries = extension.entries;
     let length = table.length;
-    let decimals = decimals_text(alloc, table.decimals)?;
+    write!(
+        out,
+        "  {card:>4}  {name:<6}  {kind}  {entries:>7}  {length:>6}  "
+    );
+    write_decimals(out, table.decimals);
     let order = if table.ascending { "ascending" } else { "" };
-    let data = data_text(alloc, extension)?;
-    let row = format!(in alloc;
-        "  {card:>4}  {name:<6}  {kind}  {entries:>7}  {length:>6}  {decimals:>8}  {order:<9}  {data}"
-    )?;
-    writeln!(out, "{}", row.trim_end())
+    write!(out, "  {order:<9}  ");
+    write_data(out, extension);
+    out.end_line();
 }
 
-/// How the data stand on their cards.
-fn data_text(alloc: Global, extension: &ExtensionSpec) -> Result<String, AllocError> {
-    match (extension.entries_per_card, &extension.alternating) {
-        (None, _) => String::from_str(alloc, "no data"),
-        (Some(count), None) => format!(in alloc; "{count} on a card"),
-        (Some(count), Some(_)) => format!(in alloc; "{count} pairs on a card"),
+/// Writes decimals into their column, which tables and fields have.
+pub(crate) fn write_decimals(out: &mut TextWriter, decimals: Option<u8>) {
+    match decimals {
+        Some(decimals) => write!(out, "{decimals:>8}"),
+        None => out.write_str("        "),
     }
 }
 
-fn put_extension(
-    alloc: Global,
-    out: &mut String,
-    card: u16,
-    extension: &ExtensionSpec,
-) -> Result<(), AllocError> {
-    put_table(alloc, out, card, extension, &extension.table)?;
-    match &extension.alternating {
-        Some(table) => put_table(alloc, out, card, extension, table),
-        None => Ok(()),
+/// How the data stand on their cards.
+fn write_data(out: &mut TextWriter, extension: &ExtensionSpec) {
+    match (extension.entries_per_card, &extension.alternating) {
+        (None, _) => out.write_str("no data"),
+        (Some(count), None) => write!(out, "{count} on a card"),
+        (Some(count), Some(_)) => write!(out, "{count} pairs on a card"),
+    }
+}
+
+fn write_extension(out: &mut TextWriter, card: u16, extension: &ExtensionSpec) {
+    write_table(out, card, extension, &extension.table);
+    if let Some(table) = &extension.alternating {
+        write_table(out, card, extension, table);
     }
 }
 
 /// Writes a row for each table and array of the E cards.
-pub(crate) fn put_tables(
-    alloc: Global,
-    out: &mut String,
-    cards: &[SpecCard],
-) -> Result<(), AllocError> {
+pub(crate) fn write_tables(out: &mut TextWriter, cards: &[SpecCard]) {
     let mut is_first = true;
     for card in cards {
         if let Some(extension) = card.extension() {
             if is_first {
-                out.push_str(
+                out.write_str(
                     "\nTABLES AND ARRAYS\n  card  name    is     entries  length  decimals  sequence   data\n",
-                )?;
+                );
             }
             is_first = false;
-            put_extension(alloc, out, card.number, extension)?;
+            write_extension(out, card.number, extension);
         }
     }
-    Ok(())
 }

@@ -3,10 +3,10 @@
 use crate::numbers::Numbers;
 use indexmap::IndexMap;
 use rpg_cards::{Constant, SpecCard};
-use rpg_cli_show_fields::{form_text, quoted, value_text};
+use rpg_cli_show_fields::{write_form, write_quoted, write_value};
+use rpg_cli_text::TextWriter;
 use rpg_effect::value::Value;
 use std::alloc::{AllocError, Global};
-use std::fmt::Write;
 
 /// The constants in the order of the cards, equal ones once.
 #[derive(Drop)]
@@ -14,6 +14,12 @@ pub struct Constants {
     alloc: Global,
     constants: IndexMap<Constant, Numbers>,
 }
+
+/// How wide the column of forms is.
+const FORM: usize = 19;
+
+/// How wide the column of values is.
+const VALUE: usize = 26;
 
 /// How many columns stand before the cards of a constant.
 const CARDS: usize = 58;
@@ -48,41 +54,36 @@ impl Constants {
     }
 
     /// Writes a row for each constant; so many fields come before them.
-    pub fn put(&self, alloc: Global, out: &mut String, fields: u16) -> Result<(), AllocError> {
+    pub fn write(&self, out: &mut TextWriter, fields: u16) {
         if self.constants.is_empty() {
-            return Ok(());
+            return;
         }
-        out.push_str(
+        out.write_str(
             "\nCONSTANTS AND EDIT WORDS\n  field  form                 value                       used on\n",
-        )?;
+        );
         let mut field = fields;
         for (constant, cards) in &self.constants {
             field = field.saturating_add(1);
-            put_constant(alloc, out, field, constant)?;
-            cards.put(out, CARDS)?;
-            out.push('\n')?;
+            write_constant(out, field, constant);
+            cards.write_lines(out, CARDS);
+            out.write_char('\n');
         }
-        Ok(())
     }
 }
 
-fn put_constant(
-    alloc: Global,
-    out: &mut String,
-    field: u16,
-    constant: &Constant,
-) -> Result<(), AllocError> {
-    let number = format!(in alloc; "#{field}")?;
-    let form = form_text(alloc, constant.form())?;
-    let value = constant_text(alloc, constant)?;
-    write!(out, "  {number:<5}  {form:<19}  {value:<26}  ")
-}
-
-fn constant_text(alloc: Global, constant: &Constant) -> Result<String, AllocError> {
+fn write_constant(out: &mut TextWriter, field: u16, constant: &Constant) {
+    write!(out, "  #{field:<4}  ");
+    let end = out.len().saturating_add(FORM);
+    write_form(out, constant.form());
+    out.pad_to(end);
+    out.write_str("  ");
+    let end = out.len().saturating_add(VALUE);
     match constant {
         Constant::Number(number) => {
-            value_text(alloc, &Value::Number(number.value()), number.decimals())
+            write_value(out, &Value::Number(number.value()), number.decimals());
         }
-        Constant::Text(text) => quoted(alloc, text.as_slice()),
+        Constant::Text(text) => write_quoted(out, text.as_slice()),
     }
+    out.pad_to(end);
+    out.write_str("  ");
 }

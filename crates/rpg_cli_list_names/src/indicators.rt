@@ -3,14 +3,17 @@
 use crate::turning::{By, Outcome, Turning, machine_words};
 use rpg_cards::{SpecCard, level};
 use rpg_cli_show_fields::Indicator;
+use rpg_cli_text::TextWriter;
 use rpg_sheet_specs::{
     CalculationSpec, Condition, FileSpec, InputField, InputSpec, OutputSpec, Spec, Three,
 };
 use std::alloc::{AllocError, Global};
-use std::fmt::Write;
 
 /// One more than the greatest number of an indicator.
 const BEHIND: usize = 130;
+
+/// How wide the column of what turns an indicator on is.
+const TURNED: usize = 40;
 
 /// How many cards that ask stand on a line.
 const ON_A_LINE: usize = 8;
@@ -175,19 +178,18 @@ impl Indicators {
     }
 
     /// Writes rows for each indicator that a card names.
-    pub fn put(&self, alloc: Global, out: &mut String) -> Result<(), AllocError> {
+    pub fn write(&self, out: &mut TextWriter) {
         if !self.uses.iter().any(|uses| uses.are_some()) {
-            return Ok(());
+            return;
         }
-        out.push_str(
+        out.write_str(
             "\nINDICATORS\n      turned on by                              asked on (N: where it's off)\n",
-        )?;
+        );
         for (number, uses) in self.uses.iter().enumerate() {
             if uses.are_some() {
-                uses.put(alloc, out, number)?;
+                uses.write(out, number);
             }
         }
-        Ok(())
     }
 }
 
@@ -196,55 +198,58 @@ impl IndicatorUses {
         !self.turned.is_empty() || !self.asked.is_empty()
     }
 
-    /// Who turns it on or off, a text each.
-    fn turned_texts(&self, alloc: Global, number: usize) -> Result<Vec<String>, AllocError> {
-        let mut texts = Vec::new(alloc);
-        for turning in &self.turned {
-            texts.push(turning.text(alloc)?)?;
-        }
+    /// What stands below the cards that turn it on or off: the machine where it does, or that nothing does.
+    fn last_words(&self, number: usize) -> Option<&'static str> {
         match machine_words(number) {
-            Some(words) => texts.push(String::from_str(alloc, words)?)?,
-            None if texts.is_empty() => texts.push(String::from_str(alloc, "nothing")?)?,
-            None => {}
+            Some(words) => Some(words),
+            None if self.turned.is_empty() => Some("nothing"),
+            None => None,
         }
-        Ok(texts)
     }
 
-    fn put(&self, alloc: Global, out: &mut String, number: usize) -> Result<(), AllocError> {
-        let turned = self.turned_texts(alloc, number)?;
-        let lines = (self.asked.len().saturating_add(ON_A_LINE - 1) / ON_A_LINE).max(turned.len());
+    fn write(&self, out: &mut TextWriter, number: usize) {
+        let last = self.last_words(number);
+        let turned = self
+            .turned
+            .len()
+            .saturating_add(usize::from(last.is_some()));
+        let lines = (self.asked.len().saturating_add(ON_A_LINE - 1) / ON_A_LINE).max(turned);
         for line in 0..lines {
-            let name = name_text(alloc, number, line)?;
-            let by = turned.get(line).map_or("", |text| text.as_str());
-            let mut row = format!(in alloc; "  {name:<2}  {by:<40}  ")?;
-            put_asked(&mut row, line, &self.asked)?;
-            writeln!(out, "{}", row.trim_end())?;
+            write_name(out, number, line);
+            let end = out.len().saturating_add(TURNED);
+            match (self.turned.get(line), last) {
+                (Some(turning), _) => turning.write(out),
+                (None, Some(words)) if line == self.turned.len() => out.write_str(words),
+                (None, _) => {}
+            }
+            out.pad_to(end);
+            out.write_str("  ");
+            write_asked(out, line, &self.asked);
+            out.end_line();
         }
-        Ok(())
     }
 }
 
 /// The name of an indicator on the first of its lines.
-fn name_text(alloc: Global, number: usize, line: usize) -> Result<String, AllocError> {
+fn write_name(out: &mut TextWriter, number: usize, line: usize) {
     match u8::try_from(number) {
         Ok(number) if line == 0 => {
             let indicator = Indicator(number);
-            format!(in alloc; "{indicator}")
+            write!(out, "  {indicator}  ");
         }
-        _ => Ok(String::new(alloc)),
+        _ => out.write_str("      "),
     }
 }
 
 /// Writes the cards that ask on a line.
-fn put_asked(out: &mut String, line: usize, asked: &[Asking]) -> Result<(), AllocError> {
+fn write_asked(out: &mut TextWriter, line: usize, asked: &[Asking]) {
     if line == 0 && asked.is_empty() {
-        return out.push_str("nothing");
+        out.write_str("nothing");
     }
     let before = line.saturating_mul(ON_A_LINE);
     for asking in asked.iter().skip(before).take(ON_A_LINE) {
         let Asking { card, is_negated } = *asking;
         let off = if is_negated { "N" } else { "" };
-        write!(out, "{card}{off} ")?;
+        write!(out, "{card}{off} ");
     }
-    Ok(())
 }

@@ -4,9 +4,9 @@ use crate::numbers::Numbers;
 use indexmap::IndexMap;
 use rpg_cards::{Named, SpecCard, gives, wants};
 use rpg_cli_source::name_text;
+use rpg_cli_text::TextWriter;
 use rpg_sheet_specs::Word;
 use std::alloc::{AllocError, Global};
-use std::fmt::Write;
 
 /// The cards that give a name, and those that go there.
 #[derive(Drop)]
@@ -67,23 +67,28 @@ impl Labels {
     }
 
     /// Writes a row for each label and subroutine.
-    pub fn put(&self, alloc: Global, out: &mut String) -> Result<(), AllocError> {
+    pub fn write(&self, out: &mut TextWriter) {
         if self.labels.is_empty() {
-            return Ok(());
+            return;
         }
-        out.push_str("\nLABELS AND SUBROUTINES\n  name    is          given on    gone to from\n")?;
+        out.write_str("\nLABELS AND SUBROUTINES\n  name    is          given on    gone to from\n");
         for (name, uses) in &self.labels {
-            let name = name_text(alloc, name.as_slice())?;
-            let is = if uses.is_subroutine {
-                "subroutine"
-            } else {
-                "label"
-            };
-            let given = uses.given.text(alloc)?;
-            write!(out, "  {name:<6}  {is:<10}  {given:<10}  ")?;
-            uses.wanted.put(out, WANTED)?;
-            out.push('\n')?;
+            uses.write(out, name_text(name.as_slice()));
         }
-        Ok(())
+    }
+}
+
+impl LabelUses {
+    fn write(&self, out: &mut TextWriter, name: &str) {
+        let is = if self.is_subroutine {
+            "subroutine"
+        } else {
+            "label"
+        };
+        write!(out, "  {name:<6}  {is:<10}  ");
+        self.given.write_column(out);
+        out.write_str("  ");
+        self.wanted.write_lines(out, WANTED);
+        out.write_char('\n');
     }
 }

@@ -2,14 +2,14 @@
 
 use crate::numbers::Numbers;
 use rpg_cards::{Column, Content, Defined, IndexedCards, SpecCard, columns};
-use rpg_cli_show_fields::form_text;
+use rpg_cli_show_fields::write_form;
 use rpg_cli_source::name_text;
+use rpg_cli_text::TextWriter;
 use rpg_sheet_specs::{
     CalculationSpec, Entry, EntryIndex, Factor, Operation, OutputField, Spec, Word,
 };
 use std::alloc::{AllocError, Global};
 use std::collections::BTreeMap;
-use std::fmt::Write;
 
 /// A name with blanks behind it.
 type NameKey = [u8; 6];
@@ -51,30 +51,28 @@ impl NameUses {
         }
     }
 
-    fn put(&self, alloc: Global, out: &mut String, form: &str) -> Result<(), AllocError> {
-        let name = name_text(alloc, self.name.as_slice())?;
-        let field = field_text(alloc, self.field)?;
-        let defined = self.defined.text(alloc)?;
-        let set = self.set.text(alloc)?;
-        write!(
-            out,
-            "  {name:<6}  {field:<5}  {form:<24}  {defined:<10}  {set:<10}  "
-        )?;
-        self.used.put(out, USED)?;
-        out.push('\n')
+    fn write(&self, out: &mut TextWriter, defined: Defined) {
+        let name = name_text(self.name.as_slice());
+        write!(out, "  {name:<6}  ");
+        match self.field {
+            Some(number) => write!(out, "#{number:<4}  "),
+            None => out.write_str("-      "),
+        }
+        write_defined(out, defined);
+        self.defined.write_column(out);
+        out.write_str("  ");
+        self.set.write_column(out);
+        out.write_str("  ");
+        self.used.write_lines(out, USED);
+        out.write_char('\n');
     }
 }
+
+/// How wide the column of forms is.
+const FORM: usize = 24;
 
 /// How many columns stand before the cards that use a name.
 const USED: usize = 67;
-
-/// A field as `rpg2 show` names it.
-fn field_text(alloc: Global, field: Option<u16>) -> Result<String, AllocError> {
-    match field {
-        Some(number) => format!(in alloc; "#{number}"),
-        None => String::from_str(alloc, "-"),
-    }
-}
 
 /// All names in the order of their characters.
 #[derive(Drop)]
@@ -221,27 +219,23 @@ impl Names {
     }
 
     /// Writes a row for each name.
-    pub fn put(
-        &self,
-        alloc: Global,
-        out: &mut String,
-        source: &IndexedCards,
-    ) -> Result<(), AllocError> {
-        out.push_str(
+    pub fn write(&self, out: &mut TextWriter, source: &IndexedCards) {
+        out.write_str(
             "\nNAMES\n  name    field  form                      defined on  set on      used on\n",
-        )?;
+        );
         for (_, uses) in &self.names {
-            let form = defined_text(alloc, source.form_of_name(&uses.name))?;
-            uses.put(alloc, out, form.as_str())?;
+            uses.write(out, source.form_of_name(&uses.name));
         }
-        Ok(())
     }
 }
 
-fn defined_text(alloc: Global, defined: Defined) -> Result<String, AllocError> {
+fn write_defined(out: &mut TextWriter, defined: Defined) {
+    let end = out.len().saturating_add(FORM);
     match defined {
-        Defined::Missing => String::from_str(alloc, "not defined"),
-        Defined::Bad => String::from_str(alloc, "past a limit"),
-        Defined::Good(form) => form_text(alloc, form),
+        Defined::Missing => out.write_str("not defined"),
+        Defined::Bad => out.write_str("past a limit"),
+        Defined::Good(form) => write_form(out, form),
     }
+    out.pad_to(end);
+    out.write_str("  ");
 }

@@ -1,17 +1,13 @@
 //! The numbers of cards.
 
+use rpg_cli_text::TextWriter;
 use std::alloc::{AllocError, Global};
-use std::fmt::Write;
 
 /// How many numbers stand on a line of the listing.
 const ON_A_LINE: usize = 12;
 
-fn put_blanks(out: &mut String, count: usize) -> Result<(), AllocError> {
-    for _ in 0..count {
-        out.push(' ')?;
-    }
-    Ok(())
-}
+/// How wide a column of numbers is.
+const COLUMN: usize = 10;
 
 /// Numbers of cards, each once, in their order.
 #[derive(Drop)]
@@ -34,35 +30,36 @@ impl Numbers {
         Ok(self.list.push(number)?)
     }
 
-    /// The numbers with blanks between them, or a dash where there is none.
-    pub fn text(&self, alloc: Global) -> Result<String, AllocError> {
-        let mut out = String::new(alloc);
+    /// Writes the numbers into a column, or a dash where there is none.
+    pub fn write_column(&self, out: &mut TextWriter) {
+        let end = out.len().saturating_add(COLUMN);
         for (i, number) in self.list.iter().enumerate() {
             if i > 0 {
-                out.push(' ')?;
+                out.write_char(' ');
             }
-            write!(out, "{number}")?;
+            write!(out, "{number}");
         }
-        if self.list.is_empty() {
-            out.push('-')?;
-        }
-        Ok(out)
+        self.write_none(out);
+        out.pad_to(end);
     }
 
-    /// Writes the numbers, twelve on a line; further lines begin behind so many blanks.
-    pub fn put(&self, out: &mut String, margin: usize) -> Result<(), AllocError> {
+    /// Writes the numbers, twelve on a line, or a dash where there is none; further lines begin after so many blanks.
+    pub fn write_lines(&self, out: &mut TextWriter, margin: usize) {
         for (i, number) in self.list.iter().enumerate() {
             if i > 0 && i % ON_A_LINE == 0 {
-                out.push('\n')?;
-                put_blanks(out, margin)?;
+                out.write_char('\n');
+                out.pad_to(out.len().saturating_add(margin));
             } else if i > 0 {
-                out.push(' ')?;
+                out.write_char(' ');
             }
-            write!(out, "{number}")?;
+            write!(out, "{number}");
         }
+        self.write_none(out);
+    }
+
+    fn write_none(&self, out: &mut TextWriter) {
         if self.list.is_empty() {
-            out.push('-')?;
+            out.write_char('-');
         }
-        Ok(())
     }
 }

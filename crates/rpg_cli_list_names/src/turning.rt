@@ -1,8 +1,8 @@
 //! What turns indicators on and off.
 
 use crate::operations::letters;
+use rpg_cli_text::TextWriter;
 use rpg_sheet_specs::Operation;
-use std::alloc::{AllocError, Global};
 
 /// Which of three resulting indicators it is.
 #[derive(Clone, Copy)]
@@ -47,41 +47,42 @@ fn compared_word(outcome: Outcome) -> &'static str {
     }
 }
 
-fn result_text(
-    alloc: Global,
-    operation: Operation,
-    outcome: Outcome,
-) -> Result<String, AllocError> {
+fn write_result(out: &mut TextWriter, operation: Operation, outcome: Outcome) {
     let name = letters(operation);
-    let word = match operation {
-        Operation::SetOn => return String::from_str(alloc, name),
-        Operation::SetOff => return format!(in alloc; "off by {name}"),
-        Operation::Compare | Operation::LookUp => compared_word(outcome),
-        _ => outcome_word(outcome),
-    };
-    format!(in alloc; "{name} {word}")
+    match operation {
+        Operation::SetOn => out.write_str(name),
+        Operation::SetOff => write!(out, "off by {name}"),
+        Operation::Compare | Operation::LookUp => {
+            let word = compared_word(outcome);
+            write!(out, "{name} {word}");
+        }
+        _ => {
+            let word = outcome_word(outcome);
+            write!(out, "{name} {word}");
+        }
+    }
 }
 
-fn words_of(alloc: Global, by: By) -> Result<String, AllocError> {
+fn write_by(out: &mut TextWriter, by: By) {
     match by {
-        By::RecordType => String::from_str(alloc, "record type"),
-        By::ControlField => String::from_str(alloc, "control field"),
-        By::FullPage => String::from_str(alloc, "a full page"),
-        By::Field(Outcome::Zero) => String::from_str(alloc, "input field zero or blank"),
+        By::RecordType => out.write_str("record type"),
+        By::ControlField => out.write_str("control field"),
+        By::FullPage => out.write_str("a full page"),
+        By::Field(Outcome::Zero) => out.write_str("input field zero or blank"),
         By::Field(outcome) => {
             let word = outcome_word(outcome);
-            format!(in alloc; "input field {word}")
+            write!(out, "input field {word}");
         }
-        By::Result(None, outcome) => String::from_str(alloc, outcome_word(outcome)),
-        By::Result(Some(operation), outcome) => result_text(alloc, operation, outcome),
+        By::Result(None, outcome) => out.write_str(outcome_word(outcome)),
+        By::Result(Some(operation), outcome) => write_result(out, operation, outcome),
     }
 }
 
 impl Turning {
-    pub fn text(self, alloc: Global) -> Result<String, AllocError> {
-        let words = words_of(alloc, self.by)?;
+    pub fn write(self, out: &mut TextWriter) {
+        write_by(out, self.by);
         let card = self.card;
-        format!(in alloc; "{words}, card {card}")
+        write!(out, ", card {card}");
     }
 }
 

@@ -1,5 +1,7 @@
 //! The kinds of cards, as far as the names of their columns differ.
 
+use rpg_text::is_blank;
+
 /// A card by what its columns are called.
 #[derive(Clone, Copy)]
 pub(crate) enum CardKind {
@@ -18,27 +20,21 @@ pub(crate) enum CardKind {
     Unknown,
 }
 
-fn is_blank_between(line: &[u8], first: usize, last: usize) -> bool {
-    line.iter()
-        .skip(first.saturating_sub(1))
-        .take(last.saturating_sub(first).saturating_add(1))
-        .all(|c| *c == b' ')
+/// What stands in these columns, as far as the line goes.
+fn columns(line: &[u8], first: usize, last: usize) -> &[u8] {
+    line.get(first.saturating_sub(1)..last.min(line.len()))
+        .unwrap_or(&[])
 }
 
-/// Whether a word stands in these columns, and nothing in those before it from column 7 on.
-fn begins_with(line: &[u8], first: usize, word: &[u8]) -> bool {
-    is_blank_between(line, 7, first.saturating_sub(1))
-        && line
-            .iter()
-            .skip(first.saturating_sub(1))
-            .take(word.len())
-            .eq(word.iter())
+/// Whether a word stands from column 14 on, and nothing in those before it from column 7 on.
+fn begins_with(line: &[u8], word: &[u8]) -> bool {
+    is_blank(columns(line, 7, 13)) && columns(line, 14, word.len().saturating_add(13)) == word
 }
 
 fn input_kind(line: &[u8]) -> CardKind {
-    if begins_with(line, 14, b"AND") {
+    if begins_with(line, b"AND") {
         CardKind::RecordCodes
-    } else if is_blank_between(line, 7, 16) {
+    } else if is_blank(columns(line, 7, 16)) {
         CardKind::InputField
     } else {
         CardKind::RecordType
@@ -46,9 +42,9 @@ fn input_kind(line: &[u8]) -> CardKind {
 }
 
 fn output_kind(line: &[u8]) -> CardKind {
-    if begins_with(line, 14, b"AND") || begins_with(line, 14, b"OR") {
+    if begins_with(line, b"AND") || begins_with(line, b"OR") {
         CardKind::LineConditions
-    } else if is_blank_between(line, 7, 16) {
+    } else if is_blank(columns(line, 7, 16)) {
         CardKind::OutputField
     } else {
         CardKind::Line
@@ -60,7 +56,7 @@ impl CardKind {
         match line.get(5) {
             Some(b'H') => CardKind::Header,
             Some(b'F') => CardKind::File,
-            Some(b'E') if is_blank_between(line, 46, 51) => CardKind::ExtensionAlone,
+            Some(b'E') if is_blank(columns(line, 46, 51)) => CardKind::ExtensionAlone,
             Some(b'E') => CardKind::Extension,
             Some(b'I') => input_kind(line),
             Some(b'C') => CardKind::Calculation,

@@ -1,14 +1,6 @@
 //! Counts in words.
 
-use std::alloc::{AllocError, Global};
-
-/// A count, and what is counted by the name of one or of more.
-pub(crate) fn counted(
-    alloc: Global,
-    count: usize,
-    one: &str,
-    more: &str,
-) -> Result<String, AllocError> {
-    let word = if count == 1 { one } else { more };
-    format!(in alloc; "{count} {word}")
+/// The name of what is counted: that of one, or of more.
+pub(crate) fn noun(count: usize, one: &'static str, more: &'static str) -> &'static str {
+    if count == 1 { one } else { more }
 }

@@ -1,33 +1,38 @@
 //! F18: how many data a table wants, and how many stand there.
 
-use crate::counted::counted;
-use crate::entries::{EntryColumns, first_bad, put_bad_entry};
+use crate::counted::noun;
+use crate::entries::{EntryColumns, first_bad, write_bad_entry};
 use rpg_cards::SpecCard;
+use rpg_cli_text::TextWriter;
 use rpg_faults::{begins_deck, data_cards, data_columns, has_forms, wants_data};
 use rpg_sheet_specs::{DataSpec, ExtensionSpec, Spec, TableSpec};
-use std::alloc::{AllocError, Global};
-use std::fmt::Write;
 
 /// The columns of a card.
 const COLUMNS: usize = 80;
 
 /// How many E cards before a card want data.
 fn count_wanted(cards: &[SpecCard], before: u16) -> usize {
-    cards
-        .iter()
-        .filter(|card| card.number < before && wants_data(card))
-        .count()
+    let mut count = 0usize;
+    for card in cards {
+        if card.number < before && wants_data(card) {
+            count = count.saturating_add(1);
+        }
+    }
+    count
 }
 
 /// How many cards before a card begin data.
 fn count_decks(cards: &[SpecCard], before: u16) -> usize {
-    cards
-        .iter()
-        .filter(|card| card.number < before && begins_deck(card))
-        .count()
+    let mut count = 0usize;
+    for card in cards {
+        if card.number < before && begins_deck(card) {
+            count = count.saturating_add(1);
+        }
+    }
+    count
 }
 
-/// The cards behind a `**` card, the first such being 0.
+/// The cards after a `**` card, the first such being 0.
 fn deck_at(cards: &[SpecCard], number: usize) -> Option<&[SpecCard]> {
     let mut before = number;
     for (i, card) in cards.iter().enumerate() {
@@ -42,33 +47,32 @@ fn deck_at(cards: &[SpecCard], number: usize) -> Option<&[SpecCard]> {
 }
 
 /// How many cards of data are wanted.
-fn put_wanted(
-    alloc: Global,
-    out: &mut String,
-    entries: u16,
-    per_card: u16,
-) -> Result<usize, AllocError> {
-    let wanted = usize::from(entries)
+fn cards_wanted(entries: u16, per_card: u16) -> usize {
+    usize::from(entries)
         .saturating_add(usize::from(per_card).saturating_sub(1))
         .checked_div(usize::from(per_card))
-        .unwrap_or(0);
-    let of_entries = counted(alloc, usize::from(entries), "entry", "entries")?;
-    let want = if entries == 1 { "wants" } else { "want" };
-    let of_cards = counted(alloc, wanted, "card", "cards")?;
+        .unwrap_or(0)
+}
+
+/// What so many entries want.
+fn write_wanted(out: &mut TextWriter, entries: u16, per_card: u16) {
+    let wanted = cards_wanted(entries, per_card);
+    let of_entries = noun(usize::from(entries), "entry", "entries");
+    let want = noun(usize::from(entries), "wants", "want");
+    let of_cards = noun(wanted, "card", "cards");
     write!(
         out,
-        ": {of_entries}, {per_card} a card, {want} {of_cards} of data, and "
-    )?;
-    Ok(wanted)
+        ": {entries} {of_entries}, {per_card} a card, {want} {wanted} {of_cards} of data, and "
+    );
 }
 
 /// The first entry of the card's tables that is wrong.
-fn put_entries(
-    out: &mut String,
+fn write_entries(
+    out: &mut TextWriter,
     extension: &ExtensionSpec,
     per_card: u16,
     deck: &[SpecCard],
-) -> Result<(), AllocError> {
+) {
     let first = EntryColumns {
         per_card: usize::from(per_card),
         width: data_columns(extension) as usize,
@@ -76,106 +80,90 @@ fn put_entries(
         length: usize::from(extension.table.length),
     };
     if let Some(bad) = first_bad(&extension.table, extension.entries, first, deck) {
-        return put_bad_entry(out, &extension.table, bad);
-    }
-    match &extension.alternating {
-        Some(table) => put_second(out, table, extension.entries, first, deck),
-        None => Ok(()),
+        write_bad_entry(out, &extension.table, bad);
+    } else if let Some(table) = &extension.alternating {
+        write_second(out, table, extension.entries, first, deck);
     }
 }
 
 /// The first entry of an alternating table that is wrong.
-fn put_second(
-    out: &mut String,
+fn write_second(
+    out: &mut TextWriter,
     table: &TableSpec,
     entries: u16,
     first: EntryColumns,
     deck: &[SpecCard],
-) -> Result<(), AllocError> {
+) {
     let second = EntryColumns {
         from: first.length,
         length: usize::from(table.length),
         ..first
     };
-    match first_bad(table, entries, second, deck) {
-        Some(bad) => put_bad_entry(out, table, bad),
-        None => Ok(()),
+    if let Some(bad) = first_bad(table, entries, second, deck) {
+        write_bad_entry(out, table, bad);
     }
 }
 
 /// What is wrong with the data of a table that has some.
-fn put_deck(
-    alloc: Global,
-    out: &mut String,
-    extension: &ExtensionSpec,
-    per_card: u16,
-    deck: &[SpecCard],
-) -> Result<(), AllocError> {
+fn write_deck(out: &mut TextWriter, extension: &ExtensionSpec, per_card: u16, deck: &[SpecCard]) {
     if per_card == 0 {
-        return out.push_str(": 33-35 have 0 entries a card");
+        out.write_str(": 33-35 have 0 entries a card");
+        return;
     }
     let width = data_columns(extension) as usize;
     let columns = usize::from(per_card).saturating_mul(width);
     if columns > COLUMNS {
-        return write!(
+        write!(
             out,
             ": {per_card} entries a card of {width} columns take {columns}, and a card has {COLUMNS}"
         );
+        return;
     }
     let there = data_cards(deck);
-    let mut text = String::new(alloc);
-    if put_wanted(alloc, &mut text, extension.entries, per_card)? == there {
-        return put_entries(out, extension, per_card, deck);
+    if cards_wanted(extension.entries, per_card) == there {
+        write_entries(out, extension, per_card, deck);
+    } else {
+        write_wanted(out, extension.entries, per_card);
+        let stand = noun(there, "stands", "stand");
+        write!(out, "{there} {stand} there");
     }
-    let stand = if there == 1 { "stands" } else { "stand" };
-    write!(out, "{text}{there} {stand} there")
 }
 
 /// What is wrong with the data of an E card.
-fn put_extension(
-    alloc: Global,
-    out: &mut String,
+fn write_extension(
+    out: &mut TextWriter,
     cards: &[SpecCard],
     number: u16,
     extension: &ExtensionSpec,
-) -> Result<(), AllocError> {
+) {
     let Some(per_card) = extension.entries_per_card else {
-        return out.push_str(": a table has data, and 33-35 are blank");
+        out.write_str(": a table has data, and 33-35 are blank");
+        return;
     };
     match deck_at(cards, count_wanted(cards, number)) {
-        Some(deck) if has_forms(extension) => put_deck(alloc, out, extension, per_card, deck),
-        Some(_) => Ok(()),
-        None if per_card == 0 => out.push_str(": no ** card is left for them"),
+        Some(deck) if has_forms(extension) => write_deck(out, extension, per_card, deck),
+        Some(_) => {}
+        None if per_card == 0 => out.write_str(": no ** card is left for them"),
         None => {
-            put_wanted(alloc, out, extension.entries, per_card)?;
-            out.push_str("no ** card is left for them")
+            write_wanted(out, extension.entries, per_card);
+            out.write_str("no ** card is left for them");
         }
     }
 }
 
 /// How many tables there are data for.
-fn put_spare(
-    alloc: Global,
-    out: &mut String,
-    cards: &[SpecCard],
-    number: u16,
-) -> Result<(), AllocError> {
+fn write_spare(out: &mut TextWriter, cards: &[SpecCard], number: u16) {
     let deck = count_decks(cards, number).saturating_add(1);
     let wanted = count_wanted(cards, number);
-    let of_cards = counted(alloc, wanted, "E card wants data", "E cards want data")?;
-    write!(out, ": it is ** card {deck}, and {of_cards}")
+    let of_cards = noun(wanted, "E card wants data", "E cards want data");
+    write!(out, ": it is ** card {deck}, and {wanted} {of_cards}");
 }
 
 /// How many data a card wants, or is, and how many there are.
-pub(crate) fn put_data(
-    alloc: Global,
-    out: &mut String,
-    cards: &[SpecCard],
-    card: &SpecCard,
-) -> Result<(), AllocError> {
+pub(crate) fn write_data(out: &mut TextWriter, cards: &[SpecCard], card: &SpecCard) {
     match &card.spec {
-        Spec::Extension(extension) => put_extension(alloc, out, cards, card.number, extension),
-        Spec::Data(DataSpec::Begin) => put_spare(alloc, out, cards, card.number),
-        _ => Ok(()),
+        Spec::Extension(extension) => write_extension(out, cards, card.number, extension),
+        Spec::Data(DataSpec::Begin) => write_spare(out, cards, card.number),
+        _ => {}
     }
 }

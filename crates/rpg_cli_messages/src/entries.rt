@@ -1,11 +1,9 @@
 //! The entries of a table on the cards of its data.
 
-use crate::picture::put_shown;
 use rpg_cards::SpecCard;
+use rpg_cli_text::TextWriter;
 use rpg_decimal::{compare_text, read_zoned};
 use rpg_sheet_specs::{DataSpec, TableSpec};
-use std::alloc::AllocError;
-use std::fmt::Write;
 
 /// Where the entries of a table stand on each card of its data.
 #[derive(Clone, Copy)]
@@ -34,19 +32,27 @@ pub(crate) struct BadEntry<'a> {
     wrong: Wrong,
 }
 
-/// An entry, the first being 0, and its card. The cards behind `**` are data, one behind the other.
+impl EntryColumns {
+    /// Where an entry begins on its card, the first entry of a table being 0.
+    fn begin_of(self, number: usize) -> Option<usize> {
+        let on_card = number.checked_rem(self.per_card)?;
+        Some(on_card.saturating_mul(self.width).saturating_add(self.from))
+    }
+}
+
+/// What stands on a card of data.
+fn data_on(card: &SpecCard) -> Option<&[u8]> {
+    match card.data() {
+        Some(DataSpec::Card(data)) => Some(data.as_slice()),
+        _ => None,
+    }
+}
+
+/// An entry, the first being 0, and its card. The cards after `**` are data, one after the other.
 fn entry_at(deck: &[SpecCard], columns: EntryColumns, number: usize) -> Option<(&[u8], u16)> {
+    let begin = columns.begin_of(number)?;
     let card = deck.get(number.checked_div(columns.per_card)?)?;
-    let Some(DataSpec::Card(data)) = card.data() else {
-        return None;
-    };
-    let on_card = number.checked_rem(columns.per_card)?;
-    let begin = on_card
-        .saturating_mul(columns.width)
-        .saturating_add(columns.from);
-    let entry = data
-        .as_slice()
-        .get(begin..begin.saturating_add(columns.length))?;
+    let entry = data_on(card)?.get(begin..begin.saturating_add(columns.length))?;
     Some((entry, card.number))
 }
 
@@ -71,10 +77,12 @@ fn wrong_in(table: &TableSpec, before: Option<&[u8]>, entry: &[u8]) -> Option<Wr
     if table.decimals.is_some() && number_in(entry).is_none() {
         return Some(Wrong::NoNumber);
     }
-    if table.ascending && before.is_some_and(|before| is_lower(table, entry, before)) {
-        return Some(Wrong::LowerThanBefore);
+    match before {
+        Some(before) if table.ascending && is_lower(table, entry, before) => {
+            Some(Wrong::LowerThanBefore)
+        }
+        _ => None,
     }
-    None
 }
 
 /// The first of so many entries that is wrong.
@@ -101,26 +109,22 @@ pub(crate) fn first_bad<'a>(
 }
 
 /// Which entry of a table is wrong, and why.
-pub(crate) fn put_bad_entry(
-    out: &mut String,
-    table: &TableSpec,
-    bad: BadEntry<'_>,
-) -> Result<(), AllocError> {
+pub(crate) fn write_bad_entry(out: &mut TextWriter, table: &TableSpec, bad: BadEntry<'_>) {
     let BadEntry {
         number,
         card,
         text,
         wrong,
     } = bad;
-    write!(out, ": entry {number} of ")?;
-    put_shown(out, table.name.as_slice())?;
-    write!(out, ", on card {card}, is \"")?;
-    put_shown(out, text)?;
+    write!(out, ": entry {number} of ");
+    out.write_shown(table.name.as_slice());
+    write!(out, ", on card {card}, is \"");
+    out.write_shown(text);
     match wrong {
-        Wrong::NoNumber => out.push_str("\", which is no number"),
+        Wrong::NoNumber => out.write_str("\", which is no number"),
         Wrong::LowerThanBefore => {
             let before = number.saturating_sub(1);
-            write!(out, "\", which is lower than entry {before}")
+            write!(out, "\", which is lower than entry {before}");
         }
     }
 }

@@ -1,7 +1,6 @@
 //! What a person is told of a refused source beside its one line: each fault with its place, a sentence, the card and a mark under its columns.
 #![tactic(auto)]
 
-mod begins;
 mod card;
 mod card_lines;
 mod counted;
@@ -15,8 +14,8 @@ mod picture;
 mod range;
 mod sheets;
 
-pub use begins::begins_range;
 pub use card_lines::CardLines;
-pub use message::{Remark, put_card_remark, put_remark, put_told, source_messages};
-pub use note::put_note;
-pub use picture::{put_first, put_shown};
+pub use message::{source_messages, write_card_remark, write_place, write_told};
+pub use note::write_note;
+pub use picture::{write_first, write_picture};
+pub use range::begins_range;

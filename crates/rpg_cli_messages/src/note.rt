@@ -1,42 +1,41 @@
 //! A fault below its card, as a listing has it.
 
-use crate::message::{columns_of, put_sentence};
-use crate::picture::put_times;
+use crate::message::{columns_of, write_sentence};
+use crate::picture::write_times;
 use rpg_cards::IndexedCards;
+use rpg_cli_text::TextWriter;
 use rpg_faults::CardFault;
 use rpg_sheet::ColumnFault;
-use std::alloc::{AllocError, Global};
 
-/// A mark under these columns of a card that stands behind so many blanks.
-fn put_mark(out: &mut String, margin: usize, columns: ColumnFault) -> Result<(), AllocError> {
+/// A mark under these columns of a card that stands after so many blanks.
+fn write_mark(out: &mut TextWriter, margin: usize, columns: ColumnFault) {
     let first = usize::from(columns.column);
     let last = usize::from(columns.last);
-    put_times(out, ' ', margin.saturating_add(first.saturating_sub(1)))?;
-    put_times(out, '^', last.saturating_add(1).saturating_sub(first))?;
-    out.push('\n')
+    write_times(out, ' ', margin.saturating_add(first.saturating_sub(1)));
+    write_times(out, '^', last.saturating_add(1).saturating_sub(first));
+    out.write_char('\n');
 }
 
-/// Writes a fault of a card that stands behind so many blanks: a mark under the columns that it is about, where its code says which, and behind the code
+/// Writes a fault of a card that stands after so many blanks: a mark under the columns that it is about, where its code says which, and after the code
 /// what is wrong.
-pub fn put_note(
-    alloc: Global,
-    out: &mut String,
+pub fn write_note(
+    out: &mut TextWriter,
     margin: usize,
     line: &[u8],
     cards: &IndexedCards,
     fault: CardFault,
-) -> Result<(), AllocError> {
+) {
     if let Some(columns) = columns_of(line, fault) {
-        put_mark(out, margin, columns)?;
+        write_mark(out, margin, columns);
     }
     let code = fault.code.text();
-    put_times(
+    let code = code.as_str();
+    write_times(
         out,
         ' ',
-        margin.saturating_sub(code.as_str().len().saturating_add(1)),
-    )?;
-    out.push_str(code.as_str())?;
-    out.push(' ')?;
-    put_sentence(alloc, out, line, cards, fault)?;
-    out.push('\n')
+        margin.saturating_sub(code.len().saturating_add(1)),
+    );
+    write!(out, "{code} ");
+    write_sentence(out, line, cards, fault);
+    out.write_char('\n');
 }

@@ -1,22 +1,18 @@
 //! What a sentence adds to the rule that is broken: the numbers of the cards that break it.
 
-use crate::data::put_data;
-use crate::editing::put_editing;
+use crate::data::write_data;
+use crate::editing::write_editing;
 use rpg_cards::{IndexedCards, SpecCard};
+use rpg_cli_text::TextWriter;
 use rpg_faults::FaultCode;
-use rpg_sheet::SheetFault;
+use rpg_sheet::{SheetFault, Spec};
 use std::alloc::{AllocError, Global};
 
-/// The cards of a source that are on a sheet, or none where one of them can't be read.
-pub(crate) fn readable_cards(alloc: Global, source: &[u8]) -> Result<Vec<SpecCard>, AllocError> {
+/// The cards that are on a sheet, with their numbers.
+fn numbered(alloc: Global, cards: Vec<Option<Spec>>) -> Result<Vec<SpecCard>, AllocError> {
     let mut known = Vec::new(alloc);
-    let cards = match rpg_sheet::cards(alloc, source) {
-        Ok(cards) => cards,
-        Err(SheetFault::At { .. }) => return Ok(known),
-        Err(SheetFault::NoMemory) => return Err(AllocError),
-    };
     let mut number = 1u16;
-    for spec in cards.into_vec() {
+    for spec in cards {
         if let Some(spec) = spec {
             known.push(SpecCard { number, spec })?;
         }
@@ -25,26 +21,39 @@ pub(crate) fn readable_cards(alloc: Global, source: &[u8]) -> Result<Vec<SpecCar
     Ok(known)
 }
 
+/// The cards of a source that are on a sheet, or none where one of them can't be read.
+pub(crate) fn readable_cards(alloc: Global, source: &[u8]) -> Result<Vec<SpecCard>, AllocError> {
+    match rpg_sheet::cards(alloc, source) {
+        Ok(cards) => numbered(alloc, cards.into_vec()),
+        Err(SheetFault::At { .. }) => Ok(Vec::new(alloc)),
+        Err(SheetFault::NoMemory) => Err(AllocError),
+    }
+}
+
 /// The card of a number, which is on a sheet.
-fn card_at<'a>(cards: &'a [SpecCard], number: u16) -> Option<&'a SpecCard> {
-    cards.iter().find(|card| card.number == number)
+fn card_at(cards: &[SpecCard], number: u16) -> Option<&SpecCard> {
+    for card in cards {
+        if card.number == number {
+            return Some(card);
+        }
+    }
+    None
 }
 
 /// The numbers that tell why a card breaks a rule.
-pub(crate) fn put_numbers(
-    alloc: Global,
-    out: &mut String,
+pub(crate) fn write_numbers(
+    out: &mut TextWriter,
     source: &IndexedCards,
     number: u16,
     code: FaultCode,
-) -> Result<(), AllocError> {
+) {
     let cards = source.as_slice();
     let Some(card) = card_at(cards, number) else {
-        return Ok(());
+        return;
     };
     match code {
-        FaultCode::F17 => put_editing(alloc, out, source, card),
-        FaultCode::F18 => put_data(alloc, out, cards, card),
-        _ => Ok(()),
+        FaultCode::F17 => write_editing(out, source, card),
+        FaultCode::F18 => write_data(out, cards, card),
+        _ => {}
     }
 }

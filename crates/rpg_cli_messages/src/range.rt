@@ -1,39 +1,29 @@
 //! Ranges of columns: what they are called and what may stand in them.
 
+use crate::card::CardKind;
+use crate::sheets::ranges_of;
 use rpg_sheet::ColumnFault;
 
-/// A range of columns of a card. Columns are counted from 1.
+/// A range of columns of a card: its first and its last, counted from 1, what it is called, and what may stand there.
 #[derive(Clone, Copy)]
-pub(crate) struct Range {
-    pub first: u8,
-    pub last: u8,
-    pub name: &'static str,
-    /// What may stand there.
-    pub wanted: &'static str,
-}
+pub(crate) struct Range(pub u8, pub u8, pub &'static str, pub &'static str);
 
-pub(crate) fn named(first: u8, last: u8, name: &'static str, wanted: &'static str) -> Range {
-    Range {
-        first,
-        last,
-        name,
-        wanted,
-    }
-}
-
-/// The range among these that the columns are.
-pub(crate) fn range_of(ranges: &[Range], columns: ColumnFault) -> Option<Range> {
-    for range in ranges {
-        if range.first == columns.column && range.last == columns.last {
+/// The range of a card that the columns are.
+pub(crate) fn range_at(kind: CardKind, columns: ColumnFault) -> Option<Range> {
+    for range in ranges_of(kind) {
+        if range.0 == columns.column && range.1 == columns.last {
             return Some(*range);
         }
     }
     None
 }
 
-/// Whether one of these ranges begins in a column.
-pub(crate) fn any_begins(ranges: &[Range], column: usize) -> bool {
-    ranges
-        .iter()
-        .any(|range| usize::from(range.first) == column)
+/// Whether a range of the sheet that a card is on begins in a column, which is counted from 1.
+pub fn begins_range(line: &[u8], column: usize) -> bool {
+    for range in ranges_of(CardKind::of(line)) {
+        if usize::from(range.0) == column {
+            return true;
+        }
+    }
+    false
 }
