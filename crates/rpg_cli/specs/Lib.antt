@@ -1,5 +1,2 @@
--- The lines and statuses of answers, and what the program prints.
-pub mod Answers
-pub mod Judging
-pub mod Running
+-- What the program prints.
 pub mod Saying

@@ -2,9 +2,9 @@
 use Rattle.std.specs.Prelude.{◌≡◌, ℕ, ◌≤◌, ◌⊎◌, List, Option}
 use Rattle.std.specs.Io.KnownBytes.{Appends, Keeps}
 use Rattle.rpg_text.specs.Lines.{with_line_feed}
-use Rattle.rpg_cli.specs.Answers.{exit_status, line_text}
+use Rattle.rpg_cli_answers.specs.Answers.{exit_status, line_text}
 use Rattle.rpg_files.specs.Sending.{AppendsPrefix}
-use Rattle.rpg_cli.specs.declared.answer.Answer.{Answer}
+use Rattle.rpg_cli_answers.specs.declared.answer.Answer.{Answer}
 
 -- the answer's line and its status; where not all of the line could be written, a first part of it and status 1
 abbrev pub Says : Option (List ℕ) → Option (List ℕ) → ℕ → Answer → Type 0

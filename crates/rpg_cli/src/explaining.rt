@@ -1,7 +1,6 @@
 //! The pages of codes.
 
-use crate::answer::Answer;
-use crate::told::Listener;
+use rpg_cli_answers::{Answer, Listener, Stop};
 use rpg_cli_explain::{all_pages, page_text, topic_of};
 use rpg_cli_words::ExplainWords;
 use std::alloc::{AllocError, Global};
@@ -24,18 +23,18 @@ pub(crate) fn explain<L: Listener>(
     alloc: Global,
     words: &ExplainWords,
     listener: &mut L,
-) -> Answer {
+) -> Result<Answer, Stop> {
     match text_of(alloc, words) {
         Ok(Some(text)) => {
-            listener.show(text.as_str());
-            Answer::Explained
+            listener.show(text.as_str())?;
+            Ok(Answer::Explained)
         }
         Ok(None) => {
             listener.tell(
                 "codes are S1 to S6, F1 to F18, W1 to W4, V1 to V26, B1 to B7, and halt 1 to halt 8\n",
             );
-            Answer::NoSuchCode
+            Ok(Answer::NoSuchCode)
         }
-        Err(_) => Answer::NoMemory,
+        Err(_) => Ok(Answer::NoMemory),
     }
 }

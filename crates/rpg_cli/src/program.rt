@@ -2,18 +2,19 @@
 
 ghost use Rattle.rpg_cli.specs.Saying.{PrintsALine, Says};
 
-use crate::answer::Answer;
 use crate::decks::cards_file;
 use crate::explaining::explain;
-use crate::files::{check_file, compile_files, run_files, show_file, verify_file};
+use crate::files::{check_file, compile_files, show_file, verify_file};
 use crate::listing::list_file;
-use crate::stop::Stop;
-use crate::telling::tell_answer;
-use crate::text::line;
-use crate::told::{Listener, StandardError, StandardStreams};
+use crate::outlet::Outlet;
+use crate::telling::{tell_answer, tell_unwritten};
+use crate::told::{StandardError, StandardStreams};
+use rpg_cli_answers::{Answer, Listener, Reasons, Stop, line};
 use rpg_cli_files::send_line;
+use rpg_cli_run::run_files;
 use rpg_cli_words::{Refusal, Request, refuse_bytes, refuse_same_file, request_of};
-use std::io::{ErrorKind, Write};
+use std::alloc::Global;
+use std::io::{Error, ErrorKind, Write};
 use std::process::ExitCode;
 use std::rt::{Env, Files};
 use std::{env, io};
@@ -49,28 +50,35 @@ fn answer_to<R: Files + Input + Print + AllocGlobal, L: Listener>(
             Ok(Answer::Accepted { bound })
         }
         Request::Run(words) => Ok(Answer::from(run_files(rt, words, listener)?)),
-        Request::Explain(words) => Ok(explain(rt.alloc(), words, listener)),
+        Request::Explain(words) => explain(rt.alloc(), words, listener),
     }
 }
 
-/// Prints the line of an answer, and answers the exit status.
-fn say<W: Write>(out: &mut W, answer: &Answer) -> u8
+/// Prints the line of an answer, and answers the exit status. A line that can't be written is told.
+fn say<W: Write, L: Listener>(out: &mut W, outlet: Outlet, answer: &Answer, listener: &mut L) -> u8
     ensures { Says (W.contents out.old) (W.contents out.new) result answer.now }
 {
     let said = line(answer);
-    if send_line(out, said.text.as_slice()) {
-        said.status
-    } else {
-        1
+    match send_line(out, said.text.as_slice()) {
+        Ok(()) => said.status,
+        Err(reason) => {
+            tell_unwritten(outlet, reason, listener);
+            1
+        }
     }
 }
 
 /// Explains a fault of the command line, or gives the help that was asked for, and answers the exit status.
-fn refuse<R: Print + Eprint + AllocGlobal, W: Write>(rt: &R, refusal: &Refusal, out: &mut W) -> u8
+fn refuse<R: Print + Eprint + AllocGlobal, W: Write, L: Listener>(
+    rt: &R,
+    refusal: &Refusal,
+    out: &mut W,
+    listener: &mut L,
+) -> u8
     ensures { PrintsALine (W.contents out.old) (W.contents out.new) result }
 {
     if refusal.is_no_memory() {
-        say(out, &Answer::NoMemory)
+        say(out, Outlet::STANDARD_OUTPUT, &Answer::NoMemory, listener)
     } else {
         refusal.explain(rt)
     }
@@ -79,7 +87,7 @@ fn refuse<R: Print + Eprint + AllocGlobal, W: Write>(rt: &R, refusal: &Refusal, 
 /// Does what the words ask, prints one line to `out`, and answers the exit status. What is told beside the line goes to the listener.
 ///
 /// The first word is the program's name. A fault of the command line prints clap's text on standard error, and help that
-/// was asked for goes to standard output, in place of the line.
+/// was asked for goes to standard output, in place of the line. So does a text before the line that can't be shown whole.
 pub fn run<R: Files + Input + Print + Eprint + AllocGlobal, W: Write, L: Listener>(
     rt: &R,
     words: &[String],
@@ -90,8 +98,24 @@ pub fn run<R: Files + Input + Print + Eprint + AllocGlobal, W: Write, L: Listene
 {
     match request_of(rt.alloc(), words) {
         Ok(request) => obey(rt, &request, out, listener),
-        Err(refusal) => refuse(rt, &refusal, out),
+        Err(refusal) => refuse(rt, &refusal, out, listener),
     }
+}
+
+/// Prints the line of an answer, tells what more is known of it, and answers the exit status.
+fn conclude<W: Write, L: Listener>(
+    alloc: Global,
+    request: &Request,
+    answer: &Answer,
+    reasons: Reasons,
+    out: &mut W,
+    listener: &mut L,
+) -> u8
+    ensures { Says (W.contents out.old) (W.contents out.new) result answer.now }
+{
+    let status = say(out, Outlet::of(request), answer, listener);
+    tell_answer(alloc, request, answer, reasons, listener);
+    status
 }
 
 /// Does what is asked, prints one line to `out`, and answers the exit status.
@@ -103,13 +127,19 @@ fn obey<R: Files + Input + Print + Eprint + AllocGlobal, W: Write, L: Listener>(
 ) -> u8
     ensures { PrintsALine (W.contents out.old) (W.contents out.new) result }
 {
+    let alloc = rt.alloc();
     match answer_to(rt, request, listener) {
         Ok(answer) | Err(Stop::Answer(answer)) => {
-            let status = say(out, &answer);
-            tell_answer(rt.alloc(), request, &answer, listener);
-            status
+            conclude(alloc, request, &answer, Reasons::NONE, out, listener)
         }
-        Err(Stop::SameFile(same)) => refuse(rt, &refuse_same_file(rt.alloc(), same), out),
+        Err(Stop::Job { answer, reasons }) => {
+            conclude(alloc, request, &answer, reasons, out, listener)
+        }
+        Err(Stop::SameFile(same)) => refuse(rt, &refuse_same_file(alloc, same), out, listener),
+        Err(Stop::Unshown(reason)) => {
+            tell_unwritten(Outlet::of(request), reason, listener);
+            1
+        }
     }
 }
 
@@ -118,35 +148,41 @@ fn words<R: Env + AllocGlobal>(rt: &R) -> io::Result<Vec<String>> {
     Ok(words)
 }
 
-/// Whether the printed lines of a run go to standard output.
-fn prints_to_standard_output(request: &Request) -> bool {
-    match request {
-        Request::Run(words) => words.print_file().is_none(),
-        _ => false,
-    }
-}
-
 /// Does what the words ask over the standard streams, and answers the exit status. The line goes to standard output, or to standard error
-/// where the printed lines of a run go there.
+/// where a run writes records or lines to standard output.
 fn run_on_streams<R: Files + Input + Print + Eprint + AllocGlobal>(rt: &R, words: &[String]) -> u8 {
     let mut out = io::writer(rt);
     let mut listener = StandardStreams::new(rt);
     match request_of(rt.alloc(), words) {
-        Err(refusal) => refuse(rt, &refusal, &mut out),
-        Ok(request) if prints_to_standard_output(&request) => {
+        Err(refusal) => refuse(rt, &refusal, &mut out, &mut listener),
+        Ok(request) if request.writes_standard_output() => {
             obey(rt, &request, &mut StandardError::new(rt), &mut listener)
         }
         Ok(request) => obey(rt, &request, &mut out, &mut listener),
     }
 }
 
+/// Answers words that can't be had: one isn't UTF-8, or memory is wanting.
+fn refuse_words<R: Print + Eprint + AllocGlobal>(rt: &R, error: &Error) -> u8 {
+    let mut out = io::writer(rt);
+    let mut listener = StandardStreams::new(rt);
+    if error.kind() == ErrorKind::OutOfMemory {
+        say(
+            &mut out,
+            Outlet::STANDARD_OUTPUT,
+            &Answer::NoMemory,
+            &mut listener,
+        )
+    } else {
+        refuse(rt, &refuse_bytes(rt.alloc()), &mut out, &mut listener)
+    }
+}
+
 /// The whole program. Words that aren't UTF-8 are a fault of the command line.
 pub fn main_with<R: Files + Input + Print + Eprint + Env + AllocGlobal>(rt: &R) -> ExitCode {
-    let mut out = io::writer(rt);
     let status = match words(rt) {
         Ok(words) => run_on_streams(rt, words.as_slice()),
-        Err(error) if error.kind() == ErrorKind::OutOfMemory => say(&mut out, &Answer::NoMemory),
-        Err(_) => refuse(rt, &refuse_bytes(rt.alloc()), &mut out),
+        Err(error) => refuse_words(rt, &error),
     };
     ExitCode::from(status)
 }

@@ -1,16 +1,9 @@
-//! What is told and shown beside the line of an answer.
+//! The standard streams, for what is told and shown beside the line of an answer.
 
-use std::io::{self, ErrorKind, Write};
+use rpg_cli_answers::Listener;
+use rpg_cli_files::{Reason, send_text};
+use std::io::{self, Error, ErrorKind, Write};
 use std::str;
-
-/// Where a person reads what is told, standard error, and what is shown, standard output.
-pub trait Listener {
-    /// Tells a text. Nobody hears of a text that can't be told.
-    fn tell(&mut self, text: &str);
-
-    /// Shows a text before the line. Nobody hears of a text that can't be shown.
-    fn show(&mut self, text: &str);
-}
 
 /// The standard streams of a program.
 #[derive(Drop)]
@@ -29,8 +22,8 @@ impl<R: Print + Eprint> Listener for StandardStreams<'_, R> {
         let _told = self.rt.eprint(text);
     }
 
-    fn show(&mut self, text: &str) {
-        let _shown = self.rt.print(text);
+    fn show(&mut self, text: &str) -> Result<(), Reason> {
+        send_text(&mut io::writer(self.rt), text)
     }
 }
 
@@ -46,14 +39,24 @@ impl<'a, R: Eprint> StandardError<'a, R> {
     }
 }
 
+/// A fault behind which a part of the text may have gone out: who writes must not try again, as an interruption would have it.
+fn final_fault(error: &Error) -> Error {
+    match error.kind() {
+        ErrorKind::Interrupted => Error::from(ErrorKind::Other),
+        kind => Error::from(kind),
+    }
+}
+
 impl<R: Eprint> Write for StandardError<'_, R> {
     /// Writes all of a text. Bytes that are none are a fault.
     fn write(&mut self, buf: &[u8]) -> io::Result<usize> {
-        match str::from_utf8(buf) {
-            Ok(text) => self.rt.eprint(text)?,
-            Err(_) => return Err(io::Error::from(ErrorKind::InvalidData)),
+        let Ok(text) = str::from_utf8(buf) else {
+            return Err(Error::from(ErrorKind::InvalidData));
+        };
+        match self.rt.eprint(text) {
+            Ok(()) => Ok(buf.len()),
+            Err(error) => Err(final_fault(&error)),
         }
-        Ok(buf.len())
     }
 
     fn flush(&mut self) -> io::Result<()> {

@@ -6,9 +6,8 @@ ghost use Rattle.rpg_files.specs.Counting.{device_of, faults_after, faults_of};
 
 use crate::reason::Reason;
 use rpg_files::Counted;
-use std::alloc::Global;
 use std::fs::{self, File, Metadata, OpenFile};
-use std::io::{BufWriter, Error, ErrorKind, Read, Write};
+use std::io::{Error, ErrorKind, Read, Write};
 use std::os::unix::fs::MetadataExt;
 use std::rt::Files;
 
@@ -99,15 +98,12 @@ pub fn output_file<R: Files>(rt: &R, path: &str) -> Result<R::File, FileFault> {
         .map_err(output_fault)
 }
 
-/// Empties a file that will be written, and gives what writes it in large pieces. What isn't a regular file holds nothing.
-pub fn empty_file<F: OpenFile + Write + Drop>(
-    alloc: Global,
-    file: F,
-) -> Result<BufWriter<F>, FileFault> {
+/// Empties a file that will be written. What isn't a regular file holds nothing.
+pub(crate) fn empty_file<F: OpenFile + Drop>(file: F) -> Result<F, FileFault> {
     if identity(&file).is_some() {
         file.set_len(0).map_err(output_fault)?;
     }
-    BufWriter::new(alloc, file).map_err(output_fault)
+    Ok(file)
 }
 
 /// Writes out what a writer still holds.

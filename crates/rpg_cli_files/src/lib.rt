@@ -11,13 +11,13 @@ mod streams;
 mod translation;
 
 pub use files::{
-    FileFault, FileIdentity, empty_file, file_bytes, flush_device, identity, identity_at,
-    input_file, output_file,
+    FileFault, FileIdentity, file_bytes, flush_device, identity, identity_at, input_file,
+    output_file,
 };
 pub use matching::compiles_to;
 pub use reason::Reason;
 pub use replacing::write_bytes;
 pub use rpg_compile::{SourceCode, SourceFault};
-pub use sending::send_line;
-pub use streams::{LineTarget, OptionalFile, RecordSource, lines, records};
+pub use sending::{send_line, send_text};
+pub use streams::{LineTarget, Opened, RecordSource, lines, records};
 pub use translation::compile_to_bytes;

@@ -46,7 +46,7 @@ impl Reason {
             Reason::Folder => "is a directory",
             Reason::NoFolder => "a part of the path is no directory",
             Reason::ReadOnly => "the file system is read-only",
-            Reason::Full => "no space is left",
+            Reason::Full => "no space left on device",
             Reason::TooLarge => "the file would be too large",
             Reason::Closed => "nobody reads it",
             Reason::Name => "no file can have that name",

@@ -1,16 +1,23 @@
 //! A line to a writer.
 
-ghost use Rattle.std.specs.Prelude.{◌<◌, ◌≤◌, length, IfErr, IfOk, OnOk};
-ghost use Rattle.std.specs.Bool.{MatchBool};
+ghost use Rattle.std.specs.Prelude.{◌<◌, ◌≤◌, length, IfErr, IfOk, OnErr, OnOk};
 ghost use Rattle.std.specs.Io.KnownBytes.{Appends, WriteAppends};
 ghost use Rattle.rpg_files.specs.Sending.{AppendsFirst, AppendsPrefix};
 ghost use Rattle.rpg_text.specs.Lines.{with_line_feed};
 
-use rpg_files::{DeviceFault, WriteFault, most_tries};
+use crate::reason::Reason;
+use rpg_files::most_tries;
 use std::io::{ErrorKind, Write};
 
+/// A writer failed when this many bytes had gone out.
+#[derive(Clone, Copy)]
+struct Unsent {
+    sent: usize,
+    reason: Reason,
+}
+
 /// Writes some bytes of `buf`, at least one where there is one: a write of 0 bytes is a fault.
-fn write_some<W: Write>(writer: &mut W, buf: &[u8]) -> Result<usize, DeviceFault>
+fn write_some<W: Write>(writer: &mut W, buf: &[u8]) -> Result<usize, Reason>
     ensures within { IfOk result (λ n. n ≤ length buf.now) }
     ensures some { IfOk result (λ n. 0 < length buf.now → 0 < n) }
     ensures bytes { WriteAppends (W.contents writer.old) (W.contents writer.new) result buf.now }
@@ -21,16 +28,16 @@ fn write_some<W: Write>(writer: &mut W, buf: &[u8]) -> Result<usize, DeviceFault
             Ok(n) => return Ok(n),
             Err(error) => {
                 if error.kind() != ErrorKind::Interrupted {
-                    break;
+                    return Err(Reason::of(error.kind()));
                 }
             }
         }
     }
-    Err(DeviceFault)
+    Err(Reason::Other)
 }
 
 /// Writes all the bytes, or as many as the writer takes.
-fn send<W: Write>(writer: &mut W, bytes: &[u8]) -> Result<(), WriteFault>
+fn send<W: Write>(writer: &mut W, bytes: &[u8]) -> Result<(), Unsent>
     ensures ok { OnOk result (Appends (W.contents writer.old) (W.contents writer.new) bytes.now) }
     ensures err { IfErr result (λ e. AppendsFirst (W.contents writer.old) (W.contents writer.new) e.sent bytes.now) }
 {
@@ -39,22 +46,36 @@ fn send<W: Write>(writer: &mut W, bytes: &[u8]) -> Result<(), WriteFault>
         let (_gone, rest) = bytes.split_at(sent);
         match write_some(writer, rest) {
             Ok(n) => sent += n,
-            Err(_) => return Err(WriteFault { sent }),
+            Err(reason) => return Err(Unsent { sent, reason }),
         }
     }
     Ok(())
 }
 
-/// Writes a line and its line feed, and answers whether all of it went out.
-pub fn send_line<W: Write>(writer: &mut W, text: &[u8]) -> bool
-    ensures { MatchBool result (Appends (W.contents writer.old) (W.contents writer.new) (with_line_feed text.now))
-        (AppendsPrefix (W.contents writer.old) (W.contents writer.new) (with_line_feed text.now)) }
+/// Writes a text, or says why not all of it went out.
+pub fn send_text<W: Write>(writer: &mut W, text: &str) -> Result<(), Reason>
+    ensures ok { OnOk result (Appends (W.contents writer.old) (W.contents writer.new) text.now) }
+    ensures err { OnErr result (AppendsPrefix (W.contents writer.old) (W.contents writer.new) text.now) }
 {
-    let Ok(()) = send(writer, text) else {
-        return false;
-    };
-    let Ok(()) = send(writer, b"\n") else {
-        return false;
-    };
-    writer.flush().is_ok()
+    match send(writer, text.as_bytes()) {
+        Ok(()) => Ok(()),
+        Err(unsent) => Err(unsent.reason),
+    }
+}
+
+/// Writes a line and its line feed, or says why not all of it went out.
+pub fn send_line<W: Write>(writer: &mut W, text: &[u8]) -> Result<(), Reason>
+    ensures ok { OnOk result (Appends (W.contents writer.old) (W.contents writer.new) (with_line_feed text.now)) }
+    ensures err { OnErr result (AppendsPrefix (W.contents writer.old) (W.contents writer.new) (with_line_feed text.now)) }
+{
+    if let Err(unsent) = send(writer, text) {
+        return Err(unsent.reason);
+    }
+    if let Err(unsent) = send(writer, b"\n") {
+        return Err(unsent.reason);
+    }
+    match writer.flush() {
+        Ok(()) => Ok(()),
+        Err(error) => Err(Reason::of(error.kind())),
+    }
 }

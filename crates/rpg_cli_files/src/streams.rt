@@ -1,84 +1,127 @@
 //! Where records come from and printed lines go: files, or the standard streams.
 
 use crate::files::{FileFault, empty_file};
-use std::io::{self, BufWriter, Printer, Read, Write};
+use crate::reason::Reason;
+use std::io::{self, Printer, Read, Write};
 use std::rt::Files;
 
-/// Where records come from.
+/// A file of a job, as it was opened.
 #[derive(Drop)]
-pub enum RecordSource<F, S> {
+pub enum Opened<F> {
+    /// The program has no such file.
+    Nothing,
+    File(F),
+    /// Standard input, or standard output.
+    Standard,
+}
+
+/// Where records come from, and why the last read failed, if it did.
+#[derive(Drop)]
+pub struct RecordSource<F, S> {
+    from: Source<F, S>,
+    fault: Option<Reason>,
+}
+
+/// What records are read from. Where there is nothing there are none.
+#[derive(Drop)]
+enum Source<F, S> {
+    Nothing,
     File(F),
     StandardInput(S),
 }
 
-/// Where printed lines go, in large pieces.
+/// Where lines go, and why the last write failed, if it did.
+///
+/// Nothing is kept back here: the engine's pieces are large, and what it sends is to be seen before it reads again.
 #[derive(Drop)]
-pub enum LineTarget<F: Write + Drop, P: Write + Drop> {
-    File(BufWriter<F>),
-    StandardOutput(BufWriter<P>),
+pub struct LineTarget<F, P> {
+    to: Target<F, P>,
+    fault: Option<Reason>,
 }
 
-/// A file of records; where there is none there is nothing to read.
 #[derive(Drop)]
-pub struct OptionalFile<F> {
-    pub file: Option<F>,
+enum Target<F, P> {
+    Nothing,
+    File(F),
+    StandardOutput(P),
 }
 
-/// The records of a file that is open, or of standard input where there is none.
+/// The records of a file that was opened.
 pub fn records<R: Files + Input>(
     rt: &R,
-    file: Option<R::File>,
+    opened: Opened<R::File>,
 ) -> RecordSource<R::File, R::Reader> {
-    match file {
-        Some(file) => RecordSource::File(file),
-        None => RecordSource::StandardInput(rt.reader()),
+    let from = match opened {
+        Opened::Nothing => Source::Nothing,
+        Opened::File(file) => Source::File(file),
+        Opened::Standard => Source::StandardInput(rt.reader()),
+    };
+    RecordSource { from, fault: None }
+}
+
+/// Empties a file that was opened, and gives what writes it.
+pub fn lines<R: Files + Print>(
+    rt: &R,
+    opened: Opened<R::File>,
+) -> Result<LineTarget<R::File, Printer<'_, R>>, FileFault> {
+    let to = match opened {
+        Opened::Nothing => Target::Nothing,
+        Opened::File(file) => Target::File(empty_file(file)?),
+        Opened::Standard => Target::StandardOutput(io::writer(rt)),
+    };
+    Ok(LineTarget { to, fault: None })
+}
+
+/// Why a call failed, if it did.
+fn fault_of<T>(answer: &io::Result<T>) -> Option<Reason> {
+    match answer {
+        Ok(_) => None,
+        Err(error) => Some(Reason::of(error.kind())),
     }
 }
 
-/// Empties a file that is open and gives what writes it, or what writes standard output where there is none.
-pub fn lines<R: Files + Print + AllocGlobal>(
-    rt: &R,
-    file: Option<R::File>,
-) -> Result<LineTarget<R::File, Printer<'_, R>>, FileFault> {
-    match file {
-        Some(file) => Ok(LineTarget::File(empty_file(rt.alloc(), file)?)),
-        None => match BufWriter::new(rt.alloc(), io::writer(rt)) {
-            Ok(writer) => Ok(LineTarget::StandardOutput(writer)),
-            Err(_) => Err(FileFault::NoMemory),
-        },
+impl<F, S> RecordSource<F, S> {
+    /// Why the last read failed, if it did.
+    pub fn fault(&self) -> Option<Reason> {
+        self.fault
     }
 }
 
 impl<F: Read, S: Read> Read for RecordSource<F, S> {
     fn read(&mut self, buf: &mut [u8]) -> io::Result<usize> {
-        match self {
-            RecordSource::File(file) => file.read(buf),
-            RecordSource::StandardInput(reader) => reader.read(buf),
-        }
+        let answer = match &mut self.from {
+            Source::Nothing => Ok(0),
+            Source::File(file) => file.read(buf),
+            Source::StandardInput(reader) => reader.read(buf),
+        };
+        self.fault = fault_of(&answer);
+        answer
     }
 }
 
-impl<F: Read> Read for OptionalFile<F> {
-    fn read(&mut self, buf: &mut [u8]) -> io::Result<usize> {
-        match &mut self.file {
-            Some(file) => file.read(buf),
-            None => Ok(0),
-        }
+impl<F, P> LineTarget<F, P> {
+    /// Why the last write failed, if it did.
+    pub fn fault(&self) -> Option<Reason> {
+        self.fault
     }
 }
 
-impl<F: Write + Drop, P: Write + Drop> Write for LineTarget<F, P> {
+impl<F: Write, P: Write> Write for LineTarget<F, P> {
     fn write(&mut self, buf: &[u8]) -> io::Result<usize> {
-        match self {
-            LineTarget::File(writer) => writer.write(buf),
-            LineTarget::StandardOutput(writer) => writer.write(buf),
-        }
+        let answer = match &mut self.to {
+            Target::Nothing => Ok(buf.len()),
+            Target::File(file) => file.write(buf),
+            Target::StandardOutput(printer) => printer.write(buf),
+        };
+        self.fault = fault_of(&answer);
+        answer
     }
 
     fn flush(&mut self) -> io::Result<()> {
-        match self {
-            LineTarget::File(writer) => writer.flush(),
-            LineTarget::StandardOutput(writer) => writer.flush(),
+        match &mut self.to {
+            Target::Nothing => Ok(()),
+            Target::File(file) => file.flush(),
+            Target::StandardOutput(printer) => printer.flush(),
         }
     }
 }

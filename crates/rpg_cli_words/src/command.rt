@@ -1,149 +1,81 @@
 //! The commands of `rpg2`, as clap knows them.
+//!
+//! Each call of clap's builder is in a function of its own: the proof of a chain of them grows with its length.
 
-use crate::listing::{cards_command, list_command};
+use crate::words::{COMMANDS, CommandWords, Kind, Word};
 use clap::{Arg, ArgAction, Command, value_parser};
 use std::alloc::{AllocError, Global};
 
-/// A word that has to be there.
-pub(crate) fn word<'a>(alloc: Global, name: &'a str, help: &'a str) -> Arg<'a> {
-    Arg::new(alloc, name)
-        .required(true)
-        .action(ArgAction::Set)
-        .help(help)
+/// A word that takes a value.
+fn valued<'a>(arg: Arg<'a>) -> Arg<'a> {
+    arg.action(ArgAction::Set)
 }
 
-/// A word that may be left out.
-fn optional_word<'a>(alloc: Global, name: &'a str, help: &'a str) -> Arg<'a> {
-    Arg::new(alloc, name).action(ArgAction::Set).help(help)
+/// A flag.
+fn flag<'a>(arg: Arg<'a>, name: &'a str) -> Arg<'a> {
+    arg.long(name).action(ArgAction::SetTrue)
 }
 
-/// How many backward branches and calls a cycle may take.
-fn allowance<'a>(alloc: Global) -> Arg<'a> {
-    Arg::new(alloc, "allowance")
-        .long("allowance")
-        .value_name("N")
+/// A value after a name.
+fn named<'a>(arg: Arg<'a>, name: &'a str, value: &'a str) -> Arg<'a> {
+    valued(arg.long(name).value_name(value))
+}
+
+/// A number after a name, from 1 on.
+fn allowance<'a>(arg: Arg<'a>, name: &'a str, default: &'a str) -> Arg<'a> {
+    named(arg, name, "N")
         .value_parser(value_parser!(u16).range(1..))
-        .default_value("1000")
-        .help("How many backward branches and calls a cycle may take")
+        .default_value(default)
 }
 
-/// How many faults of a source are told one by one.
-fn faults<'a>(alloc: Global) -> Arg<'a> {
-    Arg::new(alloc, "faults")
-        .long("faults")
-        .value_name("N")
+/// A number after a name, from 0 on.
+fn count<'a>(arg: Arg<'a>, name: &'a str, default: &'a str) -> Arg<'a> {
+    named(arg, name, "N")
         .value_parser(value_parser!(u16))
-        .default_value("20")
-        .help("How many faults, or warnings, are told one by one, at most")
+        .default_value(default)
 }
 
-fn compile_command<'a>(alloc: Global) -> Result<Command<'a>, AllocError> {
-    Command::new(alloc, "compile")
-        .about("Compiles the source SRC to the object program OBJ")
-        .arg(word(alloc, "SRC", "The source, a card a line"))?
-        .arg(word(alloc, "OBJ", "Where the object program goes"))?
-        .arg(allowance(alloc))?
-        .arg(faults(alloc))
+/// A word of which only its name, its help and whether it has to be there are settled.
+fn plain<'a>(alloc: Global, word: &Word) -> Arg<'a> {
+    Arg::new(alloc, word.name)
+        .help(word.help)
+        .required(word.is_required)
 }
 
-fn check_command<'a>(alloc: Global) -> Result<Command<'a>, AllocError> {
-    Command::new(alloc, "check")
-        .about("Tells all faults of the source SRC on standard error, and writes nothing")
-        .arg(word(alloc, "SRC", "The source, a card a line"))?
-        .arg(faults(alloc))
+/// A word as clap knows it.
+fn arg<'a>(alloc: Global, word: &Word) -> Result<Arg<'a>, AllocError> {
+    let arg = plain(alloc, word);
+    match word.kind {
+        Kind::Placed => Ok(valued(arg)),
+        Kind::Named(value) => Ok(named(arg, word.name, value)),
+        Kind::Flag => Ok(flag(arg, word.name)),
+        Kind::FlagAgainst(other) => flag(arg, word.name).conflicts_with(other),
+        Kind::Allowance(default) => Ok(allowance(arg, word.name, default)),
+        Kind::Count(default) => Ok(count(arg, word.name, default)),
+        Kind::Most => Ok(named(arg, word.name, "N").value_parser(value_parser!(u64))),
+    }
 }
 
-fn verify_command<'a>(alloc: Global) -> Result<Command<'a>, AllocError> {
-    Command::new(alloc, "verify")
-        .about(
-            "Tells whether the object program OBJ may be run, and the most steps that a cycle can take",
-        )
-        .arg(word(alloc, "OBJ", "The object program"))
+fn args_of<'a>(alloc: Global, words: &[Word]) -> Result<Vec<Arg<'a>>, AllocError> {
+    let mut args = Vec::new(alloc);
+    for word in words {
+        args.push(arg(alloc, word)?)?;
+    }
+    Ok(args)
 }
 
-fn explain_command<'a>(alloc: Global) -> Result<Command<'a>, AllocError> {
-    Command::new(alloc, "explain")
-        .about("Explains a code, as F16, S5, V21, B5 or halt 4, or all of them")
-        .arg(optional_word(alloc, "CODE", "The code"))?
-        .arg(optional_word(alloc, "N", "The number of a halt"))
+/// A command with its words.
+fn command_of<'a>(alloc: Global, row: &CommandWords) -> Result<Command<'a>, AllocError> {
+    let args = args_of(alloc, row.words)?;
+    Command::new(alloc, row.name).about(row.about).args(args)
 }
 
-/// The source of an object program.
-fn source<'a>(alloc: Global) -> Arg<'a> {
-    Arg::new(alloc, "source")
-        .long("source")
-        .value_name("SRC")
-        .action(ArgAction::Set)
-        .help("The source that OBJ was compiled from, whose names and cards are told")
-}
-
-fn show_command<'a>(alloc: Global) -> Result<Command<'a>, AllocError> {
-    Command::new(alloc, "show")
-        .about("Shows the object program OBJ: its fields, record types, lines and instructions")
-        .arg(word(alloc, "OBJ", "The object program"))?
-        .arg(source(alloc))
-}
-
-fn date<'a>(alloc: Global) -> Arg<'a> {
-    word(alloc, "date", "The date, as six digits")
-        .long("date")
-        .value_name("N")
-}
-
-fn secondary<'a>(alloc: Global) -> Arg<'a> {
-    Arg::new(alloc, "secondary")
-        .long("secondary")
-        .value_name("FILE")
-        .action(ArgAction::Set)
-        .help("The records of a secondary file")
-}
-
-fn disk<'a>(alloc: Global) -> Arg<'a> {
-    Arg::new(alloc, "disk")
-        .long("disk")
-        .value_name("FILE")
-        .action(ArgAction::Set)
-        .help("Where the records of a disk file go")
-}
-
-/// The greatest bound that a program may have.
-fn most<'a>(alloc: Global) -> Arg<'a> {
-    Arg::new(alloc, "most")
-        .long("most")
-        .value_name("N")
-        .value_parser(value_parser!(u64))
-        .action(ArgAction::Set)
-        .help("Refuses a program of which a cycle may take more than N steps")
-}
-
-/// The command that runs an object program, with its files.
-fn run_with_files<'a>(alloc: Global) -> Result<Command<'a>, AllocError> {
-    Command::new(alloc, "run")
-        .about("Runs the object program OBJ over the records of INPUT, and prints to PRINT")
-        .arg(word(alloc, "OBJ", "The object program"))?
-        .arg(word(alloc, "INPUT", "The records; - is standard input"))?
-        .arg(word(
-            alloc,
-            "PRINT",
-            "Where the printed lines go; - is standard output, and the line of the answer is on standard error then",
-        ))
-}
-
-fn run_command<'a>(alloc: Global) -> Result<Command<'a>, AllocError> {
-    run_with_files(alloc)?
-        .arg(date(alloc))?
-        .arg(secondary(alloc))?
-        .arg(disk(alloc))?
-        .arg(most(alloc))?
-        .arg(source(alloc))
-}
-
-/// Adds a command, if there was memory for it.
-fn with_subcommand<'a>(
-    command: Command<'a>,
-    added: Result<Command<'a>, AllocError>,
-) -> Result<Command<'a>, AllocError> {
-    command.subcommand(added?)
+fn commands<'a>(alloc: Global) -> Result<Vec<Command<'a>>, AllocError> {
+    let mut commands = Vec::new(alloc);
+    for row in &COMMANDS {
+        commands.push(command_of(alloc, row)?)?;
+    }
+    Ok(commands)
 }
 
 /// What each exit status tells, below the commands.
@@ -154,22 +86,21 @@ const STATUSES: &str =
 const VERSION: &str =
     "object programs of versions 1 and 2, proved in Rattle's logic dac8208d650f15bf";
 
-fn command_without_words<'a>(alloc: Global) -> Command<'a> {
-    Command::new(alloc, "rpg2")
-        .about("RPG II")
-        .version(VERSION)
-        .after_help(STATUSES)
+fn with_texts<'a>(command: Command<'a>) -> Command<'a> {
+    command.about("RPG II").version(VERSION)
+}
+
+fn with_statuses<'a>(command: Command<'a>) -> Command<'a> {
+    command.after_help(STATUSES)
+}
+
+fn with_rules<'a>(command: Command<'a>) -> Command<'a> {
+    command
         .subcommand_required(true)
         .arg_required_else_help(true)
 }
 
 pub(crate) fn command<'a>(alloc: Global) -> Result<Command<'a>, AllocError> {
-    let command = with_subcommand(command_without_words(alloc), compile_command(alloc))?;
-    let command = with_subcommand(command, check_command(alloc))?;
-    let command = with_subcommand(command, list_command(alloc))?;
-    let command = with_subcommand(command, cards_command(alloc))?;
-    let command = with_subcommand(command, verify_command(alloc))?;
-    let command = with_subcommand(command, explain_command(alloc))?;
-    let command = with_subcommand(command, show_command(alloc))?;
-    with_subcommand(command, run_command(alloc))
+    let commands = commands(alloc)?;
+    with_rules(with_statuses(with_texts(Command::new(alloc, "rpg2")))).subcommands(commands)
 }

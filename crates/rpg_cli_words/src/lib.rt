@@ -4,9 +4,10 @@
 mod command;
 mod listing;
 mod request;
+mod words;
 
 pub use listing::{CardsWanted, CardsWords, ListWords};
 pub use request::{
-    CheckWords, CompileWords, ExplainWords, FileWord, Refusal, Request, RunWords, SameFile,
-    ShowWords, VerifyWords, refuse_bytes, refuse_same_file, request_of,
+    CheckWords, CompileWords, ExplainWords, FileWord, Refusal, Request, RunWords, SameFile, Shared,
+    ShowWords, VerifyWords, is_standard, refuse_bytes, refuse_same_file, request_of,
 };

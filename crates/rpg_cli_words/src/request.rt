@@ -132,11 +132,31 @@ impl FileWord {
     }
 }
 
-/// Two words that name one file, by whatever names. The second would empty it.
+/// Two words that name one file, by whatever names, or one standard stream. The second would empty it, or take what is the first one's.
 #[derive(Clone, Copy)]
 pub struct SameFile {
     pub earlier: FileWord,
     pub written: FileWord,
+    pub shared: Shared,
+}
+
+/// What two words name.
+#[derive(Clone, Copy)]
+pub enum Shared {
+    File,
+    StandardInput,
+    StandardOutput,
+}
+
+impl Shared {
+    /// What is said between the two words, and after them.
+    fn texts(self) -> (&'static str, &'static str) {
+        match self {
+            Shared::File => ("is the same file as", ""),
+            Shared::StandardInput => ("and", " are both standard input"),
+            Shared::StandardOutput => ("and", " are both standard output"),
+        }
+    }
 }
 
 impl<'a> Request<'a> {
@@ -155,20 +175,59 @@ impl<'a> Request<'a> {
             _ => None,
         }
     }
+
+    /// Whether the work of a command goes to standard output, so that the line of its answer can't.
+    pub fn writes_standard_output(&self) -> bool {
+        match self {
+            Request::Run(words) => words.writes_standard_output(),
+            _ => false,
+        }
+    }
 }
 
 /// What stands for standard input or output in place of a file.
 const STANDARD: &str = "-";
 
+/// Whether a word that may name a file is standard input or output.
+pub fn is_standard(path: &str) -> bool {
+    path == STANDARD
+}
+
+fn may_be_standard(path: Option<&str>) -> bool {
+    match path {
+        Some(path) => is_standard(path),
+        None => false,
+    }
+}
+
 impl<'a> RunWords<'a> {
     /// The file of records; none where they come from standard input.
     pub fn input_file(&self) -> Option<&'a str> {
-        (self.input != STANDARD).then_some(self.input)
+        (!is_standard(self.input)).then_some(self.input)
     }
 
-    /// Where the printed lines go; none where that is standard output.
-    pub fn print_file(&self) -> Option<&'a str> {
-        (self.print != STANDARD).then_some(self.print)
+    /// Whether printed lines or the records of a disk file go to standard output.
+    pub fn writes_standard_output(&self) -> bool {
+        is_standard(self.print) || may_be_standard(self.disk)
+    }
+
+    /// Two words that name standard input, or standard output: what one of them reads or writes would be mixed with the other's.
+    pub fn shared_stream(&self) -> Option<SameFile> {
+        if is_standard(self.input) && may_be_standard(self.secondary) {
+            Some(SameFile {
+                earlier: FileWord::Input,
+                written: FileWord::Secondary,
+                shared: Shared::StandardInput,
+            })
+        } else if is_standard(self.print) && may_be_standard(self.disk) {
+            Some(SameFile {
+                earlier: FileWord::Print,
+                written: FileWord::Disk,
+                shared: Shared::StandardOutput,
+            })
+        } else {
+            None
+        }
     }
 
     fn path(&self, word: FileWord) -> Option<&'a str> {
@@ -230,7 +289,8 @@ pub fn refuse_bytes(alloc: Global) -> Refusal {
 
 fn same_file_error(alloc: Global, same: SameFile) -> Result<Error, AllocError> {
     let (written, earlier) = (same.written.text(), same.earlier.text());
-    let message = format!(in alloc; "'{written}' is the same file as '{earlier}'")?;
+    let (between, after) = same.shared.texts();
+    let message = format!(in alloc; "'{written}' {between} '{earlier}'{after}")?;
     fault_of_words(alloc, ErrorKind::ArgumentConflict, message.as_str())
 }
 
@@ -239,41 +299,41 @@ pub fn refuse_same_file(alloc: Global, same: SameFile) -> Refusal {
     Refusal::of(same_file_error(alloc, same))
 }
 
-fn compile_words<'a>(given: &ArgMatches<'a>) -> Option<CompileWords<'a>> {
+fn compile_words<'a>(given: &ArgMatches<'a>) -> Option<Request<'a>> {
     let allowance = given.get_one::<u16>("allowance")?;
     if allowance == 0 {
         return None;
     }
-    Some(CompileWords {
+    Some(Request::Compile(CompileWords {
         source: given.get_str("SRC")?,
         object: given.get_str("OBJ")?,
         allowance,
         faults: given.get_one::<u16>("faults")?,
-    })
+    }))
 }
 
-fn check_words<'a>(given: &ArgMatches<'a>) -> Option<CheckWords<'a>> {
-    Some(CheckWords {
+fn check_words<'a>(given: &ArgMatches<'a>) -> Option<Request<'a>> {
+    Some(Request::Check(CheckWords {
         source: given.get_str("SRC")?,
         faults: given.get_one::<u16>("faults")?,
-    })
+    }))
 }
 
-fn verify_words<'a>(given: &ArgMatches<'a>) -> Option<VerifyWords<'a>> {
-    Some(VerifyWords {
+fn verify_words<'a>(given: &ArgMatches<'a>) -> Option<Request<'a>> {
+    Some(Request::Verify(VerifyWords {
         object: given.get_str("OBJ")?,
-    })
+    }))
 }
 
-fn show_words<'a>(given: &ArgMatches<'a>) -> Option<ShowWords<'a>> {
-    Some(ShowWords {
+fn show_words<'a>(given: &ArgMatches<'a>) -> Option<Request<'a>> {
+    Some(Request::Show(ShowWords {
         object: given.get_str("OBJ")?,
         source: given.get_str("source"),
-    })
+    }))
 }
 
-fn run_words<'a>(given: &ArgMatches<'a>) -> Option<RunWords<'a>> {
-    Some(RunWords {
+fn run_words<'a>(given: &ArgMatches<'a>) -> Option<Request<'a>> {
+    Some(Request::Run(RunWords {
         object: given.get_str("OBJ")?,
         input: given.get_str("INPUT")?,
         print: given.get_str("PRINT")?,
@@ -282,26 +342,26 @@ fn run_words<'a>(given: &ArgMatches<'a>) -> Option<RunWords<'a>> {
         disk: given.get_str("disk"),
         most: given.get_one::<u64>("most"),
         source: given.get_str("source"),
-    })
+    }))
 }
 
-fn explain_words<'a>(given: &ArgMatches<'a>) -> ExplainWords<'a> {
-    ExplainWords {
+fn explain_words<'a>(given: &ArgMatches<'a>) -> Request<'a> {
+    Request::Explain(ExplainWords {
         code: given.get_str("CODE"),
         number: given.get_str("N"),
-    }
+    })
 }
 
 fn request_in<'a>(matches: &ArgMatches<'a>) -> Option<Request<'a>> {
     match matches.subcommand()? {
-        ("compile", given) => compile_words(given).map(Request::Compile),
-        ("check", given) => check_words(given).map(Request::Check),
-        ("list", given) => list_words(given).map(Request::List),
-        ("cards", given) => cards_words(given).map(Request::Cards),
-        ("verify", given) => verify_words(given).map(Request::Verify),
-        ("show", given) => show_words(given).map(Request::Show),
-        ("run", given) => run_words(given).map(Request::Run),
-        ("explain", given) => Some(Request::Explain(explain_words(given))),
+        ("compile", given) => compile_words(given),
+        ("check", given) => check_words(given),
+        ("list", given) => list_words(given),
+        ("cards", given) => cards_words(given),
+        ("verify", given) => verify_words(given),
+        ("show", given) => show_words(given),
+        ("run", given) => run_words(given),
+        ("explain", given) => Some(explain_words(given)),
         _ => None,
     }
 }
@@ -324,5 +384,8 @@ fn read<'a>(alloc: Global, words: &'a [String]) -> Result<Request<'a>, Error> {
 
 /// The request that the words ask for. The first word is the program's name.
 pub fn request_of<'a>(alloc: Global, words: &'a [String]) -> Result<Request<'a>, Refusal> {
-    read(alloc, words).map_err(|error| Refusal { error })
+    match read(alloc, words) {
+        Ok(request) => Ok(request),
+        Err(error) => Err(Refusal { error }),
+    }
 }

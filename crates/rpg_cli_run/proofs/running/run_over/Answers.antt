@@ -1,8 +1,8 @@
 use Rattle.std.proofs.KnownBytes.{Keeps-refl}
 use Rattle.std.proofs.lemmas.Result.{err_from_is_err_and}
 use Rattle.rpg_engine.proofs.Flushing.{run_kept}
-use Rattle.rpg_cli.proofs.Flushing.{disk_failed, ended_well, no_more, none_failed, of_call, one_more, print_failed}
-use Rattle.rpg_cli.proofs.running.run_over.Goals as goal
+use Rattle.rpg_cli_run.proofs.Flushing.{disk_failed, ended_well, no_more, none_failed, of_call, one_more, print_failed}
+use Rattle.rpg_cli_run.proofs.running.run_over.Goals as goal
 
 -- ---- a fault of the run
 

@@ -1,8 +1,8 @@
 //! What the program answers to a command.
 
 ghost use Rattle.std.specs.Prelude.{◌≡◌};
-ghost use Rattle.rpg_cli.specs.Running.{named_fault};
-ghost use Rattle.rpg_cli.specs.declared.answer.Answer.TheVariants as answers;
+ghost use Rattle.rpg_cli_answers.specs.Named.{named_fault};
+ghost use Rattle.rpg_cli_answers.specs.declared.answer.Answer.TheVariants as answers;
 
 use arrayvec::ArrayVec;
 use rpg_cli_files::{FileFault, SourceFault};
@@ -48,7 +48,7 @@ pub enum Answer {
 }
 
 /// Hands up the fault of the file that a word names.
-pub(crate) fn named<T>(word: FileWord, given: Result<T, FileFault>) -> Result<T, Answer>
+pub fn named<T>(word: FileWord, given: Result<T, FileFault>) -> Result<T, Answer>
     ensures { result ≡ named_fault word given }
 {
     match given {

@@ -1,14 +1,13 @@
 //! The source of an object program that is shown or run, where the words name it.
 
-use crate::answer::{Answer, named};
-use crate::files::tell_faults;
 use crate::judging::matched;
-use crate::told::Listener;
+use rpg_cli_answers::{Answer, Listener, named};
 use rpg_cli_files::file_bytes;
 use rpg_cli_halts::HaltedSource;
+use rpg_cli_messages::source_messages;
 use rpg_cli_source::SourceRows;
 use rpg_cli_words::FileWord;
-use rpg_faults::faultless_cards;
+use rpg_faults::{faultless_cards, source_faults};
 use std::alloc::Global;
 use std::rt::Files;
 
@@ -17,7 +16,7 @@ const MOST_TOLD: u16 = 20;
 
 /// A source that is the object's: its path, its text, and what its cards say.
 #[derive(Drop)]
-pub(crate) struct OwnSource<'a> {
+pub struct OwnSource<'a> {
     path: &'a str,
     text: Vec<u8>,
     pub rows: SourceRows,
@@ -42,7 +41,7 @@ fn rows_of(alloc: Global, text: &[u8]) -> Result<SourceRows, Answer> {
 }
 
 /// The source that a word names, if one does, once it is found to be that of the object. The faults of one that has some are told.
-pub(crate) fn own_source<'a, R: Files + AllocGlobal, L: Listener>(
+pub fn own_source<'a, R: Files + AllocGlobal, L: Listener>(
     rt: &R,
     path: Option<&'a str>,
     object: &[u8],
@@ -60,4 +59,23 @@ pub(crate) fn own_source<'a, R: Files + AllocGlobal, L: Listener>(
     }
     let rows = rows_of(rt.alloc(), &text)?;
     Ok(Some(OwnSource { path, text, rows }))
+}
+
+/// Tells the faults of a source, if it has any. Where there is no memory for the messages the line alone says what is wrong.
+pub fn tell_faults<L: Listener>(
+    alloc: Global,
+    path: &str,
+    source: &[u8],
+    most: u16,
+    listener: &mut L,
+) {
+    let Ok(faults) = source_faults(alloc, source) else {
+        return;
+    };
+    if faults.is_empty() {
+        return;
+    }
+    if let Ok(messages) = source_messages(alloc, path, source, &faults, most) {
+        listener.tell(messages.as_str());
+    }
 }

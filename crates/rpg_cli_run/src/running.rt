@@ -1,15 +1,14 @@
 //! A run over any reader and writers.
 
-ghost use Rattle.std.specs.Prelude.{◌≡◌, ℤ, ◌-◌, ◌^◌, ◌<◌, IfErr, IfOk, None, Some};
-ghost use Rattle.rpg_cli.specs.Running.{TellsFaults, TellsRun};
+ghost use Rattle.std.specs.Prelude.{◌≡◌, ◌-◌, ◌^◌, ◌<◌, IfErr, IfOk, None};
+ghost use Rattle.rpg_cli_run.specs.Running.{TellsFaults, TellsRun};
+ghost use Rattle.rpg_engine.specs.Devices.{EndsWellOn, ReportsOn, SendsPartsOn};
 ghost use Rattle.rpg_engine.specs.Faults.{device_counts};
-ghost use Rattle.rpg_engine.specs.Inputs.{OfInputs};
 ghost use Rattle.rpg_engine.specs.Refusing.{IsToldOfDate};
-ghost use Rattle.rpg_engine.specs.Reporting.{JobEndsWell, Reports, SendsParts};
 ghost use Rattle.rpg_engine.specs.Starting.{date_in};
 ghost use Rattle.rpg_files.specs.Counting.{device_of, faults_of};
 
-use crate::answer::{Answer, named};
+use rpg_cli_answers::{Answer, named};
 use rpg_cli_files::flush_device;
 use rpg_cli_words::FileWord;
 use rpg_engine::{Report, Verified, execute_program};
@@ -40,21 +39,12 @@ pub(crate) fn run_over<I: Read, S: Read, P: Write, D: Write>(
     ensures alone { program.now.secondary_length ≡ 0 → secondary.new ≡ secondary.old }
 
     // Else the job ends, at its end or at a halt, within one cycle more than both inputs have records, and no cycle takes more steps than the bound.
-    ensures headline { TellsRun (λ ran. IfOk ran (λ report. (day : ℤ) → date_in date.now ≡ Some day
-        → OfInputs (I.remaining (device_of input.old)) (I.remaining (device_of input.new))
-        (S.remaining (device_of secondary.old)) (S.remaining (device_of secondary.new)) (JobEndsWell program.now report))) result }
+    ensures headline { TellsRun (λ ran. IfOk ran (EndsWellOn I.remaining S.remaining program.now date.now input secondary)) result }
     // The report and all output are those of the run over the inputs' records.
-    ensures report { TellsRun (λ ran. IfOk ran (λ report. (day : ℤ) → date_in date.now ≡ Some day
-        → OfInputs (I.remaining (device_of input.old)) (I.remaining (device_of input.new))
-        (S.remaining (device_of secondary.old)) (S.remaining (device_of secondary.new))
-        (Reports program.now day report (P.contents (device_of print.old)) (P.contents (device_of print.new))
-        (D.contents (device_of disk.old)) (D.contents (device_of disk.new))))) result }
-    // Where it stops early each writer has a first part of the run's output.
-    ensures early { TellsRun (λ ran. IfErr ran (λ e. (day : ℤ) → date_in date.now ≡ Some day
-        → OfInputs (I.remaining (device_of input.old)) (I.remaining (device_of input.new))
-        (S.remaining (device_of secondary.old)) (S.remaining (device_of secondary.new))
-        (SendsParts program.now day e (P.contents (device_of print.old)) (P.contents (device_of print.new))
-        (D.contents (device_of disk.old)) (D.contents (device_of disk.new))))) result }
+    ensures report { TellsRun (λ ran. IfOk ran (ReportsOn I.remaining S.remaining P.contents D.contents program.now date.now input secondary print disk)) result }
+    // Where it stops early each writer has a first part of the run's output, the printer before the disk file; and where a reader failed the job
+    // had sent all that was put out, and waited for a record of that reader's file.
+    ensures early { TellsRun (λ ran. IfErr ran (SendsPartsOn I.remaining S.remaining P.contents D.contents program.now date.now input secondary print disk)) result }
     // It is told whose fault it was.
     ensures faults { TellsFaults result (I.remaining (device_of input.old)) (I.remaining (device_of input.new))
         (S.remaining (device_of secondary.old)) (S.remaining (device_of secondary.new))

@@ -1,18 +1,12 @@
 -- What is told of a run whose writers are flushed behind it.
 use Rattle.std.specs.Prelude.{◌≡◌, ℕ, ◌+◌, List, Option, Result, Ok, Err}
-use Rattle.rpg_cli_files.specs.declared.files.FileFault.{FileFault}
 use Rattle.rpg_cli_words.specs.declared.request.FileWord.{FileWord}
 use Rattle.rpg_cli_words.specs.declared.request.FileWord.TheVariants as words
 use Rattle.rpg_engine.specs.Faults.{Counts, FaultsAre}
 use Rattle.rpg_engine.specs.declared.fault.RunFault.{RunFault}
 use Rattle.rpg_engine.specs.declared.report.Report.{Report}
-use Rattle.rpg_cli.specs.declared.answer.Answer.{Answer}
-use Rattle.rpg_cli.specs.declared.answer.Answer.TheVariants as answers
-
--- the fault of the file that a word names
-abbrev pub named_fault : {T : Type 0} → FileWord → Result T FileFault → Result T Answer
-named_fault word (Ok x) = Ok x
-named_fault word (Err fault) = Err (answers.File word fault)
+use Rattle.rpg_cli_answers.specs.declared.answer.Answer.{Answer}
+use Rattle.rpg_cli_answers.specs.declared.answer.Answer.TheVariants as answers
 
 -- A fault of the run is told as it is. That of a file is a flush behind a run that gave a report; nothing else is told.
 abbrev pub TellsFault : (Result Report RunFault → Type 0) → Answer → Type 0

@@ -4,9 +4,9 @@ use Rattle.rpg_cli_files.specs.declared.files.FileFault.{FileFault}
 use Rattle.rpg_cli_words.specs.declared.request.FileWord.{FileWord}
 use Rattle.rpg_engine.specs.Faults.{Counts}
 use Rattle.rpg_files.specs.Counting.{faults_after}
-use Rattle.rpg_cli.specs.Running.{named_fault}
-use Rattle.rpg_cli.specs.declared.answer.Answer.{Answer}
-use Rattle.rpg_cli.specs.declared.answer.Answer.TheVariants as answers
+use Rattle.rpg_cli_answers.specs.Named.{named_fault}
+use Rattle.rpg_cli_answers.specs.declared.answer.Answer.{Answer}
+use Rattle.rpg_cli_answers.specs.declared.answer.Answer.TheVariants as answers
 
 -- ---- a fault that is told of the file that a word names
 

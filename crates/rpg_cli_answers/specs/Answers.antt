@@ -15,8 +15,8 @@ use Rattle.rpg_engine.specs.declared.fault.RunFault.TheVariants as runs
 use Rattle.rpg_engine.specs.declared.object.ObjectFault.{ObjectFault}
 use Rattle.rpg_engine.specs.declared.object.ObjectFault.TheVariants as objects
 use Rattle.rpg_engine.specs.declared.report.Report.{Report}
-use Rattle.rpg_cli.specs.declared.answer.Answer.{Answer}
-use Rattle.rpg_cli.specs.declared.answer.Answer.TheVariants as answer
+use Rattle.rpg_cli_answers.specs.declared.answer.Answer.{Answer}
+use Rattle.rpg_cli_answers.specs.declared.answer.Answer.TheVariants as answer
 
 -- ---- lines
 
@@ -40,7 +40,7 @@ object_text objects.NoMemory = codes "no memory"
 abbrev pub run_text : RunFault → List ℕ
 run_text (runs.Object fault) = object_text fault
 run_text runs.BadDate = codes "bad date"
-run_text runs.Read = codes "input failed"
+run_text (runs.Read file fault) = codes "input failed"
 run_text (runs.Print sent) = codes "output failed"
 run_text (runs.Disk sent) = codes "output failed"
 run_text runs.NoMemory = codes "no memory"
@@ -88,7 +88,7 @@ object_status objects.NoMemory = 1
 abbrev pub run_status : RunFault → ℕ
 run_status (runs.Object fault) = object_status fault
 run_status runs.BadDate = 2
-run_status runs.Read = 1
+run_status (runs.Read file fault) = 1
 run_status (runs.Print sent) = 1
 run_status (runs.Disk sent) = 1
 run_status runs.NoMemory = 1

@@ -7,8 +7,8 @@ use Rattle.rpg_engine.specs.Objects.{HasObjectFault, SpellsProgram}
 use Rattle.rpg_engine.specs.declared.fault.RunFault.TheVariants as runs
 use Rattle.rpg_engine.specs.declared.object.ObjectFault.{ObjectFault}
 use Rattle.rpg_faults.specs.Source.{IsSourceRefusal}
-use Rattle.rpg_cli.specs.declared.answer.Answer.{Answer}
-use Rattle.rpg_cli.specs.declared.answer.Answer.TheVariants as answers
+use Rattle.rpg_cli_answers.specs.declared.answer.Answer.{Answer}
+use Rattle.rpg_cli_answers.specs.declared.answer.Answer.TheVariants as answers
 
 -- the fault that compiling finds
 abbrev pub TellsSource : Answer → List ℕ → Type 0

@@ -2,7 +2,7 @@
 
 ghost use Rattle.std.specs.Prelude.{◌≡◌, ◌+◌, ◌≤◌, ◌++◌, length, decimal};
 ghost use Rattle.arrayvec.specs.ArrayVec.{array_vec_len};
-ghost use Rattle.rpg_cli.specs.Answers as answers;
+ghost use Rattle.rpg_cli_answers.specs.Answers as answers;
 
 use crate::answer::{Answer, Line};
 use arrayvec::ArrayVec;
@@ -108,7 +108,7 @@ fn put_run_fault(text: &mut Text, fault: RunFault)
     match fault {
         RunFault::Object(fault) => put_object_fault(text, fault),
         RunFault::BadDate => put(text, b"bad date"),
-        RunFault::Read => put(text, b"input failed"),
+        RunFault::Read { .. } => put(text, b"input failed"),
         RunFault::Print { .. } | RunFault::Disk { .. } => put(text, b"output failed"),
         RunFault::NoMemory => put(text, b"no memory"),
     }
@@ -141,7 +141,10 @@ fn run_status(fault: RunFault) -> u8
     match fault {
         RunFault::Object(fault) => object_status(fault),
         RunFault::BadDate => 2,
-        RunFault::Read | RunFault::Print { .. } | RunFault::Disk { .. } | RunFault::NoMemory => 1,
+        RunFault::Read { .. }
+        | RunFault::Print { .. }
+        | RunFault::Disk { .. }
+        | RunFault::NoMemory => 1,
     }
 }
 

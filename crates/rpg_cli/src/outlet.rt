@@ -1,0 +1,38 @@
+//! Where the line of an answer goes.
+
+use rpg_cli_words::Request;
+
+/// Where the line of an answer goes, and what a command shows before it.
+#[derive(Clone, Copy)]
+pub(crate) struct Outlet {
+    pub name: &'static str,
+    /// Who reads it may go when enough was seen, as `head` does.
+    pub may_close: bool,
+}
+
+impl Outlet {
+    pub const STANDARD_OUTPUT: Outlet = Outlet {
+        name: "standard output",
+        may_close: false,
+    };
+
+    const PAGES: Outlet = Outlet {
+        name: "standard output",
+        may_close: true,
+    };
+
+    const STANDARD_ERROR: Outlet = Outlet {
+        name: "standard error",
+        may_close: false,
+    };
+
+    pub fn of(request: &Request) -> Outlet {
+        match request {
+            Request::List(_) | Request::Cards(_) | Request::Show(_) | Request::Explain(_) => {
+                Outlet::PAGES
+            }
+            Request::Run(words) if words.writes_standard_output() => Outlet::STANDARD_ERROR,
+            _ => Outlet::STANDARD_OUTPUT,
+        }
+    }
+}

@@ -1,0 +1,53 @@
+//! What ends a command before its work is done.
+
+use crate::answer::Answer;
+use rpg_cli_files::Reason;
+use rpg_cli_words::SameFile;
+
+/// What ends a command before its work is done.
+#[derive(Clone, Copy)]
+pub enum Stop {
+    Answer(Answer),
+    /// A file would be emptied that another word names.
+    SameFile(SameFile),
+    /// Not all of a text could be shown.
+    Unshown(Reason),
+    /// The job gave no report.
+    Job { answer: Answer, reasons: Reasons },
+}
+
+/// Why the files of a job failed, as far as the system tells it.
+#[derive(Clone, Copy)]
+pub struct Reasons {
+    pub input: Option<Reason>,
+    pub secondary: Option<Reason>,
+    pub print: Option<Reason>,
+    pub disk: Option<Reason>,
+}
+
+impl Reasons {
+    pub const NONE: Reasons = Reasons {
+        input: None,
+        secondary: None,
+        print: None,
+        disk: None,
+    };
+}
+
+impl From<Answer> for Stop {
+    fn from(answer: Answer) -> Stop {
+        Stop::Answer(answer)
+    }
+}
+
+impl From<SameFile> for Stop {
+    fn from(same: SameFile) -> Stop {
+        Stop::SameFile(same)
+    }
+}
+
+impl From<Reason> for Stop {
+    fn from(reason: Reason) -> Stop {
+        Stop::Unshown(reason)
+    }
+}

@@ -1,0 +1,3 @@
+-- What is told of runs, and of sources and objects.
+pub mod Judging
+pub mod Running

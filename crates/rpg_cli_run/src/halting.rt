@@ -1,0 +1,84 @@
+//! What is told of a job that halted.
+
+use rpg_cli_answers::Listener;
+use rpg_cli_files::{identity_at, input_file};
+use rpg_cli_halts::{HaltedCycle, HaltedSource, InputNames, halt_message};
+use rpg_cli_words::RunWords;
+use rpg_engine::{JobEnd, Report, Verified, accept, decode_object};
+use std::alloc::{AllocError, Global};
+use std::io::{BufRead, BufReader};
+use std::rt::Files;
+
+/// The text of a record of a regular file, the first being 1, where it can be read once more. Standard input can't.
+fn record_line<R: Files + AllocGlobal>(rt: &R, words: &RunWords, number: u64) -> Option<String> {
+    let path = words.input_file()?;
+    identity_at(rt, path)?;
+    let file = input_file(rt, path).ok()?;
+    let reader = BufReader::new(rt.alloc(), file).ok()?;
+    let mut at = 0u64;
+    for line in reader.lines(rt.alloc()) {
+        let line = line.ok()?;
+        at = at.saturating_add(1);
+        if at == number {
+            return Some(line);
+        }
+    }
+    None
+}
+
+fn halted_message<R: Files + AllocGlobal>(
+    rt: &R,
+    words: &RunWords,
+    program: &Verified,
+    halted: HaltedCycle,
+    source: Option<HaltedSource<'_>>,
+) -> Result<String, AllocError> {
+    let line = match halted.record(program) {
+        Some(record) if halted.is_of_columns() => record_line(rt, words, record),
+        _ => None,
+    };
+    let record = line.as_ref().map(|line| line.as_bytes());
+    let names = InputNames {
+        primary: words.input,
+        secondary: words.secondary,
+    };
+    halt_message(rt.alloc(), names, program, halted, record, source)
+}
+
+/// The halt of a report, if its job halted.
+fn halt_of(report: Report) -> Option<HaltedCycle> {
+    match report.ending {
+        JobEnd::EndOfJob => None,
+        JobEnd::Halt(halt) => Some(HaltedCycle {
+            halt,
+            cycles: report.cycles,
+            place: report.place,
+        }),
+    }
+}
+
+/// The accepted program that the bytes of an object file spell.
+fn program_of(alloc: Global, object: &[u8]) -> Option<Verified> {
+    let program = decode_object(alloc, object).ok()?;
+    accept(alloc, program).ok()
+}
+
+/// Tells where a job halted, if it did: over the records that the words name, by the program that these bytes spell.
+pub(crate) fn tell_halt<R: Files + AllocGlobal, L: Listener>(
+    rt: &R,
+    words: &RunWords,
+    object: &[u8],
+    report: Report,
+    source: Option<HaltedSource<'_>>,
+    listener: &mut L,
+) {
+    let Some(halted) = halt_of(report) else {
+        return;
+    };
+    let Some(program) = program_of(rt.alloc(), object) else {
+        return;
+    };
+    if let Ok(message) = halted_message(rt, words, &program, halted, source) {
+        listener.tell(message.as_str());
+    }
+}

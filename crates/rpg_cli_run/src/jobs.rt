@@ -1,0 +1,313 @@
+//! The command that runs an object program over its files.
+
+ghost use Rattle.std.specs.Prelude.{◌≤◌, IfErr, IfOk, IfSome, OnOk};
+ghost use Rattle.rpg_cli_run.specs.Judging.{BreaksLimit};
+ghost use Rattle.rpg_engine.specs.Bound.{bound};
+ghost use Rattle.rpg_engine.specs.Objects.{HasObjectFault, SpellsProgram};
+
+use crate::halting::tell_halt;
+use crate::refusing::{tell_object, tell_wanted};
+use crate::running::run_over;
+use crate::sharing::{NamedFile, refuse_same_file};
+use crate::sources::own_source;
+use rpg_cli_answers::{Answer, Listener, Reasons, Stop, named};
+use rpg_cli_files::{
+    LineTarget, Opened, RecordSource, file_bytes, input_file, lines, output_file, records,
+};
+use rpg_cli_words::{FileWord, RunWords, SameFile, is_standard};
+use rpg_engine::{
+    ObjectFault, Program, Report, RunFault, Verified, accept, decode_object, has_disk_file,
+    has_secondary_file,
+};
+use rpg_files::Counted;
+use std::alloc::Global;
+use std::io::{Printer, Read, Write};
+use std::rt::Files;
+
+/// Where the records of a disk file go, if the program has one. A path that isn't wanted is left.
+fn disk_path<'a>(program: &Program, named: Option<&'a str>) -> Result<Option<&'a str>, Answer> {
+    if !has_disk_file(program) {
+        return Ok(None);
+    }
+    match named {
+        Some(path) => Ok(Some(path)),
+        None => Err(Answer::DiskFileWanted),
+    }
+}
+
+/// Where the records of a secondary file come from, if the program has one. A path that isn't wanted is left.
+fn secondary_path<'a>(
+    program: &Program,
+    named: Option<&'a str>,
+) -> Result<Option<&'a str>, Answer> {
+    if !has_secondary_file(program) {
+        return Ok(None);
+    }
+    match named {
+        Some(path) => Ok(Some(path)),
+        None => Err(Answer::SecondaryFileWanted),
+    }
+}
+
+/// The files of a run beside those that every run has, as far as its program wants them.
+#[derive(Clone, Copy)]
+struct WantedFiles<'a> {
+    secondary: Option<&'a str>,
+    disk: Option<&'a str>,
+}
+
+impl<'a> WantedFiles<'a> {
+    /// Those that the words name. The disk file is asked for first.
+    fn of(program: &Program, words: &RunWords<'a>) -> Result<WantedFiles<'a>, Answer> {
+        let disk = disk_path(program, words.disk)?;
+        let secondary = secondary_path(program, words.secondary)?;
+        Ok(WantedFiles { secondary, disk })
+    }
+}
+
+/// Whether a text is a date: six digits.
+fn is_date(text: &str) -> bool {
+    text.len() == 6 && text.bytes().all(|b| b.is_ascii_digit())
+}
+
+/// Whether a program may run: the rules and the date are told before it's refused for its bound.
+fn keeps_limit(
+    accepted: &Result<Verified, ObjectFault>,
+    date: &str,
+    most: u64,
+) -> Result<(), Answer>
+    ensures kept { OnOk result (IfOk accepted.now (λ program. bound program ≤ most)) }
+    ensures refused { IfErr result (λ answer. BreaksLimit answer accepted.now most) }
+{
+    match accepted {
+        Err(fault) => Err(Answer::Object(*fault)),
+        Ok(_) if !is_date(date) => Err(Answer::Run(RunFault::BadDate)),
+        Ok(program) if program.bound() > most => Err(Answer::OverLimit {
+            bound: program.bound(),
+        }),
+        Ok(_) => Ok(()),
+    }
+}
+
+/// The files of a run, opened, and those that are written not emptied yet.
+#[derive(Drop)]
+struct RunFiles<F> {
+    input: Opened<F>,
+    secondary: Opened<F>,
+    print: Opened<F>,
+    disk: Opened<F>,
+}
+
+/// Opens the inputs, and then the files that are written.
+fn open_files<R: Files>(
+    rt: &R,
+    words: &RunWords,
+    wanted: WantedFiles<'_>,
+) -> Result<RunFiles<R::File>, Answer> {
+    Ok(RunFiles {
+        input: read_file(rt, FileWord::Input, Some(words.input))?,
+        secondary: read_file(rt, FileWord::Secondary, wanted.secondary)?,
+        print: written_file(rt, FileWord::Print, Some(words.print))?,
+        disk: written_file(rt, FileWord::Disk, wanted.disk)?,
+    })
+}
+
+/// Opens a file that will be read, if there is one.
+fn read_file<R: Files>(
+    rt: &R,
+    word: FileWord,
+    path: Option<&str>,
+) -> Result<Opened<R::File>, Answer> {
+    match path {
+        None => Ok(Opened::Nothing),
+        Some(path) if is_standard(path) => Ok(Opened::Standard),
+        Some(path) => Ok(Opened::File(named(word, input_file(rt, path))?)),
+    }
+}
+
+/// Opens a file that will be written, if there is one.
+fn written_file<R: Files>(
+    rt: &R,
+    word: FileWord,
+    path: Option<&str>,
+) -> Result<Opened<R::File>, Answer> {
+    match path {
+        None => Ok(Opened::Nothing),
+        Some(path) if is_standard(path) => Ok(Opened::Standard),
+        Some(path) => Ok(Opened::File(named(word, output_file(rt, path))?)),
+    }
+}
+
+/// Refuses to empty a file that another word names too.
+fn keep_files<R: Files>(
+    rt: &R,
+    words: &RunWords,
+    files: &RunFiles<R::File>,
+) -> Result<(), SameFile> {
+    let (input, output) = ("/dev/stdin", "/dev/stdout");
+    let object = NamedFile::at(rt, FileWord::Object, words.object);
+    let source = NamedFile::named(rt, FileWord::OwnSource, words.source);
+    let primary = NamedFile::opened(rt, FileWord::Input, &files.input, input);
+    let secondary = NamedFile::opened(rt, FileWord::Secondary, &files.secondary, input);
+    let print = NamedFile::opened(rt, FileWord::Print, &files.print, output);
+    let disk = NamedFile::opened(rt, FileWord::Disk, &files.disk, output);
+    refuse_same_file(print, &[object, source, primary, secondary])?;
+    refuse_same_file(disk, &[object, source, primary, secondary, print])
+}
+
+/// What a run reads and writes, the files that are written emptied.
+#[derive(Drop)]
+struct Devices<F: Drop, S: Drop, P: Drop> {
+    input: RecordSource<F, S>,
+    secondary: RecordSource<F, S>,
+    print: LineTarget<F, P>,
+    disk: LineTarget<F, P>,
+}
+
+/// Empties the files that are written.
+fn emptied_devices<R: Files + Input + Print>(
+    rt: &R,
+    files: RunFiles<R::File>,
+) -> Result<Devices<R::File, R::Reader, Printer<'_, R>>, Answer> {
+    let print = named(FileWord::Print, lines(rt, files.print))?;
+    let disk = named(FileWord::Disk, lines(rt, files.disk))?;
+    Ok(Devices {
+        input: records(rt, files.input),
+        secondary: records(rt, files.secondary),
+        print,
+        disk,
+    })
+}
+
+impl<F: Drop, S: Drop, P: Drop> Devices<F, S, P> {
+    /// Why the last call of each failed, if it did.
+    fn reasons(&self) -> Reasons {
+        Reasons {
+            input: self.input.fault(),
+            secondary: self.secondary.fault(),
+            print: self.print.fault(),
+            disk: self.disk.fault(),
+        }
+    }
+}
+
+/// Runs an accepted program over its devices. Where one of them failed it's told why.
+fn run_devices<F: Read + Write + Drop, S: Read + Drop, P: Write + Drop>(
+    alloc: Global,
+    program: &Verified,
+    date: &[u8],
+    devices: &mut Devices<F, S, P>,
+) -> Result<Report, Stop> {
+    let ran = run_over(
+        alloc,
+        program,
+        date,
+        &mut Counted::new(&mut devices.input),
+        &mut Counted::new(&mut devices.secondary),
+        &mut Counted::new(&mut devices.print),
+        &mut Counted::new(&mut devices.disk),
+    );
+    match ran {
+        Ok(report) => Ok(report),
+        Err(answer) => Err(Stop::Job {
+            answer,
+            reasons: devices.reasons(),
+        }),
+    }
+}
+
+/// Opens the files of a run, empties those that are written, and runs the program over them, if it was accepted.
+fn run_program<R: Files + Input + Print + AllocGlobal>(
+    rt: &R,
+    words: &RunWords,
+    accepted: Result<Verified, ObjectFault>,
+    wanted: WantedFiles<'_>,
+) -> Result<Report, Stop> {
+    let files = open_files(rt, words, wanted)?;
+    keep_files(rt, words, &files)?;
+    let mut devices = emptied_devices(rt, files)?;
+    match accepted {
+        Ok(program) => run_devices(rt.alloc(), &program, words.date.as_bytes(), &mut devices),
+        Err(fault) => Err(Answer::Object(fault).into()),
+    }
+}
+
+/// The program of a run, accepted or refused, and the files that it wants beside those that every run has.
+///
+/// The object is decoded first, and a disk file or a secondary file that is wanted and not named is told. Where the words name a limit, the
+/// rules, the date and the limit come next, before the other files.
+fn program_of<'a>(
+    alloc: Global,
+    words: &RunWords<'a>,
+    object: &[u8],
+) -> Result<(Result<Verified, ObjectFault>, WantedFiles<'a>), Answer>
+    ensures spelled { IfOk result (λ told. IfOk told.0 (λ program. SpellsProgram object.now program)) }
+    ensures refused { IfOk result (λ told. IfErr told.0 (λ fault. HasObjectFault fault object.now)) }
+    ensures limit { IfOk result (λ told. IfSome words.now.most (λ most. IfOk told.0 (λ program. bound program ≤ most))) }
+{
+    let program = decode_object(alloc, object)?;
+    let wanted = WantedFiles::of(&program, words)?;
+    let accepted = accept(alloc, program);
+    if let Some(most) = words.most {
+        keeps_limit(&accepted, words.date, most)?;
+    }
+    Ok((accepted, wanted))
+}
+
+/// Runs the object program of these bytes. Rules and date are told once its files are open, unless the words name a limit.
+fn run_object<R: Files + Input + Print + AllocGlobal>(
+    rt: &R,
+    words: &RunWords,
+    object: &[u8],
+) -> Result<Report, Stop> {
+    let (accepted, wanted) = program_of(rt.alloc(), words, object)?;
+    run_program(rt, words, accepted, wanted)
+}
+
+/// Runs the object program of these bytes, and tells where its job halted. The source that the words name is read before.
+fn run_and_tell<R: Files + Input + Print + AllocGlobal, L: Listener>(
+    rt: &R,
+    words: &RunWords,
+    object: &[u8],
+    listener: &mut L,
+) -> Result<Report, Stop> {
+    let source = own_source(rt, words.source, object, listener)?;
+    let report = run_object(rt, words, object)?;
+    let source = source.as_ref().map(|source| source.halted());
+    tell_halt(rt, words, object, report, source, listener);
+    Ok(report)
+}
+
+/// Runs an object program over its files, and tells what is wrong with one that is refused, and where its job halted.
+pub fn run_files<R: Files + Input + Print + AllocGlobal, L: Listener>(
+    rt: &R,
+    words: &RunWords,
+    listener: &mut L,
+) -> Result<Report, Stop> {
+    if let Some(same) = words.shared_stream() {
+        return Err(same.into());
+    }
+    let object = named(FileWord::Object, file_bytes(rt, words.object))?;
+    let ran = run_and_tell(rt, words, &object, listener);
+    if let Err(Stop::Answer(answer)) = ran {
+        tell_refused(rt.alloc(), words, &object, answer, listener);
+    }
+    ran
+}
+
+/// Tells what is wrong with a program that is refused, or which file it wants.
+fn tell_refused<L: Listener>(
+    alloc: Global,
+    words: &RunWords,
+    object: &[u8],
+    answer: Answer,
+    listener: &mut L,
+) {
+    match answer {
+        Answer::Object(fault) => tell_object(alloc, words.object, object, fault, listener),
+        Answer::DiskFileWanted | Answer::SecondaryFileWanted => {
+            tell_wanted(alloc, words.object, object, answer, listener)
+        }
+        _ => {}
+    }
+}

@@ -1,0 +1,16 @@
+//! The command that runs an object program over its files, and what other commands share with it.
+#![tactic(auto)]
+
+mod halting;
+mod jobs;
+mod judging;
+mod refusing;
+mod running;
+mod sharing;
+mod sources;
+
+pub use jobs::run_files;
+pub use judging::{compiled, verified};
+pub use refusing::tell_object;
+pub use sharing::{NamedFile, refuse_same_file};
+pub use sources::{OwnSource, own_source, tell_faults};

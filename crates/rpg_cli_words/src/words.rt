@@ -1,0 +1,211 @@
+//! The words of each command, as data.
+
+/// How a word is written, and what it takes.
+#[derive(Clone, Copy)]
+pub(crate) enum Kind {
+    /// A word that its place tells.
+    Placed,
+    /// A value after the word's name, and what help calls it.
+    Named(&'static str),
+    Flag,
+    /// A flag that doesn't go with another one.
+    FlagAgainst(&'static str),
+    /// A number from 1 on, and one from 0 on, that has a default.
+    Allowance(&'static str),
+    Count(&'static str),
+    /// A number that has none.
+    Most,
+}
+
+#[derive(Clone, Copy)]
+pub(crate) struct Word {
+    pub name: &'static str,
+    pub kind: Kind,
+    /// Whether it has to be there.
+    pub is_required: bool,
+    pub help: &'static str,
+}
+
+/// A command and its words.
+#[derive(Clone, Copy)]
+pub(crate) struct CommandWords {
+    pub name: &'static str,
+    pub about: &'static str,
+    pub words: &'static [Word],
+}
+
+const SOURCE: Word = Word {
+    name: "SRC",
+    kind: Kind::Placed,
+    is_required: true,
+    help: "The source, a card a line",
+};
+
+const OBJECT: Word = Word {
+    name: "OBJ",
+    kind: Kind::Placed,
+    is_required: true,
+    help: "The object program",
+};
+
+/// The source of an object program.
+const OWN_SOURCE: Word = Word {
+    name: "source",
+    kind: Kind::Named("SRC"),
+    is_required: false,
+    help: "The source that OBJ was compiled from, whose names and cards are told",
+};
+
+/// How many faults of a source are told one by one.
+const FAULTS: Word = Word {
+    name: "faults",
+    kind: Kind::Count("20"),
+    is_required: false,
+    help: "How many faults, or warnings, are told one by one, at most",
+};
+
+const COMPILE: [Word; 4] = [
+    SOURCE,
+    Word {
+        name: "OBJ",
+        kind: Kind::Placed,
+        is_required: true,
+        help: "Where the object program goes",
+    },
+    Word {
+        name: "allowance",
+        kind: Kind::Allowance("1000"),
+        is_required: false,
+        help: "How many backward branches and calls a cycle may take",
+    },
+    FAULTS,
+];
+
+const CHECK: [Word; 2] = [SOURCE, FAULTS];
+
+const LIST: [Word; 1] = [SOURCE];
+
+const CARDS: [Word; 3] = [
+    Word {
+        name: "SRC",
+        kind: Kind::Placed,
+        is_required: true,
+        help: "The lines of shorthand, or with --short the cards",
+    },
+    Word {
+        name: "short",
+        kind: Kind::FlagAgainst("ruler"),
+        is_required: false,
+        help: "Prints the shorthand of the cards in SRC",
+    },
+    Word {
+        name: "ruler",
+        kind: Kind::Flag,
+        is_required: false,
+        help: "Puts a ruler, which is a comment, before the cards",
+    },
+];
+
+const VERIFY: [Word; 1] = [OBJECT];
+
+const EXPLAIN: [Word; 2] = [
+    Word {
+        name: "CODE",
+        kind: Kind::Placed,
+        is_required: false,
+        help: "The code",
+    },
+    Word {
+        name: "N",
+        kind: Kind::Placed,
+        is_required: false,
+        help: "The number of a halt",
+    },
+];
+
+const SHOW: [Word; 2] = [OBJECT, OWN_SOURCE];
+
+const RUN: [Word; 8] = [
+    OBJECT,
+    Word {
+        name: "INPUT",
+        kind: Kind::Placed,
+        is_required: true,
+        help: "The records; - is standard input",
+    },
+    Word {
+        name: "PRINT",
+        kind: Kind::Placed,
+        is_required: true,
+        help: "Where the printed lines go; - is standard output, and the line of the answer is on standard error then",
+    },
+    Word {
+        name: "date",
+        kind: Kind::Named("N"),
+        is_required: true,
+        help: "The date, as six digits",
+    },
+    Word {
+        name: "secondary",
+        kind: Kind::Named("FILE"),
+        is_required: false,
+        help: "The records of a secondary file",
+    },
+    Word {
+        name: "disk",
+        kind: Kind::Named("FILE"),
+        is_required: false,
+        help: "Where the records of a disk file go",
+    },
+    Word {
+        name: "most",
+        kind: Kind::Most,
+        is_required: false,
+        help: "Refuses a program of which a cycle may take more than N steps",
+    },
+    OWN_SOURCE,
+];
+
+/// The commands, as help has them one after another.
+pub(crate) const COMMANDS: [CommandWords; 8] = [
+    CommandWords {
+        name: "compile",
+        about: "Compiles the source SRC to the object program OBJ",
+        words: &COMPILE,
+    },
+    CommandWords {
+        name: "check",
+        about: "Tells all faults of the source SRC on standard error, and writes nothing",
+        words: &CHECK,
+    },
+    CommandWords {
+        name: "list",
+        about: "Lists the source SRC: its cards with their faults, record layouts, names, indicators and printed lines",
+        words: &LIST,
+    },
+    CommandWords {
+        name: "cards",
+        about: "Makes cards of the lines of shorthand in SRC, as O 32=TOT 42=10",
+        words: &CARDS,
+    },
+    CommandWords {
+        name: "verify",
+        about: "Tells whether the object program OBJ may be run, and the most steps that a cycle can take",
+        words: &VERIFY,
+    },
+    CommandWords {
+        name: "explain",
+        about: "Explains a code, as F16, S5, V21, B5 or halt 4, or all of them",
+        words: &EXPLAIN,
+    },
+    CommandWords {
+        name: "show",
+        about: "Shows the object program OBJ: its fields, record types, lines and instructions",
+        words: &SHOW,
+    },
+    CommandWords {
+        name: "run",
+        about: "Runs the object program OBJ over the records of INPUT, and prints to PRINT",
+        words: &RUN,
+    },
+];
