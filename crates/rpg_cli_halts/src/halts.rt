@@ -1,9 +1,10 @@
 //! Halts.
 
 use crate::columns::{BadColumns, BadInput, bad_columns};
-use crate::lines::put_indexed_fields;
-use crate::source::{HaltedSource, put_source};
-use rpg_cli_refusals::{put_instruction_at, put_shown};
+use crate::lines::write_indexed_fields;
+use crate::source::{HaltedSource, write_source};
+use rpg_cli_refusals::write_instruction_at;
+use rpg_cli_text::TextWriter;
 use rpg_effect::halt::Halt;
 use rpg_effect::input::InputFile;
 use rpg_object_program::section::{Place, Section};
@@ -60,115 +61,91 @@ fn has_two_files(program: &Verified) -> bool {
 }
 
 /// The names of all input files of the program.
-fn put_names(
-    out: &mut String,
-    program: &Verified,
-    names: InputNames<'_>,
-) -> Result<(), AllocError> {
-    put_shown(out, names.primary)?;
+fn write_names(out: &mut TextWriter, program: &Verified, names: InputNames<'_>) {
+    out.write_shown(names.primary.as_bytes());
     match names.secondary {
         Some(secondary) if has_two_files(program) => {
-            out.push_str(" and ")?;
-            put_shown(out, secondary)
+            out.write_str(" and ");
+            out.write_shown(secondary.as_bytes());
         }
-        _ => Ok(()),
+        _ => {}
     }
-}
-
-/// Foreign characters.
-fn put_text(out: &mut String, text: &[u8]) -> Result<(), AllocError> {
-    for byte in text {
-        let shown = match *byte {
-            b' '..=b'~' => *byte as char,
-            _ => '?',
-        };
-        out.push(shown)?;
-    }
-    Ok(())
 }
 
 /// What stands in the columns that spell no number.
-fn put_columns(
-    alloc: Global,
-    out: &mut String,
-    bad: BadColumns,
-    text: &[u8],
-) -> Result<(), AllocError> {
+fn write_columns(out: &mut TextWriter, bad: BadColumns, text: &[u8]) {
     let BadColumns {
         from,
         to,
         column,
         ..
     } = bad;
+    write!(out, ": columns {from} to {to} are \"");
+    out.write_shown(bad.of(text));
+    out.write_str("\", and ");
     let one = BadColumns {
         from: column,
         to: column,
         ..bad
     };
-    out.push_str(format!(in alloc; ": columns {from} to {to} are \"")?.as_str())?;
-    put_text(out, bad.of(text))?;
-    out.push_str("\", and ")?;
-    put_text(out, one.of(text))?;
-    out.push_str(format!(in alloc; " in column {column} is no digit")?.as_str())
+    out.write_shown(one.of(text));
+    write!(out, " in column {column} is no digit");
 }
 
 /// Which instruction halted; where none did, what was wrong with the record or which output fields it may have been.
-fn put_place(
-    alloc: Global,
-    out: &mut String,
+fn write_place(
+    out: &mut TextWriter,
     program: &Verified,
     halted: HaltedCycle,
     found: Option<(BadInput, &[u8])>,
-) -> Result<(), AllocError> {
+) {
     let rows = program.program().rows();
     match (halted.place, halted.halt, found) {
         (Some(place), _, _) => {
-            out.push_str(": ")?;
-            put_instruction_at(alloc, out, rows, usize::from(place.number))
+            out.write_str(": ");
+            write_instruction_at(out, rows, usize::from(place.number));
         }
-        (None, Halt::BadIndex, _) => put_indexed_fields(alloc, out, rows),
-        (None, _, Some((bad, text))) => put_columns(alloc, out, bad.columns, text),
-        (None, _, None) => Ok(()),
+        (None, Halt::BadIndex, _) => write_indexed_fields(out, rows),
+        (None, _, Some((bad, text))) => write_columns(out, bad.columns, text),
+        (None, _, None) => {}
     }
 }
 
 /// Which record it was, or what the cycle does.
-fn put_cycle(
-    alloc: Global,
-    out: &mut String,
-    program: &Verified,
-    halted: HaltedCycle,
-) -> Result<(), AllocError> {
+fn write_cycle(out: &mut TextWriter, program: &Verified, halted: HaltedCycle) {
     let cycles = halted.cycles;
     if has_two_files(program) {
-        return out.push_str(format!(in alloc; "it was cycle {cycles}")?.as_str());
+        write!(out, "it was cycle {cycles}");
+        return;
     }
-    if let Some(record) = halted.record(program) {
-        let text = match halted.halt {
-            Halt::IndicatorOn => format!(in alloc; "record {record} was the last one")?,
-            _ => format!(in alloc; "it was record {record}")?,
-        };
-        return out.push_str(text.as_str());
+    match (halted.record(program), halted.halt) {
+        (Some(record), Halt::IndicatorOn) => write!(out, "record {record} was the last one"),
+        (Some(record), _) => write!(out, "it was record {record}"),
+        (None, _) => write_between(out, cycles),
     }
-    let text = match cycles.checked_sub(1) {
-        None | Some(0) => format!(in alloc; "it was the first cycle, which takes record 1")?,
-        Some(before) => format!(in alloc;
+}
+
+/// What a cycle does that isn't of one record.
+fn write_between(out: &mut TextWriter, cycles: u64) {
+    match cycles.saturating_sub(1) {
+        0 => out.write_str("it was the first cycle, which takes record 1"),
+        before => write!(
+            out,
             "it was cycle {cycles}, which puts out the detail lines of record {before} and then takes record {cycles}, or comes to the end of the input"
-        )?,
-    };
-    out.push_str(text.as_str())
+        ),
+    }
 }
 
 /// How many cycles were done before.
-fn put_before(alloc: Global, out: &mut String, cycles: u64) -> Result<(), AllocError> {
-    let text = match cycles.saturating_sub(1) {
-        0 => format!(in alloc; "; no cycle was done before")?,
-        1 => format!(in alloc; "; 1 cycle was done before, and what was put out stays")?,
-        before => format!(in alloc;
+fn write_before(out: &mut TextWriter, cycles: u64) {
+    match cycles.saturating_sub(1) {
+        0 => out.write_str("; no cycle was done before"),
+        1 => out.write_str("; 1 cycle was done before, and what was put out stays"),
+        before => write!(
+            out,
             "; {before} cycles were done before, and what was put out stays"
-        )?,
-    };
-    out.push_str(text.as_str())
+        ),
+    }
 }
 
 /// What is told of a halt of a job by this program over the records of these files. The record that the halt is about makes it known which of
@@ -181,34 +158,32 @@ pub fn halt_message(
     record: Option<&[u8]>,
     source: Option<HaltedSource<'_>>,
 ) -> Result<String, AllocError> {
-    let mut out = String::new(alloc);
     let found = match record {
         Some(text) if halted.is_of_columns() => {
             bad_columns(alloc, program, text)?.map(|bad| (bad, text))
         }
         _ => None,
     };
-    put_names(&mut out, program, names)?;
+    let mut out = TextWriter::new(alloc);
+    write_names(&mut out, program, names);
     if let Some(record) = halted.record(program) {
-        out.push_str(format!(in alloc; ":{record}")?.as_str())?;
+        write!(out, ":{record}");
     }
     if let Some((bad, _)) = found {
-        let from = bad.columns.from;
-        out.push_str(format!(in alloc; ":{from}")?.as_str())?;
+        write!(out, ":{}", bad.columns.from);
     }
     let number = halted.halt.number();
-    out.push_str(format!(in alloc; ": halt {number}: ")?.as_str())?;
-    out.push_str(halted.halt.sentence())?;
-    put_place(alloc, &mut out, program, halted, found)?;
-    out.push('\n')?;
+    write!(out, ": halt {number}: {}", halted.halt.sentence());
+    write_place(&mut out, program, halted, found);
+    out.write_char('\n');
     if let Some(source) = source {
         let bad = found.map(|(bad, _)| bad);
-        put_source(alloc, &mut out, program, halted, bad, source)?;
+        write_source(&mut out, program, halted, bad, source);
     }
-    put_names(&mut out, program, names)?;
-    out.push_str(": ")?;
-    put_cycle(alloc, &mut out, program, halted)?;
-    put_before(alloc, &mut out, halted.cycles)?;
-    out.push('\n')?;
-    Ok(out)
+    write_names(&mut out, program, names);
+    out.write_str(": ");
+    write_cycle(&mut out, program, halted);
+    write_before(&mut out, halted.cycles);
+    out.write_char('\n');
+    out.finish()
 }

@@ -2,9 +2,10 @@
 
 use crate::columns::BadInput;
 use crate::halts::HaltedCycle;
-use rpg_cli_messages::{CardLines, put_card_remark};
-use rpg_cli_show_fields::card_operand;
+use rpg_cli_messages::{CardLines, write_picture};
+use rpg_cli_show_fields::write_card_operand;
 use rpg_cli_source::{SourceRows, name_text};
+use rpg_cli_text::TextWriter;
 use rpg_effect::condition::has_conditions;
 use rpg_effect::halt::Halt;
 use rpg_effect::operation::{Action, Index, Instruction, Operand};
@@ -12,7 +13,6 @@ use rpg_object_program::columns::row_of;
 use rpg_object_program::row::{Line, Rows};
 use rpg_object_program::section::{Place, Section};
 use rpg_verify::Verified;
-use std::alloc::{AllocError, Global};
 
 /// The source of the program that halted: what it is called, its text, and what its cards say.
 #[derive(Clone, Copy)]
@@ -23,63 +23,60 @@ pub struct HaltedSource<'a> {
 }
 
 impl HaltedSource<'_> {
-    /// Tells a sentence of a card, if the card is known, and shows it.
-    fn put_card(
-        self,
-        alloc: Global,
-        out: &mut String,
-        card: Option<u16>,
-        sentence: &str,
-    ) -> Result<(), AllocError> {
-        let Some(card) = card else {
-            return Ok(());
-        };
+    /// Begins a line about a card.
+    fn write_card(self, out: &mut TextWriter, card: u16) {
+        out.write_shown(self.path.as_bytes());
+        write!(out, ":{card}: ");
+    }
+
+    /// Ends the line about a card, and shows the card.
+    fn show_card(self, out: &mut TextWriter, card: u16) {
+        out.write_char('\n');
         let line = CardLines::of(self.text).line_of(card);
-        put_card_remark(alloc, out, self.path, card, line, sentence)
+        write_picture(out, card, line, None);
     }
 }
 
 /// A calculation by what its card has: factor 1, operation, factor 2 and the result field.
-fn action_text(
-    alloc: Global,
+fn write_action(
+    out: &mut TextWriter,
     rows: &Rows,
     source: &SourceRows,
     action: Action<Operand<u16>>,
-) -> Result<String, AllocError> {
+) {
     let row = row_of(rows, action);
-    let mut out = String::new(alloc);
     if let Some(used) = row.factor1 {
-        out.push_str(card_operand(alloc, rows, source, used.operand)?.as_str())?;
-        out.push(' ')?;
+        write_card_operand(out, rows, source, used.operand);
+        out.write_char(' ');
     }
-    out.push_str(action.name())?;
+    out.write_str(action.name());
     if let Some(used) = row.factor2 {
-        out.push(' ')?;
-        out.push_str(card_operand(alloc, rows, source, used.operand)?.as_str())?;
+        out.write_char(' ');
+        write_card_operand(out, rows, source, used.operand);
     }
     if let Some(used) = row.result {
-        out.push_str(" into ")?;
-        out.push_str(card_operand(alloc, rows, source, used.operand)?.as_str())?;
+        out.write_str(" into ");
+        write_card_operand(out, rows, source, used.operand);
     }
-    Ok(out)
 }
 
 /// What an instruction was made of.
-fn instruction_text(
-    alloc: Global,
+fn write_made_of(
+    out: &mut TextWriter,
     rows: &Rows,
     source: &SourceRows,
     instruction: Instruction<u16>,
-) -> Result<String, AllocError> {
-    let words = match instruction {
-        Instruction::Act(action) => return action_text(alloc, rows, source, action),
-        Instruction::Branch { conditions, .. } if has_conditions(conditions) => "its conditions",
-        Instruction::Branch { .. } => "GOTO",
-        Instruction::Call { .. } => "EXSR",
-        Instruction::Return { .. } => "ENDSR",
-        Instruction::Except => "EXCPT",
-    };
-    String::from_str(alloc, words)
+) {
+    match instruction {
+        Instruction::Act(action) => write_action(out, rows, source, action),
+        Instruction::Branch { conditions, .. } if has_conditions(conditions) => {
+            out.write_str("its conditions");
+        }
+        Instruction::Branch { .. } => out.write_str("GOTO"),
+        Instruction::Call { .. } => out.write_str("EXSR"),
+        Instruction::Return { .. } => out.write_str("ENDSR"),
+        Instruction::Except => out.write_str("EXCPT"),
+    }
 }
 
 /// The instructions of a section, and the place of the first.
@@ -108,83 +105,64 @@ fn instruction_at(rows: &Rows, place: Place) -> Option<Instruction<u16>> {
 }
 
 /// The card of the instruction that halted.
-fn put_instruction(
-    alloc: Global,
-    out: &mut String,
-    rows: &Rows,
-    place: Place,
-    source: HaltedSource<'_>,
-) -> Result<(), AllocError> {
-    let Some(instruction) = instruction_at(rows, place) else {
-        return Ok(());
-    };
-    let text = instruction_text(alloc, rows, source.rows, instruction)?;
+fn write_instruction(out: &mut TextWriter, rows: &Rows, place: Place, source: HaltedSource<'_>) {
     let card = source.rows.place_card(usize::from(place.number));
-    source.put_card(alloc, out, card, text.as_str())
+    if let (Some(instruction), Some(card)) = (instruction_at(rows, place), card) {
+        source.write_card(out, card);
+        write_made_of(out, rows, source.rows, instruction);
+        source.show_card(out, card);
+    }
 }
 
 /// The card of the input field whose columns are no number.
-fn put_input(
-    alloc: Global,
-    out: &mut String,
-    bad: BadInput,
-    source: HaltedSource<'_>,
-) -> Result<(), AllocError> {
-    let Some(name) = source.rows.field_name(bad.columns.field) else {
-        return Ok(());
-    };
-    let name = name_text(alloc, name)?;
+fn write_input(out: &mut TextWriter, bad: BadInput, source: HaltedSource<'_>) {
+    let name = source.rows.field_name(bad.columns.field);
     let card = source.rows.input_card(bad.row, bad.input);
-    let text = format!(in alloc; "{name} has these columns")?;
-    source.put_card(alloc, out, card, text.as_str())
+    if let (Some(name), Some(card)) = (name, card) {
+        source.write_card(out, card);
+        write!(out, "{} has these columns", name_text(name));
+        source.show_card(out, card);
+    }
 }
 
 /// The cards of the fields of a line whose entry is named by a field.
-fn put_line(
-    alloc: Global,
-    out: &mut String,
+fn write_line(
+    out: &mut TextWriter,
     rows: &Rows,
     number: usize,
     line: &Line,
     source: HaltedSource<'_>,
-) -> Result<(), AllocError> {
+) {
     for (at, field) in line.fields.iter().enumerate() {
-        if let Index::Field(_) = field.operand.index {
-            let text = card_operand(alloc, rows, source.rows, field.operand)?;
-            let card = source.rows.line_field_card(number, at);
-            source.put_card(alloc, out, card, text.as_str())?;
+        let card = source.rows.line_field_card(number, at);
+        if let (Index::Field(_), Some(card)) = (field.operand.index, card) {
+            source.write_card(out, card);
+            write_card_operand(out, rows, source.rows, field.operand);
+            source.show_card(out, card);
         }
     }
-    Ok(())
 }
 
 /// The cards of all fields of lines whose entry is named by a field.
-fn put_lines(
-    alloc: Global,
-    out: &mut String,
-    rows: &Rows,
-    source: HaltedSource<'_>,
-) -> Result<(), AllocError> {
+fn write_lines(out: &mut TextWriter, rows: &Rows, source: HaltedSource<'_>) {
     for (number, line) in rows.lines.iter().enumerate() {
-        put_line(alloc, out, rows, number, line, source)?;
+        write_line(out, rows, number, line, source);
     }
-    Ok(())
 }
 
 /// Tells the card that a halt is about, or the cards that it may be about, and what they have by names.
-pub(crate) fn put_source(
-    alloc: Global,
-    out: &mut String,
+pub(crate) fn write_source(
+    out: &mut TextWriter,
     program: &Verified,
     halted: HaltedCycle,
     bad: Option<BadInput>,
     source: HaltedSource<'_>,
-) -> Result<(), AllocError> {
+) {
     let rows = program.program().rows();
     match (halted.place, halted.halt, bad) {
-        (Some(place), _, _) => put_instruction(alloc, out, rows, place, source),
-        (None, Halt::BadIndex, _) => put_lines(alloc, out, rows, source),
-        (None, _, Some(bad)) => put_input(alloc, out, bad, source),
-        (None, _, None) => Ok(()),
+        (Some(place), _, _) => write_instruction(out, rows, place, source),
+        (None, Halt::BadIndex, _) => write_lines(out, rows, source),
+        (None, _, Some(bad)) => write_input(out, bad, source),
+        (None, _, None) => {}
     }
 }
