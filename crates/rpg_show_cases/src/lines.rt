@@ -30,12 +30,12 @@ fn write_object_fault(out: &mut TextWriter, fault: ObjectFault) {
     }
 }
 
-/// Writes a fault, and behind it how many bytes a writer that failed had taken.
+/// Writes a fault, and after it how many bytes a writer that failed had taken.
 fn write_fault(out: &mut TextWriter, fault: RunFault) {
     match fault {
         RunFault::Object(fault) => write_object_fault(out, fault),
         RunFault::BadDate => out.write_str("bad date"),
-        RunFault::Read => out.write_str("input failed"),
+        RunFault::Read { .. } => out.write_str("input failed"),
         RunFault::Print { sent } => write!(out, "output failed, {sent} bytes of print"),
         RunFault::Disk { sent } => write!(out, "output failed, {sent} bytes of disk"),
         RunFault::NoMemory => out.write_str("no memory"),
