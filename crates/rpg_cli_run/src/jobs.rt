@@ -179,39 +179,42 @@ fn emptied_devices<R: Files + Input + Print>(
     })
 }
 
-impl<F: Drop, S: Drop, P: Drop> Devices<F, S, P> {
-    /// Why the last call of each failed, if it did.
-    fn reasons(&self) -> Reasons {
-        Reasons {
-            input: self.input.fault(),
-            secondary: self.secondary.fault(),
-            print: self.print.fault(),
-            disk: self.disk.fault(),
-        }
-    }
-}
-
-/// Runs an accepted program over its devices. Where one of them failed it's told why.
+/// Runs an accepted program over its devices. Where one of them failed, the reason comes with the answer.
 fn run_devices<F: Read + Write + Drop, S: Read + Drop, P: Write + Drop>(
     alloc: Global,
     program: &Verified,
     date: &[u8],
-    devices: &mut Devices<F, S, P>,
+    devices: Devices<F, S, P>,
 ) -> Result<Report, Stop> {
+    let Devices {
+        input,
+        secondary,
+        print,
+        disk,
+    } = devices;
+    let mut input = Counted::new(input);
+    let mut secondary = Counted::new(secondary);
+    let mut print = Counted::new(print);
+    let mut disk = Counted::new(disk);
     let ran = run_over(
         alloc,
         program,
         date,
-        &mut Counted::new(&mut devices.input),
-        &mut Counted::new(&mut devices.secondary),
-        &mut Counted::new(&mut devices.print),
-        &mut Counted::new(&mut devices.disk),
+        &mut input,
+        &mut secondary,
+        &mut print,
+        &mut disk,
     );
     match ran {
         Ok(report) => Ok(report),
         Err(answer) => Err(Stop::Job {
             answer,
-            reasons: devices.reasons(),
+            reasons: Reasons {
+                input: input.into_device().fault(),
+                secondary: secondary.into_device().fault(),
+                print: print.into_device().fault(),
+                disk: disk.into_device().fault(),
+            },
         }),
     }
 }
@@ -225,9 +228,9 @@ fn run_program<R: Files + Input + Print + AllocGlobal>(
 ) -> Result<Report, Stop> {
     let files = open_files(rt, words, wanted)?;
     keep_files(rt, words, &files)?;
-    let mut devices = emptied_devices(rt, files)?;
+    let devices = emptied_devices(rt, files)?;
     match accepted {
-        Ok(program) => run_devices(rt.alloc(), &program, words.date.as_bytes(), &mut devices),
+        Ok(program) => run_devices(rt.alloc(), &program, words.date.as_bytes(), devices),
         Err(fault) => Err(Answer::Object(fault).into()),
     }
 }
