@@ -1,0 +1,147 @@
+#!/usr/bin/env python3
+"""Refuses each read, write, open and close of each command in turn, and sees that nothing is lost without an exit status and a message.
+
+usage: bench/refuse_calls.py [COMMAND ..]        RPG2 names the program; it needs strace
+
+strace makes one system call fail (-e inject) with each error that such a call can have. Then
+    status 0        only if every output is whole: each file, or standard output
+    another status  only with a line on standard output or a sentence on standard error; each file is as it was, or a first part of what is
+                    wanted, and as long as a message says ('after N bytes')
+An interrupted call that isn't refused again has to change nothing. It prints a line for each call of which this isn't so, and a count; its
+status is 1 where there is one. Not seen by any program of the kit are faults of close.
+"""
+
+import os
+import re
+import shutil
+import subprocess
+import sys
+import tempfile
+from dataclasses import dataclass
+from pathlib import Path
+
+TOP = Path(__file__).resolve().parent.parent
+RPG2 = os.environ.get("RPG2", str(TOP / "crates/rpg2/out/rpg2"))
+OLD = b"what stood there\n"
+STOCK = "run o.obj in p --date 010576 --disk d"
+
+# A command, and the files that it writes; '-' is standard output.
+COMMANDS = {
+    "run": (STOCK, ("p", "d")),
+    "run long": ("run sales.obj long p --date 010576", ("p",)),
+    "run two": ("run a.obj m p --secondary v --date 010576", ("p",)),
+    "run stdout": ("run sales.obj long - --date 010576", ("-",)),
+    "run source": (STOCK + " --source s.rpg", ("p", "d")),
+    "run most": (STOCK + " --most 100000", ("p", "d")),
+    "compile": ("compile s.rpg p", ("p",)),
+    "check": ("check s.rpg", ("-",)),
+    "list": ("list s.rpg", ("-",)),
+    "cards": ("cards --short s.rpg", ("-",)),
+    "show": ("show o.obj --source s.rpg", ("-",)),
+    "verify": ("verify o.obj", ("-",)),
+    "explain": ("explain", ("-",)),
+}
+ERRORS = {
+    "read": ("EIO", "EINTR", "EAGAIN"),
+    "write": ("EIO", "ENOSPC", "EINTR", "EAGAIN", "EDQUOT"),
+    "openat": ("EIO", "EINTR", "ENFILE", "EACCES"),
+    "ftruncate": ("EIO", "EINTR", "EPERM"),
+    "rename": ("EIO", "ENOSPC"),
+}
+
+
+@dataclass(frozen=True)
+class Outcome:
+    status: int
+    line: bytes
+    diagnostics: bytes
+    outputs: dict
+
+    def is_whole(self, wanted):
+        return self.outputs == wanted.outputs
+
+
+def begin():
+    """Makes the files that the commands read."""
+    examples = TOP / "examples"
+    for place, file in (("stock/stock.rpg", "s.rpg"), ("stock/moves.txt", "in"), ("accounts/masters.txt", "m"), ("accounts/movements.txt", "v")):
+        shutil.copy(examples / place, file)
+    Path("long").write_text((examples / "sales/sales.txt").read_text(encoding="ascii") * 40, encoding="ascii")
+    for place, file in (("stock/stock", "o"), ("accounts/accounts", "a"), ("sales/sales", "sales")):
+        subprocess.run([RPG2, "compile", examples / f"{place}.rpg", f"{file}.obj"], check=True, stdout=subprocess.DEVNULL)
+
+
+def outcome(command, refused=()):
+    """Runs a command under strace, over outputs that hold something else."""
+    words, outputs = COMMANDS[command]
+    for file in ("p", "d"):
+        Path(file).write_bytes(OLD)
+    ran = subprocess.run(["strace", "-o", "calls", "-qq", *refused, RPG2, *words.split()], capture_output=True, stdin=subprocess.DEVNULL, timeout=20, check=False)
+    return Outcome(ran.returncode, ran.stdout, ran.stderr, {it: ran.stdout if it == "-" else Path(it).read_bytes() for it in outputs})
+
+
+def calls_made():
+    """The system calls of the last run that may be refused, each with its number among its kind; those of the loader are left out."""
+    names = [it[1] for line in Path("calls").read_text(encoding="utf-8", errors="replace").splitlines() if (it := re.match(r"(\w+)\(", line))]
+    start = names.index("rt_sigaction") if "rt_sigaction" in names else 0
+    seen = {}
+    for at, name in enumerate(names):
+        seen[name] = seen.get(name, 0) + 1
+        if at >= start and name in ERRORS:
+            yield name, seen[name]
+
+
+def is_first_part(command, file, found, wanted):
+    """Whether an output is as it was, or a first part of what is wanted, as long as a message says."""
+    data, whole = found.outputs[file], wanted.outputs[file]
+    told = re.search(rb"after (\d+) bytes", found.diagnostics)
+    if file == "-":
+        # the line of an answer may follow
+        return whole.startswith(data) or whole.startswith(data[: data.rstrip(b"\n").rfind(b"\n") + 1])
+    if data == OLD:
+        return True
+    role = b"(--disk FILE)" if file == "d" else b"(PRINT)"
+    return whole.startswith(data) and not (told and role in found.diagnostics and int(told[1]) != len(data))
+
+
+def what_is_wrong(command, error, found, wanted):
+    if found.status < 0 or found.status > 5:
+        return "it crashed"
+    if found.status == 0:
+        return None if found.is_whole(wanted) else "status 0, and an output isn't whole"
+    if error == "EINTR":
+        return "it doesn't go on after one interruption"
+    if not found.line and not found.diagnostics:
+        return "neither a line nor a message"
+    if command == "compile" and found.outputs["p"] not in (OLD, wanted.outputs["p"]):
+        return "the old object is gone"
+    lost = [it for it in found.outputs if not is_first_part(command, it, found, wanted)]
+    return f"{lost[0]} is no first part, or another one than the message says" if lost else None
+
+
+def tried(command):
+    """Refuses each call of a command, and gives how many were tried and how many went wrong."""
+    wanted = outcome(command)
+    count = wrong = 0
+    for name, number in list(calls_made()):
+        for error in ERRORS[name]:
+            count += 1
+            found = outcome(command, ["-e", f"inject={name}:error={error}:when={number}"])
+            if it := what_is_wrong(command, error, found, wanted):
+                wrong += 1
+                print(f"{command}: {name} {number}, {error}: {it}; status {found.status} {found.diagnostics[:120]!r}", flush=True)
+    return count, wrong
+
+
+def main(names):
+    with tempfile.TemporaryDirectory() as folder:
+        os.chdir(folder)
+        begin()
+        found = [tried(it) for it in names or COMMANDS]
+    count, wrong = sum(it[0] for it in found), sum(it[1] for it in found)
+    print(f"{count} calls refused, {wrong} of them wrong")
+    return 1 if wrong or not count else 0
+
+
+if __name__ == "__main__":
+    sys.exit(main(sys.argv[1:]))
