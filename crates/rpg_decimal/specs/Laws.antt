@@ -1,4 +1,4 @@
--- The definitions said place by place.
+-- The definitions, place by place.
 use Rattle.std.specs.Prelude.{◌≡◌, ◌≢◌, ℕ, ◌+◌, ◌-◌, ◌/◌, ◌%◌, ◌^◌, ◌<◌, ℤ, pos, neg_ℤ, unsigned_abs, List, length, slice_index, nat_lt, if◌then◌else◌, IsTrue, EachIndex}
 use Rattle.std.specs.Int.{is_negative}
 use Rattle.rpg_decimal_words.specs.Zoned.{digit_of, is_digit, is_minus, last_of, IsGoodAt, Spells}

@@ -24,7 +24,7 @@ fn widened_size(value: i64, scale: u8) -> u128
     u128::from(value.unsigned_abs()) * u128::from(power_of_ten(scale))
 }
 
-/// The dividend that stands over a positive divisor: `value` with `scale` decimals more, under both signs.
+/// The dividend over a positive divisor: `value` with `scale` more decimals, under both signs.
 fn dividend(value: i64, scale: u8, divisor: i64) -> i128
     requires value_in { unsigned_abs value < 10 ^ 15 }
     requires scale_in { scale ≤ 18 }
@@ -48,7 +48,7 @@ pub fn div(a: Num, b: Num, target: Target) -> Result<i64, ZeroDivisor>
     Ok(fit(quotient, target.len))
 }
 
-/// What is left of `a` once `b` is taken from it as often as the quotient with `dec` decimals says.
+/// `a` minus `b` times the quotient, which is cut to `dec` decimals.
 pub fn remainder(a: Num, b: Num, dec: u8) -> Result<Rest, ZeroDivisor>
     requires { dec ≤ 9 }
     ensures zero { (result ≡ Err record {}) ↔ (b.value ≡ pos 0) }

@@ -1,4 +1,4 @@
-//! Laws of the definitions that the other contracts cite. The functions do nothing: each is called for its contract alone.
+//! Laws of the definitions that the other contracts cite. The functions do nothing: they are called only for their contracts.
 ghost use Rattle.std.specs.Prelude.{◌≡◌, ◌↔◌, ℕ, ◌^◌, ◌<◌, ◌≤◌, ℤ, Bool, List, length, nat_lt, unsigned_abs, IsTrue, Some};
 ghost use Rattle.std.specs.List.{list_all, range_with_len};
 ghost use Rattle.rpg_decimal_words.specs.Fraction.{Fraction, stored_number};
@@ -17,7 +17,7 @@ pub fn moves_go_by_places()
     ensures left_digits { (k : ℕ) (n : ℤ) (len : ℕ) (old : ℤ) → MovesDigitsFromLeft k n len old (number_moved_left k n len old) }
 {}
 
-/// A text spells the number whose digits stand at its places, and a number has one plain text of a length.
+/// A text spells the number whose digits are at its places, and a number has one plain text of each length.
 pub fn texts_spell_by_places()
     ensures spells { (text : List ℕ) (n : ℤ) → Spells text n ↔ SpellsByPlaces text n }
     ensures written { (k : ℕ) (n : ℤ) → 1 ≤ k → unsigned_abs n < 10 ^ k → SpellsPlainly (zoned_text k n) n }

@@ -106,7 +106,7 @@ fn size_of(figure: Figure) -> u64
     figure.value.unsigned_abs()
 }
 
-/// The source's last digits behind the first ones of the old number.
+/// The first digits of the old number, and after them the source's last ones.
 fn digits_moved_right(source: Figure, before: Figure) -> u64
     ensures value { result ≡ place_value (overlay_right (lowest_digits source.len (unsigned_abs source.value)) (lowest_digits before.len (unsigned_abs before.value))) }
     ensures bound { result < 10 ^ before.len }

@@ -1,7 +1,7 @@
 //! Numbers, and the forms in which results are kept. The limits are this profile's.
 ghost use Rattle.std.specs.Prelude.{◌≡◌, ◌^◌, ◌<◌, ◌≤◌, unsigned_abs};
 
-/// How many digits stand behind a point.
+/// How many digits follow a point.
 #[derive(Clone, Copy)]
 pub struct Scale {
     pub value: u8,
@@ -17,7 +17,7 @@ pub struct Num {
     pub ghost dec_in: { dec ≤ 9 },
 }
 
-/// What a result is kept in: `len` digits, `dec` of them behind the point, and whether it is half adjusted.
+/// What a result is kept in: `len` digits, `dec` of them after the point, and whether it is half adjusted.
 #[derive(Clone, Copy)]
 pub struct Target {
     pub len: u8,

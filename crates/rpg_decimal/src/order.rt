@@ -13,10 +13,10 @@ use std::cmp::Ordering;
 const COLLATING_SEQUENCE: &[u8; 95] =
     b" .<(+|&!$*);-/,%_>?`:#@'=\"abcdefghijklmnopqr~stuvwxyz^[]{ABCDEFGHI}JKLMNOPQR\\STUVWXYZ0123456789";
 
-/// As many zeros as any value may get behind it in 64 bits.
+/// As many zeros as any value may get after it in 64 bits.
 const FEW_ZEROS: u8 = 3;
 
-/// A value with a few zeros behind it.
+/// A value with a few zeros after it.
 fn lengthened(value: i64, zeros: u8) -> i64
     requires value_in { unsigned_abs value < 10 ^ 15 }
     requires zeros_in { zeros ≤ 3 }
@@ -45,7 +45,7 @@ fn place_in(sequence: &[u8], c: u8) -> Option<usize>
     sequence.iter().position(|x| *x == c)
 }
 
-/// The place of a character in the order; other bytes come behind all of them, by value.
+/// The place of a character in the order; any other byte comes after them all, by its value.
 #[tactic(auto, unfolding(rpg_decimal_words::specs::Order::rank, rpg_decimal_words::specs::Order::collating_sequence))]
 fn rank(c: u8) -> usize
     ensures { result ≡ rank c }
@@ -54,7 +54,7 @@ fn rank(c: u8) -> usize
     place_in(COLLATING_SEQUENCE, c).unwrap_or(behind)
 }
 
-/// The character at a place, a blank behind the end.
+/// The character at a place, a blank after the end.
 fn character_at(text: &[u8], place: usize) -> u8
     ensures { result ≡ slice_index_or text.now place 32 }
 {
@@ -65,7 +65,7 @@ fn character_at(text: &[u8], place: usize) -> u8
     }
 }
 
-/// Compares two texts by the first place where they differ, the shorter one with blanks behind it.
+/// Compares two texts by the first place where they differ, the shorter one padded with blanks.
 pub fn compare_text(a: &[u8], b: &[u8]) -> Ordering
     ensures { result ≡ text_cmp a.now b.now }
 {

@@ -102,8 +102,8 @@ pub fn fit(n: i128, len: u8) -> i64
     }
 }
 
-/// The number `n` of `from` decimals, said with `to` decimals: digits too many on the right are cut
-/// off, or half adjusted.
+/// The number `n` of `from` decimals, with `to` decimals: extra digits on the right are cut off, or
+/// half adjusted.
 pub fn align(n: i128, from: Scale, to: Scale, half: bool) -> i128
     requires n_in { unsigned_abs n < 10 ^ 37 }
     requires result_in { unsigned_abs (aligned_number half to.value (with_decimals n from.value)) < 10 ^ 37 }

@@ -1,5 +1,5 @@
-//! Numbers as texts: a digit in each place, and the sign over the last one: `}` and J to R stand for minus
-//! 0 to 9, `{` and A to I for plus 0 to 9.
+//! Numbers as texts: a digit in each place, and the sign over the last one: `}` and J to R mean minus 0 to
+//! 9, `{` and A to I plus 0 to 9.
 ghost use Rattle.std.specs.Prelude.{◌≡◌, ◌+◌, ◌-◌, ◌/◌, ◌%◌, ◌<◌, ◌≤◌, ◌^◌, true, unsigned_abs, length, map, set, IfOk, IfErr, OnOk, EachIndex};
 ghost use Rattle.std.specs.Int.{is_negative};
 ghost use Rattle.std.specs.Result.{result_ok};
@@ -16,7 +16,7 @@ pub struct BadDigit {
     pub spot: usize,
 }
 
-/// The digit that a character stands for.
+/// The digit that a character means.
 fn digit_of(c: u8) -> u8
     ensures value { result ≡ digit_of c }
     ensures below { result < 10 }
@@ -31,14 +31,14 @@ fn digit_of(c: u8) -> u8
     }
 }
 
-/// Whether a character brings a minus sign.
+/// Whether a character has a minus sign.
 fn is_minus(c: u8) -> bool
     ensures { result ≡ is_minus c }
 {
     matches!(c, b'}' | b'J'..=b'R')
 }
 
-/// Whether a character may stand in a number, in its last place or before it.
+/// Whether a number may have this character, in its last place or before it.
 fn may_stand(last: bool, c: u8) -> bool
     ensures { result ≡ may_stand last c }
 {
@@ -63,8 +63,8 @@ fn last_character(n: i64) -> u8
     }
 }
 
-/// The number that a text stands for, its first character first. A blank is a zero, and the last
-/// character brings the sign. The rule is this profile's.
+/// The number that a text spells, its first character first. A blank is a zero, and the last
+/// character has the sign. The rule is this profile's.
 pub fn read_zoned(text: &[u8]) -> Result<i64, BadDigit>
     requires low { 1 ≤ length text.now }
     requires high { length text.now ≤ 15 }
@@ -80,7 +80,7 @@ pub fn read_zoned(text: &[u8]) -> Result<i64, BadDigit>
     Ok(size as i64)
 }
 
-/// The number that the digits of a text stand for, without its sign.
+/// The number that the digits of a text spell, without its sign.
 fn read_digits(text: &[u8]) -> Result<u64, BadDigit>
     requires { length text.now ≤ 15 }
     ensures value { IfOk result (λ size. size ≡ place_value (map digit_of text.now)) }
@@ -98,7 +98,7 @@ fn read_digits(text: &[u8]) -> Result<u64, BadDigit>
     Ok(size)
 }
 
-/// The last digit of a number, beside the number that stands in front of it.
+/// The last digit of a number, given the number in front of it.
 fn last_digit(size: u64, front: u64) -> u8
     requires { front ≡ size / 10 }
     ensures { result ≡ 48 + size % 10 }
@@ -106,7 +106,7 @@ fn last_digit(size: u64, front: u64) -> u8
     b'0' + (size - front * 10) as u8
 }
 
-/// Writes the lowest two digits of a number before a place, and answers the number that stands in front of them.
+/// Writes the lowest two digits of a number before a place, and returns the number in front of them.
 #[inline(always)]
 fn write_pair(size: u64, text: &mut [u8], place: usize) -> u64
     requires low { 2 ≤ place }

@@ -10,7 +10,7 @@ pub record Fraction : Type 0 where
   pub top : ℤ
   pub bottom : ℕ
 
--- n with so many digits behind its point
+-- n with so many digits after its point
 abbrev pub with_decimals : ℤ → ℕ → Fraction
 with_decimals n dec = record { top = n; bottom = 10 ^ dec }
 
@@ -30,7 +30,7 @@ over p q = record { top = p.top *ℤ pos q.bottom *ℤ int_signum q.top; bottom 
 abbrev pub fraction_cmp : Fraction → Fraction → Ordering
 fraction_cmp p q = int_cmp (p.top *ℤ pos q.bottom) (q.top *ℤ pos p.bottom)
 
--- the whole number that stands for p with `dec` digits behind its point
+-- the whole number that represents p with `dec` digits after its point
 abbrev pub aligned_number : Bool → ℕ → Fraction → ℤ
 aligned_number half dec p = rounded_quotient half (p.top *ℤ pos (10 ^ dec)) p.bottom
 

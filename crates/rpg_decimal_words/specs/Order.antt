@@ -8,14 +8,14 @@ use Rattle.std.specs.Cmp.Lexicographic.{slice_cmp}
 unfoldable pub collating_sequence : List ℕ
 collating_sequence = codes " .<(+|&!$*);-/,%_>?`:#@'=\"abcdefghijklmnopqr~stuvwxyz^[]{ABCDEFGHI}JKLMNOPQR\\STUVWXYZ0123456789"
 
--- the place of a character; a byte that is none comes behind, by its value
+-- the place of a character; any other byte comes after them all, by its value
 unfoldable pub rank : ℕ → ℕ
 rank c = unwrap_or (position (λ x. x == c) collating_sequence) (length collating_sequence + c)
 
 abbrev pub character_cmp : ℕ → ℕ → Ordering
 character_cmp c d = nat_cmp (rank c) (rank d)
 
--- with blanks behind, up to n characters
+-- with blanks at the end, up to n characters
 abbrev pub padded_text : ℕ → List ℕ → List ℕ
 padded_text n text = text ++ replicate (n - length text) 32
 

@@ -16,11 +16,11 @@ is_plus c = c == 123 || is_between 65 73 c
 abbrev pub is_minus : ℕ → Bool
 is_minus c = c == 125 || is_between 74 82 c
 
--- the digit that a character stands for; a blank, { and } stand for 0
+-- the digit that a character means; a blank, { and } mean 0
 abbrev pub digit_of : ℕ → ℕ
 digit_of c = if is_digit c then c - 48 else (if is_between 65 73 c then c - 64 else (if is_between 74 82 c then c - 73 else 0))
 
--- digits and blanks may stand in any place, letters with a sign in the last one
+-- digits and blanks may be in any place, letters with a sign only in the last one
 abbrev pub may_stand : Bool → ℕ → Bool
 may_stand last c = c == 32 || is_digit c || (last && (is_plus c || is_minus c))
 

@@ -1,2 +1,2 @@
-//! Numbers, their texts, moves and the order of texts: definitions alone (in specs/).
+//! Numbers, their texts, moves and the order of texts: only definitions (in specs/).
 #![tactic(auto)]

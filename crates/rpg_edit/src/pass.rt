@@ -35,7 +35,7 @@ impl Pass {
         }
     }
 
-    /// What stands at a mark that the digits written so far follow.
+    /// The character at a mark that the digits written so far follow.
     fn character(&self, mark: Mark) -> u8
         ensures { result ≡ character self.now.number.negative self.now.number.size
             self.now.suppression.kept self.now.suppression.fill mark self.now.after }
@@ -83,7 +83,7 @@ impl Pass {
         self.after += digits;
     }
 
-    /// What stands at a digit, of a number that is `rest` without it.
+    /// The character at a digit, of a number that is `rest` without it.
     fn digit(&self, rest: u64) -> u8
         requires { rest ≡ self.now.rest / 10 }
         ensures { result ≡ character self.now.number.negative self.now.number.size
@@ -104,7 +104,7 @@ impl Pass {
         b'0' + (self.rest - rest * 10) as u8
     }
 
-    /// Goes on in front of a digit, to a number that is `rest` without it.
+    /// Moves in front of a digit, to a number that is `rest` without it.
     fn pass_digit(&mut self, rest: u64)
         requires few { self.old.after + 1 + self.old.start < 2 ^ 64 }
         requires rest { rest ≡ self.old.rest / 10 }
@@ -118,7 +118,7 @@ impl Pass {
         self.after += 1;
     }
 
-    /// Writes what stands at the next digit: one division tells it and what is left of the number.
+    /// Writes the character at the next digit: one division gives it and what is left of the number.
     pub(crate) fn put_digit(&mut self, out: &mut [u8])
         requires room { 1 ≤ self.old.start }
         requires within { self.old.start ≤ length out.old }
@@ -130,7 +130,7 @@ impl Pass {
         self.pass_digit(rest);
     }
 
-    /// Writes what stands at the next mark.
+    /// Writes the character at the next mark.
     pub(crate) fn put(&mut self, mark: Mark, out: &mut [u8])
         requires room { 1 ≤ self.old.start }
         requires within { self.old.start ≤ length out.old }
@@ -258,8 +258,8 @@ impl Pass {
         self.put_known(b'0' + hundreds as u8, rest, out);
     }
 
-    /// Writes one or two digits of a number that has no more, or of which no more are wanted. Answers how many: as many as are wanted,
-    /// or nothing is left.
+    /// Writes one or two digits of a number that has no more, or where `most` allows no more. Returns how many: `most`, or as many as
+    /// are left.
     #[inline(always)]
     pub(crate) fn put_last_digits(&mut self, most: usize, out: &mut [u8]) -> usize
         requires shows { is_clear self.old ≡ true }
@@ -303,7 +303,7 @@ impl Pass {
         self.put_last_digits(most, out)
     }
 
-    /// Writes digits by threes while three more show, but no more than `most`. Answers how many.
+    /// Writes digits by threes while three more show, but no more than `most`. Returns how many.
     #[inline(always)]
     fn put_threes(&mut self, most: usize, out: &mut [u8]) -> usize
         requires least { 3 ≤ most }
@@ -324,7 +324,7 @@ impl Pass {
         written
     }
 
-    /// Writes the digits that show, but no more than `most`. Answers how many: so many, or nothing more shows.
+    /// Writes the digits that show, but no more than `most`. Returns how many: `most`, unless no more show.
     #[inline(always)]
     pub(crate) fn put_shown_digits(&mut self, most: usize, out: &mut [u8]) -> usize
         requires kept { self.old.suppression.kept ≤ self.old.after + 1 }
@@ -354,7 +354,7 @@ impl Pass {
         }
     }
 
-    /// Writes what stands at all marks.
+    /// Writes the characters at all marks.
     pub(crate) fn put_all(&mut self, marks: &[Mark], out: &mut [u8])
         requires room { length marks.now ≤ self.old.start }
         requires within { self.old.start ≤ length out.old }

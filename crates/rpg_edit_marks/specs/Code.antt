@@ -10,7 +10,7 @@ use Rattle.rpg_edit_marks.specs.declared.code.EditCode.{EditCode}
 use Rattle.rpg_edit_marks.specs.declared.code.EditCode.TheVariants.{Combination, X, Y, Z}
 use Rattle.rpg_edit_marks.specs.Edited.{marked_text, with_dollar}
 
--- a comma before a full group of three, where a digit stands before it
+-- a comma before a full group of three, if a digit comes before it
 abbrev pub comma_marks : Bool → ℕ → List Mark
 comma_marks commas left = if commas && nat_lt 0 left && (left % 3 == 0) then Insert 44 ∷ [] else []
 
@@ -52,7 +52,7 @@ kept_digits X len dec size = len
 kept_digits Y len dec size = 5
 kept_digits Z len dec size = 0
 
--- what stands for what is suppressed
+-- what replaces suppressed digits
 abbrev pub fill_of : Fill → ℕ
 fill_of Blank = 32
 fill_of Star = 42

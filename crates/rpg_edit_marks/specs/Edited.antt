@@ -1,12 +1,12 @@
 -- Edited numbers, place by place. A code and a word each become a list of marks. What shows at a mark
--- depends on the digits to its left alone: with k digits behind it, those are size / 10 ^ k.
+-- depends only on the digits to its left: with k digits after it, those are size / 10 ^ k.
 use Rattle.std.specs.Prelude.{◌≡◌, ℕ, suc, ◌+◌, ◌-◌, ◌/◌, ◌%◌, ◌^◌, ◌<◌, Bool, true, false, not, ◌||◌, List, [], ◌∷◌, length, drop, count_by, ℤ, if◌then◌else◌, nat_lt, nat_le, ◌==◌, slice_index, slice_index_or, slice_set, unsigned_abs}
 use Rattle.std.specs.Int.{is_negative}
 use Rattle.std.specs.List.{prefix_len}
 use Rattle.rpg_edit_marks.specs.declared.mark.Mark.{Mark}
 use Rattle.rpg_edit_marks.specs.declared.mark.Mark.TheVariants.{Digit, Insert, Always, Sign}
 
--- whether a digit stands there
+-- whether a digit goes there
 abbrev pub is_digit_place : Mark → Bool
 is_digit_place Digit = true
 is_digit_place (Insert _) = false
@@ -25,8 +25,8 @@ is_begun size k = not (size / 10 ^ k == 0)
 abbrev pub digit_character : ℕ → ℕ → ℕ
 digit_character size k = 48 + size / 10 ^ k % 10
 
--- what stands at a mark that k digits follow, where the last `kept` digits always show: a digit, and a character between
--- digits, once a digit that isn't zero has stood, or where so few digits follow, else the fill
+-- the character at a mark that k digits follow, where the last `kept` digits always show: a digit, and a character
+-- between digits, once a digit that isn't zero came before, or where so few digits follow, else the fill
 abbrev pub character : Bool → ℕ → ℕ → ℕ → Mark → ℕ → ℕ
 character negative size kept fill Digit k = if is_begun size k || nat_lt k kept then digit_character size k else fill
 character negative size kept fill (Insert c) k = if is_begun size k || nat_le k kept then c else fill

@@ -9,7 +9,7 @@ use Rattle.rpg_edit_marks.specs.Edited.{is_digit_place, marked_text, places}
 abbrev pub is_stop : ℕ → Bool
 is_stop c = (c == 48) || (c == 42)
 
--- & stands for a blank
+-- & means a blank
 abbrev pub shown_character : ℕ → ℕ
 shown_character c = if c == 38 then 32 else c
 
@@ -36,7 +36,7 @@ abbrev pub begins_credit : List ℕ → Bool
 begins_credit [] = false
 begins_credit (c ∷ rest) = (c == 67) && begins_with_character 82 rest
 
--- the sign is the CR or the - that comes first behind the places
+-- the sign is the CR or the - that comes first after the places
 abbrev pub sign_part : List ℕ → List Mark
 sign_part [] = []
 sign_part (c ∷ rest) =
@@ -63,7 +63,7 @@ digits_behind_stop word = count_by (λ c. c == 32) (after_first is_stop word)
 abbrev pub word_fill : List ℕ → ℕ
 word_fill word = if slice_index word (stop_of word) == 42 then 42 else 32
 
--- a dollar sign stands right before the stop
+-- a dollar sign comes right before the stop
 abbrev pub has_dollar_at_stop : List ℕ → Bool
 has_dollar_at_stop word = nat_lt (stop_of word) (length word) && (slice_index word (stop_of word - 1) == 36)
 
@@ -71,7 +71,7 @@ has_dollar_at_stop word = nat_lt (stop_of word) (length word) && (slice_index wo
 abbrev pub worded : ℤ → List ℕ → List ℕ
 worded n word = marked_text n (digits_behind_stop word) (word_fill word) (word_marks word)
 
--- the word's places are as many as the digits, and no dollar sign stands right before its stop
+-- the word's places are as many as the digits, and no dollar sign comes right before its stop
 pub record IsWordFor (digits : ℕ) (word : List ℕ) : Type 0 where
   pub same_places : places (word_marks word) ≡ digits
   pub no_dollar : has_dollar_at_stop word ≡ false

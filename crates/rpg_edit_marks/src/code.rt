@@ -2,7 +2,7 @@
 
 ghost use Rattle.std.specs.Prelude.{◌≡◌, ◌==◌, ◌%◌, ◌↔◌, nat_lt, IsTrue};
 
-/// What stands behind a number: nothing, or its sign, which shows as blanks where the number isn't negative.
+/// What follows a number: nothing, or its sign, which shows as blanks where the number isn't negative.
 #[derive(Clone, Copy)]
 pub enum Ending {
     Unsigned,
@@ -10,7 +10,7 @@ pub enum Ending {
     Minus,
 }
 
-/// What stands before the first printed character: blanks, asterisks, or blanks and one dollar sign.
+/// What precedes the first printed character: blanks, asterisks, or blanks and one dollar sign.
 #[derive(Clone, Copy, PartialEq, Eq)]
 pub enum Fill {
     Blank,

@@ -1,6 +1,6 @@
 //! What is suppressed in a number.
 
-/// What stands for leading zeros, and how many of the last digits always show.
+/// What replaces leading zeros, and how many of the last digits always show.
 #[derive(Clone, Copy)]
 pub struct Suppression {
     pub kept: u8,

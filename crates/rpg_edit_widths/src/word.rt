@@ -13,7 +13,7 @@ use std::error::Error;
 use std::fmt;
 use std::marker::Model;
 
-/// The word's places aren't as many as the digits, or a dollar sign stands right before its stop.
+/// The word's places aren't as many as the digits, or a dollar sign comes right before its stop.
 #[derive(Clone, Copy, Debug)]
 pub struct EditFault;
 
@@ -74,7 +74,7 @@ impl EditWord {
         count_places(word, stop) == digits && !is_dollar_before(word, stop)
     }
 
-    /// What stands at each of its places.
+    /// The mark of each of its places.
     pub fn marks(&self) -> &[Mark]
         ensures { result.now ≡ word_marks self.now }
     {
@@ -254,7 +254,7 @@ fn begins_credit(part: &[u8]) -> bool
     matches!(part, [b'C', b'R', ..])
 }
 
-/// The marks behind the last place.
+/// The marks after the last place.
 fn push_sign_part(marks: &mut Marks, part: &[u8])
     requires { array_vec_len marks.old + length part.now ≤ 24 }
     ensures { marks.new.items ≡ marks.old.items ++ sign_part part.now }

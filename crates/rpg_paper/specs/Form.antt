@@ -1,4 +1,4 @@
--- What a form stands for. A form counts pages from the page of the line placed last, so no page number grows without bound.
+-- The position of a form. A form counts pages from the page of the line placed last, so no page number grows without bound.
 use Rattle.std.specs.Prelude.{◌≡◌, ℕ, ◌+◌, ◌-◌, ◌≤◌, List, [], ◌∷◌, ◌++◌, replicate, Option, Some, None, option_map, unwrap_or, if◌then◌else◌, ◌==◌}
 use Rattle.rpg_text.specs.Texts.{trimmed}
 use Rattle.rpg_paper.specs.Paper.{Position, Placed, spaced, skipped, paper, last_position}
@@ -69,7 +69,7 @@ pub record FormLine : Type 0 where
   pub line : ℕ
   pub text : List ℕ
 
--- the position of such a line behind a previous one
+-- the position of such a line after a previous one
 abbrev pub position_after : Option Position → FormLine → Position
 position_after previous x = record { page = page_or_1 previous + x.begun; line = x.line }
 
@@ -77,7 +77,7 @@ abbrev pub placed_after : Option Position → List FormLine → List Placed
 placed_after previous [] = []
 placed_after previous (x ∷ xs) = record { at = position_after previous x; text = x.text } ∷ placed_after (Some (position_after previous x)) xs
 
--- the bytes of such lines behind a line placed last
+-- the bytes of such lines after a line placed last
 abbrev pub form_bytes : Option ℕ → List FormLine → List ℕ
 form_bytes last [] = []
 form_bytes last (x ∷ xs) = way_of (record { last = last; begun = x.begun; line = x.line }) ++ trimmed x.text ++ form_bytes (Some x.line) xs

@@ -1,4 +1,4 @@
--- The printed form: positions, movements and the bytes that a list of placed lines stands for. A page has 66 lines.
+-- The printed form: positions, movements and the bytes of a list of placed lines. A page has 66 lines.
 use Rattle.std.specs.Prelude.{◌≡◌, ℕ, ◌+◌, ◌-◌, ◌*◌, ◌≤◌, ◌&&◌, List, [], ◌∷◌, ◌++◌, replicate, Option, Some, None, if◌then◌else◌, nat_lt, nat_le, ◌==◌, Bool}
 use Rattle.rpg_text.specs.Texts.{trimmed}
 
@@ -27,7 +27,7 @@ spaced n p = if nat_le (p.line + n) 66 then record { page = p.page; line = p.lin
 abbrev pub skipped : ℕ → Position → Position
 skipped line p = if nat_le p.line line then record { page = p.page; line = line } else record { page = p.page + 1; line = line }
 
--- a movement that really moves, keeps to its page, and comes to line 60 or below it
+-- a movement that really moves, stays on its page, and reaches line 60 or below
 pub record TurnsOverflowOn (from to : Position) : Type 0 where
   pub same_page : to.page ≡ from.page
   pub moved : from.line + 1 ≤ to.line

@@ -1,4 +1,4 @@
-//! The printed form: where the paper stands, and the bytes that bring it to a line.
+//! The printed form: where the paper is, and the bytes that bring it to a line.
 
 ghost use Rattle.std.specs.Prelude.{◌≡◌, ℕ, ◌+◌, ◌<◌, ◌≤◌, ◌↔◌, List, [], ◌∷◌, ◌++◌, take, vec_len, Option, Some, None, IsTrue, OnOk, OnErr};
 ghost use Rattle.rpg_text.specs.Texts.{trimmed};
@@ -36,7 +36,7 @@ const FORM_FEED: u8 = 12;
 
 const CARRIAGE_RETURN: u8 = 13;
 
-/// Where the printer's paper stands: the line placed last, the pages begun since, and the present line.
+/// Where the printer's paper is: the line placed last, the pages begun since, and the present line.
 /// Lines are counted from 1 to 66, on pages without end.
 #[derive(Clone, Copy)]
 pub struct Form {
@@ -85,7 +85,7 @@ impl Form {
         self.last
     }
 
-    /// Moves `lines` lines on. Answers whether this turns the overflow indicator on.
+    /// Moves `lines` lines on. Returns whether this turns the overflow indicator on.
     pub fn space(&mut self, lines: u8) -> bool
         requires few_lines { lines ≤ 3 }
         requires few_pages { self.old.begun < 1000 }
@@ -112,7 +112,7 @@ impl Form {
         line >= OVERFLOW_LINE
     }
 
-    /// Moves to the next such line that isn't before the present one. Answers whether this turns the overflow
+    /// Moves to the next such line that isn't before the present one. Returns whether this turns the overflow
     /// indicator on.
     pub fn skip(&mut self, line: u8) -> bool
         requires low { 1 ≤ line }

@@ -4,7 +4,7 @@ ghost use Rattle.std.specs.Prelude.{◌≡◌, ℕ, ◌+◌, ◌≤◌, List, �
 ghost use Rattle.rpg_paper.specs.Paper.{Position, Placed, TurnsOverflowOn, turns_overflow_on, lines_to, spaced, skipped, bytes_from, paper, last_position};
 ghost use Rattle.rpg_paper.specs.Form.{FormLine, placed_after, form_bytes};
 
-/// Lines placed behind other lines add what they add to the paper that these end.
+/// Lines placed after other lines add to the paper what they add after its last line.
 pub fn lines_behind_lines()
     ensures { (xs ys : List Placed) → paper (xs ++ ys) ≡ paper xs ++ bytes_from (last_position xs) ys }
 {}
@@ -22,7 +22,7 @@ pub fn skips_lead_to_the_next_such_line()
         → lines_to p ≤ lines_to q → lines_to (skipped line p) ≤ lines_to q }
 {}
 
-/// The test of a movement tells whether it turns the overflow indicator on.
+/// The test of a movement is true exactly if it turns the overflow indicator on.
 pub fn overflow_is_tested()
     ensures { (from to : Position) → IsTrue (turns_overflow_on from to) ↔ TurnsOverflowOn from to }
 {}

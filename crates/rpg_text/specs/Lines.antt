@@ -1,4 +1,4 @@
--- The lines of a text are std's `lines`. What that says of a text that is put together of lines:
+-- The lines of a text are std's `lines`. For a text that is made of lines, that means:
 use Rattle.std.specs.Prelude.{◌≡◌, ◌==◌, ℕ, Bool, true, not, List, [], ◌∷◌, ◌++◌, map, codes, refl}
 use Rattle.std.specs.List.{flat_map, list_all}
 use Rattle.std.specs.Str.Lines.{lines, strip_carriage_return}

@@ -6,11 +6,11 @@ use Rattle.std.specs.List.{list_all, suffix_len}
 abbrev pub is_between : ℕ → ℕ → ℕ → Bool
 is_between low high n = nat_le low n && nat_le n high
 
--- what may stand in a column, from the blank to `~`
+-- what a column may have, from the blank to `~`
 abbrev pub is_character : ℕ → Bool
 is_character c = is_between 32 126 c
 
--- a question mark stands for what is no character, so that no terminal is told anything by it
+-- a question mark replaces what is no character, so that no control code reaches a terminal
 abbrev pub shown : ℕ → ℕ
 shown c = if is_character c then c else 63
 

@@ -19,7 +19,7 @@ pub fn shown(byte: u8) -> u8
     if is_character(byte) { byte } else { b'?' }
 }
 
-/// Whether each byte of a text is a character. No byte ends the loop early, so that many are tested at once.
+/// Whether each byte of a text is a character. No byte ends the loop early, so that many are tested at a time.
 #[inline(always)]
 pub fn has_only_characters(text: &[u8]) -> bool
     ensures { result ≡ list_all is_character text.now }

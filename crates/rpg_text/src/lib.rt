@@ -1,4 +1,4 @@
-//! Characters, blanks and lines: what the texts of sources, object programs and inputs are made of.
+//! Characters, blanks and lines: the parts of sources, object programs and inputs.
 #![tactic(auto)]
 
 mod blank;

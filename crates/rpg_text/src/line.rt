@@ -4,7 +4,7 @@ ghost use Rattle.std.specs.Prelude.{◌≡◌, ◌<◌, ◌∷◌, length, posit
 ghost use Rattle.std.specs.Str.Lines.{lines, strip_carriage_return};
 ghost use Rattle.rpg_text.specs.Lines.{is_line_feed, LinesEndAtLineFeeds};
 
-/// The first line of a text, and what is behind it. A line feed ends a line, and one carriage return before it is dropped.
+/// The first line of a text, and what follows it. A line feed ends a line, and one carriage return before it is dropped.
 pub fn first_line(text: &[u8]) -> (&[u8], &[u8])
     requires { 0 < length text.now }
     ensures cut { lines text.now ≡ result.0.now ∷ lines result.1.now }
