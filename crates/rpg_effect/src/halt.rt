@@ -25,7 +25,7 @@ pub enum Halt {
 }
 
 impl Halt {
-    /// The number by which a halt is told.
+    /// The number of a halt.
     pub fn number(self) -> u8
         ensures { result ≡ halt_number self }
     {

@@ -1,5 +1,5 @@
--- The same things by other names. Keys of one kind (names and constants on cards) become keys of another (numbers of fields), and
--- what is said here is when a world by the one and a world by the other agree.
+-- The same things by other names. Keys of one kind (names and constants on cards) become keys of another (numbers of fields).
+-- Here is when a world by the one and a world by the other agree.
 use Rattle.std.specs.Prelude.{◌≡◌, ℕ, true, All, List, map, Option, None, Some}
 use Rattle.std.specs.Cmp.{IsTotalOrder}
 use Rattle.std.specs.FinMap as maps

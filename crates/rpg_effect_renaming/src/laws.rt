@@ -1,7 +1,7 @@
-//! Laws of the definitions. The functions do nothing: each is called for its contract alone.
+//! Laws of the definitions. The functions do nothing: they are called only for their contracts.
 ghost use Rattle.rpg_effect_renaming.specs.Laws.{InputsAgree, LinesAgree, OperationsAgree, RowsAgree, WorldsAgree};
 
-/// Operations, lines, input fields and what the rules ask of operands are the same by any names.
+/// Operations, lines, input fields and what the rules require of operands are the same by any names.
 pub fn names_make_no_difference<K: Ord, L: Ord>()
     ensures operations { OperationsAgree K.cmp L.cmp }
     ensures lines { LinesAgree K.cmp L.cmp }

@@ -1,4 +1,4 @@
--- What decoding answers.
+-- What decoding returns.
 use Rattle.std.specs.Prelude.{◌≡◌, ℕ, ◌++◌, List, codes, Option, Some, None, Result, Ok, Err}
 use Rattle.std.specs.Fmt.{decimal}
 use Rattle.rpg_object_format.specs.CodeTexts.{code_text}

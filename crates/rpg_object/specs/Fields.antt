@@ -51,7 +51,7 @@ most_decimals kinds.Text c = 0
 abbrev pub is_decimals : ℕ → ℕ → ℕ → Bool
 is_decimals most digits n = nat_le n most && nat_le n digits
 
--- only the entries of arrays and tables may stand in ascending sequence
+-- only the entries of arrays and tables may be in ascending sequence
 abbrev pub sequences_of : Class → List Bool
 sequences_of c = if may_have_entries c then false ∷ true ∷ [] else false ∷ []
 
@@ -61,7 +61,7 @@ sequence_of c = choice (sequences_of c) flag_number
 abbrev pub most_entries : Class → ℕ
 most_entries c = if may_have_entries c then 9999 else 1
 
--- the entries, whose bytes must lie within the storage that is left
+-- the entries, whose bytes must fit in the storage that is left
 abbrev pub entries_within : ℕ → ℕ → ℕ → ℕ → Result ℕ Code
 entries_within most len storage n =
     if is_between 1 most n then (if nat_le (len * n) storage then Ok n else Err PastLimit) else Err NotAllowed

@@ -23,7 +23,7 @@ abbrev pub as_value : Result ℤ Code → Result Value Code
 as_value (Ok n) = Ok (Number n)
 as_value (Err c) = Err c
 
--- the value of that kind that a text stands for
+-- the value of that kind that a text spells
 abbrev pub first_value_in : Kind → List ℕ → Result Value Code
 first_value_in kinds.Number text = as_value (as_written text (number_in text))
 first_value_in kinds.Text text = if list_all is_character text then Ok (Text text) else Err NotAllowed

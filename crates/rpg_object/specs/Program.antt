@@ -1,4 +1,4 @@
--- Whole object programs: the bytes that spell them, and what other bytes are answered.
+-- Whole object programs: the bytes that spell them, and the faults of other bytes.
 use Rattle.std.specs.Prelude.{◌≡◌, ℕ, ◌-◌, ◌≤◌, List, [], ◌∷◌, ◌++◌, length, drop, codes, Bool, true, false, ◌&&◌, ◌==◌, if◌then◌else◌, Option, Some, None, Result, Ok, Err}
 use Rattle.rpg_effect.specs.Input.{TypeRow}
 use Rattle.rpg_effect.specs.Values.{Value}
@@ -101,6 +101,6 @@ fault_in bytes (Err f) = Some (length bytes - f.left, f.code)
 unfoldable pub first_fault : List ℕ → Option (ℕ × Code)
 first_fault bytes = fault_in bytes (reading bytes)
 
--- Bytes behind a fault change neither its offset nor its code, unless they may complete a number or the name that is cut short.
+-- Bytes after a fault change neither its offset nor its code, unless they may complete a number or the name that is cut short.
 abbrev pub FaultStays : List ℕ → List ℕ → Type 0
 FaultStays bytes more = (offset : ℕ) (code : Code) → first_fault bytes ≡ Some (offset, code) → (code ≡ CutShort → ⊥) → (code ≡ NoObject → 6 ≤ length bytes) → first_fault (bytes ++ more) ≡ Some (offset, code)

@@ -24,8 +24,8 @@ use std::fmt;
 /// Why bytes weren't decoded.
 #[derive(Clone, Copy, Debug, PartialEq, Eq)]
 pub enum DecodeFault {
-    /// The first number that breaks its rule: where its first byte stands, counted from 0, and how it breaks it. A
-    /// number that is cut short stands at the end of the bytes.
+    /// The first number that breaks its rule: the offset of its first byte, counted from 0, and how it breaks it.
+    /// A number that is cut short is at the end of the bytes.
     Object { offset: usize, code: Code },
     NoMemory,
 }
@@ -43,7 +43,7 @@ impl fmt::Display for DecodeFault {
 
 impl Error for DecodeFault {}
 
-/// Reads the rows behind the name.
+/// Reads the rows after the name.
 #[tactic(auto, unfolding(rpg_object_format::specs::Format::pair, rpg_object_format::specs::Format::row, crate::specs::Program::tables, crate::specs::Program::body))]
 fn body_at(alloc: Global, bytes: &[u8]) -> Result<(Rows, &[u8]), ReadFault>
     ensures { Gives (λ x. (seen x.0, x.1.now)) result (body.reading bytes.now) }

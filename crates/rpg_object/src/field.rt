@@ -134,7 +134,7 @@ fn decimals_of(most: u8, length: u16, n: u8) -> Result<u8, Code>
     }
 }
 
-/// The entries of a field, whose bytes must lie within the storage that is left.
+/// The entries of a field, whose bytes must fit in the storage that is left.
 fn entries_within(most: u16, length: u16, storage: u32, n: u16) -> Result<u16, Code>
     ensures { result ≡ entries_within most length storage n }
 {

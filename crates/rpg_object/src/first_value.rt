@@ -20,8 +20,8 @@ use std::alloc::{AllocError, Global};
 /// The most digits that a number has.
 const DIGITS: usize = 15;
 
-/// The number that the text is written for: no blank stands for a zero in it, no letter for a plus sign, and a zero
-/// has no minus sign.
+/// The number that the text is written for: it has no blank for a zero, no letter for a plus sign, and no minus
+/// sign on a zero.
 fn number_written(text: &[u8]) -> Result<i64, Code>
     requires low { 1 ≤ length text.now }
     requires high { length text.now ≤ 15 }

@@ -141,7 +141,7 @@ fn counts_at(bytes: &[u8]) -> Result<(Counts, &[u8]), ReadFault>
     ))
 }
 
-/// Reads the header behind the name.
+/// Reads the header after the name.
 #[tactic(auto, unfolding(rpg_object_format::specs::Format::two_bytes, rpg_object_format::specs::Format::pair, rpg_object_format::specs::Format::row, crate::specs::Header::header_format))]
 pub fn header_at(bytes: &[u8]) -> Result<(Header, &[u8]), ReadFault>
     ensures { Gives (λ x. (x.0, x.1.now)) result (spec.header_format.reading bytes.now) }
@@ -161,7 +161,7 @@ pub fn header_at(bytes: &[u8]) -> Result<(Header, &[u8]), ReadFault>
     ))
 }
 
-/// Writes the header behind the name.
+/// Writes the header after the name.
 pub fn put_header(out: &mut Vec<u8>, header: Header) -> Result<(), AllocError>
     requires { header.version ≡ versions.One → header.secondary_length ≡ 0 }
     ensures { OnOk result (out.new.items ≡ out.old.items ++ spec.header_format.spelling header) }

@@ -25,9 +25,9 @@ fault_at bytes c = record { left = length bytes; code = c }
 abbrev pub ends_early : Fault
 ends_early = record { left = 0; code = CutShort }
 
--- ---- numbers. A rule takes a number to the value that it stands for, or to its fault; a code takes it back.
+-- ---- numbers. A rule takes a number to its value, or to its fault; a code takes it back.
 
--- the value that was read, or the fault of the number that stands at the front of these bytes
+-- the value that was read, or the fault of the number at the front of these bytes
 abbrev pub ruled : {X : Type 0} → List ℕ → List ℕ → Result X Code → Result (X × List ℕ) Fault
 ruled bytes rest (Ok x) = Ok (x, rest)
 ruled bytes rest (Err c) = Err (fault_at bytes c)
@@ -57,7 +57,7 @@ two_bytes rule code = record {
   reading = read_two rule;
 }
 
--- ---- one behind the other
+-- ---- one after another
 
 abbrev pub joined : {A B : Type 0} → A → B × List ℕ → Result ((A × B) × List ℕ) Fault
 joined a b = Ok ((a, b.0), b.1)
@@ -65,7 +65,7 @@ joined a b = Ok ((a, b.0), b.1)
 abbrev pub made : {A X : Type 0} → (A → X) → A × List ℕ → Result (X × List ℕ) Fault
 made make a = Ok (make a.0, a.1)
 
--- a value, and behind it another whose format the first may choose
+-- a value, and after it another whose format the first may choose
 unfoldable pub pair : {A B : Type 0} → Format A → (A → Format B) → Format (A × B)
 pair f g = record {
   spelling = λ p. f.spelling p.0 ++ (g p.0).spelling p.1;
@@ -81,7 +81,7 @@ row make parts f = record {
   reading = λ bytes. f.reading bytes >>= made make;
 }
 
--- ---- rows, one behind the other
+-- ---- rows, one after another
 
 abbrev pub with_listed : {X : Type 0} → X → List X × List ℕ → Result (List X × List ℕ) Fault
 with_listed x xs = Ok (x ∷ xs.0, xs.1)

@@ -1,4 +1,4 @@
--- What functions that read answer, against what the formats say.
+-- What reading functions return, in terms of the formats.
 use Rattle.std.specs.Prelude.{◌≡◌, ℕ, ◌+◌, ◌*◌, List, [], ◌∷◌, Result, Ok, Err}
 use Rattle.rpg_object_format.specs.declared.fault.Code.{Code}
 use Rattle.rpg_object_format.specs.declared.fault.Fault.{Fault}
@@ -15,7 +15,7 @@ abbrev pub Gives : {X Y : Type 0} → (X → Y) → Result X ReadFault → Resul
 Gives view (Ok x) read = read ≡ Ok (view x)
 Gives view (Err e) read = Fails e read
 
--- What a function returned that reads a byte and asks a rule of the program.
+-- What a function returned that reads a byte and applies a rule of the program.
 abbrev pub GivesByte : {T B : Type 0} → (B → List ℕ) → (ℕ → Result T Code → Type 0) → Result (T × B) ReadFault → List ℕ → Type 0
 GivesByte {T} {B} now post result [] = Gives {X = T × B} {Y = T × List ℕ} (λ x. (x.0, now x.1)) result (Err ends_early)
 GivesByte {T} {B} now post result (b ∷ rest) = (x : Result T Code) × post b x × Gives {X = T × B} {Y = T × List ℕ} (λ y. (y.0, now y.1)) result (ruled (b ∷ rest) rest x)

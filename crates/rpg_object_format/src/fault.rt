@@ -14,7 +14,7 @@ pub enum Code {
     NoObject,
     /// B2: the version is another one.
     Version,
-    /// B3: the number doesn't lie wholly inside the bytes.
+    /// B3: the bytes end before the number does.
     CutShort,
     /// B4: bytes are left over.
     LeftOver,

@@ -1,5 +1,5 @@
-//! Formats of bytes: each says how a value is spelled, which values it may hold, and what bytes are read as, with the
-//! first number among them that breaks its rule.
+//! Formats of bytes: each defines how a value is spelled, which values it may hold, and how bytes are read, with the
+//! first number that breaks its rule.
 #![tactic(auto)]
 
 pub mod fault;

@@ -19,7 +19,7 @@ pub fn ends_early() -> ReadFault
     })
 }
 
-/// The fault of the number that stands at the front of these bytes.
+/// The fault of the number at the front of these bytes.
 pub fn fault_at(bytes: &[u8], code: Code) -> ReadFault
     ensures { result ≡ ReadFault.At (fault_at bytes.now code) }
 {
@@ -29,7 +29,7 @@ pub fn fault_at(bytes: &[u8], code: Code) -> ReadFault
     })
 }
 
-/// Reads a byte, and asks the rule what it stands for.
+/// Reads a byte, and returns its value by the rule.
 pub fn byte_at<T, F: FnOnce(u8) -> Result<T, Code>>(
     bytes: &[u8],
     rule: F,
@@ -49,7 +49,7 @@ pub fn byte_at<T, F: FnOnce(u8) -> Result<T, Code>>(
     }
 }
 
-/// Reads a number of two bytes, and asks the rule what it stands for.
+/// Reads a number of two bytes, and returns its value by the rule.
 pub fn number_at<T, F: FnOnce(u16) -> Result<T, Code>>(
     bytes: &[u8],
     rule: F,

@@ -47,7 +47,7 @@ pub record IsIndicator (n : ℕ) : Type 0 where
   pub lowest : 1 ≤ n
   pub highest : n ≤ 129
 
--- three indicators, of which any may be missing
+-- three indicators, any of which may be missing
 pub record AreIndicators (s : Shows) : Type 0 where
   pub plus : ForSome s.plus IsIndicator
   pub minus : ForSome s.minus IsIndicator
@@ -145,7 +145,7 @@ pub record IsTypeRow (t : TypeRow ℕ) : Type 0 where
 
 -- ---- operands and conditions
 
--- no index, a literal of 1 to 9,999, or a field whose number stands behind 10,000 in two bytes
+-- no index, a literal of 1 to 9,999, or a field whose number plus 10,000 fits in two bytes
 abbrev pub IsIndexRow : Index ℕ → Type 0
 IsIndexRow Blank = Unit {0}
 IsIndexRow (Literal n) = (1 ≤ n) × (n ≤ 9999)
@@ -167,7 +167,7 @@ pub record IsOptionalRow (o : Option (Operand ℕ)) : Type 0 where
 pub record IsConditionRow (c : Condition) : Type 0 where
   pub indicator : IsIndicator c.indicator
 
--- three conditions, of which any may be missing
+-- three conditions, any of which may be missing
 pub record AreConditions (cs : Conditions) : Type 0 where
   pub first : ForSome cs.first IsConditionRow
   pub second : ForSome cs.second IsConditionRow

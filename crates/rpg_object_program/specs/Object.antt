@@ -1,4 +1,4 @@
--- An object program as its rows, apart from where their tables lie in memory.
+-- An object program as its rows, apart from where their tables are in memory.
 use Rattle.std.specs.Prelude.{ℕ, Bool, not, ◌==◌, List, map, Option}
 use Rattle.rpg_effect.specs.Input.{TypeRow}
 use Rattle.rpg_effect.specs.Lines as lines

@@ -1,4 +1,4 @@
-//! The table of operations: what stands in the columns of each, and what is asked of it.
+//! The table of operations: the columns of each, and what is required of them.
 
 ghost use Rattle.std.specs.Prelude.{◌≡◌, ◌≤◌};
 ghost use Rattle.rpg_effect.specs.Forms as forms;
@@ -264,7 +264,7 @@ fn operand_shape(shape: Shape) -> Shape
     }
 }
 
-/// Whether field and index are there, and the index stands as the shape has it.
+/// Whether field and index are there, and the index is as the shape requires.
 pub fn is_good(rows: &Rows, used: Use<Operand<u16>>) -> bool
     ensures { result ≡ words.is_good_operand (forms.form_at rows.now.fields.items) used }
 {

@@ -1,4 +1,4 @@
-//! Fields by their numbers, and what is asked of their forms.
+//! Fields by their numbers, and what is required of their forms.
 
 ghost use Rattle.std.specs.Prelude.{◌≡◌};
 ghost use Rattle.rpg_effect.specs.Forms as words;

@@ -1,5 +1,5 @@
-//! The rows of an object program, and what a program keeps of them.
-//! What is asked of operands: the forms of the fields that they name, and the table of operations.
+//! The rows of an object program, and the limits that a program keeps.
+//! What is required of operands: the forms of the fields that they name, and the table of operations.
 #![tactic(auto)]
 
 pub mod columns;

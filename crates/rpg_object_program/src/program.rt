@@ -6,7 +6,7 @@ ghost use Rattle.rpg_object_program.specs.Object.{seen};
 use crate::row::Rows;
 use std::marker::Model;
 
-/// An object program. It keeps all that the object format asks of its rows.
+/// An object program. It keeps all that the object format requires of its rows.
 #[derive(Drop)]
 pub struct Program {
     rows: Rows,

@@ -1,4 +1,4 @@
--- Indicators, of which there may be none, and conditions.
+-- Indicators, which may be absent, and conditions.
 use Rattle.std.specs.Prelude.{ℕ, ◌+◌, ◌/◌, ◌%◌, List, Bool, true, false, not, ◌&&◌, ◌==◌, nat_le, if◌then◌else◌, Option, Some, None, option_map, Result, Ok, Err}
 use Rattle.rpg_effect.specs.declared.condition.Condition.{Condition}
 use Rattle.rpg_effect.specs.declared.condition.Conditions.{Conditions}
@@ -43,7 +43,7 @@ condition_format = row
 unfoldable pub alternative : Format (List Condition)
 alternative = counted_rows 60 condition_format
 
--- ---- three conditions: their indicators, and N bits that say which are negated (1 the first, 2 the second, 4 the third)
+-- ---- three conditions: their indicators, and N bits for those that are negated (1 the first, 2 the second, 4 the third)
 
 abbrev pub has_bit : ℕ → ℕ → Bool
 has_bit weight n = (n / weight) % 2 == 1
@@ -51,7 +51,7 @@ has_bit weight n = (n / weight) % 2 == 1
 abbrev pub bit : ℕ → Bool → ℕ
 bit weight is_on = if is_on then weight else 0
 
--- only an indicator that stands there is negated
+-- only an indicator that is there is negated
 abbrev pub may_negate : Option ℕ → Bool → Bool
 may_negate None is_negated = not is_negated
 may_negate (Some n) is_negated = true

@@ -8,7 +8,7 @@ use Rattle.rpg_object_format.specs.Format.{Format, two_bytes, pair, row}
 use Rattle.rpg_object_format.specs.Numbers.{any_number}
 use Rattle.rpg_object_rows.specs.Shapes.{unused_number}
 
--- 0 for no index, 1 to 9,999 for a literal, and the number of a field behind 10,000
+-- 0 for no index, 1 to 9,999 for a literal, and 10,000 plus its number for a field
 abbrev pub index_by_number : ℕ → Index ℕ
 index_by_number n = if n == 0 then Blank else (if nat_le n 9999 then Literal n else Field (n - 10000))
 
@@ -32,7 +32,7 @@ operand = row
 
 -- ---- where there is no operand
 
--- what stands for no operand: field 0 without an index
+-- the operand written where there is none: field 0 without an index
 abbrev pub no_operand : Operand ℕ
 no_operand = record { field = 0; index = Blank }
 

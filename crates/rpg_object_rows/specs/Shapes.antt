@@ -1,4 +1,4 @@
--- How rows are made of formats.
+-- How rows are built from formats.
 use Rattle.std.specs.Prelude.{◌≡◌, ℕ, List, [], length, Bool, true, false, Ok}
 use Rattle.rpg_object_format.specs.declared.fault.Code.TheVariants.{Unused}
 use Rattle.rpg_object_format.specs.Format.{Format, ◌>>=◌, made, pair, row, table}
@@ -10,7 +10,7 @@ use Rattle.rpg_object_format.specs.Numbers.{is_any_number, byte_where, count, on
 abbrev pub any_byte : Format ℕ
 any_byte = byte_where is_any_number
 
--- 0, where nothing stands
+-- 0, where the byte isn't used
 abbrev pub unused_byte : Format (Unit {0})
 unused_byte = only_byte 0 Unused
 
@@ -23,7 +23,7 @@ no_number = record { spelling = λ u. []; Holds = λ u. Unit {0}; reading = λ b
 
 -- ---- rows
 
--- the same as a row, of those values alone that are so
+-- the same as a row, only of values with this property
 unfoldable pub row_where : {A X : Type 0} → (X → Type 0) → (A → X) → (X → A) → Format A → Format X
 row_where Is make parts f = record {
   spelling = λ x. f.spelling (parts x);
@@ -31,11 +31,11 @@ row_where Is make parts f = record {
   reading = λ bytes. f.reading bytes >>= made make;
 }
 
--- one value alone, as numbers that are always the same
+-- only one value, as numbers that are always the same
 abbrev pub always : {X : Type 0} → X → Format (Unit {0}) → Format X
 always x numbers = row_where (λ y. y ≡ x) (λ u. x) (λ y. tt) numbers
 
--- a format where it is used; where it isn't, the value that stands for nothing, as these numbers
+-- a format where it is used; where it isn't, the value that means nothing, as these numbers
 abbrev pub where_used : {X : Type 0} → Bool → Format X → X → Format (Unit {0}) → Format X
 where_used true f nothing zeros = f
 where_used false f nothing zeros = always nothing zeros

@@ -28,11 +28,11 @@ input_file_number Secondary = 1
 abbrev pub input_file_by_number : ℕ → Result InputFile Code
 input_file_by_number = choice (Primary ∷ Secondary ∷ []) input_file_number
 
--- the file of a type; in version 1 the primary, and 0 stands there
+-- the file of a type; in version 1 the primary, written as 0
 abbrev pub input_file : Version → Format InputFile
 input_file v = where_used (is_two v) (byte input_file_by_number input_file_number) Primary unused_byte
 
--- in version 1 there are none, and nothing stands there
+-- in version 1 there are none, and no byte is written
 abbrev pub match_count : Version → Format ℕ
 match_count v = where_used (is_two v) (count 9) 0 no_number
 

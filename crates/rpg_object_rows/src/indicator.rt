@@ -1,4 +1,4 @@
-//! Indicators, of which there may be none.
+//! Indicators, which may be absent.
 
 ghost use Rattle.std.specs.Prelude.{◌≡◌};
 ghost use Rattle.rpg_object_format.specs.Format.{read_byte};

@@ -10,7 +10,7 @@ use rpg_effect::operation::{Index, Operand};
 use rpg_object_format::fault::{Code, ReadFault};
 use rpg_object_format::number::{any_number_at, number_at, only_number_at};
 
-/// The number behind which those of index fields stand.
+/// What is added to the number of an index field.
 const FIELDS: u16 = 10_000;
 
 fn index_of(n: u16) -> Index<u16>
@@ -62,7 +62,7 @@ pub(crate) fn unused_operand_at(bytes: &[u8]) -> Result<((), &[u8]), ReadFault>
     Ok(((), rest))
 }
 
-/// What stands for no operand.
+/// The operand written where there is none.
 pub(crate) const NO_OPERAND: Operand<u16> = Operand {
     field: 0,
     index: Index::Blank,
@@ -78,7 +78,7 @@ pub(crate) fn optional_of(operand: Operand<u16>) -> Option<Operand<u16>>
     }
 }
 
-/// The operand, or what stands for none.
+/// The operand, or the one written where there is none.
 pub(crate) fn operand_or_none(operand: Option<Operand<u16>>) -> Operand<u16>
     ensures { result ≡ rows.operand_or_none operand }
 {

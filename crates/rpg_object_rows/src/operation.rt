@@ -42,7 +42,7 @@ pub struct Columns {
     pub negations: bool,
 }
 
-/// The numbers of an instruction: 0, or what stands for it, where the operation doesn't use one.
+/// The numbers of an instruction: 0, or its equivalent, where the operation doesn't use one.
 #[derive(Clone, Copy)]
 pub struct Numbers {
     pub operation: Operation,

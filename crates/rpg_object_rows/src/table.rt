@@ -1,4 +1,4 @@
-//! Tables: rows of one format, one behind the other.
+//! Tables: rows of one format, one after another.
 
 ghost use Rattle.std.specs.Prelude.{◌≡◌, ℕ, List, ◌++◌, map, All, Result, OnOk};
 ghost use Rattle.rpg_object_format.specs.declared.fault.Fault.{Fault};
@@ -8,7 +8,7 @@ ghost use Rattle.rpg_object_format.specs.Reading.{Gives};
 use rpg_object_format::fault::ReadFault;
 use std::alloc::{AllocError, Global};
 
-/// A row that is read the same way wherever it stands.
+/// A row that is read the same way wherever it is.
 pub trait Row: Drop {
     ghost Seen: { Type 0 };
 
@@ -46,7 +46,7 @@ pub fn rows_at<T: Row>(
     Ok((rows, rest))
 }
 
-/// Writes the rows behind what is there.
+/// Appends the rows.
 pub fn put_rows<T: Row>(rows: &[T], out: &mut Vec<u8>) -> Result<(), AllocError>
     requires { All T.Keeps (map T.seen rows.now) }
     ensures { OnOk result (out.new.items ≡ out.old.items ++ spelled_along (λ s x. T.spell x) keep tt (map T.seen rows.now)) }
