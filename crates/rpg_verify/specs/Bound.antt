@@ -11,7 +11,7 @@ use Rattle.rpg_object_program.specs.declared.section.Section.{Section}
 use Rattle.rpg_verify.specs.Paths.{Stretch, costs_from}
 use Rattle.rpg_verify.specs.Weighing.{all_outputs_weight}
 
--- a section of a program as it lies
+-- a section of a program with its place
 abbrev pub stretch : Object → Section → Stretch
 stretch p s = record { first = first_place p s; code = section_instructions p s }
 
@@ -50,7 +50,7 @@ most_at p first code = most_back first (costs_at p first code) first code
 abbrev pub most_called : Object → ℕ → List (Instruction ℕ) → ℕ
 most_called p first code = max (first_cost p first code) (most_at p first code)
 
--- of subroutines of which the first begins at a place
+-- of subroutines, the first of which begins at a place
 abbrev pub most_in : Object → ℕ → List SubroutineRow → ℕ
 most_in p first [] = 0
 most_in p first (s ∷ ss) = max (most_called p first s.instructions) (most_in p (first + length s.instructions) ss)
@@ -72,7 +72,7 @@ once p = first_cost p 0 p.detail + first_cost p (length p.detail) p.total
 unfoldable pub bound : Object → ℕ
 bound p = types_weight p.types + all_outputs_weight p + once p + p.allowance * most p
 
--- ---- the costs of all places, one behind the other
+-- ---- the costs of all places, one after another
 
 abbrev pub costs_in : Object → ℕ → List SubroutineRow → List ℕ
 costs_in p first [] = []

@@ -4,17 +4,17 @@ use Rattle.rpg_effect.specs.declared.operation.Instruction.{Instruction}
 use Rattle.rpg_effect.specs.declared.operation.Instruction.TheVariants.{Act, Except, Branch, Call, Return}
 use Rattle.rpg_effect.specs.Control.{always_goes}
 
--- a section as it lies: its first place, and its instructions
+-- a section with its place: its first place, and its instructions
 pub record Stretch : Type 0 where
   pub first : ℕ
   pub code : List (Instruction ℕ)
 
--- what stands at a place of the section
+-- the instruction at a place of the section
 abbrev pub at_place : Stretch → ℕ → Option (Instruction ℕ)
 at_place s place = if nat_le s.first place then slice_get s.code (place - s.first) else None
 
--- Whether a place can come right after another that has this instruction, and is later. A call goes on behind itself, and a return
--- nowhere. A jump without conditions has its target alone.
+-- Whether a place can come right after another that has this instruction, and is later. After a call comes the next place, and
+-- after a return none. After a jump without conditions comes only its target.
 abbrev pub Follows : ℕ → Instruction ℕ → ℕ → Type 0
 Follows place (Act a) next = next ≡ place + 1
 Follows place Except next = next ≡ place + 1
@@ -28,7 +28,7 @@ IsPlace s place = (i : Instruction ℕ) × (at_place s place ≡ Some i)
 abbrev pub Leads : Stretch → ℕ → ℕ → Type 0
 Leads s place next = (i : Instruction ℕ) × (at_place s place ≡ Some i) × Follows place i next
 
--- places of the section, each of which can come right after the one before
+-- places of the section; each can come right after the one before
 abbrev pub IsPath : Stretch → List ℕ → Type 0
 IsPath s [] = Unit {0}
 IsPath s (x ∷ []) = IsPlace s x
@@ -40,11 +40,11 @@ IsFrom place (x ∷ xs) = x ≡ place
 
 -- ---- how it is found: one pass from the last place down
 
--- the cost of a later place, from the costs of the places behind a place; behind the end it is 0
+-- the cost of a later place, from the costs of the places after a place; after the end it is 0
 abbrev pub cost_ahead : ℕ → List ℕ → ℕ → ℕ
 cost_ahead place costs next = if nat_lt place next then slice_index costs (next - (place + 1)) else 0
 
--- of the place behind, where a branch can be passed
+-- of the next place, if a branch can be passed
 abbrev pub cost_passed : Bool → List ℕ → ℕ
 cost_passed always costs = if always then 0 else slice_index costs 0
 
@@ -69,7 +69,7 @@ module _ (weight : Instruction ℕ → ℕ) where
     pub above : (path : List ℕ) → IsPath s path → IsFrom place path → weight_along s path ≤ cost
     pub reached : (path : List ℕ) × IsPath s path × IsFrom place path × (weight_along s path ≡ cost)
 
-  -- the costs of places one behind the other
+  -- the costs of places one after another
   abbrev pub with_cost : ℕ → Instruction ℕ → List ℕ → List ℕ
   with_cost place i costs = (weight i + cost_onward place i costs) ∷ costs
 
@@ -77,6 +77,6 @@ module _ (weight : Instruction ℕ → ℕ) where
   costs_from place [] = []
   costs_from place (i ∷ is) = with_cost place i (costs_from (place + 1) is)
 
-  -- the cost of each place of a section, in their order; 0 at its end and behind it
+  -- the cost of each place of a section, in their order; 0 at its end and after it
   abbrev pub AreCosts : Stretch → List ℕ → Type 0
   AreCosts s costs = (x : ℕ) → s.first ≤ x → IsCost s x (slice_index costs (x - s.first))

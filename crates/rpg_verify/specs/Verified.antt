@@ -1,4 +1,4 @@
--- What a verified program keeps beside its rows, and what a refusal tells.
+-- What a verified program keeps besides its rows, and what a refusal reports.
 use Rattle.std.specs.Prelude.{◌≡◌, ℕ, List}
 use Rattle.rpg_object_program.specs.Kept.{IsProgram}
 use Rattle.rpg_object_program.specs.Object.{Object}
@@ -16,7 +16,7 @@ pub record IsVerified (p : Object) (stored : List ℕ) (most_steps : ℕ) : Type
   pub costs : stored ≡ costs p
   pub bound : most_steps ≡ bound p
 
--- the least broken rule and its first row; memory is wanted for accepted programs alone
+-- the least broken rule and its first row; memory runs out only for accepted programs
 abbrev pub IsRefusal : Object → VerifyFault → Type 0
 IsRefusal p (Refused rule row) = IsLeast rule_number (broken p) rule row
 IsRefusal p NoMemory = IsAccepted p

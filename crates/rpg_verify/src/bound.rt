@@ -12,7 +12,7 @@ use rpg_effect::operation::Instruction;
 use rpg_object_program::row::Rows;
 use std::alloc::{AllocError, Global};
 
-/// The costs of places one behind the other.
+/// The costs of places one after another.
 #[derive(Drop)]
 struct Costs {
     places: Vec<u64>,
@@ -131,7 +131,7 @@ fn subroutine_costs(
     })
 }
 
-/// Puts the costs of a section behind those of the sections before it.
+/// Puts the costs of a section after those of the sections before it.
 fn append(costs: &mut Costs, more: &Costs) -> Result<(), AllocError>
     ensures places { OnOk result (costs.new.places.items ≡ costs.old.places.items ++ more.now.places.items) }
     ensures most { OnOk result (costs.new.most ≡ max costs.old.most more.now.most) }
@@ -196,7 +196,7 @@ fn bound_of(rows: &Rows, lines: LineWeights, costs: &Costs) -> u64
     bound
 }
 
-/// The most steps that a cycle can take, and the costs of all places that say so.
+/// The most steps that a cycle can take, and the costs of all places, which give it.
 #[derive(Drop)]
 pub(crate) struct Measured {
     pub costs: Vec<u64>,

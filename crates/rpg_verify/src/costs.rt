@@ -20,7 +20,7 @@ fn always_goes(is_taken_where: bool, conditions: Conditions) -> bool
     is_taken_where && !has_conditions(conditions)
 }
 
-/// The cost that stands there, 0 behind the end.
+/// The cost at an index, 0 after the end.
 pub(crate) fn cost_in(costs: &[u64], k: usize) -> u64
     ensures { result ≡ slice_index costs.now k }
 {
@@ -30,7 +30,7 @@ pub(crate) fn cost_in(costs: &[u64], k: usize) -> u64
     }
 }
 
-/// The cost of a later place, from the costs behind a place; 0 of one that isn't later.
+/// The cost of a later place, from the costs after a place; 0 of one that isn't later.
 fn cost_ahead(place: usize, behind: &[u64], next: usize) -> u64
     requires { place ≤ 8192 }
     ensures { result ≡ paths.cost_ahead place behind.now next }
@@ -42,7 +42,7 @@ fn cost_ahead(place: usize, behind: &[u64], next: usize) -> u64
     }
 }
 
-/// The cost of the place behind, where a branch can be passed.
+/// The cost of the next place, if a branch can be passed.
 fn cost_passed(always: bool, behind: &[u64]) -> u64
     ensures { result ≡ paths.cost_passed always behind.now }
 {
@@ -68,7 +68,7 @@ fn cost_onward(place: usize, instruction: Instruction<u16>, behind: &[u64]) -> u
     }
 }
 
-/// The cost of a place, from those behind it.
+/// The cost of a place, from those after it.
 #[tactic(auto, using(crate::proofs::Sizes::onward_under))]
 fn cost_at(
     rows: &Rows,

@@ -87,7 +87,7 @@ impl Verified {
         self.bound
     }
 
-    /// The greatest sum of weights along a forward path from a place where an instruction stands.
+    /// The greatest sum of weights along a forward path from a place that has an instruction.
     pub fn path_cost(&self, place: Place) -> u64
         requires first { first_place self.now place.section ≤ place.number }
         requires last { place.number < place_behind self.now place.section }

@@ -38,7 +38,7 @@ fn use_weight(rows: &Rows, used: Option<Use<Operand<u16>>>) -> u64
     }
 }
 
-/// What EXCPT weighs beside itself.
+/// What EXCPT weighs besides itself.
 fn exceptions_of(exceptions: u64, instruction: Instruction<u16>) -> u64
     ensures value { result ≡ words.exceptions_of exceptions instruction }
     ensures few { result ≤ exceptions }

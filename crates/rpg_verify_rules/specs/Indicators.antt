@@ -1,4 +1,4 @@
--- Which indicators may stand where: 1 to 99, L0 (100), L1 to LR (101 to 110), 1P (111), overflow (112 to 119), H1 to H9 (120 to 128), MR (129).
+-- Which indicators are allowed where: 1 to 99, L0 (100), L1 to LR (101 to 110), 1P (111), overflow (112 to 119), H1 to H9 (120 to 128), MR (129).
 use Rattle.std.specs.Prelude.{ℕ, Bool, true, ◌&&◌, ◌||◌, nat_le, Option, None, Some, is_some}
 use Rattle.rpg_effect.specs.declared.condition.Condition.{Condition}
 use Rattle.rpg_effect.specs.declared.condition.Conditions.{Conditions}
@@ -15,20 +15,20 @@ is_settable n = is_between 1 99 n || (is_between 101 110 n || is_between 112 128
 abbrev pub is_of_type : ℕ → Bool
 is_of_type n = is_between 1 99 n || (is_between 101 110 n || is_between 120 128 n)
 
--- it passes, if it stands
+-- it passes, if it is there
 abbrev pub if_any : {X : Type 0} → (X → Bool) → Option X → Bool
 if_any test None = true
 if_any test (Some x) = test x
 
--- each of three passes that stands
+-- each of three that is present passes
 abbrev pub are_settable : Shows → Bool
 are_settable s = if_any is_settable s.plus && (if_any is_settable s.minus && if_any is_settable s.zero)
 
--- one of three stands
+-- one of three is present
 abbrev pub has_shows : Shows → Bool
 has_shows s = is_some s.plus || (is_some s.minus || is_some s.zero)
 
--- MR is asked in version 2 alone
+-- conditions may name MR only in version 2
 abbrev pub most_asked : Version → ℕ
 most_asked One = 128
 most_asked Two = 129
@@ -36,6 +36,6 @@ most_asked Two = 129
 abbrev pub may_be_asked : Version → Condition → Bool
 may_be_asked v c = nat_le c.indicator (most_asked v)
 
--- each of three that stands may be asked
+-- each of three that is present may be tested
 abbrev pub all_asked : Version → Conditions → Bool
 all_asked v cs = if_any (may_be_asked v) cs.first && (if_any (may_be_asked v) cs.second && if_any (may_be_asked v) cs.third)

@@ -38,7 +38,7 @@ abbrev pub is_field_there : Object → LineField ℕ → Bool
 is_field_there p f =
     (has_entry (form_at p.fields) f.operand && is_one_entry (form_at p.fields) f.operand) && fits_source f.source (form_put_out p f)
 
--- Codes and words edit numbers alone, codes those that they fit. A fill stands with a code alone, where the code takes it.
+-- Codes and words edit only numbers, and codes only those that they fit. A fill goes only with a code that takes it.
 abbrev pub edits_form : Option FieldForm → Editing ℕ → Fill → Bool
 edits_form form Plain fill = is_blank_fill fill
 edits_form form (Code code) fill = same_kind (kind_of form) kinds.Number && fits_code (length_of form) (decimals_of form) code fill
@@ -74,11 +74,11 @@ names_text p Plain = true
 names_text p (Code code) = true
 names_text p (Word k) = is_text_constant (form_at p.fields k)
 
--- there is such a field and it is edited well, but for whether a word fits: its width can be told
+-- there is such a field and it is edited well, apart from whether a word fits: its width is known
 abbrev pub may_have_width : Object → LineField ℕ → Bool
 may_have_width p f = is_field_there p f && (is_field_edited p f && names_text p f.editing)
 
--- it has a width, and begins before the line or ends behind it
+-- it has a width, and begins before the line or ends after it
 abbrev pub lacks_room : Object → ℕ → LineField ℕ → Bool
 lacks_room p len f = has_width p f && not (has_room (form_at p.fields) (word_at p) len f)
 
@@ -93,7 +93,7 @@ blanks_wrongly p len f = not (blanks_writable (form_at p.fields) (word_at p) f) 
 abbrev pub is_field_asked : Version → LineField ℕ → Bool
 is_field_asked v f = all_asked v f.conditions
 
--- it fits and is blanked as it may be, and asks what it may not
+-- it fits and is blanked as it may be, and tests an indicator that it may not
 abbrev pub asks_wrongly : Object → ℕ → LineField ℕ → Bool
 asks_wrongly p len f = not (is_field_asked p.version f) && (blanks_writable (form_at p.fields) (word_at p) f && fits_line p len f)
 

@@ -1,4 +1,4 @@
--- The rules of instructions, and of the subroutines that they stand in.
+-- The rules of instructions, and of the subroutines that they are in.
 use Rattle.std.specs.Prelude.{ℕ, ◌+◌, ◌-◌, Bool, true, false, not, ◌&&◌, ◌||◌, ◌==◌, nat_lt, List, [], ◌∷◌, ◌++◌, map, length, Option, None, Some, is_some, slice_get, if◌then◌else◌}
 use Rattle.std.specs.List.{list_all, list_any}
 use Rattle.rpg_effect.specs.Control.{has_conditions}
@@ -26,7 +26,7 @@ use Rattle.rpg_verify_rules.specs.declared.rule.PlaceRule.TheVariants.{V16, V17,
 
 -- ---- indicators
 
--- indicators that may be set, at least one where one is wanted
+-- indicators that may be set, at least one where one is required
 abbrev pub are_marked : Marks → Bool
 are_marked Unmarked = true
 are_marked (Shown s) = are_settable s
@@ -50,7 +50,7 @@ is_ascending p u = is_form_ascending (form_at p.fields u.operand.field)
 abbrev pub is_searched_well : Object → Row (Operand ℕ) → Bool
 is_searched_well p r = not (is_two_sided r.marks) && (not (is_ordered r.marks) || all_used (is_ascending p) r.factor2)
 
--- conditions that may be asked, for SKIP at least one
+-- conditions that may be tested, for SKIP at least one
 abbrev pub are_asked : Version → Instruction ℕ → Bool
 are_asked v (Branch is_taken_where cs target) = all_asked v cs && (is_taken_where || has_conditions cs)
 are_asked v i = true
@@ -69,22 +69,22 @@ calls_higher p s i = true
 
 -- ---- operands that no smaller rule refuses
 
--- what stands in a column, where it passes
+-- the operand of a column, if it passes
 abbrev pub passing : {O : Type 0} → (Use O → Bool) → Option (Use O) → Option (Use O)
 passing test None = None
 passing test (Some u) = if test u then Some u else None
 
--- a row with the operands that pass alone
+-- a row with only the operands that pass
 abbrev pub those_passing : {O : Type 0} → (Use O → Bool) → Row O → Row O
 those_passing test r = record { factor1 = passing test r.factor1; factor2 = passing test r.factor2; result = passing test r.result; marks = r.marks }
 
--- COMP and LOKUP want factor 2 of the kind of factor 1
+-- COMP and LOKUP require factor 2 to be of the kind of factor 1
 abbrev pub compares : Instruction ℕ → Bool
 compares (Act (Compare a b s)) = true
 compares (Act (LookUp a b r s)) = true
 compares i = false
 
--- the kinds that are wanted are known: where factors are compared, factor 1 is good
+-- the required kinds are known: where factors are compared, factor 1 is good
 abbrev pub knows_kinds : Object → Instruction ℕ → Bool
 knows_kinds p i = not (compares i) || all_used (is_good_operand (form_at p.fields)) (columns p i).factor1
 
@@ -126,7 +126,7 @@ abbrev pub subroutines_judged : PlaceRule → Object → ℕ → List Subroutine
 subroutines_judged r p n [] = []
 subroutines_judged r p n (s ∷ ss) = map (place_breaks r p (Subroutine n)) s.instructions ++ subroutines_judged r p (n + 1) ss
 
--- of each place behind detail calculations
+-- of each place after detail calculations
 abbrev pub judged_behind_detail : PlaceRule → Object → List Bool
 judged_behind_detail r p = section_judged r p Total ++ subroutines_judged r p 0 p.subroutines
 

@@ -1,6 +1,6 @@
--- The rules: for each, which rows of its table break it. Rows are counted from 0 in the table of the rule's kind.
--- A rule says nothing of an operand, a line's field or an input field that a smaller rule refuses. The least rule is answered, and a
--- program is accepted where no rule is broken.
+-- The rules: for each, which rows of its table break it. Rows are counted from 0 in the table of the rule's kind. A rule doesn't
+-- apply to an operand, a line's field or an input field that a smaller rule refuses. The least broken rule is returned, and a
+-- program is accepted if no rule is broken.
 use Rattle.std.specs.Prelude.{ℕ, Bool, ◌&&◌, ◌==◌, List, [], ◌∷◌, ◌++◌, map, is_some, codes, decimal}
 use Rattle.rpg_object_program.specs.Object.{Object}
 use Rattle.rpg_verify_rules.specs.LineRules.{line_breaks}

@@ -19,7 +19,7 @@ use Rattle.rpg_verify_rules.specs.LineRules.{is_spaced_on}
 use Rattle.rpg_verify_rules.specs.PlaceRules.{are_asked, are_marked, ends_in_return}
 use Rattle.rpg_verify_rules.specs.TypeRules.{all_measured, are_joined_as, are_once, first_matches, is_code_in, is_control_in, is_input_shown, joined_widths, measures}
 
--- an instruction stands at a place of a section
+-- an instruction is at a place of a section
 abbrev pub IsAt : Object → Place → Instruction ℕ → Type 0
 IsAt p x i = (first_place p x.section ≤ x.number) × (instruction_at p x ≡ Some i)
 
@@ -32,7 +32,7 @@ LeadsWell p s (Call n) = (has_subroutine p n ≡ true) × (level_of p s < level_
 LeadsWell p s (Return n) = (has_subroutine p n ≡ true) × (s ≡ Subroutine n)
 
 -- an instruction of a section: nothing is wrong with its operands, whatever the values are, control goes where it may, and it sets and
--- asks indicators that may be set and asked
+-- tests indicators that may be set and tested
 pub record IsSoundInstruction (p : Object) (s : Section) (i : Instruction ℕ) : Type 0 where
   pub operands : IsRightRow (form_at p.fields) (columns p i)
   pub control : LeadsWell p s i

@@ -57,7 +57,7 @@ all_measured level (m ∷ n ∷ ms) cs = is_measured m (joined_width level cs) &
 abbrev pub is_input_in : Object → ℕ → InputField ℕ → Bool
 is_input_in p len f = fits_columns len f (form_at p.fields f.field)
 
--- indicators that may be set, of a text the one of blanks alone
+-- indicators that may be set, for a text only the one for blanks
 abbrev pub is_input_shown : Object → InputField ℕ → Bool
 is_input_shown p f = are_settable f.shows && fits_shows (kind_of (form_at p.fields f.field)) f.shows
 
@@ -76,7 +76,7 @@ joined_widths cs =
 abbrev pub is_of_level : ℕ → ControlField → Bool
 is_of_level level c = c.level == level
 
--- no level stands twice
+-- no level appears twice
 abbrev pub are_once : List ControlField → Bool
 are_once [] = true
 are_once (c ∷ cs) = not (list_any (is_of_level c.level) cs) && are_once cs

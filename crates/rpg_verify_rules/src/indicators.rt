@@ -1,4 +1,4 @@
-//! Which indicators may stand where.
+//! Which indicators are allowed where.
 
 ghost use Rattle.std.specs.Prelude.{◌≡◌};
 ghost use Rattle.rpg_verify_rules.specs.Indicators as marks;
@@ -46,7 +46,7 @@ pub(crate) fn has_shows(shows: Shows) -> bool
     shows.plus.is_some() || (shows.minus.is_some() || shows.zero.is_some())
 }
 
-/// MR is asked in version 2 alone.
+/// Conditions may name MR only in version 2.
 const fn most_asked(version: Version) -> u8
     ensures { result ≡ marks.most_asked version }
 {

@@ -79,7 +79,7 @@ fn first_row(rule: Rule, rows: &Rows) -> Option<usize>
     }
 }
 
-/// V1: an overflow indicator wants a printer.
+/// V1: an overflow indicator requires a printer.
 #[tactic(auto, unfolding(crate::specs::Rules::broken))]
 fn first_overflow(rows: &Rows) -> Option<usize>
     ensures { result ≡ first_true 0 (rules.broken (seen rows.now) Rule.Overflow) }

@@ -264,7 +264,7 @@ fn may_have_width(rows: &Rows, field: &LineField<u16>) -> bool
     is_field_there(rows, field) && (is_field_edited(rows, field) && names_text(rows, field.editing))
 }
 
-/// Whether a word fits is asked only of a field that has no room.
+/// Tests last whether a word fits, so only for a field without room.
 fn lacks_room(rows: &Rows, length: u16, field: &LineField<u16>) -> bool
     requires { IsProgram (seen rows.now) }
     ensures { result ≡ words.lacks_room (seen rows.now) length field.now }
@@ -279,7 +279,7 @@ fn lack_room(rows: &Rows, length: u16, fields: &[LineField<u16>]) -> bool
     fields.iter().any(|f| lacks_room(rows, length, f))
 }
 
-// ---- what is asked of fields that fit
+// ---- what is required of fields that fit
 
 fn has_width(rows: &Rows, field: &LineField<u16>) -> bool
     requires { IsProgram (seen rows.now) }

@@ -59,7 +59,7 @@ fn has_level(level: u8, fields: &[ControlField]) -> bool
     fields.iter().any(|f| f.level == level)
 }
 
-/// Whether no level stands twice.
+/// Whether no level appears twice.
 fn are_once(fields: &[ControlField]) -> bool
     ensures { result ≡ words.are_once fields.now }
 {
@@ -80,7 +80,7 @@ fn are_joined_as(widths: &[u128; 9], fields: &[ControlField]) -> bool
     fields.is_empty() || joined_widths(fields) == *widths
 }
 
-/// Whether a type has these match fields of a record of that length, beside the joined lengths of the first that has some.
+/// Whether a type has these match fields of a record of that length, given the joined lengths of the first type that has some.
 pub(crate) fn are_matches(length: u16, widths: &[u128; 9], fields: &[ControlField]) -> bool
     ensures { result ≡ words.are_matches length widths.now fields.now }
 {

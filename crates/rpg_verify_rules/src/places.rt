@@ -377,7 +377,7 @@ fn is_ordered(marks: Marks) -> bool
     }
 }
 
-/// Whether what stands in a column, if anything, is in ascending sequence.
+/// Whether the operand of a column, if there is one, is in ascending sequence.
 fn is_ascending_if_any(rows: &Rows, used: Option<Use<Operand<u16>>>) -> bool
     ensures { result ≡ rows_words.all_used (words.is_ascending (seen rows.now)) used }
 {
@@ -390,7 +390,7 @@ fn is_ascending_if_any(rows: &Rows, used: Option<Use<Operand<u16>>>) -> bool
     }
 }
 
-/// Not high with low, and each of these through what is in ascending sequence alone.
+/// Not high and low together, and each of these only through what is in ascending sequence.
 fn is_searched_well(rows: &Rows, row: Row<Operand<u16>>) -> bool
     ensures { result ≡ words.is_searched_well (seen rows.now) row }
 {

@@ -15,7 +15,7 @@ pub enum TypeRule {
     V5,
     /// As many columns of the record are moved as the field has.
     V6,
-    /// Indicators of moves can be set, and a text has one for blanks alone.
+    /// Indicators of moves can be set, and a text has one only for blanks.
     V7,
     /// The program has the type's file.
     V25,
@@ -28,13 +28,13 @@ pub enum TypeRule {
 pub enum LineRule {
     /// The program has the line's file.
     V2,
-    /// Spaces of 0 to 3 and skips to 66 at most, on the printer alone.
+    /// Spaces of 0 to 3 and skips to 66 at most, only on the printer.
     V8,
     /// Conditions of alternatives are on indicators up to 128.
     V9,
     /// What is put out is there.
     V10,
-    /// What is edited is a number that the code fits, and a fill stands where it may.
+    /// What is edited is a number that the code fits, and a fill is where it may be.
     V11,
     /// An edit word is a text constant of 1 to 24 characters that fits the number.
     V12,
@@ -51,7 +51,7 @@ pub enum LineRule {
 pub enum PlaceRule {
     /// Operands are there, with an index that they may have.
     V16,
-    /// Operands are of the kinds that the table of operations wants.
+    /// Operands are of the kinds that the table of operations requires.
     V17,
     /// Results may be written.
     V18,
@@ -150,10 +150,10 @@ impl SubroutineRule {
     }
 }
 
-/// A rule, by the table of which rows it speaks.
+/// A rule, by the table that its rows are in.
 #[derive(Clone, Copy)]
 pub enum Rule {
-    /// V1: an overflow indicator wants a printer.
+    /// V1: an overflow indicator requires a printer.
     Overflow,
     Type(TypeRule),
     Line(LineRule),
