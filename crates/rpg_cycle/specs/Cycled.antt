@@ -10,7 +10,7 @@ use Rattle.rpg_machine.specs.Ready.{IsReady}
 use Rattle.rpg_machine.specs.Running.{Running}
 use Rattle.rpg_object_program.specs.Object.{Object}
 
--- a machine did a cycle that selected the record of that type, if one was selected, and all is as the next cycle wants it
+-- a machine did a cycle that selected the record of that type, if one was selected, and everything is as the next cycle requires
 pub record HasCycled (p : Object) (k : Kept) (primary secondary : Option (Bor (List ℕ))) (old : Running) (t : Option ℕ) (k' : Kept) (new : Running) : Type 0 where
   pub goes : CycleGoesOn p k primary secondary old t k' new
   pub ready : IsReady new

@@ -21,11 +21,11 @@ use Rattle.rpg_text.specs.Texts.{is_character}
 abbrev pub next_text : Option (Bor (List ℕ)) → Option (List ℕ)
 next_text next = option_map (λ (text : Bor (List ℕ)). text.now) next
 
--- the record that is next in a file, if there is one, has characters alone where that was seen
+-- the record that is next in a file, if there is one, has only characters if that was seen
 abbrev pub IsSeen : Bool → Option (Bor (List ℕ)) → Type 0
 IsSeen is_seen next = is_seen ≡ true → IfSome next (λ text. list_all is_character text.now ≡ true)
 
--- what a cycle has beside the machine: the files, and the record that was selected
+-- what a cycle has besides the machine: the files, and the record that was selected
 pub record Beside : Type 0 where
   pub inputs : Inputs
   pub selected : Option Selected
@@ -61,7 +61,7 @@ cycle_by p k primary secondary = CycleOn p (left_of k) (match_by p k) primary se
 abbrev pub under_way : Config → Beside → UnderWay
 under_way c h = record { config = c; inputs = h.inputs; selected = h.selected }
 
--- behind a line placed before a machine did a phase, and its bytes were appended; the cycle had the one beside it before, and the other behind it
+-- after a line placed before, a machine did a phase, and its bytes were appended; `before` and `after` are what the cycle has besides the machine
 pub record DoesBehind (P : Phase) (previous : Option Position) (old : Running) (before : Beside) (e : PhaseEnd) (new : Running) (after : Beside) : Type 0 where
   pub out : Output
   pub phase : P (under_way (config_on previous old.config) before) e (under_way (config_on (last_position_from previous out.lines) new.config) after) out

@@ -47,11 +47,11 @@ abbrev pub with_all : List ℕ → Bool → Config → Config
 with_all [] on c = c
 with_all (n ∷ ns) on c = with_all ns on (with_one n on c)
 
--- L1 to the n-th go on
+-- L1 to the n-th turn on
 abbrev pub with_levels : ℕ → Config → Config
 with_levels n c = with_all (take n level_indicators) true c
 
--- a record type's indicator goes on
+-- a record type's indicator turns on
 abbrev pub with_type : Option ℕ → Config → Config
 with_type None c = c
 with_type (Some n) c = with_one n true c

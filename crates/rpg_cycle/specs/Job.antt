@@ -76,7 +76,7 @@ feed_at Failed last = []
 abbrev pub with_feed : List ℕ → Bytes → Bytes
 with_feed feed bytes = record bytes { print = bytes.print ++ feed }
 
--- Behind these earlier records and a line placed before, a job did a cycle with the record that was next in each file, or with none at its
+-- After these earlier records and a line placed before, a job did a cycle with the record that was next in each file, or with none at its
 -- end. Its bytes were appended.
 pub record DoesCycle (old : AtWork) (earlier : List Selected) (previous : Option Position) (primary secondary : Option (List ℕ)) (e : PhaseEnd) (new : AtWork) : Type 0 where
   pub stage : new.stage ≡ stage_at e
@@ -90,7 +90,7 @@ pub record DoesCycle (old : AtWork) (earlier : List Selected) (previous : Option
   pub last : new.last ≡ line_of (last_position_from previous out.lines)
   pub bytes : new.output ≡ with_feed (feed_at (stage_at e) new.last) (with_output previous out.lines out.records old.output)
 
--- A cycle behind the earlier records that left what the job keeps, whatever was placed before. It is the same behind all that leave this.
+-- A cycle after the earlier records that left what the job keeps, whatever was placed before. It is the same after all that leave this.
 pub record Cycles (old : AtWork) (primary secondary : Option (List ℕ)) (new : AtWork) : Type 0 where
   pub behind : IsBehind old.program old.left old.inputs
   pub does : (previous : Option Position) → old.last ≡ line_of previous → (e : PhaseEnd) × DoesCycle old behind.earlier previous primary secondary e new

@@ -1,4 +1,4 @@
--- What the laws of cycles and of runs say.
+-- What the laws of cycles and of runs state.
 use Rattle.std.specs.Prelude.{◌≡◌, ℕ, ℤ, List, Option, false}
 use Rattle.std.specs.Ordering.{nat_cmp}
 use Rattle.rpg_cycle.specs.Ends.{GoesOn, PhaseEnd}

@@ -139,7 +139,7 @@ take_in p left f next = does (λ c. if takes_in p c.inputs f then read_record p 
 abbrev pub broken_level : Object → Left → Selected → ℕ
 broken_level p left s = highest_broken (λ level. differs (last_of_level left level) (level_bytes (control_fields p s.type) s.text level)) 9
 
--- the control fields are compared; the highest level that is broken goes on with all below it
+-- the control fields are compared; the highest level that is broken turns on, with all below it
 abbrev pub compare_levels : Object → Left → Selected → UnderWay → Done
 compare_levels p left s c =
     if list_all (is_in_record (length s.text)) (control_fields p s.type)
@@ -151,13 +151,13 @@ abbrev pub type_indicator : Option (TypeRow ℕ) → Option ℕ
 type_indicator None = None
 type_indicator (Some t) = t.indicator
 
--- the record that waits in a file is selected: it waits no longer, and its type's indicator goes on
+-- the record that waits in a file is selected: it waits no longer, and its type's indicator turns on
 abbrev pub select_waiting : Object → Left → InputFile → Option Selected → UnderWay → Done
 select_waiting p left f None c = done GoesOn c
 select_waiting p left f (Some s) c =
     compare_levels p left s (with_config (with_type (type_indicator (slice_get p.types s.type))) (with_inputs (with_waiting f None) c))
 
--- where no record waits, LR and all levels go on
+-- where no record waits, LR and all levels turn on
 abbrev pub select_from : Object → Left → Option InputFile → UnderWay → Done
 select_from p left None c = done GoesOn (with_config (λ x. with_all level_indicators true (with_one last_record true x)) c)
 select_from p left (Some f) c = select_waiting p left f (waiting_in c.inputs f) c
@@ -165,7 +165,7 @@ select_from p left (Some f) c = select_waiting p left f (waiting_in c.inputs f) 
 abbrev pub select_one : Object → Left → Phase
 select_one p left = does (λ c. select_from p left (chosen p (waiting_in c.inputs Primary) (waiting_in c.inputs Secondary)) c)
 
--- where LR is on no record is taken in, and L1 to L9 go on
+-- where LR is on no record is taken in, and L1 to L9 turn on
 abbrev pub select_record : Object → Left → Option (List ℕ) → Option (List ℕ) → Phase
 select_record p left primary secondary c =
     either (is_on c.config last_record) (does (λ c. done GoesOn (with_config (with_all level_indicators true) c)))
@@ -197,7 +197,7 @@ total_time p left = total_time_by p left.any left.control
 abbrev pub end_where_last : Phase
 end_where_last = does (λ c. done (if is_on c.config last_record || is_none c.selected then EndOfJob else GoesOn) c)
 
--- ---- 7 all lines of a new page, where the overflow indicator asks for one
+-- ---- 7 all lines of a new page, if the overflow indicator is on
 
 abbrev pub has_no_overflow : Option ℕ → Config → Bool
 has_no_overflow None c = true
@@ -245,7 +245,7 @@ CycleOn p left matches primary secondary =
     before fill_fields p
     before detail_calculations p
 
--- a cycle behind those that selected the earlier records, the last of these first, with the record that is next in each file, or none at
+-- a cycle after those that selected the earlier records, the last of these first, with the record that is next in each file, or none at
 -- its end
 abbrev pub Cycle : Object → List Selected → Option (List ℕ) → Option (List ℕ) → Phase
 Cycle p earlier primary secondary = CycleOn p (left_by p earlier) (has_match p earlier) primary secondary

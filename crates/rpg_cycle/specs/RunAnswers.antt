@@ -1,4 +1,4 @@
--- What `run_records` answers.
+-- What `run_records` returns.
 use Rattle.std.specs.Prelude.{◌≡◌, ℕ, ℤ, List, [], ◌++◌, None, Some, map}
 use Rattle.std.specs.Global.{Vec}
 use Rattle.rpg_cycle_records.specs.Waiting.{unread}

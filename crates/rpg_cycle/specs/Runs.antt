@@ -62,11 +62,11 @@ next_of is_needed rs = if is_needed then first_if_any rs else None
 abbrev pub rest_where_needed : {A : Type 0} → Bool → List A → List A
 rest_where_needed is_needed rs = if is_needed then behind_first rs else rs
 
--- the records that are left behind a cycle
+-- the records that are left after a cycle
 abbrev pub left_behind : Object → Config → Inputs → Records → Records
 left_behind p c i rs = record { primary = rest_where_needed (needs_record p c i Primary) rs.primary; secondary = rest_where_needed (needs_record p c i Secondary) rs.secondary }
 
--- a run of at most so many cycles from a configuration and files, behind earlier records (the last first), over the records that are left
+-- a run of at most so many cycles from a configuration and files, after earlier records (the last first), over the records that are left
 abbrev pub RunsIn : ℕ → Object → List Selected → Records → Config → Inputs → Course → Type 0
 RunsIn zero p earlier rs c i course = ⊥
 RunsIn (suc n) p earlier rs c i course =
@@ -78,7 +78,7 @@ RunsIn (suc n) p earlier rs c i course =
 abbrev pub Runs : Object → List Selected → Records → Config → Inputs → Course → Type 0
 Runs p earlier rs c i course = RunsIn course.cycles p earlier rs c i course
 
--- a line feed behind the last line, where one was placed
+-- a line feed after the last line, where one was placed
 abbrev pub last_feed : List Placed → List ℕ
 last_feed [] = []
 last_feed (x ∷ xs) = 10 ∷ []

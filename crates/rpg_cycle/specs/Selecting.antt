@@ -48,7 +48,7 @@ pub record IsCompared (indicator : Option ℕ) (fs : List ControlField) (text : 
   pub kept : now ≡ renewed fs text 9 bytes
   pub inside : All (IsControlIn (length text)) fs
 
--- a file was asked for a record, and gave this one or none: how that ended, and what waits then, wherever the form is
+-- a file was read and gave this record or none: how that ended, and what waits then, wherever the form is
 pub record HasRead (p : Object) (left : Left) (f : InputFile) (next : Option (List ℕ)) (before : Inputs) (old : Running) (e : PhaseEnd) (new : Running) (after : Inputs) : Type 0 where
   pub config : Config
   pub read : (previous : Option Position) → read_record p left f next (under_way (config_on previous old.config) (unselected before)) ≡ done e (under_way (config_on previous config) (unselected after))
@@ -66,7 +66,7 @@ with_seen levels values l = record l { bytes = seen_levels levels; primary = see
 
 -- ---- the same of what a job keeps, whatever else earlier records left, and whatever the other file has
 
--- a file with this last match value was asked for a record, and gave this one or none
+-- a file with this last match value was read and gave this record or none
 abbrev pub ReadsRecord : Object → InputFile → MatchValue → Option (List ℕ) → KeptFile → Running → PhaseEnd → KeptFile → Running → Type 0
 ReadsRecord p f last next k old e k' new =
     (left : Left) (i : Inputs) → last_of_file left f ≡ seen_value last → input_at i f ≡ input_state_of k

@@ -61,7 +61,7 @@ full_page_weight p = if is_some p.overflow then output_weight p times.Overflow e
 abbrev pub totals_weight : Object → ℕ
 totals_weight p = section_cost p sections.Total + output_weight p times.Total
 
--- the phases behind the selection of a record, or of none
+-- the phases after the selection of a record, or of none
 abbrev pub record_weight : Object → Option ℕ → ℕ
 record_weight p t = totals_weight p + (full_page_weight p + (fields_weight p t + section_cost p sections.Detail))
 

@@ -1,4 +1,4 @@
--- How far a job is: the words, and what the code's answers stand for.
+-- How far a job is, and which stage each result of the code means.
 use Rattle.std.specs.Prelude.{Bool, true, false, Result, Ok, Err}
 use Rattle.rpg_effect.specs.Halts.{halt_number}
 use Rattle.rpg_cycle.specs.Ends.{PhaseEnd, GoesOn, EndOfJob, Halt, Wrong}
@@ -11,7 +11,7 @@ use Rattle.rpg_cycle.specs.declared.ends.Stop.TheVariants as stops
 use Rattle.rpg_cycle.specs.declared.ends.Progress as kept
 use Rattle.rpg_cycle.specs.declared.ends.Progress.TheVariants as progresses
 
--- under way, at its end, or without the memory that a cycle wanted
+-- under way, at its end, or failed for lack of memory
 pub data Stage : Type 0 where
   Going : Stage
   Ended : PhaseEnd → Stage
@@ -40,7 +40,7 @@ abbrev pub job_end : JobEnd → PhaseEnd
 job_end jobs.EndOfJob = EndOfJob
 job_end (jobs.Halt h) = Halt (halt_number h)
 
--- the stage that an answer tells
+-- the stage that a result reports
 abbrev pub told : CycleEnd → Stage
 told answers.GoesOn = Going
 told answers.EndOfJob = Ended EndOfJob
@@ -53,7 +53,7 @@ stage_of progresses.Going = Going
 stage_of (progresses.Ended e) = Ended (job_end e)
 stage_of progresses.Failed = Failed
 
--- of a call that ended the job; nothing of one that goes on, or that found no memory
+-- about a call that ended the job; nothing about one that goes on, or that ran out of memory
 abbrev pub IfStops : {A : Type 0} → Result A Stop → (JobEnd → Type 0) → Type 0
 IfStops (Ok x) P = Unit {0}
 IfStops (Err (stops.Ends e)) P = P e

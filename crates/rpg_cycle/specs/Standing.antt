@@ -1,4 +1,4 @@
--- Where a job stands when a cycle ends, and when a run does.
+-- Where a job is when a cycle ends, and when a run does.
 use Rattle.std.specs.Prelude.{◌≡◌, ℤ, ◌⊎◌, None}
 use Rattle.std.specs.Ordering.{nat_cmp}
 use Rattle.rpg_cycle.specs.Ends.{PhaseEnd, GoesOn, EndOfJob, Halt, Wrong}
@@ -10,8 +10,8 @@ use Rattle.rpg_machine.specs.Laws.{HaltedThere}
 use Rattle.rpg_machine.specs.Run.{running_place}
 use Rattle.rpg_object_program.specs.Object.{Object}
 
--- At the end of calculations; and where it halted, there, or at the instruction whose step halted. So where a job that halted stands at
--- an instruction, that one halted it, and where it stands at none, no instruction did.
+-- At the end of calculations; after a halt there, or at the instruction whose step halted. So if a halted job is at an instruction,
+-- that instruction halted it, and if it is at none, no instruction did.
 abbrev pub StandsRightAtEnd : Object → PhaseEnd → Config → Type 0
 StandsRightAtEnd p GoesOn d = running_place p d ≡ None
 StandsRightAtEnd p EndOfJob d = running_place p d ≡ None

@@ -35,7 +35,7 @@ job_first_world fields = record {
   has_turned_on = false;
 }
 
--- a job's configuration before its first cycle, over these values and current entries: behind detail calculations, as before every other
+-- a job's configuration before its first cycle, over these values and current entries: after detail calculations, as before every other
 abbrev pub job_start : Object → ℤ → Fields nat_cmp → Config
 job_start p date fields = record {
   world = job_first_world (dated date 1 p.fields fields);

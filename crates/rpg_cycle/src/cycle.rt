@@ -20,7 +20,7 @@ use rpg_cycle_records::Kept;
 use rpg_machine::Machine;
 use rpg_store::Store;
 
-/// One cycle, with the record that is next in each file, or none at its end: its nine phases. Answers the selected record's type.
+/// One cycle, with the record that is next in each file, or none at its end: its nine phases. Returns the selected record's type.
 pub(crate) fn run_cycle<S: Store + Drop>(
     machine: &mut Machine<S>,
     kept: &mut Kept,

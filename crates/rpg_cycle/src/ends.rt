@@ -4,14 +4,14 @@ use rpg_effect::halt::Halt;
 use std::alloc::AllocError;
 use thiserror::Error;
 
-/// How a job ended: all that is told of a job that is over.
+/// How a job ended.
 #[derive(Clone, Copy)]
 pub enum JobEnd {
     EndOfJob,
     Halt(Halt),
 }
 
-/// What a cycle led to, as its caller is told of it: `JobEnd` knows only jobs that are over, and a caller asks first whether to go on.
+/// What a cycle led to, as its caller sees it. `JobEnd` covers only jobs that are over, and a caller first tests whether the job goes on.
 #[derive(Clone, Copy)]
 pub enum CycleEnd {
     GoesOn,
@@ -47,7 +47,7 @@ impl From<AllocError> for Stop {
     }
 }
 
-/// Why a job doesn't start. Only its date can be bad, and no cycle can tell of that.
+/// Why a job doesn't start. Only its date can be bad, and no cycle reports that.
 #[derive(Clone, Copy, Debug, Error)]
 pub enum StartFault {
     #[error("the date is not six digits")]

@@ -61,7 +61,7 @@ pub struct Need {
     pub secondary: bool,
 }
 
-/// What a job answers at its stage.
+/// The result of a cycle at a job's stage.
 fn answer_from(progress: Progress) -> CycleEnd
     ensures { told result ≡ stage_of progress }
 {
@@ -174,7 +174,7 @@ impl<'a, S: Store + Drop> Job<'a, S> {
     }
 
     /// Does one cycle, with the record that is next in each file, or with `None` at its end. A record that isn't needed is
-    /// ignored. After an `Err` the job has failed: it answers `Failed` from then on.
+    /// ignored. After an `Err` the job has failed: it returns `Failed` from then on.
     pub fn cycle(
         &mut self,
         primary: Option<&[u8]>,
@@ -190,7 +190,7 @@ impl<'a, S: Store + Drop> Job<'a, S> {
         self.cycle_with_seen(primary, secondary, NOTHING_SEEN)
     }
 
-    /// The same with records of which it was seen that they have characters alone: their bytes aren't tested again.
+    /// The same, where some records are known to have only characters: their bytes aren't tested again.
     #[tactic(auto, using(rpg_effect::proofs::Fronts::grows_not))]
     pub fn cycle_with_seen(
         &mut self,
@@ -258,7 +258,7 @@ impl<'a, S: Store + Drop> Job<'a, S> {
         self.machine.steps()
     }
 
-    /// The place of the instruction that runs: behind a halt, of the one that halted. None where no instruction runs.
+    /// The place of the running instruction, and after a halt of the one that halted. None where no instruction runs.
     pub fn running_place(&self) -> Option<Place>
         ensures { result ≡ running_place self.now.program self.now.config }
     {
@@ -286,7 +286,7 @@ impl<'a, S: Store + Drop> Job<'a, S> {
         self.machine.pending_output()
     }
 
-    /// Drops what was put out, and keeps its room, so that the next cycle allocates nothing for it.
+    /// Drops the output and keeps its room, so that the next cycle allocates nothing for it.
     pub fn clear_output(&mut self)
         ensures { self.new ≡ of.job_taken self.old }
     {

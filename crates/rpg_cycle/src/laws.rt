@@ -37,7 +37,7 @@ pub fn runs_go_by_their_count()
     ensures { RunsGoByTheirCount }
 {}
 
-/// Where a job halts it stands at the instruction that halted it, or, where no instruction did, at the end of calculations.
+/// A job that halts is at the instruction that halted it, or at the end of calculations if no instruction did.
 pub fn runs_stand_right()
     ensures { RunsStandRight }
 {}

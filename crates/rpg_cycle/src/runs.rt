@@ -58,7 +58,7 @@ pub fn run_records(
     })
 }
 
-/// The first of some records, where it is needed, with those behind it.
+/// The first of some records, where it is needed, and the rest.
 fn split_needed(is_needed: bool, records: &[Vec<u8>]) -> (Option<&[u8]>, &[Vec<u8>])
     ensures next { option_map (λ t. t.now) result.0 ≡ next_of is_needed (texts records.now) }
     ensures rest { texts result.1.now ≡ rest_where_needed is_needed (texts records.now) }

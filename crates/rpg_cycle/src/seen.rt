@@ -1,7 +1,6 @@
-//! What was seen of records before a cycle is given them.
+//! What is known about records before a cycle takes them.
 
-/// Of which of the records that stand next it was seen that they have characters alone, 0x20 to 0x7E, so that their bytes aren't tested
-/// a second time.
+/// Which of the next records are known to have only characters, 0x20 to 0x7E, so that their bytes aren't tested a second time.
 #[derive(Clone, Copy)]
 pub struct Seen {
     pub primary: bool,

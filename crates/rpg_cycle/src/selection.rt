@@ -30,7 +30,7 @@ use rpg_store::Store;
 use rpg_verify::Verified;
 use std::alloc::AllocError;
 
-/// L1 to the n-th go on.
+/// L1 to the n-th turn on.
 fn turn_levels_on<S: Store + Drop>(machine: &mut Machine<S>, n: usize)
     requires { n ≤ 9 }
     ensures turned { machine.new ≡ record machine.old { config = lights.with_levels n machine.old.config } }
@@ -61,7 +61,7 @@ fn take_type<S: Store + Drop>(
     }
 }
 
-/// Whether the program can take a record from a file. The bytes of one that was seen to have characters alone aren't tested again.
+/// Whether the program can take a record from a file. The bytes of one that is known to have only characters aren't tested again.
 fn can_take(program: &Verified, file: InputFile, text: &[u8], is_seen: bool) -> bool
     requires { is_seen ≡ true → list_all is_character text.now ≡ true }
     ensures { result ≡ is_good_record program.now file text.now }
@@ -140,7 +140,7 @@ fn take_in<S: Store + Drop>(
     read(program, machine, kept, last, file, text, is_seen)
 }
 
-/// The indicator of a record's type goes on; its control fields are compared with the last bytes of their levels, and kept.
+/// Turns the indicator of a record's type on, compares its control fields with the last bytes of their levels, and keeps them.
 #[inline(always)]
 fn compare_levels<S: Store + Drop>(
     program: &Verified,
@@ -195,7 +195,7 @@ fn select_waiting<S: Store + Drop>(
     Ok(Some(row))
 }
 
-/// Selects one of the records that wait; where none does, LR and L1 to L9 go on.
+/// Selects one of the waiting records; where none waits, LR and L1 to L9 turn on.
 #[inline(always)]
 fn select_one<S: Store + Drop>(
     program: &Verified,
@@ -233,7 +233,7 @@ fn select_one<S: Store + Drop>(
     }
 }
 
-/// 4. Each file that needs one takes a record in, and one is selected, unless LR is on, where L1 to L9 go on.
+/// 4. Each file that needs one takes a record in, and one is selected. If LR is on, L1 to L9 turn on instead.
 pub(crate) fn select_record<S: Store + Drop>(
     program: &Verified,
     machine: &mut Machine<S>,

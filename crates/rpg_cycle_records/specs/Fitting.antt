@@ -1,4 +1,4 @@
--- What the cycle wants of record types: that their columns are those of their file's records, and that there are few.
+-- What the cycle requires of record types: that their columns are those of their file's records, and that there are few.
 use Rattle.std.specs.Prelude.{◌≡◌, ℕ, ◌≤◌, All, List, length, slice_get, true}
 use Rattle.std.specs.Option.{ForSome}
 use Rattle.rpg_cycle_records.specs.Earlier.{file_of}

@@ -12,7 +12,7 @@ had (Some last) bytes = same_bytes last bytes
 abbrev pub is_last : List (Option (List ℕ)) → List ℕ → ControlField → Bool
 is_last last text f = nat_le 1 f.level && had (slice_index_or last (f.level - 1) None) (compared text f)
 
--- each field is alone of its level, and its bytes are the last ones
+-- each field is the only one of its level, and its bytes are the last ones
 abbrev pub are_last : List (Option (List ℕ)) → List ℕ → List ControlField → Bool
 are_last last text [] = true
 are_last last text (f ∷ fs) = not (has_level fs f.level) && (is_last last text f && are_last last text fs)

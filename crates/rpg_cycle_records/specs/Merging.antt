@@ -1,4 +1,4 @@
--- That match values were taken in their order: what makes the last value of each file enough to tell a match.
+-- Match values were taken in order. So the last value of each file is enough to find a match.
 use Rattle.std.specs.Prelude.{◌≡◌, ℕ, Bool, false, not, ◌&&◌, ◌||◌, List, [], ◌∷◌, Option, None, Some, is_none}
 use Rattle.rpg_effect.specs.declared.input.InputFile.{InputFile}
 use Rattle.rpg_effect.specs.declared.input.InputFile.TheVariants.{Primary, Secondary}
@@ -17,7 +17,7 @@ abbrev pub IsTopOf : Object → Option (List ℕ) → List Selected → Type 0
 IsTopOf p v [] = Unit {0}
 IsTopOf p v (s ∷ ss) = IsUpTo v (match_value p s) × IsTopOf p v ss
 
--- a record without a match value stands anywhere
+-- a record without a match value may come anywhere
 abbrev pub IsTopIfAny : Object → Option (List ℕ) → List Selected → Type 0
 IsTopIfAny p None ss = Unit {0}
 IsTopIfAny p (Some v) ss = IsTopOf p (Some v) ss
@@ -31,7 +31,7 @@ IsMerged p (s ∷ ss) = IsTopIfAny p (match_value p s) ss × IsMerged p ss
 abbrev pub is_spent : Object → InputFile → InputState → Bool
 is_spent p f i = is_none i.waiting && (not (has_file p f) || i.is_over)
 
--- the match value that the file has come to
+-- the match value that the file has reached
 abbrev pub front : Object → List Selected → InputFile → InputState → Option (List ℕ)
 front p earlier f i = or_before (last_value p f earlier) (waiting_value p f i.waiting)
 
@@ -40,7 +40,7 @@ abbrev pub IsFromFile : Object → InputFile → Option Selected → Type 0
 IsFromFile p f None = Unit {0}
 IsFromFile p f (Some s) = file_at p s ≡ f
 
--- a file from which records come has come to no lower match value than any that was selected
+-- a file that still has records has reached a match value no lower than any that was selected
 pub record IsFileOrderly (p : Object) (earlier : List Selected) (f : InputFile) (i : InputState) : Type 0 where
   pub own : IsFromFile p f i.waiting
   pub top : is_spent p f i ≡ false → IsTopOf p (front p earlier f i) earlier

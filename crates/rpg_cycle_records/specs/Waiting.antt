@@ -69,7 +69,7 @@ abbrev pub has_match : Object → List Selected → Inputs → Selected → Bool
 has_match p earlier i s =
     any_agrees p (other_file (file_at p s)) (match_value p s) (with_record (waiting_in i (other_file (file_at p s))) earlier)
 
--- what a job that keeps the last values alone can test: the waiting record of the other file, or the last one selected from it, has the
+-- what a job that keeps only the last values can test: the waiting record of the other file, or the last one selected from it, has the
 -- record's match value
 abbrev pub waiting_value : Object → InputFile → Option Selected → Option (List ℕ)
 waiting_value p f None = None

@@ -14,7 +14,7 @@ use rpg_effect::input::InputFile;
 use rpg_verify::Verified;
 use std::alloc::{AllocError, Global};
 
-/// What a job keeps of a file. Its room is made at once, so that a cycle allocates nothing.
+/// What a job keeps of a file. Its room is allocated at the start, so that a cycle allocates nothing.
 #[derive(Drop)]
 pub struct KeptFile {
     /// The row of the waiting record's type, the first being 0, if a record waits.
@@ -50,9 +50,9 @@ impl KeptFile {
         input_length(program, file) != 0 && !self.is_over && self.waiting.is_none()
     }
 
-    /// Takes the match value of the record, which is of a type, the first of which is 0. The record waits, unless its value is lower than
-    /// the file's last one; answers whether it does. It takes memory only where the room of a value is too small; on an error the value
-    /// is of no use.
+    /// Takes the match value of the record, which is of type `row`, counted from 0. The record waits, unless its value is lower than
+    /// the file's last one; returns whether it does. Allocates only where the room of a value is too small; after an error the value is
+    /// unusable.
     #[inline(always)]
     pub fn wait(
         &mut self,

@@ -18,7 +18,7 @@ use std::alloc::{AllocError, Global};
 /// Bytes that the control fields of a level have together, at most.
 const LONGEST_LEVEL: usize = 256;
 
-/// What earlier records left, and the files. Its room is made at once, so that a cycle allocates nothing.
+/// What earlier records left, and the files. Its room is allocated at the start, so that a cycle allocates nothing.
 #[derive(Drop)]
 pub struct Kept {
     /// Whether a cycle selected a record.
@@ -50,7 +50,7 @@ impl Kept {
         })
     }
 
-    /// The record that was taken in last from the file of a type, the first of which is 0. It is filled to its length.
+    /// The record that was taken in last from the file of a type, counted from 0. It is filled to its length.
     pub fn text(&self, program: &Verified, row: usize) -> &[u8]
         requires { row < length program.now.types }
         ensures { result.now ≡ record_in self.now (file_of (slice_get program.now.types row)) }

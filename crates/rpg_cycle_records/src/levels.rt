@@ -37,7 +37,7 @@ fn columns_of(text: &[u8], field: ControlField) -> &[u8]
     &text[field.from as usize - 1..field.to as usize]
 }
 
-/// What is behind a first byte, where it is that one.
+/// What follows a first byte, if it is that one.
 fn behind_one(bytes: &[u8], first: u8) -> Option<&[u8]>
     ensures { option_map (λ r. r.now) result ≡ rest_behind (first ∷ []) bytes.now }
 {
@@ -47,7 +47,7 @@ fn behind_one(bytes: &[u8], first: u8) -> Option<&[u8]>
     }
 }
 
-/// What is behind a control field's bytes, where the bytes begin with them.
+/// What follows a control field's bytes, if the bytes begin with them.
 fn behind<'a>(bytes: &'a [u8], text: &[u8], field: ControlField) -> Option<&'a [u8]>
     requires { IsControlIn (length text.now) field }
     ensures { option_map (λ r. r.now) result ≡ rest_behind (spec.compared text.now field) bytes.now }
@@ -134,7 +134,7 @@ pub struct LastBytes {
     pub bytes: Vec<u8>,
 }
 
-/// Compares a level's bytes with the last ones, and keeps them in their place. Answers whether they differ.
+/// Compares a level's bytes with the last ones, and keeps them in their place. Returns whether they differ.
 fn renew(
     last: &mut LastBytes,
     fields: &[ControlField],
@@ -237,7 +237,7 @@ fn has_last_bytes(levels: &[LastBytes], text: &[u8], field: &ControlField) -> bo
     last.is_known && are_bytes_of(&last.bytes, text, field)
 }
 
-/// Whether each control field is alone of its level and has the last bytes, as in most records.
+/// Whether each control field is the only one of its level and has the last bytes, as in most records.
 #[inline(always)]
 fn are_all_last(levels: &[LastBytes], fields: &[ControlField], text: &[u8]) -> bool
     requires nine { length levels.now ≡ 9 }
@@ -274,7 +274,7 @@ fn renew_all(
     Ok(broken)
 }
 
-/// Compares the levels of a record, which is filled to its length, with the last bytes, L1 first, and keeps the record's. Answers the
+/// Compares the levels of a record, which is filled to its length, with the last bytes, L1 first, and keeps the record's. Returns the
 /// highest level that differs, 1 to 9, 0 for none. It takes memory only where the room of a level's bytes is too small; on an error
 /// some levels may be kept and others not.
 #[inline(always)]

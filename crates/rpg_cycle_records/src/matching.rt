@@ -1,4 +1,4 @@
-//! Match values: of a record, and how they stand to each other.
+//! Match values: of a record, and how they compare.
 ghost use Rattle.std.specs.Prelude.{◌≡◌, ◌++◌, All, OnOk, Some, length};
 ghost use Rattle.rpg_cycle_records.specs.Fitting.{IsControlIn};
 ghost use Rattle.rpg_cycle_records.specs.Keeping.{seen_value};
@@ -35,8 +35,8 @@ impl MatchValue {
         })
     }
 
-    /// The value of a record, which is filled to its length, in the place of another. It takes memory only where the room is too small;
-    /// on an error the value is of no use.
+    /// The value of a record, which is filled to its length, in the place of another. Allocates only where the room is too small; after
+    /// an error the value is unusable.
     #[inline(always)]
     pub fn take(&mut self, fields: &[ControlField], text: &[u8]) -> Result<(), AllocError>
         requires { All (IsControlIn (length text.now)) fields.now }
@@ -96,8 +96,8 @@ impl LastValues {
         })
     }
 
-    /// Keeps the match value of a record of a type, the first of which is 0, as the last one of its file, if the type has match fields. The
-    /// record is filled to its length. It takes memory only where the room is too small; on an error the value is of no use.
+    /// Keeps the match value of a record of a type, counted from 0, as the last one of its file, if the type has match fields. The
+    /// record is filled to its length. Allocates only where the room is too small; after an error the value is unusable.
     #[inline(always)]
     pub fn keep(&mut self, program: &Verified, row: usize, text: &[u8]) -> Result<(), AllocError>
         requires there { row < length program.now.types }

@@ -1,4 +1,4 @@
--- What a spend can lead to, of which `most` is the greatest.
+-- The costs that a spend can lead to. `most` is the greatest of them.
 use Rattle.std.specs.Prelude.{◌≡◌, ℕ, ◌<◌, ◌≤◌, ◌⊎◌, Bool, length}
 use Rattle.rpg_effect.specs.declared.condition.Conditions.{Conditions}
 use Rattle.rpg_effect.specs.declared.operation.Instruction.TheVariants.{Branch}

@@ -1,4 +1,4 @@
--- What a cycle and a run of an accepted program come to.
+-- What a cycle and a run of an accepted program lead to.
 use Rattle.std.specs.Prelude.{◌≡◌, ℕ, ◌+◌, ◌≤◌, ℤ, List, Option}
 use Rattle.std.specs.FinMap as map
 use Rattle.std.specs.Ordering.{nat_cmp}
@@ -17,7 +17,7 @@ use Rattle.rpg_machine.specs.Config.{Config, Output}
 use Rattle.rpg_object_program.specs.Object.{Object}
 use Rattle.rpg_verify.specs.Bound.{bound}
 
--- how a cycle may end: nothing is wrong, it goes on, comes to the end of the job, or halts with a number that is named for it
+-- how a cycle may end: nothing is wrong; it goes on, reaches the end of the job, or halts with a number from 1 to 8
 abbrev pub IsCycleEnd : PhaseEnd → Type 0
 IsCycleEnd GoesOn = Unit {0}
 IsCycleEnd EndOfJob = Unit {0}
@@ -31,7 +31,7 @@ IsJobEnd EndOfJob = Unit {0}
 IsJobEnd (Halt k) = IsCycleEnd (Halt k)
 IsJobEnd (Wrong f) = ⊥
 
--- a cycle ends with values that are what they are to be, with waiting records that are well kept, and within the program's bound; where the job
+-- a cycle ends with values that hold, with waiting records that are well kept, and within the program's bound; where the job
 -- goes on no subroutine runs
 pub record CyclesWell (p : Object) (e : PhaseEnd) (d : UnderWay) : Type 0 where
   pub ending : IsCycleEnd e
@@ -40,7 +40,7 @@ pub record CyclesWell (p : Object) (e : PhaseEnd) (d : UnderWay) : Type 0 where
   pub waiting : AreWaiting p d.inputs
   pub few : d.config.steps ≤ bound p
 
--- there is a cycle, and this is what it comes to
+-- there is a cycle, and this is what it leads to
 pub record HasCycle (p : Object) (earlier : List Selected) (primary secondary : Option (List ℕ)) (c : Config) (i : Inputs) : Type 0 where
   pub ending : PhaseEnd
   pub last : UnderWay
@@ -58,7 +58,7 @@ pub record RunsWell (p : Object) (records : ℕ) (course : Course) : Type 0 wher
   pub cycles : course.cycles ≤ records + 1
   pub few : course.most ≤ bound p
 
--- there is a run, and this is what it comes to
+-- there is a run, and this is what it leads to
 pub record HasRun (p : Object) (date : ℤ) (fields : Fields nat_cmp) (records : Records) : Type 0 where
   pub course : Course
   pub bytes : Bytes

@@ -1,4 +1,4 @@
--- What holds of a configuration all along a run of an accepted program, what a step of it may lead to, and what a section's run may come to.
+-- What holds of a configuration all along a run of an accepted program, what a step of it may lead to, and what a section's run may lead to.
 use Rattle.std.specs.Prelude.{◌≡◌, ◌+◌, ◌*◌, ◌≤◌, true}
 use Rattle.std.specs.FinMap as map
 use Rattle.rpg_effect.specs.Ends.{End, GoesOn, Halt, Wrong}
@@ -38,7 +38,7 @@ StandsWell p (Stop GoesOn d o) = IsSteady p d × (is_end p d ≡ true)
 StandsWell p (Stop (Halt k) d o) = IsNamedEnd (Halt k) × IsSteady p d
 StandsWell p (Stop (Wrong f) d o) = ⊥
 
--- What a run of a section comes to: its end or a halt, with values that are what they are to be. At the section's end no subroutine
+-- What a run of a section leads to: its end or a halt, with values that hold. At the section's end no subroutine
 -- runs. What it took, and all that is left of the allowance can still buy, are at most the cost of the section's first place and what
 -- the allowance could buy before.
 pub record EndsWell (p : Object) (section : Section) (c : Config) (e : End) (d : Config) : Type 0 where
@@ -48,7 +48,7 @@ pub record EndsWell (p : Object) (section : Section) (c : Config) (e : End) (d :
   pub spent : d.allowance ≤ c.allowance
   pub bound : d.steps + d.allowance * most p ≤ c.steps + cost p (record { section = section; number = first_place p section }) + c.allowance * most p
 
--- a section has a run, and this is what it comes to
+-- a section has a run, and this is what it leads to
 pub record HasSectionRun (p : Object) (section : Section) (c : Config) : Type 0 where
   pub ending : End
   pub last : Config

@@ -17,7 +17,7 @@ use Rattle.rpg_paper.specs.Form.{page_or_1}
 use Rattle.rpg_paper.specs.Paper.{Position, bytes_from, last_position_from}
 use Rattle.rpg_verify.specs.Bound.{bound}
 
--- the bytes of an output behind the line placed last: those of the printer and those of the disk
+-- the bytes of an output after the line placed last: those of the printer and those of the disk
 abbrev pub size : Option Position → Output → ℕ
 size previous out = length (bytes_from previous out.lines) + length (disk_bytes out.records)
 
@@ -25,13 +25,13 @@ size previous out = length (bytes_from previous out.lines) + length (disk_bytes 
 abbrev pub bytes_of_step : ℕ
 bytes_of_step = 10000
 
--- the form stands on one of 66 lines, on the page of the line placed last or on one of the two behind it
+-- the form is on one of 66 lines, on the page of the line placed last or on one of the two after it
 pub record StandsNear (previous : Option Position) (here : Position) : Type 0 where
   pub line : here.line ≤ 66
   pub page : here.page ≤ page_or_1 previous + 2
 
--- on the way from one configuration to another no more was put out than the steps between them may put out, and the form stands near
--- the line that was placed last
+-- on the way from one configuration to another no more was put out than the steps between them may put out, and the form is near the
+-- line that was placed last
 pub record PaysForOutput (previous : Option Position) (c d : Config) (out : Output) : Type 0 where
   pub few : size previous out + c.steps * bytes_of_step ≤ d.steps * bytes_of_step
   pub near : StandsNear (last_position_from previous out.lines) d.world.here
@@ -46,7 +46,7 @@ pending j = length j.output.print + length j.output.disk
 
 -- ---- the cycles of a run
 
--- a run's next cycle put this out, behind the line placed last
+-- a run's next cycle put this out, after the line placed last
 abbrev pub IsOfCycle : Object → List Selected → Records → Option Position → Config → Inputs → Option Position → Output → Type 0
 IsOfCycle p earlier rs previous c i last out = (last ≡ previous) × (e : PhaseEnd) × (d : UnderWay) × next_cycle p earlier rs c i (begun p c i) e d out
 

@@ -1,4 +1,4 @@
--- What the laws of cycles and of whole runs say.
+-- What the laws of cycles and of whole runs state.
 use Rattle.std.specs.Prelude.{◌≡◌, ℕ, ◌+◌, ◌*◌, ◌≤◌, ℤ, true, List, Option, Some, length}
 use Rattle.std.specs.FinMap as map
 use Rattle.std.specs.Ordering.{nat_cmp}
@@ -46,7 +46,7 @@ CyclesEndWell =
     → IsProgram p → IsAccepted p → Holds p c.world → c.cells ≡ map.empty → AreWaiting p i
     → Cycle p earlier primary secondary (begun p c i) e d out → CyclesWell p e d
 
--- two cycles from one configuration and its files, behind the same records and with the same ones next, are one
+-- two cycles from one configuration and its files, after the same records and with the same ones next, are one
 abbrev pub CyclesAreOne : Type 0
 CyclesAreOne =
     (p : Object) (earlier : List Selected) (primary secondary : Option (List ℕ)) (c : UnderWay) (e f : PhaseEnd) (x y : UnderWay) (a b : Output)
@@ -98,7 +98,7 @@ RunsStayInOutput =
     → IsProgram p → IsAccepted p → date_in text ≡ Some date → Holds p (job_first_world fields)
     → IsPutInRun p date fields records last out → StaysInOutput p last out
 
--- a job from which all was taken before a cycle holds no more behind it, but for the line feed that ends the job's last line
+-- a job from which all was taken before a cycle holds no more after it, but for the line feed that ends the job's last line
 abbrev pub JobsStayInOutput : Type 0
 JobsStayInOutput =
     (old new : AtWork) (earlier : List Selected) (previous : Option Position) (primary secondary : Option (List ℕ)) (e : PhaseEnd)

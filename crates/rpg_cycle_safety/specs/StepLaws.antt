@@ -1,4 +1,4 @@
--- What the laws of steps and of sections say.
+-- What the laws of steps and of sections state.
 use Rattle.std.specs.Prelude.{◌≡◌, ℕ, All, List, length, true}
 use Rattle.std.specs.FinMap as map
 use Rattle.std.specs.Ordering.{nat_cmp}
@@ -55,7 +55,7 @@ SectionsEndWell =
     → IsProgram p → IsAccepted p → has_end section ≡ true → c.cells ≡ map.empty → Holds p c.world
     → RunsTo p section c e d o → EndsWell p section c e d
 
--- and after any number of steps it stands well
+-- and after any number of steps it is at a good place
 abbrev pub SectionsStandWell : Type 0
 SectionsStandWell =
     (p : Object) (section : Section) (n : ℕ) (c : Config)

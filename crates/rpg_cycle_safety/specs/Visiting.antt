@@ -31,7 +31,7 @@ abbrev pub config_left : Outcome → Config
 config_left (Next c o) = c
 config_left (Stop e c o) = c
 
--- where a section stands after any number of steps
+-- where a section is after any number of steps
 abbrev pub within : Object → Section → Way
 within p s c x = (n : ℕ) × (x ≡ config_left (run p n (at_first p s c.config)))
 
@@ -50,7 +50,7 @@ total_way p left c x =
     (is_bypassed p left.any left.control c.config ≡ false)
     × along (section p sections.Total) (within p sections.Total) (ways_to_end (output p times.Total)) c x
 
--- those of a cycle behind its start
+-- those of a cycle after its start
 abbrev pub phases_way : Object → Left → (Inputs → Selected → Bool) → Option (List ℕ) → Option (List ℕ) → Way
 phases_way p left matches primary secondary =
     detail_lines p
@@ -60,7 +60,7 @@ phases_way p left matches primary secondary =
     onto along (total_time p left) (total_way p left)
     (end_where_last onto overflow_lines p onto show_match matches onto fill_fields p onto within p sections.Detail)
 
--- those of a cycle behind those that selected the earlier records, with the records that are next
+-- those of a cycle after those that selected the earlier records, with the records that are next
 abbrev pub cycle_way : Object → List Selected → Option (List ℕ) → Option (List ℕ) → Way
 cycle_way p earlier primary secondary c x = (x ≡ c.config) ⊎ phases_way p (left_by p earlier) (has_match p earlier) primary secondary c x
 
@@ -68,7 +68,7 @@ cycle_way p earlier primary secondary c x = (x ≡ c.config) ⊎ phases_way p (l
 abbrev pub next_way : Object → List Selected → Records → Config → Inputs → Way
 next_way p earlier rs c i = cycle_way p earlier (next_of (needs_record p c i Primary) rs.primary) (next_of (needs_record p c i Secondary) rs.secondary)
 
--- those of so many cycles of a run from a configuration and files, behind earlier records (the last first), over the records that are left
+-- those of so many cycles of a run from a configuration and files, after earlier records (the last first), over the records that are left
 abbrev pub Visits : ℕ → Object → List Selected → Records → Config → Inputs → Config → Type 0
 Visits zero p earlier rs c i x = ⊥
 Visits (suc n) p earlier rs c i x =

@@ -1,5 +1,5 @@
-//! What every run of an accepted program keeps, said of the definitions alone.
-//! What every cycle and every run of an accepted program comes to, said of the definitions alone.
+//! What every run of an accepted program keeps, as laws of the definitions.
+//! What every cycle and every run of an accepted program leads to, as laws of the definitions.
 #![tactic(auto)]
 
 pub mod run_laws;

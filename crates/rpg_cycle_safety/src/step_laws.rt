@@ -1,4 +1,4 @@
-//! Laws of the definitions: what every run of an accepted program keeps. The functions do nothing: each is called for its contract alone.
+//! Laws of the definitions: what every run of an accepted program keeps. The functions do nothing: they are called only for their contracts.
 ghost use Rattle.std.specs.Prelude.{◌≡◌, ℕ, false};
 ghost use Rattle.std.specs.Ordering.{nat_cmp};
 ghost use Rattle.rpg_effect.specs.World.{World};
@@ -51,7 +51,7 @@ pub fn instructions_keep()
         Keeps p (effect p i w) }
 {}
 
-/// From a steady configuration that is no section's end a step goes on at a steady one, or halts. Nothing is wrong, and the sum of the
+/// From a steady configuration that is no section's end a step continues at a steady one, or halts. Nothing is wrong, and the sum of the
 /// steps and of all that may still come doesn't grow.
 pub fn steps_keep()
     ensures leads { (p : Object) (c : Config) → IsProgram p → IsAccepted p → IsSteady p c → is_end p c ≡ false → StepsWell p (step p c) }
@@ -63,9 +63,9 @@ pub fn most_is_greatest()
     ensures { (p : Object) → IsProgram p → IsGreatestSpend p (most p) }
 {}
 
-/// Detail and total calculations have a run, from any configuration whose values hold and in which no subroutine runs. Each run of theirs
-/// comes to their end or to a halt, in its bound, with values that hold; and after any number of steps it stands at a steady configuration,
-/// at that end or at that halt.
+/// Detail and total calculations have a run, from any configuration whose values hold and in which no subroutine runs. Each such run
+/// reaches their end or a halt, within its bound, with values that hold; after any number of steps it is at a steady configuration, at that
+/// end or at that halt.
 pub fn sections_keep()
     ensures exists { SectionsHaveRuns }
     ensures each { SectionsEndWell }

@@ -9,7 +9,7 @@ use Rattle.rpg_effect.specs.World.{World}
 use Rattle.rpg_effect.specs.declared.form.Kind.{Kind}
 use Rattle.rpg_effect.specs.declared.input.InputField.{InputField}
 
--- how a text stands to zero
+-- how a text compares with zero
 abbrev pub order_of_text : List ℕ → Option Ordering
 order_of_text text = order_of (Text text)
 

@@ -1,4 +1,4 @@
--- What the machine does beside calculations: the lines of a time, and the columns of a record that become values of fields.
+-- What the machine does besides calculations: the lines of a time, and the columns of a record that become values of fields.
 use Rattle.std.specs.Prelude.{◌≡◌, ℕ, List, [], length, slice_get, Option, None, Some}
 use Rattle.std.specs.Option.{option_map_or}
 use Rattle.std.specs.Ordering.{nat_cmp}
@@ -44,7 +44,7 @@ abbrev pub input_fields_of : Option (TypeRow ℕ) → List (InputField ℕ)
 input_fields_of None = []
 input_fields_of (Some t) = t.inputs
 
--- those of a row, the first of which is 0
+-- those of a row, counted from 0
 abbrev pub inputs_at : Object → ℕ → List (InputField ℕ)
 inputs_at p row = input_fields_of (slice_get p.types row)
 

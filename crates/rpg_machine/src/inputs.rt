@@ -36,7 +36,7 @@ fn columns_of(text: &[u8], input: InputField<u16>) -> &[u8]
     &text[usize::from(input.from) - 1..usize::from(input.to)]
 }
 
-/// How a text stands to zero: only that it is blank is shown.
+/// How a text compares with zero: only a blank text has an order.
 fn order_of_text(text: &[u8]) -> Option<Ordering>
     ensures { result ≡ order_of_text text.now }
 {
@@ -92,7 +92,7 @@ fn show_text<S: Store + Drop>(
     memory.show_if_any(shows, order_of_text(text));
 }
 
-/// Puts characters into a field. They are shown first, so that less is kept over the call that copies them.
+/// Puts characters into a field. The indicators are set first, so that fewer values stay live over the call that copies them.
 fn fill_text<S: Store + Drop>(
     memory: &mut Memory<'_, S>,
     input: &InputField<u16>,

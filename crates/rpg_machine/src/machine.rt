@@ -57,7 +57,7 @@ fn line_room(alloc: Global, rows: &Rows) -> Result<Vec<u8>, AllocError>
     Ok(text)
 }
 
-/// What a program starts with: behind detail calculations, as it is before every cycle.
+/// What a program starts with: after detail calculations, as it is before every cycle.
 fn first_state<'a, S: Store + Drop>(
     alloc: Global,
     memory: Memory<'a, S>,
@@ -145,7 +145,7 @@ impl<'a, S: Store + Drop> Machine<'a, S> {
         Ok(end)
     }
 
-    /// Puts out the lines of a time that are asked for.
+    /// Puts out the lines of a time that are due.
     pub fn output(&mut self, time: OutputTime) -> Result<End, AllocError>
         requires ready { IsReady self.old }
         requires steps { self.old.config.steps < 2 ^ 63 }
@@ -162,7 +162,7 @@ impl<'a, S: Store + Drop> Machine<'a, S> {
         Ok(end)
     }
 
-    /// Fills the fields of a record type, the first of which is 0, from a record that has all columns of its file's records.
+    /// Fills the fields of a record type, counted from 0, from a record that has all columns of its file's records.
     #[inline(always)]
     pub fn fill_fields(&mut self, row: usize, text: &[u8]) -> End
         requires ready { IsReady self.old }
@@ -197,7 +197,7 @@ impl<'a, S: Store + Drop> Machine<'a, S> {
         self.state.steps
     }
 
-    /// Where the calculations stand: at the instruction that runs, or behind the last one.
+    /// Where the calculations are: at the running instruction, or after the last one.
     pub fn place(&self) -> Place
         ensures { result ≡ here self.now.config }
     {

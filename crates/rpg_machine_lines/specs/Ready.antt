@@ -2,11 +2,11 @@
 use Rattle.std.specs.Prelude.{◌≡◌, ℕ, ◌-◌, ◌≤◌, List, length, drop, replicate}
 use Rattle.rpg_paper.specs.Paper.{Position}
 
--- at most two pages were begun since the line placed last, as a skip and a space behind it may do; pages are counted from there
+-- at most two pages were begun since the line placed last, as a skip and a space after it may do; pages are counted from there
 abbrev pub IsNear : Position → Type 0
 IsNear here = here.page ≤ 2
 
--- nothing but blanks stands behind that place of the line
+-- only blanks follow that place of the line
 pub record IsBlankBehind (reach : ℕ) (text : List ℕ) : Type 0 where
   pub within : reach ≤ length text
   pub blank : drop reach text ≡ replicate (length text - reach) 32

@@ -36,7 +36,7 @@ fn edit_word(rows: &Rows, constant: u16, digits: u8) -> EditWord
     }
 }
 
-/// Lays a number over the line, edited as its field wants it.
+/// Lays a number over the line, edited as its field requires it.
 #[inline(always)]
 fn lay_number(rows: &Rows, text: &mut [u8], field: &LineField<u16>, form: FieldForm, n: i64)
     requires numeric { IsEditableForm form }

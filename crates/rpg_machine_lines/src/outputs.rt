@@ -42,7 +42,7 @@ pub fn put_details<S: Store + Drop>(
     Ok(End::GoesOn)
 }
 
-/// Total output: T lines. Mostly none of them is asked for, which is found without entering their loop.
+/// Total output: T lines. Mostly none of them is due, which is found without entering their loop.
 pub fn put_totals<S: Store + Drop>(
     memory: &mut Memory<'_, S>,
     output: &mut Output,

@@ -26,7 +26,7 @@ fn move_form<S: Store + Drop>(memory: &mut Memory<'_, S>, line: u8, spaces: u8)
     memory.space(spaces);
 }
 
-/// The form moves, the line is placed without the blanks behind `reach`, the form moves.
+/// Moves the form, places the line without the blanks after `reach`, and moves the form.
 #[tactic(auto, using(crate::proofs::Moving::printing, crate::proofs::Moving::moving), unfolding(rpg_effect::specs::Lines::after_movement))]
 fn print_line<S: Store + Drop>(
     memory: &mut Memory<'_, S>,
@@ -58,7 +58,7 @@ fn append_record(disk: &mut Vec<u8>, text: &[u8]) -> Result<(), AllocError>
     Ok(())
 }
 
-/// A record of the disk, with a line feed behind it.
+/// A record of the disk, with a line feed after it.
 #[tactic(auto, using(rpg_effect::proofs::Printing::record_done))]
 fn write_record<S: Store + Drop>(
     memory: &Memory<'_, S>,

@@ -23,7 +23,7 @@ use rpg_memory::numbers::{number_at, target_of};
 use rpg_memory::resolved::Resolved;
 use rpg_store::store::Store;
 
-/// Stores a number, and lets the indicators follow it.
+/// Stores a number, and sets the indicators by it.
 pub(crate) fn store<S: Store + Drop>(
     memory: &mut Memory<'_, S>,
     to: Entry<u16>,
@@ -104,7 +104,7 @@ fn computed<S: Store + Drop>(
     operated(operator, a, b, target_of(memory, to, half))
 }
 
-/// A number as the target keeps it, with its sign turned where so asked.
+/// A number as the target keeps it, with its sign turned where asked.
 #[inline(always)]
 pub(crate) fn kept_with_sign(is_negated: bool, b: Num, target: Target) -> i64
     ensures value { result ≡ stored_number target.half target.dec target.len (with_decimals (acts.assigned is_negated b.value) b.dec) }
@@ -141,7 +141,7 @@ fn assigned<S: Store + Drop>(
     kept_with_sign(is_negated, b, target_of(memory, to, half))
 }
 
-/// The number, with its sign turned where so asked.
+/// The number, with its sign turned where asked.
 fn signed(is_negated: bool, n: i64) -> i128
     requires { unsigned_abs n < 10 ^ 15 }
     ensures value { result ≡ acts.assigned is_negated n }

@@ -1,4 +1,4 @@
-//! How entries stand to each other, and COMP.
+//! How entries compare, and COMP.
 ghost use Rattle.std.specs.Prelude.{◌≡◌};
 ghost use Rattle.rpg_effect.specs.declared.operation.Action.TheVariants as actions;
 ghost use Rattle.rpg_memory.specs.Fields.{IsResolved};
@@ -16,7 +16,7 @@ use rpg_memory::resolved::Resolved;
 use rpg_store::store::Store;
 use std::cmp::Ordering;
 
-/// How an entry stands to another one of its kind.
+/// How an entry compares with another one of its kind.
 pub fn compared<S: Store + Drop>(
     memory: &Memory<'_, S>,
     kind: Kind,
@@ -36,7 +36,7 @@ pub fn compared<S: Store + Drop>(
     }
 }
 
-/// The indicators show how factor 1 stands to factor 2.
+/// The indicators show how factor 1 compares with factor 2.
 fn show_order<S: Store + Drop>(
     memory: &mut Memory<'_, S>,
     factor1: Resolved,

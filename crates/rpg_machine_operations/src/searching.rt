@@ -45,7 +45,7 @@ fn same_order(a: Ordering, b: Ordering) -> bool
     }
 }
 
-/// Whether the entry at a position of factor 2 stands so to factor 1.
+/// Whether the entry at a position of factor 2 has that order relative to factor 1.
 #[tactic(auto, using(rpg_memory::proofs::Values::other_value))]
 fn stands<S: Store + Drop>(
     memory: &Memory<'_, S>,
@@ -71,7 +71,7 @@ fn stands<S: Store + Drop>(
     same_order(order, compared(memory, factor1.form.kind, other, factor1))
 }
 
-/// The first position, from one to the last, whose entry stands so to factor 1.
+/// The first position, from one to the last, whose entry has that order relative to factor 1.
 fn first_one<S: Store + Drop>(
     memory: &Memory<'_, S>,
     factor1: Resolved,
@@ -95,7 +95,7 @@ fn first_one<S: Store + Drop>(
     None
 }
 
-/// The last position, from one to the last, whose entry stands so to factor 1.
+/// The last position, from one to the last, whose entry has that order relative to factor 1.
 fn last_one<S: Store + Drop>(
     memory: &Memory<'_, S>,
     factor1: Resolved,
@@ -132,7 +132,7 @@ fn start_of(factor2: Resolved) -> u16
     }
 }
 
-/// Of the entries that stand so to factor 1 the first one, of smaller ones the last.
+/// The first of the entries that have that order relative to factor 1; of smaller entries, the last.
 #[tactic(auto, using(crate::proofs::Finding::start_within, rpg_memory::proofs::Values::entries_high))]
 fn nearest<S: Store + Drop>(
     memory: &Memory<'_, S>,
@@ -154,7 +154,7 @@ fn nearest<S: Store + Drop>(
     }
 }
 
-/// The same, where an indicator asks for it.
+/// The same, if an indicator is named for it.
 fn nearest_if_asked<S: Store + Drop>(
     memory: &Memory<'_, S>,
     factor1: Resolved,
@@ -175,7 +175,7 @@ fn nearest_if_asked<S: Store + Drop>(
     }
 }
 
-/// What a search finds: an equal entry first, where it is asked for.
+/// What a search finds: an equal entry first, if an indicator is named for it.
 #[tactic(auto, unfolding(rpg_effect::specs::Act::found_in, rpg_effect::specs::Search::search_of))]
 fn search<S: Store + Drop>(
     memory: &Memory<'_, S>,

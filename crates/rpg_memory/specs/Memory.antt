@@ -1,4 +1,4 @@
--- What a memory stands for.
+-- What a memory represents.
 use Rattle.std.specs.Prelude.{◌≡◌, ℕ, pos, Bool, List, [], ◌∷◌, Option, None, Some, false, is_some, if◌then◌else◌}
 use Rattle.std.specs.FinSet as set
 use Rattle.std.specs.Ordering.{nat_cmp}
@@ -44,7 +44,7 @@ first_world fields = record {
 abbrev pub first_working : Object → Fields nat_cmp → Working
 first_working p fields = record { program = p; last = None; world = first_world fields }
 
--- ---- words on what a memory stands for
+-- ---- words on what a memory represents
 
 -- what it holds of the paper, with its world
 abbrev pub held_of : Working → Held
@@ -53,7 +53,7 @@ held_of w = record { last = w.last; world = w.world }
 abbrev pub forms_in : Working → ℕ → Option FieldForm
 forms_in w field = form_at w.program.fields field
 
--- where the form stands
+-- where the form is
 abbrev pub standing_of : Working → Standing
 standing_of w = record { last = w.last; begun = w.world.here.page; line = w.world.here.line }
 

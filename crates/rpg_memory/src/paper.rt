@@ -65,7 +65,7 @@ impl<'a, S: Store + Drop> Memory<'a, S> {
         self.has_turned_on = false;
     }
 
-    /// Places a line of text where the form stands.
+    /// Places a line of text where the form is.
     pub fn place(&mut self, text: &[u8], print: &mut Vec<u8>) -> Result<(), AllocError>
         ensures bytes { OnOk result (print.new.items ≡ print.old.items ++ way_of (standing_of self.old) ++ trimmed text.now) }
         ensures placed { OnOk result (self.new ≡ behind_line self.old) }

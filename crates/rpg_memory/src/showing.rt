@@ -7,7 +7,7 @@ use crate::indicators::{Indicators, turn_off, turn_on};
 use rpg_effect::operation::Shows;
 use std::cmp::Ordering;
 
-/// The indicator for a result that stands so to zero, or a factor 1 that stands so to factor 2.
+/// The indicator for the order of a result relative to zero, or of factor 1 relative to factor 2.
 fn indicator_for(shows: Shows, order: Ordering) -> Option<u8>
     ensures { result ≡ of.indicator_for shows order }
 {

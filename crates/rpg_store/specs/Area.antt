@@ -26,7 +26,7 @@ bytes_at area at len = take len (drop at area)
 abbrev pub bytes_in : List ℕ → AreaPart → List ℕ
 bytes_in area p = bytes_at area p.at p.len
 
--- the value that a text stands for
+-- the value of a text
 abbrev pub text_value : Kind → List ℕ → Value
 text_value kinds.Number text = Number (spelled_number text)
 text_value kinds.Text text = Text text
@@ -34,7 +34,7 @@ text_value kinds.Text text = Text text
 abbrev pub part_value : List ℕ → AreaPart → Value
 part_value area p = text_value p.kind (bytes_in area p)
 
--- so many entries of a field, one behind the other
+-- so many entries of a field, one after another
 abbrev pub field_parts : Kind → ℕ → ℕ → ℕ → List AreaPart
 field_parts k len at zero = []
 field_parts k len at (suc n) = record { kind = k; at = at; len = len } ∷ field_parts k len (at + len) n
@@ -52,11 +52,11 @@ length_in (Some r) = r.form.length
 abbrev pub start : List Slot → ℕ × ℕ → ℕ
 start slots entry = slot_start (slot_at slots entry.0) + (entry.1 - 1) * length_in (slot_at slots entry.0)
 
--- one lies before the other
+-- one comes before the other
 abbrev pub AreApart : AreaPart → AreaPart → Type 0
 AreApart a b = (a.at + a.len ≤ b.at) ⊎ (b.at + b.len ≤ a.at)
 
--- no part overlaps another, the numbers lie before the texts, and each number is written
+-- no part overlaps another, the numbers come before the texts, and each number is written
 pub record IsArea (ps : List AreaPart) (area : List ℕ) : Type 0 where
   pub inside : (i : ℕ) (a : AreaPart) → slice_get ps i ≡ Some a → a.at + a.len ≤ length area
   pub apart : (i j : ℕ) (a b : AreaPart) → slice_get ps i ≡ Some a → slice_get ps j ≡ Some b → i ≢ j → AreApart a b

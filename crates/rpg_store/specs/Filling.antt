@@ -1,4 +1,4 @@
--- Entries that take values one after the other.
+-- Entries that take values one after another.
 use Rattle.std.specs.Prelude.{◌≡◌, ℕ, ◌+◌, ◌<◌, ◌≤◌, ◌^◌, unsigned_abs, List, [], ◌∷◌, length, slice_get, Option, None, Some}
 use Rattle.std.specs.FinMap as map
 use Rattle.rpg_effect.specs.Forms.{form_at, length_of}

@@ -9,7 +9,7 @@ use Rattle.rpg_object_program.specs.Object.{Object}
 use Rattle.rpg_store.specs.Contents.{by_entry}
 use Rattle.rpg_store.specs.Store.{Currents, Values}
 
--- the values of all fields, one behind the other
+-- the values of all fields, one after another
 abbrev pub joined_values : List (List Value) → List Value
 joined_values values = flat_map (λ vs. vs) values
 

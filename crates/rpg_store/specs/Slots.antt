@@ -1,4 +1,4 @@
--- The table that finds an entry: where the first entry of each field lies, and which entry of a table is current.
+-- The table that finds an entry: where the first entry of each field is, and which entry of a table is current.
 use Rattle.std.specs.Prelude.{◌≡◌, ℕ, zero, suc, slice_get, Option, None, Some, ◌+◌, ◌-◌, List, [], ◌∷◌, map as along, if◌then◌else◌}
 use Rattle.std.specs.FinMap as map
 use Rattle.std.specs.Ordering.{nat_cmp}
@@ -17,7 +17,7 @@ currents_from field (r ∷ rs) = if is_table r.form.class then (field, r.current
 unfoldable pub currents : List Slot → map.FinMap nat_cmp ℕ
 currents slots = map.from_entries (currents_from 1 slots)
 
--- each field's entries lie behind those of the field before; the first one's begin there
+-- each field's entries follow those of the field before; the first one's begin there
 abbrev pub AreInOrder : ℕ → List Slot → Type 0
 AreInOrder at [] = Unit {0}
 AreInOrder at (r ∷ rs) = (r.first ≡ at) × AreInOrder (at + r.form.entries) rs

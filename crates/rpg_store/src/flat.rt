@@ -20,8 +20,8 @@ use rpg_object_program::Program;
 use std::alloc::{AllocError, Global};
 use std::marker::Model;
 
-/// All entries in one area: first the numbers, each as the text that is written for it, then the texts. A text that is lent
-/// has no number behind it, so whatever is said of the bytes written through it, all numbers stay what they are.
+/// All entries in one area: first the numbers, each as the text that is written for it, then the texts. No number comes
+/// after a lent text, so whatever is known of the bytes written through it, all numbers stay as they are.
 #[derive(Drop)]
 pub struct FlatStore {
     slots: Vec<Slot>,

@@ -73,7 +73,7 @@ fn add_texts(alloc: Global, values: &[Value], texts: &mut Vec<Vec<u8>>) -> Resul
     Ok(())
 }
 
-/// The numbers of all fields, one behind the other.
+/// The numbers of all fields, one after another.
 fn numbers_of(alloc: Global, count: usize, values: &[Vec<Value>]) -> Result<Vec<i64>, AllocError>
     ensures { IfOk result (λ ns. ns.items ≡ flat_map (λ us. along number_part (along held us.items)) values.now) }
 {
@@ -84,7 +84,7 @@ fn numbers_of(alloc: Global, count: usize, values: &[Vec<Value>]) -> Result<Vec<
     Ok(numbers)
 }
 
-/// The texts of all fields, one behind the other.
+/// The texts of all fields, one after another.
 fn texts_of(alloc: Global, count: usize, values: &[Vec<Value>]) -> Result<Vec<Vec<u8>>, AllocError>
     ensures { IfOk result (λ ts. along (λ t. t.items) ts.items ≡ flat_map (λ us. along text_part (along held us.items)) values.now) }
 {

@@ -9,7 +9,7 @@ use rpg_object_program::row::Rows;
 use std::alloc::{AllocError, Global};
 use std::marker::Model;
 
-/// Where the entries of each field lie.
+/// Where the entries of each field are.
 #[derive(Drop)]
 pub struct EntryPlaces {
     slots: Vec<Slot>,

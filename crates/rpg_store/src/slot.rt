@@ -1,4 +1,4 @@
-//! The table of fields: where the entries of each lie.
+//! The table of fields: where the entries of each are.
 ghost use Rattle.std.specs.Prelude.{◌≡◌, ◌≤◌, IfOk};
 ghost use Rattle.rpg_store.specs.Contents.{IsEntry};
 ghost use Rattle.rpg_store.specs.Slots.{entries_count, forms_of, slots_from, spot};
@@ -6,7 +6,7 @@ ghost use Rattle.rpg_store.specs.Slots.{entries_count, forms_of, slots_from, spo
 use rpg_effect::form::FieldForm;
 use std::alloc::{AllocError, Global};
 
-/// A field, with the place of its first entry (the others lie behind it) and, of a table, its current entry.
+/// A field, with the place of its first entry (the others follow it) and, of a table, its current entry.
 #[derive(Clone, Copy)]
 pub struct Slot {
     pub form: FieldForm,

@@ -9,7 +9,7 @@ ghost use Rattle.rpg_store.specs.Contents.{IsEntryAt};
 ghost use Rattle.rpg_store.specs.Store.{Values, Currents, IsNumber, IsText, WritesText};
 
 /// The values of fields, and the current entry of each table. Fields and positions count from 1; a field that is no array and
-/// no table has position 1 alone.
+/// no table has only position 1.
 pub trait Store {
     /// The forms of its fields, which never change.
     ghost forms: { Self → List FieldForm };
