@@ -1,5 +1,5 @@
--- What a call says of the readers and the writers that are lent to it: as the call begins they are `entry.now`, and at the return
--- `exit.now`. A reader tells the bytes that it has left by `remaining`, and a writer those that it has by `contents`.
+-- What holds of the readers and the writers that are lent to a call: as the call begins they are `entry.now`, and at the return
+-- `exit.now`. `remaining` is the bytes that a reader has left, and `contents` those that a writer has.
 use denote.Ref.{MutBor}
 use denote.Triple.Both.{Both}
 use Rattle.std.specs.Prelude.{◌≡◌, ℕ, ℤ, List, Option, Some, Result}
@@ -56,7 +56,7 @@ module _ {R S : Type 0} (remaining : R → Option (List ℕ)) (others : S → Op
   abbrev pub JobEndedWell : (object date : List ℕ) → Lent R → Lent S → Report → Type 0
   JobEndedWell object date input secondary report = (p : Object) (day : ℤ) → IsJobOf object date p day → OfReaders input secondary (JobEndsWell p day report)
 
-  -- it is told whose fault it was that there is no report
+  -- the error says whose fault it was that there is no report
   abbrev pub TellsWhoseFault : {P D X : Type 0} → Lent R → Lent S → Lent P → Lent D → Result X RunFault → Type 0
   TellsWhoseFault input secondary print disk result =
       FaultsAre result (remaining (device_of input.entry.now)) (remaining (device_of input.exit.now))
@@ -71,7 +71,7 @@ module _ {R S : Type 0} (remaining : R → Option (List ℕ)) (others : S → Op
       (device_counts (reader_of primary.entry.now) (reader_of secondary.entry.now) print.entry.now disk.entry.now)
       (device_counts (reader_of primary.exit.now) (reader_of secondary.exit.now) print.exit.now disk.exit.now)
 
--- of what waited for a writer that is lent to a call a first part went out
+-- a first part was sent of what waited for a writer that is lent to a call
 abbrev pub GoesOutTo : {W : Type 0} → (W → Option (List ℕ)) → Lent W → (waiting left : List ℕ) → (sent sent' : ℕ) → Type 0
 GoesOutTo contents writer waiting left sent sent' = GoesOut (contents (device_of writer.entry.now)) (contents (device_of writer.exit.now)) waiting left sent sent'
 

@@ -18,8 +18,8 @@ pub record Counts : Type 0 where
 abbrev pub device_counts : {R S P D : Type 0} → (input : Counted R) (secondary : Counted S) (print : Counted P) (disk : Counted D) → Counts
 device_counts input secondary print disk = record { primary = faults_of input; secondary = faults_of secondary; print = faults_of print; disk = faults_of disk }
 
--- A fault of a device is told exactly where its count rose by one, and too many records of a file where its bytes have them. Where memory
--- ran out a writer may have failed over what still went out, which isn't told. No other count rises.
+-- A device's fault is reported exactly if its count rose by one, and too many records of a file only if its bytes have them. Where memory
+-- ran out, a writer may have failed over what was still sent, which isn't reported. No other count rises.
 abbrev pub FaultsAre : {X : Type 0} → Result X RunFault → (given left others rest : Option (List ℕ)) → Counts → Counts → Type 0
 FaultsAre (Err (faults.Print sent)) given left others rest old new = new ≡ record old { print = old.print + 1 }
 FaultsAre (Err (faults.Disk sent)) given left others rest old new = new ≡ record old { disk = old.disk + 1 }

@@ -1,4 +1,4 @@
--- What is said of two inputs of each of which some bytes were read.
+-- What holds of two inputs, some bytes of each of which were read.
 use Rattle.std.specs.Prelude.{◌≡◌, ℕ, ◌<◌, Bool, true, List, ◌++◌, length, Option}
 use Rattle.std.specs.Io.KnownBytes.{Consumes, IsAtEnd}
 use Rattle.rpg_cycle.specs.Runs.{Records}
@@ -12,8 +12,8 @@ pub record WasRead (given left : Option (List ℕ)) : Type 0 where
   pub consumed : Consumes given left read
   pub at_end : ended ≡ true → IsAtEnd left
 
--- Such bytes were read of a primary and of a secondary input, and Fact holds of every two of which each begins with what was read of
--- it; where the end of one was seen, of that one alone.
+-- Such bytes were read of a primary and of a secondary input, and Fact holds of every two inputs that each begin with what was read
+-- of them; where the end of one was seen, only of that one.
 pub record OfInputs (given left others rest : Option (List ℕ)) (Fact : List ℕ → List ℕ → Type 0) : Type 0 where
   pub primary : WasRead given left
   pub secondary : WasRead others rest

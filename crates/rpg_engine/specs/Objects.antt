@@ -1,4 +1,4 @@
--- What is said of the bytes of an object program before it runs: which program they spell, and what is wrong with them.
+-- The bytes of an object program before it runs: which program they spell, and what is wrong with them.
 use Rattle.std.specs.Prelude.{◌≡◌, ℕ, List, Some}
 use Rattle.rpg_object.specs.Program.{first_fault, spelling}
 use Rattle.rpg_object.specs.declared.decoding.DecodeFault.{DecodeFault}
@@ -22,13 +22,13 @@ abbrev pub IsAcceptedWith : ℕ → List ℕ → Type 0
 IsAcceptedWith bound bytes = (p : Object) × SpellsProgram bytes p × IsAccepted p × (bound ≡ verified.bound p)
 
 -- their first fault; or they are those of a program, and this is the least rule that it breaks, with the first row that breaks it;
--- that memory ran out is told of any
+-- that memory ran out may be reported of any
 abbrev pub HasObjectFault : ObjectFault → List ℕ → Type 0
 HasObjectFault (objects.NotAnObject offset code) bytes = first_fault bytes ≡ Some (offset, code)
 HasObjectFault (objects.Refused broken) bytes = (p : Object) × SpellsProgram bytes p × IsLeastBroken p broken
 HasObjectFault objects.NoMemory bytes = Unit {0}
 
--- the same of a program: no fault of bytes is told of it, and memory is wanted for accepted programs alone
+-- the same of a program: it has no fault of bytes, and memory runs out only for accepted programs
 abbrev pub IsRefused : ObjectFault → Object → Type 0
 IsRefused (objects.NotAnObject offset code) p = ⊥
 IsRefused (objects.Refused broken) p = IsLeastBroken p broken

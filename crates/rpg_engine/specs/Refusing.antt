@@ -19,9 +19,9 @@ pub record IsJobOf (object date : List ℕ) (p : Object) (day : ℤ) : Type 0 wh
 abbrev pub MayRun : List ℕ → List ℕ → Type 0
 MayRun object date = (p : Object) × (day : ℤ) × IsJobOf object date p day
 
--- Bytes that are no program are told by their first fault; a program that breaks a rule, by the least one and the first row that
--- breaks it; and of an accepted program, a date that isn't six digits. All else is told of a job that may run; that memory ran
--- out, of any.
+-- Bytes that are no program are reported by their first fault; a program that breaks a rule, by the least one and the first row
+-- that breaks it; with an accepted program, a date that isn't six digits is reported. All else is reported only of a job that
+-- may run; that memory ran out, of any.
 abbrev pub IsToldOf : {X : Type 0} → Result X RunFault → List ℕ → List ℕ → Type 0
 IsToldOf (Ok x) object date = MayRun object date
 IsToldOf (Err (faults.Object fault)) object date = HasObjectFault fault object
@@ -35,7 +35,7 @@ IsToldOf (Err faults.NoMemory) object date = Unit {0}
 abbrev pub HasDay : List ℕ → Type 0
 HasDay date = (day : ℤ) × (date_in date ≡ Some day)
 
--- The same where the program is accepted already: nothing is told of an object.
+-- The same where the program is accepted already: no fault of an object is reported.
 abbrev pub IsToldOfDate : {X : Type 0} → Result X RunFault → List ℕ → Type 0
 IsToldOfDate (Ok x) date = HasDay date
 IsToldOfDate (Err (faults.Object fault)) date = ⊥
@@ -45,7 +45,7 @@ IsToldOfDate (Err (faults.Print sent)) date = HasDay date
 IsToldOfDate (Err (faults.Disk sent)) date = HasDay date
 IsToldOfDate (Err faults.NoMemory) date = Unit {0}
 
--- a fault of the start, as it is told
+-- a fault of the start, as it is reported
 abbrev pub start_fault : StartFault → RunFault
 start_fault starting.BadDate = faults.BadDate
 start_fault starting.NoMemory = faults.NoMemory

@@ -37,7 +37,7 @@ use Rattle.rpg_engine.specs.declared.report.Report.{Report}
 abbrev pub IsRunOver : Object → ℤ → (primary secondary : List ℕ) → Course → Bytes → Type 0
 IsRunOver p day primary secondary course bytes = IsRun p day (first_fields p) (records_of primary secondary) course bytes
 
--- the report is that of the run over the inputs' records, with the place where the run stood at its end, and each writer has all of its bytes
+-- the report is that of the run over the inputs' records, with the place that the run reached at its end, and each writer has all of its bytes
 pub record Reports (p : Object) (day : ℤ) (report : Report) (print print' disk disk' : Option (List ℕ)) (primary secondary : List ℕ) : Type 0 where
   pub course : Course
   pub bytes : Bytes
@@ -71,7 +71,7 @@ abbrev pub EachRunEndsWell : Object → Type 0
 EachRunEndsWell p = (date : List ℕ) (day : ℤ) (rs : Records) (course : Course) (bytes : Bytes) → IsProgram p → IsAccepted p → date_in date ≡ Some day
     → IsRun p day (first_fields p) rs course bytes → RunsWell p (records_count rs) course
 
--- The writer that failed has as many bytes of its output as the fault says, and every other a first part.
+-- The writer that failed has as many bytes of its output as the fault reports, and every other a first part.
 abbrev pub HasParts : RunFault → Option (List ℕ) → Option (List ℕ) → Option (List ℕ) → Option (List ℕ) → Bytes → Type 0
 HasParts (faults.Print sent) print print' disk disk' bytes = AppendsFirst print print' sent bytes.print × AppendsPrefix disk disk' bytes.disk
 HasParts (faults.Disk sent) print print' disk disk' bytes = AppendsPrefix print print' bytes.print × AppendsFirst disk disk' sent bytes.disk
@@ -82,7 +82,7 @@ abbrev pub SendsFirstParts : Object → ℤ → RunFault → (print print' disk 
 SendsFirstParts p day e print print' disk disk' primary secondary =
     (course : Course) (bytes : Bytes) → IsRunOver p day primary secondary course bytes → HasParts e print print' disk disk' bytes
 
--- So many cycles of a run, behind earlier records, went on one after another and put this out; and Then holds of what they led to: the
+-- So many cycles of a run, after earlier records, went on one after another and put this out; Then holds of what they led to: the
 -- earlier records, the records that are left, the configuration and the files.
 abbrev pub GoesOnFor : ℕ → Object → List Selected → Records → Config → Inputs → Output → (List Selected → Records → Config → Inputs → Type 0) → Type 0
 GoesOnFor zero p earlier rs c i out Then = (out ≡ no_output) × Then earlier rs c i
@@ -152,7 +152,7 @@ abbrev pub IsUnread : ReadFault → (all left : List (List ℕ)) → (part more 
 IsUnread reading.Device all left part more = (is_line part ≡ true) × (left ≡ records (part ++ more))
 IsUnread reading.TooMany all left part more = (0 < length left) × (length all ≡ max_records + length left)
 
--- The next cycle needs a record of a file that hadn't been read. The primary's reader is asked first: where it isn't the one that failed, what is
+-- The next cycle needs a record of a file that hadn't been read. The primary's reader is read first: if it isn't the one that failed, what is
 -- needed of its file is known, whatever follows.
 pub record WaitsFor (p : Object) (file : InputFile) (fault : ReadFault) (all left : Records) (c : Config) (i : Inputs) (part more : List ℕ) (known : Option (List ℕ)) : Type 0 where
   pub needed : needs_record p c i file ≡ true

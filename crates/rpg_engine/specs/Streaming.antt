@@ -1,4 +1,4 @@
--- What is asked of two readers for a cycle, and what becomes of its output.
+-- What is required of two readers for a cycle, and what becomes of its output.
 use Rattle.std.specs.Prelude.{◌≡◌, ℕ, ℤ, ◌+◌, ◌<◌, ◌++◌, ◌⊎◌, Bool, true, false, List, [], ◌∷◌, length, Option, None, Some, Result, Ok, Err}
 use Rattle.std.specs.Io.KnownBytes.{Appends}
 use Rattle.rpg_cycle.specs.Job.{AtWork, Cycles, job_needs_record}
@@ -32,22 +32,22 @@ ended_stage (Some e) = Ended (job_end e)
 abbrev pub IsBehindRecord : {R : Type 0} → AtWork → InputFile → RecordReader R → Type 0
 IsBehindRecord job f reader = (input_at job.inputs f).is_over ≡ false → is_record (answer_of reader) ≡ true
 
--- what a cycle is given where a reader answered so: of a bad record, one that no program can take
+-- the record for a cycle, by what a reader returned: for a bad record, one that no program can take
 abbrev pub record_with : {R : Type 0} → RecordReader R → Next → Option (List ℕ)
 record_with reader next.Record = Some (record_of reader)
 record_with reader next.Bad = Some (0 ∷ [])
 record_with reader next.End = None
 
--- a reader answered what stands next where that was needed, and else it was left and there was nothing
+-- a reader returned what comes next if that was needed, and else it wasn't read and there was nothing
 pub record Asks {R : Type 0} (remaining : R → Option (List ℕ)) (is_needed : Bool) (old : RecordReader R) (answer : Result Next ReadFault) (new : RecordReader R) : Type 0 where
   pub needed : is_needed ≡ true → ReadsNext remaining old answer new × (answer_of new ≡ answer)
   pub unneeded : is_needed ≡ false → (answer ≡ Ok next.End) × (new ≡ old)
 
--- no fault of a file can come where it is asked for a record: none is needed of it, or it is certain what comes next
+-- a file can't fail where a record is read from it: none is needed, or it is certain what comes next
 abbrev pub IsSureWhereAsked : {R : Type 0} → Bool → RecordReader R → Type 0
 IsSureWhereAsked is_needed reader = is_needed ≡ true → is_sure reader ≡ true
 
--- a job did a cycle with what the readers of the files that need a record answered
+-- a job did a cycle with what the readers of the files that need a record returned
 pub record TakesCycle {R S : Type 0} (remaining : R → Option (List ℕ)) (others : S → Option (List ℕ)) (job : AtWork) (primary : RecordReader R) (secondary : RecordReader S)
     (job' : AtWork) (primary' : RecordReader R) (secondary' : RecordReader S) : Type 0 where
   pub first : Next
@@ -56,15 +56,15 @@ pub record TakesCycle {R S : Type 0} (remaining : R → Option (List ℕ)) (othe
   pub asks_secondary : Asks others (job_needs_record job Secondary) secondary (Ok second) secondary'
   pub cycles : Cycles job (record_with primary' first) (record_with secondary' second) job'
 
--- a reader was asked where that was needed, and it answered
+-- a reader was read if that was needed, and it returned an answer
 abbrev pub HasAnswered : {R : Type 0} → (R → Option (List ℕ)) → Bool → RecordReader R → RecordReader R → Type 0
 HasAnswered remaining is_needed old new = (answer : Next) × Asks remaining is_needed old (Ok answer) new
 
--- a reader of which a record was needed failed
+-- a reader whose record was needed failed
 abbrev pub FailsToRead : {R : Type 0} → (R → Option (List ℕ)) → Bool → ReadFault → RecordReader R → RecordReader R → Type 0
 FailsToRead remaining is_needed fault old new = (is_needed ≡ true) × ReadsNext remaining old (Err fault) new
 
--- no cycle was done: the primary's reader failed, or then the secondary's; or memory ran out when they had been asked
+-- no cycle was done: the primary's reader failed, or then the secondary's; or memory ran out after they were read
 abbrev pub TakesNone : {R S : Type 0} → (R → Option (List ℕ)) → (S → Option (List ℕ)) → AtWork → RecordReader R → RecordReader S → CycleFault → RecordReader R → RecordReader S → Type 0
 TakesNone remaining others job primary secondary (stops.Read Primary fault) primary' secondary' =
     FailsToRead remaining (job_needs_record job Primary) fault primary primary' × (secondary' ≡ secondary)
@@ -75,14 +75,14 @@ TakesNone remaining others job primary secondary stops.NoMemory primary' seconda
 
 -- ---- its output
 
--- a first part of what waited went out, perhaps none, and was counted
+-- a first part of what waited was sent, perhaps none, and was counted
 pub record GoesOut (old new : Option (List ℕ)) (waiting left : List ℕ) (sent sent' : ℕ) : Type 0 where
   pub front : List ℕ
   pub out : Appends old new front
   pub order : front ++ left ≡ waiting
   pub count : sent' ≡ sent + length front
 
--- what the writers have after bytes were sent in part, and what the fault says of it, so many bytes having gone out before
+-- what the writers have after bytes were sent in part, and the count in the fault, so many bytes having been sent before
 abbrev pub SendsSome : RunFault → ℕ → ℕ → Option (List ℕ) → Option (List ℕ) → Option (List ℕ) → Option (List ℕ) → List ℕ → List ℕ → Type 0
 SendsSome (faults.Print sent) printed stored print print' disk disk' lines records =
     (n : ℕ) × (sent ≡ printed + n) × AppendsFirst print print' n lines × (disk' ≡ disk) × (n < length lines)
@@ -90,12 +90,12 @@ SendsSome (faults.Disk sent) printed stored print print' disk disk' lines record
     (n : ℕ) × (sent ≡ stored + n) × Appends print print' lines × AppendsFirst disk disk' n records × (n < length records)
 SendsSome e printed stored print print' disk disk' lines records = ⊥
 
--- all bytes went out that waited, unless a writer failed
+-- all waiting bytes were sent, unless a writer failed
 abbrev pub GoesOutUnless : (none_failed : Type 0) → Option (List ℕ) → Option (List ℕ) → Option (List ℕ) → Option (List ℕ) → List ℕ → List ℕ → Type 0
 GoesOutUnless none_failed print print' disk disk' lines records =
     AppendsPrefix print print' lines × AppendsPrefix disk disk' records × (none_failed → Appends print print' lines × Appends disk disk' records)
 
--- what is told of a cycle that wasn't done, and what the writers have then of the bytes that waited; a reader's fault is told at once
+-- the fault reported of a cycle that wasn't done, and what the writers then have of the bytes that waited; a reader's fault is reported at once
 abbrev pub StopsBy : CycleFault → RunFault → (none_failed : Type 0) → Option (List ℕ) → Option (List ℕ) → Option (List ℕ) → Option (List ℕ) → List ℕ → List ℕ → Type 0
 StopsBy (stops.Read file fault) e none_failed print print' disk disk' lines records = (e ≡ faults.Read file fault) × (print' ≡ print) × (disk' ≡ disk)
 StopsBy stops.NoMemory e none_failed print print' disk disk' lines records = (e ≡ faults.NoMemory) × GoesOutUnless none_failed print print' disk disk' lines records

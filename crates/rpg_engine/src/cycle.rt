@@ -1,4 +1,4 @@
-//! The next cycle of a job, with what stands next in its files.
+//! The next cycle of a job, with what comes next in its files.
 
 ghost use Rattle.std.specs.Prelude.{◌≡◌, ◌-◌, ◌^◌, ◌<◌, ◌≤◌, IfErr, IfOk, IsOk, Ok, OnOk, true};
 ghost use Rattle.std.specs.Option.{option_map};
@@ -23,7 +23,7 @@ use std::io::Read;
 /// What a bad record is to a cycle: one that no program can take.
 const BAD_RECORD: &[u8] = &[0];
 
-/// Does a cycle of a job that goes on, and answers how the job ended, if it did.
+/// Does a cycle of a job that goes on, and returns how the job ended, if it did.
 fn cycle_with<S: Store + Drop>(
     job: &mut Job<'_, S>,
     primary: Option<&[u8]>,
@@ -47,7 +47,7 @@ fn cycle_with<S: Store + Drop>(
     }
 }
 
-/// What stands next in a file, where it is needed; else nothing is read of it.
+/// What comes next in a file, if it is needed; else nothing is read from it.
 fn ask<R: Read>(records: &mut RecordReader<'_, R>, is_needed: bool) -> Result<Next, ReadFault>
     requires faults { faults_of (reader_of records.old) < 2 ^ 64 - 1 }
     requires behind_record { is_needed ≡ true → is_record (answer_of records.old) ≡ true }
@@ -62,7 +62,7 @@ fn ask<R: Read>(records: &mut RecordReader<'_, R>, is_needed: bool) -> Result<Ne
     }
 }
 
-/// The record for a cycle, where this stands next.
+/// The record for a cycle, where this comes next.
 fn record_for<'a, R>(records: &'a RecordReader<'_, R>, next: Next) -> Option<&'a [u8]>
     ensures { option_map (λ t. t.now) result ≡ record_with records.now next }
 {
@@ -73,14 +73,14 @@ fn record_for<'a, R>(records: &'a RecordReader<'_, R>, next: Next) -> Option<&'a
     }
 }
 
-/// Whether a reader has given a record: then it has seen that this has characters alone.
+/// Whether a reader has given a record: then it is known to have only characters.
 fn is_given(next: Next) -> bool
     ensures { result ≡ is_record (Ok next) }
 {
     matches!(next, Next::Record)
 }
 
-/// Does the next cycle, and answers how the job ended, if it did. A record is read of each file that the cycle needs one from, of the
+/// Does the next cycle, and returns how the job ended, if it did. A record is read of each file that the cycle needs one from, of the
 /// primary's reader first.
 pub(crate) fn next_cycle<S: Store + Drop, R1: Read, R2: Read>(
     job: &mut Job<'_, S>,

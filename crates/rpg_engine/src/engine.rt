@@ -26,7 +26,7 @@ use std::alloc::Global;
 use std::io::{Read, Write};
 
 /// An accepted program has a run over any records of both files, on any date, from its first values; and each such run ends well. It does
-/// nothing: it is called for its contract alone.
+/// nothing: it is called only for its contract.
 fn runs_end_well()
     ensures exists { (p : Object) → HasRunOnAnyDay p }
     ensures each { (p : Object) → EachRunEndsWell p }
@@ -50,12 +50,12 @@ fn first_job<'a>(
     Job::start_in(alloc, program, date, memory)
 }
 
-/// Runs an accepted program over the records of a primary and of a secondary input, on a date of six digits, and sends what it prints
-/// and what it writes to the disk file.
+/// Runs an accepted program over the records of a primary and of a secondary input, on a date of six digits, and sends what it prints and
+/// what it writes to the disk file.
 ///
 /// The date is read before anything else is. Then a record is read of each file that the cycle needs one from, of the primary first, and
-/// its output waits until it comes to 32 KiB for a writer; all that waits is sent before a reader is asked for more, where memory runs out,
-/// and at the end, the printer's first. The memory that is taken doesn't grow with the number of records.
+/// its output waits until there are 32 KiB for a writer. All waiting output is sent before a call of a reader, when memory runs out, and at
+/// the end, the printer's first. Memory use doesn't grow with the number of records.
 pub fn execute_program<R1: Read, R2: Read, W1: Write, W2: Write>(
     alloc: Global,
     program: &Verified,
@@ -70,7 +70,7 @@ pub fn execute_program<R1: Read, R2: Read, W1: Write, W2: Write>(
     requires print { faults_of print.old < 2 ^ 64 - 1 }
     requires disk { faults_of disk.old < 2 ^ 64 - 1 }
 
-    // A date that is none is told.
+    // A date that is no date is reported.
     ensures refused { IsToldOfDate result date.now }
     // Then nothing is read and nothing written; and the secondary input is never read where the program has no such file.
     ensures untouched { date_in date.now ≡ None → (input.new ≡ input.old) × (secondary.new ≡ secondary.old) × (print.new ≡ print.old) × (disk.new ≡ disk.old) }
@@ -83,7 +83,7 @@ pub fn execute_program<R1: Read, R2: Read, W1: Write, W2: Write>(
     // Where it stops early each writer has a first part of the run's output, the printer before the disk file; and where a reader failed the job
     // had sent all that was put out, and waited for a record of that reader's file.
     ensures early { IfErr result (SendsPartsOn R1.remaining R2.remaining W1.contents W2.contents program.now date.now input secondary print disk) }
-    // It is told whose fault that was.
+    // The error says whose fault that was.
     ensures faults { TellsWhoseFault R1.remaining R2.remaining input secondary print disk result }
 {
     runs_end_well();
@@ -109,7 +109,7 @@ pub fn execute_program<R1: Read, R2: Read, W1: Write, W2: Write>(
 /// Runs an object program over the records of a primary and of a secondary input, on a date of six digits, and sends what it prints and
 /// what it writes to the disk file.
 ///
-/// The object is decoded and verified, and the date read, before anything else is read. Then it runs as `execute_program` says.
+/// The object is decoded and verified, and the date read, before anything else is read. Then it runs as `execute_program` describes.
 pub fn execute<R1: Read, R2: Read, W1: Write, W2: Write>(
     alloc: Global,
     object: &[u8],
@@ -138,7 +138,7 @@ pub fn execute<R1: Read, R2: Read, W1: Write, W2: Write>(
     // Where it stops early each writer has a first part of the run's output, the printer before the disk file; and where a reader failed the job
     // had sent all that was put out, and waited for a record of that reader's file.
     ensures early { IfErr result (SendsPartsOfJob R1.remaining R2.remaining W1.contents W2.contents object.now date.now input secondary print disk) }
-    // It is told whose fault that was.
+    // The error says whose fault that was.
     ensures faults { TellsWhoseFault R1.remaining R2.remaining input secondary print disk result }
 {
     runs_end_well();

@@ -18,9 +18,9 @@ pub enum RunFault {
     BadDate,
     /// The reader of a file failed, or the file has more than 10,000,000 records.
     Read { file: InputFile, fault: ReadFault },
-    /// The printer failed when this many bytes had gone out.
+    /// The printer failed after this many bytes were written.
     Print { sent: u128 },
-    /// The disk file failed when this many bytes had gone out.
+    /// The disk file failed after this many bytes were written.
     Disk { sent: u128 },
     NoMemory,
 }

@@ -1,4 +1,4 @@
-//! The engine: from object bytes to what the verifier says of them, and from these and input bytes to the report and the output bytes,
+//! The engine: from object bytes to the verifier's result, and from these and input bytes to the report and the output bytes,
 //! a record at a time.
 #![tactic(auto)]
 

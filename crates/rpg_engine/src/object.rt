@@ -1,4 +1,4 @@
-//! The bytes of an object program, and what the verifier says of it.
+//! The bytes of an object program, and the verifier's result for it.
 
 ghost use Rattle.std.specs.Prelude.{◌≡◌, nat_lt, IfErr, IfOk};
 ghost use Rattle.rpg_object_program.specs.Object.{Object};

@@ -17,8 +17,8 @@ use rpg_files::{Counted, RecordReader};
 use rpg_store::Store;
 use std::io::{Read, Write};
 
-/// Does the cycles of a job that hasn't begun, up to the one that ends it, and sends their output: where it comes to 32 KiB, before a
-/// device is asked for records, and at the end.
+/// Does the cycles of a job that hasn't begun, up to the one that ends it, and sends their output: where there are 32 KiB, before a
+/// device is read, and at the end.
 pub(crate) fn run<S: Store + Drop, R1: Read, R2: Read, W1: Write, W2: Write>(
     job: &mut Job<'_, S>,
     primary: &mut RecordReader<'_, R1>,

@@ -1,4 +1,4 @@
-//! What a run puts out, on its way to the writers: it waits at the job, so that a writer is called for many cycles at a time.
+//! What a run puts out, on its way to the writers. It waits in the job, so that a writer is called once for many cycles.
 
 ghost use Rattle.std.specs.Prelude.{◌≡◌, ◌+◌, ◌-◌, ◌^◌, ◌<◌, ◌≤◌, ◌⊎◌, length, take, true, OnOk, IfErr};
 ghost use Rattle.std.specs.Io.KnownBytes.{Appends};
@@ -17,7 +17,7 @@ use std::io::{Read, Write};
 /// How many bytes of a file wait before they are sent.
 const ENOUGH: usize = 32_768;
 
-/// How many bytes have gone out to each writer.
+/// How many bytes were written to each writer.
 #[derive(Clone, Copy)]
 pub(crate) struct Sent {
     pub print: u128,
@@ -111,8 +111,8 @@ fn is_sure<R: Read>(records: &RecordReader<'_, R>, is_needed: bool) -> bool
     !is_needed || records.is_sure()
 }
 
-/// Sends what waits where a reader may fail in the next cycle: then its fault is told behind all that was put out before, and no other
-/// device's can follow it.
+/// Sends what waits if a reader may fail in the next cycle. So all earlier output is sent before the reader's fault is reported, and
+/// no other device can fail after it.
 #[inline(always)]
 pub(crate) fn send_before_reading<S: Store + Drop, R1: Read, R2: Read, W1: Write, W2: Write>(
     job: &mut Job<'_, S>,
@@ -142,7 +142,7 @@ pub(crate) fn send_before_reading<S: Store + Drop, R1: Read, R2: Read, W1: Write
     send_waiting(job, print, disk, sent)
 }
 
-/// Sends what waits once enough of it does, or behind the last cycle.
+/// Sends what waits once there is enough of it, or after the last cycle.
 #[inline(always)]
 pub(crate) fn send_where_enough<S: Store + Drop, W1: Write, W2: Write>(
     job: &mut Job<'_, S>,
@@ -171,7 +171,7 @@ pub(crate) fn send_where_enough<S: Store + Drop, W1: Write, W2: Write>(
     send_waiting(job, print, disk, sent)
 }
 
-/// Sends bytes to the printer, and then bytes to the disk file, unless the printer fails. Whether one failed isn't told.
+/// Sends bytes to the printer, and then bytes to the disk file, unless the printer fails. Failures are ignored.
 fn send_or_leave<W1: Write, W2: Write>(
     print: &mut Counted<W1>,
     disk: &mut Counted<W2>,
@@ -189,8 +189,8 @@ fn send_or_leave<W1: Write, W2: Write>(
     let _told = send_both(print, disk, lines, records, &mut sent);
 }
 
-/// What is told where a cycle wasn't done. Where memory ran out what waited before that cycle still goes out, and a writer that fails then
-/// isn't told: memory ran out before. Where a reader failed nothing was left that waits.
+/// The fault to report where a cycle wasn't done. Where memory ran out, what waited before that cycle is still sent, and a writer that
+/// fails then isn't reported: memory ran out first. Where a reader failed, nothing was left waiting.
 #[inline(never)]
 pub(crate) fn fault_behind<W1: Write, W2: Write>(
     fault: CycleFault,

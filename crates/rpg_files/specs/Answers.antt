@@ -1,4 +1,4 @@
--- All answers of a reader of records, over a whole input.
+-- All results of a reader of records, over a whole input.
 use Rattle.std.specs.Prelude.{◌≡◌, ℕ, ◌+◌, Bool, true, false, nat_lt, if◌then◌else◌, List, [], ◌∷◌, ◌++◌, length, take, take_while, Some, Result, Ok, Err}
 use Rattle.std.specs.List.{list_all}
 use Rattle.rpg_files.specs.Records.{records, is_good, max_records}
@@ -12,12 +12,12 @@ use Rattle.rpg_files.specs.declared.reader.ReadFault.TheVariants as fault
 abbrev pub given_records : ℕ → List (List ℕ) → List (List ℕ)
 given_records limit rs = take_while (is_good limit) (take max_records rs)
 
--- what is answered behind them
+-- the result after them
 abbrev pub last_answer : ℕ → List (List ℕ) → Result Next ReadFault
 last_answer limit rs =
     if list_all (is_good limit) (take max_records rs) then (if nat_lt max_records (length rs) then Err fault.TooMany else Ok next.End) else Ok next.Bad
 
--- an input of these bytes, none of which was read yet
+-- an input of these bytes, none of which has been read
 abbrev pub input_with : List ℕ → Input
 input_with bytes = record { buffered = []; ended = false; remaining = Some bytes }
 
@@ -32,14 +32,14 @@ abbrev pub FirstAnswersAreRecords : Type 0
 FirstAnswersAreRecords = (limit : ℕ) (bytes : List ℕ) (rs : List (List ℕ)) (new : Input) → GivesAll limit 0 rs (input_with bytes) new
     → (more : List (List ℕ)) × (given_records limit (records bytes) ≡ rs ++ more)
 
--- a device that failed tells nothing of what follows
+-- the device failed, so what follows is unknown
 abbrev pub is_device_fault : Result Next ReadFault → Bool
 is_device_fault (Ok x) = false
 is_device_fault (Err fault.Device) = true
 is_device_fault (Err fault.TooMany) = false
 
--- However reads are cut, the records that were given before the first other answer are all of the input's, and that answer
--- is the one that belongs behind them, unless the device failed.
+-- However reads are cut, the records that were given before the first other result are all of the input's, and that result
+-- is the right one after them, unless the device failed.
 abbrev pub AnswersAreRecords : Type 0
 AnswersAreRecords = (limit : ℕ) (bytes : List ℕ) (rs : List (List ℕ)) (mid new : Input) (r : List ℕ) (last : Result Next ReadFault)
     → GivesAll limit 0 rs (input_with bytes) mid → Advances mid new (GivesNext limit (length rs) r last) → is_record last ≡ false → is_device_fault last ≡ false

@@ -15,6 +15,6 @@ abbrev pub faults_after : {X E : Type 0} → ℕ → Result X E → ℕ
 faults_after n (Ok x) = n
 faults_after n (Err e) = n + 1
 
--- how often a device is asked for one read or one write: once, and again where it was interrupted, 999 times running
+-- how often one read or one write is tried: once, and again where it was interrupted, 999 more times in a row
 abbrev pub max_tries : ℕ
 max_tries = 1000

@@ -1,10 +1,10 @@
--- The next line of an input of which some bytes were read.
+-- The next line of an input, some bytes of which were read.
 use Rattle.std.specs.Prelude.{◌≡◌, ℕ, ◌<◌, ◌≤◌, Bool, true, false, List, [], ◌∷◌, ◌++◌, length, take, drop}
 use Rattle.rpg_files.specs.Records.{records, is_good, BeginsBad}
 use Rattle.rpg_files.specs.declared.input.NextLine.{NextLine}
 use Rattle.rpg_files.specs.declared.input.NextLine.TheVariants as next
 
--- what may stand behind the bytes that were read: nothing where the end of the input was seen
+-- what may follow the bytes that were read: nothing where the end of the input was seen
 abbrev pub CanFollow : Bool → List ℕ → Type 0
 CanFollow ended more = ended ≡ true → more ≡ []
 

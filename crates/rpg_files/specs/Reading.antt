@@ -36,7 +36,7 @@ limit_of r = r.limit
 abbrev pub count_of : {R : Type 0} → RecordReader R → ℕ
 count_of r = r.count
 
--- what it answered last
+-- its last result
 abbrev pub answer_of : {R : Type 0} → RecordReader R → Result Next ReadFault
 answer_of r = r.answer
 
@@ -49,7 +49,7 @@ abbrev pub has_ended : {R : Type 0} → RecordReader R → Bool
 has_ended r = r.is_ended
 
 -- what is still to come of an input: the bytes that were read and not yet given, whether the end was seen, and what the
--- device has left, where it tells its bytes
+-- device has left, where its bytes are known
 pub record Input : Type 0 where
   pub buffered : List ℕ
   pub ended : Bool
@@ -71,8 +71,8 @@ is_record (Ok next.Bad) = false
 is_record (Ok next.End) = false
 is_record (Err e) = false
 
--- With so many records before, a call gave this record and this answer: these bytes were to come before it, and these
--- are to come behind it.
+-- With so many records before, a call gave this record and this result: these bytes were still to come before the
+-- call, and these after it.
 abbrev pub GivesNext : ℕ → ℕ → List ℕ → Result Next ReadFault → List ℕ → List ℕ → Type 0
 GivesNext limit count record_bytes (Ok next.Record) old new = (count < max_records) × (is_good limit record_bytes ≡ true) × (records old ≡ record_bytes ∷ records new)
 GivesNext limit count record_bytes (Ok next.Bad) old new = (count < max_records) × BeginsBad limit old
@@ -80,7 +80,7 @@ GivesNext limit count record_bytes (Ok next.End) old new = (old ≡ []) × (new 
 GivesNext limit count record_bytes (Err fault.TooMany) old new = (count ≡ max_records) × (0 < length old)
 GivesNext limit count record_bytes (Err fault.Device) old new = old ≡ new
 
--- Some bytes were read behind the buffered ones, none once the end was seen. Whatever follows these, Fact holds of all the
+-- Some bytes were read after the buffered ones, none once the end was seen. Whatever follows these, Fact holds of all the
 -- bytes that were to come before and of those that are to come now.
 pub record Advances (old new : Input) (Fact : List ℕ → List ℕ → Type 0) : Type 0 where
   pub read : List ℕ
@@ -102,7 +102,7 @@ device_faults_after n (Ok x) = n
 device_faults_after n (Err fault.Device) = n + 1
 device_faults_after n (Err fault.TooMany) = n
 
--- a call of `next` behind a record; where the device failed no whole line waits
+-- a call of `next` after a record; where the device failed no whole line waits
 pub record ReadsNext {R : Type 0} (remaining : R → Option (List ℕ)) (old : RecordReader R) (answer : Result Next ReadFault) (new : RecordReader R) : Type 0 where
   pub limit : limit_of new ≡ limit_of old
   pub count : count_of new ≡ count_after (count_of old) answer

@@ -13,7 +13,7 @@ abbrev pub onto_first : ℕ → List (List ℕ) → List (List ℕ)
 onto_first b [] = (b ∷ []) ∷ []
 onto_first b (record_bytes ∷ rest) = (b ∷ record_bytes) ∷ rest
 
--- A line feed ends a record, and one carriage return before it is dropped. What stands behind the last line feed is a
+-- A line feed ends a record, and one carriage return before it is dropped. What follows the last line feed is a
 -- record where it isn't empty.
 abbrev pub records : List ℕ → List (List ℕ)
 records [] = []

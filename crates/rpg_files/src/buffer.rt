@@ -57,7 +57,7 @@ impl Buffer {
         self.start += n;
     }
 
-    /// Moves the bytes to the front of the room, and reads some behind them: none where the input ends.
+    /// Moves the bytes to the front of the room, and reads some after them: none where the input ends.
     pub fn fill<R: Read>(&mut self, reader: &mut Counted<R>) -> Result<usize, DeviceFault>
         requires faults { faults_of reader.old < 2 ^ 64 - 1 }
         requires room { length (left_in self.old) < capacity_of self.old }
@@ -75,7 +75,7 @@ impl Buffer {
     }
 }
 
-/// Moves `len` bytes from `start` on to the front, and reads some behind them.
+/// Moves `len` bytes from `start` on to the front, and reads some after them.
 fn refill<R: Read>(
     reader: &mut Counted<R>,
     buf: &mut [u8],
@@ -107,7 +107,7 @@ fn move_to_front(buf: &mut [u8], start: usize, len: usize)
     }
 }
 
-/// Reads some bytes behind the first `len`.
+/// Reads some bytes after the first `len`.
 fn read_behind<R: Read>(
     reader: &mut Counted<R>,
     buf: &mut [u8],

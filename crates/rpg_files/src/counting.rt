@@ -7,7 +7,7 @@ ghost use Rattle.rpg_files.specs.Counting.{faults_after, device_of, faults_of, m
 use std::io;
 use std::io::{ErrorKind, Read, Write};
 
-/// How often a device is asked for one read or one write. Where it was interrupted each time, the read or the write has failed.
+/// How often one read or one write is tried. If it was interrupted each time, it has failed.
 pub fn most_tries() -> u32
     ensures { result ≡ max_tries }
 {

@@ -1,4 +1,4 @@
-//! What stands at the front of some bytes: a record, a bad one, or neither yet.
+//! The front of some bytes: a record, a bad one, or neither yet.
 
 ghost use Rattle.std.specs.Prelude.{◌≡◌, ◌+◌, ◌<◌, ◌≤◌, false, length, slice_index, take, true};
 ghost use Rattle.std.specs.List.{list_all};
@@ -7,19 +7,19 @@ ghost use Rattle.rpg_files.specs.FirstLine.{IsFirstLine};
 
 use rpg_text::{has_only_characters, is_character};
 
-/// What stands at the front of some bytes.
+/// The front of some bytes.
 #[derive(Clone, Copy)]
 pub(crate) enum FirstLine {
     /// A record of `len` bytes, `line_len` with the end of its line.
     Record { len: usize, line_len: usize },
     /// A record that no program can take.
     Bad,
-    /// The line has no end yet: its first `scanned` bytes are characters, and only a carriage return may stand behind
+    /// The line has no end yet: its first `scanned` bytes are characters, and only a carriage return may follow
     /// them.
     Incomplete { scanned: usize },
 }
 
-/// How many bytes are characters before the first that is none. Behind `limit` bytes, as no record goes on, they are tested one by one.
+/// How many bytes are characters before the first that isn't one. After `limit` bytes, which no record exceeds, they are tested one by one.
 fn characters(bytes: &[u8], limit: usize) -> usize
     ensures within { result ≤ length bytes.now }
     ensures all { list_all is_character (take result bytes.now) ≡ true }
@@ -33,7 +33,7 @@ fn characters(bytes: &[u8], limit: usize) -> usize
     at
 }
 
-/// As many characters as stand before the first sixteen bytes that aren't all characters.
+/// The number of characters before the first sixteen bytes that aren't all characters.
 fn characters_by_sixteen(bytes: &[u8]) -> usize
     ensures within { result ≤ length bytes.now }
     ensures all { list_all is_character (take result bytes.now) ≡ true }
@@ -70,7 +70,7 @@ fn line_ended_at(bytes: &[u8], len: usize, limit: usize) -> FirstLine
     }
 }
 
-/// What stands at the front of the bytes, the first `scanned` of which are known to be characters.
+/// The front of the bytes, the first `scanned` of which are known to be characters.
 #[inline(always)]
 pub(crate) fn first_line(bytes: &[u8], scanned: usize, limit: usize) -> FirstLine
     requires inside { scanned ≤ length bytes.now }

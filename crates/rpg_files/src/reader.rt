@@ -16,7 +16,7 @@ const READ_ROOM: usize = 65_536;
 /// The most records of an input.
 const MAX_RECORDS: u32 = 10_000_000;
 
-/// What stands next in an input.
+/// What comes next in an input.
 #[derive(Clone, Copy)]
 pub enum Next {
     /// A record, which `record` lends until the next call.
@@ -111,7 +111,7 @@ impl<'a, R> RecordReader<'a, R> {
         }
     }
 
-    /// The reader itself, behind all that was read of it.
+    /// The reader itself, after all that was read from it.
     pub fn into_reader(self) -> &'a mut Counted<R>
         ensures same_reader { result.ghost_name ≡ self.entry.reader.ghost_name }
         ensures now { result.now ≡ reader_of self.entry }
@@ -132,7 +132,7 @@ impl<'a, R: Read> RecordReader<'a, R> {
     ghost use Rattle.rpg_files.specs.Counting.{faults_of};
     ghost use Rattle.rpg_files.specs.Reading.{ReadsNext, answer_of, is_record, is_sure, reader_of};
 
-    /// Whether it is certain that no fault comes next, since the reader needn't be asked.
+    /// Whether it is certain that no fault comes next, since the reader needn't be called.
     #[inline(always)]
     pub fn is_sure(&self) -> bool
         ensures { result ≡ is_sure self.now }
@@ -141,7 +141,7 @@ impl<'a, R: Read> RecordReader<'a, R> {
             && (self.is_ended || self.buffer.len() - self.line_len >= self.limit as usize + 2)
     }
 
-    /// What stands next in the input. An answer other than a record is repeated from then on.
+    /// What comes next in the input. Any other result than a record is repeated from then on.
     pub fn next(&mut self) -> Result<Next, ReadFault>
         requires { faults_of (reader_of self.old) < 2 ^ 64 - 1 }
         ensures same_reader { self.new.reader.ghost_name ≡ self.old.reader.ghost_name }
@@ -156,7 +156,7 @@ impl<'a, R: Read> RecordReader<'a, R> {
         self.answer
     }
 
-    /// What stands behind the last record.
+    /// Reads what follows the last record.
     fn read_next(&mut self) -> Result<Next, ReadFault>
         requires { faults_of (reader_of self.old) < 2 ^ 64 - 1 }
         ensures same_reader { self.new.reader.ghost_name ≡ self.old.reader.ghost_name }

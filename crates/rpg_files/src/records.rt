@@ -13,7 +13,7 @@ pub fn first_answers_are_records()
     ensures { FirstAnswersAreRecords }
 {}
 
-/// A law of the reader's contract: however reads are cut, its answers in order are the records of the whole input.
+/// A law of the reader's contract: however reads are cut, its results in order are the records of the whole input.
 pub fn answers_are_records()
     ensures { AnswersAreRecords }
 {}
