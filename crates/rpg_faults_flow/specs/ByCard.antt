@@ -1,4 +1,4 @@
--- What a card comes to, by what is carried from the cards before it.
+-- The rules for a card, by what is known of the cards before it.
 use Rattle.std.specs.Prelude.{ℕ, ◌+◌, ◌-◌, nat_lt, List, [], Bool, true, false, not, ◌&&◌, ◌||◌, Option, None, Some, is_none, is_some, if◌then◌else◌}
 use Rattle.std.specs.Option.{option_and_then, option_map, option_map_or}
 use Rattle.rpg_cards.specs.Calculations.{CalculationGroup, calculations, calculations_from, card_ending, depends, goes_on, group_end, group_with}
@@ -78,7 +78,7 @@ unpaired_in inside level k closed =
     (is_bracket (deed_of k) && not (is_subroutine level))
     || ((is_subroutine level && is_endsr (deed_of k) && not inside) || (is_subroutine level && is_begsr (deed_of k) && not closed))
 
--- the subroutine that begins on the last card of a group is closed behind it
+-- the subroutine that begins on the last card of a group is closed after it
 abbrev pub closed_behind : Option CalculationGroup → CalculationSpec → List SpecCard → Bool
 closed_behind o k after = is_closed (brackets (calculations_from (Some (group_with o k)) after []))
 

@@ -1,4 +1,4 @@
--- F9 of calculation cards: columns that are missing or not allowed (but for the sequence of what LOKUP searches, which wants forms).
+-- F9 of calculation cards: columns that are missing or not allowed (except the sequence of what LOKUP searches, which needs forms).
 use Rattle.std.specs.Prelude.{ℕ, ◌==◌, nat_lt, List, Bool, true, false, not, ◌&&◌, ◌||◌, Option, is_some, is_none}
 use Rattle.std.specs.Option.{option_map, option_map_or}
 use Rattle.rpg_cards.specs.Calculations.{CalculationGroup, depends, goes_on, group_end, open_calculation_group}

@@ -49,7 +49,7 @@ names_twice before c after =
     option_map_or (gives_again before c after) (calculation_ending before c after) false
     || defines_label (labels (calculations_before before (c ∷ after))) c
 
--- ---- F13: GOTO to a label of another section; nothing is said where one of them is outside the sections
+-- ---- F13: GOTO to a label of another section; no fault where one of them is outside the sections
 
 abbrev pub are_apart : Section → Section → Bool
 are_apart Detail Detail = false

@@ -47,7 +47,7 @@ AreCycles found all = (p : Call) → list_any (same_call p) found ≡ (list_any 
 abbrev pub AreCyclesOf : List Call → List SpecCard → Type 0
 AreCyclesOf found cards = AreCycles found (calls (calculations cards))
 
--- ---- which subroutines reach which, 64 of them at a time: the bits of a word stand for these
+-- ---- which subroutines reach which, 64 of them at a time: each is a bit of a word
 
 abbrev pub AreBelow : ℕ → List Call → Type 0
 AreBelow count all = (k : ℕ) → k < length all → ((get_or all k (0, 0)).0 < count) × ((get_or all k (0, 0)).1 < count)

@@ -1,4 +1,4 @@
--- A source of which no card breaks a rule.
+-- A source in which no card breaks a rule.
 use Rattle.std.specs.Prelude.{◌≡◌, List, ◌∷◌, ◌++◌, Bool, false}
 use Rattle.rpg_cards.specs.declared.spec_card.SpecCard.{SpecCard}
 

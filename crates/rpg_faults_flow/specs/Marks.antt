@@ -1,4 +1,4 @@
--- Which columns of a calculation card the faults of control speak of.
+-- Which columns of a calculation card the faults of control point at.
 use Rattle.std.specs.Prelude.{ℕ, List, Bool, true, false, ◌&&◌, Option, is_some, is_none, if◌then◌else◌}
 use Rattle.std.specs.Option.{option_map, option_map_or}
 use Rattle.rpg_cards.specs.Calculations.{calculation_ending, card_ending, goes_on}
@@ -18,7 +18,7 @@ use Rattle.rpg_sheet_specs.specs.declared.indicator.Condition.{Condition}
 use Rattle.rpg_sheet_specs.specs.declared.indicator.Three.{Three}
 use Rattle.rpg_sheet_specs.specs.declared.literal.Factor.TheVariants as factor
 
--- ---- F9: a length without a result field; what is missing or not allowed beside the operation; else the conditions
+-- ---- F9: a length without a result field; what is missing or not allowed with the operation; else the conditions
 
 -- the first that is there, else where they are missing
 abbrev pub shown_range : Three (Option ℕ) → ColumnRange
@@ -42,7 +42,7 @@ operation_range k o =
     else if misses (card_columns o).result_field (option_map factor.Entry k.result_field) then range.ResultName
     else shown_range k.resulting_indicators
 
--- what a card before the last has beside its conditions
+-- what a card before the last has besides its conditions
 abbrev pub further_range : CalculationSpec → ColumnRange
 further_range k =
     if is_some k.factor_1 then range.FirstFactor
@@ -76,7 +76,7 @@ twice_range before c after =
     if option_map_or (gives_again before c after) (calculation_ending before c after) false then range.FirstFactor
     else range.ResultName
 
--- ---- F12: BEGSR or ENDSR; else what says the section, or that the card goes on with the one before
+-- ---- F12: BEGSR or ENDSR; else the columns for the section or for AN and OR
 
 abbrev pub order_range : CalculationSpec → ColumnRange
 order_range k = if is_bracket (deed_of k) then range.Operation else range.ControlLevel

@@ -37,12 +37,12 @@ is_outside_subroutine before g = is_subroutine g.first.control_level && (not (is
 abbrev pub misplaces_group : List SpecCard → SpecCard → CalculationSpec → List SpecCard → Bool
 misplaces_group before c k after = is_early before k || is_outside_subroutine (calculations_before before (c ∷ after)) (completed (alone k) after)
 
--- an AN or OR card that no C card stands right before; another one begins a group
+-- an AN or OR card without a C card right before it; any other card begins a group
 abbrev pub breaks_group : Bool → List SpecCard → SpecCard → CalculationSpec → List SpecCard → Bool
 breaks_group true before c k after = is_none (open_calculation_group before)
 breaks_group false before c k after = misplaces_group before c k after
 
--- the next BEGSR or ENDSR behind is an ENDSR
+-- the next BEGSR or ENDSR is an ENDSR
 abbrev pub is_closed : List (Calculation Key) → Bool
 is_closed [] = false
 is_closed (g ∷ gs) = ends g

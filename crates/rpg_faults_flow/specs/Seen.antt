@@ -1,4 +1,4 @@
--- What the cards before a card come to.
+-- What is known of the cards before a card.
 use Rattle.std.specs.Prelude.{◌≡◌, ℕ, nat_lt, List, length, Option}
 use Rattle.std.specs.List.{list_any}
 use Rattle.std.specs.Option.{option_map}

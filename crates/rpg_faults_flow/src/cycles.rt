@@ -40,7 +40,7 @@ fn count(calls: &[(u16, u16)]) -> usize
     count
 }
 
-/// A word for each subroutine: its bits say which of the 64 subroutines from this one on it reaches.
+/// A word for each subroutine: its bits are the 64 subroutines from this one on, set for those that it reaches.
 fn reaching(
     alloc: Global,
     first: usize,

@@ -1,4 +1,4 @@
-//! What the cards before a card come to.
+//! What is known of the cards before a card.
 
 ghost use Rattle.std.specs.Prelude.{◌≡◌, ◌≤◌, [], ◌∷◌, ◌++◌, List, length};
 ghost use Rattle.rpg_cards.specs.declared.spec_card.SpecCard.{SpecCard};
@@ -10,7 +10,7 @@ use crate::rounding::leaves_remainder;
 use rpg_cards::SpecCard;
 use rpg_sheet_specs::ControlLevel;
 
-/// What the cards before a card come to.
+/// What is known of the cards before a card.
 #[derive(Clone, Copy)]
 pub struct Flow {
     /// Columns 7 and 8 of the first card of the group that the card right before belongs to.
@@ -45,7 +45,7 @@ impl Flow {
         }
     }
 
-    /// With one more card, seen with those behind it.
+    /// The same with one more card, given the cards after it.
     pub fn with(self, before: &[SpecCard], card: &SpecCard, after: &[SpecCard]) -> Self
         requires few { length before.now ≤ 2000 }
         requires flow { IsFlow before.now (card.now ∷ after.now) self }
@@ -77,7 +77,7 @@ fn highest_with(highest: u8, card: &SpecCard) -> u8
     }
 }
 
-/// Whether a subroutine is open behind a bracket, if there is one.
+/// Whether a subroutine is open after a bracket, if there is one.
 fn inside_behind(is_inside: bool, bracket: Option<bool>) -> bool
     ensures { result ≡ by_card.inside_behind is_inside bracket }
 {
@@ -87,7 +87,7 @@ fn inside_behind(is_inside: bool, bracket: Option<bool>) -> bool
     }
 }
 
-/// How many subroutines are begun behind a bracket, if there is one.
+/// How many subroutines are begun after a bracket, if there is one.
 fn begun_behind(begun: u16, bracket: Option<bool>) -> u16
     requires { begun ≤ 2000 }
     ensures { result ≡ by_card.begun_behind begun bracket }

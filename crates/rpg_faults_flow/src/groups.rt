@@ -37,7 +37,7 @@ pub(crate) fn level_in(group: &Option<ControlLevel>, calculation: &CalculationSp
     }
 }
 
-/// The same of the group that a card opens or goes on with.
+/// The same of the group that a card opens or continues.
 pub(crate) fn level_with(group: &Option<ControlLevel>, card: &SpecCard) -> Option<ControlLevel>
     ensures { result ≡ by_card.level_with group.now card.now }
 {

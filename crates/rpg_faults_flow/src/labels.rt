@@ -26,7 +26,7 @@ use rpg_symbols::Name;
 use std::alloc::{AllocError, Global};
 use std::marker::Model;
 
-/// What a name stands for where control goes.
+/// What a name means as a target of control.
 #[derive(Clone, Copy)]
 pub(crate) struct Target {
     pub is_subroutine: bool,
@@ -40,7 +40,7 @@ pub(crate) struct FirstLabel {
     pub target: Target,
 }
 
-/// The cards of a source, in which a label or a subroutine is found at once.
+/// The cards of a source, with an index of labels and subroutines.
 #[derive(Drop)]
 pub struct Labels<'a> {
     cards: &'a [SpecCard],

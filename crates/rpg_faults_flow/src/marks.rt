@@ -1,4 +1,4 @@
-//! Which columns of a calculation card the faults of control speak of.
+//! Which columns of a calculation card the faults of control point at.
 
 ghost use Rattle.std.specs.Prelude.{◌≡◌, ◌∷◌, ◌++◌, false};
 ghost use Rattle.std.specs.Option.{option_map_or};
@@ -48,7 +48,7 @@ fn end_range(goes_on: bool, calculation: &CalculationSpec) -> ColumnRange
     }
 }
 
-/// What a card before the last has beside its conditions.
+/// What a card before the last has besides its conditions.
 fn further_range(calculation: &CalculationSpec) -> ColumnRange
     ensures { result ≡ marks.further_range calculation.now }
 {

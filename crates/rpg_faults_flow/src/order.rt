@@ -59,7 +59,7 @@ fn is_unpaired(flow: &Flow, calculation: &CalculationSpec, after: &[SpecCard]) -
     }
 }
 
-/// Whether the next BEGSR or ENDSR of SR cards behind this group's last card is an ENDSR.
+/// Whether the next BEGSR or ENDSR of SR cards after this group's last card is an ENDSR.
 fn is_closed(level: &ControlLevel, after: &[SpecCard]) -> bool
     ensures { (g : CalculationGroup) → g.first.control_level ≡ level.now → result ≡ order.is_closed (brackets (calculations_from (Some g) after.now [])) }
 {

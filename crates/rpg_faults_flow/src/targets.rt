@@ -36,7 +36,7 @@ fn lacks_label(labels: &Labels, calculation: &CalculationSpec) -> bool
     }
 }
 
-/// Whether the first of a name is a label, or a subroutine, as it is wanted.
+/// Whether the first definition of a name is a label, or a subroutine, as required.
 fn is_given_as(labels: &Labels, wanted: &Named) -> bool
     ensures { result ≡ spec.is_given_as (labels_of.labels (calculations.calculations labels.now)) wanted.now }
 {
@@ -72,7 +72,7 @@ fn leaves_section(labels: &Labels, flow: &Flow, calculation: &CalculationSpec) -
     }
 }
 
-/// Whether a label that is wanted stands in another section.
+/// Whether a label that is referred to is in another section.
 fn leaves_by(labels: &Labels, own: Section, wanted: &Named) -> bool
     ensures { result ≡ by_card.name_leaves labels.now own wanted.now }
 {

@@ -28,7 +28,7 @@ other_input Secondary = Some Primary
 other_input Printer = None
 other_input Disk = None
 
--- the job ends once both input files are at their end: both say so, or neither
+-- the job ends once both input files are at their end: both files have E, or neither
 abbrev pub ends_unlike : FileSpec → FileSpec → Bool
 ends_unlike f g = not (beq f.ends_job g.ends_job)
 
@@ -39,7 +39,7 @@ ends_apart before f = option_map_or (ends_unlike f) (option_and_then (λ u. file
 abbrev pub bad_file : List SpecCard → FileSpec → Bool
 bad_file before f = is_some (file_named f.name before) || is_some (file_for (file_use f) before) || ends_apart before f || not (is_between 1 (longest_in_file (file_use f)) f.record_length)
 
--- A card names a file of this use. Only behind another card of its kind may it leave the name out.
+-- A card names a file of this use. Only after another card of its kind may it leave the name out.
 abbrev pub lacks_file : List SpecCard → (FileUse → Bool) → Bool → Option (List ℕ) → Bool
 lacks_file cards is_fit is_behind None = not is_behind
 lacks_file cards is_fit is_behind (Some name) = option_map_or (λ f. not (is_fit (file_use f))) (file_named name cards) true

@@ -37,11 +37,11 @@ is_barred_mr cards n = (n == 129) && not (may_ask cards)
 abbrev pub is_1p : ℕ → Bool
 is_1p n = n == 111
 
--- output asks for all, but MR only where it may
+-- conditions of output may name any indicator, and MR only where it is allowed
 abbrev pub bad_in_output : List SpecCard → Condition → Bool
 bad_in_output cards c = is_barred_mr cards c.indicator
 
--- calculations ask for all but 1P, and MR only where they may
+-- conditions of calculations may name any indicator but 1P, and MR only where it is allowed
 abbrev pub bad_in_calculation : List SpecCard → Condition → Bool
 bad_in_calculation cards c = is_1p c.indicator || is_barred_mr cards c.indicator
 

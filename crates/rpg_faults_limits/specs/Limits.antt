@@ -21,7 +21,7 @@ use Rattle.rpg_sheet_specs.specs.declared.output.OutputSpec.{OutputSpec}
 use Rattle.rpg_sheet_specs.specs.declared.output.OutputSpec.TheVariants as output
 use Rattle.rpg_text.specs.Texts.{is_between}
 
--- what the cards come to is within a limit before a card, and past it with the card
+-- what is counted is within a limit before a card, and past it with the card
 abbrev pub crosses : (List SpecCard → ℕ) → ℕ → List SpecCard → SpecCard → Bool
 crosses measure limit before c = nat_le (measure before) limit && nat_lt limit (measure (before ++ c ∷ []))
 
@@ -114,7 +114,7 @@ passes_on_lines before c =
 abbrev pub calculation_count : List SpecCard → ℕ
 calculation_count cards = count_by (λ c. is_some (calculation_on c.spec)) cards
 
--- the calculation that ends on the card is BEGSR of an SR card, and 100 stand before
+-- the calculation that ends on the card is BEGSR of an SR card, and there are 100 before it
 abbrev pub passes_subroutines : List SpecCard → SpecCard → List SpecCard → Bool
 passes_subroutines before c after = begun_count (calculations_before before (c ∷ after)) == 100 && option_map_or begins_subroutine (calculation_ending before c after) false
 
@@ -139,14 +139,14 @@ constant_size c = size_of (constant_form c)
 abbrev pub constant_bytes : List SpecCard → ℕ
 constant_bytes cards = sum_by constant_size (constants cards)
 
--- fields are the names of all cards, and behind them the constants: here those of the cards at the front
+-- fields are the names of all cards, and after them the constants: here those of the cards at the front
 abbrev pub fields_up_to : List SpecCard → List SpecCard → ℕ
 fields_up_to cards front = name_count cards + length (constants front)
 
 abbrev pub bytes_up_to : List SpecCard → List SpecCard → ℕ
 bytes_up_to cards front = name_bytes cards + constant_bytes front
 
--- 4,000 fields, 65,535 bytes of storage; the names alone keep both
+-- 4,000 fields, 65,535 bytes of storage; the names by themselves keep both limits
 abbrev pub passes_storage : List SpecCard → List SpecCard → SpecCard → Bool
 passes_storage cards before c =
     crosses name_count 4000 before c

@@ -1,4 +1,4 @@
--- Which columns of a card the faults of names, limits, files, indicators and order speak of.
+-- Which columns of a card the faults of names, limits, files, indicators and order point at.
 use Rattle.std.specs.Prelude.{ℕ, List, Bool, false, slice_get, Option, None, Some, is_some, if◌then◌else◌}
 use Rattle.std.specs.Option.{option_map, option_map_or, option_or}
 use Rattle.rpg_cards.specs.Cards.{output_record_on}

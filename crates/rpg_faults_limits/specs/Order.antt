@@ -12,7 +12,7 @@ use Rattle.rpg_sheet_specs.specs.declared.output.OutputSpec.TheVariants as outpu
 abbrev pub card_right_before : List SpecCard → Option SpecCard
 card_right_before before = slice_get before (length before - 1)
 
--- ---- I: codes go on with those of a type card or an AND card
+-- ---- I: the codes of an AND card continue those of a type card or an AND card
 
 abbrev pub takes_codes : InputSpec → Bool
 takes_codes (input.Type t) = true
@@ -27,7 +27,7 @@ strays_on_input before (input.Type t) = false
 strays_on_input before (input.And codes) = not (is_behind_codes before)
 strays_on_input before (input.Field f) = is_none (open_group input_role before)
 
--- ---- O: conditions go on with those of a record, AND or OR card
+-- ---- O: the conditions of an AND or OR card continue those of a record, AND or OR card
 
 abbrev pub takes_conditions : OutputSpec → Bool
 takes_conditions (output.Record r) = true

@@ -1,4 +1,4 @@
--- What the cards before a card come to.
+-- What is known of the cards before a card.
 use Rattle.std.specs.Prelude.{◌≡◌, ℕ, ◌*◌, ◌≤◌, Bool, false, List, length, Option, is_some}
 use Rattle.std.specs.Option.{option_map_or}
 use Rattle.rpg_cards.specs.Calculations as calculations

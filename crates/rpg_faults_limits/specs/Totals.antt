@@ -28,6 +28,6 @@ HasNames items t = HasTotals Definition same_name definition_bytes given_names i
 abbrev pub HasConstants : List Constant → Totals → Type 0
 HasConstants items t = HasTotals Constant is_same constant_size [] items t
 
--- a card stands behind these, whose items have been seen
+-- these cards come before a card, and their items have been counted
 abbrev pub SeenBefore : {X : Type 0} → (List X → Totals → Type 0) → (List SpecCard → List X) → List SpecCard → SpecCard → Totals → List SpecCard → Type 0
 SeenBefore Has items cards c t before = BeginsWith cards (before ++ c ∷ []) × Has (items before) t

@@ -27,7 +27,7 @@ impl Calculations {
         is_subroutine: false,
     };
 
-    /// With the card behind those before.
+    /// The same with one more card.
     pub(crate) fn with(self, before: &[SpecCard], card: &SpecCard, after: &[SpecCard]) -> Self
         requires few { length before.now ≤ 2000 }
         requires calculations { AreCalculations before.now (card.now ∷ after.now) self }
@@ -64,7 +64,7 @@ impl Calculations {
         }
     }
 
-    /// Whether the group that the card goes on with or begins is of an SR card.
+    /// Whether the group that the card continues or begins is of an SR card.
     fn is_subroutine_with(self, calculation: &CalculationSpec) -> bool
         ensures { (g : Option CalculationGroup) → self.is_subroutine ≡ option_map_or is_of_subroutine g false → result ≡ is_of_subroutine (group_with g calculation.now) }
     {

@@ -91,7 +91,7 @@ pub(crate) fn is_never_set(indicator: Option<Indicator>) -> bool
     }
 }
 
-/// Calculations ask for all but 1P, and MR only where they may.
+/// Conditions of calculations may name any indicator but 1P, and MR only where it is allowed.
 pub(crate) fn is_bad_in_calculation(source: &IndexedCards, condition: Option<Condition>) -> bool
     ensures { result ≡ option_map_or (indicators.bad_in_calculation source.now) condition false }
 {
@@ -103,7 +103,7 @@ pub(crate) fn is_bad_in_calculation(source: &IndexedCards, condition: Option<Con
     }
 }
 
-/// Output asks for all, but MR only where it may.
+/// Conditions of output may name any indicator, and MR only where it is allowed.
 pub(crate) fn is_bad_in_output(source: &IndexedCards, condition: Option<Condition>) -> bool
     ensures { result ≡ option_map_or (indicators.bad_in_output source.now) condition false }
 {
@@ -119,7 +119,7 @@ fn is_barred_mr(source: &IndexedCards, indicator: Indicator) -> bool
     indicator.number() == 129 && !may_ask(source)
 }
 
-/// Whether conditions may ask for MR, which is for sources that match the records of their files.
+/// Whether conditions may name MR, which is for sources that match the records of their files.
 fn may_ask(source: &IndexedCards) -> bool
     ensures { result ≡ indicators.may_ask source.now }
 {

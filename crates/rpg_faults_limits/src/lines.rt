@@ -1,4 +1,4 @@
-//! What stands on the cards of the open line.
+//! What is on the cards of the open line.
 
 ghost use Rattle.std.specs.Prelude.{◌≡◌, ℕ, ◌+◌, ◌≤◌, [], ◌∷◌, ◌++◌, Option, length};
 ghost use Rattle.rpg_cards.specs.Groups.{Group, open_group, output_card_role, output_role, with_card};
@@ -27,7 +27,7 @@ impl OpenLine {
         fields: 0,
     };
 
-    /// With the card behind those before.
+    /// The same with one more card.
     pub(crate) fn with(self, before: &[SpecCard], card: &SpecCard) -> Self
         requires few_cards { length before.now ≤ 2000 }
         requires open { IsOpenLine (open_group output_role before.now) self }

@@ -1,4 +1,4 @@
-//! Which columns of a card the faults of names, limits, files and order speak of.
+//! Which columns of a card the faults of names, limits, files and order point at.
 
 ghost use Rattle.std.specs.Prelude.{◌≡◌, ◌∷◌, ◌++◌, ◌≤◌, length};
 ghost use Rattle.rpg_cards.specs.Names.{definitions};

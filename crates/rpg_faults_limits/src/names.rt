@@ -31,7 +31,7 @@ pub fn redefines(
     )
 }
 
-/// Whether one of these, which stand behind so many definitions, has another form by those before it.
+/// Whether one of these, which come after so many definitions, has another form by those before it.
 fn are_other(source: &IndexedCards, place: usize, items: &[Definition]) -> bool
     requires few { place ≤ 4000 }
     requires stand { (front : List Definition) × (back : List Definition) × (place ≡ length front) × (definitions source.now ≡ front ++ (items.now ++ back)) }

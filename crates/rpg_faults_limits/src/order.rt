@@ -7,7 +7,7 @@ ghost use Rattle.rpg_faults_limits.specs.Order as order;
 use rpg_cards::{IndexedCards, Sheets, SpecCard};
 use rpg_sheet_specs::{InputSpec, OutputSpec};
 
-/// F12 of I and O cards: an AND or OR card that doesn't go on with the card right before it, and a field card without a record type or a line.
+/// F12 of I and O cards: an AND or OR card that doesn't continue the card right before it, and a field card without a record type or a line.
 pub fn strays(source: &IndexedCards, sheets: &Sheets, before: &[SpecCard], card: &SpecCard) -> bool
     requires { AreSheets source.now before.now sheets.now }
     ensures { result ≡ order.strays before.now card.now }

@@ -1,4 +1,4 @@
-//! What the cards before a card come to.
+//! What is known of the cards before a card.
 
 ghost use Rattle.std.specs.Prelude.{◌≡◌, [], ◌∷◌, ◌++◌, ◌≤◌, length};
 ghost use Rattle.rpg_faults_limits.specs.State.{AreLimits};
@@ -9,7 +9,7 @@ use crate::storage::Storage;
 use crate::types::OpenType;
 use rpg_cards::{IndexedCards, SpecCard};
 
-/// What the cards before a card come to, as far as a limit is set for it.
+/// What is known of the cards before a card, as far as limits need it.
 #[derive(Clone, Copy)]
 pub struct Limits {
     pub(crate) storage: Storage,

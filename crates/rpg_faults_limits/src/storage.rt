@@ -28,7 +28,7 @@ impl Storage {
         }
     }
 
-    /// With the card behind those before.
+    /// The same with one more card.
     pub(crate) fn with(self, source: &IndexedCards, before: &[SpecCard], card: &SpecCard) -> Self
         requires few { length source.now ≤ 2000 }
         requires begins { BeginsWith source.now (before.now ++ card.now ∷ []) }

@@ -1,4 +1,4 @@
-//! What stands on the cards of the open record type.
+//! What is on the cards of the open record type.
 
 ghost use Rattle.std.specs.Prelude.{◌≡◌, ℕ, ◌+◌, ◌≤◌, [], ◌∷◌, ◌++◌, Option, length};
 ghost use Rattle.rpg_cards.specs.Groups.{Group, input_card_role, input_role, open_group, with_card};
@@ -28,7 +28,7 @@ impl OpenType {
         fields: 0,
     };
 
-    /// With the card behind those before.
+    /// The same with one more card.
     pub(crate) fn with(self, before: &[SpecCard], card: &SpecCard) -> Self
         requires few_cards { length before.now ≤ 2000 }
         requires open { IsOpenType (open_group input_role before.now) self }

@@ -19,9 +19,9 @@ use Rattle.rpg_sheet_specs.specs.declared.entry.Entry.{Entry}
 use Rattle.rpg_sheet_specs.specs.declared.output.OutputField.{OutputField}
 use Rattle.rpg_faults_operands.specs.Operands.{output_form}
 
--- ---- what the columns say
+-- ---- the meaning of the columns
 
--- beside a code an asterisk or a dollar sign
+-- with a code, an asterisk or a dollar sign
 abbrev pub fill_sign : List ℕ → Option Fill
 fill_sign text = if pointwise nat_eq text (codes "*") then Some fill.Star else (if pointwise nat_eq text (codes "$") then Some fill.Dollar else None)
 

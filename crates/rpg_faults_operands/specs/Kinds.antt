@@ -28,7 +28,7 @@ is_wrong_class Table form = not (is_table form.class)
 is_wrong_class Label form = false
 is_wrong_class Subroutine form = false
 
--- of what stands in a column that takes that
+-- of the contents of a column
 abbrev pub has_wrong_class : Option Content → Option FieldForm → Bool
 has_wrong_class None form = false
 has_wrong_class (Some c) form = option_map_or (is_wrong_class c) form false
@@ -41,7 +41,7 @@ is_text form = same_kind form.kind kind.Text
 abbrev pub has_text : Option FieldForm → Bool
 has_text form = option_map_or is_text form false
 
--- a number beside a text
+-- a number and a text
 abbrev pub kinds_differ : Option FieldForm → Option FieldForm → Bool
 kinds_differ None g = false
 kinds_differ (Some f) None = false

@@ -1,4 +1,4 @@
--- Which columns of a card the faults of its operands speak of.
+-- Which columns of a card the faults of its operands point at.
 use Rattle.std.specs.Prelude.{List, Bool, false, not, ◌&&◌, ◌||◌, Option, None, Some, is_some, if◌then◌else◌}
 use Rattle.std.specs.Option.{option_and_then, option_map, option_map_or}
 use Rattle.rpg_cards.specs.Calculations.{card_ending}
@@ -35,7 +35,7 @@ unknown_name cards c after = first_operand (names_nothing cards) c after
 abbrev pub wrong_index : List SpecCard → SpecCard → List SpecCard → ColumnRange
 wrong_index cards c after = first_operand (bad_index_of cards) c after
 
--- ---- F4: the first factor that is wrong by itself, or beside the one before it; else the result field
+-- ---- F4: the first factor that is wrong by itself, or together with the one before it; else the result field
 
 abbrev pub wrong_among : OperationColumns → Option FieldForm → Option FieldForm → ColumnRange
 wrong_among t f g =
@@ -57,7 +57,7 @@ wrong_on_output cards f = option_map (wrong_beside f) (output_form cards f)
 abbrev pub wrong_columns : List SpecCard → SpecCard → List SpecCard → Option ColumnRange
 wrong_columns cards c after = option_map_or (wrong_on_calculation cards) (card_ending c after) (option_and_then (wrong_on_output cards) (output_field_on c.spec))
 
--- ---- F9: high or low of a search; what stands beside no field, or the field that is missing
+-- ---- F9: high or low of a search; what an output card has without a field, or the missing field
 
 abbrev pub unordered_search : CalculationSpec → ColumnRange
 unordered_search k = if is_some k.resulting_indicators.first then range.ResultPlus else range.ResultMinus
@@ -68,7 +68,7 @@ beside_no_field f = if is_some f.code then range.OutputCode else if f.blank_afte
 abbrev pub missing_columns : SpecCard → List SpecCard → Option ColumnRange
 missing_columns c after = option_map_or (λ k. Some (unordered_search k)) (card_ending c after) (option_map beside_no_field (output_field_on c.spec))
 
--- ---- F17: the code where it may have the fill beside it, else the fill or the word
+-- ---- F17: the code if it may have the fill, else the fill or the word
 
 abbrev pub editing_range : OutputField → ColumnRange
 editing_range f = if is_some f.code && not (unedited None f) then range.OutputCode else range.OutputText

@@ -1,4 +1,4 @@
--- What stands on cards in place of fields: the operands of an operation, and the field of an output card.
+-- Fields and constants on cards: the operands of an operation, and the field of an output card.
 use Rattle.std.specs.Prelude.{List, ◌++◌, Bool, true, false, Option, None, Some, if◌then◌else◌}
 use Rattle.std.specs.Option.{option_and_then, option_map, option_map_or, option_to_list}
 use Rattle.rpg_cards.specs.Calculations.{card_ending}
@@ -93,7 +93,7 @@ operands_on c after = operands_listed (operands_ending c after) ++ option_to_lis
 abbrev pub card_entry_form : List SpecCard → Entry → Option FieldForm
 card_entry_form cards e = form_in (form_of_name e.name cards)
 
--- the form of what stands in a column for a field
+-- the form of the contents of a column for a field
 abbrev pub factor_form : List SpecCard → Column → Option Factor → Option FieldForm
 factor_form cards column f = option_and_then (λ c. option_and_then (λ x. form_in (form_of_factor x cards)) f) (field_content column)
 

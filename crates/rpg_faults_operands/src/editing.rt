@@ -15,9 +15,9 @@ use rpg_effect::form::{FieldForm, Kind};
 use rpg_effect::line::{fits_code, is_blank_fill};
 use rpg_sheet_specs::{OutputField, TextLiteral};
 
-// ---- what the columns say
+// ---- the meaning of the columns
 
-/// Beside a code an asterisk or a dollar sign.
+/// With a code, an asterisk or a dollar sign.
 fn fill_by(text: &[u8]) -> Option<Fill>
     ensures { result ≡ editing.fill_sign text.now }
 {
@@ -30,7 +30,7 @@ fn fill_by(text: &[u8]) -> Option<Fill>
     }
 }
 
-/// The fill that a text beside a code stands for: blanks where there is no text.
+/// The fill that a text with a code means: blanks where there is no text.
 pub fn fill_in(text: &Option<TextLiteral<24>>) -> Option<Fill>
     ensures { result ≡ editing.fill_in text.now }
 {

@@ -1,4 +1,4 @@
-//! What is asked of forms.
+//! What is required of forms.
 
 ghost use Rattle.std.specs.Prelude.{◌≡◌};
 ghost use Rattle.rpg_faults_operands.specs.Indexes as indexes;

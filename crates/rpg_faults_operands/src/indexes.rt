@@ -44,7 +44,7 @@ fn index_form(source: &IndexedCards, entry: &Entry) -> Option<FieldForm>
     form_in(source.form_of_name(index_name(entry)?))
 }
 
-/// Whether an index, or none, is wrong beside a field of this form. The index's own field has a form too, where one is known.
+/// Whether an index, or none, is wrong for a field of this form. `index_form` is the form of the index's own field, if it is known.
 fn is_misindexed(
     content: Content,
     index: &Option<EntryIndex>,

@@ -56,7 +56,7 @@ fn is_wrong_output(source: &IndexedCards, card: &SpecCard) -> bool
     }
 }
 
-/// The forms of what stands in the columns for factor 1, factor 2 and the result field.
+/// Takes the forms of the contents of factor 1, factor 2 and the result field.
 fn are_wrong(
     columns: OperationColumns,
     factor_1: Option<FieldForm>,
@@ -120,7 +120,7 @@ fn has_text(form: Option<FieldForm>) -> bool
     }
 }
 
-/// A number beside a text.
+/// A number and a text.
 fn differ(first: Option<FieldForm>, second: Option<FieldForm>) -> bool
     ensures { result ≡ words.kinds_differ first second }
 {

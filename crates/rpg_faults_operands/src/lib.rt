@@ -1,4 +1,4 @@
-//! What stands on cards in place of fields: whether it is defined, of the right kind and well indexed, and how it is edited.
+//! Fields and constants on cards: whether they are defined, of the right kind and well indexed, and how they are edited.
 #![tactic(auto)]
 
 mod columns;

@@ -1,4 +1,4 @@
-//! Which columns of a card the faults of its operands speak of.
+//! Which columns of a card the faults of its operands point at.
 
 ghost use Rattle.std.specs.Prelude.{◌≡◌, option_and_then};
 ghost use Rattle.rpg_cards.specs.Cards.{output_field_on};
@@ -14,7 +14,7 @@ use rpg_cards::{IndexedCards, OperationColumns, SpecCard, columns, last_card};
 use rpg_effect::form::FieldForm;
 use rpg_sheet_specs::{CalculationSpec, ColumnRange, OutputField};
 
-/// F1: where a name stands that no card defines.
+/// F1: the columns of a name that no card defines.
 pub fn unknown_name(source: &IndexedCards, card: &SpecCard, after: &[SpecCard]) -> ColumnRange
     ensures { result ≡ marks.unknown_name source.now card.now after.now }
 {
@@ -30,7 +30,7 @@ pub fn unknown_name(source: &IndexedCards, card: &SpecCard, after: &[SpecCard]) 
     }
 }
 
-/// F5: where an entry stands whose index is wrong.
+/// F5: the columns of an entry whose index is wrong.
 pub fn wrong_index(source: &IndexedCards, card: &SpecCard, after: &[SpecCard]) -> ColumnRange
     ensures { result ≡ marks.wrong_index source.now card.now after.now }
 {
@@ -111,7 +111,7 @@ fn wrong_beside(field: &OutputField, form: FieldForm) -> ColumnRange
     }
 }
 
-/// F9 of operands: high or low of a search, what stands beside no output field, or the field that is missing.
+/// F9 of operands: high or low of a search, what an output card has without a field, or the missing field.
 pub fn missing_columns(card: &SpecCard, after: &[SpecCard]) -> Option<ColumnRange>
     ensures { result ≡ marks.missing_columns card.now after.now }
 {

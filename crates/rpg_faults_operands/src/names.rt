@@ -9,7 +9,7 @@ use rpg_cards::{Defined, IndexedCards, SpecCard};
 use rpg_sheet_specs::{Entry, EntryIndex};
 use rpg_symbols::Name;
 
-/// F1: a name that is used and that no card defines, before or behind.
+/// F1: a name that is used and that no card defines, before or after it.
 #[tactic(auto, using(crate::proofs::Listed::any_listed))]
 pub fn lacks_name(source: &IndexedCards, card: &SpecCard, after: &[SpecCard]) -> bool
     ensures { result ≡ names.lacks_name source.now card.now after.now }

@@ -1,4 +1,4 @@
-//! What stands on cards in place of fields: the operands of an operation, and the field of an output card.
+//! Fields and constants on cards: the operands of an operation, and the field of an output card.
 
 ghost use Rattle.std.specs.Prelude.{◌≡◌, option_and_then, IfSome};
 ghost use Rattle.rpg_cards.specs.Names as names;
@@ -135,7 +135,7 @@ pub(crate) fn output_operand(card: &SpecCard) -> Option<Operand<'_>>
 
 // ---- forms
 
-/// Nothing is said of a name without a form.
+/// None for a name without a form.
 pub(crate) fn form_in(defined: Defined) -> Option<FieldForm>
     ensures { result ≡ names.form_in defined }
 {
@@ -153,7 +153,7 @@ pub(crate) fn entry_form(source: &IndexedCards, entry: &Entry) -> Option<FieldFo
     form_in(source.form_of_name(&entry.name))
 }
 
-/// The form of what stands in a column for a field.
+/// The form of the contents of a column for a field.
 pub(crate) fn factor_form(
     source: &IndexedCards,
     column: Column,

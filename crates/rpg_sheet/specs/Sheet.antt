@@ -18,17 +18,17 @@ abbrev pub through : {X : Type 0} → (X → Bool) → List X → List X
 through test [] = []
 through test (x ∷ xs) = if test x then x ∷ [] else x ∷ through test xs
 
--- the lines that are read: nothing behind the card that ends the source
+-- the lines that are read: nothing after the card that ends the source
 abbrev pub source : List ℕ → List (List ℕ)
 source text = through (λ line. ends_source (card_of line)) (lines text)
 
--- ---- what is wrong with a line that comes behind others
+-- ---- what is wrong with a line that follows others
 
--- one of these lines begins data, so what comes behind is data
+-- one of these lines begins data, so what follows is data
 abbrev pub is_data_behind : List (List ℕ) → Bool
 is_data_behind earlier = list_any (λ e. begins_data (card_of e)) earlier
 
--- a card before all data is on a sheet that comes behind the one at place n
+-- a card before all data is on a sheet that follows the one at place n
 abbrev pub comes_after : ℕ → List ℕ → Bool
 comes_after n card = option_map_or (λ f. nat_lt n (sheet_place f)) (sheet_of false card) false
 
@@ -60,7 +60,7 @@ fault_columns behind card S6 = None
 abbrev pub fault_under : List (List ℕ) → List ℕ → SheetCode → SheetFault
 fault_under earlier line code = At (length earlier + 1) code (fault_columns (is_data_behind earlier) (card_of line) code)
 
--- the first line with a fault, of lines that come behind others
+-- the first line with a fault, of lines that follow others
 abbrev pub fault_behind : List (List ℕ) → List (List ℕ) → Option SheetFault
 fault_behind earlier [] = None
 fault_behind earlier (line ∷ more) = option_or (option_map (fault_under earlier line) (line_code earlier line)) (fault_behind (earlier ++ line ∷ []) more)
@@ -68,7 +68,7 @@ fault_behind earlier (line ∷ more) = option_or (option_map (fault_under earlie
 abbrev pub first_sheet_fault : List (List ℕ) → Option SheetFault
 first_sheet_fault all = fault_behind [] all
 
--- what a refusal says of a source: nothing where memory was wanted
+-- what a refusal states about a source: nothing where memory ran out
 abbrev pub IsSheetRefusal : SheetFault → List ℕ → Type 0
 IsSheetRefusal NoMemory text = Unit {0}
 IsSheetRefusal (At card code columns) text = first_sheet_fault (source text) ≡ Some (At card code columns)

@@ -11,11 +11,11 @@ use Rattle.rpg_sheet_specs.specs.Cards.{card_of}
 abbrev pub unreadable_by : List (List ℕ) → List ℕ → SheetCode → UnreadableCard
 unreadable_by earlier line code = record { card = length earlier + 1; code = code; columns = fault_columns (is_data_behind earlier) (card_of line) code }
 
--- a line that comes behind others, where it has a fault: with its least code
+-- a line that follows others, where it has a fault: with its least code
 abbrev pub unreadable_at : List (List ℕ) → List ℕ → List UnreadableCard
 unreadable_at earlier line = option_to_list (option_map (unreadable_by earlier line) (line_code earlier line))
 
--- of lines that come behind others; behind card 2,001 nothing is looked at
+-- of lines that follow others; nothing is checked after card 2,001
 abbrev pub unreadable_behind : List (List ℕ) → List (List ℕ) → List UnreadableCard
 unreadable_behind earlier [] = []
 unreadable_behind earlier (line ∷ more) = if nat_lt 2000 (length earlier) then [] else unreadable_at earlier line ++ unreadable_behind (earlier ++ line ∷ []) more
@@ -23,6 +23,6 @@ unreadable_behind earlier (line ∷ more) = if nat_lt 2000 (length earlier) then
 abbrev pub unreadable_cards : List (List ℕ) → List UnreadableCard
 unreadable_cards all = unreadable_behind [] all
 
--- as a refusal of its source tells it
+-- as a refusal of its source reports it
 abbrev pub refusal_of : UnreadableCard → SheetFault
 refusal_of u = At u.card u.code u.columns

@@ -31,7 +31,7 @@ pub(crate) fn calculation_card(card: &Card) -> Result<CalculationSpec, ColumnFau
     )
 }
 
-/// The calculation of these factors, with the columns behind them.
+/// The calculation of these factors, with the columns after them.
 #[tactic(auto, unfolding(rpg_sheet_specs::specs::Columns::values, rpg_sheet_specs::specs::Columns::at_with, rpg_sheet_specs::specs::Columns::also))]
 fn calculation_with(
     card: &Card,

@@ -29,7 +29,7 @@ impl Model for Card {
 }
 
 impl Card {
-    /// A line with blanks behind its end.
+    /// A line, padded with blanks.
     pub fn new(line: &[u8]) -> Self
         requires fits { length line.now ≤ 80 }
         requires characters { IsTrue (list_all is_character line.now) }

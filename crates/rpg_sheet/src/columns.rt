@@ -233,7 +233,7 @@ impl Card {
         )
     }
 
-    /// Blank or a level behind its letter.
+    /// Blank or a level after its letter.
     #[tactic(auto, unfolding(rpg_sheet_specs::specs::Values::blank_or))]
     pub(crate) fn optional_level(
         &self,

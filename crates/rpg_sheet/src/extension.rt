@@ -23,7 +23,7 @@ pub(crate) fn extension(card: &Card) -> Result<ExtensionSpec, ColumnFault>
     extension_with(card, name, entries_per_card, entries, length)
 }
 
-/// The table of this name and these sizes, with the columns behind them.
+/// The table of this name and these sizes, with the columns after them.
 #[tactic(auto, unfolding(rpg_sheet_specs::specs::Columns::values, rpg_sheet_specs::specs::Columns::at_with, rpg_sheet_specs::specs::Columns::also, rpg_sheet_specs::specs::Columns::past, rpg_sheet_specs::specs::Columns::blank))]
 fn extension_with(
     card: &Card,

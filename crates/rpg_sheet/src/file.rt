@@ -24,7 +24,7 @@ pub(crate) fn file(card: &Card) -> Result<FileSpec, ColumnFault>
     file_with(card, name, role, ends_job, ascending)
 }
 
-/// The file of this name and role, with the columns behind them.
+/// The file of this name and role, with the columns after them.
 #[tactic(auto, unfolding(rpg_sheet_specs::specs::Columns::values, rpg_sheet_specs::specs::Columns::at_with, rpg_sheet_specs::specs::Columns::also, rpg_sheet_specs::specs::Columns::past, rpg_sheet_specs::specs::Columns::blank))]
 fn file_with(
     card: &Card,

@@ -126,7 +126,7 @@ fn field_card(card: &Card) -> Result<InputField, ColumnFault>
     field_with(card, from, to, decimals, name)
 }
 
-/// The field with these columns and this name, and the columns behind them.
+/// The field with these columns and this name, and the columns after them.
 #[tactic(auto, unfolding(rpg_sheet_specs::specs::Columns::values, rpg_sheet_specs::specs::Columns::at_with, rpg_sheet_specs::specs::Columns::also, rpg_sheet_specs::specs::Columns::past, rpg_sheet_specs::specs::Columns::blank))]
 fn field_with(
     card: &Card,

@@ -1,4 +1,4 @@
-//! From a source's bytes to what its cards stand for, or what is wrong with the first card that has a fault.
+//! From a source's bytes to what its cards mean, or the fault of the first card that has one.
 //! A card, the sheet that it is on, and the readers of its columns.
 #![tactic(auto)]
 

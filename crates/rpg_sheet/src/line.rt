@@ -7,7 +7,7 @@ ghost use Rattle.rpg_text.specs.Texts.{is_character};
 
 use arrayvec::ArrayVec;
 
-/// What of a line stands in the columns of a card.
+/// The part of a line that is in the columns of a card.
 pub(crate) fn within_card(line: &[u8]) -> &[u8]
     ensures card { card_of result.now ≡ card_of line.now }
     ensures fits { length result.now ≤ 80 }
@@ -15,7 +15,7 @@ pub(crate) fn within_card(line: &[u8]) -> &[u8]
     if line.len() > 80 { &line[..80] } else { line }
 }
 
-/// A line with blanks behind its end.
+/// A line, padded with blanks.
 pub(crate) fn padded(line: &[u8]) -> ArrayVec<u8, 80>
     requires fits { length line.now ≤ 80 }
     ensures value { result.items ≡ card_of line.now }

@@ -123,7 +123,7 @@ impl From<ColumnFault> for CardFault {
 /// Why a source has no cards.
 #[derive(Clone, Copy, Debug, PartialEq, Eq, Error)]
 pub enum SheetFault {
-    /// Cards are numbered from 1. The columns are those of the least bad value, with S5 alone.
+    /// Cards are numbered from 1. The columns are those of the leftmost bad value, only with S5.
     #[error("card {card}: {code}")]
     At {
         card: u16,
@@ -142,7 +142,7 @@ impl<T: Drop> From<AllocFailed<T>> for SheetFault {
     }
 }
 
-/// What the cards of a source without faults stand for: card n at place n - 1. A skipped card and the one that ends the source stand for nothing.
+/// What the cards of a source without faults mean: card n at place n - 1. A skipped card and the one that ends the source mean nothing.
 #[derive(Drop)]
 pub struct Cards {
     specs: Vec<Option<Spec>>,
@@ -175,7 +175,7 @@ impl Cards {
     }
 }
 
-/// What a card stands for behind a sheet at place `latest`, or what is wrong with its form type and its columns. `behind` says whether data has begun.
+/// What a card means after a sheet at place `latest`, or what is wrong with its form type and its columns. `behind` says whether data has begun.
 pub(crate) fn read(card: &Card, latest: u8, behind: bool) -> Result<Option<Spec>, CardFault>
     ensures ok { IfOk result (λ spec. (spec ≡ spec_of behind card.now) × (sheet_code latest behind card.now ≡ None)) }
     ensures err { IfErr result (λ fault. (sheet_code latest behind card.now ≡ Some fault.code) × (fault.columns ≡ fault_columns behind card.now fault.code)) }
@@ -192,7 +192,7 @@ pub(crate) fn read(card: &Card, latest: u8, behind: bool) -> Result<Option<Spec>
     Ok(Some(card.read(sheet)?))
 }
 
-/// What a card that is on no sheet stands for.
+/// What a card that is on no sheet means.
 fn data(card: &Card, behind: bool) -> Option<DataSpec>
     ensures { result ≡ data_spec_of behind card.now }
 {

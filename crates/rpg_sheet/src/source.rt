@@ -1,4 +1,4 @@
-//! From the bytes of a source to what its cards stand for.
+//! From the bytes of a source to what its cards mean.
 
 ghost use Rattle.std.specs.Prelude.{◌≡◌, ℕ, ◌<◌, ◌||◌, length, None, Some, map, nat_lt, OnOk, IfOk, IfErr};
 ghost use Rattle.rpg_sheet.specs.Seen as seen;
@@ -19,8 +19,8 @@ const COLUMNS: usize = 80;
 /// How many cards a source has at most.
 pub(crate) const CARDS: usize = 2000;
 
-/// What the cards of a source stand for, or the first card that has a fault, with its least code. Behind the card `/*` nothing is read.
-/// `NoMemory` is answered where a growth was refused, in place of any fault behind it.
+/// What the cards of a source mean, or the first card that has a fault, with its least code. Nothing is read after the card `/*`.
+/// `NoMemory` is returned if memory ran out, in place of any fault after that.
 pub fn cards(alloc: Global, text: &[u8]) -> Result<Cards, SheetFault>
     ensures cards { IfOk result (λ cards. cards ≡ specs_of (map card_of (sheets.source text.now))) }
     ensures faultless { OnOk result (sheets.first_sheet_fault (sheets.source text.now) ≡ None) }
@@ -54,7 +54,7 @@ pub fn cards(alloc: Global, text: &[u8]) -> Result<Cards, SheetFault>
     Ok(Cards::new(specs))
 }
 
-/// The card of a line that comes behind `count` others and what it stands for, or what is wrong with it.
+/// The card of a line that follows `count` others and what it means, or what is wrong with it.
 pub(crate) fn checked(
     count: usize,
     latest: u8,

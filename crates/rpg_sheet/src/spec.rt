@@ -1,4 +1,4 @@
-//! What a card stands for.
+//! What a card means.
 
 ghost use Rattle.std.specs.Prelude.{◌≡◌, [], OnOk, IfErr};
 ghost use Rattle.rpg_sheet_specs.specs.Columns.{IsLeastColumn};
@@ -8,7 +8,7 @@ use crate::card::Card;
 use rpg_sheet_specs::{ColumnFault, FormType, Spec};
 
 impl Card {
-    /// What a card on this sheet stands for, or the least first column of its bad values.
+    /// What a card on this sheet means, or the least first column of its bad values.
     #[tactic(auto, unfolding(rpg_sheet_specs::specs::Columns::values, rpg_sheet_specs::specs::Columns::also))]
     pub fn read(&self, sheet: FormType) -> Result<Spec, ColumnFault>
         ensures value { result ≡ (card_on sheet).reading self.now }

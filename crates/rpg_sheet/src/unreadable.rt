@@ -19,7 +19,7 @@ use std::alloc::{AllocError, Global};
 pub struct UnreadableCard {
     pub card: u16,
     pub code: SheetCode,
-    /// The columns of the least bad value, with S5 alone.
+    /// The columns of the leftmost bad value, only with S5.
     pub columns: Option<ColumnFault>,
 }
 
@@ -31,11 +31,11 @@ struct Earlier {
     behind: bool,
 }
 
-/// How many cards stand at most before one that is looked at.
+/// The most cards before one that is still checked.
 const LAST: u16 = CARDS as u16;
 
-/// All cards of a source that can't be read, each with its least code, in their order. Behind the card `/*` and behind card 2,001 nothing is
-/// read. An error is for want of memory.
+/// All cards of a source that can't be read, each with its least code, in their order. Nothing is read after the card `/*` or after card
+/// 2,001. It fails only when memory runs out.
 #[tactic(auto, using(crate::proofs::UnreadableLemmas::cut_short))]
 pub fn unreadable_cards(alloc: Global, text: &[u8]) -> Result<Vec<UnreadableCard>, AllocError>
     ensures { IfOk result (λ cards. cards.items ≡ every.unreadable_cards (sheets.source text.now)) }
@@ -91,7 +91,7 @@ fn put_if_unreadable(
 }
 
 impl Earlier {
-    /// With one more line, of which these are the columns.
+    /// The same with one more line, which has these columns.
     fn with(self, card: &[u8]) -> Self
         requires few { self.count ≤ 2000 }
         requires columns { length card.now ≡ 80 }

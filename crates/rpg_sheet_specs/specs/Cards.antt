@@ -7,7 +7,7 @@ use Rattle.rpg_sheet_specs.specs.Columns.{cols}
 use Rattle.rpg_sheet_specs.specs.Values.{one_of}
 use Rattle.rpg_text.specs.Texts.{all_blank}
 
--- ---- cards: a line of the source with blanks behind its end
+-- ---- cards: a line of the source, padded with blanks
 
 abbrev pub card_of : List ℕ → List ℕ
 card_of line = take 80 line ++ replicate (80 - length line) 32

@@ -17,9 +17,9 @@ pub record IsLeastColumn (ks : List ℕ) (k : ℕ) : Type 0 where
   pub among : ks ≡ k ∷ rest
   pub none_below : (i : ℕ) → i < length ks → k ≤ slice_index ks i
 
--- Some columns of a card, and what they stand for together.
+-- Some columns of a card, and what they mean together.
 pub record Columns (X : Type 0) : Type 1 where
-  -- what a card's columns stand for, or the fault of the first line whose columns stand for nothing
+  -- what a card's columns mean, or the fault of the first line whose columns mean nothing
   pub reading : List ℕ → Result X ColumnFault
   -- the first columns of all values of a card that are bad
   pub bad : List ℕ → List ℕ
@@ -32,7 +32,7 @@ abbrev pub bad_if_none : {X : Type 0} → ℕ → Option X → List ℕ
 bad_if_none a None = a ∷ []
 bad_if_none a (Some x) = []
 
--- Columns a to b, where a rule takes their text to what it stands for. The rule may look at the whole card too.
+-- Columns a to b, where a rule takes their text to its meaning. The rule may look at the whole card too.
 unfoldable pub at_with : {X : Type 0} → ℕ → ℕ → (List ℕ → List ℕ → Option X) → Columns X
 at_with a b rule = record {
   reading = λ card. ok_or (rule card (cols a b card)) (column_fault a b);
@@ -60,7 +60,7 @@ blank a b = record {
   bad = λ card. filled_from a (cols a b card);
 }
 
--- one after the other
+-- one after another
 abbrev pub mapped : {X Y : Type 0} → (X → Y) → Result X ColumnFault → Result Y ColumnFault
 mapped f (Ok x) = Ok (f x)
 mapped f (Err e) = Err e

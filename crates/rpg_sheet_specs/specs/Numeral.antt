@@ -1,4 +1,4 @@
--- What a numeric literal stands for.
+-- The value of a numeric literal.
 use Rattle.std.specs.Prelude.{ℕ, ◌^◌, ◌<◌, ◌≤◌, ℤ, unsigned_abs}
 
 pub record Numeral : Type 0 where
@@ -6,7 +6,7 @@ pub record Numeral : Type 0 where
   pub value : ℤ
   -- how many digits it is written with
   pub length : ℕ
-  -- how many of them stand behind the point
+  -- how many of them follow the point
   pub decimals : ℕ
 
 -- a factor's ten columns have room for it, and its digits for the value

@@ -1,4 +1,4 @@
--- Where the ranges of columns that a fault can speak of stand.
+-- The columns of each range that a fault can point at.
 use Rattle.rpg_sheet_specs.specs.Columns.{column_fault}
 use Rattle.rpg_sheet_specs.specs.declared.column.ColumnFault.{ColumnFault}
 use Rattle.rpg_sheet_specs.specs.declared.column_range.ColumnRange.{ColumnRange}

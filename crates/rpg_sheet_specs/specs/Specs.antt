@@ -1,4 +1,4 @@
--- What a card stands for.
+-- What a card means.
 use Rattle.std.specs.Prelude.{List, [], ◌∷◌, ℕ, Bool, false, Option, None, Some, option_and_then, option_map, if◌then◌else◌, ◌||◌}
 use Rattle.std.specs.Result.{result_ok}
 use Rattle.rpg_sheet_specs.specs.declared.data.DataSpec.{DataSpec}
@@ -20,7 +20,7 @@ card_on form.Input = values spec.Input ⊛ input_card
 card_on form.Calculation = values spec.Calculation ⊛ calculation_card
 card_on form.Output = values spec.Output ⊛ output_card
 
--- what a card that is on no sheet stands for; `behind` says whether one before it begins data
+-- what a card that is on no sheet means; `behind` says whether one before it begins data
 abbrev pub data_spec_of : Bool → List ℕ → Option DataSpec
 data_spec_of behind card =
     if ends_source card then None
@@ -28,13 +28,13 @@ data_spec_of behind card =
     else if behind then Some (data_spec.Card card)
     else None
 
--- what a card stands for: nothing where a column is bad, where it is skipped and where it ends the source
+-- what a card means: nothing where a column is bad, where it is skipped and where it ends the source
 abbrev pub spec_of : Bool → List ℕ → Option Spec
 spec_of behind card =
     if is_sheet behind card then option_and_then (λ sheet. result_ok ((card_on sheet).reading card)) (form_type card)
     else option_map spec.Data (data_spec_of behind card)
 
--- what cards stand for
+-- what cards mean
 abbrev pub specs_from : Bool → List (List ℕ) → List (Option Spec)
 specs_from behind [] = []
 specs_from behind (card ∷ cards) = spec_of behind card ∷ specs_from (behind || begins_data card) cards

@@ -1,4 +1,4 @@
--- Three of a kind, of which any may be missing.
+-- Three of a kind, any of which may be missing.
 use Rattle.std.specs.Prelude.{ℕ, ◌+◌, Option}
 use Rattle.std.specs.Option.{option_len}
 use Rattle.rpg_sheet_specs.specs.declared.indicator.Three.{Three}

@@ -1,4 +1,4 @@
--- What the text of a range of columns stands for.
+-- What the text of a range of columns means.
 use Rattle.std.specs.Prelude.{ℕ, ◌+◌, ◌-◌, ◌*◌, ℤ, pos, neg_ℤ, List, [], ◌∷◌, ◌++◌, length, take, drop, slice_index, slice_range, position, Bool, true, false, Option, None, Some, if◌then◌else◌, ◌==◌, ◌&&◌, ◌||◌, not, nat_le, nat_lt, codes}
 use Rattle.std.specs.List.{list_all, prefix_len, before_first, after_first}
 use Rattle.std.specs.Option.{option_map, option_and_then, option_or}
@@ -33,15 +33,15 @@ abbrev pub one_of : {X : Type 0} → List (List ℕ × X) → List ℕ → Optio
 one_of [] text = None
 one_of (c ∷ cs) text = if bytes_eq text c.0 then Some c.1 else one_of cs text
 
--- this spelling alone
+-- only this spelling
 unfoldable pub only : List ℕ → List ℕ → Option (Unit {0})
 only spelling = one_of ((spelling, tt) ∷ [])
 
--- blank alone
+-- only blank
 unfoldable pub unused : List ℕ → Option (Unit {0})
 unused text = when (all_blank text) tt
 
--- blank, or what the rule says
+-- blank, or a text by the rule
 unfoldable pub blank_or : {X : Type 0} → (List ℕ → Option X) → List ℕ → Option (Option X)
 blank_or rule text = if all_blank text then Some None else option_map Some (rule text)
 
@@ -102,7 +102,7 @@ plain n = record { name = n; index = None }
 abbrev pub indexed : List ℕ → EntryIndex → Entry
 indexed n i = record { name = n; index = Some i }
 
--- a name, or where there is a comma the name before the first one and the index behind it
+-- a name; or if there is a comma, the name before the first one and the index after it
 abbrev pub entry_split : Option ℕ → List ℕ → Option Entry
 entry_split None text = option_map plain (name_of 6 text)
 entry_split (Some i) text = option_and_then (λ n. option_map (indexed n) (index_spelled (drop (i + 1) text))) (name_of 6 (take i text))
@@ -121,7 +121,7 @@ is_point c = c == 46
 abbrev pub with_sign : Bool → ℕ → ℤ
 with_sign minus n = if minus then neg_ℤ (pos n) else pos n
 
--- the number of these digits before its point and these behind it, of which there must be one
+-- the number of these digits before its point and these after it; there must be at least one digit
 abbrev pub numeral : Bool → List ℕ → List ℕ → Option Numeral
 numeral minus whole behind = when (all_digits (whole ++ behind)) (record {
   value = with_sign minus (digits_value 10 (whole ++ behind));
@@ -145,7 +145,7 @@ doubled (c ∷ cs) = if is_apostrophe c then 39 ∷ 39 ∷ doubled cs else c ∷
 abbrev pub in_apostrophes : List ℕ → List ℕ
 in_apostrophes text = 39 ∷ doubled text ++ 39 ∷ []
 
--- the text whose apostrophes are written twice: none where one of them stands alone
+-- the text whose apostrophes are written twice: none if one of them is single
 abbrev pub undoubled : List ℕ → Option (List ℕ)
 undoubled [] = Some []
 undoubled (c ∷ []) = when (not (is_apostrophe c)) (c ∷ [])
@@ -158,7 +158,7 @@ undoubled (c ∷ d ∷ cs) =
 abbrev pub is_enclosed : List ℕ → Bool
 is_enclosed text = nat_lt 2 (length text) && is_apostrophe (slice_index text 0) && is_apostrophe (slice_index text (length text - 1))
 
--- what stands between the apostrophes
+-- what is between the apostrophes
 abbrev pub quoted_of : List ℕ → Option (List ℕ)
 quoted_of text = if is_enclosed text then undoubled (slice_range text 1 (length text - 1)) else None
 
@@ -198,7 +198,7 @@ indicator _ = None
 unfoldable pub indicator_within : ℕ → ℕ → List ℕ → Option ℕ
 indicator_within low high text = option_and_then (λ i. when (is_between low high i) i) (indicator text)
 
--- a level, from 1 to 9 behind its letter
+-- a level, from 1 to 9 after its letter
 unfoldable pub level : ℕ → List ℕ → Option ℕ
 level letter (a ∷ b ∷ []) = when ((a == letter) && is_between 49 57 b) (digit_number b)
 level letter _ = None

@@ -1,4 +1,4 @@
-//! The ranges of columns that a fault can speak of.
+//! The ranges of columns that a fault can point at.
 
 ghost use Rattle.std.specs.Prelude.{◌≡◌};
 ghost use Rattle.rpg_sheet_specs.specs.Columns.{column_fault};
@@ -6,7 +6,7 @@ ghost use Rattle.rpg_sheet_specs.specs.Ranges as ranges;
 
 use crate::column::ColumnFault;
 
-/// A range of columns, by what stands there.
+/// A range of columns, by its contents.
 #[derive(Clone, Copy)]
 pub enum ColumnRange {
     // ---- F

@@ -8,13 +8,13 @@ use crate::word::Word;
 pub enum FileRole {
     /// Records are read from it.
     Primary,
-    /// Records are read from it beside those of the primary file.
+    /// Records are read from it along with those of the primary file.
     Secondary,
     /// Lines are put out on it.
     Output,
 }
 
-/// What a file stands on. All devices but the printer are one.
+/// The device of a file. All devices but the printer are one.
 #[derive(Clone, Copy, PartialEq, Eq)]
 pub enum Device {
     Printer,

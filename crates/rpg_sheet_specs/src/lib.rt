@@ -1,4 +1,4 @@
-//! What the cards of a source stand for: the types of each sheet's specs, and the definitions of columns and their values.
+//! What the cards of a source mean: the types of each sheet's specs, and the definitions of columns and their values.
 #![tactic(auto)]
 
 mod calculation;

@@ -1,4 +1,4 @@
-//! Literals: numbers and texts that stand on the card itself.
+//! Literals: numbers and texts on the card itself.
 
 ghost use Rattle.std.specs.Prelude.{◌≡◌, ◌^◌, ◌≤◌, ◌<◌, length, unsigned_abs, IsTrue};
 ghost use Rattle.std.specs.List.{list_all};
@@ -59,7 +59,7 @@ impl NumericLiteral {
         self.digits
     }
 
-    /// How many of its digits stand behind the point.
+    /// How many of its digits follow the point.
     pub fn decimals(self) -> u8
         ensures value { result ≡ self.decimals }
         ensures within { result ≤ self.length }

@@ -17,7 +17,7 @@ pub enum LineTime {
     Exception,
 }
 
-/// How the form moves before and behind a line.
+/// How the form moves before and after a line.
 #[derive(Clone, Copy)]
 pub struct Movement {
     /// Lines to space.
@@ -47,7 +47,7 @@ pub struct OutputField {
     pub blank_after: bool,
     /// The field's last column in the line, from 1.
     pub end: u16,
-    /// A constant where no field is named, else an edit word, or beside a code the fill.
+    /// A constant where no field is named, else an edit word, or with a code the fill.
     pub text: Option<TextLiteral<24>>,
 }
 

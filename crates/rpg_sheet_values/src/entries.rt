@@ -8,7 +8,7 @@ use crate::numbers::digits;
 use rpg_sheet_specs::{Entry, EntryIndex};
 use rpg_text::trimmed;
 
-/// A name, or a name and behind a comma an index.
+/// A name, or a name, a comma and an index.
 #[tactic(auto, unfolding(rpg_sheet_specs::specs::Values::entry))]
 pub fn entry(text: &[u8]) -> Option<Entry>
     ensures { result ≡ values.entry text.now }

@@ -51,7 +51,7 @@ pub fn indicator_within<const FIRST: u8, const LAST: u8>(text: &[u8]) -> Option<
     }
 }
 
-/// A level, from 1 to 9 behind its letter.
+/// A level, from 1 to 9 after its letter.
 #[tactic(auto, unfolding(rpg_sheet_specs::specs::Values::level))]
 pub fn level(letter: u8, text: &[u8]) -> Option<Within<1, 9>>
     ensures { result ≡ values.level letter text.now }

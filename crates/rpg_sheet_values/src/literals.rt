@@ -1,4 +1,4 @@
-//! Literals: numbers and texts that stand on the card itself, from the first column of their range on.
+//! Literals: numbers and texts on the card itself, from the first column of their range on.
 
 ghost use Rattle.std.specs.Prelude.{◌≡◌, ◌≢◌, ℕ, ◌+◌, ◌-◌, ◌^◌, ◌≤◌, ◌<◌, ◌↔◌, List, [], ◌∷◌, None, length, option_map, position, IfNone, IfSome, IsTrue};
 ghost use Rattle.std.specs.List.{list_all, before_first, after_first};
@@ -45,7 +45,7 @@ fn numeric_literal(text: &[u8]) -> Option<NumericLiteral>
     numeral(minus, whole, behind)
 }
 
-/// Whether a minus sign stands first, and what is behind a sign.
+/// Whether a minus sign comes first, and what follows a sign.
 fn without_sign(text: &[u8]) -> (bool, &[u8])
     ensures minus { result.0 ≡ starts_with_minus text.now }
     ensures rest { result.1.now ≡ without_leading_sign text.now }
@@ -58,7 +58,7 @@ fn without_sign(text: &[u8]) -> (bool, &[u8])
     }
 }
 
-/// What stands before the first point, and what stands behind it.
+/// The text before the first point, and the text after it.
 fn around_point(text: &[u8]) -> (&[u8], &[u8])
     ensures before { result.0.now ≡ before_first values.is_point text.now }
     ensures behind { result.1.now ≡ after_first values.is_point text.now }
@@ -79,7 +79,7 @@ fn point(text: &[u8]) -> Option<usize>
     text.iter().position(|c| *c == b'.')
 }
 
-/// The number of these digits before its point and these behind it.
+/// The number of these digits before its point and these after it.
 fn numeral(minus: bool, whole: &[u8], behind: &[u8]) -> Option<NumericLiteral>
     requires short { length whole.now + length behind.now ≤ 10 }
     requires point { length behind.now ≤ 9 }
@@ -124,7 +124,7 @@ fn is_enclosed(text: &[u8]) -> bool
     matches!(text, [b'\'', _, .., b'\''])
 }
 
-/// The text whose apostrophes are written twice: none where one of them stands alone.
+/// The text whose apostrophes are written twice: none if one of them is single.
 #[tactic(auto, using(crate::proofs::LiteralLemmas::one_more))]
 fn undoubled<const N: usize>(text: &[u8]) -> Option<Word<N>>
     requires { length text.now ≤ N }
@@ -140,7 +140,7 @@ fn undoubled<const N: usize>(text: &[u8]) -> Option<Word<N>>
     Some(word)
 }
 
-/// The character that stands first, and what is behind it: none where it is an apostrophe that stands alone.
+/// The first character, and what follows it: none if it is a single apostrophe.
 fn first_undoubled(text: &[u8]) -> Option<(u8, &[u8])>
     requires { 0 < length text.now }
     ensures first { IfSome result (λ first. values.undoubled text.now ≡ option_map (λ t. first.0 ∷ t) (values.undoubled first.1.now)) }

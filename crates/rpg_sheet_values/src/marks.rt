@@ -1,4 +1,4 @@
-//! Texts that stand for one thing: a spelling, a mark, blanks.
+//! Texts with one meaning: a spelling, a mark, blanks.
 
 ghost use Rattle.std.specs.Prelude.{◌≡◌, None, Some, if◌then◌else◌, option_map};
 ghost use Rattle.rpg_sheet_specs.specs.Values as values;

@@ -1,4 +1,4 @@
-//! Numbers as cards have them: digits behind blanks.
+//! Numbers as cards have them: blanks, then digits.
 
 ghost use Rattle.std.specs.Prelude.{◌≡◌, ◌-◌, ◌^◌, ◌≤◌, ◌<◌, length, IsTrue};
 ghost use Rattle.std.specs.List.{list_all};
@@ -23,7 +23,7 @@ pub(crate) fn has_only_digits(text: &[u8]) -> bool
     text.iter().all(|c| c.is_ascii_digit())
 }
 
-/// The number that digits write behind those of `before`.
+/// The number that digits write after those of `before`.
 pub(crate) fn value_after(before: u64, digits: &[u8]) -> u64
     requires digits { IsTrue (list_all is_ascii_digit digits.now) }
     requires short { length digits.now ≤ 10 }

@@ -1,4 +1,4 @@
-//! Words that stand for one of a few things.
+//! Words that mean one of a few things.
 
 ghost use Rattle.std.specs.Prelude.{◌≡◌, length, Some, [], ◌∷◌, codes};
 ghost use Rattle.rpg_sheet_specs.specs.Cards as cards;
@@ -96,7 +96,7 @@ fn operation_but_arithmetic(text: &[u8]) -> Option<Operation>
     }
 }
 
-/// A move, a setting or a branch, and what comes behind them in the table.
+/// A move, a setting or a branch, and what follows them in the table.
 fn operation_but_on_numbers(text: &[u8]) -> Option<Operation>
     ensures { result ≡ values.one_of ((codes "MOVE ", op.Move) ∷ (codes "MOVEL", op.MoveLeft) ∷ (codes "SETON", op.SetOn) ∷ (codes "SETOF", op.SetOff) ∷ (codes "GOTO ", op.GoTo) ∷ (codes "EXSR ", op.Call) ∷ (codes "TAG  ", op.Label) ∷ (codes "BEGSR", op.BeginSubroutine) ∷ (codes "ENDSR", op.EndSubroutine) ∷ (codes "EXCPT", op.Except) ∷ []) text.now }
 {
