@@ -1,4 +1,4 @@
--- Groups of C cards, one behind the other.
+-- Groups of C cards, one after another.
 use Rattle.std.specs.Prelude.{◌≡◌, ℕ, suc, ◌+◌, length, Bool, false, List, [], ◌∷◌, Option, None, Some, drop, if◌then◌else◌}
 use Rattle.rpg_cards.specs.Calculations.{CalculationGroup, awaited_level, calculations, goes_on, last_card}
 use Rattle.rpg_cards.specs.Deeds.{Calculation, Deed}
@@ -21,7 +21,7 @@ abbrev pub first_calculation : List SpecCard → Option CalculationSpec
 first_calculation [] = None
 first_calculation (c ∷ cs) = calculation_on c.spec
 
--- how many AN and OR cards stand at the front
+-- how many AN and OR cards there are at the front
 abbrev pub joining : List SpecCard → ℕ
 joining [] = 0
 joining (c ∷ cs) = if goes_on (c ∷ cs) then suc (joining cs) else 0

@@ -15,7 +15,7 @@ use rpg_compile_layouts::FieldTable;
 use rpg_effect::operation::{Action, Index, Operand, Operator, Side};
 use rpg_sheet_specs::{CalculationSpec, Entry, Factor, Operation};
 
-/// What an operation does to fields: nothing where it only says where control goes.
+/// What an operation does to fields: nothing where it only transfers control.
 pub(crate) fn action_of(
     table: &FieldTable,
     calculation: &CalculationSpec,

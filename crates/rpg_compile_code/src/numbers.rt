@@ -33,7 +33,7 @@ impl NameNumbers {
         }
     }
 
-    /// The subroutines of these cards, from 0. A name that none has gets the number behind the last one.
+    /// The subroutines of these cards, from 0. Any other name gets the number after the last one.
     pub(crate) fn of_subroutines(alloc: Global, cards: &[SpecCard]) -> Result<Self, AllocError>
         requires { length (subroutines_in cards.now) < 65536 }
         ensures { IfOk result (λ t. (n : Option (List ℕ)) → numbers_of.number_by t n ≡ callee n (subroutines_in cards.now)) }
@@ -44,7 +44,7 @@ impl NameNumbers {
     }
 
     /// The labels of a section that begins at this place, in place of those before. Any other label is at the section's end, which is
-    /// the answer.
+    /// the result.
     pub(crate) fn note_section(
         &mut self,
         part: Part,
@@ -74,7 +74,7 @@ impl NameNumbers {
     }
 }
 
-/// Notes the labels of a section that begins at this place. Answers the place behind the section.
+/// Notes the labels of a section that begins at this place. Returns the place after the section.
 fn note_labels(
     places: &mut IndexMap<Name, u16>,
     part: Part,
@@ -95,7 +95,7 @@ fn note_labels(
     Ok(place)
 }
 
-/// Notes the names of subroutines. Answers how many subroutines there are.
+/// Notes the names of subroutines. Returns how many subroutines there are.
 fn note_subroutines(
     numbers: &mut IndexMap<Name, u16>,
     cards: &[SpecCard],

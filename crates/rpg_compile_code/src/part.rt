@@ -11,7 +11,7 @@ use rpg_cards::{SpecCard, begins_subroutine, is_subroutine, plain_name};
 use rpg_sheet_specs::{CalculationSpec, ControlLevel};
 use rpg_symbols::Name;
 
-/// Which calculations are written one behind the other.
+/// Which calculations are written one after another.
 #[derive(Clone, Copy)]
 pub(crate) enum Part {
     Detail,
@@ -44,7 +44,7 @@ impl Part {
     }
 }
 
-/// The next group of a section, and the cards behind it.
+/// The next group of a section, and the cards after it.
 pub(crate) fn next_in(part: Part, cards: &[SpecCard]) -> Option<(CardGroup<'_>, &[SpecCard])>
     ensures { MatchOption result (walk.section_in part cards.now ≡ [])
         (λ r. (walk.section_in part cards.now ≡ calculation_of r.0 ∷ walk.section_in part r.1.now) × (length r.1.now < length cards.now)) }
@@ -62,7 +62,7 @@ pub(crate) fn next_in(part: Part, cards: &[SpecCard]) -> Option<(CardGroup<'_>, 
     None
 }
 
-/// The name of the next subroutine, and the cards behind its BEGSR.
+/// The name of the next subroutine, and the cards after its BEGSR.
 pub(crate) fn next_subroutine(cards: &[SpecCard]) -> Option<(Option<&Name>, &[SpecCard])>
     ensures { MatchOption result (walk.subroutines_in cards.now ≡ [])
         (λ r. (walk.subroutines_in cards.now ≡ record { name = option_copied r.0; body = walk.section_in parts.Body r.1.now } ∷ walk.subroutines_in r.1.now) × (length r.1.now < length cards.now)) }

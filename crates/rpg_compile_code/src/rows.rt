@@ -78,7 +78,7 @@ struct Writer<'a> {
 }
 
 impl Writer<'_> {
-    /// A section that begins at this place, and the place behind it. `own` is the number of the subroutine.
+    /// A section that begins at this place, and the place after it. `own` is the number of the subroutine.
     fn section(
         &mut self,
         own: u16,

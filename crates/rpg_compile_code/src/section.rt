@@ -79,7 +79,7 @@ fn push_cards(
     code.push(last)
 }
 
-/// A SKIP to behind the group, where it waits for an indicator.
+/// A SKIP past the group, where it waits for an indicator.
 fn push_level(code: &mut Code, level: Option<u8>, behind: u16) -> Result<(), AllocError>
     requires { ForSome level IsIndicator }
     ensures { OnOk result (code.new ≡ code.old ++ code_of.level_code behind level) }

@@ -34,7 +34,7 @@ pub(crate) fn count_tests(cards: &[SpecCard]) -> u16
     count
 }
 
-/// The tests of the last alternative: each SKIPs to behind the group.
+/// The tests of the last alternative: each SKIPs past the group.
 fn push_last(code: &mut Code, cards: &[SpecCard], behind: u16) -> Result<(), AllocError>
     ensures { OnOk result (code.new ≡ code.old ++ map (code_of.skip_code behind) (tests.tests_in cards.now)) }
 {
@@ -86,7 +86,7 @@ fn begins(card: &SpecCard) -> bool
     }
 }
 
-/// Where the next alternative begins, behind the first card.
+/// Where the next alternative begins, after the first card.
 #[tactic(auto, using(crate::proofs::Alternatives::begins_here, crate::proofs::Alternatives::goes_on))]
 fn next_alternative(cards: &[SpecCard]) -> Option<usize>
     requires { 0 < length cards.now }
@@ -101,7 +101,7 @@ fn next_alternative(cards: &[SpecCard]) -> Option<usize>
     None
 }
 
-/// The tests of a group's cards, from a place on. `behind` is the place behind the group.
+/// The tests of a group's cards, from a place on. `behind` is the place after the group.
 #[tactic(auto, using(crate::proofs::Alternatives::tests_step))]
 pub(crate) fn push_tests(
     code: &mut Code,

@@ -26,7 +26,7 @@ sizes (g ∷ gs) = size g + sizes gs
 
 -- ---- labels
 
--- the place of the next instruction of the section behind a label; its end where there is no such label
+-- the place of the next instruction of the section after a label; its end where there is no such label
 abbrev pub label_place : Option Name → List (Calculation Key) → ℕ → ℕ
 label_place n [] place = place
 label_place n (g ∷ gs) place = if is_same_name n (label_on g.deed) then place else label_place n gs (place + size g)
@@ -45,7 +45,7 @@ jump target cs = made.Branch true cs target
 abbrev pub skip_code : ℕ → Conditions → Instruction ℕ
 skip_code target cs = made.Branch false cs target
 
--- a SKIP to behind the group, where it waits for an indicator
+-- a SKIP past the group, where it waits for an indicator
 abbrev pub level_code : ℕ → Option ℕ → List (Instruction ℕ)
 level_code behind None = []
 level_code behind (Some n) = skip_code behind (on_level n) ∷ []
@@ -56,7 +56,7 @@ alternative_code next operation [] = []
 alternative_code next operation (cs ∷ []) = jump operation cs ∷ []
 alternative_code next operation (cs ∷ ds ∷ rest) = skip_code next cs ∷ alternative_code next operation (ds ∷ rest)
 
--- alternatives from a place on; the last one SKIPs to behind the group
+-- alternatives from a place on; the last one SKIPs past the group
 abbrev pub tests_code : ℕ → ℕ → ℕ → List (List Conditions) → List (Instruction ℕ)
 tests_code place operation behind [] = []
 tests_code place operation behind (cs ∷ []) = map (skip_code behind) cs
@@ -82,7 +82,7 @@ module _ (number : Key → ℕ) (place_of callee_of : Option Name → ℕ) (own 
       ++ step_code g.deed)
       else []
 
-  -- groups one behind the other, from a place on
+  -- groups one after another, from a place on
   unfoldable pub code_from : ℕ → List (Calculation Key) → List (Instruction ℕ)
   code_from place [] = []
   code_from place (g ∷ gs) = group_code place g ++ code_from (place + size g) gs

@@ -34,7 +34,7 @@ abbrev pub kind_by : Option ℕ → Kind
 kind_by None = kind.Text
 kind_by (Some decimals) = kind.Number
 
--- an entry that is bad stands for zero
+-- a bad entry counts as zero
 abbrev pub entry_value : TableSpec → List ℕ → Value
 entry_value t text = unwrap_or (value_read (kind_by t.decimals) text) (first_of_kind (kind_by t.decimals) t.length)
 
@@ -42,7 +42,7 @@ entry_value t text = unwrap_or (value_read (kind_by t.decimals) text) (first_of_
 abbrev pub Loaded : Type 0
 Loaded = List ℕ × List Value
 
--- the tables of a card, one behind the other on each card of data
+-- the tables of a card, one after another on each card of data
 abbrev pub tables_loaded : ExtensionSpec → ℕ → List (List ℕ) → ℕ → List TableSpec → List Loaded
 tables_loaded e per_card deck from [] = []
 tables_loaded e per_card deck from (t ∷ ts) =
@@ -61,7 +61,7 @@ all_loaded (e ∷ es) decks = with_deck e e.entries_per_card decks (λ rest. all
 abbrev pub extensions : List SpecCard → List ExtensionSpec
 extensions cards = filter_map (λ c. extension_on c.spec) cards
 
--- the cards of data behind each `**` card
+-- the cards of data after each `**` card
 abbrev pub decks : List SpecCard → List (List (List ℕ))
 decks cards = map (λ (g : Group (Unit {0}) (List ℕ)). g.followers) (groups data_role cards)
 

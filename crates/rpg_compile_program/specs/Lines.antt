@@ -62,7 +62,7 @@ put_length cards files.Disk = record_length_of (file_for uses.Disk cards)
 abbrev pub is_unmoved : Movement → Bool
 is_unmoved m = is_none m.space_before && is_none m.space_after && is_none m.skip_before && is_none m.skip_after
 
--- on the printer one space after, where nothing stands
+-- on the printer one space after, where these columns are blank
 abbrev pub spaces_after : File → Movement → ℕ
 spaces_after files.Printer m = if is_unmoved m then 1 else unwrap_or m.space_after 0
 spaces_after files.Disk m = unwrap_or m.space_after 0
@@ -77,7 +77,7 @@ spacing_of file m = record {
 
 -- ---- when a line is put out
 
--- conditions of AND cards go on with the alternative, an OR card begins one
+-- an AND card continues the alternative, an OR card begins one
 abbrev pub line_alternatives : List Condition → List OutputSpec → List (List Condition)
 line_alternatives so_far [] = so_far ∷ []
 line_alternatives so_far (output.And cs ∷ os) = line_alternatives (so_far ++ standing cs) os
@@ -103,7 +103,7 @@ puts_page f = option_map_or names_page f.operand false
 abbrev pub output_source : OutputField → Source
 output_source f = if puts_page f then source.Page else source.Value
 
--- beside a name without a code the text is an edit word, and PAGE with neither is edited with Z
+-- with a name and no code the text is an edit word, and PAGE with neither is edited with Z
 abbrev pub editing_unmarked : Bool → Option (List ℕ) → Editing Key
 editing_unmarked page (Some text) = editing.Word (Fixed (constant.Text text))
 editing_unmarked page None = if page then editing.Code edit.Z else editing.Plain
@@ -115,7 +115,7 @@ editing_by f None = if is_some f.operand then editing_unmarked (puts_page f) f.t
 abbrev pub editing_of : OutputField → Editing Key
 editing_of f = editing_by f f.code
 
--- the text beside a code is a fill
+-- with a code the text is a fill
 abbrev pub fill_by : List ℕ → Fill
 fill_by text = if pointwise nat_eq text (codes "*") then fills.Star else (if pointwise nat_eq text (codes "$") then fills.Dollar else fills.Blank)
 

@@ -1,4 +1,4 @@
--- The program that the cards of a source stand for: what they say by names, at the numbers of the names.
+-- The program that the cards of a source stand for, with numbers in place of their names.
 use Rattle.std.specs.Prelude.{ℕ, Bool, ◌||◌, List, map, is_some, if◌then◌else◌}
 use Rattle.std.specs.Option.{option_and_then}
 use Rattle.rpg_cards.specs.Calculations.{calculations}
@@ -28,7 +28,7 @@ key_numbers cards = key_number (table_of cards)
 abbrev pub types_of : List SpecCard → List (TypeRow ℕ)
 types_of cards = map (renamed_type (key_numbers cards)) (types_on cards)
 
--- a line's row doesn't tell its length: the file has it
+-- a line's row has no length: the file has it
 abbrev pub row_of_line : Line ℕ → LineRow
 row_of_line l = record { file = l.file; time = l.time; spacing = l.spacing; alternatives = l.alternatives; fields = l.fields }
 

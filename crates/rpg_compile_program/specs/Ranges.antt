@@ -1,4 +1,4 @@
--- The ranges of what stands on cards, whatever faults they have: what the sheets let stand in their columns.
+-- The ranges of the values on cards, whatever faults they have: what the sheets allow in their columns.
 use Rattle.std.specs.Prelude.{◌≡◌, ℕ, ◌≤◌, List, length, Option, IsTrue}
 use Rattle.std.specs.List.{list_all}
 use Rattle.std.specs.Option.{ForSome}
@@ -30,7 +30,7 @@ use Rattle.rpg_sheet_specs.specs.declared.spec.Spec.{Spec}
 use Rattle.rpg_sheet_specs.specs.declared.spec.Spec.TheVariants as spec
 use Rattle.rpg_text.specs.Texts.{is_character}
 
--- each of three that stands
+-- each of three that is present
 pub record InThree {X : Type 0} (P : X → Type 0) (t : Three (Option X)) : Type 0 where
   pub first : ForSome t.first P
   pub second : ForSome t.second P

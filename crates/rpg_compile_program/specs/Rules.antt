@@ -1,4 +1,4 @@
--- The rules of cards: a source of which no card breaks any of them.
+-- The rules of cards: a source in which no card breaks any of them.
 use Rattle.std.specs.Prelude.{◌≡◌, List, false}
 use Rattle.rpg_cards.specs.declared.spec_card.SpecCard.{SpecCard}
 use Rattle.rpg_faults_flow.specs.Columns as calculations
@@ -18,7 +18,7 @@ use Rattle.rpg_faults_operands.specs.Names.{lacks_name}
 use Rattle.rpg_faults.specs.Data.{breaks_data}
 use Rattle.rpg_faults.specs.Places.{misplaces}
 
--- F11 and F15 say nothing that a program needs
+-- a program needs nothing of F11 and F15
 pub record KeepsCardRules (cards : List SpecCard) : Type 0 where
   pub f1 : KeepsRule (λ before c after. lacks_name cards c after) cards
   pub f2 : KeepsRule (λ before c after. redefines before c) cards

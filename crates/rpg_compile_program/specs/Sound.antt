@@ -1,11 +1,11 @@
--- What a source without a fault says of its sections: what the rules on targets, calls and returns need.
+-- What a source without a fault says about its sections: what the rules on targets, calls and returns need.
 use Rattle.std.specs.Prelude.{◌≡◌, ℕ, suc, ◌+◌, ◌<◌, true, List, [], ◌∷◌, ◌++◌, Option, None}
 use Rattle.rpg_cards.specs.Deeds.{Calculation, Deed, Ends, Executes, tests}
 use Rattle.rpg_cards.specs.Keys.{Key, Name}
 use Rattle.rpg_cards.specs.Sections.{Sections, Subroutine, callee}
 use Rattle.rpg_cards.specs.Plain.{Each, HasGoal, IsNoReturn, defines_subroutine}
 
--- an EXSR's subroutine is there, and of a higher level than the one it stands in
+-- an EXSR's subroutine is there, and of a higher level than the one that the EXSR is in
 abbrev pub CallsUp : List (Subroutine Key) → (ℕ → ℕ) → ℕ → Deed Key → Type 0
 CallsUp all level low (Executes n) = (defines_subroutine n all ≡ true) × (low < level (callee n all))
 CallsUp all level low _ = Unit {0}

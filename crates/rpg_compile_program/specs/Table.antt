@@ -26,14 +26,14 @@ with_form fields name (Some form) = with_name fields name form
 abbrev pub with_definition : NamedForms → Definition → NamedForms
 with_definition fields d = with_form fields d.name d.form
 
--- those that stand already, and what is defined further
+-- those that are there already, and then the new definitions
 abbrev pub with_definitions : NamedForms → List Definition → NamedForms
 with_definitions fields ds = fold with_definition fields ds
 
 abbrev pub defined_fields : List SpecCard → NamedForms
 defined_fields cards = with_definitions given (definitions cards)
 
--- ---- names, and constants behind them
+-- ---- names, and constants after them
 
 pub record Table : Type 0 where
   pub names : NamedForms
@@ -54,7 +54,7 @@ forms t = name_forms t.names ++ map constant_form t.constants
 abbrev pub name_number : Table → List ℕ → ℕ
 name_number t name = unwrap_or (number_of_name t.names name) 0
 
--- the number of a constant: its place behind the names
+-- the number of a constant: its place after the names
 abbrev pub constant_number : Table → Constant → ℕ
 constant_number t c = unwrap_or (option_map (λ i. length t.names + i + 1) (position (is_same c) t.constants)) 0
 

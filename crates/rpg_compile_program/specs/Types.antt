@@ -42,7 +42,7 @@ input_file file = option_map_or (λ f. file_read (file_use f)) file Primary
 abbrev pub record_code_of : RecordCode → row_code.RecordCode
 record_code_of c = record { position = c.position; is_negated = c.negated; character = c.character }
 
--- those that stand, in the order of the columns
+-- those that are present, in the order of the columns
 abbrev pub codes_of : Three (Option RecordCode) → List row_code.RecordCode
 codes_of t = map record_code_of (filter_map (λ c. c) (t.first ∷ t.second ∷ t.third ∷ []))
 

@@ -19,7 +19,7 @@ total_code number s = section_code number (called_number s) 0 (sizes s.detail) s
 abbrev pub subroutine_rows : (Key → ℕ) → (ℕ → ℕ) → Sections Key → List SubroutineRow
 subroutine_rows number level s = subroutines_code number (called_number s) level 0 (sizes s.detail + sizes s.total) s.subroutines
 
--- the sections' code stands in the program
+-- the program has the sections' code
 pub record IsCodeOf (number : Key → ℕ) (level : ℕ → ℕ) (s : Sections Key) (p : Object) : Type 0 where
   pub detail : p.detail ≡ detail_code number s
   pub total : p.total ≡ total_code number s

@@ -1,4 +1,4 @@
-//! Laws of the definitions. The functions do nothing: each is called for its contract alone.
+//! Laws of the definitions. The functions do nothing: they are called only for their contracts.
 
 ghost use Rattle.std.specs.Ordering.{nat_cmp};
 ghost use Rattle.std.specs.Prelude.{◌≡◌, ℕ, List, map};

@@ -1,4 +1,4 @@
-//! The object program that the cards of a source stand for: definitions (in specs/), and what is always so of them.
+//! The object program that the cards of a source stand for: definitions (in specs/), and what always holds for them.
 #![tactic(auto)]
 
 pub mod laws;

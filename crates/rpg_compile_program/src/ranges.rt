@@ -1,4 +1,4 @@
-//! What cards keep by their types, whatever faults they have. The functions do nothing: each is called for its contract alone.
+//! What cards keep by their types, whatever faults they have. The functions do nothing: they are called only for their contracts.
 
 ghost use Rattle.std.specs.Option.{ForSome};
 ghost use Rattle.rpg_cards.specs.Constants.{IsConstant, constant_of};

@@ -18,7 +18,7 @@ use Rattle.rpg_compile_program.specs.Program.{program_of, sections}
 use Rattle.rpg_compile_program.specs.Table.{defined_fields, forms, table_of}
 use Rattle.rpg_compile_program.specs.Types.{types_on}
 
--- all that the format asks, but for first values
+-- all that the format requires, except for first values
 pub record KeepsLimits (cards : List SpecCard) : Type 0 where
   -- ---- files
   pub shortest_record : 1 ≤ record_length_of (file_for uses.Primary cards)

@@ -1,4 +1,4 @@
-//! Laws of the definitions. The functions do nothing: each is called for its contract alone.
+//! Laws of the definitions. The functions do nothing: they are called only for their contracts.
 
 ghost use Rattle.rpg_faults.specs.Faults.{Faultless};
 ghost use Rattle.rpg_object_program.specs.Kept.{AreValuesOf};
@@ -10,7 +10,7 @@ use rpg_compile_program::ranges::cards_are_in_range;
 use rpg_decimal::texts_spell_by_places;
 
 /// What the fields of a source without a fault hold before the first cycle fits them: each has as many values as entries,
-/// and each value has the kind and the length of its field. Arrays and tables with data hold what stands on their cards.
+/// and each value has the kind and the length of its field. Arrays and tables with data hold what is on their cards.
 pub fn faultless_sources_fill_their_fields(cards: &[SpecCard])
     ensures { Faultless cards.now → AreValuesOf (forms (table_of cards.now)) (values_of cards.now) }
 {

@@ -25,8 +25,8 @@ use rpg_object_program::row::{Rows, Version};
 use rpg_sheet_specs::FileSpec;
 use std::alloc::{AllocError, Global};
 
-/// The program of cards without a fault. `allowance` is what it may spend in a cycle on backward branches and calls. An error is for
-/// want of memory.
+/// The program of cards without a fault. `allowance` is what it may spend in a cycle on backward branches and calls. It fails only
+/// when memory runs out.
 pub fn translate(alloc: Global, cards: &[SpecCard], allowance: u16) -> Result<Program, AllocError>
     requires allowed { 0 < allowance }
     requires few { length cards.now ≤ 2000 }
