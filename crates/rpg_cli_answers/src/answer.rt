@@ -1,4 +1,4 @@
-//! What the program answers to a command.
+//! How a command ends.
 
 ghost use Rattle.std.specs.Prelude.{◌≡◌};
 ghost use Rattle.rpg_cli_answers.specs.Named.{named_fault};

@@ -1,12 +1,12 @@
-//! Who hears what is told beside the line of an answer.
+//! Where a command prints its text, apart from the line of its answer.
 
 use rpg_cli_files::Reason;
 
-/// Where a person reads what is told, standard error, and what is shown, standard output.
+/// Writes diagnostics to standard error and texts to standard output.
 pub trait Listener {
-    /// Tells a text. Nobody hears of a text that can't be told.
+    /// Prints a diagnostic. A failure to write it is ignored.
     fn tell(&mut self, text: &str);
 
-    /// Shows a text before the line, or says why not all of it could be shown.
+    /// Prints a text before the line. An error is the reason why not all of it was written.
     fn show(&mut self, text: &str) -> Result<(), Reason>;
 }

@@ -16,7 +16,7 @@ pub enum Stop {
     Job { answer: Answer, reasons: Reasons },
 }
 
-/// Why the files of a job failed, as far as the system tells it.
+/// Why the files of a job failed, as far as the system reports it.
 #[derive(Clone, Copy)]
 pub struct Reasons {
     pub input: Option<Reason>,

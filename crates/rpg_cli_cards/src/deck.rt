@@ -73,7 +73,7 @@ fn write_deck(out: &mut TextWriter, shorthand: &[u8]) -> Result<(), ShorthandFau
 
 /// The cards that lines of shorthand stand for, a line each without the blanks at its end, up to the line `/*`, which isn't among them. A line is
 /// the form type of a card, a blank, and then for each text its column, `=` and the text; a line `**` begins data, which are cards as they
-/// are. The first line that is no card is an error.
+/// are. An error is the first line that is not a card.
 pub fn deck_of(alloc: Global, shorthand: &[u8]) -> Result<String, ShorthandFault> {
     let mut out = TextWriter::new(alloc);
     write_deck(&mut out, shorthand)?;

@@ -7,9 +7,9 @@ use std::alloc::AllocError;
 pub enum LineFault {
     /// A byte is no character.
     NoCharacter,
-    /// There is no blank behind the form type.
+    /// There is no blank after the form type.
     NoBlank,
-    /// A text stands in no column.
+    /// A text has no column.
     NoColumn,
     /// There is no such column, or it is the form type's.
     BadColumn,

@@ -12,7 +12,7 @@ fn digit(character: u8) -> Option<u8>
     }
 }
 
-/// A column of one or two digits with its sign of equality, and what stands behind.
+/// A column of one or two digits with its equals sign, and what follows.
 pub(crate) fn column_at(text: &[u8]) -> Option<(u8, &[u8])> {
     match text {
         [ones, b'=', behind @ ..] => Some((digit(*ones)?, behind)),
@@ -21,7 +21,7 @@ pub(crate) fn column_at(text: &[u8]) -> Option<(u8, &[u8])> {
     }
 }
 
-/// The text of an item, and what stands behind it from the next item on.
+/// The text of an item, and what follows it from the next item on.
 pub(crate) fn cut(text: &[u8]) -> (&[u8], &[u8]) {
     for (place, character) in text.iter().enumerate() {
         let behind = text.get(place.saturating_add(1)..).unwrap_or(&[]);

@@ -19,7 +19,7 @@ const COLUMNS: usize = 80;
 /// The place of the form type, the first being 0.
 const FORM_TYPE: usize = 5;
 
-/// What the writer of a card stands in.
+/// What the writer of a card is inside of.
 #[derive(Clone, Copy)]
 enum Within {
     Columns,
@@ -28,7 +28,7 @@ enum Within {
     Comment,
 }
 
-/// Where the writer of a card stands, and whether an item is open there.
+/// What the writer of a card is inside of, and whether an item is open there.
 #[derive(Clone, Copy)]
 struct Open {
     item: bool,
@@ -68,7 +68,7 @@ fn begins_item(open: Open, line: &[u8], place: usize) -> bool {
     !open.item || (open.within.is_columns() && begins_range(line, column))
 }
 
-/// Writes a character of a card, and answers what is open after it.
+/// Writes a character of a card, and returns what is open after it.
 fn write_character(
     out: &mut TextWriter,
     open: Open,
@@ -160,8 +160,8 @@ fn write_cards(out: &mut TextWriter, source: &[u8]) -> Result<(), SourceFault> {
 }
 
 /// The cards of a source as lines of shorthand, up to the card `/*`, which isn't among them. An item begins after a blank and where a range of the
-/// card's sheet begins; a text between apostrophes is one item with its blanks. The first card that has more than 80 characters, or a byte that is none,
-/// is an error, and so is card 2,001; nothing else is asked of the cards.
+/// card's sheet begins; a text between apostrophes is one item with its blanks. An error is the first card that has more than 80 characters or a
+/// byte that is no character, or card 2,001. The cards may break any other rule.
 pub fn shorthand_of(alloc: Global, source: &[u8]) -> Result<String, SourceFault> {
     let mut out = TextWriter::new(alloc);
     write_cards(&mut out, source)?;

@@ -1,4 +1,4 @@
-//! What the cards of a source say of the rows of its object program: the names of its fields, and the cards that its rows stand on.
+//! What the cards of a source say about the rows of its object program: the names of its fields, and the cards that its rows come from.
 #![tactic(auto)]
 
 mod fields;

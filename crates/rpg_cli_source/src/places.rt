@@ -11,7 +11,7 @@ fn ends_in_instruction(card: &SpecCard) -> bool {
     }
 }
 
-/// Whether a card begins a calculation: AN and OR cards go on with the one before.
+/// Whether a card begins a calculation: AN and OR cards continue the one before.
 fn begins(card: &SpecCard) -> bool {
     match card.calculation() {
         Some(calculation) => !joins(calculation),
@@ -76,7 +76,7 @@ fn push_group(places: &mut Vec<u16>, cards: &[SpecCard]) -> Result<(), AllocErro
     Ok(places.push(last.number)?)
 }
 
-/// The cards of the instructions of a source without a fault, place by place: its calculations stand in the order of their sections.
+/// The cards of the instructions of a source without a fault, place by place: its calculations are in the order of their sections.
 pub(crate) fn place_cards(alloc: Global, cards: &[SpecCard]) -> Result<Vec<u16>, AllocError> {
     let mut places = Vec::new(alloc);
     for (i, card) in cards.iter().enumerate() {

@@ -6,7 +6,7 @@ use crate::places::place_cards;
 use rpg_cards::SpecCard;
 use std::alloc::{AllocError, Global};
 
-/// What the cards of a source say of the rows of its object program. Rows and places are counted from 0, the fields of a program from 1.
+/// What the cards of a source say about the rows of its object program. Rows and places are counted from 0, the fields of a program from 1.
 #[derive(Drop)]
 pub struct SourceRows {
     fields: NamedFields,
@@ -56,7 +56,7 @@ impl SourceRows {
         self.lines.field(row, field)
     }
 
-    /// The card that an instruction was made of, by its place in the whole program.
+    /// The card that an instruction comes from, by its place in the whole program.
     pub fn place_card(&self, place: usize) -> Option<u16> {
         self.places.get(place).copied()
     }

@@ -1,10 +1,10 @@
-//! A text that is written piece by piece, and asked once at its end whether memory sufficed.
+//! A text that is written piece by piece, with one check at its end that memory sufficed.
 
 use rpg_text::shown;
 use std::alloc::{AllocError, Global};
 use std::fmt::Display;
 
-/// A text under way. Where memory is refused it takes nothing more, and [`TextWriter::finish`] answers the refusal: so nothing in between has to.
+/// A text under way. Once an allocation fails it takes nothing more, and [`TextWriter::finish`] returns the error: so nothing in between has to.
 #[derive(Drop)]
 pub struct TextWriter {
     text: String,
@@ -34,7 +34,8 @@ impl TextWriter {
         }
     }
 
-    /// Appends a foreign text: what is no character from blank to `~` becomes a question mark, so that no terminal is told anything by it.
+    /// Appends a text from outside: a byte that is no character from blank to `~` becomes a question mark, so that no control code reaches
+    /// a terminal.
     pub fn write_shown(&mut self, text: &[u8]) {
         for byte in text {
             self.write_char(shown(*byte) as char);
