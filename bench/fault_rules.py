@@ -1,4 +1,4 @@
-"""The rules of docs/FAULTS.md, said of the cards of a source one by one, each as it stands there. Nothing is shared with rpg2."""
+"""The rules of docs/FAULTS.md, applied to the cards of a source one by one, each as the page has it. Nothing is shared with rpg2."""
 
 import re
 from collections import namedtuple
@@ -123,7 +123,7 @@ def cards_of(source):
     return cards, decks
 
 
-# ---- the sheets' faults, where `?` stands in columns that never hold one
+# ---- the sheets' faults, where columns have a `?` that they never allow
 
 FREE = {"H": (7, 14), "F": (20, 23), "E": (58, 74), "C": (60, 74)}
 
@@ -293,7 +293,7 @@ class Rules:
     def label(self, name):
         return next((it for it in self.given if it[0] == name), None)
 
-    # ---- operands: what stands in the columns for fields, and what is wanted there
+    # ---- operands: what the columns for fields have, and what they require
 
     def operands(self, card):
         if card.sheet == "C":
@@ -764,7 +764,7 @@ def bad_word(word, digits):
 
 
 def zoned(text):
-    """The value of a number as it stands in a record; None where it is none."""
+    """The value of a number as a record has it; None if it isn't one."""
     digits = text.replace(" ", "0")
     last, sign = digits[-1], 1
     if last in "}JKLMNOPQR":

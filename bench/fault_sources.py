@@ -1,4 +1,4 @@
-"""Sources by chance, of which most have some faults."""
+"""Random sources, most of which have some faults."""
 
 from fault_rules import OPERATIONS
 
@@ -30,7 +30,7 @@ def right(text, width):
 
 
 class Source:
-    """A source by chance, good or nearly so, and changes of it that leave each card readable."""
+    """A random source, good or nearly so, and changes of it that leave each card readable."""
 
     def __init__(self, by):
         self.by = by
@@ -203,7 +203,7 @@ class Source:
             (40, right(self.mostly([20, 40], [4, 10, 120]), 4)), (45, text),
         )
 
-    # ---- changes: values of other kinds in the columns of a card, and cards that are left out or stand twice
+    # ---- changes: values of other kinds in the columns of a card, and cards that are left out or doubled
 
     CHANGES = {
         "F": [

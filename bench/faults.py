@@ -1,14 +1,14 @@
 #!/usr/bin/env python3
-"""Compares what `rpg2 check` tells of faulty sources with a count of its own.
+"""Compares what `rpg2 check` reports for faulty sources with a count of its own.
 
 usage: bench/faults.py [SOURCES [SEED]]        1,000 sources from seed 1 where they aren't given; RPG2 names the program
-       bench/faults.py --write FOLDER [SOURCES [SEED]]    writes the sources, and what is to be told of each, and runs nothing
+       bench/faults.py --write FOLDER [SOURCES [SEED]]    writes the sources, and the expected reports, and runs nothing
 
-It makes sources by chance and changes some columns and cards of each. The rules of docs/FAULTS.md are then said of its cards
-one by one, each as it stands there, and the pairs of a card and a code that come of it are compared with those that are told on
-standard error, in their order, and with the number of faults. Nothing is shared with rpg2, neither its code nor its tables. Of F6
-the number of entries alone is looked at, since no source is large enough for another limit. In one source of eight some cards
-can't be read: then these are told, and nothing else. The status is 1 where some source is told otherwise.
+It makes random sources and changes some columns and cards of each. The rules of docs/FAULTS.md are then applied to the cards one by
+one, each as the page has it, and the resulting pairs of a card and a code are compared with those reported on standard error, in
+their order, and with the number of faults. Nothing is shared with rpg2, neither its code nor its tables. Of F6 only the number of
+entries is tested, since no source is large enough for another limit. In one source of eight some cards can't be read: then only
+these are reported. The exit status is 1 if some source is reported otherwise.
 """
 
 import os
@@ -27,11 +27,11 @@ RPG2 = os.environ.get("RPG2", os.path.join(TOP, "crates/rpg2/out/rpg2"))
 MOST_TOLD = 20
 
 
-# ---- what is told
+# ---- what is reported
 
 
 def told_of(text):
-    """The pairs that are told one by one, and how many faults there are in all."""
+    """The pairs that are reported one by one, and how many faults there are in all."""
     pairs = [(int(card or 0), code) for card, code in re.findall(r"^[^:\n]+(?::(\d+))?(?::\d+)?: ([SF]\d+): ", text, re.M)]
     last = re.search(r": (?:(\d+) faults?|(\d+) cards can't be read|(this card) can't be read)[^\n]*\n\Z", text)
     count = 0 if last is None else 1 if last[3] else int(last[1] or last[2])

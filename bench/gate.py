@@ -5,7 +5,7 @@ usage, at the top of the repository:
     bench/gate.py                           runs tests/all.py, whose own lines come through as it prints them
     bench/gate.py make run                  measures another command in the same way
 
-Behind the command's own lines it prints a table, a line for each crate, in seconds of a processor:
+After the command's own lines it prints a table, a line for each crate, in seconds of a processor:
     proof   the check of the crate from nothing
     tests   the check of the crate with its tests
     edits   the checks of its wrong bodies, by tests/edits.py
@@ -15,7 +15,7 @@ and then what belongs to no crate (rt itself, the runs of programs and tests, wh
 whole in processor minutes, and the wall time. Its status is the command's. The whole is exact, since the system counts it;
 the parts are what each process had used when it was last looked at, a fifth of a second before its end or less.
 
-What a check costs depends on the load: compare runs on one machine with the same work beside them. It isn't part of the gate.
+What a check costs depends on the load: compare runs on one machine with the same other work. It isn't part of the gate.
 """
 
 import os
@@ -75,7 +75,7 @@ def task_of(pid):
 
 
 def look(top, known, used):
-    """Adds what the processes that run now have used, each to the uppermost process of rattle that it stands below."""
+    """Adds what the processes that run now have used, each to the uppermost process of rattle above it."""
     below = processes_below(top)
     for pid, it in below.items():
         if not known.get((pid, it.started)):

@@ -1,11 +1,11 @@
 #!/usr/bin/env python3
-"""Tells where the instructions of a record go, by callgrind.
+"""Prints where the instructions of a record go, by callgrind.
 
 usage: bench/profile.py total|sales [FUNCTION]        RPG2 names the program
 
 Without FUNCTION it prints the instructions a record of each function itself, without those that it calls; with it, of each address in the
-functions whose names hold that text, beside the disassembly. A count is the difference between runs over 2,000 and 4,000 records of a job
-of bench/running.py, divided by 2,000; so what is done once falls out.
+functions whose names have that text, next to the disassembly. A count is the difference between runs over 2,000 and 4,000 records of a job
+of bench/running.py, divided by 2,000; so what is done once drops out.
 """
 
 import os
@@ -18,7 +18,7 @@ import running
 
 
 def add_lines(report, sign, counts):
-    """Adds the costs that a file of callgrind tells, by function and address, or takes them away."""
+    """Adds or subtracts the costs in a file of callgrind, by function and address."""
     function, is_call = "", False
     for line in report:
         if line.startswith("fn="):
@@ -26,7 +26,7 @@ def add_lines(report, sign, counts):
         elif line.startswith("calls="):
             is_call = True
         elif line.startswith("0x"):
-            # The line behind a call has what was spent in it, which its own function tells.
+            # The line after a call has what was spent in it, which its own function has too.
             if not is_call:
                 place = (function, int(line.split()[0], 16))
                 counts[place] = counts.get(place, 0) + sign * int(line.split()[-1])

@@ -1,7 +1,7 @@
 #!/usr/bin/env bash
 # Compiles, lists, verifies and runs sources with each of its allocations refused in turn: the answer must be `no memory`, status 1. Nothing is
-# written by a compilation, and of a run's print a first part. Then jobs, cycle by cycle, by the cases of rpg_show_cases: one that wanted
-# memory has failed from then on. Last a disk that is full, where an object stays that stood there. Both programs are to be built: by `make`
+# written by a compilation, and of a run's print a first part. Then jobs, cycle by cycle, by the cases of rpg_show_cases: one that ran out
+# of memory has failed from then on. Last a disk that is full, where an old object stays. Both programs must be built: by `make`
 # and by `rt run` in crates/rpg_show_cases, or named by RPG2 and RPG_SHOW_CASES.
 set -euo pipefail
 
@@ -191,7 +191,7 @@ refuse list "$("$rpg2" list "$work/search.rpg")" "$work/unwritten" "" list "$wor
 refuse cards "$("$rpg2" cards "$work/search.short")" "$work/unwritten" "" cards "$work/search.short"
 refuse cards "$("$rpg2" cards --short "$work/search.rpg")" "$work/unwritten" "" cards --short "$work/search.rpg"
 
-# An object program that writes a disk file and prints behind it.
+# An object program that writes a disk file and then prints.
 expected=$stock/stock.expected
 for written in print disk; do
     refuse run "end of job, cycles 28, steps 98 of 190" "$work/$written" "$expected" \
@@ -199,14 +199,14 @@ for written in print disk; do
     expected=$stock/balance.expected
 done
 
-# What rpg_show_cases tells of a job, cycle by cycle, with an allocation refused. The case wants `-`, so that it tells all.
+# What rpg_show_cases reports of a job, cycle by cycle, with an allocation refused. The case expects `-`, so that all is reported.
 job_told() {
     { REFUSED=$2 LD_PRELOAD=$work/refuse.so "$cases" "$work/$1.cases" 2> "$work/line" || true; } |
         sed -n "s/^DIFFERS: $1: \(.*\), and not -$/\1/p"
 }
 
-# Refuses the allocations of a job in turn, until 100 runs are served one after the other. Where a cycle wants memory, each one behind it
-# answers that the job has failed. Where the program of cases itself wants it, nothing is told.
+# Refuses the allocations of a job in turn, until 100 runs in a row end as without one. If a cycle runs out of memory, each one after it
+# returns that the job has failed. If the program of cases itself runs out of it, nothing is reported.
 refuse_job() {
     local name=$1
     local refused=0 failed=0 served=0 nth wanted told
@@ -268,7 +268,7 @@ for name in levels loop search; do
     job_of_source "$name"
 done
 
-# A disk that takes nothing more: the object stays that stood there, and where there was none there is none.
+# A disk that takes nothing more: an old object stays, and where there was none there is none.
 cp "$work/calls.obj" "$work/full.obj"
 for written in full.obj new.obj; do
     status=0

@@ -6,9 +6,9 @@ usage: bench/refuse_calls.py [COMMAND ..]        RPG2 names the program; it need
 strace makes one system call fail (-e inject) with each error that such a call can have. Then
     status 0        only if every output is whole: each file, or standard output
     another status  only with a line on standard output or a sentence on standard error; each file is as it was, or a first part of what is
-                    wanted, and as long as a message says ('after N bytes')
-An interrupted call that isn't refused again has to change nothing. It prints a line for each call of which this isn't so, and a count; its
-status is 1 where there is one. Not seen by any program of the kit are faults of close.
+                    expected, and as long as a message reports ('after N bytes')
+An interrupted call that isn't refused again must change nothing. It prints a line for each call where this fails, and a count; its exit
+status is 1 if there is one. No program of the kit sees faults of close.
 """
 
 import os
@@ -92,7 +92,7 @@ def calls_made():
 
 
 def is_first_part(command, file, found, wanted):
-    """Whether an output is as it was, or a first part of what is wanted, as long as a message says."""
+    """Whether an output is as it was, or a first part of what is expected, as long as a message reports."""
     data, whole = found.outputs[file], wanted.outputs[file]
     told = re.search(rb"after (\d+) bytes", found.diagnostics)
     if file == "-":

@@ -5,7 +5,7 @@ usage: bench/running.py [ROUNDS]        10 rounds where it isn't given; RPG2 nam
 
 Two jobs: the total of examples/total, also made by awk (bench/total.awk), and a sales report with two control levels and edited totals
 (bench/sales), also made by COBOL where there is cobc. Of each program: processor seconds over as many records as RECORDS of its job
-says, the least of some rounds in which the programs take turns; the most memory that it held; and, where valgrind is there, the
+has, the least of some rounds in which the programs take turns; the most memory that it held; and, where valgrind is there, the
 instructions a record, by what callgrind counts for 2,000 records more. The two prints of the total are to be the same, byte for byte;
 those of the report without headings, blanks and the way of the form, which the COBOL program makes otherwise. Where they differ, or a
 program fails, the status is 1.
@@ -92,7 +92,7 @@ def processor_seconds(program, source, printed):
 
 
 def most_memory(program, source, printed):
-    """The most memory that a run held, in KiB, as the kernel tells it while it runs."""
+    """The most memory that a run held, in KiB, as the kernel reports it while it runs."""
     child = begin(program, source, printed)
     most = 0
     while child.poll() is None:

@@ -115,7 +115,7 @@ def group(cards):
 
 
 def arrays(cards):
-    """E cards, each of an array that wants a card of data."""
+    """E cards, each of an array that needs a card of data."""
     for number in range(cards // 4):
         yield card("E", (27, name(number)), (33, " 10"), (36, "  10"), (40, "  5"), (44, "0"))
 
@@ -136,13 +136,13 @@ def no_files(cards):
 
 
 def no_data(cards):
-    """Arrays that want data."""
+    """Arrays that need data."""
     for number in range(cards):
         yield card("E", (27, name(number)), (33, " 10"), (36, "  10"), (40, "  5"), (44, "0"))
 
 
 def no_labels(cards):
-    """Jumps to where no label is."""
+    """Jumps to labels that aren't there."""
     for number in range(cards):
         yield card("C", (28, "GOTO"), (33, name(number)))
 
@@ -184,7 +184,7 @@ def tables(cards):
 
 
 def data(cards):
-    """The data of these tables: eight cards of eight pairs behind each `**` card."""
+    """The data of these tables: eight cards of eight pairs after each `**` card."""
     for _ in range(min(100, cards // 12)):
         yield "**"
         for line in range(8):
@@ -202,10 +202,10 @@ def output_field(kind, number):
     return card("O", (32, name(number) if kind == "names" else "SUM"), (40, " 120"))
 
 
-# What stands between the first input fields and the lines.
+# The cards between the first input fields and the lines.
 WHOLE = {"labels": labels, "groups": groups, "calls": calls, "entries": entries, "levels": levels, "group": group}
 
-# Behind two files, where nearly each card has a fault.
+# After two files, where nearly each card has a fault.
 FAULTY = {"no-files": no_files, "no-data": no_data, "no-labels": no_labels, "no-ends": no_ends}
 
 

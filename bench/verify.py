@@ -4,8 +4,8 @@
 usage: bench/verify.py [ROUNDS]        20 rounds where it isn't given; RPG2 names the program
 
 It makes objects of 8,192 instructions, of 1,000 lines of 200 fields (as they are or by a code; and each by an edit word, which costs
-most), and of 200 record types of 100 control fields and 500 input fields. What decoding takes is what the same object with one byte
-behind it takes, which is refused only once all of it is read, less what an empty file takes; what verifying takes is what the object
+most), and of 200 record types of 100 control fields and 500 input fields. What decoding takes is what the same object with one more
+byte takes, which is refused only once all of it is read, less what an empty file takes; what verifying takes is what the object
 takes beyond that. The wall time is the least of some rounds; instructions are counted by callgrind, where valgrind is there. Each
 verification but that of the words is to take less than 20 ms, or the status is 1.
 """

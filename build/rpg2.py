@@ -1,9 +1,9 @@
 #!/usr/bin/env python3
-"""Builds crates/rpg2/out/rpg2 from what is proved alone. The Makefile calls it: build/rpg2.py, at the top of the repository.
+"""Builds crates/rpg2/out/rpg2 only from what is proved. The Makefile calls it: build/rpg2.py, at the top of the repository.
 
 rpg2 and the libraries below it are proved from nothing by the gate's own command, `rt ci`, in a room that has them and nothing else: no
-wrong bodies, no tests, no other program. On the way it says how many crates are proved and how long the rest is likely to take. Where
-nothing of them is newer than the program, it is left as it is.
+wrong bodies, no tests, no other program. On the way it prints how many crates are proved and how long the rest is likely to take. If
+nothing in them is newer than the program, it is left as it is.
 """
 
 import os

@@ -1,4 +1,4 @@
-"""A source as its cards stand: files, tables, input fields, calculations and lines, by the columns of docs/LANGUAGE.md.
+"""A source card by card: files, tables, input fields, calculations and lines, by the columns of docs/LANGUAGE.md.
 
 Only what the evaluator does is read; a source that has more is not evaluated.
 """
@@ -105,7 +105,7 @@ class Line:
 
 @dataclass
 class Source:
-    """All that the cards say. Calculations stand by their parts: `detail`, `total`, or a subroutine's name."""
+    """The contents of all cards. Calculations are kept by their parts: `detail`, `total`, or a subroutine's name."""
 
     record_length: int = 0
     width: int = 0
@@ -191,7 +191,7 @@ def reads_input(source: Source, card: str) -> None:
 
 
 def group_of(source: Source, card: str, before: Calculation | None) -> Calculation:
-    """The calculation that a card belongs to: it goes on with the one before, or begins another."""
+    """The calculation that a card belongs to: it continues the one before, or begins another."""
     level, conditions = text_in(card, 7, 8), conditions_in(card, 9)
     if level in ("AN", "OR") and before is not None:
         if level == "AN":

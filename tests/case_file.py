@@ -1,4 +1,4 @@
-"""Files of cases: README.md says how they are written."""
+"""Files of cases: README.md describes how they are written."""
 
 from dataclasses import dataclass, field
 from pathlib import Path
@@ -6,7 +6,7 @@ from pathlib import Path
 ALLOWANCE = 1_000
 DATE = "010576"
 
-# What a character stands for behind a backslash in a line of text; any other stands for itself.
+# What a character means after a backslash in a line of text; any other means itself.
 ESCAPES = {"f": "\f", "r": "\r", "t": "\t", "u": "\x1f", "d": "\x7f", "o": "\xff"}
 
 # The marks whose lines are kept as they are, and the marks that end a run.
@@ -16,12 +16,12 @@ QUESTIONS = {"verify", "answer", "spelled", "sweep", "cycles", "damage"}
 
 @dataclass(frozen=True)
 class Run:
-    """One run of a case: what it is given, and what is wanted of it."""
+    """One run of a case: what it is given, and what is expected of it."""
 
     name: str
     place: str  # the file and the line that end it
     question: str
-    line: str  # what is wanted in answer
+    line: str  # the expected answer
     source: bytes | None = None
     object: bytes | None = None
     allowance: int = ALLOWANCE
@@ -39,7 +39,7 @@ class Run:
 
 @dataclass
 class Part:
-    """What the lines behind a mark are: the first card or byte that they stand for, and how often each line stands."""
+    """What the lines after a mark are: the first card or byte that they replace, and how often each line is taken."""
 
     word: str | None = None
     at: int = 0
@@ -48,7 +48,7 @@ class Part:
 
 @dataclass
 class Case:
-    """A case as far as it was read. The source or object stays for the cases behind it; its changes are the case's own."""
+    """A case as far as it was read. The source or object stays for the cases after it; its changes are the case's own."""
 
     name: str = ""
     is_source: bool = True
@@ -161,7 +161,7 @@ def text_of(lines: list[str]) -> bytes:
 
 
 def hex_of(lines: list[str]) -> bytes:
-    """The bytes of lines of hex, each with blanks where one likes and behind a `;` what they are."""
+    """The bytes of lines of hex, each with blanks anywhere and after a `;` what they are."""
     return b"".join(bytes.fromhex(it.partition(";")[0].replace("_", "")) for it in lines)
 
 

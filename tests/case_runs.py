@@ -16,7 +16,7 @@ NO_OBJECT = re.compile(r"refused: (B\d at \d+)")
 
 @dataclass
 class Told:
-    """What came of a run, as far as it is compared."""
+    """The result of a run, as far as it is compared."""
 
     line: str
     status: int
@@ -32,7 +32,7 @@ def is_for_rpg2(run: Run) -> bool:
 
 
 def written(path: Path) -> bytes:
-    """What stands in a file that a run may have made."""
+    """The contents of a file that a run may have made."""
     return path.read_bytes() if path.exists() else b""
 
 
@@ -68,7 +68,7 @@ class Runner:
         return told
 
     def spelled(self) -> Told:
-        """Whether the bytes are an object program, and where not; the rules of a program aren't asked."""
+        """Whether the bytes are an object program, and if not, where they fail; the rules of a program aren't tested."""
         told = self.command("verify", "object")
         fault = NO_OBJECT.fullmatch(told.line)
         is_answer = status_of(told.line) == told.status
@@ -101,7 +101,7 @@ def beside(told: bytes, wanted: bytes) -> str:
 
 
 def difference(run: Run, told: Told) -> tuple[str, str] | None:
-    """What differs first from what a run wants, in words, and both sides of it."""
+    """The first difference from what a run expects, in words, and both sides of it."""
     if told.line != run.line:
         return f"{told.line}, and not {run.line}", f"\n{told.errors}" if told.errors else ""
     for part in ("print", "disk"):
@@ -116,7 +116,7 @@ def difference(run: Run, told: Told) -> tuple[str, str] | None:
 
 
 def show(program: Program, folder: Path, run: Run) -> Outcome:
-    """Does a run, and tells what came of it as rpg_show_cases does; a failure tells both sides as well."""
+    """Does a run, and reports the result as rpg_show_cases does; a failure shows both sides as well."""
     if run.unknown is not None:
         return Outcome(run.place, f"BAD: {run.name}: a mark that isn't known", f"--- {run.unknown}")
     found = difference(run, Runner(program, folder, run).told())

@@ -1,4 +1,4 @@
-"""Sources made by chance, by rules that stand as data: README.md says how they are written."""
+"""Random sources, by rules that are data: README.md describes how they are written."""
 
 import random
 from pathlib import Path
@@ -23,7 +23,7 @@ class Rules:
 
 
 class Maker:
-    """A text as it comes to be, with what columns 7 and 8 have, and the part."""
+    """A text under way, with the contents of columns 7 and 8, and the part."""
 
     def __init__(self, rules: Rules, chance: random.Random):
         self.rules, self.chance = rules, chance
@@ -34,7 +34,7 @@ class Maker:
         return "\n".join(self.cards)
 
     def follow(self, name: str) -> None:
-        """Adds a text of a rule: words between `<` and `>` say something, and the others stand as they are."""
+        """Adds a text of a rule: words between `<` and `>` are instructions, and the rest is copied."""
         text = self.chance.choice(self.rules.texts[name.replace("^", self.part)])
         while text:
             front, _, behind = text.partition("<")

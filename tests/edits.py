@@ -5,11 +5,11 @@ usage, at the top of the repository, after `rt ci` (or `rt all check`), which bu
     tests/edits.py [--jobs N] [--log FILE] [CRATE..]
 
 An edit file has lines 'file: PATH', 'old: TEXT', 'new: TEXT'; further pairs apply to what the earlier ones made. It turns the body of the
-function that its first text stands in, or of the one that a line 'fn: PATH' names. The edits of a crate are tried together, in as few
+function that has its first text, or of the one that a line 'fn: PATH' names. The edits of a crate are tried together, in as few
 rounds as keep them apart: one edit a function, and no two whose texts touch. A round is one `rattle check --only FUNCTION ..` of a copy.
 
 An edit is refused where the prover names a goal of its function that it did not prove, or where the function's written proof fits no
-longer (which says less: a harmless change of form can do that too). Where the prover says no more of a function than that it calls a
+longer (which is a weaker result: a harmless change of form can do that too). Where the prover reports of a function only that it calls a
 turned one, its edit goes into a later round. All else fails: an edit that is still proved, one that doesn't compile, and one that is
 refused only since a proof names what the edit took away.
 
@@ -36,7 +36,7 @@ NO_SUCH_NAME = re.compile(r"has no field|is not in scope|has no `|was not admitt
 
 
 class Verdict(Enum):
-    """What a try of an edit came to."""
+    """The result of a try of an edit."""
 
     REFUSED = "refused"
     BY_PROOF = "refused by its function's written proof"
@@ -51,7 +51,7 @@ class Verdict(Enum):
 
 @dataclass(frozen=True)
 class Cut:
-    """Lines of a source that an edit puts other lines in the place of."""
+    """Lines of a source that an edit replaces."""
 
     file: str
     start: int
@@ -169,7 +169,7 @@ def words_of(crate, edits, kept):
 
 
 def check(crate, edits):
-    """What rattle prints of the crate with these edits. It begins with what `rt check` kept of the crate, where it kept something."""
+    """What rattle prints for the crate with these edits. It begins with what `rt check` kept of the crate, where it kept something."""
     kept = crate.folder / "out/incremental"
     with tempfile.TemporaryDirectory(prefix="edits-") as name:
         room = Path(name)
@@ -185,7 +185,7 @@ def check(crate, edits):
 
 
 def verdict(crate, edit, printed):
-    """What rattle's lines say of an edit, or None where they say nothing of its own function."""
+    """The verdict of rattle's lines on an edit, or None where they have none on its own function."""
     lines = dict(re.findall(rf"^fn {crate.name}::(\S+): (.*)$", printed, re.M))
     states, found = [], None
     for named in edit.functions:
@@ -219,7 +219,7 @@ def rounds_left(crate, taken, left, printed):
         return []
     if re.search(rf"^fn {crate.name}::", printed, re.M):
         return [left] if len(left) < len(taken) else [[it] for it in left]
-    # the crate doesn't compile: what stands in the files that the errors name is tried alone
+    # the crate doesn't compile: the edits in the files that the errors name are tried alone
     files = set(re.findall(r"(src/\S+?\.rt):\d+", printed))
     alone = [it for it in left if files & {cut.file for cut in it.cuts}] or left
     others = [it for it in left if it not in alone]

@@ -1,4 +1,4 @@
-"""What the cards of sources mean, by the evaluator, beside what rpg2 makes of them: worked rows, and sources made by chance."""
+"""What the cards of sources mean, by the evaluator, compared with what rpg2 makes of them: worked rows, and random sources."""
 
 import random
 import tempfile
@@ -32,7 +32,7 @@ class Job:
 
 
 def meant(job: Job) -> Course:
-    """What the cards mean. What the evaluator can't do is told as an ending of its own."""
+    """What the cards mean. What the evaluator can't do is reported as an ending of its own."""
     try:
         return evaluate(source_of(job.source.decode("latin-1")), job.allowance, job.input)
     except NotEvaluated as why:
@@ -40,7 +40,7 @@ def meant(job: Job) -> Course:
 
 
 def done(program: Program, job: Job) -> Course:
-    """What rpg2 does with the source: it is compiled and verified, and runs. Cards know no steps, so a line ends behind the cycles."""
+    """What rpg2 does with the source: it is compiled and verified, and runs. Cards have no steps, so a line ends after the cycles."""
     with tempfile.TemporaryDirectory() as name:
         folder = Path(name)
         (folder / "source").write_bytes(job.source)
@@ -86,7 +86,7 @@ def shown_rows(program: Program, path: Path) -> list[Outcome]:
 
 
 def made(rules: Rules, number: int) -> Job:
-    """A source made by chance, the same in each run."""
+    """A random source, the same in each run."""
     chance = random.Random(f"source {number}")
     source = rules.made("source", chance).encode("latin-1")
     return Job(f"chance.rules, source {number}", source, rules.made("input", chance).encode("latin-1"), ALLOWANCE)
@@ -99,7 +99,7 @@ def shown_by_chance(program: Program, path: Path, numbers: range) -> list[Outcom
 
 
 def shown_endings(path: Path) -> list[Outcome]:
-    """Whether half of the sources at least come to their end: what halts at once shows little."""
+    """Whether at least half of the sources reach their end: what halts at once shows little."""
     rules = Rules(path)
     ended = sum(meant(made(rules, number)).ending == "end of job" for number in range(COUNT))
     is_enough = ended >= COUNT // 2

@@ -102,7 +102,7 @@ class Evaluator:
             yield table, next(data) if table.on_a_card else None
 
     def define_tables(self, table: Table, data: list[str] | None) -> None:
-        """Defines a table or an array, and the alternating one beside it, with the entries that the data have."""
+        """Defines a table or an array, and its alternating one, with the entries that the data have."""
         both = [it for it in (table, table.other) if it is not None]
         width = sum(it.form.length for it in both)
         for at, it in enumerate(both):
@@ -122,7 +122,7 @@ class Evaluator:
         self.on = self.on | set(names) if is_on else self.on - set(names)
 
     def show(self, shows: Shows, order: int | None) -> None:
-        """Those that are named go off, and the one of what came out goes on."""
+        """Turns the named indicators off, and the one of the result on."""
         self.turn(shows.named(), False)
         if order is not None and shows.of(order):
             self.turn([shows.of(order)], True)
@@ -136,7 +136,7 @@ class Evaluator:
     # Entries and factors.
 
     def position(self, entry: Entry) -> int:
-        """The entry of a name that stands on a card, as it is now."""
+        """The entry of a name on a card, as it is now."""
         named = self.fields[entry.name]
         if entry.index is None:
             return named.current if named.is_table else 1
@@ -212,7 +212,7 @@ class Evaluator:
         self.show(it.shows, found[1] if found else None)
 
     def found(self, it: Calculation, wanted: Held, searched: Field, first: int) -> tuple[int, int] | None:
-        """The position that a search finds, and how its entry compares with what is wanted."""
+        """The position that a search finds, and how its entry compares with what is sought."""
         orders = {at: compared(searched.held(at), wanted) for at in range(first, len(searched.values) + 1)}
         equal, high, low = ([at for at, order in orders.items() if order == it] for it in (0, 1, -1))
         if it.shows.equal and equal:
@@ -224,7 +224,7 @@ class Evaluator:
         return None
 
     def operate(self, it: Calculation) -> None:
-        """An operation that goes on with the next calculation."""
+        """An operation that continues at the next calculation."""
         does = {
             **dict.fromkeys(("ADD", "SUB", "MULT", "DIV"), self.arithmetic),
             **dict.fromkeys(("Z-ADD", "Z-SUB"), self.assign),
@@ -251,7 +251,7 @@ class Evaluator:
         self.left -= 1
 
     def step(self, here: Place, back: list[Place]) -> Place:
-        """Does a calculation, and answers which is next."""
+        """Does a calculation, and returns which is next."""
         it = self.source.parts[here.part][here.next]
         behind = Place(here.part, here.next + 1)
         if it.level and it.level not in self.on or not self.is_done(it.alternatives):
@@ -332,7 +332,7 @@ class Evaluator:
             self.turn([self.source.indicator, *self.breaks(record)], True)
 
     def cycle(self, record: str | None, is_bypassed: bool) -> bool:
-        """Does a cycle, and answers whether the job goes on."""
+        """Does a cycle, and returns whether the job goes on."""
         self.left = self.allowance
         self.put_out("HD")
         if self.on & set(HALTS):

@@ -76,7 +76,7 @@ def items(text):
 
 
 def function_at(place, text, at):
-    """The path below the crate of the function in whose body this place lies, or None. `place` is the source's path in the crate's folder."""
+    """The path below the crate of the function whose body has this place, or None. `place` is the source's path in the crate's folder."""
     around = [it for it in items(text) if it.start <= at < it.end]
     inner = next((it for it in around if it.kind == "fn" and at > it.body), None)
     if inner is None:

@@ -1,11 +1,11 @@
-"""What came of one thing that is shown."""
+"""The result of one thing that is shown."""
 
 from dataclasses import dataclass
 
 
 @dataclass(frozen=True)
 class Outcome:
-    """The place that says what is wanted, the line that tells what came of it, and what else a person wants to know of a failure."""
+    """The place of the expectation, the line that reports the result, and what else helps with a failure."""
 
     place: str
     line: str

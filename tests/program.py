@@ -23,7 +23,7 @@ STATUSES = [
 
 @dataclass(frozen=True)
 class Answer:
-    """What came of a command: what it wrote on both streams in its order, and its exit status; below 0 the signal that ended it."""
+    """The result of a command: what it wrote on both streams, in its order, and its exit status; below 0 the signal that ended it."""
 
     text: bytes
     status: int
@@ -63,7 +63,7 @@ class Program:
         out: IO[bytes] | int = subprocess.PIPE,
         limits: Limits = Limits(),
     ) -> Answer:
-        """Gives these words to the program in a folder. Where `out` is a pipe both streams go there; else standard error alone is kept."""
+        """Runs the program with these arguments in a folder. If `out` is a pipe both streams go there; else only standard error is kept."""
         is_piped = out == subprocess.PIPE
         ended = subprocess.run(
             ["rpg2", *words],
@@ -79,7 +79,7 @@ class Program:
         return Answer(ended.stdout if is_piped else ended.stderr, ended.returncode)
 
     def answer(self, words: list[str | bytes], folder: Path) -> tuple[str, int, str]:
-        """The line of a command, its status, and what it told on standard error."""
+        """The line of a command, its status, and its standard error."""
         ended = subprocess.run(
             ["rpg2", *words],
             executable=self.path,

@@ -3,9 +3,9 @@
 
 usage: tests/run.py [--only WORD] [--jobs N] [PROGRAM ..]
 
-PROGRAM is a build of rpg2; where none is named both are shown that `rt ci` makes. With --only WORD the files alone whose name has the word.
-It prints a line for each failure, what was wanted and what came, and last `N passed, M failed`. The status is 1 where anything failed, or
-where nothing was shown of a build. README.md says how the files are written.
+PROGRAM is a build of rpg2; if none is named, both that `rt ci` makes are run. --only WORD takes only files whose name has the word.
+It prints a line for each failure, what was expected and what came, and last `N passed, M failed`. The exit status is 1 if anything failed,
+or if nothing was run with a build. README.md describes how the files are written.
 """
 
 import argparse
@@ -46,7 +46,7 @@ def shown_runs(program: Program, runs: list[Run]) -> list[Outcome]:
 
 
 def shown_told(program: Program, path: Path) -> list[Outcome]:
-    """Runs that want something wrong: what is told of each stands beside the file."""
+    """Runs that expect something wrong: a file of the same name has the report of each."""
     outcomes = shown_runs(program, runs_in(path))
     wanted = lines_in(path.with_suffix(".told"))
     return [compared_lines(outcome, line) for outcome, line in zip(outcomes, wanted, strict=True)]
@@ -67,7 +67,7 @@ def case_jobs(program: Program, path: Path) -> Iterable[Job]:
 
 
 def jobs_of(program: Program, word: str) -> Iterable[Job]:
-    """All that is shown of a build, in parts that don't hang on one another."""
+    """All that is shown of a build, in parts that don't depend on one another."""
     folders = [HERE / "cases", TOP / "crates/rpg_show_cases/data"]
     for path in sorted(it for folder in folders for it in folder.glob("*.cases") if word in it.name):
         yield from case_jobs(program, path)
@@ -91,7 +91,7 @@ def tell(program: Program, outcome: Outcome) -> None:
 
 
 def show_all(programs: list[Program], word: str, processes: int | None) -> tuple[int, int]:
-    """Shows all of each build, and answers how many passed and failed."""
+    """Shows all of each build, and returns how many passed and failed."""
     passed = failed = 0
     with ProcessPoolExecutor(processes) as pool:
         begun = {it: [pool.submit(job) for job in jobs_of(it, word)] for it in programs}

@@ -1,4 +1,4 @@
-"""Sessions: commands that are given one after the other in one folder, and what each says."""
+"""Sessions: commands that are run one after another in one folder, and what each prints."""
 
 import os
 import re
@@ -17,13 +17,13 @@ from program import SECONDS, Limits, Program
 # How many seconds a record waits for what comes of it.
 PATIENCE = 20
 
-# What a character stands for behind a backslash in a word; any other stands for itself.
+# What a character means after a backslash in a word; any other means itself.
 IN_WORDS = {b"n": b"\n", b"f": b"\f", b"r": b"\r", b"u": b"\x1f", b"o": b"\xff"}
 
 
 @dataclass
 class Command:
-    """A command, and the lines behind it, which are a file or prose."""
+    """A command, and the lines after it, which are a file or prose."""
 
     number: int
     words: str
@@ -41,7 +41,7 @@ def commands_in(path: Path) -> list[Command]:
 
 
 def wanted_of(commands: list[Command], text: bytes) -> list[bytes]:
-    """What is wanted of each command: a session's text has each command in a line of its own, and what it says behind it."""
+    """What is expected of each command: the text has each command in a line of its own, and after it what it prints."""
     places, at = [], 0
     for command in commands:
         head = f"$ {command.words}\n".encode("latin-1")
@@ -64,7 +64,7 @@ class Session:
         self.program, self.folder, self.given = program, folder, given
 
     def obey(self, command: Command) -> bytes:
-        """Does what a command says, and answers what is seen of it."""
+        """Does a command, and returns what is seen of it."""
         verb, _, rest = command.words.partition(" ")
         does = getattr(self, f"do_{verb}", None)
         if does is None:
@@ -74,7 +74,7 @@ class Session:
         return does(*rest.split())
 
     def seen(self, command: Command) -> bytes:
-        """What is seen of a command; or why it can't be done, as where a file isn't there."""
+        """What is seen of a command; or why it can't be done, such as a missing file."""
         try:
             return self.obey(command)
         except (OSError, subprocess.SubprocessError, IndexError, TypeError, ValueError) as why:
@@ -84,7 +84,7 @@ class Session:
         return self.folder / name
 
     def said(self, words: tuple[str, ...], limits: Limits = Limits(), shows_all: bool = True) -> bytes:
-        """What rpg2 says on both streams, and its status; one of 0 only where all is shown."""
+        """What rpg2 prints on both streams, and its status; 0 only if all is shown."""
         answer = self.program.run([unescaped(it) for it in words[1:]], self.folder, self.given, limits=limits)
         status = f"status {answer.status}\n" if answer.status or shows_all else ""
         return answer.text + status.encode()
@@ -102,7 +102,7 @@ class Session:
         return self.said(words, Limits(memory=int(room)))
 
     def do_unheard(self, *words: str) -> bytes:
-        """Gives words where standard output takes all but the last line."""
+        """Runs rpg2 with a standard output that takes all but the last line."""
         with tempfile.TemporaryFile() as whole, tempfile.TemporaryFile() as part:
             self.program.run(list(words[1:]), self.folder, self.given, out=whole)
             whole.seek(0)
@@ -112,13 +112,13 @@ class Session:
             return part.read() + answer.text + f"status {answer.status}\n".encode()
 
     def do_to(self, device: str, *words: str) -> bytes:
-        """Gives words where standard output is a device: what is told on standard error, and the status."""
+        """Runs rpg2 with a device as standard output: what it prints on standard error, and the status."""
         with open(device, "wb") as out:
             answer = self.program.run(list(words[1:]), self.folder, self.given, out=out)
         return answer.text + f"status {answer.status}\n".encode()
 
     def do_closed(self, *words: str) -> bytes:
-        """Gives words where nobody reads standard output any more."""
+        """Runs rpg2 where nobody reads standard output any more."""
         left, out = os.pipe()
         os.close(left)
         try:
@@ -128,7 +128,7 @@ class Session:
         return answer.text + f"status {answer.status}\n".encode()
 
     def do_prompt(self, words: str, lines: list[str]) -> bytes:
-        """Gives words, and one record after the other on standard input: the next only once something came for the one before."""
+        """Runs rpg2, with one record after another on standard input: the next only once something came for the one before."""
         with subprocess.Popen(
             words.split(),
             executable=self.program.path,
@@ -188,7 +188,7 @@ class Session:
         return f"{self.path(name).read_bytes()[int(place)]}\n".encode()
 
     def do_pages(self, name: str) -> bytes:
-        """Whether `rpg2 explain` prints a file, and behind it an empty line."""
+        """Whether `rpg2 explain` prints a file, and after it an empty line."""
         pages = self.program.run(["explain"], self.folder).text
         is_same = pages == self.path(name).read_bytes() + b"\n"
         return b"the pages of all codes\n" if is_same else b"another text\n"
@@ -209,7 +209,7 @@ def compared(path: Path, command: Command, came: bytes, wanted: bytes) -> Outcom
 
 
 def show(program: Program, path: Path, top: Path) -> list[Outcome]:
-    """Obeys the commands of a session, and compares what each says with the text beside the session."""
+    """Obeys the commands of a session, and compares what each prints with the expected text."""
     commands = commands_in(path)
     wanted = wanted_of(commands, path.with_suffix(".wanted").read_bytes())
     with tempfile.TemporaryDirectory() as name, open(path.with_name("stdin"), "rb", buffering=0) as given:

@@ -4,7 +4,7 @@ import math
 from dataclasses import dataclass
 from fractions import Fraction
 
-# All characters of a text, the lowest first. Others come behind these, by value.
+# All characters of a text, the lowest first. Others come after these, by value.
 ORDER = " .<(+|&!$*);-/,%_>?`:#@'=\"abcdefghijklmnopqr~stuvwxyz^[]{ABCDEFGHI}JKLMNOPQR\\STUVWXYZ0123456789"
 
 # The last character of a number in a record: minus 0 to 9, and plus 0 to 9.
@@ -88,7 +88,7 @@ def over(old: str, new: str, is_left: bool) -> str:
 
 
 def moved(source: Held, target: Held, is_left: bool) -> int | str:
-    """What stands in the target once the source is moved there."""
+    """The contents of the target once the source is moved there."""
     if target.is_text:
         return over(target.value, source.written(), is_left)
     if source.is_text:
