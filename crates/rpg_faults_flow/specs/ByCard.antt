@@ -25,6 +25,7 @@ use Rattle.rpg_sheet_specs.specs.declared.calculation.ControlLevel.TheVariants a
 
 -- ---- the group that a card belongs to
 
+-- columns 7 and 8 of the first card of the group that the card belongs to
 abbrev pub calculation_level : Option ControlLevel → CalculationSpec → ControlLevel
 calculation_level None k = k.control_level
 calculation_level (Some level) k = if joins k.control_level then level else k.control_level
@@ -39,20 +40,25 @@ level_with group c = option_map (calculation_level group) (calculation_on c.spec
 abbrev pub bracket_of : Calculation Key → Option Bool
 bracket_of g = if begins_subroutine g || ends g then Some (ends g) else None
 
+-- whether a BEGSR or ENDSR of an SR group is ENDSR; none for any other card
 abbrev pub bracket_in : ControlLevel → CalculationSpec → Option Bool
 bracket_in level k = if is_subroutine level && is_bracket (deed_of k) then Some (is_endsr (deed_of k)) else None
 
+-- the same of the card with the operation, if a group ends on the card
 abbrev pub bracket_at : Option ControlLevel → SpecCard → List SpecCard → Option Bool
 bracket_at group c after = option_and_then (λ k. bracket_in (calculation_level group k) k) (card_ending c after)
 
 -- ---- with one more card
 
+-- whether a subroutine is open after a BEGSR or ENDSR, if there is one
 abbrev pub inside_behind : Bool → Option Bool → Bool
 inside_behind inside bracket = option_map_or not bracket inside
 
+-- how many subroutines have begun after a BEGSR or ENDSR, if there is one
 abbrev pub begun_behind : ℕ → Option Bool → ℕ
 begun_behind begun bracket = option_map_or (λ is_end. if is_end then begun else begun + 1) bracket begun
 
+-- the rank of the last section so far, with one more card
 abbrev pub highest_with : ℕ → SpecCard → ℕ
 highest_with highest c = option_map_or (λ k. if nat_lt highest (section_rank k.control_level) then section_rank k.control_level else highest) (calculation_on c.spec) highest
 
@@ -62,17 +68,21 @@ is_label_at c after = option_map_or (λ k. is_some (gives (deed_of k))) (card_en
 
 -- ---- F9
 
+-- F9 of the conditions, by whether a group is open and whether the next card continues it
 abbrev pub bad_dependence : Bool → Bool → CalculationSpec → List SpecCard → Bool
 bad_dependence in_group on k after = ((on || (joins k.control_level && in_group)) && not (depends k)) || (depends k && not (may_depend (group_end k after)))
 
+-- F9 of a C card, by whether a group is open
 abbrev pub bad_card : Bool → CalculationSpec → List SpecCard → Bool
 bad_card in_group k after = bad_dependence in_group (goes_on after) k after || ((is_some k.length && is_none k.result_field) || bad_by_end (goes_on after) k)
 
 -- ---- F12
 
+-- a group of an earlier section than a card before, or an SR group outside the subroutines that is neither BEGSR nor ENDSR
 abbrev pub misplaced : Flow → CalculationSpec → List SpecCard → Bool
 misplaced f k after = nat_lt (section_rank k.control_level) f.highest || (is_subroutine k.control_level && (not (is_bracket (deed_of (group_end k after))) && not f.is_inside))
 
+-- BEGSR or ENDSR outside SR groups, ENDSR without BEGSR, or BEGSR without ENDSR
 abbrev pub unpaired_in : Bool → ControlLevel → CalculationSpec → Bool → Bool
 unpaired_in inside level k closed =
     (is_bracket (deed_of k) && not (is_subroutine level))
@@ -82,6 +92,7 @@ unpaired_in inside level k closed =
 abbrev pub closed_behind : Option CalculationGroup → CalculationSpec → List SpecCard → Bool
 closed_behind o k after = is_closed (brackets (calculations_from (Some (group_with o k)) after []))
 
+-- F12 of a C card, by what is known of the cards before it
 abbrev pub breaks_card : Flow → Option CalculationGroup → CalculationSpec → List SpecCard → Bool
 breaks_card f o k after =
     (if joins k.control_level then is_none f.group else misplaced f k after)
@@ -89,10 +100,12 @@ breaks_card f o k after =
 
 -- ---- labels and calls
 
+-- the subroutine of an SR group: the one that it begins, or the open one; outside where there is none
 abbrev pub subroutine_in_flow : Flow → Bool → Section
 subroutine_in_flow f true = Subroutine f.begun
 subroutine_in_flow f false = if f.is_inside then Subroutine (f.begun - 1) else Outside
 
+-- the section of a calculation, by columns 7 and 8 of its group's first card
 abbrev pub calculation_section : Flow → ControlLevel → CalculationSpec → Section
 calculation_section f control.Detail k = Detail
 calculation_section f (control.Total i) k = Total
@@ -104,9 +117,11 @@ calculation_section f control.Or k = Outside
 abbrev pub section_at : Flow → CalculationSpec → Section
 section_at f k = calculation_section f (calculation_level f.group k) k
 
+-- the label or the subroutine that a calculation gives, with its section
 abbrev pub label_in : Flow → CalculationSpec → Option Label
 label_in f k = option_map (λ n. record { named = n; section = section_at f k }) (gives (deed_of k))
 
+-- the call of an EXSR in a subroutine, as caller and callee, if the callee is given
 abbrev pub calculation_call : Flow → List Label → CalculationSpec → Option (ℕ × ℕ)
 calculation_call f given k = option_and_then (λ caller. option_map (λ callee. (caller, callee)) (option_and_then (called_subroutine given) (wants (deed_of k)))) (subroutine_in (section_at f k))
 
@@ -114,19 +129,24 @@ calculation_call f given k = option_and_then (λ caller. option_map (λ callee. 
 abbrev pub card_label : Flow → SpecCard → List SpecCard → Option Label
 card_label f c after = option_and_then (label_in f) (card_ending c after)
 
+-- the call of the calculation that ends on a card
 abbrev pub card_call : Flow → List Label → SpecCard → List SpecCard → Option (ℕ × ℕ)
 card_call f given c after = option_and_then (calculation_call f given) (card_ending c after)
 
 -- ---- F10, F13
 
+-- all labels and subroutines of a source
 abbrev pub labels_in : List SpecCard → List Label
 labels_in cards = labels (calculations cards)
 
+-- F10 of a calculation: its GOTO or EXSR names what isn't given
 abbrev pub calculation_lacks_label : List SpecCard → CalculationSpec → Bool
 calculation_lacks_label cards k = option_map_or (λ n. not (is_given_as (labels_in cards) n)) (wants (deed_of k)) false
 
+-- a GOTO from that section to that name leaves the section
 abbrev pub name_leaves : List SpecCard → Section → Named → Bool
 name_leaves cards own n = option_map_or (flow.leaves_by own n) (label_named n.name (labels_in cards)) false
 
+-- F13 of a calculation: its GOTO leaves its section
 abbrev pub calculation_leaves_section : List SpecCard → Flow → CalculationSpec → Bool
 calculation_leaves_section cards f k = option_map_or (name_leaves cards (section_at f k)) (wants (deed_of k)) false

@@ -31,9 +31,11 @@ is_for_name content.WholeArray = false
 is_for_name content.Searched = false
 is_for_name content.Table = false
 
+-- a label or a subroutine that isn't a plain name
 abbrev pub is_unfit : Content → Factor → Bool
 is_unfit c f = is_for_name c && is_none (plain_name f)
 
+-- a column is filled though it must be blank, blank though it must be filled, or not a plain name where a label goes
 abbrev pub misses : Column → Option Factor → Bool
 misses Blank f = is_some f
 misses (May c) f = option_map_or (is_unfit c) f false
@@ -46,6 +48,7 @@ bad_shown shown.Any t = false
 bad_shown shown.Some t = filled_count t == 0
 bad_shown shown.Search t = filled_count t == 0 || (is_some t.first && is_some t.second)
 
+-- the operation's columns: factor 1, factor 2, result field or resulting indicators are missing or not allowed
 abbrev pub bad_operation : CalculationSpec → Operation → Bool
 bad_operation k o =
     misses (card_columns o).factor_1 k.factor_1
@@ -67,15 +70,19 @@ may_depend last = option_map_or (λ o. (card_columns o).may_depend) last.operati
 abbrev pub bad_conditions : Option CalculationGroup → CalculationSpec → List SpecCard → Bool
 bad_conditions group k after = ((goes_on after || (joins k.control_level && is_some group)) && not (depends k)) || (depends k && not (may_depend (group_end k after)))
 
+-- the last card of a group has no operation, or an operation with bad columns
 abbrev pub bad_last : CalculationSpec → Bool
 bad_last k = option_map_or (bad_operation k) k.operation true
 
+-- a card before the last has more than conditions, or the last card is bad
 abbrev pub bad_by_end : Bool → CalculationSpec → Bool
 bad_by_end true k = has_more k
 bad_by_end false k = bad_last k
 
+-- F9 of a calculation card, with the group that is open before it
 abbrev pub bad_calculation : Option CalculationGroup → CalculationSpec → List SpecCard → Bool
 bad_calculation group k after = bad_conditions group k after || ((is_some k.length && is_none k.result_field) || bad_by_end (goes_on after) k)
 
+-- F9 of a card, if it is a C card
 abbrev pub bad_calculation_columns : List SpecCard → SpecCard → List SpecCard → Bool
 bad_calculation_columns before c after = option_map_or (λ k. bad_calculation (open_calculation_group before) k after) (calculation_on c.spec) false

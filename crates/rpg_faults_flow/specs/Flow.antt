@@ -17,21 +17,26 @@ use Rattle.rpg_cards.specs.declared.spec_card.SpecCard.{SpecCard}
 
 -- ---- F10: GOTO a label, EXSR a subroutine that isn't there; a name that is given twice is what it was first
 
+-- both or neither
 abbrev pub alike : Bool → Bool → Bool
 alike true b = b
 alike false b = not b
 
+-- the name is given, as a label or as a subroutine, as the operation requires
 abbrev pub is_given_as : List Label → Named → Bool
 is_given_as given n = option_map_or (λ (l : Label). alike l.named.is_subroutine n.is_subroutine) (label_named n.name given) false
 
+-- a calculation's GOTO or EXSR names a label or a subroutine that isn't given
 abbrev pub lacks_label : List Label → Calculation Key → Bool
 lacks_label given g = option_map_or (λ n. not (is_given_as given n)) (wants g.deed) false
 
+-- F10: the calculation that ends on the card names a label or a subroutine that isn't given
 abbrev pub goes_nowhere : List SpecCard → List SpecCard → SpecCard → List SpecCard → Bool
 goes_nowhere cards before c after = option_map_or (lacks_label (labels (calculations cards))) (calculation_ending before c after) false
 
 -- ---- F11: at the later of the two cards
 
+-- a name that every program has, or that these define
 abbrev pub is_defined : Name → List Definition → Bool
 is_defined name ds = list_any (is_of name) given_names || list_any (is_of name) ds
 
@@ -44,6 +49,7 @@ gives_again before c after g =
 abbrev pub defines_label : List Label → SpecCard → Bool
 defines_label given c = list_any (λ (d : Definition). is_some (label_named d.name given)) (definitions_on c.spec)
 
+-- F11: the calculation that ends on the card gives a name again, or the card defines a name that is a label before
 abbrev pub names_twice : List SpecCard → SpecCard → List SpecCard → Bool
 names_twice before c after =
     option_map_or (gives_again before c after) (calculation_ending before c after) false
@@ -51,6 +57,7 @@ names_twice before c after =
 
 -- ---- F13: GOTO to a label of another section; no fault where one of them is outside the sections
 
+-- two different sections
 abbrev pub are_apart : Section → Section → Bool
 are_apart Detail Detail = false
 are_apart Total Total = false
@@ -59,20 +66,25 @@ are_apart Outside s = false
 are_apart s Outside = false
 are_apart s t = true
 
+-- a GOTO from that section to that label leaves the section
 abbrev pub leaves_by : Section → Named → Label → Bool
 leaves_by own n l = not l.named.is_subroutine && (not n.is_subroutine && are_apart own l.section)
 
+-- the calculation's GOTO leaves its section
 abbrev pub leaves_section : List Label → List (Calculation Key) → Calculation Key → Bool
 leaves_section given before g = option_map_or (λ (n : Named). option_map_or (leaves_by (section_of before g) n) (label_named n.name given) false) (wants g.deed) false
 
+-- F13: the calculation that ends on the card goes to a label of another section
 abbrev pub goes_apart : List SpecCard → List SpecCard → SpecCard → List SpecCard → Bool
 goes_apart cards before c after = option_map_or (leaves_section (labels (calculations cards)) (calculations_before before (c ∷ after))) (calculation_ending before c after) false
 
 -- ---- F14: an EXSR in a subroutine that the one called reaches
 
+-- a call whose callee reaches its caller
 abbrev pub comes_back : List (ℕ × ℕ) → Option (ℕ × ℕ) → Bool
 comes_back all call = option_map_or (λ (p : ℕ × ℕ). reaches all p.1 p.0) call false
 
+-- F14: the calculation that ends on the card calls a subroutine that reaches the one it is in
 abbrev pub calls_itself : List SpecCard → List SpecCard → SpecCard → List SpecCard → Bool
 calls_itself cards before c after =
     comes_back (calls (calculations cards)) (option_and_then (call_at (labels (calculations cards)) (calculations_before before (c ∷ after))) (calculation_ending before c after))

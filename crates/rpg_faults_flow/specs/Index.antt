@@ -16,12 +16,15 @@ use Rattle.rpg_faults_flow.specs.declared.labels.Target.{Target}
 
 -- ---- names
 
+-- the label has that name
 abbrev pub is_for : Name → Label → Bool
 is_for name l = pointwise nat_eq name l.named.name
 
+-- a label as a target of control
 abbrev pub target_of : Label → Target
 target_of l = record { is_subroutine = l.named.is_subroutine; section = l.section }
 
+-- a label, with its place among all that are given
 abbrev pub first_label : ℕ → Label → FirstLabel
 first_label i l = record { place = i; target = target_of l }
 
@@ -29,14 +32,17 @@ first_label i l = record { place = i; target = target_of l }
 abbrev pub IsLabelIndex : List (Name × FirstLabel) → List Label → Type 0
 IsLabelIndex names ls = (name : Name) → lookup (pointwise nat_eq name) names ≡ first_at (is_for name) first_label 0 ls
 
+-- the index has the labels and subroutines of these cards
 abbrev pub IsIndexOf : List (Name × FirstLabel) → List SpecCard → Type 0
 IsIndexOf names cards = IsLabelIndex names (labels (calculations cards))
 
 -- ---- calls
 
+-- the numbers of the caller and of the callee
 abbrev pub Call : Type 0
 Call = ℕ × ℕ
 
+-- the same caller and the same callee
 abbrev pub same_call : Call → Call → Bool
 same_call p q = p.0 == q.0 && p.1 == q.1
 
@@ -44,17 +50,21 @@ same_call p q = p.0 == q.0 && p.1 == q.1
 abbrev pub AreCycles : List Call → List Call → Type 0
 AreCycles found all = (p : Call) → list_any (same_call p) found ≡ (list_any (same_call p) all && reaches all p.1 p.0)
 
+-- the calls of these cards whose callee reaches their caller
 abbrev pub AreCyclesOf : List Call → List SpecCard → Type 0
 AreCyclesOf found cards = AreCycles found (calls (calculations cards))
 
 -- ---- which subroutines reach which, 64 of them at a time: each is a bit of a word
 
+-- all numbers of callers and callees are below the count
 abbrev pub AreBelow : ℕ → List Call → Type 0
 AreBelow count all = (k : ℕ) → k < length all → ((get_or all k (0, 0)).0 < count) × ((get_or all k (0, 0)).1 < count)
 
+-- bit i of the word is set
 abbrev pub has_word_bit : ℕ → ℕ → Bool
 has_word_bit word i = bit_at word i == 1
 
+-- a subroutine that is one of the 64 from `first` on
 abbrev pub is_in_word : ℕ → ℕ → Bool
 is_in_word first x = nat_le first x && nat_lt (x - first) 64
 

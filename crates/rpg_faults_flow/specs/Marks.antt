@@ -28,6 +28,7 @@ shown_range t =
     else if is_some t.third then range.ResultZero
     else range.ResultingIndicators
 
+-- the first condition that is there, else the columns of all three
 abbrev pub condition_range : Three (Option Condition) → ColumnRange
 condition_range t =
     if is_some t.first then range.FirstCondition
@@ -35,6 +36,7 @@ condition_range t =
     else if is_some t.third then range.ThirdCondition
     else range.Conditions
 
+-- the first column that is missing or not allowed with the operation
 abbrev pub operation_range : CalculationSpec → Operation → ColumnRange
 operation_range k o =
     if misses (card_columns o).factor_1 k.factor_1 then range.FirstFactor
@@ -51,26 +53,31 @@ further_range k =
     else if is_some k.result_field then range.ResultName
     else shown_range k.resulting_indicators
 
+-- the columns of a card before the last of its group, or of the last card
 abbrev pub end_range : Bool → CalculationSpec → ColumnRange
 end_range true k = further_range k
 end_range false k = option_map_or (operation_range k) k.operation range.Operation
 
+-- F9 of a calculation card, by whether the next card continues its group
 abbrev pub calculation_range : Bool → CalculationSpec → ColumnRange
 calculation_range on k =
     if is_some k.length && is_none k.result_field then range.ResultLength
     else if bad_by_end on k then end_range on k
     else condition_range k.conditions
 
+-- F9 of a card, if it is a C card
 abbrev pub calculation_columns : SpecCard → List SpecCard → Option ColumnRange
 calculation_columns c after = option_map (calculation_range (goes_on after)) (calculation_on c.spec)
 
 -- ---- F10, F13, F14: where it goes
 
+-- factor 2, which names the label or the subroutine
 abbrev pub target_range : ColumnRange
 target_range = range.SecondFactor
 
 -- ---- F11: the name that a label or a subroutine is given again, else the field that is a label before
 
+-- F11 of a card
 abbrev pub twice_range : List SpecCard → SpecCard → List SpecCard → ColumnRange
 twice_range before c after =
     if option_map_or (gives_again before c after) (calculation_ending before c after) false then range.FirstFactor
@@ -78,16 +85,20 @@ twice_range before c after =
 
 -- ---- F12: BEGSR or ENDSR; else the columns for the section or for AN and OR
 
+-- F12 of a calculation card
 abbrev pub order_range : CalculationSpec → ColumnRange
 order_range k = if is_bracket (deed_of k) then range.Operation else range.ControlLevel
 
+-- F12 of a card, if it is a C card
 abbrev pub order_columns : SpecCard → Option ColumnRange
 order_columns c = option_map order_range (calculation_on c.spec)
 
 -- ---- F15: H where nothing is rounded, else MVR
 
+-- F15 of a calculation card, with the last card of its group
 abbrev pub rounding_range : Option CalculationSpec → CalculationSpec → ColumnRange
 rounding_range last k = if rounds_nothing k last then range.HalfAdjust else range.Operation
 
+-- F15 of a card, if it is a C card
 abbrev pub rounding_columns : SpecCard → List SpecCard → Option ColumnRange
 rounding_columns c after = option_map (rounding_range (card_ending c after)) (calculation_on c.spec)

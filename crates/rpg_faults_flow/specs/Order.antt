@@ -26,6 +26,7 @@ section_rank control.Or = 0
 abbrev pub is_early : List SpecCard → CalculationSpec → Bool
 is_early before k = list_any (λ (j : CalculationSpec). nat_lt (section_rank k.control_level) (section_rank j.control_level)) (calculation_specs_in before)
 
+-- BEGSR or ENDSR
 abbrev pub is_bracket : Deed Key → Bool
 is_bracket d = is_begsr d || is_endsr d
 
@@ -47,14 +48,17 @@ abbrev pub is_closed : List (Calculation Key) → Bool
 is_closed [] = false
 is_closed (g ∷ gs) = ends g
 
+-- BEGSR or ENDSR outside SR groups, ENDSR without BEGSR, or BEGSR without ENDSR
 abbrev pub unpaired : List (Calculation Key) → Calculation Key → List (Calculation Key) → Bool
 unpaired before g behind =
     (is_bracket g.deed && not (is_subroutine g.control))
     || ((ends g && not (is_inside_subroutine before)) || (begins_subroutine g && not (is_closed (brackets behind))))
 
+-- the group that ends on the card has an unpaired BEGSR or ENDSR
 abbrev pub breaks_calculation : List SpecCard → SpecCard → List SpecCard → CalculationGroup → Bool
 breaks_calculation before c after g = unpaired (calculations_before before (c ∷ after)) (calculation_of g) (calculations_from (Some g) after [])
 
+-- F12 of C cards
 abbrev pub breaks_order : List SpecCard → SpecCard → List SpecCard → Bool
 breaks_order before c after =
     option_map_or (λ k. breaks_group (joins k.control_level) before c k after) (calculation_on c.spec) false

@@ -10,10 +10,12 @@ use Rattle.rpg_sheet_specs.specs.declared.calculation.CalculationSpec.{Calculati
 use Rattle.rpg_sheet_specs.specs.declared.calculation.Operation.{Operation}
 use Rattle.rpg_sheet_specs.specs.declared.calculation.Operation.TheVariants as op
 
+-- DIV
 abbrev pub is_division : Operation → Bool
 is_division op.Divide = true
 is_division o = false
 
+-- MVR
 abbrev pub is_remainder : Operation → Bool
 is_remainder op.MoveRemainder = true
 is_remainder o = false
@@ -22,9 +24,11 @@ is_remainder o = false
 abbrev pub operation_passes : (Operation → Bool) → CalculationSpec → Bool
 operation_passes test k = option_map_or test k.operation false
 
+-- an operation that may have H
 abbrev pub may_half_adjust : Operation → Bool
 may_half_adjust o = (card_columns o).may_half_adjust
 
+-- DIV without H
 abbrev pub leaves_remainder : CalculationSpec → Bool
 leaves_remainder k = operation_passes is_division k && not k.half_adjust
 
@@ -40,8 +44,10 @@ rounds_nothing k last = k.half_adjust && not (option_map_or (operation_passes ma
 abbrev pub lacks_remainder : List SpecCard → CalculationSpec → Option CalculationSpec → Bool
 lacks_remainder before k last = option_map_or (operation_passes is_remainder) last false && (joins k.control_level || not (is_behind_division before))
 
+-- H where nothing is rounded, or MVR without a division right before
 abbrev pub rounds_wrongly : List SpecCard → CalculationSpec → Option CalculationSpec → Bool
 rounds_wrongly before k last = rounds_nothing k last || lacks_remainder before k last
 
+-- F15 of a card, if it is a C card
 abbrev pub bad_rounding : List SpecCard → SpecCard → List SpecCard → Bool
 bad_rounding before c after = option_map_or (λ k. rounds_wrongly before k (card_ending c after)) (calculation_on c.spec) false

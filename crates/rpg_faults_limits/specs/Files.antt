@@ -22,6 +22,7 @@ longest_in_file Secondary = 9999
 longest_in_file Printer = 132
 longest_in_file Disk = 9999
 
+-- the primary file's other input file is the secondary one, and the other way round
 abbrev pub other_input : FileUse → Option FileUse
 other_input Primary = Some Secondary
 other_input Secondary = Some Primary
@@ -32,6 +33,7 @@ other_input Disk = None
 abbrev pub ends_unlike : FileSpec → FileSpec → Bool
 ends_unlike f g = not (beq f.ends_job g.ends_job)
 
+-- one input file has E and the other one hasn't
 abbrev pub ends_apart : List SpecCard → FileSpec → Bool
 ends_apart before f = option_map_or (ends_unlike f) (option_and_then (λ u. file_for u before) (other_input (file_use f))) false
 
@@ -44,6 +46,7 @@ abbrev pub lacks_file : List SpecCard → (FileUse → Bool) → Bool → Option
 lacks_file cards is_fit is_behind None = not is_behind
 lacks_file cards is_fit is_behind (Some name) = option_map_or (λ f. not (is_fit (file_use f))) (file_named name cards) true
 
+-- F7 of a card: its file is bad, or it names no file that it may have
 abbrev pub breaks_files : List SpecCard → List SpecCard → SpecCard → Bool
 breaks_files cards before c =
     option_map_or (bad_file before) (file_on c.spec) false
@@ -56,9 +59,11 @@ lacks_input cards = is_none (file_for Primary cards)
 
 -- ---- F9
 
+-- a line spaces or skips
 abbrev pub moves : Movement → Bool
 moves m = is_some m.space_before || is_some m.space_after || is_some m.skip_before || is_some m.skip_after
 
+-- the disk file
 abbrev pub is_disk : FileSpec → Bool
 is_disk f = same_use Disk (file_use f)
 
@@ -66,5 +71,6 @@ is_disk f = same_use Disk (file_use f)
 abbrev pub moves_disk_by : List SpecCard → List SpecCard → OutputRecord → Bool
 moves_disk_by cards before r = moves r.movement && option_map_or is_disk (file_by (option_or r.file (open_file output_role before)) cards) false
 
+-- F9 of a card: a line of the disk file spaces or skips
 abbrev pub moves_disk : List SpecCard → List SpecCard → SpecCard → Bool
 moves_disk cards before c = option_map_or (moves_disk_by cards before) (output_record_on c.spec) false

@@ -14,6 +14,7 @@ use Rattle.rpg_sheet_specs.specs.declared.output.OutputSpec.TheVariants as outpu
 use Rattle.rpg_sheet_specs.specs.declared.spec.Spec.{Spec}
 use Rattle.rpg_sheet_specs.specs.declared.spec.Spec.TheVariants as spec
 
+-- one of three is there and passes
 abbrev pub any_of : {X : Type 0} → (X → Bool) → Three (Option X) → Bool
 any_of test t = option_map_or test t.first false || option_map_or test t.second false || option_map_or test t.third false
 
@@ -31,9 +32,11 @@ cannot_be_set n = (n == 100) || (n == 111) || (n == 129)
 abbrev pub may_ask : List SpecCard → Bool
 may_ask cards = has_match_field cards
 
+-- MR in a source without match fields
 abbrev pub is_barred_mr : List SpecCard → ℕ → Bool
 is_barred_mr cards n = (n == 129) && not (may_ask cards)
 
+-- 1P
 abbrev pub is_1p : ℕ → Bool
 is_1p n = n == 111
 
@@ -51,20 +54,24 @@ bad_in_calculation cards c = is_1p c.indicator || is_barred_mr cards c.indicator
 abbrev pub bad_on_field : InputField → Bool
 bad_on_field f = any_of cannot_be_set f.indicators || (is_none f.decimals && (is_some f.indicators.first || is_some f.indicators.second))
 
+-- F8 of an I card
 abbrev pub bad_on_input : InputSpec → Bool
 bad_on_input (input.Type t) = option_map_or cannot_mark_type t.indicator false
 bad_on_input (input.And codes) = false
 bad_on_input (input.Field f) = bad_on_field f
 
+-- F8 of a C card
 abbrev pub bad_on_calculation : List SpecCard → CalculationSpec → Bool
 bad_on_calculation cards k = any_of (bad_in_calculation cards) k.conditions || any_of cannot_be_set k.resulting_indicators
 
+-- F8 of an O card
 abbrev pub bad_on_output : List SpecCard → OutputSpec → Bool
 bad_on_output cards (output.Record r) = any_of (bad_in_output cards) r.conditions
 bad_on_output cards (output.And t) = any_of (bad_in_output cards) t
 bad_on_output cards (output.Or t) = any_of (bad_in_output cards) t
 bad_on_output cards (output.Field f) = any_of (bad_in_output cards) f.conditions
 
+-- F8 of a card of any sheet
 abbrev pub bad_on : List SpecCard → Spec → Bool
 bad_on cards (spec.Header h) = false
 bad_on cards (spec.File f) = false
@@ -74,5 +81,6 @@ bad_on cards (spec.Calculation k) = bad_on_calculation cards k
 bad_on cards (spec.Output o) = bad_on_output cards o
 bad_on cards (spec.Data d) = false
 
+-- F8 of a card
 abbrev pub bad_indicator : List SpecCard → SpecCard → Bool
 bad_indicator cards c = bad_on cards c.spec

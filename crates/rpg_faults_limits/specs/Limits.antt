@@ -31,27 +31,33 @@ in_open measure g = option_map_or measure g 0
 
 -- ---- record types
 
+-- the codes of an AND card
 abbrev pub codes_on : InputSpec → ℕ
 codes_on (input.Type t) = 0
 codes_on (input.And codes) = filled_count codes
 codes_on (input.Field f) = 0
 
+-- an I card with a field
 abbrev pub is_input_field_card : InputSpec → Bool
 is_input_field_card (input.Type t) = false
 is_input_field_card (input.And codes) = false
 is_input_field_card (input.Field f) = true
 
+-- an I card whose field has a control level
 abbrev pub is_level_field : InputSpec → Bool
 is_level_field (input.Type t) = false
 is_level_field (input.And codes) = false
 is_level_field (input.Field f) = is_some f.level
 
+-- the codes of a record type, with those of its AND cards
 abbrev pub code_count : Group RecordType InputSpec → ℕ
 code_count g = filled_count g.heading.codes + sum_by codes_on g.followers
 
+-- the control fields of a record type
 abbrev pub level_count : Group RecordType InputSpec → ℕ
 level_count g = count_by is_level_field g.followers
 
+-- the fields of a record type
 abbrev pub field_count : Group RecordType InputSpec → ℕ
 field_count g = count_by is_input_field_card g.followers
 
@@ -69,12 +75,14 @@ passes_on_types before c =
 
 -- ---- lines
 
+-- an OR card of a line
 abbrev pub is_or_line : OutputSpec → Bool
 is_or_line (output.Record r) = false
 is_or_line (output.And t) = false
 is_or_line (output.Or t) = true
 is_or_line (output.Field f) = false
 
+-- an O card with a field
 abbrev pub is_output_field : OutputSpec → Bool
 is_output_field (output.Record r) = false
 is_output_field (output.And t) = false
@@ -88,12 +96,15 @@ conditions_with n (output.And t) = n + filled_count t
 conditions_with n (output.Or t) = filled_count t
 conditions_with n (output.Field f) = n
 
+-- the conditions of the last alternative of a line
 abbrev pub condition_count : Group OutputRecord OutputSpec → ℕ
 condition_count g = fold conditions_with (filled_count g.heading.conditions) g.followers
 
+-- the alternatives of a line: one, and one for each OR card
 abbrev pub alternative_count : Group OutputRecord OutputSpec → ℕ
 alternative_count g = 1 + count_by is_or_line g.followers
 
+-- the fields of a line
 abbrev pub output_field_count : Group OutputRecord OutputSpec → ℕ
 output_field_count g = count_by is_output_field g.followers
 
@@ -111,6 +122,7 @@ passes_on_lines before c =
 
 -- ---- calculations
 
+-- the C cards
 abbrev pub calculation_count : List SpecCard → ℕ
 calculation_count cards = count_by (λ c. is_some (calculation_on c.spec)) cards
 
@@ -124,18 +136,23 @@ passes_on_calculations before c after = crosses calculation_count 1000 before c 
 
 -- ---- names, and the bytes of names and constants: a name without a form takes none
 
+-- the names that every program has, and those that the cards define
 abbrev pub name_count : List SpecCard → ℕ
 name_count cards = length (names cards)
 
+-- the bytes that a defined name takes; 0 without a form
 abbrev pub definition_bytes : Definition → ℕ
 definition_bytes d = option_map_or size_of d.form 0
 
+-- the bytes of all names
 abbrev pub name_bytes : List SpecCard → ℕ
 name_bytes cards = sum_by definition_bytes (names cards)
 
+-- the bytes of a constant
 abbrev pub constant_size : Constant → ℕ
 constant_size c = size_of (constant_form c)
 
+-- the bytes of all constants
 abbrev pub constant_bytes : List SpecCard → ℕ
 constant_bytes cards = sum_by constant_size (constants cards)
 
@@ -143,6 +160,7 @@ constant_bytes cards = sum_by constant_size (constants cards)
 abbrev pub fields_up_to : List SpecCard → List SpecCard → ℕ
 fields_up_to cards front = name_count cards + length (constants front)
 
+-- the bytes of all names, and of the constants of the cards at the front
 abbrev pub bytes_up_to : List SpecCard → List SpecCard → ℕ
 bytes_up_to cards front = name_bytes cards + constant_bytes front
 
@@ -156,14 +174,17 @@ passes_storage cards before c =
 
 -- ---- 1 to 9,999 entries
 
+-- an E card with a number of entries out of range
 abbrev pub bad_entries_of : ExtensionSpec → Bool
 bad_entries_of e = not (is_between 1 9999 e.entries)
 
+-- the same of a card, if it is an E card
 abbrev pub bad_entries : SpecCard → Bool
 bad_entries c = option_map_or bad_entries_of (extension_on c.spec) false
 
 -- ---- all of them
 
+-- F6: the card exceeds one of the limits
 abbrev pub passes_limit : List SpecCard → List SpecCard → SpecCard → List SpecCard → Bool
 passes_limit cards before c after =
     passes_on_types before c || passes_on_lines before c || passes_on_calculations before c after || passes_storage cards before c || bad_entries c

@@ -30,6 +30,7 @@ use Rattle.rpg_sheet_specs.specs.declared.spec.Spec.TheVariants as spec
 
 -- ---- F2: the name that is defined again; of an E card the first of two, where it is
 
+-- the columns of the name that a card defines first
 abbrev pub name_columns : Spec → Option ColumnRange
 name_columns (spec.Header h) = None
 name_columns (spec.File f) = None
@@ -39,17 +40,21 @@ name_columns (spec.Calculation k) = Some range.ResultName
 name_columns (spec.Output o) = None
 name_columns (spec.Data d) = None
 
+-- the first name that the card defines has another form before
 abbrev pub redefines_first : List SpecCard → SpecCard → Bool
 redefines_first before c = option_map_or (redefines_as (definitions before)) (slice_get (definitions_on c.spec) 0) false
 
+-- F2 of a card: its first name, else the alternating one
 abbrev pub redefined_columns : List SpecCard → SpecCard → Option ColumnRange
 redefined_columns before c = if redefines_first before c then name_columns c.spec else Some range.AlternatingName
 
 -- ---- F3: the decimals, where the length would do without them; else the length
 
+-- the decimals if the length by itself is good, else the length
 abbrev pub size_range : ColumnRange → ColumnRange → ℕ → Option ℕ → ColumnRange
 size_range length decimals len d = if is_some (sized_form len (option_map (λ n. 0) d)) then decimals else length
 
+-- F3 of an E card: the sizes of its table, else of the alternating one
 abbrev pub size_of_tables : ExtensionSpec → ColumnRange
 size_of_tables e =
     if bad_size_of_table e.table then size_range range.EntryLength range.EntryDecimals e.table.length e.table.decimals
@@ -59,6 +64,7 @@ size_of_tables e =
 abbrev pub size_of_result : CalculationSpec → ColumnRange
 size_of_result k = option_map_or (λ len. size_range range.ResultLength range.ResultDecimals len k.decimals) k.length range.ResultDecimals
 
+-- F3 of a card
 abbrev pub size_columns : Spec → Option ColumnRange
 size_columns (spec.Header h) = None
 size_columns (spec.File f) = None
@@ -70,17 +76,20 @@ size_columns (spec.Data d) = None
 
 -- ---- F6: the entries of a table; of all other limits the card as a whole is one too many
 
+-- F6 of a card: its entries; none for a limit that cards exceed together
 abbrev pub limit_columns : SpecCard → Option ColumnRange
 limit_columns c = if bad_entries c then Some range.Entries else None
 
 -- ---- F7: of an F card the name, what makes it a second one of its use, whether it ends the job, or the record length
 
+-- the columns that give a file its use
 abbrev pub use_range : FileUse → ColumnRange
 use_range Primary = range.FileType
 use_range Secondary = range.FileType
 use_range Printer = range.Device
 use_range Disk = range.Device
 
+-- F7 of an F card: its name, its use, E, else its record length
 abbrev pub file_range : List SpecCard → FileSpec → ColumnRange
 file_range before f =
     if is_some (file_named f.name before) then range.FileName
@@ -88,6 +97,7 @@ file_range before f =
     else if ends_apart before f then range.EndsJob
     else range.RecordLength
 
+-- F7 of a card
 abbrev pub file_columns : List SpecCard → Spec → Option ColumnRange
 file_columns before (spec.Header h) = None
 file_columns before (spec.File f) = Some (file_range before f)
@@ -99,6 +109,7 @@ file_columns before (spec.Data d) = None
 
 -- ---- F8: the first indicator that isn't allowed
 
+-- the columns of the first of three that passes
 abbrev pub first_of : {X : Type 0} → (X → Bool) → ColumnRange → ColumnRange → ColumnRange → Three (Option X) → Option ColumnRange
 first_of test a b c t =
     if option_map_or test t.first false then Some a
@@ -106,12 +117,15 @@ first_of test a b c t =
     else if option_map_or test t.third false then Some c
     else None
 
+-- the first condition of a C card that passes
 abbrev pub first_condition : (Condition → Bool) → Three (Option Condition) → Option ColumnRange
 first_condition test t = first_of test range.FirstCondition range.SecondCondition range.ThirdCondition t
 
+-- the first resulting indicator that can't be set
 abbrev pub first_result : Three (Option ℕ) → Option ColumnRange
 first_result t = first_of cannot_be_set range.ResultPlus range.ResultMinus range.ResultZero t
 
+-- the first condition of an O card that isn't allowed
 abbrev pub first_line_condition : List SpecCard → Three (Option Condition) → Option ColumnRange
 first_line_condition cards t = first_of (bad_in_output cards) range.FirstLineCondition range.SecondLineCondition range.ThirdLineCondition t
 
@@ -119,18 +133,22 @@ first_line_condition cards t = first_of (bad_in_output cards) range.FirstLineCon
 abbrev pub text_indicator : InputField → ColumnRange
 text_indicator f = if is_some f.indicators.first then range.InputPlus else range.InputMinus
 
+-- F8 of an input field
 abbrev pub indicator_on_field : InputField → Option ColumnRange
 indicator_on_field f = option_or (first_of cannot_be_set range.InputPlus range.InputMinus range.InputZero f.indicators) (Some (text_indicator f))
 
+-- F8 of an I card
 abbrev pub indicator_on_input : InputSpec → Option ColumnRange
 indicator_on_input (input.Type t) = Some range.TypeIndicator
 indicator_on_input (input.And codes) = None
 indicator_on_input (input.Field f) = indicator_on_field f
 
+-- F8 of a C card
 abbrev pub indicator_on_calculation : List SpecCard → CalculationSpec → Option ColumnRange
 indicator_on_calculation cards k =
     option_or (first_condition (bad_in_calculation cards) k.conditions) (first_result k.resulting_indicators)
 
+-- F8 of a card
 abbrev pub indicator_columns : List SpecCard → Spec → Option ColumnRange
 indicator_columns cards (spec.Header h) = None
 indicator_columns cards (spec.File f) = None
@@ -142,6 +160,7 @@ indicator_columns cards (spec.Data d) = None
 
 -- ---- F9 of lines: the first space or skip
 
+-- the first space or skip that is there
 abbrev pub first_movement : Movement → ColumnRange
 first_movement m =
     if is_some m.space_before then range.SpaceBefore
@@ -149,11 +168,13 @@ first_movement m =
     else if is_some m.skip_before then range.SkipBefore
     else range.SkipAfter
 
+-- F9 of a line of the disk file
 abbrev pub movement_columns : SpecCard → Option ColumnRange
 movement_columns c = option_map (λ r. first_movement r.movement) (output_record_on c.spec)
 
 -- ---- F12 of I and O cards: the name of a field that belongs to nothing; else the card as a whole
 
+-- F12 of an I or O card: the field's name, and nothing of AND and OR cards
 abbrev pub stray_columns : Spec → Option ColumnRange
 stray_columns (spec.Header h) = None
 stray_columns (spec.File f) = None

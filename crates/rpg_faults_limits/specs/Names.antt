@@ -14,21 +14,26 @@ use Rattle.rpg_symbols.specs.Fields.{same_form}
 
 -- ---- F2: a name that is defined again in another form, also by the alternating table of one card
 
+-- a definition whose name has another form by its first good definition
 abbrev pub redefines_as : List Definition → Definition → Bool
 redefines_as before d = option_map_or (λ form. option_map_or (λ first. not (same_form first form)) (form_in (form_by d.name before)) false) d.form false
 
+-- one of these does, each by those before it
 abbrev pub redefine : List Definition → List Definition → Bool
 redefine before [] = false
 redefine before (d ∷ ds) = redefines_as before d || redefine (before ++ d ∷ []) ds
 
+-- F2: the card defines a name that has another form before
 abbrev pub redefines : List SpecCard → SpecCard → Bool
 redefines before c = redefine (definitions before) (definitions_on c.spec)
 
 -- ---- F3: a field or table that is too long or has too many decimals, and decimals where no length is given
 
+-- a table whose length or decimals are out of range
 abbrev pub bad_size_of_table : TableSpec → Bool
 bad_size_of_table t = is_none (sized_form t.length t.decimals)
 
+-- an E card with such a table
 abbrev pub bad_size_of_tables : ExtensionSpec → Bool
 bad_size_of_tables e = list_any bad_size_of_table (tables_on e)
 
@@ -36,13 +41,16 @@ bad_size_of_tables e = list_any bad_size_of_table (tables_on e)
 abbrev pub bad_size_of_field : InputField → Bool
 bad_size_of_field f = nat_le f.from f.to && is_none (field_form f)
 
+-- decimals without a length, or a size that is out of range
 abbrev pub bad_size_by : Option ℕ → Option ℕ → Bool
 bad_size_by None decimals = is_some decimals
 bad_size_by (Some len) decimals = is_none (sized_form len decimals)
 
+-- a result field with such a size
 abbrev pub bad_size_of_result : CalculationSpec → Bool
 bad_size_of_result k = bad_size_by k.length k.decimals
 
+-- F3: the card has a bad size
 abbrev pub bad_size : SpecCard → Bool
 bad_size c =
     option_map_or bad_size_of_tables (extension_on c.spec) false

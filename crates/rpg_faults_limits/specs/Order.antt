@@ -9,19 +9,23 @@ use Rattle.rpg_sheet_specs.specs.declared.input.InputSpec.TheVariants as input
 use Rattle.rpg_sheet_specs.specs.declared.output.OutputSpec.{OutputSpec}
 use Rattle.rpg_sheet_specs.specs.declared.output.OutputSpec.TheVariants as output
 
+-- the last of these cards
 abbrev pub card_right_before : List SpecCard → Option SpecCard
 card_right_before before = slice_get before (length before - 1)
 
 -- ---- I: the codes of an AND card continue those of a type card or an AND card
 
+-- a type card or an AND card
 abbrev pub takes_codes : InputSpec → Bool
 takes_codes (input.Type t) = true
 takes_codes (input.And codes) = true
 takes_codes (input.Field f) = false
 
+-- a type card or an AND card comes right before
 abbrev pub is_behind_codes : List SpecCard → Bool
 is_behind_codes before = option_map_or takes_codes (option_and_then (λ (c : SpecCard). input_on c.spec) (card_right_before before)) false
 
+-- F12 of an I card
 abbrev pub strays_on_input : List SpecCard → InputSpec → Bool
 strays_on_input before (input.Type t) = false
 strays_on_input before (input.And codes) = not (is_behind_codes before)
@@ -29,20 +33,24 @@ strays_on_input before (input.Field f) = is_none (open_group input_role before)
 
 -- ---- O: the conditions of an AND or OR card continue those of a record, AND or OR card
 
+-- a record, AND or OR card
 abbrev pub takes_conditions : OutputSpec → Bool
 takes_conditions (output.Record r) = true
 takes_conditions (output.And t) = true
 takes_conditions (output.Or t) = true
 takes_conditions (output.Field f) = false
 
+-- a record, AND or OR card comes right before
 abbrev pub is_behind_conditions : List SpecCard → Bool
 is_behind_conditions before = option_map_or takes_conditions (option_and_then (λ (c : SpecCard). output_on c.spec) (card_right_before before)) false
 
+-- F12 of an O card
 abbrev pub strays_on_output : List SpecCard → OutputSpec → Bool
 strays_on_output before (output.Record r) = false
 strays_on_output before (output.And t) = not (is_behind_conditions before)
 strays_on_output before (output.Or t) = not (is_behind_conditions before)
 strays_on_output before (output.Field f) = is_none (open_group output_role before)
 
+-- F12 of I and O cards
 abbrev pub strays : List SpecCard → SpecCard → Bool
 strays before c = option_map_or (strays_on_input before) (input_on c.spec) false || option_map_or (strays_on_output before) (output_on c.spec) false

@@ -23,12 +23,14 @@ use Rattle.rpg_sheet_specs.specs.declared.output.OutputSpec.{OutputSpec}
 
 -- ---- the open record type, and the open line
 
+-- the counts are those of the open record type, all 0 where none is open
 pub record IsOpenType (g : Option (Group RecordType InputSpec)) (t : OpenType) : Type 0 where
   pub is_open : t.is_open ≡ is_some g
   pub codes : t.codes ≡ in_open code_count g
   pub levels : t.levels ≡ in_open level_count g
   pub fields : t.fields ≡ in_open field_count g
 
+-- the counts are those of the open line, all 0 where none is open
 pub record IsOpenLine (g : Option (Group OutputRecord OutputSpec)) (l : OpenLine) : Type 0 where
   pub is_open : l.is_open ≡ is_some g
   pub alternatives : l.alternatives ≡ in_open alternative_count g
@@ -41,6 +43,7 @@ pub record HasFewOnType (n : ℕ) (t : OpenType) : Type 0 where
   pub levels : t.levels ≤ n
   pub fields : t.fields ≤ n
 
+-- the counts are at most those that n cards can have
 pub record HasFewOnLine (n : ℕ) (l : OpenLine) : Type 0 where
   pub alternatives : l.alternatives ≤ n
   pub conditions : l.conditions ≤ 3 * n
@@ -48,6 +51,7 @@ pub record HasFewOnLine (n : ℕ) (l : OpenLine) : Type 0 where
 
 -- ---- calculations
 
+-- a group of an SR card
 abbrev pub is_of_subroutine : calculations.CalculationGroup → Bool
 is_of_subroutine g = is_subroutine g.first.control_level
 
@@ -55,6 +59,7 @@ is_of_subroutine g = is_subroutine g.first.control_level
 abbrev pub is_in_subroutine : List SpecCard → Bool
 is_in_subroutine before = option_map_or is_of_subroutine (calculations.open_calculation_group before) false
 
+-- the counts are those of the C cards before
 pub record AreCalculations (before rest : List SpecCard) (k : Calculations) : Type 0 where
   pub cards : k.cards ≡ calculation_count before
   pub subroutines : k.subroutines ≡ begun_count (calculations_before before rest)
@@ -64,6 +69,7 @@ pub record AreCalculations (before rest : List SpecCard) (k : Calculations) : Ty
 
 -- ---- names and constants
 
+-- the counts are those of names and constants: of the cards before, and the names of all cards
 pub record IsStorage (cards before : List SpecCard) (s : Storage) : Type 0 where
   pub names : HasNames (definitions before) s.names
   pub constants : HasConstants (constants_in before) s.constants
@@ -71,6 +77,7 @@ pub record IsStorage (cards before : List SpecCard) (s : Storage) : Type 0 where
 
 -- ---- all that is known before a card, which is the first of the rest
 
+-- all counts before a card are right
 pub record AreLimits (cards before rest : List SpecCard) (l : Limits) : Type 0 where
   pub storage : IsStorage cards before l.storage
   pub calculations : AreCalculations before rest l.calculations

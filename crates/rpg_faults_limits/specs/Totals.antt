@@ -22,9 +22,11 @@ pub record HasTotals (X : Type 0) (same : X → X → Bool) (size : X → ℕ) (
   pub few : t.number ≤ 2 + t.items
   pub few_bytes : t.bytes ≤ 10 + 4294967295 * t.items
 
+-- the totals are those of the names that these define, with those that every program has
 abbrev pub HasNames : List Definition → Totals → Type 0
 HasNames items t = HasTotals Definition same_name definition_bytes given_names items t
 
+-- the totals are those of these constants, equal ones once
 abbrev pub HasConstants : List Constant → Totals → Type 0
 HasConstants items t = HasTotals Constant is_same constant_size [] items t
 

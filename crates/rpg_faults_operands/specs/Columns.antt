@@ -14,12 +14,14 @@ use Rattle.rpg_sheet_specs.specs.declared.calculation.CalculationSpec.{Calculati
 use Rattle.rpg_sheet_specs.specs.declared.output.OutputField.{OutputField}
 use Rattle.rpg_faults_operands.specs.Operands.{factor_form}
 
+-- the indicators of LOKUP
 abbrev pub searches : Shown → Bool
 searches shown.Unused = false
 searches shown.Any = false
 searches shown.Some = false
 searches shown.Search = true
 
+-- an array or a table that isn't in ascending sequence
 abbrev pub lacks_sequence : FieldForm → Bool
 lacks_sequence form = (is_array form.class || is_table form.class) && not form.is_ascending
 
@@ -29,6 +31,7 @@ is_unordered cards k t =
     searches t.indicators && (is_some k.resulting_indicators.first || is_some k.resulting_indicators.second)
     && option_map_or lacks_sequence (factor_form cards t.factor_2 k.factor_2) false
 
+-- F9 of a calculation: LOKUP with high or low through what isn't in ascending sequence
 abbrev pub bad_search : List SpecCard → CalculationSpec → Bool
 bad_search cards k = option_map_or (λ o. is_unordered cards k (card_columns o)) k.operation false
 
@@ -36,5 +39,6 @@ bad_search cards k = option_map_or (λ o. is_unordered cards k (card_columns o))
 abbrev pub bad_output_field : OutputField → Bool
 bad_output_field f = is_none f.operand && (is_some f.code || f.blank_after || is_none f.text)
 
+-- F9 of the operation that ends on the card, or of an output field
 abbrev pub bad_operand_columns : List SpecCard → SpecCard → List SpecCard → Bool
 bad_operand_columns cards c after = option_map_or (bad_search cards) (card_ending c after) false || option_map_or bad_output_field (output_field_on c.spec) false

@@ -37,6 +37,7 @@ takes_index Table form = is_array form.class
 takes_index Label form = is_array form.class
 takes_index Subroutine form = is_array form.class
 
+-- what LOKUP searches
 abbrev pub is_searched_content : Content → Bool
 is_searched_content Value = false
 is_searched_content WholeArray = false
@@ -54,19 +55,24 @@ abbrev pub bad_entry : Content → FieldForm → EntryIndex → Option FieldForm
 bad_entry content form (index.Literal n) field = not (is_between 1 form.entries n)
 bad_entry content form (index.Name x) field = option_map_or (is_too_short content form) field false
 
+-- an index is missing, or is there and not allowed or out of range
 abbrev pub misindexed : Content → Option EntryIndex → Option FieldForm → FieldForm → Bool
 misindexed content None field form = needs_index content form
 misindexed content (Some i) field form = not (takes_index content form) || bad_entry content form i field
 
+-- the form of the field that indexes an entry, if it is known
 abbrev pub index_form : List SpecCard → Entry → Option FieldForm
 index_form cards e = option_and_then (λ x. form_in (form_of_name x cards)) (index_name e)
 
+-- an index field that is no plain number without decimals
 abbrev pub bad_index_field : Option FieldForm → Bool
 bad_index_field field = option_map_or (λ form. not (can_index form)) field false
 
+-- an operand whose index is wrong
 abbrev pub bad_index_of : List SpecCard → Operand → Bool
 bad_index_of cards o =
     option_map_or (misindexed o.content o.field.index (index_form cards o.field)) (card_entry_form cards o.field) false || bad_index_field (index_form cards o.field)
 
+-- F5: an operand on the card has a wrong index
 abbrev pub bad_index : List SpecCard → SpecCard → List SpecCard → Bool
 bad_index cards c after = list_any (bad_index_of cards) (operands_on c after)

@@ -35,9 +35,11 @@ has_wrong_class (Some c) form = option_map_or (is_wrong_class c) form false
 
 -- ---- kinds
 
+-- a field of characters
 abbrev pub is_text : FieldForm → Bool
 is_text form = same_kind form.kind kind.Text
 
+-- a known field of characters
 abbrev pub has_text : Option FieldForm → Bool
 has_text form = option_map_or is_text form false
 
@@ -47,6 +49,7 @@ kinds_differ None g = false
 kinds_differ (Some f) None = false
 kinds_differ (Some f) (Some g) = not (same_kind f.kind g.kind)
 
+-- texts where the operation requires numbers, or a number and a text where it requires one kind
 abbrev pub wrong_kinds : Kinds → Option FieldForm → Option FieldForm → Option FieldForm → Bool
 wrong_kinds Numbers f g r = has_text f || has_text g || has_text r
 wrong_kinds Alike f g r = kinds_differ f g
@@ -62,6 +65,7 @@ is_unwritable form = not (is_writable form.class)
 abbrev pub has_too_few : FieldForm → FieldForm → Bool
 has_too_few searched found = is_table found.class && (is_array searched.class || is_table searched.class) && nat_lt found.entries searched.entries
 
+-- the result of LOKUP is a table with fewer entries than factor 2
 abbrev pub finds_too_few : Option FieldForm → Option FieldForm → Bool
 finds_too_few None r = false
 finds_too_few (Some g) None = false
@@ -87,10 +91,12 @@ wrong_forms t f g r =
     || wrong_kinds t.kinds f g r
     || option_map_or (λ c. wrong_result c g r) (field_content t.result_field) false
 
+-- F4 of a calculation with these columns
 abbrev pub wrong_by : List SpecCard → CalculationSpec → OperationColumns → Bool
 wrong_by cards k t =
     wrong_forms t (factor_form cards t.factor_1 k.factor_1) (factor_form cards t.factor_2 k.factor_2) (result_form cards t.result_field k.result_field)
 
+-- F4 of a calculation, by the columns of its operation
 abbrev pub wrong_in_calculation : List SpecCard → CalculationSpec → Bool
 wrong_in_calculation cards k = option_map_or (λ o. wrong_by cards k (card_columns o)) k.operation false
 
@@ -98,9 +104,11 @@ wrong_in_calculation cards k = option_map_or (λ o. wrong_by cards k (card_colum
 abbrev pub wrong_as_output : OutputField → FieldForm → Bool
 wrong_as_output f form = ((is_some f.code || is_some f.text) && is_text form) || (f.blank_after && is_unwritable form)
 
+-- F4 of an output field: a text that is edited, or a field that may not be blanked
 abbrev pub wrong_in_output : List SpecCard → OutputField → Bool
 wrong_in_output cards f = option_map_or (wrong_as_output f) (output_form cards f) false
 
+-- F4 of the operation that ends on the card, or of an output field
 abbrev pub wrong_operand : List SpecCard → SpecCard → List SpecCard → Bool
 wrong_operand cards c after =
     option_map_or (wrong_in_calculation cards) (card_ending c after) false || option_map_or (wrong_in_output cards) (output_field_on c.spec) false

@@ -14,9 +14,11 @@ abbrev pub name_in : EntryIndex → Option (List ℕ)
 name_in (index.Literal n) = None
 name_in (index.Name x) = Some x
 
+-- the field that indexes an entry, if a field does
 abbrev pub index_name : Entry → Option (List ℕ)
 index_name e = option_and_then name_in e.index
 
+-- a name that no card defines
 abbrev pub is_undefined : List SpecCard → List ℕ → Bool
 is_undefined cards name = is_missing (form_of_name name cards)
 
@@ -24,5 +26,6 @@ is_undefined cards name = is_missing (form_of_name name cards)
 abbrev pub names_nothing : List SpecCard → Operand → Bool
 names_nothing cards o = is_undefined cards o.field.name || option_map_or (is_undefined cards) (index_name o.field) false
 
+-- F1: an operand on the card has a name that no card defines
 abbrev pub lacks_name : List SpecCard → SpecCard → List SpecCard → Bool
 lacks_name cards c after = list_any (names_nothing cards) (operands_on c after)

@@ -31,6 +31,7 @@ is_field_content Table = true
 is_field_content Label = false
 is_field_content Subroutine = false
 
+-- a content that is a field
 abbrev pub if_field : Content → Option Content
 if_field c = if is_field_content c then Some c else None
 
@@ -52,9 +53,11 @@ abbrev pub factor_entry : Factor → Option Entry
 factor_entry (factor.Entry e) = Some e
 factor_entry (factor.Literal l) = None
 
+-- an entry, as what its column takes
 abbrev pub operand_with : Content → Entry → Operand
 operand_with c e = record { content = c; field = e }
 
+-- the operand of a column that takes a field
 abbrev pub operand_in : Column → Option Entry → Option Operand
 operand_in column e = option_and_then (λ c. option_map (operand_with c) e) (field_content column)
 
@@ -66,9 +69,11 @@ operands_by t k = record {
   third = operand_in t.result_field k.result_field;
 }
 
+-- a card without an operation
 abbrev pub no_operands : Three (Option Operand)
 no_operands = record { first = None; second = None; third = None }
 
+-- the operands of a calculation, by the columns of its operation
 abbrev pub operands_of : CalculationSpec → Three (Option Operand)
 operands_of k = option_map_or (λ o. operands_by (card_columns o) k) k.operation no_operands
 
@@ -76,20 +81,25 @@ operands_of k = option_map_or (λ o. operands_by (card_columns o) k) k.operation
 abbrev pub operands_ending : SpecCard → List SpecCard → Three (Option Operand)
 operands_ending c after = option_map_or operands_of (card_ending c after) no_operands
 
+-- the field of an output card, as an operand
 abbrev pub output_operand : OutputField → Option Operand
 output_operand f = option_map (operand_with Value) f.operand
 
+-- the same of a card, if it has an output field
 abbrev pub output_operand_on : SpecCard → Option Operand
 output_operand_on c = option_and_then output_operand (output_field_on c.spec)
 
+-- those that are there, in the order of their columns
 abbrev pub operands_listed : Three (Option Operand) → List Operand
 operands_listed t = option_to_list t.first ++ option_to_list t.second ++ option_to_list t.third
 
+-- the operands of the operation that ends on the card, and of an output field
 abbrev pub operands_on : SpecCard → List SpecCard → List Operand
 operands_on c after = operands_listed (operands_ending c after) ++ option_to_list (output_operand_on c)
 
 -- ---- forms
 
+-- the form of an entry's field, if its name has a good one
 abbrev pub card_entry_form : List SpecCard → Entry → Option FieldForm
 card_entry_form cards e = form_in (form_of_name e.name cards)
 
@@ -97,8 +107,10 @@ card_entry_form cards e = form_in (form_of_name e.name cards)
 abbrev pub factor_form : List SpecCard → Column → Option Factor → Option FieldForm
 factor_form cards column f = option_and_then (λ c. option_and_then (λ x. form_in (form_of_factor x cards)) f) (field_content column)
 
+-- the form of the result field, if its column takes a field
 abbrev pub result_form : List SpecCard → Column → Option Entry → Option FieldForm
 result_form cards column e = option_and_then (λ c. option_and_then (card_entry_form cards) e) (field_content column)
 
+-- the form of an output field, if its name has a good one
 abbrev pub output_form : List SpecCard → OutputField → Option FieldForm
 output_form cards f = option_and_then (card_entry_form cards) f.operand

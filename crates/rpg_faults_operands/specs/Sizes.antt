@@ -9,5 +9,6 @@ abbrev pub HasSize : Kind → ℕ → ℕ → Type 0
 HasSize kind.Number len decimals = (1 ≤ len) × (len ≤ 15) × (decimals ≤ len)
 HasSize kind.Text len decimals = (1 ≤ len) × (len ≤ 256)
 
+-- length and decimals are those that a field of its kind may have
 abbrev pub IsSized : FieldForm → Type 0
 IsSized form = HasSize form.kind form.length form.decimals
