@@ -11,11 +11,13 @@ module _ (number : Option Name → ℕ) where
   abbrev pub callee_in : Deed Key → Option ℕ
   callee_in d = option_map number (call_in d)
 
+-- a call, if there is one, before the others
 abbrev pub with_callee : ℕ → Option ℕ → List Pair → List Pair
 with_callee caller None ps = ps
 with_callee caller (Some callee) ps = (caller, callee) ∷ ps
 
 module _ (number : Option Name → ℕ) where
+  -- the calls of a subroutine's groups, by numbers
   abbrev pub numbered_calls_in : ℕ → List (Calculation Key) → List Pair
   numbered_calls_in caller [] = []
   numbered_calls_in caller (g ∷ gs) = with_callee caller (callee_in number g.deed) (numbered_calls_in caller gs)
@@ -27,5 +29,6 @@ module _ (number : Option Name → ℕ) where
 
 -- ---- levels
 
+-- the level of a subroutine in the list of levels
 abbrev pub level_at : List ℕ → ℕ → ℕ
 level_at levels s = slice_index levels s

@@ -8,6 +8,7 @@ use Rattle.rpg_effect.specs.declared.operation.Operand.{Operand}
 use Rattle.rpg_object_program.specs.Kept.{AreConditions, AreIndicators, IsTwoBytes}
 use Rattle.rpg_object_program.specs.Object.{SubroutineRow}
 
+-- an operation whose indicators are in range
 abbrev pub IsMarkedAction : Action (Operand ℕ) → Type 0
 IsMarkedAction (Compute operator half a b r s) = AreIndicators s
 IsMarkedAction (Divide half a b r s) = AreIndicators s
@@ -19,6 +20,7 @@ IsMarkedAction (LookUp a b r s) = AreIndicators s
 IsMarkedAction (Move side b r) = Unit {0}
 IsMarkedAction (SetIndicators is_on s) = AreIndicators s
 
+-- an instruction whose indicators and numbers are in range
 abbrev pub IsMarked : Instruction ℕ → Type 0
 IsMarked (Act a) = IsMarkedAction a
 IsMarked Except = Unit {0}
@@ -26,6 +28,7 @@ IsMarked (Branch is_taken_where cs target) = AreConditions cs × IsTwoBytes targ
 IsMarked (Call subroutine) = IsTwoBytes subroutine
 IsMarked (Return subroutine) = IsTwoBytes subroutine
 
+-- a subroutine whose level and instructions are in range
 pub record IsMarkedRow (s : SubroutineRow) : Type 0 where
   pub level : IsTwoBytes s.level
   pub instructions : All IsMarked s.instructions

@@ -8,6 +8,7 @@ use Rattle.rpg_cards.specs.Sections.{Subroutine, label_on}
 use Rattle.rpg_compile_program.specs.Code.{size, sizes}
 use Rattle.rpg_compile_code.specs.declared.numbers.NameNumbers.{NameNumbers}
 
+-- names, each with its number
 abbrev pub NumberedNames : Type 0
 NumberedNames = List (List ℕ × ℕ)
 
@@ -16,9 +17,11 @@ abbrev pub number_named : NumberedNames → Option Name → Option ℕ
 number_named entries None = None
 number_named entries (Some n) = lookup (pointwise nat_eq n) entries
 
+-- the number of a name, or the one for all other names
 abbrev pub number_by : NameNumbers → Option Name → ℕ
 number_by t n = unwrap_or (number_named t.numbers.entries n) t.otherwise
 
+-- a name with its number, if there is one, before the others
 abbrev pub with_numbered_name : Option Name → ℕ → NumberedNames → NumberedNames
 with_numbered_name None number rest = rest
 with_numbered_name (Some n) number rest = (n, number) ∷ rest

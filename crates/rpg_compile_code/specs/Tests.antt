@@ -11,6 +11,7 @@ use Rattle.rpg_effect.specs.declared.condition.Conditions.{Conditions}
 abbrev pub tests_at : SpecCard → List Conditions
 tests_at c = option_map_or tests_on (calculation_on c.spec) []
 
+-- the conditions of these cards, card by card
 abbrev pub tests_in : List SpecCard → List Conditions
 tests_in cards = flat_map tests_at cards
 

@@ -30,6 +30,7 @@ joining (c ∷ cs) = if goes_on (c ∷ cs) then suc (joining cs) else 0
 abbrev pub group_of : CalculationSpec → List SpecCard → CalculationGroup
 group_of first cards = record { first = first; followers = calculation_specs_in (drop 1 cards) }
 
+-- the first and the last card of the group at the front of these cards
 pub record IsGroup (first last : CalculationSpec) (cards : List SpecCard) : Type 0 where
   pub first_is : first_calculation cards ≡ Some first
   pub last_is : last ≡ last_card (group_of first cards)
@@ -48,6 +49,7 @@ ends_before Detail d = false
 ends_before Total d = false
 ends_before Body d = is_begsr d
 
+-- the groups of a section; of a subroutine those up to the next BEGSR
 abbrev pub part_cards : Part → List (Calculation Key) → List (Calculation Key)
 part_cards Detail gs = gs
 part_cards Total gs = gs

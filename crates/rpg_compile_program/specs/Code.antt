@@ -13,13 +13,16 @@ use Rattle.rpg_effect_renaming.specs.Naming.{renamed_action}
 
 -- ---- how many instructions
 
+-- how many instructions a level indicator takes
 abbrev pub waits : Option ℕ → ℕ
 waits None = 0
 waits (Some n) = 1
 
+-- how many instructions a group of C cards becomes
 unfoldable pub size : Calculation Key → ℕ
 size g = if has_instruction g.deed then waits g.level + tests g.alternatives + 1 else 0
 
+-- how many instructions the groups become together
 abbrev pub sizes : List (Calculation Key) → ℕ
 sizes [] = 0
 sizes (g ∷ gs) = size g + sizes gs
@@ -33,15 +36,19 @@ label_place n (g ∷ gs) place = if is_same_name n (label_on g.deed) then place 
 
 -- ---- instructions
 
+-- no conditions
 abbrev pub no_conditions : Conditions
 no_conditions = record { first = None; second = None; third = None }
 
+-- the condition that a level indicator is on
 abbrev pub on_level : ℕ → Conditions
 on_level n = record { first = Some (record { indicator = n; is_negated = false }); second = None; third = None }
 
+-- a JUMP: it is taken where all conditions hold
 abbrev pub jump : ℕ → Conditions → Instruction ℕ
 jump target cs = made.Branch true cs target
 
+-- a SKIP: it is taken where a condition doesn't hold
 abbrev pub skip_code : ℕ → Conditions → Instruction ℕ
 skip_code target cs = made.Branch false cs target
 
@@ -64,6 +71,7 @@ tests_code place operation behind (cs ∷ ds ∷ rest) = alternative_code (place
 
 -- numbers of fields, places of labels, numbers of subroutines, and the number of the running one
 module _ (number : Key → ℕ) (place_of callee_of : Option Name → ℕ) (own : ℕ) where
+  -- the instruction of an operation; TAG, BEGSR and a blank operation become none
   unfoldable pub step_code : Deed Key → List (Instruction ℕ)
   step_code (Acts a) = made.Act (renamed_action number a) ∷ []
   step_code PutsOut = made.Except ∷ []
@@ -74,6 +82,7 @@ module _ (number : Key → ℕ) (place_of callee_of : Option Name → ℕ) (own 
   step_code (Ends l) = made.Return own ∷ []
   step_code Nothing = []
 
+  -- a group of C cards from a place on: the level indicator, the tests of its conditions, and the operation
   unfoldable pub group_code : ℕ → Calculation Key → List (Instruction ℕ)
   group_code place g =
       if has_instruction g.deed then

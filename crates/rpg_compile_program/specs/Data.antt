@@ -19,6 +19,7 @@ use Rattle.rpg_sheet_specs.specs.declared.extension.ExtensionSpec.{ExtensionSpec
 use Rattle.rpg_sheet_specs.specs.declared.extension.TableSpec.{TableSpec}
 use Rattle.rpg_compile_program.specs.Table.{table_of}
 
+-- the value of a constant
 abbrev pub constant_value : Constant → Value
 constant_value (constant.Number n) = Number n.value
 constant_value (constant.Text text) = Text text
@@ -30,6 +31,7 @@ first_of_kind kind.Text n = Text (replicate n 32)
 
 -- ---- the entries of a table
 
+-- a number if there are decimals, else a text
 abbrev pub kind_by : Option ℕ → Kind
 kind_by None = kind.Text
 kind_by (Some decimals) = kind.Number
@@ -54,10 +56,12 @@ with_deck e None decks later = later decks
 with_deck e (Some n) [] later = later []
 with_deck e (Some n) (deck ∷ decks) later = tables_loaded e n deck 0 (tables_on e) ++ later decks
 
+-- the tables of these E cards, each card with data taking the next deck
 abbrev pub all_loaded : List ExtensionSpec → List (List (List ℕ)) → List Loaded
 all_loaded [] decks = []
 all_loaded (e ∷ es) decks = with_deck e e.entries_per_card decks (λ rest. all_loaded es rest)
 
+-- the E cards
 abbrev pub extensions : List SpecCard → List ExtensionSpec
 extensions cards = filter_map (λ c. extension_on c.spec) cards
 
@@ -65,6 +69,7 @@ extensions cards = filter_map (λ c. extension_on c.spec) cards
 abbrev pub decks : List SpecCard → List (List (List ℕ))
 decks cards = map (λ (g : Group (Unit {0}) (List ℕ)). g.followers) (groups data_role cards)
 
+-- the tables and arrays of a source that have data, with their values
 abbrev pub loaded : List SpecCard → List Loaded
 loaded cards = all_loaded (extensions cards) (decks cards)
 
@@ -78,5 +83,6 @@ field_values from f = unwrap_or (lookup (pointwise nat_eq f.0) from) (replicate 
 abbrev pub constant_values : Constant → List Value
 constant_values c = constant_value c ∷ []
 
+-- the first values of all fields: of the names, and after them of the constants
 abbrev pub values_of : List SpecCard → List (List Value)
 values_of cards = map (field_values (loaded cards)) (table_of cards).names ++ map constant_values (table_of cards).constants

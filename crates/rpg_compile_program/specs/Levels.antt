@@ -14,5 +14,6 @@ abbrev pub level_within : List Pair → ℕ → ℕ → ℕ
 level_within ps zero s = 1
 level_within ps (suc n) s = suc (greatest (level_within ps n) s ps)
 
+-- the level of a subroutine, by the calls of all subroutines
 abbrev pub subroutine_level : List (Subroutine Key) → ℕ → ℕ
 subroutine_level all s = level_within (calls_of all) (length all - 1) s

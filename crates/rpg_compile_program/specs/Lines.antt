@@ -50,15 +50,18 @@ file_put uses.Secondary = files.Printer
 file_put uses.Printer = files.Printer
 file_put uses.Disk = files.Disk
 
+-- the file of a line, by the F card that it names
 abbrev pub output_file : Option FileSpec → File
 output_file file = option_map_or (λ f. file_put (file_use f)) file files.Printer
 
+-- how long the lines of a file are
 abbrev pub put_length : List SpecCard → File → ℕ
 put_length cards files.Printer = record_length_of (file_for uses.Printer cards)
 put_length cards files.Disk = record_length_of (file_for uses.Disk cards)
 
 -- ---- the form's movements
 
+-- a line without spaces and skips
 abbrev pub is_unmoved : Movement → Bool
 is_unmoved m = is_none m.space_before && is_none m.space_after && is_none m.skip_before && is_none m.skip_after
 
@@ -67,6 +70,7 @@ abbrev pub spaces_after : File → Movement → ℕ
 spaces_after files.Printer m = if is_unmoved m then 1 else unwrap_or m.space_after 0
 spaces_after files.Disk m = unwrap_or m.space_after 0
 
+-- the spaces and skips of a line, 0 where its columns are blank
 abbrev pub spacing_of : File → Movement → Spacing
 spacing_of file m = record {
   space_before = unwrap_or m.space_before 0;
@@ -87,6 +91,7 @@ line_alternatives so_far (output.Field f ∷ os) = line_alternatives so_far os
 
 -- ---- fields
 
+-- a constant of that text, if there is one
 abbrev pub text_key : Option (List ℕ) → Key
 text_key text = option_map_or (λ t. Fixed (constant.Text t)) text Nowhere
 
@@ -94,12 +99,15 @@ text_key text = option_map_or (λ t. Fixed (constant.Text t)) text Nowhere
 abbrev pub operand_put_out : OutputField → Operand Key
 operand_put_out f = unwrap_or (option_map entry_operand f.operand) (record { field = text_key f.text; index = index.Blank })
 
+-- PAGE without an index
 abbrev pub names_page : Entry → Bool
 names_page e = is_none e.index && pointwise nat_eq e.name (codes "PAGE")
 
+-- an output field that is PAGE
 abbrev pub puts_page : OutputField → Bool
 puts_page f = option_map_or names_page f.operand false
 
+-- whether an output field prints PAGE or a value
 abbrev pub output_source : OutputField → Source
 output_source f = if puts_page f then source.Page else source.Value
 
@@ -108,10 +116,12 @@ abbrev pub editing_unmarked : Bool → Option (List ℕ) → Editing Key
 editing_unmarked page (Some text) = editing.Word (Fixed (constant.Text text))
 editing_unmarked page None = if page then editing.Code edit.Z else editing.Plain
 
+-- the editing of an output field with that code, or without one
 abbrev pub editing_by : OutputField → Option EditCode → Editing Key
 editing_by f (Some code) = editing.Code code
 editing_by f None = if is_some f.operand then editing_unmarked (puts_page f) f.text else editing.Plain
 
+-- the editing of an output field
 abbrev pub editing_of : OutputField → Editing Key
 editing_of f = editing_by f f.code
 
@@ -119,9 +129,11 @@ editing_of f = editing_by f f.code
 abbrev pub fill_by : List ℕ → Fill
 fill_by text = if pointwise nat_eq text (codes "*") then fills.Star else (if pointwise nat_eq text (codes "$") then fills.Dollar else fills.Blank)
 
+-- the fill of an output field: blanks without a code
 abbrev pub output_fill : OutputField → Fill
 output_fill f = if is_some f.code then option_map_or fill_by f.text fills.Blank else fills.Blank
 
+-- the row of an output field, by names
 abbrev pub line_field_of : OutputField → LineField Key
 line_field_of f = record {
   source = output_source f;
@@ -135,6 +147,7 @@ line_field_of f = record {
 
 -- ---- lines
 
+-- the fields of a line's cards
 abbrev pub output_fields_in : List OutputSpec → List OutputField
 output_fields_in cards = filter_map output_field_in cards
 
@@ -149,8 +162,10 @@ line_of_file file len g = record {
   fields = map line_field_of (output_fields_in g.followers);
 }
 
+-- the row of a line, by names: its card, with its AND, OR and field cards
 abbrev pub card_line : List SpecCard → Group OutputRecord OutputSpec → Line Key
 card_line cards g = let file = output_file (file_by g.file cards) in line_of_file file (put_length cards file) g
 
+-- the lines of a source, by names
 abbrev pub lines_on : List SpecCard → List (Line Key)
 lines_on cards = map (card_line cards) (groups output_role cards)

@@ -25,6 +25,7 @@ use Rattle.rpg_compile_program.specs.Types.{types_on}
 abbrev pub key_numbers : List SpecCard → Key → ℕ
 key_numbers cards = key_number (table_of cards)
 
+-- the record types of a source, by the numbers of their fields
 abbrev pub types_of : List SpecCard → List (TypeRow ℕ)
 types_of cards = map (renamed_type (key_numbers cards)) (types_on cards)
 
@@ -32,12 +33,15 @@ types_of cards = map (renamed_type (key_numbers cards)) (types_on cards)
 abbrev pub row_of_line : Line ℕ → LineRow
 row_of_line l = record { file = l.file; time = l.time; spacing = l.spacing; alternatives = l.alternatives; fields = l.fields }
 
+-- the row of a line, by the numbers of its fields
 abbrev pub numbered_line : List SpecCard → Line Key → LineRow
 numbered_line cards l = row_of_line (renamed_line (key_numbers cards) l)
 
+-- the lines of a source, by the numbers of their fields
 abbrev pub line_rows : List SpecCard → List LineRow
 line_rows cards = map (numbered_line cards) (lines_on cards)
 
+-- the calculations of a source: detail, total and subroutines
 abbrev pub sections : List SpecCard → Sections Key
 sections cards = sections_of (calculations cards)
 
@@ -45,9 +49,11 @@ sections cards = sections_of (calculations cards)
 abbrev pub version_with : Bool → Bool → Version
 version_with has_secondary has_match_field = if has_secondary || has_match_field then versions.Two else versions.One
 
+-- the version of a source's object program
 abbrev pub version_for : List SpecCard → Version
 version_for cards = version_with (is_some (file_for uses.Secondary cards)) (has_match_field cards)
 
+-- the object program of a source, with that allowance
 unfoldable pub program_of : List SpecCard → ℕ → Object
 program_of cards allowance = record {
   version = version_for cards;

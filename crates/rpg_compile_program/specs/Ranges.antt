@@ -36,11 +36,13 @@ pub record InThree {X : Type 0} (P : X → Type 0) (t : Three (Option X)) : Type
   pub second : ForSome t.second P
   pub third : ForSome t.third P
 
+-- a condition with an indicator in range
 abbrev pub IsCondition : Condition → Type 0
 IsCondition c = IsIndicator c.indicator
 
 -- ---- I cards
 
+-- a record code of a character
 abbrev pub IsCode : RecordCode → Type 0
 IsCode c = IsCharacter c.character
 
@@ -48,15 +50,18 @@ IsCode c = IsCharacter c.character
 abbrev pub IsFieldLevel : ℕ → Type 0
 IsFieldLevel n = (1 ≤ n) × (n ≤ 9)
 
+-- a record type card with indicators and codes in range
 pub record IsType (t : RecordType) : Type 0 where
   pub indicator : ForSome t.indicator IsIndicator
   pub codes : InThree IsCode t.codes
 
+-- an input field with levels and indicators in range
 pub record IsInputField (f : InputField) : Type 0 where
   pub level : ForSome f.level IsFieldLevel
   pub match_level : ForSome f.match_level IsFieldLevel
   pub indicators : InThree IsIndicator f.indicators
 
+-- an I card in range
 abbrev pub IsInput : InputSpec → Type 0
 IsInput (input.Type t) = IsType t
 IsInput (input.And codes) = InThree IsCode codes
@@ -72,10 +77,12 @@ IsControl control.Subroutine = Unit {0}
 IsControl control.And = Unit {0}
 IsControl control.Or = Unit {0}
 
+-- a factor whose literal is in range
 abbrev pub IsFactor : Factor → Type 0
 IsFactor (factor.Entry e) = Unit {0}
 IsFactor (factor.Literal l) = IsConstant (constant_of l)
 
+-- a C card in range
 pub record IsCalculation (k : CalculationSpec) : Type 0 where
   pub control : IsControl k.control_level
   pub conditions : InThree IsCondition k.conditions
@@ -89,26 +96,32 @@ pub record IsCalculation (k : CalculationSpec) : Type 0 where
 abbrev pub IsSpace : ℕ → Type 0
 IsSpace n = n ≤ 3
 
+-- a skip to line 1 to 66
 abbrev pub IsSkip : ℕ → Type 0
 IsSkip n = (1 ≤ n) × (n ≤ 66)
 
+-- spaces and skips in range
 pub record IsMovement (m : Movement) : Type 0 where
   pub space_before : ForSome m.space_before IsSpace
   pub space_after : ForSome m.space_after IsSpace
   pub skip_before : ForSome m.skip_before IsSkip
   pub skip_after : ForSome m.skip_after IsSkip
 
+-- a record card of a line in range
 pub record IsLine (r : OutputRecord) : Type 0 where
   pub movement : IsMovement r.movement
   pub conditions : InThree IsCondition r.conditions
 
+-- a text constant in range
 abbrev pub IsConstantText : List ℕ → Type 0
 IsConstantText text = IsConstant (Text text)
 
+-- an output field in range
 pub record IsOutputField (f : OutputField) : Type 0 where
   pub conditions : InThree IsCondition f.conditions
   pub text : ForSome f.text IsConstantText
 
+-- an O card in range
 abbrev pub IsOutput : OutputSpec → Type 0
 IsOutput (output.Record r) = IsLine r
 IsOutput (output.And t) = InThree IsCondition t
@@ -117,16 +130,19 @@ IsOutput (output.Field f) = IsOutputField f
 
 -- ---- data
 
+-- 80 columns of characters
 pub record IsDataText (text : List ℕ) : Type 0 where
   pub columns : length text ≡ 80
   pub characters : IsTrue (list_all is_character text)
 
+-- a card of data, or the `**` card before it
 abbrev pub IsData : DataSpec → Type 0
 IsData deck.Begin = Unit {0}
 IsData (deck.Card text) = IsDataText text
 
 -- ---- cards
 
+-- a card of any sheet in range
 abbrev pub IsInRange : Spec → Type 0
 IsInRange (spec.Header h) = Unit {0}
 IsInRange (spec.File f) = ForSome f.overflow IsOverflowIndicator
@@ -136,8 +152,10 @@ IsInRange (spec.Calculation k) = IsCalculation k
 IsInRange (spec.Output o) = IsOutput o
 IsInRange (spec.Data d) = IsData d
 
+-- a card in range
 abbrev pub IsCard : SpecCard → Type 0
 IsCard c = IsInRange c.spec
 
+-- all cards are in range
 abbrev pub AreCards : List SpecCard → Type 0
 AreCards cards = Each IsCard cards

@@ -27,6 +27,7 @@ abbrev pub AreSoundBodies : List (Subroutine Key) → (ℕ → ℕ) → ℕ → 
 AreSoundBodies all level own [] = Unit {0}
 AreSoundBodies all level own (s ∷ ss) = IsSoundBody all level own s × AreSoundBodies all level (suc own) ss
 
+-- only subroutines have ENDSR, calls go to higher levels, and each subroutine's body is sound
 pub record AreSound (s : Sections Key) (level : ℕ → ℕ) : Type 0 where
   pub detail_ends : Each (λ g. IsNoReturn g.deed) s.detail
   pub total_ends : Each (λ g. IsNoReturn g.deed) s.total

@@ -18,6 +18,7 @@ use Rattle.rpg_symbols.specs.Fields.{NamedForms, defined_form, given, number_of_
 abbrev pub with_name : NamedForms → List ℕ → FieldForm → NamedForms
 with_name fields name form = if is_some (defined_form fields name) then fields else fields ++ (name, form) ∷ []
 
+-- a name with its form, if it has one
 abbrev pub with_form : NamedForms → List ℕ → Option FieldForm → NamedForms
 with_form fields name None = fields
 with_form fields name (Some form) = with_name fields name form
@@ -30,21 +31,26 @@ with_definition fields d = with_form fields d.name d.form
 abbrev pub with_definitions : NamedForms → List Definition → NamedForms
 with_definitions fields ds = fold with_definition fields ds
 
+-- the fields that every program has, and then those that the cards define
 abbrev pub defined_fields : List SpecCard → NamedForms
 defined_fields cards = with_definitions given (definitions cards)
 
 -- ---- names, and constants after them
 
+-- the fields of a source: its names with their forms, and its constants
 pub record Table : Type 0 where
   pub names : NamedForms
   pub constants : List Constant
 
+-- the fields of these cards
 abbrev pub table_of : List SpecCard → Table
 table_of cards = record { names = defined_fields cards; constants = constants cards }
 
+-- the forms of the names
 abbrev pub name_forms : NamedForms → List FieldForm
 name_forms fields = map (λ (f : List ℕ × FieldForm). f.1) fields
 
+-- the forms of all fields, in the order of their numbers
 abbrev pub forms : Table → List FieldForm
 forms t = name_forms t.names ++ map constant_form t.constants
 
@@ -58,6 +64,7 @@ name_number t name = unwrap_or (number_of_name t.names name) 0
 abbrev pub constant_number : Table → Constant → ℕ
 constant_number t c = unwrap_or (option_map (λ i. length t.names + i + 1) (position (is_same c) t.constants)) 0
 
+-- the number of a field, 0 for none
 abbrev pub key_number : Table → Key → ℕ
 key_number t (Named name) = name_number t name
 key_number t (Fixed c) = constant_number t c
@@ -65,6 +72,7 @@ key_number t Nowhere = 0
 
 -- ---- forms
 
+-- the form of a field, if it is in the table
 abbrev pub key_form : Table → Key → Option FieldForm
 key_form t (Named name) = defined_form t.names name
 key_form t (Fixed c) = if list_any (is_same c) t.constants then Some (constant_form c) else None

@@ -34,11 +34,13 @@ file_read uses.Secondary = Secondary
 file_read uses.Printer = Primary
 file_read uses.Disk = Primary
 
+-- the file of a record type, by the F card that it names
 abbrev pub input_file : Option FileSpec → InputFile
 input_file file = option_map_or (λ f. file_read (file_use f)) file Primary
 
 -- ---- record codes
 
+-- the row of a record code
 abbrev pub record_code_of : RecordCode → row_code.RecordCode
 record_code_of c = record { position = c.position; is_negated = c.negated; character = c.character }
 
@@ -60,20 +62,25 @@ control_field f level = record { level = level; is_numeric = is_some f.decimals;
 
 -- where the field has a level of that choice
 module _ (level_of : InputField → Option ℕ) where
+  -- the columns of an input field, at its level
   abbrev pub field_at_level : InputField → Option ControlField
   field_at_level f = option_map (control_field f) (level_of f)
 
+-- an input field as a control field, if it has a control level
 abbrev pub control_field_of : InputField → Option ControlField
 control_field_of f = field_at_level control_level f
 
+-- an input field as a match field, if it has a match level
 abbrev pub match_field_of : InputField → Option ControlField
 match_field_of f = field_at_level match_level f
 
+-- the row of an input field, by names
 abbrev pub input_row : InputField → row.InputField Key
 input_row f = record { from = f.from; to = f.to; field = Named f.name; shows = shows_of f.indicators }
 
 -- ---- types
 
+-- the fields of a record type's cards
 abbrev pub input_fields_in : List InputSpec → List InputField
 input_fields_in cards = filter_map input_field_in cards
 
@@ -88,8 +95,10 @@ type_of_file file g = record {
   matches = filter_map match_field_of (input_fields_in g.followers);
 }
 
+-- the row of a record type, by names: its card, with its AND and field cards
 abbrev pub card_type : List SpecCard → Group RecordType InputSpec → TypeRow Key
 card_type cards g = type_of_file (input_file (file_by g.file cards)) g
 
+-- the record types of a source, by names
 abbrev pub types_on : List SpecCard → List (TypeRow Key)
 types_on cards = map (card_type cards) (groups input_role cards)

@@ -10,12 +10,15 @@ use Rattle.rpg_object_program.specs.Object.{Object, SubroutineRow}
 abbrev pub called_number : Sections Key → Option Name → ℕ
 called_number s name = callee name s.subroutines
 
+-- the instructions of detail calculations
 abbrev pub detail_code : (Key → ℕ) → Sections Key → List (Instruction ℕ)
 detail_code number s = section_code number (called_number s) 0 0 s.detail
 
+-- the instructions of total calculations, which follow those of detail calculations
 abbrev pub total_code : (Key → ℕ) → Sections Key → List (Instruction ℕ)
 total_code number s = section_code number (called_number s) 0 (sizes s.detail) s.total
 
+-- the subroutines with their levels and instructions, which follow those of total calculations
 abbrev pub subroutine_rows : (Key → ℕ) → (ℕ → ℕ) → Sections Key → List SubroutineRow
 subroutine_rows number level s = subroutines_code number (called_number s) level 0 (sizes s.detail + sizes s.total) s.subroutines
 
