@@ -18,15 +18,18 @@ from concurrent.futures import ProcessPoolExecutor
 from functools import partial
 from pathlib import Path
 
+HERE = Path(__file__).resolve().parent
+TOP = HERE.parent
+sys.path.append(str(TOP / "build"))
+
 import case_runs
 import evaluated
+import installed
 import sessions
 from case_file import Run, lines_in, runs_in
 from outcome import Outcome
 from program import Program
 
-HERE = Path(__file__).resolve().parent
-TOP = HERE.parent
 BUILDS = ["rpg2", "rpg2.by-rattle"]
 AT_ONCE = 20
 
@@ -66,6 +69,16 @@ def case_jobs(program: Program, path: Path) -> Iterable[Job]:
         yield partial(shown_runs, program, runs[at : at + AT_ONCE])
 
 
+def installed_file(program: Program, name: str, text: str) -> Outcome:
+    """A file of install/ that comes of the program's help."""
+    is_as_given = (TOP / "install" / name).read_text(encoding="utf-8") == text
+    return Outcome(f"install/{name}", "as build/installed.py writes it", None if is_as_given else "\nit differs")
+
+
+def installed_files(program: Program) -> list[Outcome]:
+    return [installed_file(program, name, text) for name, text in installed.files_of(program.path).items()]
+
+
 def jobs_of(program: Program, word: str) -> Iterable[Job]:
     """All that is shown of a build, in parts that don't depend on one another."""
     folders = [HERE / "cases", TOP / "crates/rpg_show_cases/data"]
@@ -75,6 +88,8 @@ def jobs_of(program: Program, word: str) -> Iterable[Job]:
         yield partial(sessions.show, program, path, TOP)
     if word in "evaluated":
         yield from evaluated.jobs_of(program, HERE / "evaluated")
+    if word in "installed":
+        yield partial(installed_files, program)
 
 
 def built(named: list[str]) -> list[Program]:

@@ -1,0 +1,1 @@
+autocmd BufNewFile,BufRead *.rpg setfiletype rpg2
