@@ -49,7 +49,7 @@ impl Code {
             Code::NoObject => "the first six bytes aren't RPGOBJ, or are missing",
             Code::Version => "the version is another one",
             Code::CutShort => "a number doesn't lie wholly inside the bytes",
-            Code::LeftOver => "bytes are left over behind the last table",
+            Code::LeftOver => "bytes are left over after the last table",
             Code::NotAllowed => "a value isn't among those that are allowed",
             Code::Unused => "a number that isn't used is not 0",
             Code::PastLimit =>

@@ -30,7 +30,7 @@ pub enum LineRule {
     V2,
     /// Spaces of 0 to 3 and skips to 66 at most, only on the printer.
     V8,
-    /// Conditions of alternatives are on indicators up to 128.
+    /// Alternatives aren't conditioned by MR in version 1; version 2 allows it.
     V9,
     /// What is put out is there.
     V10,
@@ -42,7 +42,7 @@ pub enum LineRule {
     V13,
     /// What is blanked afterwards may be written.
     V14,
-    /// Conditions of fields are on indicators up to 128.
+    /// Fields aren't conditioned by MR in version 1; version 2 allows it.
     V15,
 }
 
@@ -77,7 +77,7 @@ pub enum SubroutineRule {
 impl TypeRule {
     const fn sentence(self) -> &'static str {
         match self {
-            TypeRule::V3 => "a code of a record type stands at no position of the record",
+            TypeRule::V3 => "a record type has a code at a position outside the record",
             TypeRule::V4 => {
                 "a record type turns on an indicator other than 01 to 99, L1 to L9, LR and H1 to H9"
             }
@@ -103,21 +103,21 @@ impl LineRule {
         match self {
             LineRule::V2 => "a line is for a file that the program doesn't have",
             LineRule::V8 => {
-                "a line spaces more than 3 lines or skips behind line 66, or spaces or skips on the disk file"
+                "a line spaces more than 3 lines or skips past line 66, or spaces or skips on the disk file"
             }
-            LineRule::V9 => "an alternative asks MR",
+            LineRule::V9 => "an alternative is conditioned by MR",
             LineRule::V10 => {
                 "what a line puts out isn't there or has a bad index, or PAGE is no plain number of 4 digits without decimals"
             }
             LineRule::V11 =>
-                "what is edited is no number that the code fits, or a fill stands where it may not",
+                "what is edited is no number that the code fits, or a fill isn't allowed there",
             LineRule::V12 => {
                 "an edit word is no text constant of 1 to 24 characters that fits the number"
             }
             LineRule::V13 =>
                 "a field's text ends outside the line, or is longer than what is before its end",
             LineRule::V14 => "a field is blanked after it was put out that may not be written",
-            LineRule::V15 => "a field's condition asks MR",
+            LineRule::V15 => "a field is conditioned by MR",
         }
     }
 }
@@ -126,7 +126,7 @@ impl PlaceRule {
     const fn sentence(self) -> &'static str {
         match self {
             PlaceRule::V16 => "an operand isn't there, or has a bad index or none that it needs",
-            PlaceRule::V17 => "an operand is of another kind than the operation wants",
+            PlaceRule::V17 => "an operand is of another kind than the operation takes",
             PlaceRule::V18 => "a result may not be written",
             PlaceRule::V19 => "an indicator is missing, or isn't one that may stand there",
             PlaceRule::V20 => {
@@ -143,7 +143,7 @@ impl SubroutineRule {
     const fn sentence(self) -> &'static str {
         match self {
             SubroutineRule::V23 => {
-                "a subroutine doesn't end in its own RET, or a RET stands elsewhere"
+                "a subroutine doesn't end in its own RET, or a RET is somewhere else"
             }
             SubroutineRule::V24 => "a subroutine's level isn't 1 to 100",
         }
