@@ -18,6 +18,7 @@ from concurrent.futures import ProcessPoolExecutor
 from functools import partial
 from pathlib import Path
 
+import calls
 import case_runs
 import evaluated
 import sessions
@@ -46,8 +47,9 @@ def shown_runs(program: Program, runs: list[Run]) -> list[Outcome]:
 
 
 def shown_told(program: Program, path: Path) -> list[Outcome]:
-    """Runs that want something wrong: what is told of each stands beside the file."""
-    outcomes = shown_runs(program, runs_in(path))
+    """Runs or calls that want something wrong: what is told of each stands beside the file."""
+    is_cases = path.suffix == ".cases"
+    outcomes = shown_runs(program, runs_in(path)) if is_cases else calls.in_order(program, path)
     wanted = lines_in(path.with_suffix(".told"))
     return [compared_lines(outcome, line) for outcome, line in zip(outcomes, wanted, strict=True)]
 
@@ -66,6 +68,13 @@ def case_jobs(program: Program, path: Path) -> Iterable[Job]:
         yield partial(shown_runs, program, runs[at : at + AT_ONCE])
 
 
+def call_jobs(program: Program, path: Path) -> Iterable[Job]:
+    if path.with_suffix(".told").exists():
+        yield partial(shown_told, program, path)
+        return
+    yield from calls.jobs_of(program, path)
+
+
 def jobs_of(program: Program, word: str) -> Iterable[Job]:
     """All that is shown of a build, in parts that don't hang on one another."""
     folders = [HERE / "cases", TOP / "crates/rpg_show_cases/data"]
@@ -73,6 +82,8 @@ def jobs_of(program: Program, word: str) -> Iterable[Job]:
         yield from case_jobs(program, path)
     for path in sorted(it for it in (HERE / "sessions").glob("*.session") if word in it.name):
         yield partial(sessions.show, program, path, TOP)
+    for path in sorted(it for it in (HERE / "calls").glob("*.calls") if word in it.name):
+        yield from call_jobs(program, path)
     if word in "evaluated":
         yield from evaluated.jobs_of(program, HERE / "evaluated")
 
