@@ -22,6 +22,7 @@ HERE = Path(__file__).resolve().parent
 TOP = HERE.parent
 sys.path.append(str(TOP / "build"))
 
+import calls
 import case_runs
 import evaluated
 import installed
@@ -49,8 +50,9 @@ def shown_runs(program: Program, runs: list[Run]) -> list[Outcome]:
 
 
 def shown_told(program: Program, path: Path) -> list[Outcome]:
-    """Runs that expect something wrong: a file of the same name has the report of each."""
-    outcomes = shown_runs(program, runs_in(path))
+    """Runs or calls that expect something wrong: a file of the same name has the report of each."""
+    is_cases = path.suffix == ".cases"
+    outcomes = shown_runs(program, runs_in(path)) if is_cases else calls.in_order(program, path)
     wanted = lines_in(path.with_suffix(".told"))
     return [compared_lines(outcome, line) for outcome, line in zip(outcomes, wanted, strict=True)]
 
@@ -79,6 +81,13 @@ def installed_files(program: Program) -> list[Outcome]:
     return [installed_file(program, name, text) for name, text in installed.files_of(program.path).items()]
 
 
+def call_jobs(program: Program, path: Path) -> Iterable[Job]:
+    if path.with_suffix(".told").exists():
+        yield partial(shown_told, program, path)
+        return
+    yield from calls.jobs_of(program, path)
+
+
 def jobs_of(program: Program, word: str) -> Iterable[Job]:
     """All that is shown of a build, in parts that don't depend on one another."""
     folders = [HERE / "cases", TOP / "crates/rpg_show_cases/data"]
@@ -86,6 +95,8 @@ def jobs_of(program: Program, word: str) -> Iterable[Job]:
         yield from case_jobs(program, path)
     for path in sorted(it for it in (HERE / "sessions").glob("*.session") if word in it.name):
         yield partial(sessions.show, program, path, TOP)
+    for path in sorted(it for it in (HERE / "calls").glob("*.calls") if word in it.name):
+        yield from call_jobs(program, path)
     if word in "evaluated":
         yield from evaluated.jobs_of(program, HERE / "evaluated")
     if word in "installed":

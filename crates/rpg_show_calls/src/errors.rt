@@ -1,9 +1,10 @@
 //! Lines of what errors say.
 
+use crate::line::Line;
+use crate::saying::says;
 use rpg_decimal::{BadDigit, ZeroDivisor};
 use rpg_edit_widths::EditFault;
 use rpg_paper::NoMemory;
-use rpg_show_lines::{Line, says};
 use rpg_symbols::{DefineFault, LevelFault};
 use std::alloc::{AllocError, Global};
 

@@ -1,21 +1,24 @@
-//! Lines of calls as data, of numbers, editing, the form, names and cards: tells of each line of the files that its words name whether the call's
+//! Lines of calls as data, of numbers, the form and names: tells of each line of the files that its words name whether the call's
 //! answer is what the line says.
 //!
 //! README.md says how a line is written.
 #![tactic(auto)]
 
-mod cards;
 mod decimal;
-mod edited;
 mod errors;
-mod levels;
+mod escapes;
+mod line;
 mod moves;
 mod names;
+mod number;
 mod printed;
+mod report;
+mod saying;
 
+use line::Line;
+use report::Report;
 use rpg_cli_text::TextWriter;
 use rpg_paper::Form;
-use rpg_show_lines::{Line, Report};
 use rpg_symbols::Symbols;
 use std::alloc::{AllocError, Global};
 use std::io::{self, Write};
@@ -23,23 +26,21 @@ use std::{env, fs};
 
 /// What the lines of a file speak of, one behind another.
 #[derive(Drop)]
-struct State<'a> {
+struct State {
     form: Form,
     symbols: Symbols,
-    card: &'a str,
 }
 
-impl<'a> State<'a> {
-    fn new(alloc: Global) -> Result<State<'a>, AllocError> {
+impl State {
+    fn new(alloc: Global) -> Result<State, AllocError> {
         Ok(State {
             form: Form::new(),
             symbols: names::no_names(alloc)?,
-            card: "",
         })
     }
 
     /// Whether a line tells its call's answer, where it can be read.
-    fn is_told(&mut self, alloc: Global, line: &'a str) -> Result<Option<bool>, AllocError> {
+    fn is_told(&mut self, alloc: Global, line: &str) -> Result<Option<bool>, AllocError> {
         let mut line = Line::new(line);
         let Some(call) = line.word() else {
             return Ok(None);
@@ -58,14 +59,11 @@ impl<'a> State<'a> {
         &mut self,
         alloc: Global,
         call: &str,
-        line: Line<'a>,
+        line: Line<'_>,
     ) -> Result<Option<bool>, AllocError> {
         let told = decimal::is_told(call, line)
             .or(moves::is_told(call, line))
-            .or(edited::is_told(call, line))
-            .or(names::is_told(&mut self.symbols, call, line))
-            .or(levels::is_told(alloc, call, line))
-            .or(cards::is_told(alloc, &mut self.card, call, line));
+            .or(names::is_told(&mut self.symbols, call, line));
         match told {
             Some(told) => Ok(Some(told)),
             None => printed::is_told(alloc, &mut self.form, call, line),

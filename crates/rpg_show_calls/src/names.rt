@@ -3,8 +3,8 @@ ghost use Rattle.std.specs.Prelude.{◌≡◌, ◌⊎◌, ◌-◌, ◌≤◌, So
 ghost use Rattle.std.specs.Bool.{OnTrue};
 ghost use Rattle.rpg_symbols.specs.Fields.{number_of_name, IsAdded, IsKnown, Refuses};
 
+use crate::line::{Line, Size};
 use rpg_effect::form::{Class, FieldForm, Kind};
-use rpg_show_lines::{Line, Size};
 use rpg_symbols::{DefineFault, Name, Symbols, is_same_form};
 use std::alloc::{AllocError, Global};
 

@@ -5,8 +5,9 @@ ghost use Rattle.rpg_paper.specs.Form.{after_line, form_after_skip, form_after_s
 ghost use Rattle.rpg_paper.specs.Paper.{turns_overflow_on};
 ghost use Rattle.rpg_text.specs.Texts.{trimmed};
 
+use crate::escapes::unescaped;
+use crate::line::Line;
 use rpg_paper::Form;
-use rpg_show_lines::{Line, unescaped};
 use std::alloc::{AllocError, Global};
 
 /// Whether a line of this call tells the call's answer, where the line can be read. `new_form` begins a form.

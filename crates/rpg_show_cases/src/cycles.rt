@@ -1,11 +1,11 @@
 //! Jobs cycle by cycle, and past their end.
 
 use crate::lines::bytes_of;
+use crate::outcome::Outputs;
 use crate::ways::{BothRecords, Given, record_at};
 use rpg_cli_text::TextWriter;
 use rpg_cycle::{CycleEnd, Output, StartFault};
 use rpg_engine::Job;
-use rpg_show_lines::Outputs;
 use rpg_store::Store;
 use rpg_verify::Verified;
 use std::alloc::{AllocError, Global};

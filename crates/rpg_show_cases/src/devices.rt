@@ -2,12 +2,13 @@
 
 ghost use Rattle.std.specs.Prelude.{Some};
 
+use crate::device_words::Devices;
 use crate::lines::line_of;
+use crate::outcome::Outputs;
 use crate::ways::Given;
 use rpg_engine::execute;
 use rpg_files::Counted;
 use rpg_files::fakes::{Interrupting, ShortReader, ShortWriter};
-use rpg_show_lines::{Devices, Outputs};
 use std::alloc::{AllocError, Global};
 use std::io::{self, Write};
 

@@ -3,17 +3,26 @@
 //! README.md says which these are, and tests/README.md how cases are written.
 #![tactic(auto)]
 
+mod bytes;
+mod case;
 mod cycles;
 mod damage;
+mod device_words;
 mod devices;
 mod lines;
+mod mark;
+mod outcome;
+mod records;
+mod spelling;
 mod sweep;
+mod tally;
 mod trial;
 mod ways;
 
+use case::{Case, Question, Task};
+use outcome::{Outputs, write_report};
 use rpg_faults::{FaultCode, SourceCode, SourceFault};
 use rpg_sheet::SheetCode;
-use rpg_show_lines::{Case, Outputs, Question, Task, write_report};
 use std::alloc::Global;
 use std::io::{self, Write};
 use std::{env, fs};

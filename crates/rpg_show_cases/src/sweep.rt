@@ -1,10 +1,11 @@
 //! Sweeps: an object cut to each length, and with each of its bytes changed to each other value.
 
+use crate::bytes::put;
 use crate::lines::line_of;
+use crate::tally::Tally;
 use crate::ways::Given;
 use rpg_engine::{Report, RunFault, execute};
 use rpg_files::Counted;
-use rpg_show_lines::{Tally, put};
 use std::alloc::{AllocError, Global};
 
 /// What `execute` answered, and what it sent.

@@ -1,13 +1,16 @@
 //! What a question of a case gives, where calls of the library answer it.
 
+use crate::case::{Case, Kind, Task};
 use crate::cycles::cycles_of;
 use crate::damage::damage;
+use crate::device_words::Devices;
 use crate::devices::run_over;
+use crate::outcome::Outputs;
+use crate::spelling::text_of;
 use crate::sweep::sweep;
 use crate::ways::{BothRecords, Given, accepted, run_by_area, run_by_values};
 use rpg_compile::compile;
 use rpg_object::{decode, encode};
-use rpg_show_lines::{Case, Devices, Kind, Outputs, Task, text_of};
 use std::alloc::{AllocError, Global};
 
 /// What both ways of running an object give, or nothing where it doesn't run.

@@ -1,13 +1,16 @@
 //! The ways in which an accepted program runs beside `rpg2`: over lists of records, by the store in one area of bytes and by the store that
 //! keeps each value apart.
 
+use crate::case::Case;
 use crate::lines::line_of;
+use crate::outcome::Outputs;
+use crate::records::records_of;
+use crate::spelling::text_of;
 use rpg_cycle::{CycleEnd, Output, run_records};
 use rpg_engine::{Job, JobEnd, Report};
 use rpg_memory::first_values_fit;
 use rpg_memory::memory::Memory;
 use rpg_object::decode;
-use rpg_show_lines::{Case, Outputs, records_of, text_of};
 use rpg_store::{ListedStore, Store};
 use rpg_verify::{Verified, verify};
 use std::alloc::{AllocError, Global};

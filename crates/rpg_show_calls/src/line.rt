@@ -2,7 +2,7 @@
 ghost use Rattle.std.specs.Prelude.{◌≤◌};
 
 use crate::number::Number;
-use rpg_decimal::{Figure, Num, Scale, Source, Target};
+use rpg_decimal::{Figure, Num, Source};
 
 /// What is left of a line.
 #[derive(Clone, Copy)]
@@ -110,16 +110,6 @@ impl<'a> Line<'a> {
         self.word()?.parse().ok()
     }
 
-    /// How many decimals a quotient has, at most 18.
-    pub fn scale(&mut self) -> Option<Scale> {
-        let value = self.count()?;
-        if value <= 18 {
-            Some(Scale { value })
-        } else {
-            None
-        }
-    }
-
     /// A size of 1 to 15 digits, as `7.2` for seven digits, two of them behind the point.
     pub fn size(&mut self) -> Option<Size> {
         let (len, dec) = self.word()?.split_once('.')?;
@@ -132,21 +122,6 @@ impl<'a> Line<'a> {
         }
     }
 
-    /// A size, and `half` behind it where the result is half adjusted.
-    pub fn target(&mut self) -> Option<Target> {
-        let size = self.size()?;
-        let half = self.takes("half");
-        if size.dec <= 9 {
-            Some(Target {
-                len: size.len,
-                dec: size.dec,
-                half,
-            })
-        } else {
-            None
-        }
-    }
-
     /// The answer that the line says: all that stands behind its `=`.
     pub fn answer(mut self) -> Option<&'a str> {
         if self.takes("=") {
@@ -154,11 +129,6 @@ impl<'a> Line<'a> {
         } else {
             None
         }
-    }
-
-    /// The answer as a number of so many decimals.
-    pub fn answer_number(self, decimals: u8) -> Option<i64> {
-        Number::read(self.answer()?)?.with_decimals(decimals)
     }
 
     /// The answer as a text in quotes.

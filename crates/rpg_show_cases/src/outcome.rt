@@ -2,7 +2,7 @@
 
 ghost use Rattle.std.specs.Prelude.{◌≡◌, ◌↔◌, [], ◌∷◌, ◌++◌, List, ℕ, None, IfOk, IfSome, OnOk};
 ghost use Rattle.std.specs.Io.KnownBytes.{Appends};
-ghost use Rattle.rpg_show_lines.specs.Outcome.{AreSame, Differs, IsOkLine};
+ghost use Rattle.rpg_show_cases.specs.Outcome.{AreSame, Differs, IsOkLine};
 
 use std::alloc::{AllocError, Global};
 use std::io::{self, Write};

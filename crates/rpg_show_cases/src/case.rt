@@ -1,7 +1,7 @@
 //! A case: a source or an object, and what a run of it is given and is to give.
 
 use crate::bytes::put_over;
-use crate::devices::Devices;
+use crate::device_words::Devices;
 use crate::mark::{Mark, mark_of};
 use crate::outcome::Outputs;
 use crate::spelling::{hex_of, push_hex, text_of};

@@ -1,9 +1,9 @@
 -- What a run gave beside what its case wants.
 use Rattle.std.specs.Prelude.{◌≡◌, ℕ, true, List, nat_eq, codes}
 use Rattle.std.specs.List.{starts_with}
-use Rattle.rpg_show_lines.specs.declared.outcome.Outputs.{Outputs}
-use Rattle.rpg_show_lines.specs.declared.outcome.Difference.{Difference}
-use Rattle.rpg_show_lines.specs.declared.outcome.Difference.TheVariants as difference
+use Rattle.rpg_show_cases.specs.declared.outcome.Outputs.{Outputs}
+use Rattle.rpg_show_cases.specs.declared.outcome.Difference.{Difference}
+use Rattle.rpg_show_cases.specs.declared.outcome.Difference.TheVariants as difference
 
 -- two runs put out the same
 pub record AreSame (one : Outputs) (other : Outputs) : Type 0 where
