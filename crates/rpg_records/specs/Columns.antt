@@ -1,0 +1,57 @@
+-- A record's columns as characters, each by what stands there.
+use Rattle.std.specs.Prelude.{◌≡◌, ℕ, ◌/◌, ◌%◌, ◌<◌, ◌==◌, ◌&&◌, Bool, if◌then◌else◌, List, [], ◌∷◌, slice_index}
+use Rattle.rpg_text.specs.Texts.{is_character}
+use Rattle.rpg_records.specs.CodePage.{byte_of, character_of, last_place_of}
+use Rattle.rpg_records.specs.declared.column.Column.{Column}
+use Rattle.rpg_records.specs.declared.column.Column.TheVariants as columns
+use Rattle.rpg_records.specs.declared.translation.Page.{Page}
+use Rattle.rpg_records.specs.declared.translation.Page.TheVariants as pages
+
+-- the character of a byte, 0 for none
+abbrev pub page_character : Page → ℕ → ℕ
+page_character pages.Ebcdic b = character_of b
+page_character pages.Ascii b = if is_character b then b else 0
+
+abbrev pub last_place_character : Page → ℕ → ℕ
+last_place_character pages.Ebcdic b = last_place_of b
+last_place_character pages.Ascii b = page_character pages.Ascii b
+
+abbrev pub blank_for_none : ℕ → ℕ
+blank_for_none c = if c == 0 then 32 else c
+
+-- the character of a byte by what stands in its column
+abbrev pub kind_character : Page → Column → ℕ → ℕ
+kind_character page columns.Text b = page_character page b
+kind_character page columns.LastPlace b = last_place_character page b
+kind_character page columns.Number b = 32
+kind_character page columns.Unnamed b = blank_for_none (page_character page b)
+
+-- the same where the byte 0 may be a blank
+abbrev pub column_character : Page → Bool → Column → ℕ → ℕ
+column_character page low_blank kind b = if low_blank && b == 0 then 32 else kind_character page kind b
+
+-- the characters of a record's bytes; 0 for none
+abbrev pub image : Page → Bool → List Column → List ℕ → List ℕ
+image page low_blank [] bytes = []
+image page low_blank (k ∷ ks) [] = []
+image page low_blank (k ∷ ks) (b ∷ bs) = column_character page low_blank k b ∷ image page low_blank ks bs
+
+-- the byte of a character
+abbrev pub page_byte : Page → ℕ → ℕ
+page_byte pages.Ebcdic c = byte_of c
+page_byte pages.Ascii c = c
+
+-- ---- a table of characters
+
+abbrev pub row_of : Column → ℕ
+row_of columns.Text = 0
+row_of columns.LastPlace = 1
+row_of columns.Number = 2
+row_of columns.Unnamed = 3
+
+abbrev pub column_at : ℕ → Column
+column_at row = if row == 0 then columns.Text else (if row == 1 then columns.LastPlace else (if row == 2 then columns.Number else columns.Unnamed))
+
+-- the characters of the bytes 0 to 255 in each kind of column, one kind after another
+abbrev pub HoldsCharacters : Page → Bool → List ℕ → Type 0
+HoldsCharacters page low_blank table = (k : ℕ) → k < 1024 → slice_index table k ≡ column_character page low_blank (column_at (k / 256)) (k % 256)

@@ -1,0 +1,13 @@
+-- Packed and binary numbers as zoned texts.
+use Rattle.std.specs.Prelude.{ℕ, ◌-◌, ◌*◌, ◌^◌, nat_lt, unsigned_abs, if◌then◌else◌, List, length, Option, Some, None, option_map}
+use Rattle.rpg_decimal_words.specs.Zoned.{zoned_text}
+use Rattle.rpg_records.specs.Binary.{binary_number}
+use Rattle.rpg_records.specs.Packed.{packed_in}
+
+-- the digits of packed bytes, if they are a number
+abbrev pub packed_text : List ℕ → Option (List ℕ)
+packed_text bytes = option_map (zoned_text (2 * length bytes - 1)) (packed_in bytes)
+
+-- the k digits of binary bytes, if they have no more
+abbrev pub binary_text : ℕ → List ℕ → Option (List ℕ)
+binary_text k bytes = if nat_lt (unsigned_abs (binary_number bytes)) (10 ^ k) then Some (zoned_text k (binary_number bytes)) else None
