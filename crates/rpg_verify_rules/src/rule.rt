@@ -30,7 +30,7 @@ pub enum LineRule {
     V2,
     /// Spaces of 0 to 3 and skips to 66 at most, on the printer alone.
     V8,
-    /// Conditions of alternatives are on indicators up to 128.
+    /// Alternatives ask indicators that may be asked: MR in version 2 alone.
     V9,
     /// What is put out is there.
     V10,
@@ -42,7 +42,7 @@ pub enum LineRule {
     V13,
     /// What is blanked afterwards may be written.
     V14,
-    /// Conditions of fields are on indicators up to 128.
+    /// Conditions of fields ask indicators that may be asked: MR in version 2 alone.
     V15,
 }
 
