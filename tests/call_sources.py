@@ -42,6 +42,10 @@ class Desk:
     def put(self, name: str, text: str) -> None:
         (self.folder / name).write_bytes(text.encode("latin-1"))
 
+    def written(self, name: str) -> str:
+        path = self.folder / name
+        return path.read_bytes().decode("latin-1") if path.exists() else ""
+
     def asked(self, *words: str) -> tuple[str, str]:
         """What a command says on standard output and on standard error."""
         out, _, errors = self.program.answer(list(words), self.folder)
@@ -65,7 +69,13 @@ class Desk:
         if line != "compiled\n":
             return [line + errors]
         self.put("input", "".join(it + "\n" for it in records))
-        line, errors = self.asked("run", "object", "input", "print", "--date", DATE)
+        line, errors = self.asked("run", "object", "input", "print", "--date", DATE, "--disk", "disk")
         if not line.startswith("end of job"):
             return [line + errors]
-        return re.split("[\n\f]", (self.folder / "print").read_bytes().decode("latin-1"))
+        return re.split("[\n\f]", self.written("print"))
+
+
+def row_of(listing: str, table: str, first: str) -> str:
+    """The row of a table of a listing that begins with this word."""
+    rows = listing.partition(f"\n{table}\n")[2].partition("\n\n")[0]
+    return next((it for it in rows.splitlines() if it.startswith(f"  {first} ")), "")

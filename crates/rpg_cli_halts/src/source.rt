@@ -3,8 +3,7 @@
 use crate::columns::BadInput;
 use crate::halts::HaltedCycle;
 use rpg_cli_messages::{CardLines, write_picture};
-use rpg_cli_show_fields::write_card_operand;
-use rpg_cli_source::{SourceRows, name_text};
+use rpg_cli_show_fields::{SourceRows, name_text, write_card_operand};
 use rpg_cli_text::TextWriter;
 use rpg_effect::condition::has_conditions;
 use rpg_effect::halt::Halt;

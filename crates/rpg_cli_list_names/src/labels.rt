@@ -3,7 +3,7 @@
 use crate::numbers::Numbers;
 use indexmap::IndexMap;
 use rpg_cards::{Named, SpecCard, gives, wants};
-use rpg_cli_source::name_text;
+use rpg_cli_show_fields::name_text;
 use rpg_cli_text::TextWriter;
 use rpg_sheet_specs::Word;
 use std::alloc::{AllocError, Global};

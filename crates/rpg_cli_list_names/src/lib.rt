@@ -13,4 +13,4 @@ pub use constants::Constants;
 pub use indicators::Indicators;
 pub use labels::Labels;
 pub use names::Names;
-pub use rpg_cli_source::name_text;
+pub use rpg_cli_show_fields::name_text;

@@ -2,8 +2,7 @@
 
 use crate::numbers::Numbers;
 use rpg_cards::{Column, Content, Defined, IndexedCards, SpecCard, columns};
-use rpg_cli_show_fields::write_form;
-use rpg_cli_source::name_text;
+use rpg_cli_show_fields::{name_text, write_form};
 use rpg_cli_text::TextWriter;
 use rpg_sheet_specs::{
     CalculationSpec, Entry, EntryIndex, Factor, Operation, OutputField, Spec, Word,

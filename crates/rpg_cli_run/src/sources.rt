@@ -5,7 +5,7 @@ use rpg_cli_answers::{Answer, Listener, named};
 use rpg_cli_files::file_bytes;
 use rpg_cli_halts::HaltedSource;
 use rpg_cli_messages::source_messages;
-use rpg_cli_source::SourceRows;
+use rpg_cli_show_fields::SourceRows;
 use rpg_cli_words::FileWord;
 use rpg_faults::{faultless_cards, source_faults};
 use std::alloc::Global;

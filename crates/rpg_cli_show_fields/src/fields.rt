@@ -4,7 +4,7 @@ use crate::layout::{field_place, value_bytes};
 use crate::named::NamedRows;
 use crate::uses::Uses;
 use crate::values::{is_empty, write_value};
-use rpg_cli_source::{SourceRows, name_text};
+use crate::{SourceRows, name_text};
 use rpg_cli_text::TextWriter;
 use rpg_effect::form::{Class, FieldForm, Kind};
 use rpg_effect::value::Value;

@@ -1,11 +1,17 @@
+//! What the cards of a source say of the rows of its object program: the names of its fields, and the cards that its rows stand on.
 //! The fields of an object program as a text, and the words in which its other tables speak of them.
 #![tactic(auto)]
 
 mod editing;
+mod field_names;
 mod fields;
+mod groups;
 mod layout;
 mod named;
+mod names;
 mod operands;
+mod places;
+mod rows;
 mod spacing;
 mod uses;
 mod values;
@@ -18,7 +24,9 @@ pub use layout::{
     type_bytes, type_head_bytes,
 };
 pub use named::{NamedRows, write_card};
+pub use names::name_text;
 pub use operands::{write_card_operand, write_field, write_operand};
+pub use rows::SourceRows;
 pub use spacing::{time_word, write_spacing};
 pub use values::{write_quoted, write_value};
 pub use words::{Indicator, write_condition, write_conditions, write_named, write_shown};

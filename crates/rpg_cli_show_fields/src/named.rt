@@ -1,6 +1,6 @@
 //! A program's rows, with what its source says of them.
 
-use rpg_cli_source::{SourceRows, name_text};
+use crate::{SourceRows, name_text};
 use rpg_cli_text::TextWriter;
 use rpg_object_program::row::Rows;
 

@@ -2,7 +2,7 @@
 
 use crate::named::NamedRows;
 use crate::values::write_value;
-use rpg_cli_source::{SourceRows, name_text};
+use crate::{SourceRows, name_text};
 use rpg_cli_text::TextWriter;
 use rpg_effect::form::Class;
 use rpg_effect::operation::{Index, Operand};

@@ -16,7 +16,7 @@ use Rattle.rpg_effect.specs.declared.operation.Instruction.TheVariants.{Act, Bra
 use Rattle.rpg_effect.specs.declared.operation.Operand.{Operand}
 use Rattle.rpg_effect.specs.declared.row.Shape.{Shape}
 use Rattle.rpg_effect.specs.declared.row.Shape.TheVariants as shape
-use Rattle.rpg_compile_code.specs.Marked.{IsMarked, IsMarkedAction, IsMarkedRow}
+use Rattle.rpg_compile_translator.specs.Marked.{IsMarked, IsMarkedAction, IsMarkedRow}
 use Rattle.rpg_object_program.specs.Kept.{IsActionRow, IsAnOperand, IsFieldRow, IsIndexRow, IsInstructionRow, IsOperandRow, IsOptionalRow, IsSubroutineRow}
 use Rattle.rpg_object_program.specs.Object.{Object, SubroutineRow}
 use Rattle.rpg_object_program.specs.Sections.{body_of, first_place, instruction_at, section_instructions}

@@ -6,7 +6,7 @@ use Rattle.rpg_faults.specs.Faults.{Faultless}
 use Rattle.rpg_compile_translator.proofs.Fields.{fields_kept}
 use Rattle.rpg_compile_translator.proofs.Files.{overflow_kept}
 use Rattle.rpg_compile_translator.proofs.Lines.{few_lines, lines_within}
-use Rattle.rpg_compile_translator.proofs.Sizes.{few_instructions, few_subroutines}
+use Rattle.rpg_compile_translator.proofs.SectionLimits.{few_instructions, few_subroutines}
 use Rattle.rpg_compile_translator.proofs.Totals.{fields_within, name_storage_within, names_within, storage_within}
 use Rattle.rpg_compile_translator.proofs.Types.{few_types, types_within}
 use Rattle.rpg_compile_translator.specs.Limits.{KeepsLimits}

@@ -16,7 +16,7 @@ use Rattle.rpg_effect.specs.Values.{Value}
 use Rattle.rpg_effect.specs.declared.input.InputFile.TheVariants.{Primary}
 use Rattle.rpg_effect.specs.declared.form.FieldForm.{FieldForm}
 use Rattle.rpg_effect.specs.declared.operation.Instruction.{Instruction}
-use Rattle.rpg_compile_code.specs.Marked.{IsMarked, IsMarkedRow}
+use Rattle.rpg_compile_translator.specs.Marked.{IsMarked, IsMarkedRow}
 use Rattle.rpg_object_program.specs.Kept.{AreValuesOf, IsLineRow, IsProgram, IsTypeRow}
 use Rattle.rpg_object_program.specs.Object.{LineRow, Object, SubroutineRow}
 use Rattle.rpg_object_program.specs.declared.row.Version.{Version}

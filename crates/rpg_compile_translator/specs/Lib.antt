@@ -1,1 +1,7 @@
+pub mod Called
 pub mod Limits
+pub mod Marked
+pub mod Numbers
+pub mod Steps
+pub mod Tests
+pub mod Walk

@@ -1,13 +1,25 @@
+//! Instructions, from the cards of calculations.
 //! The object program of the cards of a source: the code that writes it, and laws of sources without a fault: their programs keep the limits of the
 //! object format, their first values fit their fields, and they are accepted.
 #![tactic(auto)]
 
 mod acceptance;
+mod action;
+mod calls;
+mod code;
 mod first_values;
+mod group;
+mod instruction;
 mod limits;
+mod numbers;
+mod part;
 mod program;
+mod rows;
+mod section;
+mod tests;
 
 pub use acceptance::faultless_sources_are_accepted;
 pub use first_values::faultless_sources_fill_their_fields;
 pub use limits::faultless_sources_keep_limits;
 pub use program::translate;
+pub use rows::{SectionRows, section_rows};

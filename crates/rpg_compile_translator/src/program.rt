@@ -13,12 +13,12 @@ ghost use Rattle.rpg_compile_program.specs.Lines as lines;
 ghost use Rattle.rpg_compile_program.specs.Program as programs;
 ghost use Rattle.rpg_compile_program.specs.Table.{forms, table_of};
 
+use crate::rows::{SectionRows, section_rows};
 use crate::{
     faultless_sources_are_accepted, faultless_sources_fill_their_fields,
     faultless_sources_keep_limits,
 };
 use rpg_cards::{FileUse, IndexedCards, SpecCard, file_for};
-use rpg_compile_code::{SectionRows, section_rows};
 use rpg_compile_layouts::{Fields, fields_of, lines_of, types_of};
 use rpg_object_program::Program;
 use rpg_object_program::row::{Rows, Version};

@@ -4,6 +4,7 @@
 #![tactic(auto)]
 
 mod bytes;
+mod calls;
 mod case;
 mod cycles;
 mod damage;
@@ -19,8 +20,10 @@ mod tally;
 mod trial;
 mod ways;
 
+use calls::write_calls;
 use case::{Case, Question, Task};
 use outcome::{Outputs, write_report};
+use rpg_cli_text::TextWriter;
 use rpg_faults::{FaultCode, SourceCode, SourceFault};
 use rpg_sheet::SheetCode;
 use std::alloc::Global;
@@ -131,5 +134,8 @@ fn main(rt: HostRuntime) -> io::Result<()> {
     for fault in &REFUSALS {
         println!(rt; "{fault}")?;
     }
-    Ok(())
+    let mut told = TextWriter::new(rt.alloc());
+    write_calls(&mut told);
+    let told = told.finish()?;
+    out.write_all(told.as_str().as_bytes())
 }

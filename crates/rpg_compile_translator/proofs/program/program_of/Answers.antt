@@ -8,8 +8,8 @@ use Rattle.rpg_compile_program.specs.Levels.{subroutine_level}
 use Rattle.rpg_compile_program.specs.Whole as whole
 use Rattle.rpg_effect.specs.Input.{TypeRow}
 use Rattle.rpg_effect.specs.declared.operation.Instruction.{Instruction}
-use Rattle.rpg_compile_code.specs.Marked.{IsMarked, IsMarkedRow}
-use Rattle.rpg_compile_code.specs.Walk.{subroutines_in}
+use Rattle.rpg_compile_translator.specs.Marked.{IsMarked, IsMarkedRow}
+use Rattle.rpg_compile_translator.specs.Walk.{subroutines_in}
 use Rattle.rpg_compile_layouts.specs.Rows.{rows_of}
 use Rattle.rpg_object_program.specs.Kept.{IsLineRow, IsProgram, IsTypeRow}
 use Rattle.rpg_object_program.specs.Object.{LineRow, SubroutineRow}
