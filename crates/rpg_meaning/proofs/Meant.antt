@@ -1,11 +1,12 @@
 -- The runs of a source's program are those of its cards.
-use Rattle.std.proofs.Common.{◌≡◌, ℕ, ℤ, List, [], Some, refl, ap, ◌∙◌}
+use Rattle.std.proofs.Common.{◌≡◌, ℕ, ℤ, List, [], map, Some, refl, ap, ◌∙◌}
 use Rattle.rpg_cards.specs.Keys.{key_cmp}
 use Rattle.rpg_cards.specs.declared.spec_card.SpecCard.{SpecCard}
 use Rattle.rpg_cycle.specs.Job.{first_fields}
 use Rattle.rpg_cycle.specs.Runs as machine
 use Rattle.rpg_cycle.specs.Starting.{date_in, job_first_world, job_start}
 use Rattle.rpg_effect.specs.World.{World}
+use Rattle.rpg_effect_renaming.specs.Naming.{renamed_type}
 use Rattle.rpg_faults_flow.specs.Columns.{bad_calculation_columns}
 use Rattle.rpg_faults_flow.specs.Kept.{KeepsRule}
 use Rattle.rpg_cycle_safety.proofs.Accepting.{accepted_orderly}
@@ -14,21 +15,28 @@ use Rattle.rpg_cycle_safety.proofs.Starting.{first_holds}
 use Rattle.rpg_cycle_records.specs.Waiting.{unread}
 use Rattle.rpg_cycle_safety.specs.Holding.{Holds}
 use Rattle.rpg_meaning.proofs.Cycling.{runs_follow}
-use Rattle.rpg_meaning.proofs.Starting.{agrees_start, start_agrees}
+use Rattle.rpg_job.specs.Files.{length_of}
+use Rattle.rpg_meaning.proofs.MeantStart.{agrees_start, start_agrees}
+use Rattle.rpg_meaning.proofs.MeantTypes.{types_are_meant}
 use Rattle.rpg_meaning.specs.Job.{IsProgramOf}
 use Rattle.rpg_meaning.specs.Sources.{RunsAreMeant, job_of}
 use Rattle.rpg_meaning.specs.Start.{IsStart}
-use Rattle.rpg_meaning_calculations.proofs.Keys.{named_world}
-use Rattle.rpg_meaning_calculations.proofs.Sources.{translates}
+use Rattle.rpg_meaning_calculations.proofs.MeantFiles.{primary_is_meant, secondary_is_meant}
+use Rattle.rpg_meaning_calculations.proofs.Sources.{meant_world, translates}
 use Rattle.rpg_object_program.specs.Kept.{IsProgram}
 use Rattle.rpg_verify_rules.specs.Accepted.{IsAccepted}
 use Rattle.rpg_cycle_safety.proofs.Dating.{date_small, start_holds}
 use Rattle.rpg_compile_program.specs.Program.{key_numbers, program_of}
-use Rattle.rpg_compile_program.specs.Table.{table_of}
 
 job_is : (cards : List SpecCard) (allowance : ℕ) → KeepsRule bad_calculation_columns cards → IsProgramOf (program_of cards allowance) (job_of cards allowance) (key_numbers cards)
 unfolding program_of
-job_is cards allowance kept = record { calculations = translates cards allowance kept; same_types = refl; same_length = refl; same_secondary = refl; same_allowance = refl }
+job_is cards allowance kept = record {
+  calculations = translates cards allowance kept;
+  same_types = ap (map (renamed_type (key_numbers cards))) (types_are_meant cards);
+  same_length = ap length_of (primary_is_meant cards);
+  same_secondary = ap length_of (secondary_is_meant cards);
+  same_allowance = refl;
+}
 
 pub runs_are_meant : (cards : List SpecCard) (allowance : ℕ) (text : List ℕ) (date : ℤ) → IsProgram (program_of cards allowance) → IsAccepted (program_of cards allowance) → KeepsRule bad_calculation_columns cards → date_in text ≡ Some date
     → RunsAreMeant cards allowance date
@@ -48,5 +56,5 @@ runs_are_meant cards allowance text date program accepted kept dated w start rec
 pub has_start : (cards : List SpecCard) (allowance : ℕ) (date : ℤ) → IsProgram (program_of cards allowance) → (w : World key_cmp) × IsStart cards date w
 has_start cards allowance date program =
     let p = program_of cards allowance in
-    let v = named_world (table_of cards) (job_start p date (first_fields p)).world in
+    let v = meant_world cards (job_start p date (first_fields p)).world in
     (v.0, agrees_start cards allowance date program.values v.0 v.1)

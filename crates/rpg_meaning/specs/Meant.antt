@@ -9,9 +9,10 @@ use Rattle.rpg_cycle.specs.Starting.{date_in}
 use Rattle.rpg_effect.specs.Put.{Bytes}
 use Rattle.rpg_effect.specs.World.{World}
 use Rattle.rpg_meaning.specs.Sources.{IsMeant}
-use Rattle.rpg_meaning.specs.Start.{IsStart}
+use Rattle.rpg_meaning.specs.Start.{ConstantsStand, IsStart}
 use Rattle.rpg_meaning_calculations.specs.Laws.{KeepsMeaning}
 use Rattle.rpg_meaning_calculations.specs.Sources.{source_of}
+use Rattle.rpg_memory.specs.Fits.{KeepsConstants}
 use Rattle.rpg_object_program.specs.Object.{Object}
 use Rattle.rpg_effect_renaming.specs.Naming.{Agree}
 use Rattle.rpg_compile_program.specs.Program.{key_numbers}
@@ -28,6 +29,10 @@ pub record DoesAsMeant (cards : List SpecCard) (allowance : ℕ) (p : Object) : 
   pub calculations : KeepsMeaning p (source_of cards) (key_numbers cards)
   -- whatever the fields of the program hold, there are values by name that agree
   pub agreeing : (w : World nat_cmp) → (v : World key_cmp) × Agree (source_of cards).forms (key_numbers cards) v w
+  -- Constants have the values that are written: before the first cycle, and wherever the program's constants have their first values, which a run of
+  -- an accepted program keeps.
+  pub constants_begin : (date : ℤ) (w : World key_cmp) → IsStart cards date w → ConstantsStand cards w
+  pub constants_stay : (v : World key_cmp) (w : World nat_cmp) → Agree (source_of cards).forms (key_numbers cards) v w → KeepsConstants p w.fields.values → ConstantsStand cards v
   -- whole jobs, from records to bytes, on each date; and there is what the cards start with
   pub jobs : (digits : List ℕ) (date : ℤ) → date_in digits ≡ Some date → RunsAsMeant cards allowance p date
   pub start : (date : ℤ) → (w : World key_cmp) × IsStart cards date w

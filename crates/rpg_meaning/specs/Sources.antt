@@ -1,27 +1,25 @@
 -- The job that a source and an allowance say, and what it is that a program does it.
 use Rattle.std.specs.Prelude.{◌≡◌, ℕ, ℤ, List}
 use Rattle.rpg_cards.specs.Keys.{key_cmp}
-use Rattle.rpg_cards.specs.Files.{file_for}
-use Rattle.rpg_cards.specs.declared.files.FileUse.TheVariants as uses
 use Rattle.rpg_cards.specs.declared.spec_card.SpecCard.{SpecCard}
 use Rattle.rpg_cycle.specs.Job.{first_fields}
 use Rattle.rpg_cycle.specs.Runs as machine
 use Rattle.rpg_effect.specs.Put.{Bytes}
 use Rattle.rpg_effect.specs.World.{World}
+use Rattle.rpg_job.specs.Files.{is_primary, is_secondary, length_of, the_file}
+use Rattle.rpg_job.specs.RecordTypes.{meant_types}
 use Rattle.rpg_meaning.specs.Job.{Job}
 use Rattle.rpg_meaning.specs.Runs.{IsMeantRun, MeantCourse}
 use Rattle.rpg_meaning.specs.Start.{IsStart}
 use Rattle.rpg_meaning_calculations.specs.Sources.{source_of}
-use Rattle.rpg_compile_program.specs.Lines.{record_length_of}
 use Rattle.rpg_compile_program.specs.Program.{program_of}
-use Rattle.rpg_compile_program.specs.Types.{types_on}
 
 abbrev pub job_of : List SpecCard → ℕ → Job
 job_of cards allowance = record {
   source = source_of cards;
-  types = types_on cards;
-  record_length = record_length_of (file_for uses.Primary cards);
-  secondary_length = record_length_of (file_for uses.Secondary cards);
+  types = meant_types cards;
+  record_length = length_of (the_file is_primary cards);
+  secondary_length = length_of (the_file is_secondary cards);
   allowance = allowance;
 }
 

@@ -5,6 +5,13 @@ pub mod Follows
 pub mod Keys
 pub mod Leads
 pub mod Meant
+pub mod MeantCalculations
+pub mod MeantConstants
+pub mod MeantFiles
+pub mod MeantForms
+pub mod MeantLines
+pub mod MeantLists
+pub mod MeantSections
 pub mod Named
 pub mod NextCard
 pub mod Parts

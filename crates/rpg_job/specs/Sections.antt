@@ -1,0 +1,70 @@
+-- The sections of a source: its calculations at detail time, those at total time, and its subroutines. Numbers are the columns of a C card.
+use Rattle.std.specs.Prelude.{◌++◌, Bool, true, false, List, [], ◌∷◌, filter, if◌then◌else◌}
+use Rattle.rpg_cards.specs.Deeds.{Acts, Begins, Calculation, Deed, Ends, Executes, GoesTo, Marks, Nothing, PutsOut}
+use Rattle.rpg_cards.specs.Keys.{Key}
+use Rattle.rpg_cards.specs.Sections.{Sections, Subroutine}
+use Rattle.rpg_sheet_specs.specs.declared.calculation.ControlLevel.{ControlLevel}
+use Rattle.rpg_sheet_specs.specs.declared.calculation.ControlLevel.TheVariants as control
+
+-- ---- 7-8: blank at detail time; L0 to L9 and LR at total time; SR in a subroutine
+
+abbrev pub is_at_detail_time : ControlLevel → Bool
+is_at_detail_time control.Detail = true
+is_at_detail_time (control.Total n) = false
+is_at_detail_time control.Subroutine = false
+is_at_detail_time control.And = false
+is_at_detail_time control.Or = false
+
+abbrev pub is_at_total_time : ControlLevel → Bool
+is_at_total_time control.Detail = false
+is_at_total_time (control.Total n) = true
+is_at_total_time control.Subroutine = false
+is_at_total_time control.And = false
+is_at_total_time control.Or = false
+
+abbrev pub is_in_subroutine : ControlLevel → Bool
+is_in_subroutine control.Detail = false
+is_in_subroutine (control.Total n) = false
+is_in_subroutine control.Subroutine = true
+is_in_subroutine control.And = false
+is_in_subroutine control.Or = false
+
+-- ---- subroutines: each from the calculation after its BEGSR to the one before the next BEGSR
+
+abbrev pub is_begin : Deed Key → Bool
+is_begin (Begins name) = true
+is_begin (Acts a) = false
+is_begin PutsOut = false
+is_begin (GoesTo label) = false
+is_begin (Executes name) = false
+is_begin (Marks label) = false
+is_begin (Ends label) = false
+is_begin Nothing = false
+
+abbrev pub meant_body : List (Calculation Key) → List (Calculation Key)
+meant_body [] = []
+meant_body (g ∷ gs) = if is_begin g.deed then [] else g ∷ meant_body gs
+
+-- the subroutine that a calculation begins, if it is a BEGSR, with these after it
+abbrev pub begun_before : List (Calculation Key) → Deed Key → List (Subroutine Key)
+begun_before gs (Begins name) = record { name = name; body = meant_body gs } ∷ []
+begun_before gs (Acts a) = []
+begun_before gs PutsOut = []
+begun_before gs (GoesTo label) = []
+begun_before gs (Executes name) = []
+begun_before gs (Marks label) = []
+begun_before gs (Ends label) = []
+begun_before gs Nothing = []
+
+abbrev pub meant_subroutines : List (Calculation Key) → List (Subroutine Key)
+meant_subroutines [] = []
+meant_subroutines (g ∷ gs) = begun_before gs g.deed ++ meant_subroutines gs
+
+-- ---- all sections, in the order of the cards
+
+abbrev pub meant_sections : List (Calculation Key) → Sections Key
+meant_sections calculations = record {
+  detail = filter (λ g. is_at_detail_time g.control) calculations;
+  total = filter (λ g. is_at_total_time g.control) calculations;
+  subroutines = meant_subroutines (filter (λ g. is_in_subroutine g.control) calculations);
+}
