@@ -49,7 +49,7 @@ const HALT_7: Page = Page {
     given: ALONE,
     breaks: "- a record that is longer than the record length on the F card\n- a byte that is not one from blank to ~, as a tab, or a letter with an accent",
     keeps: "- a shorter record: blanks are behind its end\n- a line feed, or carriage return and line feed, behind each record",
-    advice: "look at the record that is told, and convert the file to plain ASCII text",
+    advice: "the message names the column, the byte and the command that mends it; over standard\ninput, and of two files, the record isn't read again. docs/OLD_PROGRAMS.md converts EBCDIC",
 };
 
 const HALT_8: Page = Page {

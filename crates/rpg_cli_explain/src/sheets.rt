@@ -7,14 +7,14 @@ const S1: Page = Page {
     given: ALONE,
     breaks: "- a line of 81 characters; a blank in column 81 counts too",
     keeps: "- a line of 80 characters, with its line feed behind it, or carriage return and line feed",
-    advice: "take away what stands behind column 80. Many editors show blanks at the end of a\nline only where they are asked to",
+    advice: "cut off what stands after column 80: `cut -c1-80`. Many editors show blanks at the end\nof a line only on request",
 };
 
 const S2: Page = Page {
     given: ALONE,
     breaks: "- a tab, a letter with an accent, a byte order mark before the first card\n- a carriage return that no line feed follows, as at the end of a file",
     keeps: "- the characters from blank to ~, and a carriage return right before a line feed",
-    advice: "write blanks in place of a tab, save the file as plain ASCII text, and end it with a\nline feed",
+    advice: "the message names the byte and the command that mends it, as `expand` for tabs. Save\nthe file as plain ASCII text, and end it with a line feed",
 };
 
 const S3: Page = Page {
@@ -28,14 +28,14 @@ const S4: Page = Page {
     given: ALONE,
     breaks: "- a calculation behind an output card:\n\n     OPRINT   D        01\n     C           TOTAL     ADD  VALUE     TOTAL",
     keeps: "- H, F, E, I, C and O cards in this order, those of a sheet together; a sheet that is not needed\n  is left out",
-    advice: "move the card to those of its own sheet. The fault is told of the first card that\ncomes too late",
+    advice: "move the card to those of its own sheet. The message names the card of a later sheet\nthat stands before it; where several cards follow from that one, it is the one to move",
 };
 
 const S5: Page = Page {
     given: ALONE,
     breaks: "- an end position that ends in column 42, and a condition of two columns that begins in 23:\n\n     O                         VALUE    38\n     OPRINT   D       01",
     keeps: "- a number ends in the last column of its range; a condition has its blank or N first:\n\n     O                         VALUE     38\n     OPRINT   D        01",
-    advice: "the message names the range, its columns and what may stand there; docs/LANGUAGE.md\nhas all ranges. Where the text looks right it mostly stands a column too far left or right",
+    advice: "the message names the range, its columns and what may stand there, or what of RPG II\nstands there that isn't read, with a workaround; and whether moving a text by a column or two\nmakes the card readable. docs/LANGUAGE.md has all ranges",
 };
 
 const S6: Page = Page {

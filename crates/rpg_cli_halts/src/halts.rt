@@ -2,6 +2,7 @@
 
 use crate::columns::{BadColumns, BadInput, bad_columns};
 use crate::lines::write_indexed_fields;
+use crate::record::BadRecord;
 use crate::source::{HaltedSource, write_source};
 use rpg_cli_refusals::write_instruction_at;
 use rpg_cli_text::TextWriter;
@@ -20,9 +21,12 @@ pub struct HaltedCycle {
 }
 
 impl HaltedCycle {
-    /// Whether a record's columns were no number, when its fields were filled.
+    /// Whether the text of a record tells what was wrong: columns that were no number when its fields were filled, or its length or a byte of it.
     pub fn is_of_columns(self) -> bool {
-        matches!((self.halt, self.place), (Halt::BadDigit, None))
+        matches!(
+            (self.halt, self.place),
+            (Halt::BadDigit | Halt::BadRecord, None)
+        )
     }
 
     /// The record that the halt is about, where it is known. Each cycle before has taken one; the fields of a record are filled, and detail
@@ -92,13 +96,54 @@ fn write_columns(out: &mut TextWriter, bad: BadColumns, text: &[u8]) {
     write!(out, " in column {column} is no digit");
 }
 
+/// What the text of a record tells of its halt.
+#[derive(Clone, Copy)]
+enum Found<'a> {
+    Nothing,
+    /// Columns that are to be a number.
+    Input(BadInput, &'a [u8]),
+    /// Its length, or a byte of it.
+    Record(BadRecord, &'a [u8]),
+}
+
+impl<'a> Found<'a> {
+    fn of(
+        alloc: Global,
+        program: &Verified,
+        halt: Halt,
+        text: &'a [u8],
+    ) -> Result<Self, AllocError> {
+        Ok(match halt {
+            Halt::BadRecord => match BadRecord::of(program, text) {
+                Some(bad) => Found::Record(bad, text),
+                None => Found::Nothing,
+            },
+            _ => match bad_columns(alloc, program, text)? {
+                Some(bad) => Found::Input(bad, text),
+                None => Found::Nothing,
+            },
+        })
+    }
+
+    /// The first column that it is about, counted from 1.
+    fn column(self) -> Option<usize> {
+        match self {
+            Found::Nothing => None,
+            Found::Input(bad, _) => Some(bad.columns.from),
+            Found::Record(bad, _) => Some(bad.column()),
+        }
+    }
+
+    fn input(self) -> Option<BadInput> {
+        match self {
+            Found::Input(bad, _) => Some(bad),
+            Found::Nothing | Found::Record(_, _) => None,
+        }
+    }
+}
+
 /// Which instruction halted; where none did, what was wrong with the record or which output fields it may have been.
-fn write_place(
-    out: &mut TextWriter,
-    program: &Verified,
-    halted: HaltedCycle,
-    found: Option<(BadInput, &[u8])>,
-) {
+fn write_place(out: &mut TextWriter, program: &Verified, halted: HaltedCycle, found: Found<'_>) {
     let rows = program.program().rows();
     match (halted.place, halted.halt, found) {
         (Some(place), _, _) => {
@@ -106,8 +151,8 @@ fn write_place(
             write_instruction_at(out, rows, usize::from(place.number));
         }
         (None, Halt::BadIndex, _) => write_indexed_fields(out, rows),
-        (None, _, Some((bad, text))) => write_columns(out, bad.columns, text),
-        (None, _, None) => {}
+        (None, _, Found::Input(bad, text)) => write_columns(out, bad.columns, text),
+        (None, _, Found::Record(_, _) | Found::Nothing) => {}
     }
 }
 
@@ -159,26 +204,27 @@ pub fn halt_message(
     source: Option<HaltedSource<'_>>,
 ) -> Result<String, AllocError> {
     let found = match record {
-        Some(text) if halted.is_of_columns() => {
-            bad_columns(alloc, program, text)?.map(|bad| (bad, text))
-        }
-        _ => None,
+        Some(text) if halted.is_of_columns() => Found::of(alloc, program, halted.halt, text)?,
+        _ => Found::Nothing,
     };
     let mut out = TextWriter::new(alloc);
     write_names(&mut out, program, names);
     if let Some(record) = halted.record(program) {
         write!(out, ":{record}");
     }
-    if let Some((bad, _)) = found {
-        write!(out, ":{}", bad.columns.from);
+    if let Some(column) = found.column() {
+        write!(out, ":{column}");
     }
     let number = halted.halt.number();
-    write!(out, ": halt {number}: {}", halted.halt.sentence());
+    write!(out, ": halt {number}: ");
+    match found {
+        Found::Record(bad, text) => bad.write(&mut out, text),
+        Found::Input(_, _) | Found::Nothing => out.write_str(halted.halt.sentence()),
+    }
     write_place(&mut out, program, halted, found);
     out.write_char('\n');
     if let Some(source) = source {
-        let bad = found.map(|(bad, _)| bad);
-        write_source(&mut out, program, halted, bad, source);
+        write_source(&mut out, program, halted, found.input(), source);
     }
     write_names(&mut out, program, names);
     out.write_str(": ");

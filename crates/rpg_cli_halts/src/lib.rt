@@ -4,6 +4,7 @@
 mod columns;
 mod halts;
 mod lines;
+mod record;
 mod source;
 
 pub use halts::{HaltedCycle, InputNames, halt_message};

@@ -11,6 +11,7 @@ use rpg_effect::operation::{Action, Index, Instruction, Operand};
 use rpg_object_program::columns::row_of;
 use rpg_object_program::row::{Line, Rows};
 use rpg_object_program::section::{Place, Section};
+use rpg_text::trimmed;
 use rpg_verify::Verified;
 
 /// The source of the program that halted: what it is called, its text, and what its cards say.
@@ -59,11 +60,22 @@ fn write_action(
     }
 }
 
+/// An operation that goes to a label or a subroutine, which stands in its card's factor 2 (33-42).
+fn write_target(out: &mut TextWriter, operation: &str, line: &[u8]) {
+    out.write_str(operation);
+    let end = line.len().min(42);
+    if let Some(name) = line.get(32..end) {
+        out.write_char(' ');
+        out.write_shown(trimmed(name));
+    }
+}
+
 /// What an instruction was made of.
 fn write_made_of(
     out: &mut TextWriter,
     rows: &Rows,
     source: &SourceRows,
+    line: &[u8],
     instruction: Instruction<u16>,
 ) {
     match instruction {
@@ -71,8 +83,8 @@ fn write_made_of(
         Instruction::Branch { conditions, .. } if has_conditions(conditions) => {
             out.write_str("its conditions");
         }
-        Instruction::Branch { .. } => out.write_str("GOTO"),
-        Instruction::Call { .. } => out.write_str("EXSR"),
+        Instruction::Branch { .. } => write_target(out, "GOTO", line),
+        Instruction::Call { .. } => write_target(out, "EXSR", line),
         Instruction::Return { .. } => out.write_str("ENDSR"),
         Instruction::Except => out.write_str("EXCPT"),
     }
@@ -108,7 +120,8 @@ fn write_instruction(out: &mut TextWriter, rows: &Rows, place: Place, source: Ha
     let card = source.rows.place_card(usize::from(place.number));
     if let (Some(instruction), Some(card)) = (instruction_at(rows, place), card) {
         source.write_card(out, card);
-        write_made_of(out, rows, source.rows, instruction);
+        let line = CardLines::of(source.text).line_of(card);
+        write_made_of(out, rows, source.rows, line, instruction);
         source.show_card(out, card);
     }
 }

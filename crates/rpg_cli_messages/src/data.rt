@@ -1,8 +1,8 @@
 //! F18: how many data a table wants, and how many stand there.
 
-use crate::counted::noun;
 use crate::entries::{EntryColumns, first_bad, write_bad_entry};
 use rpg_cards::SpecCard;
+use rpg_cli_causes::noun;
 use rpg_cli_text::TextWriter;
 use rpg_faults::{begins_deck, data_cards, data_columns, has_forms, wants_data};
 use rpg_sheet_specs::{DataSpec, ExtensionSpec, Spec, TableSpec};

@@ -1,7 +1,7 @@
 //! F17: by how much an edit code or an edit word misses its number.
 
-use crate::counted::noun;
 use rpg_cards::{Defined, IndexedCards, SpecCard};
+use rpg_cli_causes::noun;
 use rpg_cli_text::TextWriter;
 use rpg_edit_widths::EditWord;
 use rpg_effect::form::{FieldForm, Kind};

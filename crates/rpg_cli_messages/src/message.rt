@@ -1,15 +1,17 @@
 //! The messages of a refused source.
 
-use crate::card::CardKind;
+use crate::bytes::{write_byte_cause, write_long_line};
 use crate::card_lines::CardLines;
 use crate::numbers::{readable_cards, write_numbers};
+use crate::order::{LaterCard, later_card, write_order};
 use crate::picture::write_picture;
-use crate::range::{Range, range_at};
 use rpg_cards::IndexedCards;
+use rpg_cli_causes::{Root, SourceCards, root_of, write_cause};
+use rpg_cli_columns::{character_at, write_bad_columns, write_form_type};
 use rpg_cli_text::TextWriter;
 use rpg_faults::{CardFault, SourceCode};
 use rpg_sheet::{ColumnFault, SheetCode};
-use rpg_text::is_character;
+use rpg_text::{is_character, trimmed};
 use std::alloc::{AllocError, Global};
 
 /// What a person reads of the faults of a source, which `path` names: for each a line `PATH:CARD:COLUMN: CODE: SENTENCE`, the card and a mark, `most` of
@@ -23,14 +25,95 @@ pub fn source_messages(
 ) -> Result<String, AllocError> {
     let cards = readable_cards(alloc, source)?;
     let cards = IndexedCards::new(alloc, &cards)?;
+    let known = SourceCards {
+        cards: &cards,
+        text: source,
+    };
     let mut out = TextWriter::new(alloc);
     let mut lines = CardLines::of(source);
+    let mut slips = Vec::new(alloc);
     for fault in faults.iter().take(usize::from(most)) {
         let line = lines.line_of(fault.card);
-        write_message(&mut out, path, line, &cards, *fault);
+        match slip_of(known, line, *fault) {
+            Some(slip) if slips.iter().any(|other| *other == slip) => {
+                write_follower(&mut out, path, line, *fault, slip);
+            }
+            Some(slip) => {
+                slips.push(slip)?;
+                write_message(&mut out, path, line, known, *fault);
+                write_slip_card(&mut out, path, source, slip);
+            }
+            None => write_message(&mut out, path, line, known, *fault),
+        }
     }
     write_count(&mut out, path, faults, most);
     out.finish()
+}
+
+/// One slip of which several faults can come.
+#[derive(Clone, Copy, PartialEq, Eq)]
+enum Slip {
+    /// A card that stands before those of earlier sheets.
+    Later(LaterCard),
+    /// A field that is a text.
+    Field(Root),
+}
+
+fn slip_of(source: SourceCards<'_>, line: &[u8], fault: CardFault) -> Option<Slip> {
+    match fault.code {
+        SourceCode::Sheet(SheetCode::S4) => {
+            later_card(source.text, fault.card, line).map(|later| Slip::Later(later))
+        }
+        SourceCode::Sheet(_) => None,
+        SourceCode::Fault(_) => root_of(source, line, fault).map(|root| Slip::Field(root)),
+    }
+}
+
+/// A fault that comes of a slip which is told already.
+fn write_follower(out: &mut TextWriter, path: &str, line: &[u8], fault: CardFault, slip: Slip) {
+    let code = fault.code.text();
+    write_place(
+        out,
+        path,
+        fault.card,
+        columns_of(line, fault),
+        code.as_str(),
+    );
+    match slip {
+        Slip::Later(later) => {
+            write!(
+                out,
+                "follows from card {} too, which is of a later sheet\n",
+                later.card
+            );
+        }
+        Slip::Field(Root::Text(card)) => {
+            write!(out, "follows from card {card} too, whose field is a text\n");
+        }
+        Slip::Field(Root::Unknown(name)) => {
+            out.write_shown(trimmed(&name));
+            out.write_str(" once more\n");
+        }
+    }
+}
+
+/// The columns of an input field's decimals.
+const DECIMALS: ColumnFault = ColumnFault {
+    column: 52,
+    last: 52,
+};
+
+/// The card that a slip is on, where the fault is on another.
+fn write_slip_card(out: &mut TextWriter, path: &str, source: &[u8], slip: Slip) {
+    let Slip::Field(Root::Text(card)) = slip else {
+        return;
+    };
+    let line = CardLines::of(source).line_of(card);
+    if character_at(line, 6) == b'I' {
+        write_place(out, path, card, Some(DECIMALS), "note");
+        out.write_str("a field without decimals is a text\n");
+        write_picture(out, card, line, Some(DECIMALS));
+    }
 }
 
 /// The columns that a fault is about, where its code says which.
@@ -70,13 +153,13 @@ fn write_message(
     out: &mut TextWriter,
     path: &str,
     line: &[u8],
-    cards: &IndexedCards,
+    source: SourceCards<'_>,
     fault: CardFault,
 ) {
     let columns = columns_of(line, fault);
     let code = fault.code.text();
     write_place(out, path, fault.card, columns, code.as_str());
-    write_sentence(out, line, cards, fault);
+    write_sentence(out, line, source, fault);
     out.write_char('\n');
     if fault.card > 0 {
         write_picture(out, fault.card, line, columns);
@@ -90,7 +173,7 @@ pub fn write_card_remark(out: &mut TextWriter, path: &str, card: u16, line: &[u8
     write_picture(out, card, line, None);
 }
 
-/// Writes where a fault is, and its code: `PATH:CARD:COLUMN: CODE: `. A fault of the source as a whole has card 0.
+/// Writes where a fault is, and its code: `PATH:CARD:COLUMN: CODE: `. A fault of the source as a whole has card 0, and is at line 1.
 pub fn write_place(
     out: &mut TextWriter,
     path: &str,
@@ -99,9 +182,8 @@ pub fn write_place(
     code: &str,
 ) {
     out.write_shown(path.as_bytes());
-    if card > 0 {
-        write!(out, ":{card}");
-    }
+    let line = card.max(1);
+    write!(out, ":{line}");
     if let Some(ColumnFault { column, .. }) = columns {
         write!(out, ":{column}");
     }
@@ -112,89 +194,30 @@ pub fn write_place(
 pub(crate) fn write_sentence(
     out: &mut TextWriter,
     line: &[u8],
-    cards: &IndexedCards,
+    source: SourceCards<'_>,
     fault: CardFault,
 ) {
     match fault.code {
         SourceCode::Fault(code) => {
-            out.write_str(code.sentence());
-            write_numbers(out, cards, fault.card, code);
+            if !write_cause(out, source, line, fault.card, fault.columns, code) {
+                out.write_str(code.sentence());
+                write_numbers(out, source.cards, fault.card, code);
+            }
         }
-        SourceCode::Sheet(SheetCode::S1) => {
-            let count = line.len();
-            write!(out, "the line has {count} characters, and a card has 80");
-        }
+        SourceCode::Sheet(SheetCode::S1) => write_long_line(out, line),
         SourceCode::Sheet(SheetCode::S2) => write_bad_byte(out, line),
         SourceCode::Sheet(SheetCode::S3) => write_form_type(out, line),
-        SourceCode::Sheet(SheetCode::S4) => out.write_str(
-            "a card of a later sheet stands before this one: the sheets come in the order H, F, E, I, C, O",
-        ),
+        SourceCode::Sheet(SheetCode::S4) => {
+            write_order(out, later_card(source.text, fault.card, line));
+        }
         SourceCode::Sheet(SheetCode::S5) => write_bad_columns(out, line, fault.columns),
         SourceCode::Sheet(SheetCode::S6) => out.write_str("a source has at most 2,000 cards"),
     }
 }
 
 fn write_bad_byte(out: &mut TextWriter, line: &[u8]) {
-    match first_bad(line) {
-        Some((_, b'\t')) => out.write_str("a tab; a card has blanks in its place"),
-        Some((_, b'\r')) => out.write_str("a carriage return that no line feed follows"),
-        Some((_, byte)) => write!(out, "byte {byte:02x} is no character"),
-        None => out.write_str("a byte is no character"),
-    }
-    out.write_str("; characters are those from blank to ~");
-}
-
-fn write_form_type(out: &mut TextWriter, line: &[u8]) {
-    let form = line.get(5).copied().unwrap_or(b' ');
-    out.write_str("column 6 has \"");
-    out.write_shown(&[form]);
-    out.write_str("\": a form type is H, F, E, I, C or O");
-    if form.is_ascii_lowercase() {
-        out.write_str(", and letters are capitals");
-    }
-}
-
-fn write_bad_columns(out: &mut TextWriter, line: &[u8], columns: Option<ColumnFault>) {
-    let Some(columns) = columns else {
-        out.write_str("some columns have a bad value");
-        return;
-    };
-    let wanted = match range_at(CardKind::of(line), columns) {
-        Some(Range(_, _, name, wanted)) => {
-            out.write_str(name);
-            out.write_str(" (");
-            write_column_numbers(out, columns);
-            out.write_char(')');
-            wanted
-        }
-        None => {
-            out.write_str("column ");
-            write_column_numbers(out, columns);
-            "nothing stands there on such a card"
-        }
-    };
-    out.write_str(" has \"");
-    write_columns(out, line, columns);
-    write!(out, "\": {wanted}");
-}
-
-fn write_column_numbers(out: &mut TextWriter, columns: ColumnFault) {
-    let ColumnFault { column, last } = columns;
-    if column == last {
-        write!(out, "{column}");
-    } else {
-        write!(out, "{column}-{last}");
-    }
-}
-
-/// What stands in the columns, with blanks after the end of the line.
-fn write_columns(out: &mut TextWriter, line: &[u8], columns: ColumnFault) {
-    for place in columns.column..=columns.last {
-        let byte = line
-            .get(usize::from(place.saturating_sub(1)))
-            .copied()
-            .unwrap_or(b' ');
-        out.write_shown(&[byte]);
+    if let Some((column, _)) = first_bad(line) {
+        write_byte_cause(out, line, usize::from(column.saturating_sub(1)));
     }
 }
 

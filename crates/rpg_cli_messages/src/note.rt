@@ -3,6 +3,7 @@
 use crate::message::{columns_of, write_sentence};
 use crate::picture::write_times;
 use rpg_cards::IndexedCards;
+use rpg_cli_causes::SourceCards;
 use rpg_cli_text::TextWriter;
 use rpg_faults::CardFault;
 use rpg_sheet::ColumnFault;
@@ -36,6 +37,7 @@ pub fn write_note(
         margin.saturating_sub(code.len().saturating_add(1)),
     );
     write!(out, "{code} ");
-    write_sentence(out, line, cards, fault);
+    let source = SourceCards { cards, text: &[] };
+    write_sentence(out, line, source, fault);
     out.write_char('\n');
 }

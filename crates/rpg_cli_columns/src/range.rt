@@ -27,3 +27,13 @@ pub fn begins_range(line: &[u8], column: usize) -> bool {
     }
     false
 }
+
+/// Whether a column, counted from 1, is in a range of a kind of card.
+pub(crate) fn is_in_range(kind: CardKind, column: usize) -> bool {
+    for range in ranges_of(kind) {
+        if usize::from(range.0) <= column && column <= usize::from(range.1) {
+            return true;
+        }
+    }
+    false
+}

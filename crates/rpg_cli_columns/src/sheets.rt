@@ -3,7 +3,7 @@
 use crate::card::CardKind;
 use crate::range::Range;
 
-const NAME: &str =
+pub(crate) const NAME: &str =
     "a name begins in the first column with a letter, $, # or @, and has only these and digits in it";
 
 const NUMBER: &str = "a number has digits alone and ends in the last column";
@@ -22,7 +22,8 @@ const CONDITION: &str =
 const FACTOR: &str =
     "a name with its index if it has one, a number, or a text between apostrophes, from the first column on";
 
-const ENTRY: &str = "a name, with a comma and its index if it has one, from the first column on";
+pub(crate) const ENTRY: &str =
+    "a name, with a comma and its index if it has one, from the first column on";
 
 const CODE: &str =
     "a position that ends in the fourth column, N or blank, C, and the character, or the columns are blank";
@@ -104,7 +105,7 @@ static CALCULATION: [Range; 14] = [
         28,
         32,
         "the operation",
-        "an operation from the first column on, as Z-ADD",
+        "one of those that docs/LANGUAGE.md lists, from the first column on",
     ),
     Range(33, 42, "factor 2", FACTOR),
     Range(43, 48, "the result field", ENTRY),

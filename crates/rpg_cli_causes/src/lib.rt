@@ -1,0 +1,22 @@
+//! Why a card has a fault of F1 to F16, in words: the name, the other card, the limit and the number.
+#![tactic(auto)]
+
+mod calculations;
+mod cause;
+mod counted;
+mod files;
+mod indicators;
+mod labels;
+mod missing;
+mod names;
+mod near;
+mod operands;
+mod places;
+mod root;
+mod sizes;
+mod spot;
+
+pub use cause::write_cause;
+pub use counted::noun;
+pub use root::{Root, root_of};
+pub use spot::SourceCards;

@@ -1,0 +1,92 @@
+//! Names that are near one that isn't there, as if it were misspelt.
+
+use crate::spot::Spot;
+use rpg_cards::{IndexedCards, SpecCard};
+use rpg_cli_text::TextWriter;
+
+/// The least length of a name that can be a misspelt one: shorter ones are near too many.
+const LEAST: usize = 3;
+
+/// How many near names are told.
+const MOST: usize = 3;
+
+fn rest_of(text: &[u8], from: usize) -> &[u8] {
+    text.get(from..).unwrap_or(&[])
+}
+
+/// How many characters two texts begin with alike.
+fn common(one: &[u8], other: &[u8]) -> usize {
+    for (place, (a, b)) in one.iter().zip(other).enumerate() {
+        if a != b {
+            return place;
+        }
+    }
+    one.len().min(other.len())
+}
+
+/// Whether two texts differ in one character, or by one more, or by two side by side that have changed places.
+pub(crate) fn is_near(one: &[u8], other: &[u8]) -> bool {
+    if one.len() < LEAST || other.len() < LEAST {
+        return false;
+    }
+    let same = common(one, other);
+    let next = same.saturating_add(1);
+    let behind = next.saturating_add(1);
+    rest_of(one, next) == rest_of(other, next)
+        || rest_of(one, next) == rest_of(other, same)
+        || rest_of(one, same) == rest_of(other, next)
+        || (rest_of(one, behind) == rest_of(other, behind)
+            && one.get(same) == other.get(next)
+            && one.get(next) == other.get(same))
+}
+
+/// How many names are told, and how many definitions stand before a card.
+#[derive(Clone, Copy)]
+struct Near {
+    told: usize,
+    definitions: usize,
+}
+
+/// Writes a name, behind others.
+fn write_one(out: &mut TextWriter, told: usize, name: &[u8]) {
+    out.write_str(if told == 0 { " (" } else { ", " });
+    out.write_shown(name);
+}
+
+/// Writes the names that a card defines first and that are near.
+fn write_defined(
+    out: &mut TextWriter,
+    source: &IndexedCards,
+    name: &[u8],
+    near: Near,
+    card: &SpecCard,
+) -> Near {
+    let mut near = near;
+    let definitions = card.definitions();
+    for definition in definitions.as_slice() {
+        let other = definition.name.as_slice();
+        let is_first = source.is_new_name(near.definitions, &definition.name);
+        if near.told < MOST && is_first && is_near(name, other) {
+            write_one(out, near.told, other);
+            near.told = near.told.saturating_add(1);
+        }
+        near.definitions = near.definitions.saturating_add(1);
+    }
+    near
+}
+
+/// Writes which names are defined that are near one.
+pub(crate) fn write_near_names(out: &mut TextWriter, spot: Spot<'_>, name: &[u8]) {
+    let mut near = Near {
+        told: 0,
+        definitions: 0,
+    };
+    for card in spot.source.cards.as_slice() {
+        near = write_defined(out, spot.source.cards, name, near, card);
+    }
+    match near.told {
+        0 => {}
+        1 => out.write_str(" is defined)"),
+        _ => out.write_str(" are defined)"),
+    }
+}

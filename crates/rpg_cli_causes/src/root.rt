@@ -1,0 +1,61 @@
+//! Which faults come of one slip.
+
+use crate::names::missing;
+use crate::spot::{SourceCards, Spot};
+use rpg_effect::form::Kind;
+use rpg_faults::{CardFault, FaultCode, SourceCode};
+use rpg_sheet::{Entry, Spec};
+
+/// A slip that other faults follow from.
+#[derive(Clone, Copy, PartialEq, Eq)]
+pub enum Root {
+    /// This card defines a text, and its name is used as a number.
+    Text(u16),
+    /// No card defines this name, which is filled up with blanks.
+    Unknown([u8; 6]),
+}
+
+/// A name, filled up with blanks.
+fn padded(name: &[u8]) -> [u8; 6] {
+    let mut padded = [b' '; 6];
+    for (place, character) in padded.iter_mut().zip(name) {
+        *place = *character;
+    }
+    padded
+}
+
+/// The input field that makes an entry a text.
+fn text_of(spot: Spot<'_>, entry: Option<&Entry>) -> Option<Root> {
+    let name = &entry?.name;
+    let form = spot.form(name)?;
+    let card = spot.definer(name.as_slice())?;
+    match (form.kind, &card.spec) {
+        (Kind::Text, Spec::Input(_)) => Some(Root::Text(card.number)),
+        _ => None,
+    }
+}
+
+/// A field that is a text, where numbers are taken or edited: the marked one, or beside a factor 2 of another kind factor 1.
+fn text_root(spot: Spot<'_>) -> Option<Root> {
+    match text_of(spot, spot.entry()) {
+        Some(root) => Some(root),
+        None if spot.column() == 33 => text_of(spot, spot.first_factor()),
+        None => None,
+    }
+}
+
+/// The slip that a fault comes of, where other faults may come of it too: a name that no card defines, or a field that is a text.
+pub fn root_of(source: SourceCards<'_>, line: &[u8], fault: CardFault) -> Option<Root> {
+    let SourceCode::Fault(code) = fault.code else {
+        return None;
+    };
+    let spot = Spot::of(source, line, fault.card, fault.columns)?;
+    match code {
+        FaultCode::F1 => {
+            let name = missing(spot, spot.entry()?);
+            Some(Root::Unknown(padded(name.as_slice())))
+        }
+        FaultCode::F4 | FaultCode::F17 => text_root(spot),
+        _ => None,
+    }
+}

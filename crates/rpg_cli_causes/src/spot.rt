@@ -1,0 +1,183 @@
+//! A fault's card among the others, and what stands there.
+
+use rpg_cards::{Defined, IndexedCards, SpecCard};
+use rpg_cli_text::TextWriter;
+use rpg_effect::form::{Class, FieldForm, Kind};
+use rpg_sheet::{ColumnFault, Entry, EntryIndex, Factor, Word};
+use rpg_text::{first_line, trimmed};
+
+/// The cards of a source that can be read, and its text: none where only the card of the fault is known.
+#[derive(Clone, Copy)]
+pub struct SourceCards<'a> {
+    pub cards: &'a IndexedCards<'a>,
+    pub text: &'a [u8],
+}
+
+/// A card with a fault.
+#[derive(Clone, Copy)]
+pub(crate) struct Spot<'a> {
+    pub source: SourceCards<'a>,
+    pub line: &'a [u8],
+    pub card: &'a SpecCard,
+    pub before: &'a [SpecCard],
+    pub after: &'a [SpecCard],
+    /// The columns that the fault is about; none where it is about the card as a whole.
+    pub columns: Option<ColumnFault>,
+}
+
+/// What stands in columns, counted from 1, without the blanks around it.
+pub(crate) fn text_at(line: &[u8], first: usize, last: usize) -> &[u8] {
+    let before = first.saturating_sub(1);
+    let text = trimmed(line.get(before..last.min(line.len())).unwrap_or(&[]));
+    for (place, byte) in text.iter().enumerate() {
+        if *byte != b' ' {
+            return text.get(place..).unwrap_or(&[]);
+        }
+    }
+    &[]
+}
+
+impl<'a> Spot<'a> {
+    /// The spot of a card by its number.
+    pub fn of(
+        source: SourceCards<'a>,
+        line: &'a [u8],
+        number: u16,
+        columns: Option<ColumnFault>,
+    ) -> Option<Self> {
+        let cards = source.cards.as_slice();
+        let place = cards.iter().position(|card| card.number == number)?;
+        let (card, after) = cards.get(place..)?.split_first()?;
+        Some(Spot {
+            source,
+            line,
+            card,
+            before: cards.get(..place)?,
+            after,
+            columns,
+        })
+    }
+
+    /// The first column that the fault is about.
+    pub fn column(self) -> u8 {
+        match self.columns {
+            Some(columns) => columns.column,
+            None => 0,
+        }
+    }
+
+    /// What stands in the columns that the fault is about.
+    pub fn marked(self) -> &'a [u8] {
+        match self.columns {
+            Some(columns) => text_at(
+                self.line,
+                usize::from(columns.column),
+                usize::from(columns.last),
+            ),
+            None => &[],
+        }
+    }
+
+    /// The name of a calculation's operation.
+    pub fn operation(self) -> &'a [u8] {
+        text_at(self.line, 28, 32)
+    }
+
+    /// What stands in columns of another card; nothing where the text isn't known.
+    pub fn text_of_card(self, number: u16, first: usize, last: usize) -> &'a [u8] {
+        let mut rest = self.source.text;
+        for at in 1..=number {
+            if rest.is_empty() {
+                break;
+            }
+            let (line, behind) = first_line(rest);
+            if at == number {
+                return text_at(line, first, last);
+            }
+            rest = behind;
+        }
+        &[]
+    }
+
+    /// The field that stands in the marked columns.
+    pub fn entry(self) -> Option<&'a Entry> {
+        let Some(calculation) = self.card.calculation() else {
+            return self.card.output_field()?.operand.as_ref();
+        };
+        match self.column() {
+            18 => factor_entry(calculation.factor_1.as_ref()?),
+            33 => factor_entry(calculation.factor_2.as_ref()?),
+            43 => calculation.result_field.as_ref(),
+            _ => None,
+        }
+    }
+
+    /// The field that stands in factor 1 of a calculation.
+    pub fn first_factor(self) -> Option<&'a Entry> {
+        factor_entry(self.card.calculation()?.factor_1.as_ref()?)
+    }
+
+    /// The form of a name.
+    pub fn form(self, name: &Word<6>) -> Option<FieldForm> {
+        match self.source.cards.form_of_name(name) {
+            Defined::Good(form) => Some(form),
+            Defined::Missing | Defined::Bad => None,
+        }
+    }
+
+    /// The first card that defines a name.
+    pub fn definer(self, name: &[u8]) -> Option<&'a SpecCard> {
+        first_defining(self.source.cards.as_slice(), name)
+    }
+}
+
+/// The first of these cards that defines a name.
+pub(crate) fn first_defining<'a>(cards: &'a [SpecCard], name: &[u8]) -> Option<&'a SpecCard> {
+    for card in cards {
+        let definitions = card.definitions();
+        if definitions
+            .as_slice()
+            .iter()
+            .any(|definition| definition.name.as_slice() == name)
+        {
+            return Some(card);
+        }
+    }
+    None
+}
+
+fn factor_entry(factor: &Factor) -> Option<&Entry> {
+    match factor {
+        Factor::Entry(entry) => Some(entry),
+        Factor::Literal(_) => None,
+    }
+}
+
+/// The name of the field that is an entry's index.
+pub(crate) fn index_name(entry: &Entry) -> Option<&Word<6>> {
+    match &entry.index {
+        Some(EntryIndex::Name(name)) => Some(name),
+        Some(EntryIndex::Literal(_)) | None => None,
+    }
+}
+
+/// What a field is: `a number 6.2` has 6 digits, of which 2 are decimals.
+pub(crate) fn write_form(out: &mut TextWriter, form: FieldForm) {
+    let entries = form.entries;
+    match form.class {
+        Class::Array => write!(out, "an array of {entries}, each "),
+        Class::Table => write!(out, "a table of {entries}, each "),
+        Class::Plain | Class::Constant | Class::Date => {}
+    }
+    let length = form.length;
+    match form.kind {
+        Kind::Text if length == 1 => out.write_str("a text of 1 character"),
+        Kind::Text => write!(out, "a text of {length} characters"),
+        Kind::Number => write!(out, "a number {length}.{}", form.decimals),
+    }
+}
+
+/// The card that is meant, in brackets.
+pub(crate) fn write_card(out: &mut TextWriter, card: u16) {
+    write!(out, " (card {card})");
+}

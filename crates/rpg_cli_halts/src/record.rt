@@ -1,0 +1,67 @@
+//! Halt 7: a record that is too long, or that has a byte which is no character.
+
+use rpg_cli_messages::write_byte_cause;
+use rpg_cli_text::TextWriter;
+use rpg_effect::input::InputFile;
+use rpg_text::{is_blank, is_character};
+use rpg_verify::Verified;
+
+/// The most columns of a record in any file.
+const MOST_COLUMNS: usize = 9999;
+
+/// What is wrong with a record.
+#[derive(Clone, Copy)]
+pub(crate) enum BadRecord {
+    /// A byte is no character; its place is counted from 0.
+    Byte(usize),
+    /// The records of its file have so many columns at most.
+    TooLong(usize),
+}
+
+impl BadRecord {
+    /// What is wrong with a record of the primary file, if anything is.
+    pub fn of(program: &Verified, text: &[u8]) -> Option<Self> {
+        if let Some(place) = text.iter().position(|byte| !is_character(*byte)) {
+            return Some(BadRecord::Byte(place));
+        }
+        let length = usize::from(program.program().rows().input_length(InputFile::Primary));
+        if text.len() > length {
+            Some(BadRecord::TooLong(length))
+        } else {
+            None
+        }
+    }
+
+    /// The column that it is about, counted from 1.
+    pub fn column(self) -> usize {
+        match self {
+            BadRecord::Byte(place) => place.saturating_add(1),
+            BadRecord::TooLong(length) => length.saturating_add(1),
+        }
+    }
+
+    /// Writes what is wrong with the record of this text, and how it is mended.
+    pub fn write(self, out: &mut TextWriter, text: &[u8]) {
+        match self {
+            BadRecord::Byte(place) => write_byte_cause(out, text, place),
+            BadRecord::TooLong(length) => write_too_long(out, text, length),
+        }
+    }
+}
+
+fn write_too_long(out: &mut TextWriter, text: &[u8], length: usize) {
+    let count = text.len();
+    if count > MOST_COLUMNS {
+        write!(
+            out,
+            "more than 9,999 columns without a line feed: `fold -b -w {length}` cuts records of one length into lines"
+        );
+        return;
+    }
+    write!(out, "the record has {count} columns");
+    let first = length.saturating_add(1);
+    if is_blank(text.get(length..).unwrap_or(&[])) {
+        write!(out, ", of which {first}-{count} are blank");
+    }
+    write!(out, ", and records of this file have {length}");
+}

@@ -1,0 +1,115 @@
+//! Bytes that are no characters, and lines that are too long, by what they come of.
+
+use rpg_cli_text::TextWriter;
+use rpg_text::is_blank;
+
+/// What is a byte that begins a text, or a part of one, and how to mend it.
+#[derive(Clone, Copy)]
+struct ByteCause(&'static [u8], &'static str);
+
+/// The first that fits is told.
+const CAUSES: [ByteCause; 10] = [
+    ByteCause(b"\t", "a tab: `expand` turns tabs into blanks"),
+    ByteCause(
+        b"\x1a",
+        "the end-of-file mark of DOS (1a): `tr -d '\\032'` takes it away",
+    ),
+    ByteCause(
+        b"\r",
+        "a carriage return that no line feed follows: `tr '\\r' '\\n'` where lines end with it, `tr -d '\\r'` where it stands alone",
+    ),
+    ByteCause(
+        b"\xef\xbb\xbf",
+        "a byte order mark (ef bb bf): `tail -c +4` takes it away",
+    ),
+    ByteCause(
+        b"\xff\xfe",
+        "a byte order mark of UTF-16 (ff fe): `iconv -f UTF-16 -t ASCII` converts the file",
+    ),
+    ByteCause(
+        b"\xfe\xff",
+        "a byte order mark of UTF-16 (fe ff): `iconv -f UTF-16 -t ASCII` converts the file",
+    ),
+    ByteCause(b"\xe2\x80\x98", "a typographic quotation mark: write '"),
+    ByteCause(b"\xe2\x80\x99", "a typographic quotation mark: write '"),
+    ByteCause(b"\xe2\x80\x9c", "a typographic quotation mark: write '"),
+    ByteCause(b"\xe2\x80\x9d", "a typographic quotation mark: write '"),
+];
+
+/// How many bytes of a line tell whether it is EBCDIC.
+const LOOKED_AT: usize = 80;
+
+const EBCDIC: &str = "this looks like EBCDIC: docs/OLD_PROGRAMS.md converts it";
+
+fn cause_of(text: &[u8]) -> Option<&'static str> {
+    for ByteCause(begin, cause) in CAUSES {
+        if text.starts_with(begin) {
+            return Some(cause);
+        }
+    }
+    None
+}
+
+/// Whether a byte is a blank, a letter or a digit of EBCDIC.
+fn is_ebcdic(byte: u8) -> bool {
+    matches!(
+        byte,
+        0x40 | 0x81..=0x89 | 0x91..=0x99 | 0xa2..=0xa9 | 0xc1..=0xc9 | 0xd1..=0xd9 | 0xe2..=0xe9 | 0xf0..=0xf9
+    )
+}
+
+/// Whether more than half of what a line begins with is EBCDIC.
+fn looks_like_ebcdic(line: &[u8]) -> bool {
+    let begin = line.get(..LOOKED_AT).unwrap_or(line);
+    let mut count = 0usize;
+    for byte in begin {
+        if is_ebcdic(*byte) {
+            count = count.saturating_add(1);
+        }
+    }
+    count > begin.len() / 2
+}
+
+/// Writes what a byte of a line, which is no character, comes of and how it is mended. Its place is counted from 0.
+pub fn write_byte_cause(out: &mut TextWriter, line: &[u8], place: usize) {
+    let rest = line.get(place..).unwrap_or(&[]);
+    let byte = rest.first().copied().unwrap_or(0);
+    if looks_like_ebcdic(line) {
+        write!(out, "byte {byte:02x} is no character; {EBCDIC}");
+        return;
+    }
+    match cause_of(rest) {
+        Some(cause) => out.write_str(cause),
+        None if 0xc2 <= byte && byte <= 0xf4 => write!(
+            out,
+            "byte {byte:02x} begins a letter of UTF-8 that isn't ASCII: write one from blank to ~"
+        ),
+        None => write!(
+            out,
+            "byte {byte:02x} is no character: those are from blank to ~"
+        ),
+    }
+}
+
+/// Writes why a line of a source may have more than 80 characters.
+pub(crate) fn write_long_line(out: &mut TextWriter, line: &[u8]) {
+    let count = line.len();
+    let rest = line.get(LOOKED_AT..).unwrap_or(&[]);
+    write!(out, "the line has {count} characters, and a card has 80");
+    if looks_like_ebcdic(line) {
+        write!(out, "; {EBCDIC}");
+    } else if line.iter().any(|byte| *byte == b'\r') {
+        out.write_str(
+            "; its lines end with carriage returns alone: `tr '\\r' '\\n'` makes line feeds of them",
+        );
+    } else if is_blank(rest) {
+        write!(
+            out,
+            "; columns 81-{count} are blank: `cut -c1-80` cuts them off"
+        );
+    } else if count == 96 {
+        out.write_str(
+            "; of a deck of 96 columns `cut -c1-80` keeps the cards (docs/OLD_PROGRAMS.md)",
+        );
+    }
+}
