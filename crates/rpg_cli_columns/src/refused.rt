@@ -5,7 +5,7 @@ use crate::pattern::character_at;
 use crate::range::{Range, range_at};
 use crate::sheets::{ENTRY, NAME, ranges_of};
 use crate::slip::{write_form_type_slip, write_slip};
-use crate::unread::{Unread, unread};
+use crate::unread::{Unread, feature_at};
 use rpg_cli_text::TextWriter;
 use rpg_sheet::ColumnFault;
 
@@ -21,7 +21,7 @@ pub fn write_form_type(out: &mut TextWriter, line: &[u8]) {
     out.write_str("column 6 has \"");
     out.write_shown(&[form]);
     out.write_str("\": ");
-    if let Some(Unread(_, _, _, sentence)) = unread(line, FORM_TYPE) {
+    if let Some(Unread(_, _, _, sentence)) = feature_at(line, FORM_TYPE) {
         out.write_str(sentence);
         return;
     }
@@ -48,7 +48,7 @@ pub fn write_bad_columns(out: &mut TextWriter, line: &[u8], columns: Option<Colu
     };
     let range = range_at(CardKind::of(line), columns);
     write_columns_found(out, line, columns, range);
-    match unread(line, columns) {
+    match feature_at(line, columns) {
         Some(Unread(_, _, pattern, sentence)) => {
             out.write_str(sentence);
             if pattern.is_empty() {

@@ -48,6 +48,6 @@ fn directive(line: &[u8]) -> Option<Unread> {
 }
 
 /// What of RPG II stands in columns that were refused, and the way round; none where they hold no feature that is known here.
-pub(crate) fn unread(line: &[u8], columns: ColumnFault) -> Option<Unread> {
+pub(crate) fn feature_at(line: &[u8], columns: ColumnFault) -> Option<Unread> {
     directive(line).or(first_in(rows_of(CardKind::of(line)), line, columns))
 }

@@ -34,11 +34,13 @@ pub(crate) const SHEETS: [SheetCode; 6] = [
     SheetCode::S6,
 ];
 
-pub(crate) const WARNINGS: [WarningCode; 4] = [
+pub(crate) const WARNINGS: [WarningCode; 6] = [
     WarningCode::W1,
     WarningCode::W2,
     WarningCode::W3,
     WarningCode::W4,
+    WarningCode::W5,
+    WarningCode::W6,
 ];
 
 pub(crate) const HALTS: [Halt; 8] = [

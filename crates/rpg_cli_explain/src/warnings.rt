@@ -1,4 +1,4 @@
-//! The pages of W1 to W4.
+//! The pages of W1 to W6.
 
 use crate::page::{NAMES, Page};
 use rpg_cli_warnings::WarningCode;
@@ -31,6 +31,20 @@ const W4: Page = Page {
     advice: "give the result field more digits (49-51); a product can have as many as both\nfactors together. Digits on the left that have no place are lost, and nothing halts",
 };
 
+const W5: Page = Page {
+    given: NAMES,
+    breaks: "- where no input field has L2 in 59-60:\n\n     OPRINT   T        L2",
+    keeps: "- a level that an input field has, or that a record type, a result or SETON turns on:\n\n     I                                        1   3 REGIONL2\n     OPRINT   T        L2",
+    advice: "write the level into 59-60 of its control field, or take the condition away. A level\nwithout a field is on where a higher one breaks, and at the end",
+};
+
+const W6: Page = Page {
+    given: NAMES,
+    breaks: "- a page number with a condition of its own (23-31):\n\n     O                 01      PAGE      10",
+    keeps: "- PAGE without conditions, on a line with conditions:\n\n     OPRINT   H  1     1P\n     O       OR        OF\n     O                         PAGE      10",
+    advice: "where the page is to begin with 1 again, Z-ADD 0 to PAGE in the calculations, and take\nthe condition away. Here it decides whether PAGE is printed, and counted",
+};
+
 /// The page of a code.
 pub(crate) fn warning_page(code: WarningCode) -> Page {
     match code {
@@ -38,5 +52,7 @@ pub(crate) fn warning_page(code: WarningCode) -> Page {
         WarningCode::W2 => W2,
         WarningCode::W3 => W3,
         WarningCode::W4 => W4,
+        WarningCode::W5 => W5,
+        WarningCode::W6 => W6,
     }
 }

@@ -128,9 +128,37 @@ never_asked_at n c = record { card = c.number; columns = shown_columns n c; kind
 abbrev pub never_asked : ℕ → List SpecCard → Option Warning
 never_asked n cards = if nat_le n 99 && not (is_some (find (asks n) cards)) then option_map (never_asked_at n) (find (shows n) cards) else None
 
+-- ---- levels
+
+abbrev pub is_level : ℕ → Bool
+is_level n = nat_le 101 n && nat_le n 109
+
+abbrev pub is_of_level : ℕ → Option ℕ → Bool
+is_of_level n l = option_map_or (λ x. 100 + x == n) l false
+
+abbrev pub input_has_level : ℕ → InputSpec → Bool
+input_has_level n (input.Type t) = false
+input_has_level n (input.And codes) = false
+input_has_level n (input.Field f) = is_of_level n f.level
+
+abbrev pub spec_has_level : ℕ → Spec → Bool
+spec_has_level n (spec.Input i) = input_has_level n i
+spec_has_level n s = false
+
+-- the card of a control field of a level
+abbrev pub has_level : ℕ → SpecCard → Bool
+has_level n c = spec_has_level n c.spec
+
+abbrev pub no_level_at : ℕ → SpecCard → Warning
+no_level_at n c = record { card = c.number; columns = asked_columns n c; kind = kind.NoLevel n }
+
+-- a level that is asked, that no card turns on, and that no field has: at the first card that asks
+abbrev pub no_level : ℕ → List SpecCard → Option Warning
+no_level n cards = if is_level n && not (list_any (turns_on n) cards) && not (list_any (has_level n) cards) then option_map (no_level_at n) (find (asks n) cards) else None
+
 abbrev pub listed : Option Warning → List Warning
 listed w = option_to_list w
 
 unfoldable pub warnings_up_to : ℕ → List SpecCard → List Warning
 warnings_up_to zero cards = []
-warnings_up_to (suc n) cards = warnings_up_to n cards ++ listed (never_on (suc n) cards) ++ listed (never_asked (suc n) cards)
+warnings_up_to (suc n) cards = warnings_up_to n cards ++ listed (never_on (suc n) cards) ++ listed (never_asked (suc n) cards) ++ listed (no_level (suc n) cards)

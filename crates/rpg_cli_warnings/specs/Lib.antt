@@ -2,4 +2,5 @@
 pub mod Digits
 pub mod Indicators
 pub mod Overlaps
+pub mod Pages
 pub mod Warnings

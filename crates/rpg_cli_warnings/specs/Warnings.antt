@@ -5,9 +5,10 @@ use Rattle.rpg_cards.specs.declared.spec_card.SpecCard.{SpecCard}
 use Rattle.rpg_cli_warnings.specs.Digits.{shorter_on}
 use Rattle.rpg_cli_warnings.specs.Indicators.{warnings_up_to}
 use Rattle.rpg_cli_warnings.specs.Overlaps.{overlaps_from}
+use Rattle.rpg_cli_warnings.specs.Pages.{page_on}
 use Rattle.rpg_cli_warnings.specs.declared.warning.Warning.{Warning}
 use Rattle.rpg_cli_warnings.specs.declared.warning.WarningCode.{WarningCode}
-use Rattle.rpg_cli_warnings.specs.declared.warning.WarningCode.TheVariants.{W1, W2, W3, W4}
+use Rattle.rpg_cli_warnings.specs.declared.warning.WarningCode.TheVariants.{W1, W2, W3, W4, W5, W6}
 use Rattle.rpg_cli_warnings.specs.declared.warning.WarningKind.{WarningKind}
 use Rattle.rpg_cli_warnings.specs.declared.warning.WarningKind.TheVariants as kind
 
@@ -16,7 +17,9 @@ code (kind.NeverOn n) = W1
 code (kind.NeverAsked n) = W2
 code (kind.Overlap first last card) = W3
 code (kind.Shorter r f) = W4
+code (kind.NoLevel n) = W5
+code kind.PageConditions = W6
 
--- of all 129 indicators, of fields over each other, of results that are too short
+-- of all 129 indicators, of fields over each other, of results that are too short, of page numbers
 abbrev pub warnings_of : List SpecCard → List Warning
-warnings_of cards = warnings_up_to 129 cards ++ overlaps_from cards [] cards ++ filter_map (shorter_on cards) cards
+warnings_of cards = warnings_up_to 129 cards ++ overlaps_from cards [] cards ++ filter_map (shorter_on cards) cards ++ filter_map page_on cards

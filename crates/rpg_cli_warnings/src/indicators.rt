@@ -1,9 +1,10 @@
-//! W1 and W2: indicators that are asked and never turned on, or turned on and never asked.
+//! W1, W2 and W5: indicators that are asked and never turned on, or turned on and never asked, and levels that no field has.
 
 ghost use Rattle.std.specs.Prelude.{◌≡◌, ◌++◌, ◌≤◌, OnOk};
 ghost use Rattle.rpg_cli_warnings.specs.Indicators as indicators;
 
 use crate::asking::{asked_columns, first_asking};
+use crate::levels::any_has_level;
 use crate::turning::{any_turns_on, first_showing, shown_columns};
 use crate::warning::{Warning, WarningKind};
 use rpg_cards::SpecCard;
@@ -50,6 +51,26 @@ fn never_asked(cards: &[SpecCard], indicator: u8) -> Option<Warning>
     }
 }
 
+/// A level, L1 to L9, that is asked, that no card turns on and that no field has, told at the first card that asks.
+fn no_level(cards: &[SpecCard], indicator: u8) -> Option<Warning>
+    ensures { result ≡ indicators.no_level indicator cards.now }
+{
+    if !(101 <= indicator && indicator <= 109)
+        || any_turns_on(cards, indicator)
+        || any_has_level(cards, indicator)
+    {
+        return None;
+    }
+    match first_asking(cards, indicator) {
+        None => None,
+        Some(card) => Some(Warning {
+            card: card.number,
+            columns: asked_columns(card, indicator),
+            kind: WarningKind::NoLevel { indicator },
+        }),
+    }
+}
+
 /// Appends a warning, if there is one.
 pub(crate) fn put(warnings: &mut Vec<Warning>, warning: Option<Warning>) -> Result<(), AllocError>
     ensures { OnOk result (warnings.new.items ≡ warnings.old.items ++ indicators.listed warning) }
@@ -73,6 +94,7 @@ pub(crate) fn put_indicators(
         indicator += 1;
         put(warnings, never_on(cards, indicator))?;
         put(warnings, never_asked(cards, indicator))?;
+        put(warnings, no_level(cards, indicator))?;
     }
     Ok(())
 }

@@ -5,8 +5,10 @@
 mod asking;
 mod digits;
 mod indicators;
+mod levels;
 mod messages;
 mod overlaps;
+mod pages;
 mod turning;
 mod warning;
 mod warnings;

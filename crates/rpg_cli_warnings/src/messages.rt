@@ -39,6 +39,16 @@ fn write_sentence(out: &mut TextWriter, kind: WarningKind) {
             write_places(out, first, last);
             write!(out, " of the line, and lies over that of card {card}");
         }
+        WarningKind::NoLevel { indicator } => {
+            let indicator = Indicator(indicator);
+            write!(
+                out,
+                "{indicator} is asked for, and no field has control level {indicator}"
+            );
+        }
+        WarningKind::PageConditions => out.write_str(
+            "PAGE has conditions: they decide whether it is printed, and don't set it back to 1 (docs/OLD_PROGRAMS.md)",
+        ),
         WarningKind::Shorter { result, factor } => {
             let of_digits = if result == 1 { "" } else { "s" };
             write!(

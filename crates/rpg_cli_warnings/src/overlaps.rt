@@ -24,7 +24,7 @@ pub struct Placed {
 }
 
 /// Whether a field is put out with each line: one with conditions may stand where another does.
-fn is_always_out(field: &OutputField) -> bool
+pub(crate) fn is_always_out(field: &OutputField) -> bool
     ensures { result ≡ overlaps.is_always_out field.now }
 {
     let conditions = field.conditions;

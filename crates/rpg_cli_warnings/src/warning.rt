@@ -12,6 +12,8 @@ pub enum WarningCode {
     W2,
     W3,
     W4,
+    W5,
+    W6,
 }
 
 impl WarningCode {
@@ -21,6 +23,8 @@ impl WarningCode {
             WarningCode::W2 => "W2",
             WarningCode::W3 => "W3",
             WarningCode::W4 => "W4",
+            WarningCode::W5 => "W5",
+            WarningCode::W6 => "W6",
         }
     }
 
@@ -31,6 +35,8 @@ impl WarningCode {
             WarningCode::W2 => "an indicator is turned on, and no card asks for it",
             WarningCode::W3 => "a field lies over another of the same line",
             WarningCode::W4 => "a result has fewer digits before its point than a factor",
+            WarningCode::W5 => "a control level is asked for, and no field has it",
+            WarningCode::W6 => "PAGE has conditions, and isn't set back to 1",
         }
     }
 }
@@ -57,6 +63,12 @@ pub enum WarningKind {
         result: u16,
         factor: u16,
     },
+    /// It asks for a control level that no field has.
+    NoLevel {
+        indicator: u8,
+    },
+    /// It puts PAGE out under conditions.
+    PageConditions,
 }
 
 impl WarningKind {
@@ -68,6 +80,8 @@ impl WarningKind {
             WarningKind::NeverAsked { .. } => WarningCode::W2,
             WarningKind::Overlap { .. } => WarningCode::W3,
             WarningKind::Shorter { .. } => WarningCode::W4,
+            WarningKind::NoLevel { .. } => WarningCode::W5,
+            WarningKind::PageConditions => WarningCode::W6,
         }
     }
 }
