@@ -1,0 +1,114 @@
+//! What the cards of a deck say of a file's records.
+
+ghost use Rattle.std.specs.Prelude.{◌≡◌, ◌+◌, ◌-◌, ◌≤◌, IsTrue};
+ghost use Rattle.rpg_record_lines.specs.Fields.{digit_count, is_field_size};
+
+use rpg_records::Column;
+
+/// How the bytes of a number stand.
+#[derive(Clone, Copy, PartialEq, Eq)]
+pub enum NumberForm {
+    Packed,
+    Binary,
+}
+
+impl NumberForm {
+    /// Whether a field may have so many bytes: 1 to 8 packed ones, 2 or 4 binary ones.
+    pub fn allows(self, bytes: u16) -> bool
+        ensures { result ≡ is_field_size self bytes }
+    {
+        match self {
+            NumberForm::Packed => 1 <= bytes && bytes <= 8,
+            NumberForm::Binary => bytes == 2 || bytes == 4,
+        }
+    }
+}
+
+/// A field of packed or binary bytes. Columns are counted from 1.
+#[derive(Clone, Copy)]
+pub struct NumberField {
+    /// Its card.
+    pub card: u16,
+    pub first: u16,
+    pub last: u16,
+    pub form: NumberForm,
+    ghost from_one: { 1 ≤ first },
+    ghost ordered: { first ≤ last },
+    ghost size: { IsTrue (is_field_size form (last + 1 - first)) },
+}
+
+impl NumberField {
+    ghost use Rattle.rpg_record_lines.specs.Numbers.{field_digits, field_size};
+
+    /// How many bytes it has: 1 to 8.
+    pub fn size(&self) -> usize
+        ensures value { result ≡ field_size self.now }
+        ensures low { 1 ≤ result }
+        ensures high { result ≤ 8 }
+    {
+        usize::from(self.last - self.first) + 1
+    }
+
+    /// How many digits its number has: 1 to 15.
+    pub fn digit_count(&self) -> usize
+        ensures value { result ≡ field_digits self.now }
+        ensures low { 1 ≤ result }
+        ensures high { result ≤ 15 }
+    {
+        match self.form {
+            NumberForm::Packed => self.size() * 2 - 1,
+            NumberForm::Binary if self.size() == 2 => 4,
+            NumberForm::Binary => 9,
+        }
+    }
+}
+
+/// A character that stands at a place of a record, counted from 0, or that doesn't where it is negated.
+#[derive(Clone, Copy)]
+pub struct Code {
+    pub place: usize,
+    pub is_negated: bool,
+    pub character: u8,
+}
+
+/// A record type: its card, its codes, what stands in each of its columns, and its packed and binary fields.
+#[derive(Drop)]
+pub struct RecordType {
+    pub card: u16,
+    pub codes: Vec<Code>,
+    pub columns: Vec<Column>,
+    pub numbers: Vec<NumberField>,
+}
+
+impl RecordType {
+    /// How many digits stand after the record's columns.
+    pub fn digit_count(&self) -> usize {
+        let mut digits = 0usize;
+        for field in self.numbers.as_slice() {
+            digits = digits.saturating_add(field.digit_count());
+        }
+        digits
+    }
+}
+
+/// The layout of a file's records.
+#[derive(Drop)]
+pub struct Layout {
+    /// The card that describes the file.
+    pub card: u16,
+    /// How many bytes a record has: 1 to 9,999.
+    pub length: u16,
+    /// A record is of the first of these all of whose codes hold.
+    pub types: Vec<RecordType>,
+}
+
+impl Layout {
+    /// How many columns the longest line has.
+    pub fn columns(&self) -> usize {
+        let mut most = 0;
+        for kind in self.types.as_slice() {
+            most = most.max(kind.digit_count());
+        }
+        most.saturating_add(usize::from(self.length))
+    }
+}

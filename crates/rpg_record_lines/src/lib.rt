@@ -1,0 +1,17 @@
+//! Records of a layout as lines that rpg2 reads, and lines as such records.
+#![tactic(auto)]
+
+mod conversion;
+mod fault;
+mod frames;
+mod layout;
+mod line;
+mod numbers;
+mod record;
+
+pub use conversion::{ConversionFault, Counts, RecordFormat, lines_to_records, records_to_lines};
+pub use fault::{FieldBytes, LineFault, NumberFault, RecordFault};
+pub use frames::Framing;
+pub use layout::{Code, Layout, NumberField, NumberForm, RecordType};
+pub use line::Converter;
+pub use rpg_records::{Column, Page};
