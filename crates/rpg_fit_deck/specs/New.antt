@@ -1,0 +1,46 @@
+-- The cards of NEW, by those of the source and what becomes of each. A source's cards are its lines.
+use Rattle.std.specs.Prelude.{◌≡◌, ℕ, Bool, true, ◌==◌, ◌⊎◌, List, [], ◌∷◌, ◌++◌, map, vec_len, if◌then◌else◌}
+use Rattle.std.specs.List.{flat_map, list_all}
+use Rattle.rpg_text.specs.Lines.{with_line_feed}
+use Rattle.rpg_text.specs.Texts.{trimmed}
+use Rattle.rpg_fit_deck.specs.declared.here.Here.{Here}
+use Rattle.rpg_fit_deck.specs.declared.here.Here.TheVariants.{Kept, Changed, Gone}
+use Rattle.rpg_fit_deck.specs.declared.slot.Made.{Made}
+use Rattle.rpg_fit_deck.specs.declared.slot.Slot.{Slot}
+
+abbrev pub made_lines : List Made → List (List ℕ)
+made_lines cards = map (λ m. trimmed m.card.columns) cards
+
+-- what stands at the place of a card
+abbrev pub lines_here : List ℕ → Here → List (List ℕ)
+lines_here card Kept = card ∷ []
+lines_here _ (Changed card) = trimmed card.columns ∷ []
+lines_here _ Gone = []
+
+-- for each card of the source, in their order: the cards made before it, and what stands at its place
+abbrev pub new_cards : List (List ℕ) → List Slot → List (List ℕ)
+new_cards [] _ = []
+new_cards (card ∷ cards) [] = card ∷ new_cards cards []
+new_cards (card ∷ cards) (slot ∷ slots) = made_lines slot.before.items ++ lines_here card slot.here ++ new_cards cards slots
+
+abbrev pub is_untold : Slot → Bool
+is_untold slot = vec_len slot.told == 0
+
+abbrev pub nothing_told : List Slot → Bool
+nothing_told slots = list_all is_untold slots
+
+-- the cards of which nothing is told
+abbrev pub untold : List (List ℕ) → List Slot → List (List ℕ)
+untold [] _ = []
+untold (card ∷ cards) [] = card ∷ untold cards []
+untold (card ∷ cards) (slot ∷ slots) = if is_untold slot then card ∷ untold cards slots else untold cards slots
+
+-- some of a list's members, in their order
+abbrev pub IsPart : List (List ℕ) → List (List ℕ) → Type 0
+IsPart [] _ = Unit {0}
+IsPart (x ∷ xs) [] = ⊥
+IsPart (x ∷ xs) (y ∷ ys) = ((x ≡ y) × IsPart xs ys) ⊎ IsPart (x ∷ xs) ys
+
+-- cards that aren't told keep their bytes and their order
+abbrev pub KeepsUntold : Type 0
+KeepsUntold = (cards : List (List ℕ)) (slots : List Slot) → IsPart (untold cards slots) (new_cards cards slots)

@@ -1,0 +1,143 @@
+//! Cards: 80 columns, counted from 1.
+
+ghost use Rattle.std.specs.Prelude.{◌≡◌};
+ghost use Rattle.rpg_text.specs.Texts.{trimmed};
+
+use rpg_text::{is_blank, trimmed};
+
+/// How many columns a card has.
+const COLUMNS: usize = 80;
+
+/// A card's 80 columns.
+#[derive(Clone, Copy)]
+pub struct Card {
+    columns: [u8; 80],
+}
+
+impl Card {
+    /// The first 80 characters of a line, and blanks behind it.
+    pub fn of(line: &[u8]) -> Card {
+        let mut card = Card {
+            columns: [b' '; COLUMNS],
+        };
+        card.put(1, COLUMNS, line);
+        card
+    }
+
+    /// A card of a form, blank but for its column 6.
+    pub fn of_form(form: u8) -> Card {
+        let mut card = Card::of(&[]);
+        card.put_column(6, form);
+        card
+    }
+
+    /// The character in a column; a blank where there is no such column.
+    pub fn column(&self, column: usize) -> u8 {
+        match self.columns.get(column.saturating_sub(1)) {
+            Some(character) => *character,
+            None => b' ',
+        }
+    }
+
+    /// The columns from the first to the last.
+    pub fn columns(&self, first: usize, last: usize) -> &[u8] {
+        self.columns
+            .get(first.saturating_sub(1)..last)
+            .unwrap_or(&[])
+    }
+
+    /// What stands in columns, without the blanks on both sides.
+    pub fn value(&self, first: usize, last: usize) -> &[u8] {
+        without_blanks(trimmed(self.columns(first, last)))
+    }
+
+    /// Whether columns are blank.
+    pub fn is_blank(&self, first: usize, last: usize) -> bool {
+        is_blank(self.columns(first, last))
+    }
+
+    /// The number in columns; none where they aren't digits behind blanks.
+    pub fn number(&self, first: usize, last: usize) -> Option<usize> {
+        number(self.value(first, last))
+    }
+
+    /// Its form: column 6.
+    pub fn form(&self) -> u8 {
+        self.column(6)
+    }
+
+    /// Whether it is a comment, or has nothing at all.
+    pub fn is_comment(&self) -> bool {
+        self.column(7) == b'*' || is_blank(&self.columns)
+    }
+
+    /// Puts a character in a column.
+    pub fn put_column(&mut self, column: usize, character: u8) {
+        if let Some(there) = self.columns.get_mut(column.saturating_sub(1)) {
+            *there = character;
+        }
+    }
+
+    /// Puts a text in columns, from the first on, and blanks behind it.
+    pub fn put(&mut self, first: usize, last: usize, text: &[u8]) {
+        for place in 0..last.saturating_add(1).saturating_sub(first) {
+            let character = match text.get(place) {
+                Some(character) => *character,
+                None => b' ',
+            };
+            self.put_column(first.saturating_add(place), character);
+        }
+    }
+
+    /// This card with a text in columns, from the first on, and blanks behind it.
+    pub fn with(mut self, first: usize, last: usize, text: &[u8]) -> Card {
+        self.put(first, last, text);
+        self
+    }
+
+    /// This card with a text at the end of columns, and blanks before it.
+    pub fn with_right(mut self, first: usize, last: usize, text: &[u8]) -> Card {
+        self.put(first, last, &[]);
+        self.put(
+            last.saturating_add(1).saturating_sub(text.len()).max(first),
+            last,
+            text,
+        );
+        self
+    }
+
+    /// This card as the rules make it: without the number of a page and line in columns 1 to 5.
+    pub fn made(self) -> Card {
+        self.with(1, 5, &[])
+    }
+
+    /// Its text, without the blanks at its end.
+    pub fn text(&self) -> &[u8]
+        ensures { result.now ≡ trimmed self.now.columns }
+    {
+        trimmed(&self.columns)
+    }
+}
+
+/// A text without the blanks in front of it.
+fn without_blanks(text: &[u8]) -> &[u8] {
+    let blanks = text
+        .iter()
+        .take_while(|character| **character == b' ')
+        .count();
+    text.get(blanks..).unwrap_or(&[])
+}
+
+/// The number that a text of digits is.
+fn number(text: &[u8]) -> Option<usize> {
+    let mut total: usize = 0;
+    for character in text {
+        if !character.is_ascii_digit() {
+            return None;
+        }
+        total = total
+            .saturating_mul(10)
+            .saturating_add(usize::from(character.saturating_sub(b'0')));
+    }
+    if text.is_empty() { None } else { Some(total) }
+}

@@ -1,0 +1,23 @@
+//! The lines that begin data and end a source.
+
+/// A character of a line, or another one behind its end.
+fn character_at(line: &[u8], place: usize, behind: u8) -> u8 {
+    match line.get(place) {
+        Some(character) => *character,
+        None => behind,
+    }
+}
+
+/// Whether a line is the card `/*`, which ends a source.
+pub(crate) fn ends_source(line: &[u8]) -> bool {
+    character_at(line, 0, b' ') == b'/'
+        && character_at(line, 1, b' ') == b'*'
+        && character_at(line, 2, b' ') == b' '
+}
+
+/// Whether a line is a card `**`, behind which data begin.
+pub(crate) fn begins_data(line: &[u8]) -> bool {
+    character_at(line, 0, b' ') == b'*'
+        && character_at(line, 1, b' ') == b'*'
+        && character_at(line, 2, b' ') == b' '
+}

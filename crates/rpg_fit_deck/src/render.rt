@@ -1,0 +1,165 @@
+//! NEW, by the source and what becomes of its cards.
+
+ghost use Rattle.std.specs.Prelude.{◌≡◌, ◌++◌, ◌≤◌, length, map, true, false, IfOk, OnOk};
+ghost use Rattle.std.specs.List.{flat_map};
+ghost use Rattle.std.specs.Str.Lines.{lines};
+ghost use Rattle.rpg_text.specs.Lines.{with_line_feed};
+ghost use Rattle.rpg_fit_deck.specs.New.{KeepsUntold, lines_here, made_lines, new_cards, nothing_told};
+
+use crate::here::Here;
+use crate::slot::{Made, Slot};
+use rpg_text::first_line;
+use std::alloc::{AllocError, Global};
+
+/// How many cards a deck has at most.
+pub(crate) const MOST_CARDS: usize = 2000;
+
+/// Why there is no NEW.
+#[derive(Clone, Copy, PartialEq, Eq)]
+pub enum RenderError {
+    /// The source has more than 2,000 cards, or NEW would have.
+    TooMany,
+    NoMemory,
+}
+
+impl From<AllocError> for RenderError {
+    fn from(_: AllocError) -> Self {
+        RenderError::NoMemory
+    }
+}
+
+/// The lines of a source.
+pub(crate) fn lines_of<'a>(alloc: Global, source: &'a [u8]) -> Result<Vec<&'a [u8]>, AllocError>
+    ensures { IfOk result (λ found. map (λ line. line.now) found.items ≡ lines source.now) }
+{
+    let mut found = Vec::new(alloc);
+    let mut rest = source;
+    while !rest.is_empty() {
+        let (line, more) = first_line(rest);
+        found.push(line)?;
+        rest = more;
+    }
+    Ok(found)
+}
+
+/// Whether nothing is told of any card.
+fn is_nothing_told(slots: &[Slot]) -> bool
+    ensures { result ≡ nothing_told slots.now }
+{
+    slots.iter().all(|slot| slot.told.is_empty())
+}
+
+fn push_made<'b>(cards: &mut Vec<&'b [u8]>, made: &'b [Made]) -> Result<(), AllocError>
+    ensures { OnOk result (map (λ line. line.now) cards.new.items ≡ map (λ line. line.now) cards.old.items ++ made_lines made.now) }
+{
+    for one in made {
+        cards.push(one.card.text())?;
+    }
+    Ok(())
+}
+
+fn push_here<'b>(
+    cards: &mut Vec<&'b [u8]>,
+    line: &'b [u8],
+    here: &'b Here,
+) -> Result<(), AllocError>
+    ensures { OnOk result (map (λ line. line.now) cards.new.items ≡ map (λ line. line.now) cards.old.items ++ lines_here line.now here.now) }
+{
+    match here {
+        Here::Kept => cards.push(line)?,
+        Here::Changed(card) => cards.push(card.text())?,
+        Here::Gone => {}
+    }
+    Ok(())
+}
+
+/// NEW's cards.
+fn cards_of<'b>(
+    alloc: Global,
+    lines: &[&'b [u8]],
+    slots: &'b [Slot],
+) -> Result<Vec<&'b [u8]>, AllocError>
+    ensures { IfOk result (λ cards. map (λ line. line.now) cards.items ≡ new_cards (map (λ line. line.now) lines.now) slots.now) }
+{
+    let mut cards = Vec::new(alloc);
+    let mut rest = slots;
+    for line in lines {
+        match rest {
+            [slot, more @ ..] => {
+                push_made(&mut cards, slot.before.as_slice())?;
+                push_here(&mut cards, line, &slot.here)?;
+                rest = more;
+            }
+            [] => cards.push(line)?,
+        }
+    }
+    Ok(cards)
+}
+
+/// Cards as a text.
+fn text(alloc: Global, cards: &[&[u8]]) -> Result<Vec<u8>, AllocError>
+    ensures { IfOk result (λ out. out.items ≡ flat_map with_line_feed (map (λ line. line.now) cards.now)) }
+{
+    let mut out = Vec::new(alloc);
+    for card in cards {
+        out.extend_from_slice(card)?;
+        out.push(b'\n')?;
+    }
+    Ok(out)
+}
+
+/// NEW, and how many cards its source has.
+#[derive(Drop)]
+pub(crate) struct Rendered {
+    pub new: Vec<u8>,
+    pub cards: usize,
+}
+
+/// NEW: the source as it is where nothing is told of any card.
+pub(crate) fn render<'b>(
+    alloc: Global,
+    source: &'b [u8],
+    slots: &'b [Slot],
+    end: &'b [Made],
+) -> Result<Rendered, RenderError>
+    ensures as_it_was { IfOk result (λ done. nothing_told slots.now ≡ true → done.new.items ≡ source.now) }
+    ensures its_cards { IfOk result (λ done. nothing_told slots.now ≡ false → done.new.items ≡ flat_map with_line_feed (new_cards (lines source.now) slots.now ++ made_lines end.now)) }
+    ensures few_cards { IfOk result (λ done. nothing_told slots.now ≡ false → length (new_cards (lines source.now) slots.now ++ made_lines end.now) ≤ 2000) }
+    ensures cards { IfOk result (λ done. done.cards ≡ length (lines source.now)) }
+    ensures few { IfOk result (λ done. done.cards ≤ 2000) }
+{
+    let lines = lines_of(alloc, source)?;
+    let cards = lines.len();
+    if cards > MOST_CARDS {
+        return Err(RenderError::TooMany);
+    }
+    if is_nothing_told(slots) {
+        let new = Vec::from_slice(alloc, source)?;
+        return Ok(Rendered { new, cards });
+    }
+    let new = new_text(alloc, lines.as_slice(), slots, end)?;
+    Ok(Rendered { new, cards })
+}
+
+/// NEW's cards as a text.
+fn new_text<'b>(
+    alloc: Global,
+    lines: &[&'b [u8]],
+    slots: &'b [Slot],
+    end: &'b [Made],
+) -> Result<Vec<u8>, RenderError>
+    ensures its_cards { IfOk result (λ new. new.items ≡ flat_map with_line_feed (new_cards (map (λ line. line.now) lines.now) slots.now ++ made_lines end.now)) }
+    ensures few_cards { IfOk result (λ _. length (new_cards (map (λ line. line.now) lines.now) slots.now ++ made_lines end.now) ≤ 2000) }
+{
+    let mut cards = cards_of(alloc, lines, slots)?;
+    push_made(&mut cards, end)?;
+    if cards.len() > MOST_CARDS {
+        return Err(RenderError::TooMany);
+    }
+    Ok(text(alloc, cards.as_slice())?)
+}
+
+/// A law of the definition: cards that aren't told keep their bytes and their order. It does nothing.
+pub(crate) fn cards_that_are_not_told_are_kept()
+    ensures { KeepsUntold }
+{}

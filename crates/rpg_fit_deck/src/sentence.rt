@@ -1,0 +1,101 @@
+//! What is told of cards.
+
+use crate::word::Word;
+
+/// The rules, in their order. A rule's number is its code: A1 to A21.
+#[derive(Clone, Copy, PartialEq, Eq)]
+pub enum Rule {
+    Comments,
+    Columns,
+    Switches,
+    Forms,
+    Tables,
+    OrTypes,
+    Sequence,
+    NumberedPages,
+    OrSpaces,
+    Figures,
+    Moves,
+    InputArrays,
+    WholeCalculations,
+    WholeOutputs,
+    Places,
+    Pages,
+    Words,
+    Dollars,
+    Fetch,
+    Dates,
+    Disks,
+}
+
+impl Rule {
+    /// The number in its code, from 1.
+    pub fn number(self) -> u8 {
+        self as u8 + 1
+    }
+}
+
+/// A sentence, with a word for each `%` in it.
+#[derive(Clone, Copy)]
+pub struct Sentence {
+    pub text: &'static str,
+    pub words: [Word; 4],
+}
+
+impl Sentence {
+    /// A sentence without words of its own.
+    pub fn of(text: &'static str) -> Sentence {
+        Sentence {
+            text,
+            words: [Word::empty(); 4],
+        }
+    }
+
+    /// A sentence about a word.
+    pub fn about(text: &'static str, word: Word) -> Sentence {
+        Sentence {
+            text,
+            words: [word, Word::empty(), Word::empty(), Word::empty()],
+        }
+    }
+
+    /// A sentence about three words.
+    pub fn of_three(text: &'static str, first: Word, second: Word, third: Word) -> Sentence {
+        Sentence {
+            text,
+            words: [first, second, third, Word::empty()],
+        }
+    }
+
+    /// A sentence about two words.
+    pub fn of_two(text: &'static str, first: Word, second: Word) -> Sentence {
+        Sentence {
+            text,
+            words: [first, second, Word::empty(), Word::empty()],
+        }
+    }
+}
+
+/// What is told of a card: a change, or that the card is changed along with another one's.
+#[derive(Clone, Copy)]
+pub struct Told {
+    pub rule: Rule,
+    pub what: What,
+}
+
+/// A change, or that a card goes along with one.
+#[derive(Clone, Copy)]
+pub enum What {
+    Change(Sentence),
+    /// With the change that is told of the card of this number.
+    With(usize),
+}
+
+/// Why a deck can't be rewritten.
+#[derive(Clone, Copy)]
+pub struct Refusal {
+    /// The card, from 1.
+    pub card: usize,
+    pub rule: Rule,
+    pub why: Sentence,
+}

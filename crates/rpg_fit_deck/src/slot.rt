@@ -1,0 +1,117 @@
+//! The place of a card: the cards made before it, what becomes of it, and what is told of it.
+
+ghost use Rattle.std.specs.Prelude.{◌≡◌, ◌<◌, true, vec_len, length, IfSome};
+ghost use Rattle.rpg_fit_deck.specs.Kept.{is_kept};
+
+use crate::card::Card;
+use crate::here::Here;
+use crate::sentence::{Rule, Told, What};
+use std::alloc::{AllocError, Global};
+
+/// A card that a rule made.
+#[derive(Clone, Copy)]
+pub(crate) struct Made {
+    /// Its own number among the made cards, from 1.
+    pub id: usize,
+    /// The number of the card that it was made for.
+    pub from: usize,
+    pub card: Card,
+}
+
+/// The place of a card of the source.
+#[derive(Drop)]
+pub(crate) struct Slot {
+    pub before: Vec<Made>,
+    pub here: Here,
+    pub told: Vec<Told>,
+    ghost told_if_changed: { vec_len told ≡ 0 → is_kept here ≡ true },
+}
+
+impl Slot {
+    /// A card as it is.
+    pub fn new(alloc: Global) -> Slot {
+        Slot {
+            before: Vec::new(alloc),
+            here: Here::Kept,
+            told: Vec::new(alloc),
+        }
+    }
+
+    /// Tells something of the card.
+    pub fn tell(&mut self, told: Told) -> Result<(), AllocError> {
+        self.told.push(told)?;
+        Ok(())
+    }
+
+    /// Whether a rule has told something of the card.
+    fn is_told_by(&self, rule: Rule) -> bool {
+        self.told.iter().any(|told| told.rule == rule)
+    }
+
+    /// Tells that the card goes along with another one's change, unless the rule has told something of it.
+    pub fn tell_with(&mut self, rule: Rule, with: usize) -> Result<(), AllocError> {
+        if !self.is_told_by(rule) || self.told.is_empty() {
+            self.told.push(Told {
+                rule,
+                what: What::With(with),
+            })?;
+        }
+        Ok(())
+    }
+
+    /// Puts something else in the card's place.
+    pub fn set(&mut self, here: Here, rule: Rule, with: usize) -> Result<(), AllocError> {
+        self.tell_with(rule, with)?;
+        if !self.told.is_empty() {
+            self.here = here;
+        }
+        Ok(())
+    }
+
+    /// Puts something else in the place of a made card.
+    pub fn set_made(&mut self, id: usize, here: Here) -> Result<(), AllocError> {
+        set_made(&mut self.before, id, here)
+    }
+
+    /// Puts a made card before another made one, or before the card (0).
+    pub fn insert(
+        &mut self,
+        id: usize,
+        made: Made,
+        rule: Rule,
+        with: usize,
+    ) -> Result<(), AllocError> {
+        self.tell_with(rule, with)?;
+        insert_made(&mut self.before, id, made)
+    }
+}
+
+/// The place of a made card.
+fn place_of(cards: &[Made], id: usize) -> Option<usize>
+    ensures { IfSome result (λ place. place < length cards.now) }
+{
+    cards.iter().position(|made| made.id == id)
+}
+
+/// Puts something else in the place of a made card.
+pub(crate) fn set_made(cards: &mut Vec<Made>, id: usize, here: Here) -> Result<(), AllocError> {
+    if let Some(place) = place_of(cards.as_slice(), id) {
+        match here {
+            Here::Kept => {}
+            Here::Changed(card) => cards[place].card = card,
+            Here::Gone => {
+                let _ = cards.remove(place);
+            }
+        }
+    }
+    Ok(())
+}
+
+/// Puts a made card before another one, or behind all.
+pub(crate) fn insert_made(cards: &mut Vec<Made>, id: usize, made: Made) -> Result<(), AllocError> {
+    match place_of(cards.as_slice(), id) {
+        Some(place) => cards.insert(place, made)?,
+        None => cards.push(made)?,
+    }
+    Ok(())
+}

@@ -1,0 +1,123 @@
+//! The cards as they are now, as rules look at them.
+
+use crate::card::Card;
+use crate::here::Here;
+use crate::slot::{Made, Slot};
+use std::alloc::{AllocError, Global};
+
+/// Where a card is: the place of a card of the source, and the number of a card made before it, or 0.
+#[derive(Clone, Copy, PartialEq, Eq)]
+pub struct Address {
+    pub(crate) slot: usize,
+    pub(crate) made: usize,
+}
+
+/// A card, where it is, and the number of its card of the source.
+#[derive(Clone, Copy)]
+pub struct Seen {
+    pub at: Address,
+    pub number: usize,
+    pub card: Card,
+    /// How many columns its line has.
+    pub width: usize,
+}
+
+/// The cards of a deck and the lines of its data, in their order.
+#[derive(Drop)]
+pub struct View {
+    /// The cards before the first card `**`.
+    pub cards: Vec<Seen>,
+    /// The data, cards `**` among them.
+    pub data: Vec<Seen>,
+    /// Behind the cards.
+    pub cards_end: Address,
+    /// Behind all.
+    pub end: Address,
+    in_data: bool,
+}
+
+impl View {
+    pub(crate) fn new(alloc: Global, lines: usize) -> View {
+        let end = Address {
+            slot: lines,
+            made: 0,
+        };
+        View {
+            cards: Vec::new(alloc),
+            data: Vec::new(alloc),
+            cards_end: end,
+            end,
+            in_data: false,
+        }
+    }
+
+    /// From here on lines are data.
+    fn begin_data(&mut self, slot: usize) {
+        if !self.in_data {
+            self.in_data = true;
+            self.cards_end = Address { slot, made: 0 };
+        }
+    }
+
+    /// The source ends here.
+    pub(crate) fn end_at(&mut self, slot: usize) {
+        self.end = Address { slot, made: 0 };
+        if !self.in_data {
+            self.cards_end = self.end;
+        }
+    }
+
+    fn push(&mut self, seen: Seen) -> Result<(), AllocError> {
+        if self.in_data {
+            self.data.push(seen)?;
+        } else {
+            self.cards.push(seen)?;
+        }
+        Ok(())
+    }
+
+    pub(crate) fn push_made(&mut self, slot: usize, cards: &[Made]) -> Result<(), AllocError> {
+        for made in cards {
+            let at = Address {
+                slot,
+                made: made.id,
+            };
+            self.push(Seen {
+                at,
+                number: made.from,
+                card: made.card,
+                width: 80,
+            })?;
+        }
+        Ok(())
+    }
+
+    /// A card's place: the cards made before it, and what stands there.
+    pub(crate) fn push_slot(
+        &mut self,
+        place: usize,
+        line: &[u8],
+        slot: &Slot,
+        begins_data: bool,
+    ) -> Result<(), AllocError> {
+        self.push_made(place, slot.before.as_slice())?;
+        if begins_data {
+            self.begin_data(place);
+        }
+        let (card, width) = match slot.here {
+            Here::Kept => (Card::of(line), line.len()),
+            Here::Changed(card) => (card, 80),
+            Here::Gone => return Ok(()),
+        };
+        let at = Address {
+            slot: place,
+            made: 0,
+        };
+        self.push(Seen {
+            at,
+            number: place.saturating_add(1),
+            card,
+            width,
+        })
+    }
+}
