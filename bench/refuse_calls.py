@@ -7,8 +7,10 @@ strace makes one system call fail (-e inject) with each error that such a call c
     status 0        only if every output is whole: each file, or standard output
     another status  only with a line on standard output or a sentence on standard error; each file is as it was, or a first part of what is
                     expected, and as long as a message reports ('after N bytes')
-An interrupted call that isn't refused again must change nothing. It prints a line for each call where this fails, and a count; its exit
-status is 1 if there is one. No program of the kit sees faults of close.
+    run --keep      each file is as it was, or whole; what this run wrote of one that is as it was is beside it, if it wrote any, and the
+                    message says where
+An interrupted call that isn't refused again must change nothing. No program of the kit sees a close that fails; here it loses nothing,
+since what was written is written. It prints a line for each call where this fails, and a count; its exit status is 1 if there is one.
 """
 
 import os
@@ -33,6 +35,9 @@ COMMANDS = {
     "run stdout": ("run sales.obj long - --date 010576", ("-",)),
     "run source": (STOCK + " --source s.rpg", ("p", "d")),
     "run most": (STOCK + " --most 100000", ("p", "d")),
+    "keep": (STOCK + " --keep", ("p", "d")),
+    "keep new": ("run o.obj in new --date 010576 --disk fresh --keep", ("new", "fresh")),
+    "keep halt": ("run o.obj halting p --date 010576 --disk d --keep", ("p", "d")),
     "compile": ("compile s.rpg p", ("p",)),
     "check": ("check s.rpg", ("-",)),
     "list": ("list s.rpg", ("-",)),
@@ -47,6 +52,8 @@ ERRORS = {
     "openat": ("EIO", "EINTR", "ENFILE", "EACCES"),
     "ftruncate": ("EIO", "EINTR", "EPERM"),
     "rename": ("EIO", "ENOSPC"),
+    "fsync": ("EIO", "ENOSPC", "EDQUOT"),
+    "close": ("EIO",),
 }
 
 
@@ -55,7 +62,10 @@ class Outcome:
     status: int
     line: bytes
     diagnostics: bytes
+    # None for a file that isn't there
     outputs: dict
+    # the files beside an output, as p.part
+    beside: dict
 
     def is_whole(self, wanted):
         return self.outputs == wanted.outputs
@@ -66,6 +76,8 @@ def begin():
     examples = TOP / "examples"
     for place, file in (("stock/stock.rpg", "s.rpg"), ("stock/moves.txt", "in"), ("accounts/masters.txt", "m"), ("accounts/movements.txt", "v")):
         shutil.copy(examples / place, file)
+    # a quantity that is no number halts the job
+    Path("halting").write_text(Path("in").read_text(encoding="ascii") + "RE100 X0\n", encoding="ascii")
     Path("long").write_text((examples / "sales/sales.txt").read_text(encoding="ascii") * 40, encoding="ascii")
     for place, file in (("stock/stock", "o"), ("accounts/accounts", "a"), ("sales/sales", "sales")):
         subprocess.run([RPG2, "compile", examples / f"{place}.rpg", f"{file}.obj"], check=True, stdout=subprocess.DEVNULL)
@@ -74,21 +86,31 @@ def begin():
 def outcome(command, refused=()):
     """Runs a command under strace, over outputs that hold something else."""
     words, outputs = COMMANDS[command]
+    for file in [*Path().glob("*.part"), *Path().glob("*.new"), Path("new"), Path("fresh")]:
+        file.unlink(missing_ok=True)
     for file in ("p", "d"):
         Path(file).write_bytes(OLD)
     ran = subprocess.run(["strace", "-o", "calls", "-qq", *refused, RPG2, *words.split()], capture_output=True, stdin=subprocess.DEVNULL, timeout=20, check=False)
-    return Outcome(ran.returncode, ran.stdout, ran.stderr, {it: ran.stdout if it == "-" else Path(it).read_bytes() for it in outputs})
+    found = {it: ran.stdout if it == "-" else bytes_of(Path(it)) for it in outputs}
+    beside = {str(it): it.read_bytes() for file in outputs for it in Path().glob(f"{file}.*") if it.suffix in (".part", ".new")}
+    return Outcome(ran.returncode, ran.stdout, ran.stderr, found, beside)
+
+
+def bytes_of(path):
+    return path.read_bytes() if path.exists() else None
 
 
 def calls_made():
-    """The system calls of the last run that may be refused, each with its number among its kind; those of the loader are left out."""
-    names = [it[1] for line in Path("calls").read_text(encoding="utf-8", errors="replace").splitlines() if (it := re.match(r"(\w+)\(", line))]
+    """The system calls of the last run that may be refused, each with its number among its kind, and whether it is on standard error; those of
+    the loader are left out."""
+    calls = [it for line in Path("calls").read_text(encoding="utf-8", errors="replace").splitlines() if (it := re.match(r"(\w+)\((2,)?", line))]
+    names = [it[1] for it in calls]
     start = names.index("rt_sigaction") if "rt_sigaction" in names else 0
     seen = {}
     for at, name in enumerate(names):
         seen[name] = seen.get(name, 0) + 1
         if at >= start and name in ERRORS:
-            yield name, seen[name]
+            yield name, seen[name], bool(calls[at][2])
 
 
 def is_first_part(command, file, found, wanted):
@@ -104,15 +126,34 @@ def is_first_part(command, file, found, wanted):
     return whole.startswith(data) and not (told and role in found.diagnostics and int(told[1]) != len(data))
 
 
-def what_is_wrong(command, error, found, wanted):
+def what_is_wrong_beside(found, wanted, is_heard):
+    """What is wrong with files that are kept until their job has ended well, and with what stands beside them."""
+    for file, data in found.outputs.items():
+        old = OLD if file in ("p", "d") else None
+        whole = wanted.beside.get(f"{file}.part", wanted.outputs[file])
+        parts = {name: it for name, it in found.beside.items() if name.startswith(f"{file}.")}
+        if data != old and (wanted.status or data != whole):
+            return f"{file} is neither as it was nor whole"
+        if not all(whole.startswith(it) for it in parts.values()):
+            return f"what stands beside {file} is no first part"
+        if is_heard and not all(f"what this run wrote is in {it}\n".encode() in found.diagnostics for it in parts):
+            return f"where the part of {file} is isn't told"
+        if found.status == 5 and list(parts.values()) != [whole]:
+            return f"the part of {file} isn't whole"
+    return None
+
+
+def what_is_wrong(command, error, found, wanted, is_heard):
     if found.status < 0 or found.status > 5:
         return "it crashed"
     if found.status == 0:
-        return None if found.is_whole(wanted) else "status 0, and an output isn't whole"
+        return None if found.is_whole(wanted) and found.beside == wanted.beside else "status 0, and an output isn't whole"
     if error == "EINTR":
-        return "it doesn't go on after one interruption"
+        return None if found == wanted else "it doesn't go on after one interruption"
     if not found.line and not found.diagnostics:
         return "neither a line nor a message"
+    if command.startswith("keep"):
+        return what_is_wrong_beside(found, wanted, is_heard)
     if command == "compile" and found.outputs["p"] not in (OLD, wanted.outputs["p"]):
         return "the old object is gone"
     lost = [it for it in found.outputs if not is_first_part(command, it, found, wanted)]
@@ -123,11 +164,11 @@ def tried(command):
     """Refuses each call of a command, and gives how many were tried and how many went wrong."""
     wanted = outcome(command)
     count = wrong = 0
-    for name, number in list(calls_made()):
+    for name, number, is_diagnostic in list(calls_made()):
         for error in ERRORS[name]:
             count += 1
             found = outcome(command, ["-e", f"inject={name}:error={error}:when={number}"])
-            if it := what_is_wrong(command, error, found, wanted):
+            if it := what_is_wrong(command, error, found, wanted, not is_diagnostic):
                 wrong += 1
                 print(f"{command}: {name} {number}, {error}: {it}; status {found.status} {found.diagnostics[:120]!r}", flush=True)
     return count, wrong

@@ -1,6 +1,6 @@
 //! The program `rpg2`.
 
-ghost use Rattle.rpg_cli.specs.Saying.{PrintsALine, Says};
+ghost use Rattle.rpg_cli.specs.Saying.{PrintsALine, Says, SaysOrIsQuiet};
 
 use crate::decks::cards_file;
 use crate::explaining::explain;
@@ -68,6 +68,23 @@ fn say<W: Write, L: Listener>(out: &mut W, outlet: Outlet, answer: &Answer, list
     }
 }
 
+/// Prints the line of an answer, or that of a good end only where the words aren't quiet, and answers the exit status.
+fn say_if_wanted<W: Write, L: Listener>(
+    out: &mut W,
+    outlet: Outlet,
+    is_quiet: bool,
+    answer: &Answer,
+    listener: &mut L,
+) -> u8
+    ensures { SaysOrIsQuiet is_quiet (W.contents out.old) (W.contents out.new) result answer.now }
+{
+    if is_quiet && line(answer).status == 0 {
+        0
+    } else {
+        say(out, outlet, answer, listener)
+    }
+}
+
 /// Explains a fault of the command line, or gives the help that was asked for, and answers the exit status.
 fn refuse<R: Print + Eprint + AllocGlobal, W: Write, L: Listener>(
     rt: &R,
@@ -102,7 +119,7 @@ pub fn run<R: Files + Input + Print + Eprint + AllocGlobal, W: Write, L: Listene
     }
 }
 
-/// Prints the line of an answer, tells what more is known of it, and answers the exit status.
+/// Prints the line of an answer, if it's wanted, tells what more is known of it, and answers the exit status.
 fn conclude<W: Write, L: Listener>(
     alloc: Global,
     request: &Request,
@@ -111,9 +128,10 @@ fn conclude<W: Write, L: Listener>(
     out: &mut W,
     listener: &mut L,
 ) -> u8
-    ensures { Says (W.contents out.old) (W.contents out.new) result answer.now }
+    ensures { PrintsALine (W.contents out.old) (W.contents out.new) result }
 {
-    let status = say(out, Outlet::of(request), answer, listener);
+    let outlet = Outlet::of(request);
+    let status = say_if_wanted(out, outlet, request.is_quiet(), answer, listener);
     tell_answer(alloc, request, answer, reasons, listener);
     status
 }

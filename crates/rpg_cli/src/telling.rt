@@ -25,6 +25,14 @@ fn write_file_fault(out: &mut TextWriter, request: &Request, word: FileWord, fau
         FileFault::Input(reason) | FileFault::Output(reason) => {
             write_fault(out, request, word, reason.text())
         }
+        FileFault::Beside(reason) => {
+            write_name(out, request, word);
+            write!(
+                out,
+                ": no new file can be made beside it: {}\n",
+                reason.text()
+            );
+        }
         FileFault::TooLarge => write_fault(out, request, word, "more than 16,777,216 bytes"),
         FileFault::NoMemory => {}
     }

@@ -48,6 +48,7 @@ run_text runs.NoMemory = codes "no memory"
 abbrev pub file_text : FileFault → List ℕ
 file_text (files.Input reason) = codes "input failed"
 file_text (files.Output reason) = codes "output failed"
+file_text (files.Beside reason) = codes "output failed"
 file_text files.TooLarge = codes "file too large"
 file_text files.NoMemory = codes "no memory"
 

@@ -120,7 +120,7 @@ fn put_file_fault(text: &mut Text, fault: FileFault)
 {
     match fault {
         FileFault::Input(_) => put(text, b"input failed"),
-        FileFault::Output(_) => put(text, b"output failed"),
+        FileFault::Output(_) | FileFault::Beside(_) => put(text, b"output failed"),
         FileFault::TooLarge => put(text, b"file too large"),
         FileFault::NoMemory => put(text, b"no memory"),
     }

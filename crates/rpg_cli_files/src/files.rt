@@ -21,6 +21,8 @@ pub enum FileFault {
     Input(Reason),
     /// A file that is written can't be made or written.
     Output(Reason),
+    /// A file that is kept until a new one is whole has no room for that one in its folder.
+    Beside(Reason),
     /// A file that is read whole is longer than 16,777,216 bytes.
     TooLarge,
     NoMemory,
@@ -37,6 +39,13 @@ pub(crate) fn output_fault(error: Error) -> FileFault {
     match error.kind() {
         ErrorKind::OutOfMemory => FileFault::NoMemory,
         kind => FileFault::Output(Reason::of(kind)),
+    }
+}
+
+pub(crate) fn beside_fault(error: Error) -> FileFault {
+    match error.kind() {
+        ErrorKind::OutOfMemory => FileFault::NoMemory,
+        kind => FileFault::Beside(Reason::of(kind)),
     }
 }
 

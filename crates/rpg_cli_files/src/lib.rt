@@ -4,6 +4,7 @@
 
 mod files;
 mod matching;
+mod pending;
 mod reason;
 mod replacing;
 mod sending;
@@ -15,6 +16,7 @@ pub use files::{
     output_file,
 };
 pub use matching::compiles_to;
+pub use pending::{KeptFile, Pending, kept_file};
 pub use reason::Reason;
 pub use replacing::write_bytes;
 pub use rpg_compile::{SourceCode, SourceFault};

@@ -7,6 +7,8 @@ use std::io::ErrorKind;
 pub enum Reason {
     Missing,
     NotAllowed,
+    /// All names that are tried for a new file are taken.
+    Taken,
     Folder,
     /// A part of the path is a file.
     NoFolder,
@@ -25,6 +27,7 @@ impl Reason {
         match kind {
             ErrorKind::NotFound => Reason::Missing,
             ErrorKind::PermissionDenied => Reason::NotAllowed,
+            ErrorKind::AlreadyExists => Reason::Taken,
             ErrorKind::IsADirectory => Reason::Folder,
             ErrorKind::NotADirectory => Reason::NoFolder,
             ErrorKind::ReadOnlyFilesystem => Reason::ReadOnly,
@@ -43,6 +46,7 @@ impl Reason {
         match self {
             Reason::Missing => "no such file or directory",
             Reason::NotAllowed => "permission denied",
+            Reason::Taken => "file exists",
             Reason::Folder => "is a directory",
             Reason::NoFolder => "a part of the path is no directory",
             Reason::ReadOnly => "the file system is read-only",

@@ -1,6 +1,8 @@
 //! A file that is written whole, in the place of what stood there.
 
-use crate::files::{FileFault, output_fault};
+use crate::files::{FileFault, beside_fault, output_fault};
+use crate::reason::Reason;
+use std::alloc::{AllocError, Global};
 use std::fs::{self, File, Metadata, OpenFile};
 use std::io::{ErrorKind, Write};
 use std::os::unix::fs::MetadataExt;
@@ -20,9 +22,11 @@ enum Place {
 
 /// A new file in the folder of another.
 #[derive(Drop)]
-struct Beside<F> {
-    file: F,
-    path: String,
+pub(crate) struct Beside<F> {
+    pub file: F,
+    pub path: String,
+    /// The number in its name.
+    pub number: u32,
 }
 
 fn place_at<R: Files>(rt: &R, path: &str) -> Place {
@@ -34,22 +38,38 @@ fn place_at<R: Files>(rt: &R, path: &str) -> Place {
     }
 }
 
-/// Makes a file beside another, by a name that nothing has: none where none can be made there.
-fn new_beside<R: Files + AllocGlobal>(
-    rt: &R,
-    path: &str,
-) -> Result<Option<Beside<R::File>>, FileFault> {
-    for n in 0..NAMES {
-        let Ok(beside) = format!(in rt.alloc(); "{path}.{n}.new") else {
+/// Whether a file may be put there: nothing stands there, or a regular file.
+pub(crate) fn is_free<R: Files>(rt: &R, path: &str) -> bool {
+    match place_at(rt, path) {
+        Place::Nothing | Place::File(_) => true,
+        Place::Other => false,
+    }
+}
+
+/// The name of a new file beside another.
+pub(crate) fn name_beside(alloc: Global, path: &str, number: u32) -> Result<String, AllocError> {
+    format!(in alloc; "{path}.{number}.new")
+}
+
+/// Makes a file beside another, by a name that nothing has.
+fn new_beside<R: Files + AllocGlobal>(rt: &R, path: &str) -> Result<Beside<R::File>, FileFault> {
+    for number in 0..NAMES {
+        let Ok(beside) = name_beside(rt.alloc(), path, number) else {
             return Err(FileFault::NoMemory);
         };
         match File::create_new(rt, beside.as_str()) {
-            Ok(file) => return Ok(Some(Beside { file, path: beside })),
+            Ok(file) => {
+                return Ok(Beside {
+                    file,
+                    path: beside,
+                    number,
+                });
+            }
             Err(error) if error.kind() == ErrorKind::AlreadyExists => {}
-            Err(_) => break,
+            Err(error) => return Err(beside_fault(error)),
         }
     }
-    Ok(None)
+    Err(FileFault::Beside(Reason::Taken))
 }
 
 /// Gives a new file the leave of an old one. None where the old one has another name, or another owner than a new one.
@@ -73,14 +93,25 @@ fn new_for<R: Files + AllocGlobal>(
         .write(true)
         .open(rt, path)
         .map_err(output_fault)?;
-    let Some(beside) = new_beside(rt, path)? else {
-        return Ok(None);
-    };
+    let beside = new_beside(rt, path)?;
     if takes_place(&beside.file, old) {
         return Ok(Some(beside));
     }
     let _removed = fs::remove_file(rt, beside.path.as_str());
     Ok(None)
+}
+
+/// Makes a file that is to stand in the place of what a path leads to: none where that is a link, a device or a folder, or has another name
+/// or another owner.
+pub(crate) fn new_file<R: Files + AllocGlobal>(
+    rt: &R,
+    path: &str,
+) -> Result<Option<Beside<R::File>>, FileFault> {
+    match place_at(rt, path) {
+        Place::Nothing => Ok(Some(new_beside(rt, path)?)),
+        Place::File(old) => new_for(rt, path, &old),
+        Place::Other => Ok(None),
+    }
 }
 
 fn write_whole<F: Write>(file: &mut F, bytes: &[u8]) -> Result<(), FileFault> {
@@ -122,10 +153,9 @@ pub fn write_bytes<R: Files + AllocGlobal>(
     path: &str,
     bytes: &[u8],
 ) -> Result<(), FileFault> {
-    let beside = match place_at(rt, path) {
-        Place::Nothing => new_beside(rt, path)?,
-        Place::File(old) => new_for(rt, path, &old)?,
-        Place::Other => None,
+    let beside = match new_file(rt, path) {
+        Err(FileFault::Beside(_)) => None,
+        made => made?,
     };
     match beside {
         None => write_whole(&mut fs::create(rt, path).map_err(output_fault)?, bytes),

@@ -2,6 +2,7 @@
 
 use crate::files::{FileFault, empty_file};
 use crate::reason::Reason;
+use std::fs::OpenFile;
 use std::io::{self, Printer, Read, Write};
 use std::rt::Files;
 
@@ -11,6 +12,8 @@ pub enum Opened<F> {
     /// The program has no such file.
     Nothing,
     File(F),
+    /// A new file beside the one that is written. It is empty.
+    New(F),
     /// Standard input, or standard output.
     Standard,
 }
@@ -43,6 +46,8 @@ pub struct LineTarget<F, P> {
 enum Target<F, P> {
     Nothing,
     File(F),
+    /// A file that is put in another's place when it is on the disk.
+    New(F),
     StandardOutput(P),
 }
 
@@ -53,7 +58,7 @@ pub fn records<R: Files + Input>(
 ) -> RecordSource<R::File, R::Reader> {
     let from = match opened {
         Opened::Nothing => Source::Nothing,
-        Opened::File(file) => Source::File(file),
+        Opened::File(file) | Opened::New(file) => Source::File(file),
         Opened::Standard => Source::StandardInput(rt.reader()),
     };
     RecordSource { from, fault: None }
@@ -67,6 +72,7 @@ pub fn lines<R: Files + Print>(
     let to = match opened {
         Opened::Nothing => Target::Nothing,
         Opened::File(file) => Target::File(empty_file(file)?),
+        Opened::New(file) => Target::New(file),
         Opened::Standard => Target::StandardOutput(io::writer(rt)),
     };
     Ok(LineTarget { to, fault: None })
@@ -106,11 +112,11 @@ impl<F, P> LineTarget<F, P> {
     }
 }
 
-impl<F: Write, P: Write> Write for LineTarget<F, P> {
+impl<F: Write + OpenFile, P: Write> Write for LineTarget<F, P> {
     fn write(&mut self, buf: &[u8]) -> io::Result<usize> {
         let answer = match &mut self.to {
             Target::Nothing => Ok(buf.len()),
-            Target::File(file) => file.write(buf),
+            Target::File(file) | Target::New(file) => file.write(buf),
             Target::StandardOutput(printer) => printer.write(buf),
         };
         self.fault = fault_of(&answer);
@@ -121,6 +127,7 @@ impl<F: Write, P: Write> Write for LineTarget<F, P> {
         match &mut self.to {
             Target::Nothing => Ok(()),
             Target::File(file) => file.flush(),
+            Target::New(file) => file.sync_all(),
             Target::StandardOutput(printer) => printer.flush(),
         }
     }

@@ -6,21 +6,24 @@ ghost use Rattle.rpg_engine.specs.Bound.{bound};
 ghost use Rattle.rpg_engine.specs.Objects.{HasObjectFault, SpellsProgram};
 
 use crate::halting::tell_halt;
+use crate::keeping::Kept;
 use crate::refusing::{tell_object, tell_wanted};
 use crate::running::run_over;
 use crate::sharing::{NamedFile, refuse_same_file};
 use crate::sources::own_source;
 use rpg_cli_answers::{Answer, Listener, Reasons, Stop, named};
 use rpg_cli_files::{
-    LineTarget, Opened, RecordSource, file_bytes, input_file, lines, output_file, records,
+    KeptFile, LineTarget, Opened, Pending, RecordSource, file_bytes, input_file, kept_file, lines,
+    output_file, records,
 };
-use rpg_cli_words::{FileWord, RunWords, SameFile, is_standard};
+use rpg_cli_words::{FileWord, RunWords, is_standard};
 use rpg_engine::{
     ObjectFault, Program, Report, RunFault, Verified, accept, decode_object, has_disk_file,
     has_secondary_file,
 };
 use rpg_files::Counted;
 use std::alloc::Global;
+use std::fs::OpenFile;
 use std::io::{Printer, Read, Write};
 use std::rt::Files;
 
@@ -98,17 +101,28 @@ struct RunFiles<F> {
     disk: Opened<F>,
 }
 
-/// Opens the inputs, and then the files that are written.
-fn open_files<R: Files>(
+/// Opens the inputs, and then the files that are written. Those that are written beside their places are told.
+fn open_files<'a, R: Files + AllocGlobal>(
     rt: &R,
-    words: &RunWords,
-    wanted: WantedFiles<'_>,
+    words: &RunWords<'a>,
+    wanted: WantedFiles<'a>,
+    kept: &mut Kept<'a>,
 ) -> Result<RunFiles<R::File>, Answer> {
+    let input = read_file(rt, FileWord::Input, Some(words.input))?;
+    let secondary = read_file(rt, FileWord::Secondary, wanted.secondary)?;
+    let print = written_file(
+        rt,
+        words,
+        FileWord::Print,
+        Some(words.print),
+        &mut kept.print,
+    )?;
+    let disk = written_file(rt, words, FileWord::Disk, wanted.disk, &mut kept.disk)?;
     Ok(RunFiles {
-        input: read_file(rt, FileWord::Input, Some(words.input))?,
-        secondary: read_file(rt, FileWord::Secondary, wanted.secondary)?,
-        print: written_file(rt, FileWord::Print, Some(words.print))?,
-        disk: written_file(rt, FileWord::Disk, wanted.disk)?,
+        input,
+        secondary,
+        print,
+        disk,
     })
 }
 
@@ -125,34 +139,43 @@ fn read_file<R: Files>(
     }
 }
 
-/// Opens a file that will be written, if there is one.
-fn written_file<R: Files>(
+/// Opens a file that will be written, if there is one, or makes a new one beside it, which is told.
+fn written_file<'a, R: Files + AllocGlobal>(
     rt: &R,
+    words: &RunWords,
     word: FileWord,
-    path: Option<&str>,
+    path: Option<&'a str>,
+    new: &mut Option<Pending<'a>>,
 ) -> Result<Opened<R::File>, Answer> {
     match path {
         None => Ok(Opened::Nothing),
         Some(path) if is_standard(path) => Ok(Opened::Standard),
+        Some(path) if words.keeps => {
+            let KeptFile { opened, pending } = named(word, kept_file(rt, path))?;
+            *new = pending;
+            Ok(opened)
+        }
         Some(path) => Ok(Opened::File(named(word, output_file(rt, path))?)),
     }
 }
 
-/// Refuses to empty a file that another word names too.
-fn keep_files<R: Files>(
+/// Refuses to empty or to replace a file that another word names too.
+fn keep_files<R: Files + AllocGlobal>(
     rt: &R,
     words: &RunWords,
     files: &RunFiles<R::File>,
-) -> Result<(), SameFile> {
+    kept: &Kept<'_>,
+) -> Result<(), Stop> {
     let (input, output) = ("/dev/stdin", "/dev/stdout");
     let object = NamedFile::at(rt, FileWord::Object, words.object);
     let source = NamedFile::named(rt, FileWord::OwnSource, words.source);
     let primary = NamedFile::opened(rt, FileWord::Input, &files.input, input);
     let secondary = NamedFile::opened(rt, FileWord::Secondary, &files.secondary, input);
-    let print = NamedFile::opened(rt, FileWord::Print, &files.print, output);
-    let disk = NamedFile::opened(rt, FileWord::Disk, &files.disk, output);
+    let print = kept.print_file(rt, &files.print, output);
+    let disk = kept.disk_file(rt, &files.disk, output);
     refuse_same_file(print, &[object, source, primary, secondary])?;
-    refuse_same_file(disk, &[object, source, primary, secondary, print])
+    refuse_same_file(disk, &[object, source, primary, secondary, print])?;
+    kept.refuse_shared(rt, &[object, source, primary, secondary, print, disk])
 }
 
 /// What a run reads and writes, the files that are written emptied.
@@ -180,7 +203,7 @@ fn emptied_devices<R: Files + Input + Print>(
 }
 
 /// Runs an accepted program over its devices. Where one of them failed, the reason comes with the answer.
-fn run_devices<F: Read + Write + Drop, S: Read + Drop, P: Write + Drop>(
+fn run_devices<F: Read + Write + OpenFile + Drop, S: Read + Drop, P: Write + Drop>(
     alloc: Global,
     program: &Verified,
     date: &[u8],
@@ -220,14 +243,15 @@ fn run_devices<F: Read + Write + Drop, S: Read + Drop, P: Write + Drop>(
 }
 
 /// Opens the files of a run, empties those that are written, and runs the program over them, if it was accepted.
-fn run_program<R: Files + Input + Print + AllocGlobal>(
+fn run_program<'a, R: Files + Input + Print + AllocGlobal>(
     rt: &R,
-    words: &RunWords,
+    words: &RunWords<'a>,
     accepted: Result<Verified, ObjectFault>,
-    wanted: WantedFiles<'_>,
+    wanted: WantedFiles<'a>,
+    kept: &mut Kept<'a>,
 ) -> Result<Report, Stop> {
-    let files = open_files(rt, words, wanted)?;
-    keep_files(rt, words, &files)?;
+    let files = open_files(rt, words, wanted, kept)?;
+    keep_files(rt, words, &files, kept)?;
     let devices = emptied_devices(rt, files)?;
     match accepted {
         Ok(program) => run_devices(rt.alloc(), &program, words.date.as_bytes(), devices),
@@ -237,8 +261,8 @@ fn run_program<R: Files + Input + Print + AllocGlobal>(
 
 /// The program of a run, accepted or refused, and the files that it wants beside those that every run has.
 ///
-/// The object is decoded first, and a disk file or a secondary file that is wanted and not named is told. Where the words name a limit, the
-/// rules, the date and the limit come next, before the other files.
+/// The object is decoded first, and a disk file or a secondary file that is wanted and not named is told. Where the words name a limit, or the
+/// files that are written keep what they have, the rules, the date and the limit come next, before the other files.
 fn program_of<'a>(
     alloc: Global,
     words: &RunWords<'a>,
@@ -253,18 +277,21 @@ fn program_of<'a>(
     let accepted = accept(alloc, program);
     if let Some(most) = words.most {
         keeps_limit(&accepted, words.date, most)?;
+    } else if words.keeps {
+        keeps_limit(&accepted, words.date, u64::MAX)?;
     }
     Ok((accepted, wanted))
 }
 
-/// Runs the object program of these bytes. Rules and date are told once its files are open, unless the words name a limit.
-fn run_object<R: Files + Input + Print + AllocGlobal>(
+/// Runs the object program of these bytes. Rules and date are told once its files are open, unless the words name a limit or keep files.
+fn run_object<'a, R: Files + Input + Print + AllocGlobal>(
     rt: &R,
-    words: &RunWords,
+    words: &RunWords<'a>,
     object: &[u8],
+    kept: &mut Kept<'a>,
 ) -> Result<Report, Stop> {
     let (accepted, wanted) = program_of(rt.alloc(), words, object)?;
-    run_program(rt, words, accepted, wanted)
+    run_program(rt, words, accepted, wanted, kept)
 }
 
 /// Runs the object program of these bytes, and tells where its job halted. The source that the words name is read before.
@@ -275,10 +302,13 @@ fn run_and_tell<R: Files + Input + Print + AllocGlobal, L: Listener>(
     listener: &mut L,
 ) -> Result<Report, Stop> {
     let source = own_source(rt, words.source, object, listener)?;
-    let report = run_object(rt, words, object)?;
-    let source = source.as_ref().map(|source| source.halted());
-    tell_halt(rt, words, object, report, source, listener);
-    Ok(report)
+    let mut kept = Kept::new();
+    let ran = run_object(rt, words, object, &mut kept);
+    if let Ok(report) = ran {
+        let source = source.as_ref().map(|source| source.halted());
+        tell_halt(rt, words, object, report, source, listener);
+    }
+    kept.finish(rt, ran, listener)
 }
 
 /// Runs an object program over its files, and tells what is wrong with one that is refused, and where its job halted.

@@ -4,6 +4,7 @@
 mod halting;
 mod jobs;
 mod judging;
+mod keeping;
 mod refusing;
 mod running;
 mod sharing;

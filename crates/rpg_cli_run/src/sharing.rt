@@ -42,7 +42,7 @@ impl NamedFile {
                 word,
                 identity: None,
             },
-            Opened::File(file) => NamedFile {
+            Opened::File(file) | Opened::New(file) => NamedFile {
                 word,
                 identity: identity(file),
             },

@@ -49,6 +49,7 @@ fn arg<'a>(alloc: Global, word: &Word) -> Result<Arg<'a>, AllocError> {
         Kind::Placed => Ok(valued(arg)),
         Kind::Named(value) => Ok(named(arg, word.name, value)),
         Kind::Flag => Ok(flag(arg, word.name)),
+        Kind::FlagByLetter(letter) => Ok(flag(arg, word.name).short(letter)),
         Kind::FlagAgainst(other) => flag(arg, word.name).conflicts_with(other),
         Kind::Allowance(default) => Ok(allowance(arg, word.name, default)),
         Kind::Count(default) => Ok(count(arg, word.name, default)),

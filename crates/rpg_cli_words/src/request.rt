@@ -38,6 +38,8 @@ pub struct CompileWords<'a> {
     pub allowance: u16,
     /// How many faults, or warnings, are told one by one, at most.
     pub faults: u16,
+    /// Whether no line is printed if the exit status is 0.
+    pub is_quiet: bool,
     ghost positive: { 0 < allowance },
 }
 
@@ -47,12 +49,16 @@ pub struct CheckWords<'a> {
     pub source: &'a str,
     /// How many faults, or warnings, are told one by one, at most.
     pub faults: u16,
+    /// Whether no line is printed if the exit status is 0.
+    pub is_quiet: bool,
 }
 
 /// The words of `verify`.
 #[derive(Clone, Copy)]
 pub struct VerifyWords<'a> {
     pub object: &'a str,
+    /// Whether no line is printed if the exit status is 0.
+    pub is_quiet: bool,
 }
 
 /// The words of `show`.
@@ -78,8 +84,12 @@ pub struct RunWords<'a> {
     pub disk: Option<&'a str>,
     /// The greatest bound that a program may have, if the words tell one.
     pub most: Option<u64>,
+    /// Whether the files that are written keep what they have until the job has ended well.
+    pub keeps: bool,
     /// The source of the object program, if the words name it.
     pub source: Option<&'a str>,
+    /// Whether no line is printed if the exit status is 0.
+    pub is_quiet: bool,
 }
 
 /// The words of `explain`.
@@ -144,6 +154,8 @@ pub struct SameFile {
 #[derive(Clone, Copy)]
 pub enum Shared {
     File,
+    /// The second would be left as a part in the first's file.
+    Part,
     StandardInput,
     StandardOutput,
 }
@@ -153,6 +165,7 @@ impl Shared {
     fn texts(self) -> (&'static str, &'static str) {
         match self {
             Shared::File => ("is the same file as", ""),
+            Shared::Part => ("would leave its part in", ""),
             Shared::StandardInput => ("and", " are both standard input"),
             Shared::StandardOutput => ("and", " are both standard output"),
         }
@@ -173,6 +186,17 @@ impl<'a> Request<'a> {
             (Request::Show(words), FileWord::OwnSource) => words.source,
             (Request::Run(words), word) => words.path(word),
             _ => None,
+        }
+    }
+
+    /// Whether no line is printed if the exit status is 0.
+    pub fn is_quiet(&self) -> bool {
+        match self {
+            Request::Compile(words) => words.is_quiet,
+            Request::Check(words) => words.is_quiet,
+            Request::Verify(words) => words.is_quiet,
+            Request::Run(words) => words.is_quiet,
+            _ => false,
         }
     }
 
@@ -309,6 +333,7 @@ fn compile_words<'a>(given: &ArgMatches<'a>) -> Option<Request<'a>> {
         object: given.get_str("OBJ")?,
         allowance,
         faults: given.get_one::<u16>("faults")?,
+        is_quiet: given.get_flag("quiet"),
     }))
 }
 
@@ -316,12 +341,14 @@ fn check_words<'a>(given: &ArgMatches<'a>) -> Option<Request<'a>> {
     Some(Request::Check(CheckWords {
         source: given.get_str("SRC")?,
         faults: given.get_one::<u16>("faults")?,
+        is_quiet: given.get_flag("quiet"),
     }))
 }
 
 fn verify_words<'a>(given: &ArgMatches<'a>) -> Option<Request<'a>> {
     Some(Request::Verify(VerifyWords {
         object: given.get_str("OBJ")?,
+        is_quiet: given.get_flag("quiet"),
     }))
 }
 
@@ -341,7 +368,9 @@ fn run_words<'a>(given: &ArgMatches<'a>) -> Option<Request<'a>> {
         secondary: given.get_str("secondary"),
         disk: given.get_str("disk"),
         most: given.get_one::<u64>("most"),
+        keeps: given.get_flag("keep"),
         source: given.get_str("source"),
+        is_quiet: given.get_flag("quiet"),
     }))
 }
 

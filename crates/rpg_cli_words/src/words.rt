@@ -8,6 +8,8 @@ pub(crate) enum Kind {
     /// A value after the word's name, and what help calls it.
     Named(&'static str),
     Flag,
+    /// A flag that a letter stands for too.
+    FlagByLetter(char),
     /// A flag that doesn't go with another one.
     FlagAgainst(&'static str),
     /// A number from 1 on, and one from 0 on, that has a default.
@@ -64,7 +66,14 @@ const FAULTS: Word = Word {
     help: "How many faults, or warnings, are told one by one, at most",
 };
 
-const COMPILE: [Word; 4] = [
+const QUIET: Word = Word {
+    name: "quiet",
+    kind: Kind::FlagByLetter('q'),
+    is_required: false,
+    help: "Prints no line if the exit status is 0",
+};
+
+const COMPILE: [Word; 5] = [
     SOURCE,
     Word {
         name: "OBJ",
@@ -79,9 +88,10 @@ const COMPILE: [Word; 4] = [
         help: "How many backward branches and calls a cycle may take",
     },
     FAULTS,
+    QUIET,
 ];
 
-const CHECK: [Word; 2] = [SOURCE, FAULTS];
+const CHECK: [Word; 3] = [SOURCE, FAULTS, QUIET];
 
 const LIST: [Word; 1] = [SOURCE];
 
@@ -106,7 +116,7 @@ const CARDS: [Word; 3] = [
     },
 ];
 
-const VERIFY: [Word; 1] = [OBJECT];
+const VERIFY: [Word; 2] = [OBJECT, QUIET];
 
 const EXPLAIN: [Word; 2] = [
     Word {
@@ -125,7 +135,7 @@ const EXPLAIN: [Word; 2] = [
 
 const SHOW: [Word; 2] = [OBJECT, OWN_SOURCE];
 
-const RUN: [Word; 8] = [
+const RUN: [Word; 10] = [
     OBJECT,
     Word {
         name: "INPUT",
@@ -163,7 +173,14 @@ const RUN: [Word; 8] = [
         is_required: false,
         help: "Refuses a program of which a cycle may take more than N steps",
     },
+    Word {
+        name: "keep",
+        kind: Kind::Flag,
+        is_required: false,
+        help: "Keeps what stands in PRINT and the disk file until the job has ended well",
+    },
     OWN_SOURCE,
+    QUIET,
 ];
 
 /// The commands, as help has them one after another.

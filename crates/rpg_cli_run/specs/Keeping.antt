@@ -1,0 +1,36 @@
+-- What becomes of the files that a run writes beside their places.
+use Rattle.std.specs.Prelude.{◌≡◌, ◌⊎◌, Result, Ok, Err, IsErrAnd, ⊤}
+use Rattle.rpg_cli_answers.specs.declared.answer.Answer.{Answer}
+use Rattle.rpg_cli_answers.specs.declared.answer.Answer.TheVariants as answers
+use Rattle.rpg_cli_answers.specs.declared.stop.Stop.{Stop}
+use Rattle.rpg_cli_answers.specs.declared.stop.Stop.TheVariants as stops
+use Rattle.rpg_cli_run.specs.declared.keeping.Fate.{Fate}
+use Rattle.rpg_cli_run.specs.declared.keeping.Fate.TheVariants as fates
+use Rattle.rpg_engine.specs.JobEnd.{JobEnd}
+use Rattle.rpg_engine.specs.JobEnd.TheVariants as endings
+use Rattle.rpg_engine.specs.declared.report.Report.{Report}
+
+-- At the end of a job they are put in their places. At a halt they are left beside.
+abbrev pub fate_at : JobEnd → Fate
+fate_at endings.EndOfJob = fates.Placed
+fate_at (endings.Halt halt) = fates.Left
+
+-- A job that gave no report leaves them beside too. Where no job began they are removed.
+abbrev pub fate_of : Result Report Stop → Fate
+fate_of (Ok report) = fate_at report.ending
+fate_of (Err (stops.Job answer reasons)) = fates.Left
+fate_of (Err stop) = fates.Removed
+
+-- the file that a word names failed
+abbrev pub IsOfFile : Answer → Type 0
+IsOfFile (answers.File word fault) = ⊤
+IsOfFile answer = ⊥
+
+-- the answer is a file's fault
+abbrev pub StopsForFile : Stop → Type 0
+StopsForFile (stops.Answer answer) = IsOfFile answer
+StopsForFile stop = ⊥
+
+-- the run's own answer; or, where its files were to be put in their places, that of a file that can't be
+abbrev pub KeepsAnswer : (ran given : Result Report Stop) → Type 0
+KeepsAnswer ran given = (given ≡ ran) ⊎ ((fate_of ran ≡ fates.Placed) × IsErrAnd given StopsForFile)

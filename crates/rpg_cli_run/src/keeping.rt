@@ -1,0 +1,267 @@
+//! Files that a run writes beside their places, and what becomes of them when it ends.
+
+ghost use Rattle.std.specs.Prelude.{◌≡◌, IfErr};
+ghost use Rattle.rpg_cli_run.specs.Keeping.{IsOfFile, KeepsAnswer, fate_of};
+
+use crate::sharing::{NamedFile, refuse_same_file};
+use rpg_cli_answers::{Answer, Listener, Stop};
+use rpg_cli_files::{FileFault, Opened, Pending};
+use rpg_cli_text::TextWriter;
+use rpg_cli_words::{FileWord, SameFile, Shared};
+use rpg_engine::{JobEnd, Report};
+use std::alloc::{AllocError, Global};
+use std::rt::Files;
+
+/// The files that a run writes beside their places: none of those that it writes in place, or doesn't write.
+#[derive(Drop)]
+pub(crate) struct Kept<'a> {
+    pub print: Option<Pending<'a>>,
+    pub disk: Option<Pending<'a>>,
+}
+
+/// What becomes of new files.
+#[derive(Clone, Copy)]
+pub(crate) enum Fate {
+    /// They are put in their places.
+    Placed,
+    /// They are left beside them.
+    Left,
+    /// They are removed: no job has written them.
+    Removed,
+}
+
+/// What becomes of the new files of a run. They are put in their places only at the end of a job, and not at a halt.
+fn fate(ran: &Result<Report, Stop>) -> Fate
+    ensures { result ≡ fate_of ran.now }
+{
+    match ran {
+        Ok(report) => match report.ending {
+            JobEnd::EndOfJob => Fate::Placed,
+            JobEnd::Halt(_) => Fate::Left,
+        },
+        Err(Stop::Job { .. }) => Fate::Left,
+        Err(_) => Fate::Removed,
+    }
+}
+
+/// Puts a new file, if there is one, in its place.
+fn put_in_place<R: Files>(rt: &R, file: &Option<Pending<'_>>) -> Result<(), FileFault> {
+    match file {
+        Some(pending) => pending.put_in_place(rt),
+        None => Ok(()),
+    }
+}
+
+/// What is told of a file: that it is left as it was, and where its part is, or that the new one stands there.
+fn kept_message(
+    alloc: Global,
+    word: FileWord,
+    place: &str,
+    part: Option<&str>,
+) -> Result<String, AllocError> {
+    let mut out = TextWriter::new(alloc);
+    out.write_shown(place.as_bytes());
+    write!(out, " ({}): ", word.name());
+    match part {
+        Some(part) => {
+            out.write_str("left as it was; what this run wrote is in ");
+            out.write_shown(part.as_bytes());
+        }
+        None => out.write_str("replaced by what this run wrote"),
+    }
+    out.write_char('\n');
+    out.finish()
+}
+
+/// Tells what became of a file. Nothing is told where there is no memory for it.
+fn tell_kept<L: Listener>(
+    alloc: Global,
+    word: FileWord,
+    place: &str,
+    part: Option<&str>,
+    listener: &mut L,
+) {
+    if let Ok(message) = kept_message(alloc, word, place, part) {
+        listener.tell(message.as_str());
+    }
+}
+
+/// Leaves a new file, if there is one, beside its place, and tells where.
+fn leave_part<R: Files + AllocGlobal, L: Listener>(
+    rt: &R,
+    word: FileWord,
+    file: &Option<Pending<'_>>,
+    listener: &mut L,
+) {
+    if let Some(pending) = file {
+        let part = pending.leave_part(rt);
+        tell_kept(rt.alloc(), word, pending.place(), Some(part), listener);
+    }
+}
+
+/// Removes a new file, if there is one.
+fn remove<R: Files>(rt: &R, file: &Option<Pending<'_>>) {
+    if let Some(pending) = file {
+        pending.discard(rt);
+    }
+}
+
+/// A file that is written: by its place, where it's written beside that.
+fn written_file<R: Files>(
+    rt: &R,
+    word: FileWord,
+    opened: &Opened<R::File>,
+    pending: &Option<Pending<'_>>,
+    stream: &str,
+) -> NamedFile {
+    match pending {
+        Some(pending) => NamedFile::at(rt, word, pending.place()),
+        None => NamedFile::opened(rt, word, opened, stream),
+    }
+}
+
+/// Refuses a part that would replace the file of another word.
+fn refuse_part<R: Files>(
+    rt: &R,
+    word: FileWord,
+    file: &Option<Pending<'_>>,
+    others: &[NamedFile],
+) -> Result<(), SameFile> {
+    let Some(pending) = file else {
+        return Ok(());
+    };
+    match refuse_same_file(NamedFile::at(rt, word, pending.part()), others) {
+        Ok(()) => Ok(()),
+        Err(same) => Err(SameFile {
+            earlier: same.earlier,
+            written: same.written,
+            shared: Shared::Part,
+        }),
+    }
+}
+
+/// Two words whose new files would replace one another.
+fn shared_by(earlier: FileWord, written: FileWord, shared: Shared) -> Option<SameFile> {
+    Some(SameFile {
+        earlier,
+        written,
+        shared,
+    })
+}
+
+/// Whether the places of two new files are one, or the part of one goes where the other does.
+fn shared_place<R: Files + AllocGlobal>(
+    rt: &R,
+    print: &Pending<'_>,
+    disk: &Pending<'_>,
+) -> Result<Option<SameFile>, AllocError> {
+    if print.goes_to(rt, disk.place())? {
+        return Ok(shared_by(FileWord::Print, FileWord::Disk, Shared::File));
+    }
+    if print.goes_to(rt, disk.part())? {
+        return Ok(shared_by(FileWord::Print, FileWord::Disk, Shared::Part));
+    }
+    if disk.goes_to(rt, print.part())? {
+        return Ok(shared_by(FileWord::Disk, FileWord::Print, Shared::Part));
+    }
+    Ok(None)
+}
+
+impl<'a> Kept<'a> {
+    pub fn new() -> Self {
+        Kept {
+            print: None,
+            disk: None,
+        }
+    }
+
+    pub fn print_file<R: Files>(
+        &self,
+        rt: &R,
+        opened: &Opened<R::File>,
+        stream: &str,
+    ) -> NamedFile {
+        written_file(rt, FileWord::Print, opened, &self.print, stream)
+    }
+
+    pub fn disk_file<R: Files>(&self, rt: &R, opened: &Opened<R::File>, stream: &str) -> NamedFile {
+        written_file(rt, FileWord::Disk, opened, &self.disk, stream)
+    }
+
+    /// Refuses new files that would replace one another, or the file of another word.
+    pub fn refuse_shared<R: Files + AllocGlobal>(
+        &self,
+        rt: &R,
+        others: &[NamedFile],
+    ) -> Result<(), Stop> {
+        refuse_part(rt, FileWord::Print, &self.print, others)?;
+        refuse_part(rt, FileWord::Disk, &self.disk, others)?;
+        let (Some(print), Some(disk)) = (&self.print, &self.disk) else {
+            return Ok(());
+        };
+        match shared_place(rt, print, disk) {
+            Ok(None) => Ok(()),
+            Ok(Some(same)) => Err(Stop::SameFile(same)),
+            Err(_) => Err(Stop::Answer(Answer::NoMemory)),
+        }
+    }
+
+    /// Puts the new files in their places, the print first. Where one can't be put there, it and the one after it are left beside.
+    fn put_all<R: Files + AllocGlobal, L: Listener>(
+        &self,
+        rt: &R,
+        listener: &mut L,
+    ) -> Result<(), Answer>
+        ensures { IfErr result IsOfFile }
+    {
+        if let Err(fault) = put_in_place(rt, &self.print) {
+            self.leave_all(rt, listener);
+            return Err(Answer::File {
+                word: FileWord::Print,
+                fault,
+            });
+        }
+        if let Err(fault) = put_in_place(rt, &self.disk) {
+            if let Some(print) = &self.print {
+                tell_kept(rt.alloc(), FileWord::Print, print.place(), None, listener);
+            }
+            leave_part(rt, FileWord::Disk, &self.disk, listener);
+            return Err(Answer::File {
+                word: FileWord::Disk,
+                fault,
+            });
+        }
+        Ok(())
+    }
+
+    fn leave_all<R: Files + AllocGlobal, L: Listener>(&self, rt: &R, listener: &mut L) {
+        leave_part(rt, FileWord::Print, &self.print, listener);
+        leave_part(rt, FileWord::Disk, &self.disk, listener);
+    }
+
+    /// Does with the new files what the end of their run asks for, tells of those that are left beside their places, and answers what the run did.
+    ///
+    /// Another answer comes only where a new file can't be put in its place.
+    pub fn finish<R: Files + AllocGlobal, L: Listener>(
+        &self,
+        rt: &R,
+        ran: Result<Report, Stop>,
+        listener: &mut L,
+    ) -> Result<Report, Stop>
+        ensures { KeepsAnswer ran result }
+    {
+        match fate(&ran) {
+            Fate::Placed => {
+                if let Err(answer) = self.put_all(rt, listener) {
+                    return Err(Stop::Answer(answer));
+                }
+            }
+            Fate::Left => self.leave_all(rt, listener),
+            Fate::Removed => {
+                remove(rt, &self.print);
+                remove(rt, &self.disk);
+            }
+        }
+        ran
+    }
+}
