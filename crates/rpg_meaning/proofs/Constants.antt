@@ -1,7 +1,7 @@
 -- Constants begin as they are written, and stay so.
-use Rattle.std.proofs.Common.{◌≡◌, ℕ, ℤ, pos, ◌^◌, ◌<◌, Bool, true, false, cond, ◌&&◌, List, Option, None, Some, refl, sym, ap, ◌∙◌, arith, unsigned_abs}
+use Rattle.std.proofs.Common.{◌≡◌, ℕ, ℤ, pos, ◌^◌, ◌<◌, true, cond, ◌&&◌, List, None, Some, refl, sym, ap, ◌∙◌, arith, unsigned_abs}
 use Rattle.std.specs.Ordering.{nat_cmp}
-use Rattle.rpg_cards.specs.Keys.{Fixed, Key, key_cmp}
+use Rattle.rpg_cards.specs.Keys.{Fixed, key_cmp}
 use Rattle.rpg_cards.specs.declared.constants.Constant.{Constant}
 use Rattle.rpg_cards.specs.declared.constants.Constant.TheVariants as constant
 use Rattle.rpg_cards.specs.declared.spec_card.SpecCard.{SpecCard}
@@ -14,15 +14,15 @@ use Rattle.rpg_cycle_safety.proofs.Dating.{start_holds}
 use Rattle.rpg_cycle_safety.proofs.Starting.{first_holds}
 use Rattle.rpg_cycle_safety.specs.Holding.{Holds}
 use Rattle.rpg_effect.specs.Forms.{form_at, has_field, is_constant}
-use Rattle.rpg_effect.specs.Values.{Number, Value}
-use Rattle.rpg_effect.specs.World.{World, value_in}
+use Rattle.rpg_effect.specs.Values.{Number}
+use Rattle.rpg_effect.specs.World.{World}
 use Rattle.rpg_effect.specs.declared.form.FieldForm.{FieldForm}
 use Rattle.rpg_effect_renaming.specs.Naming.{Agree}
 use Rattle.rpg_job.specs.FirstValues.{meant_constant}
 use Rattle.rpg_job.specs.Forms.{form_of_constant, meant_forms, stands_on}
 use Rattle.rpg_meaning.proofs.Meant.{has_start}
 use Rattle.rpg_meaning.proofs.MeantStart.{start_agrees}
-use Rattle.rpg_meaning.specs.Start.{ConstantsStand, IsStart, start_value, takes_date}
+use Rattle.rpg_meaning.specs.Start.{ConstantsStand, IsStart, takes_date}
 use Rattle.rpg_meaning_calculations.proofs.MeantForms.{form_same}
 use Rattle.rpg_memory.specs.Fits.{KeepsConstants}
 use Rattle.rpg_object_program.specs.Kept.{IsProgram}

@@ -8,7 +8,7 @@ use Rattle.std.specs.Prelude.{find, take, replicate, unwrap_or, slice_range, nat
 use Rattle.std.specs.Cmp.Lexicographic.{pointwise}
 use Rattle.std.specs.List.{cons_option, filter_map, flat_map, range_with_len, zip}
 use Rattle.std.specs.Map.{lookup}
-use Rattle.std.specs.Option.{option_map, option_map_or, option_to_list}
+use Rattle.std.specs.Option.{option_map, option_map_or}
 use Rattle.rpg_cards.specs.Groups.{Group, data_role, followers, following, groups_from, opening}
 use Rattle.rpg_cards.specs.Names.{tables_on}
 use Rattle.rpg_cards.specs.declared.constants.Constant.{Constant}
@@ -19,15 +19,14 @@ use Rattle.rpg_effect.specs.Values.{Number, Text, Value}
 use Rattle.rpg_effect.specs.declared.form.FieldForm.{FieldForm}
 use Rattle.rpg_effect.specs.declared.form.Kind.{Kind}
 use Rattle.rpg_effect.specs.declared.form.Kind.TheVariants as kind
-use Rattle.rpg_sheet_specs.specs.declared.data.DataSpec.{DataSpec}
 use Rattle.rpg_sheet_specs.specs.declared.data.DataSpec.TheVariants as deck
 use Rattle.rpg_sheet_specs.specs.declared.extension.ExtensionSpec.{ExtensionSpec}
 use Rattle.rpg_sheet_specs.specs.declared.extension.TableSpec.{TableSpec}
 use Rattle.rpg_sheet_specs.specs.declared.spec.Spec.{Spec}
 use Rattle.rpg_sheet_specs.specs.declared.spec.Spec.TheVariants as spec
-use Rattle.rpg_compile_program.specs.Data.{Loaded, all_loaded, constant_value, decks, entry_value, extensions, field_values, first_of_kind, kind_by, loaded, tables_loaded, with_deck}
-use Rattle.rpg_faults.specs.Data.{data_columns, data_entries, entries_on, entry_on}
-use Rattle.rpg_job.specs.FirstValues.{Stored, all_stored, begins_deck, meant_blank, meant_constant, data_cards, meant_decks, entry_by, meant_entry, entry_text, meant_named_value, stored_on, wanting, width_of}
+use Rattle.rpg_compile_program.specs.Data.{Loaded, all_loaded, constant_value, decks, entry_value, extensions, field_values, first_of_kind, loaded, tables_loaded, with_deck}
+use Rattle.rpg_faults.specs.Data.{data_entries, entries_on, entry_on}
+use Rattle.rpg_job.specs.FirstValues.{Stored, all_stored, begins_deck, meant_blank, meant_constant, data_cards, meant_decks, entry_by, meant_entry, entry_text, meant_named_value, stored_on, wanting}
 use Rattle.rpg_job.specs.Cards.{up_to}
 use Rattle.rpg_meaning_calculations.proofs.MeantLists.{map_append}
 

@@ -1,22 +1,17 @@
 -- The compiler takes from I cards the record types that the cards mean.
-use Rattle.std.proofs.Common.{◌≡◌, ℕ, Bool, true, false, List, [], ◌∷◌, ◌++◌, map, Option, None, Some, refl, sym, ap, ◌∙◌}
+use Rattle.std.proofs.Common.{◌≡◌, ℕ, List, [], ◌∷◌, ◌++◌, map, Option, None, refl, sym, ap, ◌∙◌}
 use Rattle.std.specs.List.{filter_map, flat_map}
 use Rattle.std.specs.Option.{option_map, option_or, option_to_list}
 use Rattle.rpg_cards.specs.Cards.{input_field_in, input_field_on, type_on}
-use Rattle.rpg_cards.specs.Files.{file_by}
-use Rattle.rpg_cards.specs.Groups.{Group, followers, following, groups_from, input_role, opening}
-use Rattle.rpg_cards.specs.Keys.{Key}
+use Rattle.rpg_cards.specs.Groups.{followers, following, groups_from, input_role, opening}
 use Rattle.rpg_cards.specs.declared.spec_card.SpecCard.{SpecCard}
-use Rattle.rpg_effect.specs.Input.{TypeRow}
 use Rattle.rpg_sheet_specs.specs.declared.indicator.Three.{Three}
-use Rattle.rpg_sheet_specs.specs.declared.input.InputField.{InputField}
-use Rattle.rpg_sheet_specs.specs.declared.input.InputSpec.{InputSpec}
 use Rattle.rpg_sheet_specs.specs.declared.input.InputSpec.TheVariants as input
 use Rattle.rpg_sheet_specs.specs.declared.input.RecordCode.{RecordCode}
 use Rattle.rpg_sheet_specs.specs.declared.input.RecordType.{RecordType}
 use Rattle.rpg_sheet_specs.specs.declared.spec.Spec.{Spec}
 use Rattle.rpg_sheet_specs.specs.declared.spec.Spec.TheVariants as spec
-use Rattle.rpg_compile_program.specs.Types.{and_card_codes, card_type, codes_of, control_field_of, input_file, input_row, match_field_of, types_on}
+use Rattle.rpg_compile_program.specs.Types.{and_card_codes, card_type, codes_of, control_field_of, input_row, match_field_of, types_on}
 use Rattle.rpg_job.specs.Cards.{filled, up_to}
 use Rattle.rpg_job.specs.RecordTypes.{asked_for, begins_type, codes_on, meant_file, types_after, type_with, meant_types}
 use Rattle.rpg_meaning_calculations.proofs.MeantFiles.{read_from_is_meant}

@@ -1,0 +1,157 @@
+#!/usr/bin/env python3
+"""Which definitions a contract rests on: those that its clauses name, and those that these name in turn.
+
+usage, at the top of the repository:
+    bench/reading.py [execute|compile|meaning]
+
+For each contract it prints its crates in the order of crates.txt, with the files of specs/ that have such definitions (a file after those
+that it uses) and how many definitions and lines these are, without comments and `use` lines. docs/develop/READING.md has the lists.
+"""
+
+import re
+import sys
+from collections import defaultdict
+from functools import cache
+from graphlib import TopologicalSorter
+from pathlib import Path
+
+# a contract: the file and the name of its function
+CONTRACTS = {
+    "execute": ("crates/rpg_engine/src/engine.rt", "execute"),
+    "compile": ("crates/rpg_compile/src/source.rt", "compile"),
+    "meaning": ("crates/rpg_source_run/src/run.rt", "run_source"),
+}
+USE = re.compile(r"^\s*(?:ghost )?(?:pub )?use Rattle\.(\w+)\.specs\.([\w.]+?)(?:\.\{(.*)\}|\s+as\s+(\S+?))?;?\s*$")
+WORD = re.compile(r"[^\s(){}\[\],;λ→:]+")
+
+
+def uses_of(lines):
+    """What the `use` lines bring in: names with where they are defined, and modules by another name."""
+    names, modules = {}, {}
+    for line in lines:
+        if found := USE.match(line):
+            module = (found[1], found[2])
+            if found[4]:
+                modules[found[4]] = module
+            for it in (found[3] or "").split(","):
+                name, _, other = it.strip().partition(" as ")
+                if name:
+                    names[other or name] = (module, name)
+    return names, modules
+
+
+class Module:
+    """A file of specs/: its definitions by name, each with its lines, and what its `use` lines bring in."""
+
+    def __init__(self, path):
+        lines = path.read_text(encoding="utf-8").split("\n")
+        self.names, self.modules = uses_of(lines)
+        self.own, self.made_by, current, kind, depth = defaultdict(list), {}, None, "", 0
+        for line in (it.partition("--")[0].rstrip() for it in lines):
+            text = line.strip()
+            if not text or re.match(r"(ghost |pub )*use |pub mod |infix", text):
+                continue
+            if re.match(r"module\b", text):
+                current = None
+                continue
+            indent = len(line) - len(line.lstrip())
+            head = re.match(r"(?:(?:abbrev|unfoldable|pub|record|data) )+([^\s:({]+)", text)
+            plain = re.match(r"([^\s:({=]+) : ", text)
+            if head and not (kind == "record" and indent > depth and text.startswith("pub ")):
+                current, kind, depth = head[1], "record" if "record " in head[0] else "data" if "data " in head[0] else "", indent
+            elif plain and current and kind == "data" and indent > depth:
+                self.made_by[plain[1]] = current
+            elif plain and (current is None or indent <= depth):
+                current, kind, depth = plain[1], "", indent
+            if current:
+                self.own[current].append(line)
+
+
+@cache
+def module_at(module):
+    path = Path("crates", module[0], "specs", module[1].replace(".", "/") + ".antt")
+    return Module(path) if path.exists() and ".declared" not in f".{module[1]}" else None
+
+
+def found_in(module, word):
+    """The definition that a word of a module names, if it is one of the repository's."""
+    it = module_at(module)
+    for name in (word, f"◌{word}◌"):
+        if name in it.own:
+            return module, name
+        if name in it.made_by:
+            return module, it.made_by[name]
+        if name in it.names:
+            return followed(*it.names[name])
+    front, _, rest = word.partition(".")
+    if rest and front in it.modules:
+        return followed(it.modules[front], rest.partition(".")[0])
+    return found_in(module, front) if rest else None
+
+
+def followed(module, name):
+    it = module_at(module)
+    if it is None:
+        return None
+    if name in it.own:
+        return module, name
+    if name in it.made_by:
+        return module, it.made_by[name]
+    return followed(*it.names[name]) if name in it.names else None
+
+
+def roots(file, function):
+    """The definitions that the clauses of a function name."""
+    text = Path(file).read_text(encoding="utf-8")
+    names, modules = uses_of(text.split("\n"))
+    clauses = re.search(rf"^pub fn {function}\b.*?^{{", text, re.M | re.S)[0]
+    for word in WORD.findall(clauses):
+        front, _, rest = word.partition(".")
+        if word in names and (it := followed(*names[word])):
+            yield it
+        elif front in modules and (it := followed(modules[front], rest.partition(".")[0])):
+            yield it
+
+
+def reached(start):
+    found, left = set(), list(start)
+    while left:
+        it = left.pop()
+        if it in found:
+            continue
+        found.add(it)
+        for line in module_at(it[0]).own[it[1]]:
+            for word in WORD.findall(line):
+                if other := found_in(it[0], word.strip(".")):
+                    left.append(other)
+    return found
+
+
+def in_order(modules):
+    """Modules of one crate, each after those that it uses."""
+    above = {}
+    for it in modules:
+        used = {module for module, _ in module_at(it).names.values()} | set(module_at(it).modules.values())
+        above[it] = sorted(used & set(modules))
+    return list(TopologicalSorter(dict(sorted(above.items()))).static_order())
+
+
+def printed(name):
+    definitions = reached(roots(*CONTRACTS[name]))
+    lines = lambda them: sum(len(module_at(module).own[it]) for module, it in them)
+    crates = [line.partition(":")[0] for line in Path("crates.txt").read_text(encoding="utf-8").splitlines() if line.startswith("rpg")]
+    files = {module for module, _ in definitions}
+    print(f"{name}: {len(definitions)} definitions in {len(files)} files, {lines(definitions)} lines")
+    for crate in crates:
+        if own := [it for it in files if it[0] == crate]:
+            here = [it for it in definitions if it[0][0] == crate]
+            print(f"| {crate} | {', '.join(it[1] for it in in_order(own))} | {len(here)} | {lines(here)} |")
+
+
+def main():
+    for name in sys.argv[1:] or CONTRACTS:
+        printed(name)
+
+
+if __name__ == "__main__":
+    main()
