@@ -1,1 +1,3 @@
+mod ConversionLemmas
 mod DigitLemmas
+mod ReadLemmas

@@ -1,5 +1,13 @@
 //! All records of an input as lines, and all lines as records.
 
+ghost use Rattle.std.specs.Prelude.{◌≡◌, ◌≢◌, ◌-◌, ◌++◌, replicate, vec_len, Some, option_map, IfOk, IfSome, OnOk};
+ghost use Rattle.std.specs.Io.KnownBytes.{Appends};
+ghost use Rattle.rpg_record_lines.specs.Files.{ConvertsRest, is_dropped, whole_text_of};
+ghost use Rattle.rpg_record_lines.specs.Formats.{file_for};
+ghost use Rattle.rpg_record_lines.specs.declared.frames.Framing.TheVariants as framings;
+ghost use Rattle.rpg_record_lines.specs.Frames.{GivesFrame, framing_of, most_of, remaining_of};
+ghost use Rattle.rpg_record_lines.specs.Makers.{TakesStep, file_of};
+
 use crate::fault::{LineFault, RecordFault};
 use crate::frames::{FrameFault, Frames, Framing, Next};
 use crate::layout::Layout;
@@ -27,6 +35,22 @@ pub struct RecordFormat {
 pub struct Counts {
     pub records: u64,
     pub dropped: u64,
+}
+
+impl Counts {
+    fn after(self, step: Step) -> Self {
+        match step {
+            Step::Written => Counts {
+                records: self.records.saturating_add(1),
+                ..self
+            },
+            Step::Dropped => Counts {
+                dropped: self.dropped.saturating_add(1),
+                ..self
+            },
+            Step::End => self,
+        }
+    }
 }
 
 /// Why a conversion ended early.
@@ -80,7 +104,9 @@ fn line_fault(number: u64, offset: u64, fault: LineFault) -> ConversionFault {
     }
 }
 
-fn send<W: Write>(writer: &mut W, bytes: &[u8]) -> Result<(), ConversionFault> {
+fn send<W: Write>(writer: &mut W, bytes: &[u8]) -> Result<(), ConversionFault>
+    ensures { OnOk result (Appends (W.contents writer.old) (W.contents writer.new) bytes.now) }
+{
     match writer.write_all(bytes) {
         Ok(()) => Ok(()),
         Err(_) => Err(ConversionFault::Write),
@@ -92,7 +118,11 @@ fn next_record<R: Read + Drop>(
     frames: &mut Frames<R>,
     number: u64,
     record: &mut Vec<u8>,
-) -> Result<Next, ConversionFault> {
+) -> Result<Next, ConversionFault>
+    ensures framing { framing_of frames.new ≡ framing_of frames.old }
+    ensures most { most_of frames.new ≡ most_of frames.old }
+    ensures record { framing_of frames.old ≢ framings.Lines → IfOk result (GivesFrame (framing_of frames.old) (most_of frames.old) (remaining_of R.remaining frames.old) (remaining_of R.remaining frames.new) record.new.items) }
+{
     match frames.next(record) {
         Err(fault) => Err(frame_fault(number, frames.offset(), fault)),
         Ok(Next::Record) if number > MOST_RECORDS => Err(ConversionFault::Record {
@@ -105,8 +135,10 @@ fn next_record<R: Read + Drop>(
 }
 
 /// Fills a record up to so many bytes.
-fn pad(record: &mut Vec<u8>, length: usize, blank: u8) -> Result<(), AllocError> {
-    for _ in record.len()..length {
+fn pad(record: &mut Vec<u8>, length: usize, blank: u8) -> Result<(), AllocError>
+    ensures { OnOk result (record.new.items ≡ record.old.items ++ replicate (length - vec_len record.old) blank) }
+{
+    while record.len() < length {
         record.push(blank)?;
     }
     Ok(())
@@ -134,7 +166,9 @@ enum Step {
 
 impl<'a> LineMaker<'a> {
     /// Room for one record and one line.
-    fn new(alloc: Global, layout: &'a Layout, format: RecordFormat) -> Result<Self, AllocError> {
+    fn new(alloc: Global, layout: &'a Layout, format: RecordFormat) -> Result<Self, AllocError>
+        ensures file { IfOk result (λ maker. file_of format.framing maker ≡ file_for layout.now format) }
+    {
         let length = usize::from(layout.length);
         Ok(LineMaker {
             converter: Converter::new(layout, format.page, format.low_blank),
@@ -146,7 +180,9 @@ impl<'a> LineMaker<'a> {
     }
 
     /// Whether the last record is left out.
-    fn is_dropped(&self) -> bool {
+    fn is_dropped(&self) -> bool
+        ensures { result ≡ is_dropped self.now.dropped self.now.record.items }
+    {
         match (self.dropped, self.record.first()) {
             (Some(byte), Some(first)) => *first == byte,
             _ => false,
@@ -154,7 +190,12 @@ impl<'a> LineMaker<'a> {
     }
 
     /// Makes the line of the last record, with its line feed.
-    fn make_line(&mut self) -> Result<(), LineFault> {
+    fn make_line(&mut self) -> Result<(), LineFault>
+        ensures converter { self.new.converter ≡ self.old.converter }
+        ensures dropped { self.new.dropped ≡ self.old.dropped }
+        ensures length { self.new.length ≡ self.old.length }
+        ensures line { OnOk result (whole_text_of (file_of framings.EndToEnd self.old) self.old.record.items ≡ Some self.new.line.items) }
+    {
         let blank = self.converter.byte_of(b' ');
         pad(&mut self.record, self.length, blank)?;
         self.converter
@@ -164,12 +205,21 @@ impl<'a> LineMaker<'a> {
     }
 
     /// Writes the line of the next record, if it isn't left out.
+    #[tactic(auto, using(crate::proofs::ConversionLemmas::converts_line))]
     fn write_next<R: Read + Drop, W: Write>(
         &mut self,
         frames: &mut Frames<R>,
         number: u64,
         writer: &mut W,
-    ) -> Result<Step, ConversionFault> {
+    ) -> Result<Step, ConversionFault>
+        requires { most_of frames.old ≡ self.old.length }
+        ensures converter { self.new.converter ≡ self.old.converter }
+        ensures dropped { self.new.dropped ≡ self.old.dropped }
+        ensures length { self.new.length ≡ self.old.length }
+        ensures framing { framing_of frames.new ≡ framing_of frames.old }
+        ensures most { most_of frames.new ≡ most_of frames.old }
+        ensures step { framing_of frames.old ≢ framings.Lines → IfOk result (TakesStep (file_of (framing_of frames.old) self.old) (remaining_of R.remaining frames.old) (remaining_of R.remaining frames.new) (W.contents writer.old) (W.contents writer.new)) }
+    {
         if let Next::End = next_record(frames, number, &mut self.record)? {
             return Ok(Step::End);
         }
@@ -184,6 +234,34 @@ impl<'a> LineMaker<'a> {
     }
 }
 
+/// Writes the lines of all records that are left.
+#[tactic(auto, using(crate::proofs::ConversionLemmas::converts_nothing, crate::proofs::ConversionLemmas::converts_step, crate::proofs::ConversionLemmas::converts_end))]
+fn write_all<R: Read + Drop, W: Write>(
+    maker: &mut LineMaker<'_>,
+    frames: &mut Frames<R>,
+    writer: &mut W,
+) -> Result<Counts, ConversionFault>
+    requires { most_of frames.old ≡ maker.old.length }
+    ensures lines { framing_of frames.old ≢ framings.Lines → OnOk result (ConvertsRest (file_of (framing_of frames.old) maker.old) (remaining_of R.remaining frames.old) (remaining_of R.remaining frames.new) (W.contents writer.old) (W.contents writer.new)) }
+{
+    let mut counts = Counts {
+        records: 0,
+        dropped: 0,
+    };
+    for number in 1..=MOST_RECORDS + 1 {
+        let step = maker.write_next(frames, number, writer)?;
+        if let Step::End = step {
+            return Ok(counts);
+        }
+        counts = counts.after(step);
+    }
+    Err(ConversionFault::Record {
+        number: MOST_RECORDS + 1,
+        offset: frames.offset(),
+        fault: RecordFault::TooMany,
+    })
+}
+
 /// Writes a line for each record of a reader. Memory is taken for one record, for one line and for a piece of the input, however many records there are.
 pub fn records_to_lines<R: Read + Drop, W: Write>(
     alloc: Global,
@@ -194,19 +272,7 @@ pub fn records_to_lines<R: Read + Drop, W: Write>(
 ) -> Result<Counts, ConversionFault> {
     let mut maker = LineMaker::new(alloc, layout, format)?;
     let mut frames = Frames::new(alloc, reader, format.framing, maker.length)?;
-    let (mut records, mut dropped) = (0u64, 0u64);
-    for number in 1..=MOST_RECORDS + 1 {
-        match maker.write_next(&mut frames, number, writer)? {
-            Step::Written => records = records.saturating_add(1),
-            Step::Dropped => dropped = dropped.saturating_add(1),
-            Step::End => return Ok(Counts { records, dropped }),
-        }
-    }
-    Err(ConversionFault::Record {
-        number: MOST_RECORDS + 1,
-        offset: frames.offset(),
-        fault: RecordFault::TooMany,
-    })
+    write_all(&mut maker, &mut frames, writer)
 }
 
 /// Writes a record as it stands in a file.

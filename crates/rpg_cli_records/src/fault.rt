@@ -1,0 +1,60 @@
+//! Why a deck has no layout.
+
+use std::alloc::{AllocError, AllocFailed};
+
+/// What is wrong with a card.
+#[derive(Clone, Copy, PartialEq, Eq)]
+pub enum CardFault {
+    /// It has more than 80 characters.
+    TooLong,
+    /// A byte is no character.
+    NoCharacter,
+    /// It is card 2,001.
+    TooMany,
+    /// These columns have a bad value.
+    Columns { first: u8, last: u8 },
+    /// The length of a record isn't 1 to 9,999.
+    Length,
+    /// The columns aren't in the record.
+    Outside,
+    /// A packed field hasn't 1 to 8 bytes, or a binary one not 2 or 4.
+    Size,
+    /// A packed or binary field has no decimals.
+    NoDecimals,
+    /// A column is one of characters and of a packed or binary field.
+    Shared { card: u16 },
+    /// The longest line would have more than 9,999 columns.
+    Wide { columns: usize },
+    /// The file has no record type.
+    NoType,
+    /// Records are lines, and a field is packed or binary.
+    BytesInLines,
+}
+
+/// Why a deck has no layout.
+#[derive(Clone, Copy, PartialEq, Eq)]
+pub enum DeckFault {
+    /// A card is refused. Cards are numbered from 1.
+    Card { number: u16, fault: CardFault },
+    /// No card describes the file.
+    NoFile,
+    NoMemory,
+}
+
+impl DeckFault {
+    pub(crate) fn at(number: u16, fault: CardFault) -> Self {
+        DeckFault::Card { number, fault }
+    }
+}
+
+impl From<AllocError> for DeckFault {
+    fn from(_: AllocError) -> Self {
+        DeckFault::NoMemory
+    }
+}
+
+impl<T: Drop> From<AllocFailed<T>> for DeckFault {
+    fn from(_: AllocFailed<T>) -> Self {
+        DeckFault::NoMemory
+    }
+}

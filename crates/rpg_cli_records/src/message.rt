@@ -1,0 +1,144 @@
+//! What is told of a deck or a record that is refused.
+
+use crate::fault::{CardFault, DeckFault};
+use rpg_cli_text::TextWriter;
+use rpg_record_lines::{NumberFault, RecordFault};
+use std::alloc::{AllocError, Global};
+
+/// The digits of a byte.
+const HEX: &[u8; 16] = b"0123456789abcdef";
+
+fn write_bytes(out: &mut TextWriter, bytes: &[u8]) {
+    for byte in bytes {
+        out.write_char(char::from(HEX[usize::from(*byte / 16)]));
+        out.write_char(char::from(HEX[usize::from(*byte % 16)]));
+    }
+}
+
+fn write_card_fault(out: &mut TextWriter, fault: CardFault) {
+    match fault {
+        CardFault::TooLong => out.write_str("the card has more than 80 characters"),
+        CardFault::NoCharacter => out.write_str("the card has a byte that is no character"),
+        CardFault::TooMany => out.write_str("it is card 2,001"),
+        CardFault::Columns { first, last } => write!(
+            out,
+            "columns {first} to {last} have a value that isn't allowed, or a column is filled that must be blank"
+        ),
+        CardFault::Length => out.write_str("a record has 1 to 9,999 bytes: give --length"),
+        CardFault::Outside => out.write_str("the columns aren't in the record"),
+        CardFault::Size => {
+            out.write_str("a packed field has 1 to 8 bytes, a binary one has 2 or 4")
+        }
+        CardFault::NoDecimals => {
+            out.write_str("a packed or binary field is a number: it has its decimals in 52")
+        }
+        CardFault::Shared { card } => write!(
+            out,
+            "of the type of card {card}, a column is one of characters and of a packed or binary field"
+        ),
+        CardFault::Wide { columns } => {
+            write!(
+                out,
+                "lines would have {columns} columns, and 9,999 are the most"
+            )
+        }
+        CardFault::NoType => out.write_str("the file has no record type on the I cards"),
+        CardFault::BytesInLines => out.write_str(
+            "with --lines no field may be packed or binary: its bytes could end a line",
+        ),
+    }
+}
+
+/// What is wrong with the deck that `path` names.
+pub fn deck_message(alloc: Global, path: &str, fault: DeckFault) -> Result<String, AllocError> {
+    let mut out = TextWriter::new(alloc);
+    out.write_shown(path.as_bytes());
+    match fault {
+        DeckFault::Card { number, fault } => {
+            write!(out, ":{number}: ");
+            write_card_fault(&mut out, fault);
+        }
+        DeckFault::NoFile => out.write_str(": no card describes such an input file"),
+        DeckFault::NoMemory => out.write_str(": no memory"),
+    }
+    out.write_char('\n');
+    out.finish()
+}
+
+fn write_number_fault(out: &mut TextWriter, fault: NumberFault) {
+    out.write_str(match fault {
+        NumberFault::NotPacked => ": no packed number",
+        NumberFault::NotZoned => ": no number",
+        NumberFault::TooLarge => ": the number has more digits than the field",
+    });
+}
+
+/// By one side it is of the type of a card, by the other side of that of another one.
+fn write_types(out: &mut TextWriter, one: &str, card: u16, side: &str, other: Option<u16>) {
+    write!(
+        out,
+        "by its {one} it is of the type of card {card}, by its {side} "
+    );
+    match other {
+        Some(other) => write!(out, "of that of card {other}"),
+        None => out.write_str("of none"),
+    }
+}
+
+fn write_record_fault(out: &mut TextWriter, fault: RecordFault) {
+    match fault {
+        RecordFault::Cut { bytes } => write!(out, "the input ends after {bytes} bytes of it"),
+        RecordFault::NoDescriptor { bytes } => {
+            write_bytes(out, &bytes);
+            out.write_str(": no record descriptor");
+        }
+        RecordFault::TooLong { bytes } => {
+            write!(out, "it has {bytes} bytes, more than the cards say")
+        }
+        RecordFault::LongLine { most } => {
+            write!(
+                out,
+                "it has more than {most} bytes, the most that a line can have"
+            )
+        }
+        RecordFault::NoType => out.write_str("it is of no type"),
+        RecordFault::NoCharacter { column, byte } => {
+            write!(out, "column {column}: ");
+            write_bytes(out, &[byte]);
+            out.write_str(": the byte is no character");
+        }
+        RecordFault::BadNumber {
+            card,
+            first,
+            last,
+            bytes,
+            fault,
+        } => {
+            write!(out, "columns {first} to {last} (card {card}): ");
+            write_bytes(out, bytes.as_slice());
+            write_number_fault(out, fault);
+        }
+        RecordFault::OtherLine { card, other } => write_types(out, "bytes", card, "line", other),
+        RecordFault::OtherRecord { card, other } => write_types(out, "line", card, "bytes", other),
+        RecordFault::BadDigits { card, first, last } => {
+            write!(out, "columns {first} to {last} (card {card}): no number")
+        }
+        RecordFault::TooMany => out.write_str("a file has at most 10,000,000 records"),
+    }
+}
+
+/// What is wrong with a record, or a line, of the file that `path` names. Records are numbered from 1, bytes from 0.
+pub fn record_message(
+    alloc: Global,
+    path: &str,
+    number: u64,
+    offset: u64,
+    fault: RecordFault,
+) -> Result<String, AllocError> {
+    let mut out = TextWriter::new(alloc);
+    out.write_shown(path.as_bytes());
+    write!(out, ": record {number} at byte {offset}: ");
+    write_record_fault(&mut out, fault);
+    out.write_char('\n');
+    out.finish()
+}
