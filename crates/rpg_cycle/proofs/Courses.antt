@@ -9,7 +9,6 @@ use Rattle.rpg_cycle.proofs.Composing.{output_both, output_none}
 use Rattle.rpg_cycle.proofs.Counting.{own_count}
 use Rattle.rpg_cycle.proofs.Cycling.{at_first, keeps}
 use Rattle.rpg_cycle.proofs.Ending.{shorter}
-use Rattle.rpg_cycle.proofs.JobCycles.{cycles_behind}
 use Rattle.rpg_cycle_records.specs.Earlier.{Selected, left_by, with_record}
 use Rattle.rpg_cycle_records.specs.Merging.{AreMergedInOrder}
 use Rattle.rpg_cycle_records.specs.Waiting.{Inputs, unread}
@@ -171,7 +170,7 @@ went_on : (old mid new : AtWork) (records rest : Records) (a b : Option (List �
     DoesCycle mid u.earlier (last_position_from None u.out.lines) a b GoesOn new
 went_on old mid new records rest a b cycles most u h s =
     let q = last_position_from None u.out.lines in
-    let d = cycles_behind mid new a b h u.earlier u.left u.orderly q u.last in
+    let d = h.does u.earlier u.left u.orderly q u.last in
     subst (λ (e : PhaseEnd). DoesCycle mid u.earlier q a b e new) (went d.0 (sym d.1.stage ∙ sym s)) d.1
 
 pub one_more : (old mid new : AtWork) (records rest : Records) (a b : Option (List ℕ)) (cycles most greater : ℕ) → IsUnderWay old records mid rest cycles most →
@@ -255,7 +254,7 @@ pub ended_so : (old mid new : AtWork) (records rest : Records) (a b : Option (Li
     s ≡ record { ending = e; cycles = cycles + 1; most = max most new.config.steps } → RunsRecords old records s new
 ended_so old mid new records rest a b cycles most e s u first second h g is =
     let q = last_position_from None u.out.lines in
-    let x = cycles_behind mid new a b h u.earlier u.left u.orderly q u.last in
+    let x = h.does u.earlier u.left u.orderly q u.last in
     let d : DoesCycle mid u.earlier q a b (job_end e) new = subst (λ (y : PhaseEnd). DoesCycle mid u.earlier q a b y new) (was_ended x.0 (job_end e) (sym x.1.stage ∙ sym g)) x.1 in
     ends_by old mid new records rest a b cycles most e s u d
     (job_end e, d.there, d.out, with_next mid u.earlier q rest a b (job_end e) d.there d.out first second d.cycle, ends_here e d.there d.out _) is
@@ -264,4 +263,4 @@ ended_so old mid new records rest a b cycles most e s u first second h g is =
 pub still_low : (old mid new : AtWork) (records rest : Records) (a b : Option (List ℕ)) (cycles most : ℕ) → IsUnderWay old records mid rest cycles most → Cycles mid a b new → new.config.steps ≤ bound new.program →
     new.config.steps ≤ bound old.program
 still_low old mid new records rest a b cycles most u h few =
-    subst (λ (p : Object). new.config.steps ≤ bound p) ((h.does (last_position_from None u.out.lines) u.last).1.program ∙ u.program) few
+    subst (λ (p : Object). new.config.steps ≤ bound p) ((h.does u.earlier u.left u.orderly (last_position_from None u.out.lines) u.last).1.program ∙ u.program) few

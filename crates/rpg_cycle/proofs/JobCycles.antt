@@ -2,7 +2,7 @@
 use Rattle.std.proofs.Common.{◌≡◌, ℕ, List, [], Option, None, Some, refl, sym, ap, ◌∙◌, subst, append-nil}
 use Rattle.rpg_paper.specs.Paper.{Position, last_position_from}
 use Rattle.rpg_effect.specs.Put.{Bytes, line_of, with_output}
-use Rattle.rpg_cycle.proofs.Cycling.{from_last, keeps, to_last}
+use Rattle.rpg_cycle.proofs.Cycling.{from_last, keeps}
 use Rattle.rpg_cycle.specs.Doing.{Does, Beside, holding, under_way, unselected}
 use Rattle.rpg_cycle_records.specs.Earlier.{Left, Selected, left_by, with_record}
 use Rattle.rpg_cycle_records.specs.Merging.{AreMergedInOrder}
@@ -27,39 +27,9 @@ pub leaves : (p : Object) (earlier : List Selected) (t : Option ℕ) (text : Lis
 leaves p earlier None text = refl
 leaves p earlier (Some t) text = refl
 
--- records that leave the same leave the same with one more
-pub same_with : (p : Object) (s : Option Selected) (a b : List Selected) → left_by p a ≡ left_by p b → left_by p (with_record s a) ≡ left_by p (with_record s b)
-same_with p None a b h = h
-same_with p (Some s) a b h = sym (leaves p a (Some s.type) s.text) ∙ ap (λ (l : Left). noted p (Some s.type) (renewed_by p (Some s.type) s.text l)) h ∙ leaves p b (Some s.type) s.text
-
 -- a cycle that seeks matches by what these records left
 abbrev pub CycleBy : Object → Left → Option (List ℕ) → Option (List ℕ) → UnderWay → PhaseEnd → UnderWay → Output → Type 0
 CycleBy p left primary secondary c e d out = CycleOn p left (finds_match p left) primary secondary c e d out
-
--- a cycle is the same behind all records that leave the same, where the files are in their order
-pub does_behind : (old new : AtWork) (a b : List Selected) (previous : Option Position) (x y : Option (List ℕ)) (e : PhaseEnd) → left_by old.program a ≡ left_by old.program b →
-    AreMergedInOrder old.program a old.inputs → AreMergedInOrder old.program b old.inputs → DoesCycle old a previous x y e new → DoesCycle old b previous x y e new
-does_behind old new a b previous x y e same one two d = record {
-  stage = d.stage;
-  program = d.program;
-  there = d.there;
-  out = d.out;
-  cycle = from_last old.program b x y (config_on previous old.config) old.inputs e d.there d.out two
-      (subst (λ (l : Left). CycleBy old.program l x y (begun old.program (config_on previous old.config) old.inputs) e d.there d.out) same
-      (to_last old.program a x y (config_on previous old.config) old.inputs e d.there d.out one d.cycle));
-  config = d.config;
-  left = λ on. d.left on ∙ same_with old.program d.there.selected a b same;
-  inputs = d.inputs;
-  last = d.last;
-  bytes = d.bytes;
-}
-
--- behind all that leave what the job keeps
-pub cycles_behind : (old new : AtWork) (x y : Option (List ℕ)) → Cycles old x y new → (earlier : List Selected) → old.left ≡ left_by old.program earlier → AreMergedInOrder old.program earlier old.inputs →
-    (previous : Option Position) → old.last ≡ line_of previous → (e : PhaseEnd) × DoesCycle old earlier previous x y e new
-cycles_behind old new x y c earlier is order previous placed =
-    let d = c.does previous placed in
-    (d.0, does_behind old new c.behind.earlier earlier previous x y d.0 (sym c.behind.leave ∙ is) c.behind.orderly order d.1)
 
 -- a record that was selected is one more of those that left what is kept
 pub one_more : (old new : AtWork) (earlier : List Selected) (previous : Option Position) (x y : Option (List ℕ)) → AreMergedInOrder old.program earlier old.inputs → DoesCycle old earlier previous x y GoesOn new →

@@ -90,10 +90,12 @@ pub record DoesCycle (old : AtWork) (earlier : List Selected) (previous : Option
   pub last : new.last ≡ line_of (last_position_from previous out.lines)
   pub bytes : new.output ≡ with_feed (feed_at (stage_at e) new.last) (with_output previous out.lines out.records old.output)
 
--- A cycle after the earlier records that left what the job keeps, whatever was placed before. It is the same after all that leave this.
+-- A cycle after earlier records that left what the job keeps, whatever was placed before. There are such records, and it is the same cycle
+-- after each list of them that came in order.
 pub record Cycles (old : AtWork) (primary secondary : Option (List ℕ)) (new : AtWork) : Type 0 where
   pub behind : IsBehind old.program old.left old.inputs
-  pub does : (previous : Option Position) → old.last ≡ line_of previous → (e : PhaseEnd) × DoesCycle old behind.earlier previous primary secondary e new
+  pub does : (earlier : List Selected) → old.left ≡ left_by old.program earlier → AreMergedInOrder old.program earlier old.inputs
+      → (previous : Option Position) → old.last ≡ line_of previous → (e : PhaseEnd) × DoesCycle old earlier previous primary secondary e new
 
 -- the next cycle takes a record in from a file: the job goes on, and the file takes one in
 abbrev pub job_needs_record : AtWork → InputFile → Bool

@@ -2,7 +2,6 @@
 use Rattle.std.proofs.Common.{◌≡◌, ℕ, ◌+◌, ◌&&◌, Bool, true, false, List, [], ◌∷◌, ◌++◌, length, Option, Some, None, Result, Ok, refl, sym, ap, ◌∙◌, subst, arith, inl, inr}
 use Rattle.std.proofs.KnownBytes.{Consumes-nil}
 use Rattle.std.proofs.lemmas.Bool.{and_right}
-use Rattle.rpg_cycle.proofs.JobCycles.{cycles_behind}
 use Rattle.rpg_cycle.specs.Ends.{EndOfJob, GoesOn, Halt, PhaseEnd, Wrong}
 use Rattle.rpg_cycle.specs.Job.{AtWork, DoesCycle, job_needs_record}
 use Rattle.rpg_cycle.specs.Phases.{Cycle, begun, needs_record}
@@ -198,7 +197,7 @@ module _ {R S : Type 0} (remaining : R → Option (List ℕ)) (others : S → Op
   takes_next limit limit_too earlier leave order previous placed =
       let x = record_with primary' takes.first in
       let y = record_with secondary' takes.second in
-      let went = cycles_behind job job' x y takes.cycles earlier leave order previous placed in
+      let went = takes.cycles.does earlier leave order previous placed in
       let c = config_on previous job.config in (
         went.0,
         record {
@@ -228,7 +227,7 @@ module _ {R S : Type 0} (remaining : R → Option (List ℕ)) (others : S → Op
   both_behind earlier leave order previous placed stage one two =
       let x = record_with primary' takes.first in
       let y = record_with secondary' takes.second in
-      let done = cycles_behind job job' x y takes.cycles earlier leave order previous placed in
+      let done = takes.cycles.does earlier leave order previous placed in
       let took = gone_on job job' earlier previous x y done.0 order done.1 (went done.0 (sym done.1.stage ∙ stage)) in
       (behind_first took one, behind_second took two)
 

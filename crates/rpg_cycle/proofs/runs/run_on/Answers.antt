@@ -72,3 +72,18 @@ returns-in-Ended-clause-runs g c =
     (next_is mid Secondary c.needs-need.result.secondary rest.secondary b going c.needs-need.ensures.secondary c.split_needed-in-loop-progress.ensures.next)
     c.in_ok-progress.ensures.done (ap stage_of (sym c.in-Ended.is) ∙ c.in_ok-progress.ensures.stage)
     (ap (λ (n : ℕ). let s : Summary = record { ending = c.in-Ended.ending; cycles = c.loop-progress.cycles + 1; most = n } in s) (c.max-most.ensures ∙ ap (max c.loop-progress.most) c.steps.ensures))
+
+pub returns-in-Ended-clause-bound : goal.returns-in-Ended-clause-bound
+returns-in-Ended-clause-bound g c =
+    let old = c.args.job.now in
+    let all = records_in c.args.primary.now c.args.secondary.now in
+    let rest = records_in c.loop-progress.primary.now c.loop-progress.secondary.now in
+    let a = option_map (λ t. t.now) c.split_needed.result.0 in
+    let b = option_map (λ t. t.now) c.split_needed-in-loop-progress.result.0 in
+    omega (
+      arith,
+      c.loop-progress.invariant.low,
+      c.max-most.ensures,
+      c.steps.ensures,
+      still_low old c.loop-progress.job c.cycle_on.new.self all rest a b c.loop-progress.cycles c.loop-progress.most c.loop-progress.invariant.under_way c.in_ok-progress.ensures.done c.in_ok-progress.ensures.bound,
+    )

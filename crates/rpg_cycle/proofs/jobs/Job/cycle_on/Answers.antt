@@ -33,11 +33,11 @@ returns-in-Ok-clause-done g c =
     let new = job p c.run_cycle.new.machine (left_of c.note.new.self) (inputs_of c.note.new.self) Going in
     subst (λ (old : of.AtWork). of.Cycles old x y new) c.self.view_is (record {
       behind = behind;
-      does = λ previous l. (
+      does = λ earlier leave orderly previous l. (
         GoesOn,
-        subst (λ (j : Inputs). of.DoesCycle was behind.earlier previous x y GoesOn (job p c.run_cycle.new.machine (left_of c.note.new.self) j Going)) (sym c.note.ensures.inputs)
-            (goes_on p behind.earlier previous x y i.machine c.run_cycle.new.machine (left_of i.kept) (left_of c.note.new.self) (inputs_of i.kept) (inputs_of kept) (stage_of i.progress) t (text_in p kept t)
-            same behind.leave behind.orderly l (c.note.ensures.left ∙ ap (noted p t) renewed) went),
+        subst (λ (j : Inputs). of.DoesCycle was earlier previous x y GoesOn (job p c.run_cycle.new.machine (left_of c.note.new.self) j Going)) (sym c.note.ensures.inputs)
+            (goes_on p earlier previous x y i.machine c.run_cycle.new.machine (left_of i.kept) (left_of c.note.new.self) (inputs_of i.kept) (inputs_of kept) (stage_of i.progress) t (text_in p kept t)
+            same leave orderly l (c.note.ensures.left ∙ ap (noted p t) renewed) went),
       );
     })
 
@@ -56,10 +56,10 @@ returns-in_ok-finish-in-Err-Ends-clause-done g c =
     let new = job p c.finish.new.self (left_of kept) (inputs_of kept) (Ended (job_end e)) in
     subst (λ (old : of.AtWork). of.Cycles old x y new) c.self.view_is (record {
       behind = behind;
-      does = λ previous l. (
+      does = λ earlier leave orderly previous l. (
         job_end e,
-        ends p behind.earlier previous x y i.machine c.run_cycle.new.machine c.finish.new.self (left_of i.kept) (left_of kept) (inputs_of i.kept) (inputs_of kept) (stage_of i.progress) d.0 e
-            same behind.leave behind.orderly l d.1 c.in_ok-finish-in-Err-Ends.ensures.finished,
+        ends p earlier previous x y i.machine c.run_cycle.new.machine c.finish.new.self (left_of i.kept) (left_of kept) (inputs_of i.kept) (inputs_of kept) (stage_of i.progress) d.0 e
+            same leave orderly l d.1 c.in_ok-finish-in-Err-Ends.ensures.finished,
       );
     })
 
