@@ -27,7 +27,7 @@ impl LineFault {
         match self {
             LineFault::NoCharacter => "a byte is no character: these are blank to ~",
             LineFault::NoBlank => {
-                "behind its first character, the form type, a line has a blank, and then COLUMN=TEXT for each text"
+                "after its first character, the form type, a line has a blank, and then COLUMN=TEXT for each text"
             }
             LineFault::NoColumn => "a text has no column: it is written COLUMN=TEXT, as 32=TOT",
             LineFault::BadColumn => { "a column is 1 to 80 and not 6, which has the form type" }

@@ -12,7 +12,7 @@ const B1: Page = Page {
 
 const B2: Page = Page {
     given: ALONE,
-    breaks: "- 00 03 behind the name",
+    breaks: "- 00 03 after the name",
     keeps: "- 00 01, and 00 02 for a program with a secondary file or match fields",
     advice: ANEW,
 };
@@ -26,8 +26,8 @@ const B3: Page = Page {
 
 const B4: Page = Page {
     given: ALONE,
-    breaks: "- an object of 157 bytes with a line feed behind it: B4 at 157",
-    keeps: "- nothing behind the last table",
+    breaks: "- an object of 157 bytes with a line feed after it: B4 at 157",
+    keeps: "- nothing after the last table",
     advice: ANEW,
 };
 

@@ -35,7 +35,7 @@ const F5: Page = Page {
     given: NAMES,
     breaks: "- an array without an index, entry 6 of 5, an index on something that is no array:\n\n     C                     Z-ADD1         AR\n     C                     Z-ADD1         AR,6\n     C                     Z-ADD1         TOT,1",
     keeps: "- a number from 1 to the entries, or the name of a number without decimals:\n\n     C                     Z-ADD1         AR,5\n     C                     Z-ADD1         AR,TOT",
-    advice: "write a comma and the index right behind the name. Whole arrays stand in XFOOT and\nLOKUP alone",
+    advice: "write a comma and the index right after the name. Whole arrays are allowed in XFOOT and\nLOKUP only",
 };
 
 const F6: Page = Page {
@@ -82,7 +82,7 @@ const F11: Page = Page {
 
 const F12: Page = Page {
     given: NAMES,
-    breaks: "- a detail calculation behind a total one or a subroutine; BEGSR without ENDSR; a field before\n  its record type or line:\n\n     CL1                   Z-ADDAMT       TOT\n     C                     ADD  AMT       TOT",
+    breaks: "- a detail calculation after a total one or a subroutine; BEGSR without ENDSR; a field before\n  its record type or line:\n\n     CL1                   Z-ADDAMT       TOT\n     C                     ADD  AMT       TOT",
     keeps: "- detail calculations, then total calculations (L0 to L9, LR in 7-8), then subroutines (SR),\n  each from BEGSR to ENDSR:\n\n     C                     ADD  AMT       TOT\n     CL1                   Z-ADDAMT       TOT",
     advice: "move the card. AN and OR cards go on with the calculation right before them, AND and\nOR cards of I and O with the type or line right before them",
 };
@@ -103,9 +103,9 @@ const F14: Page = Page {
 
 const F15: Page = Page {
     given: NAMES,
-    breaks: "- H beside an operation that is not rounded; MVR behind a DIV with H, or behind anything else:\n\n     C           AMT       DIV  3         TOT       H\n     C                     MVR            REM     30",
-    keeps: "- H beside ADD, SUB, MULT, DIV, Z-ADD, Z-SUB and XFOOT; MVR on the calculation card right behind\n  a DIV without H:\n\n     C           AMT       DIV  3         TOT\n     C                     MVR            REM     30",
-    advice: "take the H away, or put MVR right behind its DIV",
+    breaks: "- H beside an operation that is not rounded; MVR after a DIV with H, or after anything else:\n\n     C           AMT       DIV  3         TOT       H\n     C                     MVR            REM     30",
+    keeps: "- H beside ADD, SUB, MULT, DIV, Z-ADD, Z-SUB and XFOOT; MVR on the calculation card right after\n  a DIV without H:\n\n     C           AMT       DIV  3         TOT\n     C                     MVR            REM     30",
+    advice: "take the H away, or put MVR right after its DIV",
 };
 
 const F16: Page = Page {
@@ -119,14 +119,14 @@ const F17: Page = Page {
     given: NAMES,
     breaks: "- code Y on a number that has not 6 digits, a fill beside Y, an edit word of 3 places for 5\n  digits:\n\n     O                         TOT   Y   10\n     O                         TOT       10 '   '",
     keeps: "- an edit word has a blank, 0 or * for each digit, and no $ right before its stop:\n\n     O                         UDATE Y   10\n     O                         TOT       10 '     '",
-    advice: "the message tells how many digits the code or word wants, and how many the number has.\ndocs/EDITING.md shows what each code and word makes of a number",
+    advice: "the message says how many digits the code or word takes, and how many the number has.\ndocs/EDITING.md shows what each code and word makes of a number",
 };
 
 const F18: Page = Page {
     given: ALONE,
     breaks: "- an E card with entries a card (33-35), and no ** card for it; too few or too many entries;\n  letters in a number; with A in 45 a later entry that is lower:\n\n     E                    TABA    3   3  2 0A\n**\n100530",
     keeps: "     E                    TABA    3   3  2 0A\n**\n102030",
-    advice: "the message tells how many cards of data are wanted and how many stand there, or\nwhich entry is wrong. The data stand behind the sheets, each table's behind a ** card, in the\norder of the E cards. Fewer entries than 33-35 says stand on the last card alone",
+    advice: "the message says how many cards of data are needed and how many there are, or\nwhich entry is wrong. The data come after the sheets, each table's after a ** card, in the\norder of the E cards. Fewer entries than 33-35 says stand on the last card alone",
 };
 
 /// The page of a code.

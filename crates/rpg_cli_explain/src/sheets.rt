@@ -6,7 +6,7 @@ use rpg_sheet::SheetCode;
 const S1: Page = Page {
     given: ALONE,
     breaks: "- a line of 81 characters; a blank in column 81 counts too",
-    keeps: "- a line of 80 characters, with its line feed behind it, or carriage return and line feed",
+    keeps: "- a line of 80 characters, with its line feed after it, or carriage return and line feed",
     advice: "cut off what stands after column 80: `cut -c1-80`. Many editors show blanks at the end\nof a line only on request",
 };
 
@@ -26,7 +26,7 @@ const S3: Page = Page {
 
 const S4: Page = Page {
     given: ALONE,
-    breaks: "- a calculation behind an output card:\n\n     OPRINT   D        01\n     C           TOTAL     ADD  VALUE     TOTAL",
+    breaks: "- a calculation after an output card:\n\n     OPRINT   D        01\n     C           TOTAL     ADD  VALUE     TOTAL",
     keeps: "- H, F, E, I, C and O cards in this order, those of a sheet together; a sheet that is not needed\n  is left out",
     advice: "move the card to those of its own sheet. The message names the card of a later sheet\nthat stands before it; where several cards follow from that one, it is the one to move",
 };

@@ -39,7 +39,7 @@ fn write_unread_count(out: &mut TextWriter, cards: usize) {
     let of_cards = counted(cards);
     write!(
         out,
-        "{cards} card{of_cards} that can't be read\nthe tables are of the others; other faults are told once all can be read\n"
+        "{cards} card{of_cards} that can't be read\nthe tables are of the others; other checks run once all can be read\n"
     );
 }
 

@@ -54,15 +54,15 @@ fn cards_wanted(entries: u16, per_card: u16) -> usize {
         .unwrap_or(0)
 }
 
-/// What so many entries want.
+/// The cards of data that so many entries need.
 fn write_wanted(out: &mut TextWriter, entries: u16, per_card: u16) {
     let wanted = cards_wanted(entries, per_card);
     let of_entries = noun(usize::from(entries), "entry", "entries");
-    let want = noun(usize::from(entries), "wants", "want");
+    let need = noun(usize::from(entries), "needs", "need");
     let of_cards = noun(wanted, "card", "cards");
     write!(
         out,
-        ": {entries} {of_entries}, {per_card} a card, {want} {wanted} {of_cards} of data, and "
+        ": {entries} {of_entries}, {per_card} a card, {need} {wanted} {of_cards} of data, and "
     );
 }
 
@@ -155,11 +155,11 @@ fn write_extension(
 fn write_spare(out: &mut TextWriter, cards: &[SpecCard], number: u16) {
     let deck = count_decks(cards, number).saturating_add(1);
     let wanted = count_wanted(cards, number);
-    let of_cards = noun(wanted, "E card wants data", "E cards want data");
+    let of_cards = noun(wanted, "E card needs data", "E cards need data");
     write!(out, ": it is ** card {deck}, and {wanted} {of_cards}");
 }
 
-/// How many data a card wants, or is, and how many there are.
+/// How many cards of data a card needs, or which of them it is, and how many there are.
 pub(crate) fn write_data(out: &mut TextWriter, cards: &[SpecCard], card: &SpecCard) {
     match &card.spec {
         Spec::Extension(extension) => write_extension(out, cards, card.number, extension),

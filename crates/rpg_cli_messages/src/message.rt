@@ -252,17 +252,17 @@ fn write_count(out: &mut TextWriter, path: &str, faults: &[CardFault], most: u16
 /// How many of those that were counted are told one by one.
 pub fn write_told(out: &mut TextWriter, most: u16) {
     match most {
-        0 => out.write_str(", of which none is told"),
-        1 => out.write_str(", of which 1 is told"),
-        _ => write!(out, ", of which {most} are told"),
+        0 => out.write_str(", none of them shown"),
+        1 => out.write_str(", 1 of them shown"),
+        _ => write!(out, ", {most} of them shown"),
     }
 }
 
 /// Other faults hang on what the cards mean.
 fn untold(are_unread: bool, count: usize) -> &'static str {
     match (are_unread, count) {
-        (true, 1) => "; other faults are told once it can",
-        (true, _) => "; other faults are told once they can",
+        (true, 1) => "; other checks run once it can",
+        (true, _) => "; other checks run once they can",
         (false, _) => "",
     }
 }

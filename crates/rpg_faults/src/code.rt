@@ -39,7 +39,7 @@ pub enum FaultCode {
     F13 = 13,
     /// A subroutine calls itself, maybe through others.
     F14 = 14,
-    /// H isn't allowed, or MVR doesn't stand behind a division without H.
+    /// H isn't allowed, or MVR doesn't follow a division without H.
     F15 = 15,
     /// A column is outside the record or the line, a field is wider than its end, or control or match fields don't agree.
     F16 = 16,
@@ -122,7 +122,7 @@ impl FaultCode {
             }
             FaultCode::F13 => "GOTO leads to another section",
             FaultCode::F14 => "a subroutine calls itself, maybe through others",
-            FaultCode::F15 => "H isn't allowed, or MVR doesn't stand behind a division without H",
+            FaultCode::F15 => "H isn't allowed, or MVR doesn't follow a division without H",
             FaultCode::F16 => {
                 "a column is outside the record or the line, a field is wider than its end, or control or match fields don't agree"
             }
