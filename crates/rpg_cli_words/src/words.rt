@@ -7,14 +7,20 @@ pub(crate) enum Kind {
     Placed,
     /// A value after the word's name, and what help calls it.
     Named(&'static str),
+    /// The same, which doesn't go with another word.
+    NamedAgainst(&'static str, &'static str),
+    /// The same, and one of the two has to be there.
+    NamedOr(&'static str, &'static str),
     Flag,
-    /// A flag that doesn't go with another one.
+    /// A flag that doesn't go with another word.
     FlagAgainst(&'static str),
     /// A number from 1 on, and one from 0 on, that has a default.
     Allowance(&'static str),
     Count(&'static str),
     /// A number that has none.
     Most,
+    /// The length of a record: 1 to 9,999.
+    Length,
 }
 
 #[derive(Clone, Copy)]
@@ -106,6 +112,81 @@ const CARDS: [Word; 3] = [
     },
 ];
 
+const RECORDS: [Word; 12] = [
+    Word {
+        name: "IN",
+        kind: Kind::Placed,
+        is_required: true,
+        help: "The records; - is standard input",
+    },
+    Word {
+        name: "OUT",
+        kind: Kind::Placed,
+        is_required: true,
+        help: "Where the lines go; with --to, IN has the lines and the records go here",
+    },
+    Word {
+        name: "by",
+        kind: Kind::NamedOr("SRC", "to"),
+        is_required: false,
+        help: "The deck that reads the records; P and B may stand in column 43 of its I cards",
+    },
+    Word {
+        name: "to",
+        kind: Kind::Named("SRC"),
+        is_required: false,
+        help: "The same for the way back: lines become records",
+    },
+    Word {
+        name: "file",
+        kind: Kind::Named("NAME"),
+        is_required: false,
+        help: "The file of the deck, if it isn't the primary one",
+    },
+    Word {
+        name: "length",
+        kind: Kind::Length,
+        is_required: false,
+        help: "How many bytes a record has, if 24-27 of the F card don't say so",
+    },
+    Word {
+        name: "rdw",
+        kind: Kind::FlagAgainst("lines"),
+        is_required: false,
+        help: "Each record follows its record descriptor word",
+    },
+    Word {
+        name: "lines",
+        kind: Kind::Flag,
+        is_required: false,
+        help: "Each record is a line",
+    },
+    Word {
+        name: "ascii",
+        kind: Kind::Flag,
+        is_required: false,
+        help: "Characters are as they are, and not in code page 037",
+    },
+    Word {
+        name: "low-blank",
+        kind: Kind::FlagAgainst("to"),
+        is_required: false,
+        help: "A byte 00 among characters is a blank",
+    },
+    Word {
+        name: "drop",
+        kind: Kind::NamedAgainst("XX", "to"),
+        is_required: false,
+        help: "Leaves out records whose first byte is this one, as FF",
+    },
+    Word {
+        name: "deck",
+        kind: Kind::NamedAgainst("NEW", "to"),
+        is_required: false,
+        help: "Where the deck goes that reads the lines",
+    },
+];
+
 const VERIFY: [Word; 1] = [OBJECT];
 
 const EXPLAIN: [Word; 2] = [
@@ -167,7 +248,7 @@ const RUN: [Word; 8] = [
 ];
 
 /// The commands, as help has them one after another.
-pub(crate) const COMMANDS: [CommandWords; 8] = [
+pub(crate) const COMMANDS: [CommandWords; 9] = [
     CommandWords {
         name: "compile",
         about: "Compiles the source SRC to the object program OBJ",
@@ -187,6 +268,11 @@ pub(crate) const COMMANDS: [CommandWords; 8] = [
         name: "cards",
         about: "Makes cards of the lines of shorthand in SRC, as O 32=TOT 42=10",
         words: &CARDS,
+    },
+    CommandWords {
+        name: "records",
+        about: "Makes lines of a shop's records, by the cards of the deck that reads them, or records of such lines",
+        words: &RECORDS,
     },
     CommandWords {
         name: "verify",
