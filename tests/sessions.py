@@ -184,6 +184,9 @@ class Session:
     def do_show(self, name: str) -> bytes:
         return self.path(name).read_bytes() if self.path(name).exists() else b"no file\n"
 
+    def do_bytes(self, name: str) -> bytes:
+        return f"{self.path(name).read_bytes().hex()}\n".encode()
+
     def do_byte(self, name: str, place: str) -> bytes:
         return f"{self.path(name).read_bytes()[int(place)]}\n".encode()
 

@@ -7,6 +7,7 @@ mod files;
 mod listing;
 mod outlet;
 mod program;
+mod records;
 mod telling;
 mod told;
 

@@ -7,6 +7,7 @@ use crate::explaining::explain;
 use crate::files::{check_file, compile_files, show_file, verify_file};
 use crate::listing::list_file;
 use crate::outlet::Outlet;
+use crate::records::records_file;
 use crate::telling::{tell_answer, tell_unwritten};
 use crate::told::{StandardError, StandardStreams};
 use rpg_cli_answers::{Answer, Listener, Reasons, Stop, line};
@@ -41,6 +42,7 @@ fn answer_to<R: Files + Input + Print + AllocGlobal, L: Listener>(
             cards_file(rt, words, listener)?;
             Ok(Answer::Deck)
         }
+        Request::Records(words) => records_file(rt, words, listener),
         Request::Verify(words) => {
             let bound = verify_file(rt, words, listener)?;
             Ok(Answer::Accepted { bound })

@@ -1,5 +1,5 @@
 -- The line and the exit status of each answer.
-use Rattle.std.specs.Prelude.{ℕ, List, [], ◌++◌, codes, decimal}
+use Rattle.std.specs.Prelude.{ℕ, List, [], ◌++◌, codes, decimal, Option, Some, None}
 use Rattle.rpg_cli_files.specs.SourceCodes.{source_code_text}
 use Rattle.rpg_cli_files.specs.SourceFault.{SourceFault}
 use Rattle.rpg_cli_files.specs.SourceFault.TheVariants as sources
@@ -52,6 +52,14 @@ file_text (files.Beside reason) = codes "output failed"
 file_text files.TooLarge = codes "file too large"
 file_text files.NoMemory = codes "no memory"
 
+-- how many records, how many of them left out, and how many columns a line has at most
+abbrev pub counts_text : ℕ → ℕ → ℕ → List ℕ
+counts_text records dropped columns = codes "records " ++ decimal records ++ codes ", dropped " ++ decimal dropped ++ codes ", columns " ++ decimal columns
+
+abbrev pub refused_deck_text : Option ℕ → List ℕ
+refused_deck_text (Some card) = codes "card " ++ decimal card ++ codes ": refused"
+refused_deck_text None = codes "refused"
+
 abbrev pub line_text : Answer → List ℕ
 line_text answer.Compiled = codes "compiled"
 line_text answer.Faultless = codes "no fault"
@@ -68,6 +76,9 @@ line_text (answer.File word fault) = file_text fault
 line_text answer.Explained = []
 line_text answer.Deck = codes "/*"
 line_text (answer.NoCard line) = codes "line " ++ decimal line ++ codes ": no card"
+line_text (answer.Records records dropped columns) = counts_text records dropped columns
+line_text (answer.DeckRefused card) = refused_deck_text card
+line_text (answer.RecordRefused number) = codes "record " ++ decimal number ++ codes ": refused"
 line_text answer.NoSuchCode = codes "no such code"
 line_text answer.NoMemory = codes "no memory"
 
@@ -110,5 +121,8 @@ exit_status (answer.File word fault) = 1
 exit_status answer.Explained = 0
 exit_status answer.Deck = 0
 exit_status (answer.NoCard line) = 3
+exit_status (answer.Records records dropped columns) = 0
+exit_status (answer.DeckRefused card) = 3
+exit_status (answer.RecordRefused number) = 3
 exit_status answer.NoSuchCode = 2
 exit_status answer.NoMemory = 1

@@ -17,7 +17,9 @@ pub enum Answer {
     /// The source has no fault.
     Faultless,
     /// The object program keeps all rules: the most steps that a cycle of it can take.
-    Accepted { bound: u64 },
+    Accepted {
+        bound: u64,
+    },
     /// The job came to its end, or halted.
     Ended(Report),
     /// The source is refused.
@@ -31,17 +33,38 @@ pub enum Answer {
     /// The program has a secondary file, and the words name none.
     SecondaryFileWanted,
     /// A cycle of the program may take more steps than the words allow.
-    OverLimit { bound: u64 },
+    OverLimit {
+        bound: u64,
+    },
     /// The run gave no report.
     Run(RunFault),
     /// The file that a word names failed.
-    File { word: FileWord, fault: FileFault },
+    File {
+        word: FileWord,
+        fault: FileFault,
+    },
     /// A code was explained.
     Explained,
     /// Cards were made of shorthand, or shorthand of cards.
     Deck,
     /// A line of shorthand is no card.
-    NoCard { line: u16 },
+    NoCard {
+        line: u16,
+    },
+    /// Records were made lines, or lines records: how many, how many were left out, and how many columns a line has at most.
+    Records {
+        records: u64,
+        dropped: u64,
+        columns: u64,
+    },
+    /// The deck of records is refused, by its first card that is, if a card is.
+    DeckRefused {
+        card: Option<u16>,
+    },
+    /// A record, or a line, is refused: its number, from 1.
+    RecordRefused {
+        number: u64,
+    },
     /// There is no such code.
     NoSuchCode,
     NoMemory,

@@ -126,6 +126,30 @@ fn put_file_fault(text: &mut Text, fault: FileFault)
     }
 }
 
+fn put_counts(text: &mut Text, records: u64, dropped: u64, columns: u64)
+    requires { array_vec_len text.old ≤ 4 }
+    ensures { text.new.items ≡ text.old.items ++ answers.counts_text records dropped columns }
+{
+    put(text, b"records ");
+    put_number(text, records);
+    put(text, b", dropped ");
+    put_number(text, dropped);
+    put(text, b", columns ");
+    put_number(text, columns);
+}
+
+fn put_refused_deck(text: &mut Text, card: Option<u16>)
+    requires { array_vec_len text.old ≤ 4 }
+    ensures { text.new.items ≡ text.old.items ++ answers.refused_deck_text card }
+{
+    if let Some(card) = card {
+        put(text, b"card ");
+        put_number(text, u64::from(card));
+        put(text, b": ");
+    }
+    put(text, b"refused");
+}
+
 fn object_status(fault: ObjectFault) -> u8
     ensures { result ≡ answers.object_status fault }
 {
@@ -157,12 +181,17 @@ fn exit_status(answer: &Answer) -> u8
         | Answer::Faultless
         | Answer::Accepted { .. }
         | Answer::Explained
-        | Answer::Deck => 0,
+        | Answer::Deck
+        | Answer::Records { .. } => 0,
         Answer::Ended(report) => match report.ending {
             JobEnd::EndOfJob => 0,
             JobEnd::Halt(_) => 5,
         },
-        Answer::Source(SourceFault::At { .. }) | Answer::OtherSource | Answer::NoCard { .. } => 3,
+        Answer::Source(SourceFault::At { .. })
+        | Answer::OtherSource
+        | Answer::NoCard { .. }
+        | Answer::DeckRefused { .. }
+        | Answer::RecordRefused { .. } => 3,
         Answer::Source(SourceFault::NoMemory) => 1,
         Answer::Object(fault) => object_status(fault),
         Answer::DiskFileWanted | Answer::SecondaryFileWanted | Answer::NoSuchCode => 2,
@@ -203,6 +232,17 @@ pub fn line(answer: &Answer) -> Line
             put(&mut text, b"line ");
             put_number(&mut text, u64::from(line));
             put(&mut text, b": no card");
+        }
+        Answer::Records {
+            records,
+            dropped,
+            columns,
+        } => put_counts(&mut text, records, dropped, columns),
+        Answer::DeckRefused { card } => put_refused_deck(&mut text, card),
+        Answer::RecordRefused { number } => {
+            put(&mut text, b"record ");
+            put_number(&mut text, number);
+            put(&mut text, b": refused");
         }
         Answer::NoSuchCode => put(&mut text, b"no such code"),
         Answer::NoMemory => put(&mut text, b"no memory"),

@@ -21,6 +21,31 @@ fn named<'a>(arg: Arg<'a>, name: &'a str, value: &'a str) -> Arg<'a> {
     valued(arg.long(name).value_name(value))
 }
 
+/// A value after a name, which doesn't go with another word.
+fn named_against<'a>(
+    arg: Arg<'a>,
+    name: &'a str,
+    value: &'a str,
+    other: &'a str,
+) -> Result<Arg<'a>, AllocError> {
+    named(arg, name, value).conflicts_with(other)
+}
+
+/// The same, and one of the two has to be there.
+fn named_or<'a>(
+    arg: Arg<'a>,
+    name: &'a str,
+    value: &'a str,
+    other: &'a str,
+) -> Result<Arg<'a>, AllocError> {
+    named_against(arg, name, value, other)?.required_unless_present(other)
+}
+
+/// The length of a record after a name.
+fn length<'a>(arg: Arg<'a>, name: &'a str) -> Arg<'a> {
+    named(arg, name, "N").value_parser(value_parser!(u16).range(1..=9_999))
+}
+
 /// A number after a name, from 1 on.
 fn allowance<'a>(arg: Arg<'a>, name: &'a str, default: &'a str) -> Arg<'a> {
     named(arg, name, "N")
@@ -48,11 +73,14 @@ fn arg<'a>(alloc: Global, word: &Word) -> Result<Arg<'a>, AllocError> {
     match word.kind {
         Kind::Placed => Ok(valued(arg)),
         Kind::Named(value) => Ok(named(arg, word.name, value)),
+        Kind::NamedAgainst(value, other) => named_against(arg, word.name, value, other),
+        Kind::NamedOr(value, other) => named_or(arg, word.name, value, other),
         Kind::Flag => Ok(flag(arg, word.name)),
         Kind::FlagByLetter(letter) => Ok(flag(arg, word.name).short(letter)),
         Kind::FlagAgainst(other) => flag(arg, word.name).conflicts_with(other),
         Kind::Allowance(default) => Ok(allowance(arg, word.name, default)),
         Kind::Count(default) => Ok(count(arg, word.name, default)),
+        Kind::Length => Ok(length(arg, word.name)),
         Kind::Most => Ok(named(arg, word.name, "N").value_parser(value_parser!(u64))),
     }
 }
@@ -81,7 +109,7 @@ fn commands<'a>(alloc: Global) -> Result<Vec<Command<'a>>, AllocError> {
 
 /// What each exit status tells, below the commands.
 const STATUSES: &str =
-    "Exit statuses:\n  0  all went well\n  1  a file or a device failed, or memory is wanting\n  2  the words are wrong, or the date, or a disk file or a secondary file is missing\n  3  the source is refused\n  4  the object program is refused\n  5  the job halted";
+    "Exit statuses:\n  0  success\n  1  a file or a device failed, or memory ran out\n  2  the command line or the date is wrong, or a disk file or a secondary file is missing\n  3  the source, or a record, is rejected\n  4  the object program is rejected\n  5  the job halted";
 
 /// The format of object programs, and the logic that the program is proved in. Several kits have the same logic.
 const VERSION: &str =

@@ -4,6 +4,7 @@ ghost use Rattle.std.specs.Prelude.{◌<◌, ◌≤◌};
 
 use crate::command::command;
 use crate::listing::{CardsWords, ListWords, cards_words, list_words};
+use crate::records::{RecordsWords, bad_value, records_words};
 use clap::error::ErrorKind;
 use clap::{ArgMatches, Command, Error};
 use std::alloc::{AllocError, Global};
@@ -19,6 +20,8 @@ pub enum Request<'a> {
     List(ListWords<'a>),
     /// Makes cards of shorthand, or shorthand of cards.
     Cards(CardsWords<'a>),
+    /// Makes lines of records, or records of lines.
+    Records(RecordsWords<'a>),
     /// Verifies an object program.
     Verify(VerifyWords<'a>),
     /// Shows an object program.
@@ -36,7 +39,7 @@ pub struct CompileWords<'a> {
     pub object: &'a str,
     /// How many backward branches and calls a cycle may take.
     pub allowance: u16,
-    /// How many faults, or warnings, are told one by one, at most.
+    /// The most faults or warnings to list.
     pub faults: u16,
     /// Whether no line is printed if the exit status is 0.
     pub is_quiet: bool,
@@ -47,7 +50,7 @@ pub struct CompileWords<'a> {
 #[derive(Clone, Copy)]
 pub struct CheckWords<'a> {
     pub source: &'a str,
-    /// How many faults, or warnings, are told one by one, at most.
+    /// The most faults or warnings to list.
     pub faults: u16,
     /// Whether no line is printed if the exit status is 0.
     pub is_quiet: bool,
@@ -112,6 +115,15 @@ pub enum FileWord {
     Disk,
     /// The source of an object program that is shown or run.
     OwnSource,
+    /// Records, or lines, that are made lines, or records.
+    In,
+    Out,
+    /// The deck of records.
+    By,
+    /// The deck of records that are written.
+    To,
+    /// The deck that reads the lines.
+    NewDeck,
 }
 
 impl FileWord {
@@ -124,7 +136,10 @@ impl FileWord {
             FileWord::Secondary => "--secondary FILE",
             FileWord::Print => "PRINT",
             FileWord::Disk => "--disk FILE",
-            FileWord::OwnSource => "SRC",
+            FileWord::OwnSource | FileWord::By | FileWord::To => "SRC",
+            FileWord::In => "IN",
+            FileWord::Out => "OUT",
+            FileWord::NewDeck => "--deck NEW",
         }
     }
 
@@ -138,6 +153,11 @@ impl FileWord {
             FileWord::Print => "<PRINT>",
             FileWord::Disk => "--disk <FILE>",
             FileWord::OwnSource => "--source <SRC>",
+            FileWord::In => "<IN>",
+            FileWord::Out => "<OUT>",
+            FileWord::By => "--by <SRC>",
+            FileWord::To => "--to <SRC>",
+            FileWord::NewDeck => "--deck <NEW>",
         }
     }
 }
@@ -185,6 +205,7 @@ impl<'a> Request<'a> {
             (Request::Show(words), FileWord::Object) => Some(words.object),
             (Request::Show(words), FileWord::OwnSource) => words.source,
             (Request::Run(words), word) => words.path(word),
+            (Request::Records(words), word) => words.path(word),
             _ => None,
         }
     }
@@ -256,13 +277,13 @@ impl<'a> RunWords<'a> {
 
     fn path(&self, word: FileWord) -> Option<&'a str> {
         match word {
-            FileWord::Source => None,
             FileWord::Object => Some(self.object),
             FileWord::Input => Some(self.input),
             FileWord::Secondary => self.secondary,
             FileWord::Print => Some(self.print),
             FileWord::Disk => self.disk,
             FileWord::OwnSource => self.source,
+            _ => None,
         }
     }
 }
@@ -387,6 +408,7 @@ fn request_in<'a>(matches: &ArgMatches<'a>) -> Option<Request<'a>> {
         ("check", given) => check_words(given),
         ("list", given) => list_words(given),
         ("cards", given) => cards_words(given),
+        ("records", given) => records_words(given),
         ("verify", given) => verify_words(given),
         ("show", given) => show_words(given),
         ("run", given) => run_words(given),
@@ -395,8 +417,13 @@ fn request_in<'a>(matches: &ArgMatches<'a>) -> Option<Request<'a>> {
     }
 }
 
-fn command_wanted(command: &mut Command<'_>) -> Error {
-    match command.error(ErrorKind::MissingSubcommand, "a command is wanted") {
+/// The fault of words that clap takes and that aren't any request.
+fn unread(command: &mut Command<'_>, matches: &ArgMatches<'_>) -> Error {
+    let told = match bad_value(matches) {
+        Some(message) => command.error(ErrorKind::InvalidValue, message),
+        None => command.error(ErrorKind::MissingSubcommand, "a command is wanted"),
+    };
+    match told {
         Ok(error) => error,
         Err(error) => Error::from(error),
     }
@@ -407,7 +434,7 @@ fn read<'a>(alloc: Global, words: &'a [String]) -> Result<Request<'a>, Error> {
     let matches = command.try_get_matches_from_mut(words)?;
     match request_in(&matches) {
         Some(request) => Ok(request),
-        None => Err(command_wanted(&mut command)),
+        None => Err(unread(&mut command, &matches)),
     }
 }
 

@@ -7,16 +7,22 @@ pub(crate) enum Kind {
     Placed,
     /// A value after the word's name, and what help calls it.
     Named(&'static str),
+    /// The same, which doesn't go with another word.
+    NamedAgainst(&'static str, &'static str),
+    /// The same, and one of the two has to be there.
+    NamedOr(&'static str, &'static str),
     Flag,
     /// A flag that a letter stands for too.
     FlagByLetter(char),
-    /// A flag that doesn't go with another one.
+    /// A flag that doesn't go with another word.
     FlagAgainst(&'static str),
     /// A number from 1 on, and one from 0 on, that has a default.
     Allowance(&'static str),
     Count(&'static str),
     /// A number that has none.
     Most,
+    /// The length of a record: 1 to 9,999.
+    Length,
 }
 
 #[derive(Clone, Copy)]
@@ -55,7 +61,7 @@ const OWN_SOURCE: Word = Word {
     name: "source",
     kind: Kind::Named("SRC"),
     is_required: false,
-    help: "The source that OBJ was compiled from, whose names and cards are told",
+    help: "The source of OBJ, whose names and cards are shown",
 };
 
 /// How many faults of a source are told one by one.
@@ -63,7 +69,7 @@ const FAULTS: Word = Word {
     name: "faults",
     kind: Kind::Count("20"),
     is_required: false,
-    help: "How many faults, or warnings, are told one by one, at most",
+    help: "The most faults or warnings to list",
 };
 
 const QUIET: Word = Word {
@@ -116,6 +122,81 @@ const CARDS: [Word; 3] = [
     },
 ];
 
+const RECORDS: [Word; 12] = [
+    Word {
+        name: "IN",
+        kind: Kind::Placed,
+        is_required: true,
+        help: "The records; - is standard input",
+    },
+    Word {
+        name: "OUT",
+        kind: Kind::Placed,
+        is_required: true,
+        help: "Where the lines go; with --to, IN has the lines and the records go here",
+    },
+    Word {
+        name: "by",
+        kind: Kind::NamedOr("SRC", "to"),
+        is_required: false,
+        help: "The deck that reads the records; P and B may stand in column 43 of its I cards",
+    },
+    Word {
+        name: "to",
+        kind: Kind::Named("SRC"),
+        is_required: false,
+        help: "The same for the way back: lines become records",
+    },
+    Word {
+        name: "file",
+        kind: Kind::Named("NAME"),
+        is_required: false,
+        help: "The file of the deck, if it isn't the primary one",
+    },
+    Word {
+        name: "length",
+        kind: Kind::Length,
+        is_required: false,
+        help: "How many bytes a record has, if 24-27 of the F card don't say so",
+    },
+    Word {
+        name: "rdw",
+        kind: Kind::FlagAgainst("lines"),
+        is_required: false,
+        help: "Each record follows its record descriptor word",
+    },
+    Word {
+        name: "lines",
+        kind: Kind::Flag,
+        is_required: false,
+        help: "Each record is a line",
+    },
+    Word {
+        name: "ascii",
+        kind: Kind::Flag,
+        is_required: false,
+        help: "Characters are as they are, and not in code page 037",
+    },
+    Word {
+        name: "low-blank",
+        kind: Kind::FlagAgainst("to"),
+        is_required: false,
+        help: "A byte 00 among characters is a blank",
+    },
+    Word {
+        name: "drop",
+        kind: Kind::NamedAgainst("XX", "to"),
+        is_required: false,
+        help: "Leaves out records whose first byte is this one, as FF",
+    },
+    Word {
+        name: "deck",
+        kind: Kind::NamedAgainst("NEW", "to"),
+        is_required: false,
+        help: "Where the deck goes that reads the lines",
+    },
+];
+
 const VERIFY: [Word; 2] = [OBJECT, QUIET];
 
 const EXPLAIN: [Word; 2] = [
@@ -147,7 +228,7 @@ const RUN: [Word; 10] = [
         name: "PRINT",
         kind: Kind::Placed,
         is_required: true,
-        help: "Where the printed lines go; - is standard output, and the line of the answer is on standard error then",
+        help: "Where the printed lines go; - is standard output, and the answer's line then goes to standard error",
     },
     Word {
         name: "date",
@@ -171,7 +252,7 @@ const RUN: [Word; 10] = [
         name: "most",
         kind: Kind::Most,
         is_required: false,
-        help: "Refuses a program of which a cycle may take more than N steps",
+        help: "Rejects a program if a cycle may take more than N steps",
     },
     Word {
         name: "keep",
@@ -184,7 +265,7 @@ const RUN: [Word; 10] = [
 ];
 
 /// The commands, as help has them one after another.
-pub(crate) const COMMANDS: [CommandWords; 8] = [
+pub(crate) const COMMANDS: [CommandWords; 9] = [
     CommandWords {
         name: "compile",
         about: "Compiles the source SRC to the object program OBJ",
@@ -192,7 +273,7 @@ pub(crate) const COMMANDS: [CommandWords; 8] = [
     },
     CommandWords {
         name: "check",
-        about: "Tells all faults of the source SRC on standard error, and writes nothing",
+        about: "Reports all faults of the source SRC on standard error, and writes nothing",
         words: &CHECK,
     },
     CommandWords {
@@ -206,8 +287,13 @@ pub(crate) const COMMANDS: [CommandWords; 8] = [
         words: &CARDS,
     },
     CommandWords {
+        name: "records",
+        about: "Makes lines of a shop's records, by the cards of the deck that reads them, or records of such lines",
+        words: &RECORDS,
+    },
+    CommandWords {
         name: "verify",
-        about: "Tells whether the object program OBJ may be run, and the most steps that a cycle can take",
+        about: "Verifies the object program OBJ, and prints the most steps that a cycle can take",
         words: &VERIFY,
     },
     CommandWords {

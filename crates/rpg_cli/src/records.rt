@@ -1,0 +1,261 @@
+//! The command that makes lines of a shop's records, and records of such lines.
+
+use rpg_cli_answers::{Answer, Listener, Stop, named};
+use rpg_cli_files::{
+    FileFault, KeptFile, LineTarget, Opened, Pending, Reason, RecordSource, file_bytes, input_file,
+    kept_file, lines, records, write_bytes,
+};
+use rpg_cli_records::{DeckFault, DeckWords, deck_message, fitted_deck, layout_of, record_message};
+use rpg_cli_run::{NamedFile, refuse_same_file};
+use rpg_cli_words::{
+    FileWord, RecordFraming, RecordsWay, RecordsWords, SameFile, Shared, is_standard,
+};
+use rpg_record_lines::{
+    ConversionFault, Counts, Framing, Layout, Page, RecordFormat, lines_to_records,
+    records_to_lines,
+};
+use std::alloc::Global;
+use std::fs::OpenFile;
+use std::io::{BufWriter, Read, Write};
+use std::rt::Files;
+
+/// How much is kept back of what goes to OUT.
+const WRITE_ROOM: usize = 65_536;
+
+/// The layout of the records, by the deck. What is wrong with a card is told.
+fn layout<L: Listener>(
+    alloc: Global,
+    words: &RecordsWords,
+    source: &[u8],
+    listener: &mut L,
+) -> Result<Layout, Answer> {
+    let deck_words = DeckWords {
+        file: words.file,
+        length: words.length,
+        are_lines: words.framing == RecordFraming::Lines,
+    };
+    layout_of(alloc, source, deck_words).map_err(|fault| {
+        if let Ok(message) = deck_message(alloc, words.deck, fault) {
+            listener.tell(message.as_str());
+        }
+        match fault {
+            DeckFault::Card { number, .. } => Answer::DeckRefused { card: Some(number) },
+            DeckFault::NoFile => Answer::DeckRefused { card: None },
+            DeckFault::NoMemory => Answer::NoMemory,
+        }
+    })
+}
+
+fn format_of(words: &RecordsWords) -> RecordFormat {
+    RecordFormat {
+        page: if words.is_ascii {
+            Page::Ascii
+        } else {
+            Page::Ebcdic
+        },
+        framing: match words.framing {
+            RecordFraming::EndToEnd => Framing::EndToEnd,
+            RecordFraming::Descriptors => Framing::Descriptors,
+            RecordFraming::Lines => Framing::Lines,
+        },
+        low_blank: words.low_blank,
+        dropped: words.dropped,
+    }
+}
+
+/// Opens what is read.
+fn opened_input<R: Files>(rt: &R, words: &RecordsWords) -> Result<Opened<R::File>, Answer> {
+    if is_standard(words.input) {
+        return Ok(Opened::Standard);
+    }
+    let file = named(FileWord::In, input_file(rt, words.input))?;
+    Ok(Opened::File(file))
+}
+
+/// Whether NEW and OUT would be one file where neither stands yet.
+fn is_shared<R: Files + AllocGlobal>(
+    rt: &R,
+    words: &RecordsWords,
+    pending: &Option<Pending<'_>>,
+) -> Result<bool, Answer> {
+    match (pending, words.new_deck) {
+        (Some(pending), Some(path)) => match pending.goes_to(rt, path) {
+            Ok(is_shared) => Ok(is_shared),
+            Err(_) => Err(Answer::NoMemory),
+        },
+        _ => Ok(false),
+    }
+}
+
+/// Refuses to write a file that another word names too.
+fn keep_files<R: Files + AllocGlobal>(
+    rt: &R,
+    words: &RecordsWords,
+    input: &Opened<R::File>,
+    pending: &Option<Pending<'_>>,
+) -> Result<(), Stop> {
+    let deck = NamedFile::at(rt, words.deck_word(), words.deck);
+    let input = NamedFile::opened(rt, FileWord::In, input, "/dev/stdin");
+    let output = NamedFile::at(rt, FileWord::Out, words.output);
+    let new_deck = NamedFile::named(rt, FileWord::NewDeck, words.new_deck);
+    refuse_same_file(output, &[input, deck])?;
+    refuse_same_file(new_deck, &[input, output, deck])?;
+    if is_shared(rt, words, pending)? {
+        return Err(Stop::SameFile(SameFile {
+            earlier: FileWord::Out,
+            written: FileWord::NewDeck,
+            shared: Shared::File,
+        }));
+    }
+    Ok(())
+}
+
+/// Why a device failed, where it told.
+fn reason_of(fault: Option<Reason>) -> Reason {
+    fault.unwrap_or(Reason::Other)
+}
+
+fn output_failed(fault: Option<Reason>) -> Answer {
+    Answer::File {
+        word: FileWord::Out,
+        fault: FileFault::Output(reason_of(fault)),
+    }
+}
+
+/// The answer to a conversion that ended early. What is wrong with a record is told.
+fn early_answer<L: Listener>(
+    alloc: Global,
+    words: &RecordsWords,
+    fault: ConversionFault,
+    read: Option<Reason>,
+    written: Option<Reason>,
+    listener: &mut L,
+) -> Answer {
+    match fault {
+        ConversionFault::Record {
+            number,
+            offset,
+            fault,
+        } => {
+            if let Ok(message) = record_message(alloc, words.input, number, offset, fault) {
+                listener.tell(message.as_str());
+            }
+            Answer::RecordRefused { number }
+        }
+        ConversionFault::Read => Answer::File {
+            word: FileWord::In,
+            fault: FileFault::Input(reason_of(read)),
+        },
+        ConversionFault::Write => output_failed(written),
+        ConversionFault::NoMemory => Answer::NoMemory,
+    }
+}
+
+/// Makes lines of records, or records of lines, and writes out all of them.
+fn convert<
+    F: Read + Drop,
+    S: Read + Drop,
+    T: Write + OpenFile + Drop,
+    P: Write + Drop,
+    L: Listener,
+>(
+    alloc: Global,
+    words: &RecordsWords,
+    layout: &Layout,
+    mut source: RecordSource<F, S>,
+    target: LineTarget<T, P>,
+    listener: &mut L,
+) -> Result<Counts, Answer> {
+    let format = format_of(words);
+    let Ok(mut writer) = BufWriter::with_capacity(alloc, WRITE_ROOM, target) else {
+        return Err(Answer::NoMemory);
+    };
+    let converted = match words.way {
+        RecordsWay::ToLines => records_to_lines(alloc, layout, format, &mut source, &mut writer),
+        RecordsWay::ToRecords => lines_to_records(alloc, layout, format, &mut source, &mut writer),
+    };
+    match converted {
+        Ok(counts) if writer.flush().is_ok() => Ok(counts),
+        Ok(_) => Err(output_failed(writer.get_ref().fault())),
+        Err(fault) => {
+            let (read, written) = (source.fault(), writer.get_ref().fault());
+            Err(early_answer(alloc, words, fault, read, written, listener))
+        }
+    }
+}
+
+/// Converts what was opened, unless another word names a file that is written.
+fn convert_opened<R: Files + Input + Print + AllocGlobal, L: Listener>(
+    rt: &R,
+    words: &RecordsWords,
+    layout: &Layout,
+    input: Opened<R::File>,
+    output: Opened<R::File>,
+    pending: &Option<Pending<'_>>,
+    listener: &mut L,
+) -> Result<Counts, Stop> {
+    keep_files(rt, words, &input, pending)?;
+    let target = named(FileWord::Out, lines(rt, output))?;
+    let source = records(rt, input);
+    Ok(convert(rt.alloc(), words, layout, source, target, listener)?)
+}
+
+/// Writes the deck that reads the lines, if the words want it.
+fn write_deck<R: Files + AllocGlobal>(
+    rt: &R,
+    words: &RecordsWords,
+    source: &[u8],
+    layout: &Layout,
+) -> Result<(), Answer> {
+    let Some(path) = words.new_deck else {
+        return Ok(());
+    };
+    let Ok(deck) = fitted_deck(rt.alloc(), source, layout) else {
+        return Err(Answer::NoMemory);
+    };
+    named(FileWord::NewDeck, write_bytes(rt, path, deck.as_slice()))
+}
+
+/// Puts a file that was written beside its place there, or leaves nothing of it.
+fn conclude<R: Files>(
+    rt: &R,
+    pending: &Pending<'_>,
+    converted: Result<Counts, Stop>,
+) -> Result<Counts, Stop> {
+    let concluded = match converted {
+        Ok(counts) => match named(FileWord::Out, pending.put_in_place(rt)) {
+            Ok(()) => Ok(counts),
+            Err(answer) => Err(answer.into()),
+        },
+        Err(stop) => Err(stop),
+    };
+    if concluded.is_err() {
+        pending.discard(rt);
+    }
+    concluded
+}
+
+/// Makes lines of the records of a file, or records of its lines.
+///
+/// OUT, and then NEW, are written once all records are: where one is refused both are as they were.
+pub(crate) fn records_file<R: Files + Input + Print + AllocGlobal, L: Listener>(
+    rt: &R,
+    words: &RecordsWords,
+    listener: &mut L,
+) -> Result<Answer, Stop> {
+    let source = named(words.deck_word(), file_bytes(rt, words.deck))?;
+    let layout = layout(rt.alloc(), words, &source, listener)?;
+    let input = opened_input(rt, words)?;
+    let KeptFile { opened, pending } = named(FileWord::Out, kept_file(rt, words.output))?;
+    let converted = convert_opened(rt, words, &layout, input, opened, &pending, listener);
+    let Counts { records, dropped } = match &pending {
+        Some(pending) => conclude(rt, pending, converted)?,
+        None => converted?,
+    };
+    write_deck(rt, words, &source, &layout)?;
+    Ok(Answer::Records {
+        records,
+        dropped,
+        columns: layout.columns() as u64,
+    })
+}

@@ -1,0 +1,149 @@
+//! The words of the command that makes lines of records.
+
+use crate::request::{FileWord, Request, is_standard};
+use clap::ArgMatches;
+
+/// Which way records go.
+#[derive(Clone, Copy, PartialEq, Eq)]
+pub enum RecordsWay {
+    /// Records become lines.
+    ToLines,
+    /// Lines become records.
+    ToRecords,
+}
+
+/// How records stand in their file.
+#[derive(Clone, Copy, PartialEq, Eq)]
+pub enum RecordFraming {
+    EndToEnd,
+    /// Each after its record descriptor word.
+    Descriptors,
+    /// A line each.
+    Lines,
+}
+
+/// The words of `records`.
+#[derive(Clone, Copy)]
+pub struct RecordsWords<'a> {
+    /// The records, or the lines, by a file or `-`.
+    pub input: &'a str,
+    pub output: &'a str,
+    /// The deck of the records.
+    pub deck: &'a str,
+    pub way: RecordsWay,
+    /// The file's name in the deck, if it isn't the primary one.
+    pub file: Option<&'a str>,
+    /// How many bytes a record has, if the words tell it: 1 to 9,999.
+    pub length: Option<u16>,
+    pub framing: RecordFraming,
+    pub is_ascii: bool,
+    /// A byte 00 among characters is a blank.
+    pub low_blank: bool,
+    /// Records that begin with this byte are left out.
+    pub dropped: Option<u8>,
+    /// Where the deck goes that reads the lines, if the words tell it.
+    pub new_deck: Option<&'a str>,
+}
+
+impl<'a> RecordsWords<'a> {
+    /// The word of the deck.
+    pub fn deck_word(&self) -> FileWord {
+        match self.way {
+            RecordsWay::ToLines => FileWord::By,
+            RecordsWay::ToRecords => FileWord::To,
+        }
+    }
+
+    pub(crate) fn path(&self, word: FileWord) -> Option<&'a str> {
+        match word {
+            FileWord::In => Some(self.input),
+            FileWord::Out => Some(self.output),
+            FileWord::By | FileWord::To => Some(self.deck),
+            FileWord::NewDeck => self.new_deck,
+            _ => None,
+        }
+    }
+}
+
+fn framing(given: &ArgMatches) -> RecordFraming {
+    if given.get_flag("rdw") {
+        RecordFraming::Descriptors
+    } else if given.get_flag("lines") {
+        RecordFraming::Lines
+    } else {
+        RecordFraming::EndToEnd
+    }
+}
+
+/// The deck, and which way the records go.
+fn deck<'a>(given: &ArgMatches<'a>) -> Option<(&'a str, RecordsWay)> {
+    match given.get_str("by") {
+        Some(deck) => Some((deck, RecordsWay::ToLines)),
+        None => Some((given.get_str("to")?, RecordsWay::ToRecords)),
+    }
+}
+
+/// The byte of two hexadecimal digits.
+fn byte_of(text: &str) -> Option<u8> {
+    if text.len() == 2 && text.bytes().all(|b| b.is_ascii_hexdigit()) {
+        u8::from_str_radix(text, 16).ok()
+    } else {
+        None
+    }
+}
+
+/// Whether a file is named that standard output can't stand for.
+fn is_stream(path: Option<&str>) -> bool {
+    match path {
+        Some(path) => is_standard(path),
+        None => false,
+    }
+}
+
+/// What is wrong with a value that clap takes.
+fn fault_of(given: &ArgMatches) -> Option<&'static str> {
+    if is_stream(given.get_str("OUT")) {
+        return Some("'<OUT>' is a file: what went to standard output can't be taken back");
+    }
+    if is_stream(given.get_str("deck")) {
+        return Some("'--deck <NEW>' is a file: what went to standard output can't be taken back");
+    }
+    match given.get_str("drop") {
+        Some(text) if byte_of(text).is_none() => {
+            Some("'--drop <XX>' has two hexadecimal digits, as FF")
+        }
+        _ => None,
+    }
+}
+
+/// What is wrong with the values of this command, if the words have it.
+pub(crate) fn bad_value(matches: &ArgMatches) -> Option<&'static str> {
+    match matches.subcommand()? {
+        ("records", given) => fault_of(given),
+        _ => None,
+    }
+}
+
+pub(crate) fn records_words<'a>(given: &ArgMatches<'a>) -> Option<Request<'a>> {
+    if fault_of(given).is_some() {
+        return None;
+    }
+    let (deck, way) = deck(given)?;
+    let dropped = match given.get_str("drop") {
+        Some(text) => byte_of(text),
+        None => None,
+    };
+    Some(Request::Records(RecordsWords {
+        input: given.get_str("IN")?,
+        output: given.get_str("OUT")?,
+        deck,
+        way,
+        file: given.get_str("file"),
+        length: given.get_one::<u16>("length"),
+        framing: framing(given),
+        is_ascii: given.get_flag("ascii"),
+        low_blank: given.get_flag("low-blank"),
+        dropped,
+        new_deck: given.get_str("deck"),
+    }))
+}
