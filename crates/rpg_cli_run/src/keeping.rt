@@ -31,7 +31,7 @@ pub(crate) enum Fate {
 }
 
 /// What becomes of the new files of a run. They are put in their places only at the end of a job, and not at a halt.
-fn fate(ran: &Result<Report, Stop>) -> Fate
+fn end_of_files(ran: &Result<Report, Stop>) -> Fate
     ensures { result ≡ fate_of ran.now }
 {
     match ran {
@@ -250,7 +250,7 @@ impl<'a> Kept<'a> {
     ) -> Result<Report, Stop>
         ensures { KeepsAnswer ran result }
     {
-        match fate(&ran) {
+        match end_of_files(&ran) {
             Fate::Placed => {
                 if let Err(answer) = self.put_all(rt, listener) {
                     return Err(Stop::Answer(answer));
