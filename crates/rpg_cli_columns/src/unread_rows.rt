@@ -3,7 +3,7 @@
 use crate::unread::Unread;
 
 const SWITCHES: &str =
-    "external switches (U1 to U8) aren't supported: decide them with rpg2 fit --switches, or turn indicators on by a first record of its own type (docs/OLD_PROGRAMS.md)";
+    "external switches (U1 to U8) aren't supported: turn indicators on by a first record of its own type (docs/OLD_PROGRAMS.md)";
 
 const COMMAND_KEYS: &str =
     "command keys (KA to KZ) aren't supported: put parameters in a first record of its own type (docs/OLD_PROGRAMS.md)";
