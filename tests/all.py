@@ -10,7 +10,18 @@ import subprocess
 import sys
 
 # The crates that no other proved crate rests on; `make edits` tries the wrong bodies of all.
-TOP = ("rpg_engine", "rpg_compile", "rpg_source_run", "rpg_cli_files", "rpg_cli_warnings", "rpg_cli_answers", "rpg_cli_run", "rpg_cli")
+TOP = (
+    "rpg_engine",
+    "rpg_compile",
+    "rpg_source_run",
+    "rpg_record_lines",
+    "rpg_fit_deck",
+    "rpg_cli_files",
+    "rpg_cli_warnings",
+    "rpg_cli_answers",
+    "rpg_cli_run",
+    "rpg_cli",
+)
 PARTS = (["rt", "ci"], ["tests/edits.py", *TOP], ["tests/run.py"])
 COUNT = re.compile(r"^(\d+) passed, (\d+) failed\b")
 
