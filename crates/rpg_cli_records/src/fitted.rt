@@ -74,7 +74,9 @@ pub fn fitted_deck(alloc: Global, source: &[u8], layout: &Layout) -> Result<Vec<
             Some(columns) => deck.extend_from_slice(trimmed(columns.as_slice()))?,
             None => deck.extend_from_slice(line)?,
         }
-        deck.extend_from_slice(b"\n")?;
+        if line.len() < rest.len() {
+            deck.extend_from_slice(b"\n")?;
+        }
         rest = more;
     }
     deck.extend_from_slice(rest)?;
