@@ -31,7 +31,7 @@ impl Outlet {
             Request::List(_) | Request::Cards(_) | Request::Show(_) | Request::Explain(_) => {
                 Outlet::PAGES
             }
-            Request::Run(words) if words.writes_standard_output() => Outlet::STANDARD_ERROR,
+            _ if request.writes_standard_output() => Outlet::STANDARD_ERROR,
             _ => Outlet::STANDARD_OUTPUT,
         }
     }

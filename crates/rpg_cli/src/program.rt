@@ -12,7 +12,7 @@ use crate::telling::{tell_answer, tell_unwritten};
 use crate::told::{StandardError, StandardStreams};
 use rpg_cli_answers::{Answer, Listener, Reasons, Stop, line};
 use rpg_cli_files::send_line;
-use rpg_cli_run::run_files;
+use rpg_cli_run::{go_files, run_files};
 use rpg_cli_words::{Refusal, Request, refuse_bytes, refuse_same_file, request_of};
 use std::alloc::Global;
 use std::io::{Error, ErrorKind, Write};
@@ -52,6 +52,7 @@ fn answer_to<R: Files + Input + Print + AllocGlobal, L: Listener>(
             Ok(Answer::Accepted { bound })
         }
         Request::Run(words) => Ok(Answer::from(run_files(rt, words, listener)?)),
+        Request::Go(words) => Ok(Answer::from(go_files(rt, words, listener)?)),
         Request::Explain(words) => explain(rt.alloc(), words, listener),
     }
 }

@@ -114,6 +114,7 @@ fn write_run_fault(out: &mut TextWriter, request: &Request, fault: RunFault, rea
             write_print_fault(out, request, FileWord::Disk, sent, reasons.disk)
         }
         (RunFault::BadDate, Request::Run(words)) => write_bad_date(out, words),
+        (RunFault::BadDate, Request::Go(words)) => write_bad_date(out, &words.run),
         _ => {}
     }
 }

@@ -10,7 +10,7 @@ use crate::keeping::Kept;
 use crate::refusing::{tell_object, tell_wanted};
 use crate::running::run_over;
 use crate::sharing::{NamedFile, refuse_same_file};
-use crate::sources::own_source;
+use crate::sources::{OwnSource, own_source};
 use rpg_cli_answers::{Answer, Listener, Reasons, Stop, named};
 use rpg_cli_files::{
     KeptFile, LineTarget, Opened, Pending, RecordSource, file_bytes, input_file, kept_file, lines,
@@ -167,7 +167,7 @@ fn keep_files<R: Files + AllocGlobal>(
     kept: &Kept<'_>,
 ) -> Result<(), Stop> {
     let (input, output) = ("/dev/stdin", "/dev/stdout");
-    let object = NamedFile::at(rt, FileWord::Object, words.object);
+    let object = NamedFile::at(rt, words.program, words.object);
     let source = NamedFile::named(rt, FileWord::OwnSource, words.source);
     let primary = NamedFile::opened(rt, FileWord::Input, &files.input, input);
     let secondary = NamedFile::opened(rt, FileWord::Secondary, &files.secondary, input);
@@ -294,7 +294,24 @@ fn run_object<'a, R: Files + Input + Print + AllocGlobal>(
     run_program(rt, words, accepted, wanted, kept)
 }
 
-/// Runs the object program of these bytes, and tells where its job halted. The source that the words name is read before.
+/// Runs the object program of these bytes, and tells where its job halted.
+pub(crate) fn run_bytes<R: Files + Input + Print + AllocGlobal, L: Listener>(
+    rt: &R,
+    words: &RunWords,
+    object: &[u8],
+    source: Option<&OwnSource<'_>>,
+    listener: &mut L,
+) -> Result<Report, Stop> {
+    let mut kept = Kept::new();
+    let ran = run_object(rt, words, object, &mut kept);
+    if let Ok(report) = ran {
+        let source = source.map(|source| source.halted());
+        tell_halt(rt, words, object, report, source, listener);
+    }
+    kept.finish(rt, ran, listener)
+}
+
+/// Runs the object program of these bytes. The source that the words name is read before.
 fn run_and_tell<R: Files + Input + Print + AllocGlobal, L: Listener>(
     rt: &R,
     words: &RunWords,
@@ -302,13 +319,7 @@ fn run_and_tell<R: Files + Input + Print + AllocGlobal, L: Listener>(
     listener: &mut L,
 ) -> Result<Report, Stop> {
     let source = own_source(rt, words.source, object, listener)?;
-    let mut kept = Kept::new();
-    let ran = run_object(rt, words, object, &mut kept);
-    if let Ok(report) = ran {
-        let source = source.as_ref().map(|source| source.halted());
-        tell_halt(rt, words, object, report, source, listener);
-    }
-    kept.finish(rt, ran, listener)
+    run_bytes(rt, words, object, source.as_ref(), listener)
 }
 
 /// Runs an object program over its files, and tells what is wrong with one that is refused, and where its job halted.
@@ -329,7 +340,7 @@ pub fn run_files<R: Files + Input + Print + AllocGlobal, L: Listener>(
 }
 
 /// Tells what is wrong with a program that is refused, or which file it wants.
-fn tell_refused<L: Listener>(
+pub(crate) fn tell_refused<L: Listener>(
     alloc: Global,
     words: &RunWords,
     object: &[u8],

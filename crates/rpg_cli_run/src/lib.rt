@@ -1,6 +1,7 @@
 //! The command that runs an object program over its files, and what other commands share with it.
 #![tactic(auto)]
 
+mod going;
 mod halting;
 mod jobs;
 mod judging;
@@ -10,6 +11,7 @@ mod running;
 mod sharing;
 mod sources;
 
+pub use going::go_files;
 pub use jobs::run_files;
 pub use judging::{compiled, verified};
 pub use refusing::tell_object;

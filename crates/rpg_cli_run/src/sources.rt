@@ -22,6 +22,14 @@ pub struct OwnSource<'a> {
     pub rows: SourceRows,
 }
 
+impl<'a> OwnSource<'a> {
+    /// What the cards of a source without a fault say.
+    pub(crate) fn of(alloc: Global, path: &'a str, text: Vec<u8>) -> Result<OwnSource<'a>, Answer> {
+        let rows = rows_of(alloc, &text)?;
+        Ok(OwnSource { path, text, rows })
+    }
+}
+
 impl OwnSource<'_> {
     pub fn halted(&self) -> HaltedSource<'_> {
         HaltedSource {
@@ -57,8 +65,7 @@ pub fn own_source<'a, R: Files + AllocGlobal, L: Listener>(
         }
         return Err(answer);
     }
-    let rows = rows_of(rt.alloc(), &text)?;
-    Ok(Some(OwnSource { path, text, rows }))
+    Ok(Some(OwnSource::of(rt.alloc(), path, text)?))
 }
 
 /// Tells the faults of a source, if it has any. Where there is no memory for the messages the line alone says what is wrong.

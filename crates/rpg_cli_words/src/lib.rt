@@ -2,11 +2,13 @@
 #![tactic(auto)]
 
 mod command;
+mod going;
 mod listing;
 mod records;
 mod request;
 mod words;
 
+pub use going::GoWords;
 pub use listing::{CardsWanted, CardsWords, ListWords};
 pub use records::{RecordFraming, RecordsWay, RecordsWords};
 pub use request::{

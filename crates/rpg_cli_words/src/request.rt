@@ -3,6 +3,7 @@
 ghost use Rattle.std.specs.Prelude.{◌<◌, ◌≤◌};
 
 use crate::command::command;
+use crate::going::{GoWords, go_words};
 use crate::listing::{CardsWords, ListWords, cards_words, list_words};
 use crate::records::{RecordsWords, bad_value, records_words};
 use clap::error::ErrorKind;
@@ -28,6 +29,8 @@ pub enum Request<'a> {
     Show(ShowWords<'a>),
     /// Runs an object program.
     Run(RunWords<'a>),
+    /// Compiles a source and runs it.
+    Go(GoWords<'a>),
     /// Explains a code.
     Explain(ExplainWords<'a>),
 }
@@ -75,7 +78,10 @@ pub struct ShowWords<'a> {
 /// The words of `run`.
 #[derive(Clone, Copy)]
 pub struct RunWords<'a> {
+    /// The object program, or the source that is compiled to it.
     pub object: &'a str,
+    /// The word of that: OBJ, or SRC.
+    pub program: FileWord,
     /// The records, by a file or `-`.
     pub input: &'a str,
     /// Where the printed lines go, a file or `-`.
@@ -205,6 +211,7 @@ impl<'a> Request<'a> {
             (Request::Show(words), FileWord::Object) => Some(words.object),
             (Request::Show(words), FileWord::OwnSource) => words.source,
             (Request::Run(words), word) => words.path(word),
+            (Request::Go(words), word) => words.run.path(word),
             (Request::Records(words), word) => words.path(word),
             _ => None,
         }
@@ -217,6 +224,7 @@ impl<'a> Request<'a> {
             Request::Check(words) => words.is_quiet,
             Request::Verify(words) => words.is_quiet,
             Request::Run(words) => words.is_quiet,
+            Request::Go(words) => words.run.is_quiet,
             _ => false,
         }
     }
@@ -225,13 +233,14 @@ impl<'a> Request<'a> {
     pub fn writes_standard_output(&self) -> bool {
         match self {
             Request::Run(words) => words.writes_standard_output(),
+            Request::Go(words) => words.run.writes_standard_output(),
             _ => false,
         }
     }
 }
 
 /// What stands for standard input or output in place of a file.
-const STANDARD: &str = "-";
+pub(crate) const STANDARD: &str = "-";
 
 /// Whether a word that may name a file is standard input or output.
 pub fn is_standard(path: &str) -> bool {
@@ -277,7 +286,7 @@ impl<'a> RunWords<'a> {
 
     fn path(&self, word: FileWord) -> Option<&'a str> {
         match word {
-            FileWord::Object => Some(self.object),
+            FileWord::Object | FileWord::Source => Some(self.object),
             FileWord::Input => Some(self.input),
             FileWord::Secondary => self.secondary,
             FileWord::Print => Some(self.print),
@@ -383,6 +392,7 @@ fn show_words<'a>(given: &ArgMatches<'a>) -> Option<Request<'a>> {
 fn run_words<'a>(given: &ArgMatches<'a>) -> Option<Request<'a>> {
     Some(Request::Run(RunWords {
         object: given.get_str("OBJ")?,
+        program: FileWord::Object,
         input: given.get_str("INPUT")?,
         print: given.get_str("PRINT")?,
         date: given.get_str("date")?,
@@ -412,6 +422,7 @@ fn request_in<'a>(matches: &ArgMatches<'a>) -> Option<Request<'a>> {
         ("verify", given) => verify_words(given),
         ("show", given) => show_words(given),
         ("run", given) => run_words(given),
+        ("go", given) => go_words(given),
         ("explain", given) => Some(explain_words(given)),
         _ => None,
     }

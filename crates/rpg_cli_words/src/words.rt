@@ -79,6 +79,13 @@ const QUIET: Word = Word {
     help: "Prints no line if the exit status is 0",
 };
 
+const ALLOWANCE: Word = Word {
+    name: "allowance",
+    kind: Kind::Allowance("1000"),
+    is_required: false,
+    help: "How many backward branches and calls a cycle may take",
+};
+
 const COMPILE: [Word; 5] = [
     SOURCE,
     Word {
@@ -87,12 +94,7 @@ const COMPILE: [Word; 5] = [
         is_required: true,
         help: "Where the object program goes",
     },
-    Word {
-        name: "allowance",
-        kind: Kind::Allowance("1000"),
-        is_required: false,
-        help: "How many backward branches and calls a cycle may take",
-    },
+    ALLOWANCE,
     FAULTS,
     QUIET,
 ];
@@ -216,56 +218,87 @@ const EXPLAIN: [Word; 2] = [
 
 const SHOW: [Word; 2] = [OBJECT, OWN_SOURCE];
 
+const INPUT: Word = Word {
+    name: "INPUT",
+    kind: Kind::Placed,
+    is_required: true,
+    help: "The records; - is standard input",
+};
+
+const DATE: Word = Word {
+    name: "date",
+    kind: Kind::Named("N"),
+    is_required: true,
+    help: "The date, as six digits",
+};
+
+const SECONDARY: Word = Word {
+    name: "secondary",
+    kind: Kind::Named("FILE"),
+    is_required: false,
+    help: "The records of a secondary file",
+};
+
+const DISK: Word = Word {
+    name: "disk",
+    kind: Kind::Named("FILE"),
+    is_required: false,
+    help: "Where the records of a disk file go",
+};
+
+const MOST: Word = Word {
+    name: "most",
+    kind: Kind::Most,
+    is_required: false,
+    help: "Rejects a program if a cycle may take more than N steps",
+};
+
+const KEEP: Word = Word {
+    name: "keep",
+    kind: Kind::Flag,
+    is_required: false,
+    help: "Keeps the old PRINT and disk file until the job has ended well",
+};
+
 const RUN: [Word; 10] = [
     OBJECT,
-    Word {
-        name: "INPUT",
-        kind: Kind::Placed,
-        is_required: true,
-        help: "The records; - is standard input",
-    },
+    INPUT,
     Word {
         name: "PRINT",
         kind: Kind::Placed,
         is_required: true,
         help: "Where the printed lines go; - is standard output, and the answer's line then goes to standard error",
     },
-    Word {
-        name: "date",
-        kind: Kind::Named("N"),
-        is_required: true,
-        help: "The date, as six digits",
-    },
-    Word {
-        name: "secondary",
-        kind: Kind::Named("FILE"),
-        is_required: false,
-        help: "The records of a secondary file",
-    },
-    Word {
-        name: "disk",
-        kind: Kind::Named("FILE"),
-        is_required: false,
-        help: "Where the records of a disk file go",
-    },
-    Word {
-        name: "most",
-        kind: Kind::Most,
-        is_required: false,
-        help: "Rejects a program if a cycle may take more than N steps",
-    },
-    Word {
-        name: "keep",
-        kind: Kind::Flag,
-        is_required: false,
-        help: "Keeps what stands in PRINT and the disk file until the job has ended well",
-    },
+    DATE,
+    SECONDARY,
+    DISK,
+    MOST,
+    KEEP,
     OWN_SOURCE,
     QUIET,
 ];
 
+const GO: [Word; 11] = [
+    SOURCE,
+    INPUT,
+    Word {
+        name: "PRINT",
+        kind: Kind::Placed,
+        is_required: false,
+        help: "Where the printed lines go; standard output where it isn't given",
+    },
+    DATE,
+    SECONDARY,
+    DISK,
+    MOST,
+    KEEP,
+    ALLOWANCE,
+    FAULTS,
+    QUIET,
+];
+
 /// The commands, as help has them one after another.
-pub(crate) const COMMANDS: [CommandWords; 9] = [
+pub(crate) const COMMANDS: [CommandWords; 10] = [
     CommandWords {
         name: "compile",
         about: "Compiles the source SRC to the object program OBJ",
@@ -310,5 +343,10 @@ pub(crate) const COMMANDS: [CommandWords; 9] = [
         name: "run",
         about: "Runs the object program OBJ over the records of INPUT, and prints to PRINT",
         words: &RUN,
+    },
+    CommandWords {
+        name: "go",
+        about: "Compiles the source SRC and runs it over the records of INPUT",
+        words: &GO,
     },
 ];
