@@ -65,3 +65,7 @@ pub record ConvertsOne (file : File) (old new : Option (List ℕ)) (before after
 -- the same, and nothing is left to read
 abbrev pub ConvertsRest : File → Option (List ℕ) → Option (List ℕ) → Option (List ℕ) → Option (List ℕ) → Type 0
 ConvertsRest file old new before after = Converts file old new before after × IsAtEnd new
+
+-- of a reader that gave all of its bytes: they are records of the file, and their lines were written
+abbrev pub HasConverted : File → Option (List ℕ) → Option (List ℕ) → Option (List ℕ) → Type 0
+HasConverted file old before after = (rest : Option (List ℕ)) × ConvertsRest file old rest before after

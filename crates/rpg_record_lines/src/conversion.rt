@@ -2,7 +2,7 @@
 
 ghost use Rattle.std.specs.Prelude.{◌≡◌, ◌≢◌, ◌-◌, ◌++◌, replicate, vec_len, Some, option_map, IfOk, IfSome, OnOk};
 ghost use Rattle.std.specs.Io.KnownBytes.{Appends};
-ghost use Rattle.rpg_record_lines.specs.Files.{ConvertsRest, is_dropped, whole_text_of};
+ghost use Rattle.rpg_record_lines.specs.Files.{HasConverted, ConvertsRest, is_dropped, whole_text_of};
 ghost use Rattle.rpg_record_lines.specs.Formats.{file_for};
 ghost use Rattle.rpg_record_lines.specs.declared.frames.Framing.TheVariants as framings;
 ghost use Rattle.rpg_record_lines.specs.Frames.{GivesFrame, framing_of, most_of, remaining_of};
@@ -269,7 +269,10 @@ pub fn records_to_lines<R: Read + Drop, W: Write>(
     format: RecordFormat,
     reader: R,
     writer: &mut W,
-) -> Result<Counts, ConversionFault> {
+) -> Result<Counts, ConversionFault>
+    // What was read are whole records, to the reader's end; what was written are their lines, in order.
+    ensures lines { format.framing ≢ framings.Lines → OnOk result (HasConverted (file_for layout.now format) (R.remaining reader) (W.contents writer.old) (W.contents writer.new)) }
+{
     let mut maker = LineMaker::new(alloc, layout, format)?;
     let mut frames = Frames::new(alloc, reader, format.framing, maker.length)?;
     write_all(&mut maker, &mut frames, writer)

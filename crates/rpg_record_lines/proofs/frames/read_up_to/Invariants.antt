@@ -1,4 +1,4 @@
-use Rattle.std.proofs.Common.{◌≡◌, ◌≤◌, ◌-◌, length, take}
+use Rattle.std.proofs.Common.{◌≤◌, ◌-◌, length, take}
 use Rattle.std.specs.Io.KnownBytes.{Consumes}
 use Rattle.rpg_record_lines.proofs.frames.read_up_to.Given as goal
 
