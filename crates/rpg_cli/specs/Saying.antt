@@ -15,6 +15,6 @@ Says old new status answer =
 abbrev pub SaysOrIsQuiet : Bool → Option (List ℕ) → Option (List ℕ) → ℕ → Answer → Type 0
 SaysOrIsQuiet is_quiet old new status answer = Says old new status answer ⊎ ((is_quiet ≡ true) × Keeps old new × (status ≡ 0) × (exit_status answer ≡ 0))
 
--- an answer's line; or nothing, with a status of at most 2, where clap answers in its place, or the line of a good end isn't wanted
+-- an answer's line; or nothing, with a status of at most 2, if clap prints in its place, or if the line of a good end is left out
 abbrev pub PrintsALine : Option (List ℕ) → Option (List ℕ) → ℕ → Type 0
 PrintsALine old new status = (Keeps old new × (status ≤ 2)) ⊎ ((answer : Answer) × Says old new status answer)

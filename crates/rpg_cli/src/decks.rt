@@ -7,7 +7,7 @@ use rpg_cli_words::{CardsWanted, CardsWords, FileWord};
 use std::alloc::Global;
 use std::rt::Files;
 
-/// The cards that lines of shorthand stand for. The first line that is no card is told.
+/// The cards that lines of shorthand stand for. The first line that is no card is reported.
 fn deck_text<L: Listener>(
     alloc: Global,
     path: &str,
@@ -26,7 +26,7 @@ fn deck_text<L: Listener>(
     }
 }
 
-/// What the words want of a file: its cards, or its shorthand.
+/// What the arguments ask for: a file's cards, or its shorthand.
 fn wanted_text<L: Listener>(
     alloc: Global,
     words: &CardsWords,

@@ -27,7 +27,7 @@ fn write_object<R: Files + AllocGlobal>(
 
 /// Compiles a source to an object file.
 ///
-/// The object file is written once the source is compiled: a source that is refused leaves it as it was, and all its faults are told.
+/// The object file is written once the source is compiled: a rejected source leaves it as it was, and all its faults are reported.
 pub(crate) fn compile_files<R: Files + AllocGlobal, L: Listener>(
     rt: &R,
     words: &CompileWords,
@@ -47,7 +47,7 @@ pub(crate) fn compile_files<R: Files + AllocGlobal, L: Listener>(
     }
 }
 
-/// Tells all faults of a source, and answers the least.
+/// Reports all faults of a source, and returns the least.
 pub(crate) fn check_file<R: Files + AllocGlobal, L: Listener>(
     rt: &R,
     words: &CheckWords,
@@ -71,7 +71,7 @@ fn first_fault(alloc: Global, source: &[u8]) -> Option<SourceFault> {
     faultless_cards(alloc, source).err()
 }
 
-/// Tells what a source without a fault is warned of. Where there is no memory for the messages nothing is told.
+/// Prints the warnings for a source without a fault. If there is no memory for them, nothing is printed.
 fn tell_warnings<L: Listener>(
     alloc: Global,
     path: &str,
@@ -114,7 +114,7 @@ fn shown_text<R: Files + AllocGlobal, L: Listener>(
     }
 }
 
-/// Shows the program of an object file, and answers what `verify_file` does.
+/// Shows the program of an object file, and returns what `verify_file` does.
 pub(crate) fn show_file<R: Files + AllocGlobal, L: Listener>(
     rt: &R,
     words: &ShowWords,

@@ -1,4 +1,4 @@
-//! The program `rpg2`: its commands over files, and the lines and statuses of its answers.
+//! The program `rpg2`: its commands over files, and their lines and exit statuses.
 #![tactic(auto)]
 
 mod decks;

@@ -8,7 +8,7 @@ use rpg_faults::{SourceFault, faultless_cards};
 use std::alloc::Global;
 use std::rt::Files;
 
-/// Shows the listing of a source, with or without faults, and answers the least fault. Where memory is wanting nothing is shown.
+/// Shows the listing of a source, with or without faults, and returns the least fault. If memory runs out, nothing is shown.
 pub(crate) fn list_file<R: Files + AllocGlobal, L: Listener>(
     rt: &R,
     words: &ListWords,

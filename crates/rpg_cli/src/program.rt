@@ -57,7 +57,7 @@ fn answer_to<R: Files + Input + Print + AllocGlobal, L: Listener>(
     }
 }
 
-/// Prints the line of an answer, and answers the exit status. A line that can't be written is told.
+/// Prints the line of an answer, and returns the exit status. If the line can't be written, this is reported.
 fn say<W: Write, L: Listener>(out: &mut W, outlet: Outlet, answer: &Answer, listener: &mut L) -> u8
     ensures { Says (W.contents out.old) (W.contents out.new) result answer.now }
 {
@@ -71,7 +71,7 @@ fn say<W: Write, L: Listener>(out: &mut W, outlet: Outlet, answer: &Answer, list
     }
 }
 
-/// Prints the line of an answer, or that of a good end only where the words aren't quiet, and answers the exit status.
+/// Prints the line of an answer, except that of a good end if the command is quiet, and returns the exit status.
 fn say_if_wanted<W: Write, L: Listener>(
     out: &mut W,
     outlet: Outlet,
@@ -88,7 +88,7 @@ fn say_if_wanted<W: Write, L: Listener>(
     }
 }
 
-/// Explains a fault of the command line, or gives the help that was asked for, and answers the exit status.
+/// Explains a fault of the command line, or prints the requested help, and returns the exit status.
 fn refuse<R: Print + Eprint + AllocGlobal, W: Write, L: Listener>(
     rt: &R,
     refusal: &Refusal,
@@ -104,7 +104,7 @@ fn refuse<R: Print + Eprint + AllocGlobal, W: Write, L: Listener>(
     }
 }
 
-/// Does what the words ask, prints one line to `out`, and answers the exit status. What is told beside the line goes to the listener.
+/// Runs the command of the arguments, prints one line to `out`, and returns the exit status. Diagnostics go to the listener.
 ///
 /// The first word is the program's name. A fault of the command line prints clap's text on standard error, and help that
 /// was asked for goes to standard output, in place of the line. So does a text before the line that can't be shown whole.
@@ -122,7 +122,7 @@ pub fn run<R: Files + Input + Print + Eprint + AllocGlobal, W: Write, L: Listene
     }
 }
 
-/// Prints the line of an answer, if it's wanted, tells what more is known of it, and answers the exit status.
+/// Prints the line of an answer, unless the command is quiet, adds the diagnostic, and returns the exit status.
 fn conclude<W: Write, L: Listener>(
     alloc: Global,
     request: &Request,
@@ -139,7 +139,7 @@ fn conclude<W: Write, L: Listener>(
     status
 }
 
-/// Does what is asked, prints one line to `out`, and answers the exit status.
+/// Runs a command, prints one line to `out`, and returns the exit status.
 fn obey<R: Files + Input + Print + Eprint + AllocGlobal, W: Write, L: Listener>(
     rt: &R,
     request: &Request,
@@ -169,7 +169,7 @@ fn words<R: Env + AllocGlobal>(rt: &R) -> io::Result<Vec<String>> {
     Ok(words)
 }
 
-/// Does what the words ask over the standard streams, and answers the exit status. The line goes to standard output, or to standard error
+/// Runs the command of the arguments over the standard streams, and returns the exit status. The line goes to standard output, or to standard error
 /// where a run writes records or lines to standard output.
 fn run_on_streams<R: Files + Input + Print + Eprint + AllocGlobal>(rt: &R, words: &[String]) -> u8 {
     let mut out = io::writer(rt);
@@ -183,7 +183,7 @@ fn run_on_streams<R: Files + Input + Print + Eprint + AllocGlobal>(rt: &R, words
     }
 }
 
-/// Answers words that can't be had: one isn't UTF-8, or memory is wanting.
+/// Rejects arguments that can't be read: one isn't UTF-8, or memory ran out.
 fn refuse_words<R: Print + Eprint + AllocGlobal>(rt: &R, error: &Error) -> u8 {
     let mut out = io::writer(rt);
     let mut listener = StandardStreams::new(rt);

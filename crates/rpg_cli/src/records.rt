@@ -22,7 +22,7 @@ use std::rt::Files;
 /// How much is kept back of what goes to OUT.
 const WRITE_ROOM: usize = 65_536;
 
-/// The layout of the records, by the deck. What is wrong with a card is told.
+/// The layout of the records, by the deck. A bad card is reported.
 fn layout<L: Listener>(
     alloc: Global,
     words: &RecordsWords,
@@ -110,7 +110,7 @@ fn keep_files<R: Files + AllocGlobal>(
     Ok(())
 }
 
-/// Why a device failed, where it told.
+/// Why a device failed, if it gave a reason.
 fn reason_of(fault: Option<Reason>) -> Reason {
     fault.unwrap_or(Reason::Other)
 }
@@ -122,7 +122,7 @@ fn output_failed(fault: Option<Reason>) -> Answer {
     }
 }
 
-/// The answer to a conversion that ended early. What is wrong with a record is told.
+/// The answer to a conversion that ended early. A bad record is reported.
 fn early_answer<L: Listener>(
     alloc: Global,
     words: &RecordsWords,

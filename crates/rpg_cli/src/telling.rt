@@ -1,4 +1,4 @@
-//! What is told beside the line, on files that failed and on a date that is none. Where there is no memory for it the line alone says what is wrong.
+//! Diagnostics about files that failed and about a bad date. If there is no memory for one, only the line is printed.
 
 use crate::outlet::Outlet;
 use rpg_cli_answers::{Answer, Listener, Reasons};
@@ -46,7 +46,7 @@ fn write_reason(out: &mut TextWriter, reason: Option<Reason>) {
     }
 }
 
-/// What is told of a file that couldn't be written while the job ran.
+/// Reports a file that couldn't be written while the job ran.
 fn write_print_fault(
     out: &mut TextWriter,
     request: &Request,
@@ -59,7 +59,7 @@ fn write_print_fault(
     write_reason(out, reason);
 }
 
-/// What is told of an input that couldn't be read while the job ran, or had too many records.
+/// Reports an input that couldn't be read while the job ran, or had too many records.
 fn write_read_fault(
     out: &mut TextWriter,
     request: &Request,
@@ -77,7 +77,7 @@ fn write_read_fault(
     }
 }
 
-/// What is told of the input that failed.
+/// Reports the input that failed.
 fn write_input_fault(
     out: &mut TextWriter,
     request: &Request,
@@ -101,7 +101,7 @@ fn write_bad_date(out: &mut TextWriter, words: &RunWords) {
     out.write_str("'\n");
 }
 
-/// What is told of a device that failed while the job ran, or of a date that is none.
+/// Reports a device that failed while the job ran, or a bad date.
 fn write_run_fault(out: &mut TextWriter, request: &Request, fault: RunFault, reasons: Reasons) {
     match (fault, request) {
         (RunFault::Read { file, fault }, _) => {

@@ -1,4 +1,4 @@
-//! The standard streams, for what is told and shown beside the line of an answer.
+//! The standard streams, for diagnostics and for texts before the line of an answer.
 
 use rpg_cli_answers::Listener;
 use rpg_cli_files::{Reason, send_text};
@@ -39,7 +39,7 @@ impl<'a, R: Eprint> StandardError<'a, R> {
     }
 }
 
-/// A fault behind which a part of the text may have gone out: who writes must not try again, as an interruption would have it.
+/// A fault after a part of the text may have been written: the writer must not try again, as it would after an interruption.
 fn final_fault(error: &Error) -> Error {
     match error.kind() {
         ErrorKind::Interrupted => Error::from(ErrorKind::Other),

@@ -1,3 +1,3 @@
--- The lines and statuses of answers, and the fault of a file that a word names.
+-- The lines and exit statuses of answers, and the fault of a file that an argument names.
 pub mod Answers
 pub mod Named

@@ -1,4 +1,4 @@
-//! How the commands of `rpg2` end: their answers, and the line and the status of each.
+//! How the commands of `rpg2` end, and the line and exit status of each end.
 #![tactic(auto)]
 
 mod answer;

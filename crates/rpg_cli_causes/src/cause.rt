@@ -37,7 +37,7 @@ fn write_known(out: &mut TextWriter, spot: Spot<'_>, code: FaultCode) -> Option<
     }
 }
 
-/// Writes why a card of a source has a fault at these columns, and answers whether the cause is known; else nothing is written. Card 0 is the source as a
+/// Writes why a card of a source has a fault at these columns, and returns whether the cause is known; otherwise nothing is written. Card 0 is the source as a
 /// whole, which has no primary file.
 pub fn write_cause(
     out: &mut TextWriter,

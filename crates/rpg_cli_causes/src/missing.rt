@@ -26,7 +26,7 @@ fn name_of(column: u8) -> &'static str {
     "a column"
 }
 
-/// A factor or a result that the operation has, lacks, or wants as a name.
+/// A factor or a result that the operation has, lacks, or takes as a name.
 fn write_operand(out: &mut TextWriter, spot: Spot<'_>, column: Column) {
     let name = name_of(spot.column());
     out.write_shown(spot.operation());

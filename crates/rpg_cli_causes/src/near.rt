@@ -7,7 +7,7 @@ use rpg_cli_text::TextWriter;
 /// The least length of a name that can be a misspelt one: shorter ones are near too many.
 const LEAST: usize = 3;
 
-/// How many near names are told.
+/// How many close names are listed.
 const MOST: usize = 3;
 
 fn rest_of(text: &[u8], from: usize) -> &[u8] {
@@ -40,14 +40,14 @@ pub(crate) fn is_near(one: &[u8], other: &[u8]) -> bool {
             && one.get(next) == other.get(same))
 }
 
-/// How many names are told, and how many definitions stand before a card.
+/// How many names are listed, and how many definitions come before a card.
 #[derive(Clone, Copy)]
 struct Near {
     told: usize,
     definitions: usize,
 }
 
-/// Writes a name, behind others.
+/// Writes a name, after others.
 fn write_one(out: &mut TextWriter, told: usize, name: &[u8]) {
     out.write_str(if told == 0 { " (" } else { ", " });
     out.write_shown(name);

@@ -1,4 +1,4 @@
-//! The page of each code: what it says, what breaks the rule and what keeps it, what to do, and what stands behind it.
+//! The page of each code: what it says, what breaks the rule and what keeps it, what to do, and what happens then.
 #![tactic(auto)]
 
 mod bytes;

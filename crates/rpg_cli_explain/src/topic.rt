@@ -88,7 +88,7 @@ impl Topic {
         }
     }
 
-    /// What stands behind it: when it is told, what is left of the work, and the status.
+    /// What happens then: when it is reported, what becomes of the work, and the exit status.
     pub(crate) const fn behind(self) -> &'static str {
         match self {
             Topic::Sheet(_) => {
@@ -113,7 +113,7 @@ impl Topic {
     }
 }
 
-/// The number behind a family's letters, whatever their case: 16 of `f16` for `F`, 4 of `Halt 4` for `halt`.
+/// The number after a family's letters, whatever their case: 16 of `f16` for `F`, 4 of `Halt 4` for `halt`.
 fn number_behind(code: &str, letters: &str) -> Option<usize> {
     let given = code.get(..letters.len())?;
     if !given.eq_ignore_ascii_case(letters) {

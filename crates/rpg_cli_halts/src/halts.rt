@@ -21,7 +21,7 @@ pub struct HaltedCycle {
 }
 
 impl HaltedCycle {
-    /// Whether the text of a record tells what was wrong: columns that were no number when its fields were filled, or its length or a byte of it.
+    /// Whether the text of a record shows what was wrong: columns that were no number when its fields were filled, or its length or a byte of it.
     pub fn is_of_columns(self) -> bool {
         matches!(
             (self.halt, self.place),
@@ -30,7 +30,7 @@ impl HaltedCycle {
     }
 
     /// The record that the halt is about, where it is known. Each cycle before has taken one; the fields of a record are filled, and detail
-    /// calculations done, in the cycle that takes it. Where there are two files, cycles don't tell how many records were taken from each.
+    /// calculations done, in the cycle that takes it. With two files, the cycles don't show how many records were taken from each.
     pub fn record(self, program: &Verified) -> Option<u64> {
         if has_two_files(program) {
             return None;
@@ -51,11 +51,11 @@ impl HaltedCycle {
     }
 }
 
-/// The names of the files that a job reads, by which it is told which of them a record may be of.
+/// The names of the files that a job reads.
 #[derive(Clone, Copy)]
 pub struct InputNames<'a> {
     pub primary: &'a str,
-    /// That of the secondary file, if the words tell one. A program without such a file doesn't read it.
+    /// That of the secondary file, if the arguments name one. A program without such a file doesn't read it.
     pub secondary: Option<&'a str>,
 }
 
@@ -96,7 +96,7 @@ fn write_columns(out: &mut TextWriter, bad: BadColumns, text: &[u8]) {
     write!(out, " in column {column} is no digit");
 }
 
-/// What the text of a record tells of its halt.
+/// What the text of a record shows about its halt.
 #[derive(Clone, Copy)]
 enum Found<'a> {
     Nothing,
@@ -193,7 +193,7 @@ fn write_before(out: &mut TextWriter, cycles: u64) {
     }
 }
 
-/// What is told of a halt of a job by this program over the records of these files. The record that the halt is about makes it known which of
+/// The diagnostic for a halt of a job by this program over the records of these files. The record that the halt is about makes it known which of
 /// its columns were no number, and the program's source which card it was.
 pub fn halt_message(
     alloc: Global,

@@ -1,4 +1,4 @@
-//! What a person is told beside the line of a job that halted.
+//! The diagnostic for a job that halted.
 #![tactic(auto)]
 
 mod columns;

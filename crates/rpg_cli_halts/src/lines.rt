@@ -4,7 +4,7 @@ use rpg_cli_text::TextWriter;
 use rpg_effect::operation::Index;
 use rpg_object_program::row::{Line, Rows};
 
-/// Writes the indexed fields of a line, and answers whether none was written yet.
+/// Writes the indexed fields of a line, and returns whether none was written yet.
 fn write_line(out: &mut TextWriter, line: &Line, number: usize, is_first: bool) -> bool {
     let mut is_first = is_first;
     for (at, field) in line.fields.iter().enumerate() {

@@ -21,7 +21,7 @@ fn write_card(out: &mut TextWriter, number: usize, line: &[u8]) {
     out.write_char('\n');
 }
 
-/// Writes the faults of a card, which come first, and answers those after them.
+/// Writes the faults of a card, which come first, and returns those after them.
 fn write_faults<'f>(
     out: &mut TextWriter,
     number: usize,

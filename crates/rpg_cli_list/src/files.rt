@@ -71,7 +71,7 @@ impl FileIndex {
         Ok(())
     }
 
-    /// What is said of the file of a name.
+    /// The entry of a file, by its name.
     pub fn named(&self, name: &Word<8>) -> Option<DescribedFile> {
         self.files.get(name).copied()
     }

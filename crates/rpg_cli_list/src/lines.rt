@@ -15,7 +15,7 @@ use rpg_faults_operands::fill_in;
 use rpg_sheet_specs::{Entry, EntryIndex, Movement, OutputField, OutputRecord, OutputSpec};
 use std::alloc::{AllocError, Global};
 
-/// How the form moves: where nothing is said a line is spaced after.
+/// How the form moves: if all four columns are blank, one line is spaced after.
 fn spacing_of(movement: Movement) -> Spacing {
     match movement {
         Movement {

@@ -109,7 +109,7 @@ fn deck_text(
     out.finish()
 }
 
-/// All of a source that a person wants to read, whether it has faults or not: its cards, each with its faults; its files, tables, record types with their
+/// The whole listing of a source, whether it has faults or not: its cards, each with its faults; its files, tables, record types with their
 /// fields; names, constants, labels and indicators with the cards that have them; and its lines as they are printed. Of cards that can't be read the
 /// listing has the faults alone, and `path` is how the source is called.
 pub fn source_listing(alloc: Global, path: &str, source: &[u8]) -> Result<String, AllocError> {

@@ -1,4 +1,4 @@
-//! What an output field prints, as far as its card tells.
+//! What an output field prints, as far as its card shows.
 
 use rpg_cards::{Defined, IndexedCards};
 use rpg_decimal::fit;

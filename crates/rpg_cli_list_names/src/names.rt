@@ -10,7 +10,7 @@ use rpg_sheet_specs::{
 use std::alloc::{AllocError, Global};
 use std::collections::BTreeMap;
 
-/// A name with blanks behind it.
+/// A name with blanks after it.
 type NameKey = [u8; 6];
 
 /// What a card does with a name.
@@ -139,7 +139,7 @@ impl Names {
         self.fields
     }
 
-    /// Makes a place for a name, if it has none, and answers its key.
+    /// Makes a place for a name, if it has none, and returns its key.
     fn key_for(&mut self, name: &Word<6>) -> Result<NameKey, AllocError> {
         let key = key_of(name.as_slice());
         if !self.names.contains_key(&key) {

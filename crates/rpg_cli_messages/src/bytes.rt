@@ -7,7 +7,7 @@ use rpg_text::is_blank;
 #[derive(Clone, Copy)]
 struct ByteCause(&'static [u8], &'static str);
 
-/// The first that fits is told.
+/// The first that fits is reported.
 const CAUSES: [ByteCause; 10] = [
     ByteCause(b"\t", "a tab: `expand` turns tabs into blanks"),
     ByteCause(
@@ -36,7 +36,7 @@ const CAUSES: [ByteCause; 10] = [
     ByteCause(b"\xe2\x80\x9d", "a typographic quotation mark: write '"),
 ];
 
-/// How many bytes of a line tell whether it is EBCDIC.
+/// How many bytes of a line decide whether it is EBCDIC.
 const LOOKED_AT: usize = 80;
 
 const EBCDIC: &str = "this looks like EBCDIC: docs/OLD_PROGRAMS.md converts it";

@@ -1,4 +1,4 @@
-//! The lines of a source's cards, one behind the other.
+//! The lines of a source's cards, one after another.
 
 /// Goes over the lines of a source.
 #[derive(Drop)]
@@ -17,7 +17,7 @@ impl<'a> CardLines<'a> {
         }
     }
 
-    /// The line of a card that isn't before the one that was asked last. Card 0, and a card behind the last, have none.
+    /// The line of a card that isn't before the one that was asked last. Card 0, and a card after the last, have none.
     pub fn line_of(&mut self, card: u16) -> &'a [u8] {
         for _ in self.card..card {
             if self.rest.is_empty() {

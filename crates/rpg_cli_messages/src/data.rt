@@ -1,4 +1,4 @@
-//! F18: how many data a table wants, and how many stand there.
+//! F18: how many data a table needs, and how many there are.
 
 use crate::entries::{EntryColumns, first_bad, write_bad_entry};
 use rpg_cards::SpecCard;

@@ -35,7 +35,7 @@ fn write_digits(out: &mut TextWriter, name: &[u8], form: FieldForm) {
     }
 }
 
-/// What code Y wants.
+/// What code Y takes.
 fn write_date(out: &mut TextWriter, name: &[u8], form: FieldForm) {
     if form.length != 6 || form.decimals != 0 {
         out.write_str(": code Y edits 6 digits without decimals, and ");
@@ -61,7 +61,7 @@ fn write_text(out: &mut TextWriter, name: &[u8], length: u16) {
     write!(out, " is a text of {length} {characters}");
 }
 
-/// What a field of this form has, and what its code or word wants.
+/// What a field of this form has, and what its code or word takes.
 fn write_misfit(out: &mut TextWriter, name: &[u8], form: FieldForm, field: &OutputField) {
     match (form.kind, field.code, &field.text) {
         (Kind::Text, _, _) => write_text(out, name, form.length),
@@ -71,7 +71,7 @@ fn write_misfit(out: &mut TextWriter, name: &[u8], form: FieldForm, field: &Outp
     }
 }
 
-/// What the field of an output card has, and what its code or word wants, as far as its form is known.
+/// What the field of an output card has, and what its code or word takes, as far as its form is known.
 pub(crate) fn write_editing(out: &mut TextWriter, source: &IndexedCards, card: &SpecCard) {
     let Some(field) = card.output_field() else {
         return;

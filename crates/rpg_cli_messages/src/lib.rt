@@ -1,4 +1,4 @@
-//! What a person is told of a refused source beside its one line: each fault with its place, a sentence, the card and a mark under its columns.
+//! The diagnostics for a rejected source: each fault with its place, a sentence, the card and a mark under its columns.
 #![tactic(auto)]
 
 mod bytes;

@@ -69,7 +69,7 @@ fn slip_of(source: SourceCards<'_>, line: &[u8], fault: CardFault) -> Option<Sli
     }
 }
 
-/// A fault that comes of a slip which is told already.
+/// A fault that comes from a slip that is reported already.
 fn write_follower(out: &mut TextWriter, path: &str, line: &[u8], fault: CardFault, slip: Slip) {
     let code = fault.code.text();
     write_place(
@@ -249,7 +249,7 @@ fn write_count(out: &mut TextWriter, path: &str, faults: &[CardFault], most: u16
     out.write_char('\n');
 }
 
-/// How many of those that were counted are told one by one.
+/// How many of those that were counted are listed.
 pub fn write_told(out: &mut TextWriter, most: u16) {
     match most {
         0 => out.write_str(", none of them shown"),

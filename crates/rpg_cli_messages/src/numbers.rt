@@ -40,7 +40,7 @@ fn card_at(cards: &[SpecCard], number: u16) -> Option<&SpecCard> {
     None
 }
 
-/// The numbers that tell why a card breaks a rule.
+/// The numbers that show why a card breaks a rule.
 pub(crate) fn write_numbers(
     out: &mut TextWriter,
     source: &IndexedCards,

@@ -11,7 +11,7 @@ pub(crate) struct Columns {
 }
 
 impl Columns {
-    /// A line with blanks after its end. What is behind column 80 is left out.
+    /// A line with blanks after its end. What is beyond column 80 is left out.
     pub fn new(line: &[u8]) -> Self {
         let mut bytes = [b' '; 80];
         for (there, byte) in bytes.iter_mut().zip(line) {

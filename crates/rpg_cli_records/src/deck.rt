@@ -17,7 +17,7 @@ const COLUMNS: usize = 80;
 /// The most columns of a line.
 const MOST_COLUMNS: usize = 9_999;
 
-/// Which file of the deck is meant, and what is told beside its cards.
+/// Which file of the deck is meant, and what the arguments say besides its cards.
 #[derive(Clone, Copy)]
 pub struct DeckWords<'a> {
     /// The file's name; none is the primary file.
@@ -118,7 +118,7 @@ fn refuse_numbers(types: &[RecordType]) -> Result<(), DeckFault> {
 ///
 /// # Errors
 ///
-/// The first card that is refused; or there is no such file, or memory is wanting.
+/// The first card that is refused; or there is no such file, or memory ran out.
 pub fn layout_of(alloc: Global, source: &[u8], words: DeckWords) -> Result<Layout, DeckFault> {
     let cards = deck_cards(alloc, source)?;
     let file = find_file(cards.as_slice(), words)?;

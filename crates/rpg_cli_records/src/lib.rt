@@ -1,4 +1,4 @@
-//! The deck that leads `rpg2 records`: the layout of its records, the deck that reads the lines, and what is told of a deck or a record that is refused.
+//! The deck that leads `rpg2 records`: the layout of its records, the deck that reads the lines, and the diagnostics for a deck or a record that is refused.
 #![tactic(auto)]
 
 mod columns;

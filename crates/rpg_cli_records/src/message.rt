@@ -1,4 +1,4 @@
-//! What is told of a deck or a record that is refused.
+//! The diagnostics for a deck or a record that is refused.
 
 use crate::fault::{CardFault, DeckFault};
 use rpg_cli_text::TextWriter;

@@ -54,7 +54,7 @@ fn write_found(out: &mut TextWriter, bytes: &[u8], offset: usize, count: usize) 
     }
 }
 
-/// What is told of bytes that are no object program: the code's sentence, what was looked for at the offset, and what stands there. `path`
+/// The diagnostic for bytes that are no object program: the code's sentence, what was looked for at the offset, and what stands there. `path`
 /// names their file.
 pub fn bytes_message(
     alloc: Global,

@@ -16,7 +16,7 @@ pub(crate) struct Part<'a> {
 }
 
 impl Part<'_> {
-    /// The place behind its last instruction.
+    /// The place after its last instruction.
     pub fn end(self) -> usize {
         self.first.saturating_add(self.code.len())
     }

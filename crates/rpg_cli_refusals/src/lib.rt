@@ -1,4 +1,4 @@
-//! What a person is told beside the line of an answer: of bytes that are no object program, and of a program that breaks a rule.
+//! The diagnostics for bytes that are no object program, and for a program that breaks a rule.
 #![tactic(auto)]
 
 mod bytes;

@@ -1,4 +1,4 @@
-//! V10 to V15: which field of a line breaks a rule, as far as a look at the field alone tells.
+//! V10 to V15: which field of a line breaks a rule, as far as the field alone shows.
 
 use crate::fields::{write_field, write_operand};
 use rpg_cli_text::TextWriter;
@@ -111,7 +111,7 @@ fn write_line_field(out: &mut TextWriter, rows: &Rows, at: usize, field: LineFie
     write!(out, ", and ends at place {}", field.end);
 }
 
-/// The first field of a line that breaks a rule, where a look at the field alone tells.
+/// The first field of a line that breaks a rule, if the field alone shows it.
 pub(crate) fn write_fields(
     out: &mut TextWriter,
     rows: &Rows,

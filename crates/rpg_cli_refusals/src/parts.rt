@@ -63,7 +63,7 @@ pub(crate) const LINE: RowParts = &[
     (2, "a number that is always 0"),
 ];
 
-/// An alternative has one or more conditions behind their count.
+/// An alternative has one or more conditions after their count.
 pub(crate) const ALTERNATIVE: RowParts = &[
     (2, "the count of an alternative's conditions, at most 60,"),
     (1, "a condition of an alternative"),
@@ -133,7 +133,7 @@ const TYPE: RowParts = &[
 
 const ALWAYS_ZERO: &str = "a number that is always 0";
 
-/// The part that a byte of a row is in; the last where it is behind them all.
+/// The part that a byte of a row is in; the last if it is after them all.
 pub(crate) fn part_at(parts: RowParts, place: usize) -> RowPart {
     let mut part = RowPart { name: "", bytes: 1 };
     let mut end: usize = 0;

@@ -30,7 +30,7 @@ fn write_row(out: &mut TextWriter, rows: &Rows, broken: BrokenRule) {
     }
 }
 
-/// What is told of the rule that an object program breaks, which `path` names: the rule's sentence, and what stands in the row.
+/// The diagnostic for the rule that the object program at `path` breaks: the rule's sentence, and what the row has.
 pub fn rule_message(
     alloc: Global,
     path: &str,

@@ -56,7 +56,7 @@ impl Walk<'_> {
         self.number(self.at.saturating_add(place))
     }
 
-    /// The place of the offset in the next so many bytes. Where it is behind them they are passed.
+    /// The place of the offset in the next so many bytes. If it is after them, they are passed.
     fn within(&mut self, count: usize) -> Option<usize> {
         let place = self.offset.checked_sub(self.at)?;
         if place < count {
@@ -202,7 +202,7 @@ fn in_calculations(walk: &mut Walk<'_>) -> Option<Spot> {
     in_subroutines(walk, detail.saturating_add(total))
 }
 
-/// What was to stand at an offset; nothing behind the last table.
+/// What was expected at an offset; nothing after the last table.
 pub(crate) fn spot_at(bytes: &[u8], offset: usize) -> Option<Spot> {
     let mut walk = Walk {
         bytes,

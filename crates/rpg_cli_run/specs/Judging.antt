@@ -1,4 +1,4 @@
--- What is told of a source or an object that is refused.
+-- The answers for a source or an object that is rejected.
 use Rattle.std.specs.Prelude.{◌≡◌, ℕ, ◌<◌, List, Result, IfOk, Err}
 use Rattle.rpg_engine.specs.Bound.{bound}
 use Rattle.rpg_engine.specs.Object.{Object}

@@ -1,4 +1,4 @@
--- What is told of runs, and of sources and objects.
+-- The answers for runs, sources and objects.
 pub mod Judging
 pub mod Keeping
 pub mod Running

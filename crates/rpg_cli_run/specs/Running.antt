@@ -1,4 +1,4 @@
--- What is told of a run whose writers are flushed behind it.
+-- The answer for a run whose writers are flushed after it.
 use Rattle.std.specs.Prelude.{◌≡◌, ℕ, ◌+◌, List, Option, Result, Ok, Err}
 use Rattle.rpg_cli_words.specs.declared.request.FileWord.{FileWord}
 use Rattle.rpg_cli_words.specs.declared.request.FileWord.TheVariants as words
@@ -8,13 +8,13 @@ use Rattle.rpg_engine.specs.declared.report.Report.{Report}
 use Rattle.rpg_cli_answers.specs.declared.answer.Answer.{Answer}
 use Rattle.rpg_cli_answers.specs.declared.answer.Answer.TheVariants as answers
 
--- A fault of the run is told as it is. That of a file is a flush behind a run that gave a report; nothing else is told.
+-- A fault of the run is passed on as it is. That of a file is a flush after a run that gave a report. There is no other answer.
 abbrev pub TellsFault : (Result Report RunFault → Type 0) → Answer → Type 0
 TellsFault Came (answers.Run fault) = Came (Err fault)
 TellsFault Came (answers.File word fault) = (report : Report) × Came (Ok report)
 TellsFault Came e = ⊥
 
--- what the run came to is told: its report, or its fault
+-- the answer is the run's own: its report, or its fault
 abbrev pub TellsRun : (Result Report RunFault → Type 0) → Result Report Answer → Type 0
 TellsRun Came (Ok report) = Came (Ok report)
 TellsRun Came (Err e) = TellsFault Came e
@@ -25,7 +25,7 @@ FlushFaults words.Print old new = new ≡ record old { print = old.print + 1 }
 FlushFaults words.Disk old new = new ≡ record old { disk = old.disk + 1 }
 FlushFaults word old new = ⊥
 
--- A fault of the run is told as the counts are, and that of a file exactly where that writer's count rose by one.
+-- A fault of the run agrees with the counts, and that of a file comes exactly if that writer's count rose by one.
 abbrev pub TellsFaults : Result Report Answer → (given left others rest : Option (List ℕ)) → Counts → Counts → Type 0
 TellsFaults (Ok report) given left others rest old new = FaultsAre {X = Report} (Ok report) given left others rest old new
 TellsFaults (Err (answers.Run fault)) given left others rest old new = FaultsAre {X = Report} (Err fault) given left others rest old new

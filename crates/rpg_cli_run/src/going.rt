@@ -9,7 +9,7 @@ use rpg_cli_words::{FileWord, GoWords};
 use rpg_engine::Report;
 use std::rt::Files;
 
-/// Runs the program of a source. Cards and names are told of a halt.
+/// Runs the program of a source. The diagnostic of a halt has cards and names.
 fn run_compiled<R: Files + Input + Print + AllocGlobal, L: Listener>(
     rt: &R,
     words: &GoWords,

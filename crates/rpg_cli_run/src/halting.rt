@@ -1,4 +1,4 @@
-//! What is told of a job that halted.
+//! The diagnostic for a job that halted.
 
 use rpg_cli_answers::Listener;
 use rpg_cli_files::{identity_at, input_file};

@@ -52,7 +52,7 @@ fn secondary_path<'a>(
     }
 }
 
-/// The files of a run beside those that every run has, as far as its program wants them.
+/// The files of a run besides those that every run has, as far as its program needs them.
 #[derive(Clone, Copy)]
 struct WantedFiles<'a> {
     secondary: Option<&'a str>,
@@ -73,7 +73,7 @@ fn is_date(text: &str) -> bool {
     text.len() == 6 && text.bytes().all(|b| b.is_ascii_digit())
 }
 
-/// Whether a program may run: the rules and the date are told before it's refused for its bound.
+/// Whether a program may run: the rules and the date are checked before its bound.
 fn keeps_limit(
     accepted: &Result<Verified, ObjectFault>,
     date: &str,
@@ -101,7 +101,7 @@ struct RunFiles<F> {
     disk: Opened<F>,
 }
 
-/// Opens the inputs, and then the files that are written. Those that are written beside their places are told.
+/// Opens the inputs, and then the files that are written. Those that are written beside their places go into `kept`.
 fn open_files<'a, R: Files + AllocGlobal>(
     rt: &R,
     words: &RunWords<'a>,
@@ -139,7 +139,7 @@ fn read_file<R: Files>(
     }
 }
 
-/// Opens a file that will be written, if there is one, or makes a new one beside it, which is told.
+/// Opens a file that will be written, if there is one, or makes a new one beside it, which goes into `new`.
 fn written_file<'a, R: Files + AllocGlobal>(
     rt: &R,
     words: &RunWords,
@@ -259,9 +259,9 @@ fn run_program<'a, R: Files + Input + Print + AllocGlobal>(
     }
 }
 
-/// The program of a run, accepted or refused, and the files that it wants beside those that every run has.
+/// The program of a run, accepted or refused, and the files that it needs besides those that every run has.
 ///
-/// The object is decoded first, and a disk file or a secondary file that is wanted and not named is told. Where the words name a limit, or the
+/// The object is decoded first, and a disk file or a secondary file that is needed and not named is reported. If the arguments name a limit, or the
 /// files that are written keep what they have, the rules, the date and the limit come next, before the other files.
 fn program_of<'a>(
     alloc: Global,
@@ -283,7 +283,7 @@ fn program_of<'a>(
     Ok((accepted, wanted))
 }
 
-/// Runs the object program of these bytes. Rules and date are told once its files are open, unless the words name a limit or keep files.
+/// Runs the object program of these bytes. Rules and date are checked once its files are open, unless the arguments name a limit or keep files.
 fn run_object<'a, R: Files + Input + Print + AllocGlobal>(
     rt: &R,
     words: &RunWords<'a>,
@@ -294,7 +294,7 @@ fn run_object<'a, R: Files + Input + Print + AllocGlobal>(
     run_program(rt, words, accepted, wanted, kept)
 }
 
-/// Runs the object program of these bytes, and tells where its job halted.
+/// Runs the object program of these bytes, and reports where its job halted.
 pub(crate) fn run_bytes<R: Files + Input + Print + AllocGlobal, L: Listener>(
     rt: &R,
     words: &RunWords,
@@ -322,7 +322,7 @@ fn run_and_tell<R: Files + Input + Print + AllocGlobal, L: Listener>(
     run_bytes(rt, words, object, source.as_ref(), listener)
 }
 
-/// Runs an object program over its files, and tells what is wrong with one that is refused, and where its job halted.
+/// Runs an object program over its files, and reports what is wrong with one that is rejected, and where its job halted.
 pub fn run_files<R: Files + Input + Print + AllocGlobal, L: Listener>(
     rt: &R,
     words: &RunWords,
@@ -339,7 +339,7 @@ pub fn run_files<R: Files + Input + Print + AllocGlobal, L: Listener>(
     ran
 }
 
-/// Tells what is wrong with a program that is refused, or which file it wants.
+/// Reports what is wrong with a program that is rejected, or which file it needs.
 pub(crate) fn tell_refused<L: Listener>(
     alloc: Global,
     words: &RunWords,

@@ -1,4 +1,4 @@
-//! What is told of the bytes of a source or of an object program.
+//! Sources and object programs by their bytes.
 
 ghost use Rattle.std.specs.Prelude.{◌≡◌, ◌<◌, IfErr, IfOk, OnOk};
 ghost use Rattle.rpg_cli_run.specs.Judging.{IsSourceOf, TellsMismatch, TellsObject, TellsSource};

@@ -52,7 +52,7 @@ fn put_in_place<R: Files>(rt: &R, file: &Option<Pending<'_>>) -> Result<(), File
     }
 }
 
-/// What is told of a file: that it is left as it was, and where its part is, or that the new one stands there.
+/// The message about a file: it is left as it was, and where its part is, or the new one replaced it.
 fn kept_message(
     alloc: Global,
     word: FileWord,
@@ -73,7 +73,7 @@ fn kept_message(
     out.finish()
 }
 
-/// Tells what became of a file. Nothing is told where there is no memory for it.
+/// Reports what became of a file. Nothing is printed if there is no memory for it.
 fn tell_kept<L: Listener>(
     alloc: Global,
     word: FileWord,
@@ -86,7 +86,7 @@ fn tell_kept<L: Listener>(
     }
 }
 
-/// Leaves a new file, if there is one, beside its place, and tells where.
+/// Leaves a new file, if there is one, beside its place, and reports where.
 fn leave_part<R: Files + AllocGlobal, L: Listener>(
     rt: &R,
     word: FileWord,
@@ -239,7 +239,7 @@ impl<'a> Kept<'a> {
         leave_part(rt, FileWord::Disk, &self.disk, listener);
     }
 
-    /// Does with the new files what the end of their run asks for, tells of those that are left beside their places, and answers what the run did.
+    /// Does with the new files what the end of their run asks for, reports those that are left beside their places, and returns the answer of the run.
     ///
     /// Another answer comes only where a new file can't be put in its place.
     pub fn finish<R: Files + AllocGlobal, L: Listener>(

@@ -1,4 +1,4 @@
-//! What is told of an object program that is refused, or that wants a file. Where there is no memory for it the line alone says what is wrong.
+//! Diagnostics for an object program that is rejected, or that needs a file. If there is no memory for one, only the line is printed.
 
 use rpg_cli_answers::{Answer, Listener};
 use rpg_cli_refusals::{bytes_message, rule_message};
@@ -32,7 +32,7 @@ fn wanted_message(
     out.finish()
 }
 
-/// Tells which file a program wants that the words don't name.
+/// Reports which file a program needs that the arguments don't name.
 pub(crate) fn tell_wanted<L: Listener>(
     alloc: Global,
     path: &str,

@@ -31,7 +31,7 @@ pub(crate) fn run_over<I: Read, S: Read, P: Write, D: Write>(
     requires print { faults_of print.old < 2 ^ 64 - 1 }
     requires disk { faults_of disk.old < 2 ^ 64 - 1 }
 
-    // A date that is none is told.
+    // A bad date is reported.
     ensures refused { TellsRun (λ ran. IsToldOfDate ran date.now) result }
     // Then nothing is read and nothing written.
     ensures untouched { date_in date.now ≡ None → (input.new ≡ input.old) × (secondary.new ≡ secondary.old) × (print.new ≡ print.old) × (disk.new ≡ disk.old) }
@@ -45,7 +45,7 @@ pub(crate) fn run_over<I: Read, S: Read, P: Write, D: Write>(
     // Where it stops early each writer has a first part of the run's output, the printer before the disk file; and where a reader failed the job
     // had sent all that was put out, and waited for a record of that reader's file.
     ensures early { TellsRun (λ ran. IfErr ran (SendsPartsOn I.remaining S.remaining P.contents D.contents program.now date.now input secondary print disk)) result }
-    // It is told whose fault it was.
+    // The answer says whose fault it was.
     ensures faults { TellsFaults result (I.remaining (device_of input.old)) (I.remaining (device_of input.new))
         (S.remaining (device_of secondary.old)) (S.remaining (device_of secondary.new))
         (device_counts input.old secondary.old print.old disk.old) (device_counts input.new secondary.new print.new disk.new) }

@@ -11,7 +11,7 @@ use rpg_faults::{faultless_cards, source_faults};
 use std::alloc::Global;
 use std::rt::Files;
 
-/// How many faults of the source are told one by one.
+/// How many faults of the source are listed at most.
 const MOST_TOLD: u16 = 20;
 
 /// A source that is the object's: its path, its text, and what its cards say.
@@ -48,7 +48,7 @@ fn rows_of(alloc: Global, text: &[u8]) -> Result<SourceRows, Answer> {
     }
 }
 
-/// The source that a word names, if one does, once it is found to be that of the object. The faults of one that has some are told.
+/// The source that a word names, if one does, once it is found to be that of the object. The faults of a source that has some are reported.
 pub fn own_source<'a, R: Files + AllocGlobal, L: Listener>(
     rt: &R,
     path: Option<&'a str>,

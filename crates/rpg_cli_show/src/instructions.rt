@@ -13,7 +13,7 @@ use rpg_effect::row::Use;
 use rpg_object_program::columns::row_of;
 use rpg_verify::BrokenRule;
 
-/// The column of factor 1 of what has none, with a blank behind.
+/// The column of factor 1 where there is none, with a blank after it.
 const NO_FACTOR: &str = "               ";
 
 fn is_half_adjusted(action: Action<Operand<u16>>) -> bool {

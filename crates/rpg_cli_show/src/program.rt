@@ -76,8 +76,8 @@ fn unaccepted_text(
     }
 }
 
-/// All of a program that a person wants to read: its header, its fields with their first values and their uses, its record types and lines,
-/// and its instructions with their places and path costs. Of an accepted program the bound is told and what it is made of; of a refused
+/// The whole text about a program: its header, its fields with their first values and their uses, its record types and lines,
+/// and its instructions with their places and path costs. For an accepted program it has the bound and its parts; of a refused
 /// one the least rule that is broken, and the row that breaks it. Where its source is known, fields have their names and rows their cards.
 pub fn program_text(
     alloc: Global,

@@ -1,4 +1,4 @@
-//! The rule that a refused program breaks, told behind the row that breaks it.
+//! The rule that a rejected program breaks, printed after the row that breaks it.
 
 use rpg_cli_text::TextWriter;
 use rpg_verify::{BrokenRule, Rule};

@@ -87,7 +87,7 @@ fn write_input(
     out.write_char('\n');
 }
 
-/// Writes the codes of a type, of which the first begins at a byte, and answers the byte behind them.
+/// Writes the codes of a type, of which the first begins at a byte, and returns the byte after them.
 fn write_codes(out: &mut TextWriter, begin: usize, codes: &[RecordCode]) -> usize {
     let mut at = begin;
     for code in codes {

@@ -17,7 +17,7 @@ fn is_of_cards(indicator: u8) -> bool
     indicator <= 99 || (112 <= indicator && indicator <= 128)
 }
 
-/// An indicator that is asked and never turned on, told at the first card that asks.
+/// An indicator that is asked and never turned on, reported at the first card that asks.
 fn never_on(cards: &[SpecCard], indicator: u8) -> Option<Warning>
     ensures { result ≡ indicators.never_on indicator cards.now }
 {
@@ -34,7 +34,7 @@ fn never_on(cards: &[SpecCard], indicator: u8) -> Option<Warning>
     }
 }
 
-/// An indicator from 01 to 99 that is turned on for others to ask, and never asked, told at the first card that turns it on.
+/// An indicator from 01 to 99 that is turned on for others to ask, and never asked, reported at the first card that turns it on.
 fn never_asked(cards: &[SpecCard], indicator: u8) -> Option<Warning>
     ensures { result ≡ indicators.never_asked indicator cards.now }
 {
@@ -51,7 +51,7 @@ fn never_asked(cards: &[SpecCard], indicator: u8) -> Option<Warning>
     }
 }
 
-/// A level, L1 to L9, that is asked, that no card turns on and that no field has, told at the first card that asks.
+/// A level, L1 to L9, that is asked, that no card turns on and that no field has, reported at the first card that asks.
 fn no_level(cards: &[SpecCard], indicator: u8) -> Option<Warning>
     ensures { result ≡ indicators.no_level indicator cards.now }
 {

@@ -13,7 +13,7 @@ use Rattle.rpg_record_lines.specs.declared.layout.RecordType.{RecordType}
 abbrev pub keeps_type : List RecordType → ℕ → List ℕ → Bool
 keeps_type types card columns = not (list_any (λ c. c == 0) columns) && is_card card (first_type pages.Ascii false columns types)
 
--- characters for all columns, and behind them the digits
+-- characters for all columns, and after them the digits
 abbrev pub whole_line_of : Page → Bool → List RecordType → List ℕ → RecordType → Option (List ℕ)
 whole_line_of page low_blank types record_bytes t =
     if keeps_type types t.card (image page low_blank t.columns.items record_bytes)

@@ -27,6 +27,6 @@ abbrev pub digits_of : List ℕ → List NumberField → Option (List ℕ)
 digits_of record_bytes [] = Some []
 digits_of record_bytes (f ∷ fs) = field_text record_bytes f ++? digits_of record_bytes fs
 
--- digits behind a text, if they are there
+-- digits after a text, if they are there
 abbrev pub appended_digits : Option (List ℕ) → List ℕ → Option (List ℕ)
 appended_digits digits text = option_map (λ more. text ++ more) digits

@@ -76,7 +76,7 @@ fn read_some<R: Read>(reader: &mut R, room: &mut [u8]) -> Result<usize, FrameFau
     Err(FrameFault::Device)
 }
 
-/// Reads some bytes behind the first `len`; none where the input ends, or where there is no room.
+/// Reads some bytes after the first `len`; none where the input ends, or where there is no room.
 fn read_behind<R: Read>(reader: &mut R, room: &mut [u8], len: usize) -> Result<usize, FrameFault>
     requires { len ≤ length room.old }
     ensures kept { take len room.new ≡ take len room.old }
@@ -87,7 +87,7 @@ fn read_behind<R: Read>(reader: &mut R, room: &mut [u8], len: usize) -> Result<u
     read_some(reader, behind)
 }
 
-/// Reads until the room is full or the input ends, and answers how many bytes were read.
+/// Reads until the room is full or the input ends, and returns how many bytes were read.
 fn read_up_to<R: Read>(reader: &mut R, room: &mut [u8]) -> Result<usize, FrameFault>
     ensures within { IfOk result (λ n. n ≤ length room.new) }
     ensures bytes { IfOk result (λ n. Consumes (R.remaining reader.old) (R.remaining reader.new) (take n room.new)) }
@@ -104,7 +104,7 @@ fn read_up_to<R: Read>(reader: &mut R, room: &mut [u8]) -> Result<usize, FrameFa
     Ok(len)
 }
 
-/// Appends bytes up to a line feed, but no more than so many, and answers how many.
+/// Appends bytes up to a line feed, but no more than so many, and returns how many.
 fn read_line<R: BufRead + Drop>(
     reader: &mut R,
     most: usize,

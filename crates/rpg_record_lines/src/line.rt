@@ -201,7 +201,7 @@ impl<'a> Converter<'a> {
     ///
     /// # Errors
     ///
-    /// The record has no line, or memory is wanting. What the text has is then of no use.
+    /// The record has no line, or memory ran out. The text is then unusable.
     pub fn write_line(&self, record: &[u8], line: &mut Vec<u8>) -> Result<(), LineFault>
         ensures line { OnOk result (line_of (page_of_records self.now) (is_low_blank_of self.now) (types_of self.now) record.now ≡ Some line.new.items) }
         ensures refused { IfErr result (IsRefusedWhere (line_of (page_of_records self.now) (is_low_blank_of self.now) (types_of self.now) record.now ≡ None)) }

@@ -101,7 +101,7 @@ fn write_number(
     Ok(())
 }
 
-/// Writes the bytes of all digits of a line into a record, and answers where the line may have no more characters.
+/// Writes the bytes of all digits of a line into a record, and returns the place where the line must end.
 pub(crate) fn write_numbers(
     fields: &[NumberField],
     line: &[u8],

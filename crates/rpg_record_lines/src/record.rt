@@ -54,7 +54,7 @@ impl<'a> Converter<'a> {
     ///
     /// # Errors
     ///
-    /// The line has no record, or memory is wanting. What is there is then of no use.
+    /// The line has no record, or memory ran out. What was written is then unusable.
     pub fn write_record(&self, line: &mut Vec<u8>, record: &mut Vec<u8>) -> Result<(), LineFault> {
         let length = usize::from(self.layout().length);
         record.resize(length, 0)?;
