@@ -1,4 +1,4 @@
-"""The rules of docs/FAULTS.md, applied to the cards of a source one by one, each as the page has it. Nothing is shared with rpg2."""
+"""The rules of docs/MESSAGES.md, applied to the cards of a source one by one, each as the page has it. Nothing is shared with rpg2."""
 
 import re
 from collections import namedtuple

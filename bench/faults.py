@@ -4,7 +4,7 @@
 usage: bench/faults.py [SOURCES [SEED]]        1,000 sources from seed 1 where they aren't given; RPG2 names the program
        bench/faults.py --write FOLDER [SOURCES [SEED]]    writes the sources, and the expected reports, and runs nothing
 
-It makes random sources and changes some columns and cards of each. The rules of docs/FAULTS.md are then applied to the cards one by
+It makes random sources and changes some columns and cards of each. The rules of docs/MESSAGES.md are then applied to the cards one by
 one, each as the page has it, and the resulting pairs of a card and a code are compared with those reported on standard error, in
 their order, and with the number of faults. Nothing is shared with rpg2, neither its code nor its tables. Of F6 only the number of
 entries is tested, since no source is large enough for another limit. In one source of eight some cards can't be read: then only
