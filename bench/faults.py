@@ -49,6 +49,9 @@ def compared(room, source, wanted):
     ran = subprocess.run([RPG2, "check", path], capture_output=True, text=True)
     pairs, count = told_of(ran.stderr)
     line = ran.stdout.strip()
+    # a fault of no card is reported at line 1
+    if line == "card 0: F7" and pairs:
+        pairs[0] = (0, "F7")
     same = pairs == wanted[:MOST_TOLD] and count == len(wanted) and (line == line_of(wanted) if wanted else ran.returncode == 0)
     if not same:
         print("\n".join(f"{at + 1:4} {it}" for at, it in enumerate(source)))
