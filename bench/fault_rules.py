@@ -1,4 +1,4 @@
-"""The rules of docs/FAULTS.md, applied to the cards of a source one by one, each as the page has it. Nothing is shared with rpg2."""
+"""The rules of docs/MESSAGES.md, applied to the cards of a source one by one, each as the page has it. Nothing is shared with rpg2."""
 
 import re
 from collections import namedtuple
@@ -397,7 +397,21 @@ class Rules:
         return card.sheet == "E" and not 1 <= card.value(36, 39) <= 9999
 
     def use(self, card):
-        return "input" if card.part(15, 15) == "I" else "printer" if card.part(40, 46) == "PRINTER" else "disk"
+        if card.part(15, 15) == "I":
+            return "secondary" if card.part(16, 16) == "S" else "primary"
+        return "printer" if card.part(40, 46) == "PRINTER" else "disk"
+
+    def is_input(self, card):
+        return card.part(15, 15) == "I"
+
+    def of_use(self, use):
+        """The first file of a use."""
+        return next((c for c in self.cards if c.sheet == "F" and self.use(c) == use), None)
+
+    def ends_otherwise(self, card):
+        """The later of the two input files' cards, where column 17 isn't the same on both."""
+        both = [it for it in (self.of_use("primary"), self.of_use("secondary")) if it]
+        return len(both) == 2 and both[0].part(17, 17) != both[1].part(17, 17) and card is max(both, key=lambda it: it.number)
 
     def F7(self, at, card):
         if card.sheet == "F":
@@ -405,6 +419,7 @@ class Rules:
             most = 132 if self.use(card) == "printer" else 9999
             return (
                 any(c.part(7, 14) == card.part(7, 14) or self.use(c) == self.use(card) for c in before)
+                or self.ends_otherwise(card)
                 or not 1 <= card.value(24, 27) <= most
             )
         if card.sheet not in "IO" or card.is_field() or card.is_and() or (card.sheet == "O" and card.is_or()):
@@ -413,7 +428,7 @@ class Rules:
         if not name:
             return card is self.first_head(card.sheet)
         file = self.files.get(name)
-        return file is None or (self.use(file) == "input") != (card.sheet == "I")
+        return file is None or self.is_input(file) != (card.sheet == "I")
 
     def first_head(self, sheet):
         """The first record type, or the first line."""
@@ -428,9 +443,13 @@ class Rules:
         if card.sheet == "I" and not card.is_and():
             mark = card.part(19, 20)
             return bool(mark) and not re.fullmatch(r"\d\d|L[1-9R]|H[1-9]", mark)
+        unmatched = () if self.has_match_fields() else ("MR",)
         if card.sheet == "C":
-            return any(it in ("1P", "MR") for it in card.conditions(9)) or any(it in unset for it in card.shown())
-        return card.sheet == "O" and "MR" in card.conditions(23)
+            return any(it in ("1P", *unmatched) for it in card.conditions(9)) or any(it in unset for it in card.shown())
+        return card.sheet == "O" and any(it in unmatched for it in card.conditions(23))
+
+    def has_match_fields(self):
+        return any(c.sheet == "I" and c.is_field() and c.part(61, 62) for c in self.cards)
 
     def misses(self, want, operand):
         if not want:
@@ -604,8 +623,8 @@ class Rules:
     def F16(self, at, card):
         if card.sheet == "I":
             if card.is_field():
-                return self.bad_columns(card) or self.joins_too_long(card)
-            return self.bad_codes(card) or (not card.is_and() and self.has_other_lengths(card))
+                return self.bad_columns(card) or self.joins_too_long(card) or self.bad_match(card)
+            return self.bad_codes(card) or (not card.is_and() and (self.has_other_lengths(card) or self.matches_otherwise(card)))
         if card.sheet != "O" or not card.is_field():
             return False
         end, length, width = card.value(40, 43), self.record_length(card), self.width(card)
@@ -653,6 +672,29 @@ class Rules:
         before = [f for f in fields if f.number < card.number and f.part(59, 60) == level]
         so_far = sum(self.columns(f) for f in before)
         return so_far <= 256 < so_far + self.columns(card)
+
+    def bad_match(self, card):
+        """A match level that its type has before, or the field by which the type's match fields pass 256 columns."""
+        level = card.part(61, 62)
+        if not level:
+            return False
+        fields = next((fields for _, fields in self.types() if card in fields), [])
+        before = [f for f in fields if f.number < card.number and f.part(61, 62)]
+        so_far = sum(self.columns(f) for f in before)
+        return any(f.part(61, 62) == level for f in before) or so_far <= 256 < so_far + self.columns(card)
+
+    def match_lengths(self, fields):
+        """The columns of each match level of a type, if it has some; None where one is bad or there twice."""
+        own = [(f.part(61, 62), self.columns(f)) for f in fields if f.part(61, 62)]
+        is_left_out = any(n == 0 for _, n in own) or len({level for level, _ in own}) < len(own)
+        return dict(own) if own and not is_left_out else None
+
+    def matches_otherwise(self, card):
+        types = self.types()
+        place = next(i for i, (c, _) in enumerate(types) if c is card)
+        before = [self.match_lengths(fields) for _, fields in types[:place]]
+        first, own = next((it for it in before if it), None), self.match_lengths(types[place][1])
+        return bool(first and own and first != own)
 
     def joined(self, fields, level):
         own = [self.columns(f) for f in fields if f.part(59, 60) == level]
@@ -746,7 +788,7 @@ class Rules:
 
     def all(self):
         found = []
-        if not any(c.sheet == "F" and self.use(c) == "input" for c in self.cards):
+        if not self.of_use("primary"):
             found.append((0, "F7"))
         for at, card in enumerate(self.cards):
             found += [(card.number, code) for code in (f"F{n}" for n in range(1, 19)) if getattr(self, code)(at, card)]

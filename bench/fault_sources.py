@@ -36,6 +36,9 @@ class Source:
         self.by = by
         self.cards = []
         self.data = []
+        # a secondary file, match levels, or both
+        self.has_secondary = by.random() < 0.3
+        self.has_matches = by.random() < 0.3
 
     def any(self, *values):
         return self.by.choice(values)
@@ -59,16 +62,17 @@ class Source:
     def files(self):
         if self.by.random() < 0.3:
             self.put("H", card("H", (7, "SALES")))
-        self.put("F", self.file())
+        end = self.any("E", " ")
+        self.put("F", self.file("INPUT", "P", end))
+        if self.has_secondary:
+            self.put("F", self.file("SECOND", "S", self.mostly([end], ["E", " "])))
         self.put("F", card("F", (7, "PRINT"), (15, "O"), (19, "F"), (24, " 120"), (40, "PRINTER")))
         if self.by.random() < 0.4:
             self.put("F", card("F", (7, "MASTER"), (15, "O"), (19, "F"), (24, "  32"), (40, "DISK45")))
 
-    def file(self):
-        return card(
-            "F", (7, "INPUT"), (15, "IP"), (17, self.any("E", " ")), (19, "F"), (24, right(self.any(30, 80), 4)),
-            (40, "DISK"),
-        )
+    def file(self, name, use, end):
+        length = right(self.any(30, 80, 300 if self.has_matches else 80), 4)
+        return card("F", (7, name), (15, "I" + use), (17, end), (19, "F"), (24, length), (40, "DISK"))
 
     def tables(self):
         if self.by.random() < 0.9:
@@ -94,29 +98,36 @@ class Source:
             self.data += ["**", "1"]
 
     def types(self):
-        for kind in range(self.any(1, 1, 2)):
+        for kind in range(self.any(1, 1, 2) + self.has_secondary):
             codes = [(21, self.any("   1 CA", "   1NCB", "  40 C "))] if kind else []
             self.put(
                 "I",
                 card(
-                    "I", (7, "INPUT" if kind == 0 else self.any("INPUT", "")), (15, "AA"),
+                    "I", (7, "INPUT" if kind == 0 else self.any("INPUT", "", *["SECOND"] * (3 * self.has_secondary))), (15, "AA"),
                     (19, self.any("01", "02", "")), *codes,
                 ),
             )
             if self.by.random() < 0.2:
                 self.put("AND", card("I", (14, "AND"), (21, "   2 CX")))
             column = 1
-            for name in FIELDS[: self.by.randrange(1, 6)]:
+            for at, name in enumerate(FIELDS[: self.by.randrange(1, 6)]):
                 length = self.any(1, 3, 5)
-                self.put("field", self.field(name, column, column + length - 1))
+                self.put("field", self.field(name, column, column + length - 1, self.match(at)))
                 column += length
+            if self.has_matches and self.by.random() < 0.2:
+                self.put("field", self.field("LONG", column, column + self.any(150, 252) - 1, "M3"))
 
-    def field(self, name, first, last):
-        decimals = "" if name in ("ITEM", "REGION") else self.any("0", "0", "2" if last > first else "0")
+    def match(self, at):
+        """The match level of a type's field, mostly M2 and M1 of the first two."""
+        usual = ("M2", "M1", "", "", "")[at]
+        return self.mostly([usual], ["", "M1", "M2"]) if self.has_matches else ""
+
+    def field(self, name, first, last, match=""):
+        decimals = "" if name in ("ITEM", "REGION", "LONG") else self.any("0", "0", "2" if last > first else "0")
         level = self.any("", "", "", "L1", "L2")
         mark = self.any("", "", "21")
         return card(
-            "I", (44, right(first, 4)), (48, right(last, 4)), (52, decimals), (53, name), (59, level), (69, mark),
+            "I", (44, right(first, 4)), (48, right(last, 4)), (52, decimals), (53, name), (59, level), (61, match), (69, mark),
         )
 
     def calculations(self):
@@ -207,7 +218,7 @@ class Source:
 
     CHANGES = {
         "F": [
-            (24, 27, ["   0", "9999", " 133", "  29"]), (7, 14, ["INPUT", "PRINT", "OTHER"]),
+            (24, 27, ["   0", "9999", " 133", "  29"]), (7, 14, ["INPUT", "PRINT", "OTHER", "SECOND"]), (17, 17, ["E", " "]),
             (40, 46, ["PRINTER", "DISK"]),
         ],
         "E": [
@@ -215,14 +226,14 @@ class Source:
             (36, 39, ["   0", "   4", "  12"]), (40, 42, [" 16", "  3", "  9"]), (44, 44, [" ", "0", "9"]),
         ],
         "I": [
-            (7, 14, ["INPUT", "PRINT", "OTHER", "        "]), (19, 20, ["L0", "1P", "LR", "H3", "OA"]),
+            (7, 14, ["INPUT", "PRINT", "OTHER", "SECOND", "        "]), (19, 20, ["L0", "1P", "LR", "H3", "OA"]),
             (21, 27, ["   0 CA", "  81 CA", "   5NC1"]),
         ],
         "AND": [(21, 27, ["   0 CA", "  81 CA"])],
         "field": [
             (44, 47, ["   0", "   9", "  70"]), (48, 51, ["   0", "   2", "  81", "  30", " 300"]),
             (52, 52, [" ", "0", "9"]), (53, 58, ["QTY", "ITEM", "SUM", "NEXT", "UDATE", "PAGE"]),
-            (59, 60, ["  ", "L1", "L2"]), (65, 66, ["  ", "21", "L0"]), (67, 68, ["  ", "22"]),
+            (59, 60, ["  ", "L1", "L2"]), (61, 62, ["  ", "M1", "M2", "M9"]), (65, 66, ["  ", "21", "L0"]), (67, 68, ["  ", "22"]),
             (69, 70, ["MR", "01"]),
         ],
         "C": [

@@ -191,9 +191,9 @@ class Session:
         return f"{self.path(name).read_bytes()[int(place)]}\n".encode()
 
     def do_pages(self, name: str) -> bytes:
-        """Whether `rpg2 explain` prints a file, and after it an empty line."""
+        """Whether a file begins with what `rpg2 explain` prints, and goes on with another part."""
         pages = self.program.run(["explain"], self.folder).text
-        is_same = pages == self.path(name).read_bytes() + b"\n"
+        is_same = self.path(name).read_bytes().startswith(pages + b"# ")
         return b"the pages of all codes\n" if is_same else b"another text\n"
 
 

@@ -63,7 +63,7 @@ const F9: Page = Page {
     given: NAMES,
     breaks: "- no operation, a factor 2 that is missing, a factor that the operation does not have, a length\n  without a result:\n\n     C           TOT            AMT       TOT\n     C                     ADD            TOT\n     C           TOT       Z-ADDAMT       TOT",
     keeps: "     C           TOT       ADD  AMT       TOT\n     C                     Z-ADDAMT       TOT",
-    advice: "docs/FAULTS.md has a table of what each operation has on its card. Lines for the\ndisk file have nothing in 17-22, and an output field has a name or a constant",
+    advice: "docs/MESSAGES.md has a table of what each operation has on its card. Lines for the\ndisk file have nothing in 17-22, and an output field has a name or a constant",
 };
 
 const F10: Page = Page {

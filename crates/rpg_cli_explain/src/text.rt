@@ -9,7 +9,7 @@ use std::alloc::{AllocError, Global};
 
 /// What stands before all pages.
 const TITLE: &str =
-    "# What rpg2's codes mean\n\nrpg2 explain CODE prints the part of this page on one code, as F16, S5, V21, B5 or halt 4; rpg2 explain\nprints it all. A line of cards has its columns as on a sheet: column 1 is the first of the line.\n";
+    "# What rpg2's codes mean\n\nrpg2 explain CODE prints one code of this list, as F16, S5, V21, B5 or halt 4; rpg2 explain prints them\nall. A line of cards has its columns as on a sheet: column 1 is the first of the line.\n";
 
 fn write_code(out: &mut TextWriter, topic: Topic) {
     match topic {
@@ -95,7 +95,7 @@ fn write_bytes(out: &mut TextWriter) {
     }
 }
 
-/// All pages, as docs/MESSAGES.md has them.
+/// All pages, as docs/MESSAGES.md begins with them.
 pub fn all_pages(alloc: Global) -> Result<String, AllocError> {
     let mut out = TextWriter::new(alloc);
     out.write_str(TITLE);
