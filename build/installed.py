@@ -55,6 +55,7 @@ class Help:
     commands: list[Command]
     statuses: list[tuple[str, str]]
     codes: list[str]
+    version: str
 
 
 def printed_by(program: Path, *words: str) -> str:
@@ -81,13 +82,14 @@ def help_of(program: Path) -> Help:
     names = [it["name"] for line in head.splitlines() if (it := COMMAND.fullmatch(line))]
     rows = [(line.split()[0], line.split(maxsplit=1)[1]) for line in statuses.splitlines() if line.strip()]
     codes = CODE.findall(printed_by(program, "explain"))
-    return Help([command_of(program, it) for it in names if it != "help"], rows, codes)
+    version = printed_by(program, "--version").removeprefix("rpg2 ").partition(",")[0]
+    return Help([command_of(program, it) for it in names if it != "help"], rows, codes, version)
 
 
 # ---- the manual page
 
 BEFORE = """\
-.TH RPG2 1 "" "Melguda" "User Commands"
+.TH RPG2 1 "" "Melguda {version}" "User Commands"
 .SH NAME
 rpg2 \\- compile, verify and run RPG II reports
 .SH SYNOPSIS
@@ -107,7 +109,7 @@ AFTER = """\
 .SH EXAMPLES
 .nf
 rpg2 compile stock.rpg stock.obj
-rpg2 run stock.obj stock.txt stock.print --date $(date +%m%d%y)
+rpg2 run stock.obj stock.txt stock.print --date today
 sort stock.txt | rpg2 run stock.obj - - --date 112376 | lp
 rpg2 explain F16
 .fi
@@ -139,7 +141,7 @@ def command_part(command: Command) -> str:
 def manual(shown: Help) -> str:
     statuses = "".join(entry(status, text) for status, text in shown.statuses)
     commands = "".join(command_part(it) for it in shown.commands)
-    return f"{BEFORE}{DESCRIPTION}.SH COMMANDS\n{commands}.SH EXIT STATUS\n{statuses}{AFTER}"
+    return f"{BEFORE.format(version=shown.version)}{DESCRIPTION}.SH COMMANDS\n{commands}.SH EXIT STATUS\n{statuses}{AFTER}"
 
 
 # ---- completions

@@ -26,6 +26,7 @@ import calls
 import case_runs
 import evaluated
 import installed
+import objects
 import sessions
 from case_file import Run, lines_in, runs_in
 from outcome import Outcome
@@ -95,6 +96,7 @@ def jobs_of(program: Program, word: str) -> Iterable[Job]:
         yield from case_jobs(program, path)
     for path in sorted(it for it in (HERE / "sessions").glob("*.session") if word in it.name):
         yield partial(sessions.show, program, path, TOP)
+        yield partial(objects.show, program, path, TOP)
     for path in sorted(it for it in (HERE / "calls").glob("*.calls") if word in it.name):
         yield from call_jobs(program, path)
     if word in "evaluated":

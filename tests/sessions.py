@@ -7,6 +7,7 @@ import shutil
 import subprocess
 import tempfile
 from dataclasses import dataclass, field
+from datetime import datetime, timedelta
 from pathlib import Path
 from typing import IO
 
@@ -94,6 +95,19 @@ class Session:
 
     def do_told(self, *words: str) -> bytes:
         return self.said(words)
+
+    def do_given(self, name: str, *words: str) -> bytes:
+        """Runs rpg2 with a file as standard input, and shows the status."""
+        with open(self.path(name), "rb") as given:
+            answer = self.program.run([unescaped(it) for it in words[1:]], self.folder, given)
+        return answer.text + f"status {answer.status}\n".encode()
+
+    def do_today(self, name: str, order: str) -> bytes:
+        """Whether a file has today's date in an order, as `%m%d%y`, and nothing else; or what else it has. At midnight yesterday's is as good."""
+        text = self.path(name).read_text(encoding="latin-1").strip()
+        now = datetime.now()
+        days = [it.strftime(order) for it in (now, now - timedelta(minutes=5))]
+        return b"today\n" if text in days else f"{text}\n".encode("latin-1")
 
     def do_full(self, room: str, *words: str) -> bytes:
         return self.said(words, Limits(file=int(room)))

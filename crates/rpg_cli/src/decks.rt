@@ -1,8 +1,8 @@
 //! The command that makes cards of shorthand, and shorthand of cards.
 
+use crate::reading::source_bytes;
 use rpg_cli_answers::{Answer, Listener, Stop, named};
 use rpg_cli_cards::{RULER, ShorthandFault, deck_of, line_message, shorthand_of};
-use rpg_cli_files::file_bytes;
 use rpg_cli_words::{CardsWanted, CardsWords, FileWord};
 use std::alloc::Global;
 use std::rt::Files;
@@ -42,12 +42,12 @@ fn wanted_text<L: Listener>(
 }
 
 /// Shows the cards of a file of shorthand, or the shorthand of a file of cards.
-pub(crate) fn cards_file<R: Files + AllocGlobal, L: Listener>(
+pub(crate) fn cards_file<R: Files + Input + AllocGlobal, L: Listener>(
     rt: &R,
     words: &CardsWords,
     listener: &mut L,
 ) -> Result<(), Stop> {
-    let source = named(FileWord::Source, file_bytes(rt, words.source))?;
+    let source = named(FileWord::Source, source_bytes(rt, words.source))?;
     let text = wanted_text(rt.alloc(), words, &source, listener)?;
     if let CardsWanted::RuledCards = words.wanted {
         listener.show(RULER)?;

@@ -1,16 +1,15 @@
 //! The commands that read one file, and the object that one of them writes.
 
+use crate::reading::{source_bytes, system_path};
 use rpg_cli_answers::{Answer, Listener, Stop, named};
 use rpg_cli_files::{file_bytes, write_bytes};
 use rpg_cli_run::{
-    NamedFile, compiled, own_source, refuse_same_file, tell_faults, tell_object, verified,
+    NamedFile, compiled, judge_warnings, own_source, refuse_same_file, tell_faults, tell_object,
+    verified,
 };
-use rpg_cli_show::program_text;
-use rpg_cli_warnings::warning_messages;
-use rpg_cli_words::{CheckWords, CompileWords, FileWord, ShowWords, VerifyWords};
+use rpg_cli_show::{program_overview, program_text};
+use rpg_cli_words::{CompileWords, FileWord, ShowWords, VerifyWords};
 use rpg_engine::decode_object;
-use rpg_faults::{SourceFault, faultless_cards};
-use std::alloc::Global;
 use std::rt::Files;
 
 /// Writes a compiled object to its file, unless that is the source.
@@ -19,7 +18,7 @@ fn write_object<R: Files + AllocGlobal>(
     words: &CompileWords,
     object: &[u8],
 ) -> Result<(), Stop> {
-    let source = NamedFile::at(rt, FileWord::Source, words.source);
+    let source = NamedFile::at(rt, FileWord::Source, system_path(words.source));
     let written = NamedFile::at(rt, FileWord::Object, words.object);
     refuse_same_file(written, &[source])?;
     Ok(named(FileWord::Object, write_bytes(rt, words.object, object))?)
@@ -27,60 +26,24 @@ fn write_object<R: Files + AllocGlobal>(
 
 /// Compiles a source to an object file.
 ///
-/// The object file is written once the source is compiled: a rejected source leaves it as it was, and all its faults are reported.
-pub(crate) fn compile_files<R: Files + AllocGlobal, L: Listener>(
+/// The object file is written once the source is compiled and its warnings don't reject it: a rejected source leaves it as it was, and all its
+/// faults are reported.
+pub(crate) fn compile_files<R: Files + Input + AllocGlobal, L: Listener>(
     rt: &R,
     words: &CompileWords,
     listener: &mut L,
 ) -> Result<(), Stop> {
-    let source = named(FileWord::Source, file_bytes(rt, words.source))?;
+    let source = named(FileWord::Source, source_bytes(rt, words.source))?;
     match compiled(rt.alloc(), &source, words.allowance) {
         Ok(object) => {
-            write_object(rt, words, &object)?;
-            tell_warnings(rt.alloc(), words.source, &source, words.faults, listener);
-            Ok(())
+            judge_warnings(rt.alloc(), words.source, &source, words.warnings, listener)?;
+            write_object(rt, words, &object)
         }
         Err(answer) => {
-            tell_faults(rt.alloc(), words.source, &source, words.faults, listener);
+            let most = words.warnings.most;
+            tell_faults(rt.alloc(), words.source, &source, most, listener);
             Err(answer.into())
         }
-    }
-}
-
-/// Reports all faults of a source, and returns the least.
-pub(crate) fn check_file<R: Files + AllocGlobal, L: Listener>(
-    rt: &R,
-    words: &CheckWords,
-    listener: &mut L,
-) -> Result<(), Answer> {
-    let source = named(FileWord::Source, file_bytes(rt, words.source))?;
-    match first_fault(rt.alloc(), &source) {
-        None => {
-            tell_warnings(rt.alloc(), words.source, &source, words.faults, listener);
-            Ok(())
-        }
-        Some(fault) => {
-            tell_faults(rt.alloc(), words.source, &source, words.faults, listener);
-            Err(fault.into())
-        }
-    }
-}
-
-/// The least fault of a source.
-fn first_fault(alloc: Global, source: &[u8]) -> Option<SourceFault> {
-    faultless_cards(alloc, source).err()
-}
-
-/// Prints the warnings for a source without a fault. If there is no memory for them, nothing is printed.
-fn tell_warnings<L: Listener>(
-    alloc: Global,
-    path: &str,
-    source: &[u8],
-    most: u16,
-    listener: &mut L,
-) {
-    if let Ok(messages) = warning_messages(alloc, path, source, most) {
-        listener.tell(messages.as_str());
     }
 }
 
@@ -107,8 +70,13 @@ fn shown_text<R: Files + AllocGlobal, L: Listener>(
 ) -> Result<String, Answer> {
     let program = decode_object(rt.alloc(), object)?;
     let source = own_source(rt, words.source, object, listener)?;
-    let rows = source.as_ref().map(|source| &source.rows);
-    match program_text(rt.alloc(), program, rows) {
+    let text = if words.rows {
+        let rows = source.as_ref().map(|source| &source.rows);
+        program_text(rt.alloc(), program, rows)
+    } else {
+        program_overview(rt.alloc(), program)
+    };
+    match text {
         Ok(text) => Ok(text),
         Err(_) => Err(Answer::NoMemory),
     }

@@ -1,12 +1,16 @@
 //! The program `rpg2`: its commands over files, and their lines and exit statuses.
 #![tactic(auto)]
 
+mod checking;
+mod dates;
 mod decks;
 mod explaining;
 mod files;
 mod listing;
+mod naming;
 mod outlet;
 mod program;
+mod reading;
 mod records;
 mod telling;
 mod told;

@@ -1,7 +1,7 @@
 //! The commands that show a source.
 
+use crate::reading::source_bytes;
 use rpg_cli_answers::{Answer, Listener, Stop, named};
-use rpg_cli_files::file_bytes;
 use rpg_cli_list::source_listing;
 use rpg_cli_words::{FileWord, ListWords};
 use rpg_faults::{SourceFault, faultless_cards};
@@ -9,12 +9,12 @@ use std::alloc::Global;
 use std::rt::Files;
 
 /// Shows the listing of a source, with or without faults, and returns the least fault. If memory runs out, nothing is shown.
-pub(crate) fn list_file<R: Files + AllocGlobal, L: Listener>(
+pub(crate) fn list_file<R: Files + Input + AllocGlobal, L: Listener>(
     rt: &R,
     words: &ListWords,
     listener: &mut L,
 ) -> Result<(), Stop> {
-    let source = named(FileWord::Source, file_bytes(rt, words.source))?;
+    let source = named(FileWord::Source, source_bytes(rt, words.source))?;
     let fault = faultless_cards(rt.alloc(), &source).err();
     if let Some(SourceFault::NoMemory) = fault {
         return Err(Answer::NoMemory.into());

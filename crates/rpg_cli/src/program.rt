@@ -1,26 +1,34 @@
 //! The program `rpg2`.
 
-ghost use Rattle.rpg_cli.specs.Saying.{PrintsALine, Says, SaysOrIsQuiet};
+ghost use Rattle.std.specs.Prelude.{◌≡◌, ◌⊎◌};
+ghost use Rattle.std.specs.Io.KnownBytes.{Appends};
+ghost use Rattle.rpg_files.specs.Sending.{AppendsPrefix};
+ghost use Rattle.rpg_text.specs.Lines.{with_line_feed};
+ghost use Rattle.rpg_cli.specs.Saying.{PrintsALine, Says};
 
+use crate::checking::check_files;
+use crate::dates::{JobDate, tell_odd_date};
 use crate::decks::cards_file;
 use crate::explaining::explain;
-use crate::files::{check_file, compile_files, show_file, verify_file};
+use crate::files::{compile_files, show_file, verify_file};
 use crate::listing::list_file;
+use crate::naming::files_of;
 use crate::outlet::Outlet;
 use crate::records::records_file;
 use crate::telling::{tell_answer, tell_unwritten};
 use crate::told::{StandardError, StandardStreams};
-use rpg_cli_answers::{Answer, Listener, Reasons, Stop, line};
+use rpg_cli_answers::{Answer, Listener, Reasons, Stop, json_line, line};
 use rpg_cli_files::send_line;
+use rpg_cli_json::JsonListener;
 use rpg_cli_run::{go_files, run_files};
-use rpg_cli_words::{Refusal, Request, refuse_bytes, refuse_same_file, request_of};
+use rpg_cli_words::{Format, Refusal, Request, refuse_bytes, refuse_same_file, request_of};
 use std::alloc::Global;
 use std::io::{Error, ErrorKind, Write};
 use std::process::ExitCode;
-use std::rt::{Env, Files};
+use std::rt::{Clock, Env, Files};
 use std::{env, io};
 
-fn answer_to<R: Files + Input + Print + AllocGlobal, L: Listener>(
+fn answer_to<R: Clock + Env + Files + Input + Print + AllocGlobal, L: Listener>(
     rt: &R,
     request: &Request,
     listener: &mut L,
@@ -30,10 +38,7 @@ fn answer_to<R: Files + Input + Print + AllocGlobal, L: Listener>(
             compile_files(rt, words, listener)?;
             Ok(Answer::Compiled)
         }
-        Request::Check(words) => {
-            check_file(rt, words, listener)?;
-            Ok(Answer::Faultless)
-        }
+        Request::Check(words) => check_files(rt, words, listener),
         Request::List(words) => {
             list_file(rt, words, listener)?;
             Ok(Answer::Faultless)
@@ -51,19 +56,33 @@ fn answer_to<R: Files + Input + Print + AllocGlobal, L: Listener>(
             let bound = show_file(rt, words, listener)?;
             Ok(Answer::Accepted { bound })
         }
-        Request::Run(words) => Ok(Answer::from(run_files(rt, words, listener)?)),
-        Request::Go(words) => Ok(Answer::from(go_files(rt, words, listener)?)),
+        Request::Run(words) => {
+            let date = JobDate::of(rt, words)?;
+            tell_odd_date(rt.alloc(), words, listener);
+            Ok(Answer::from(run_files(rt, &date.words(words), listener)?))
+        }
+        Request::Go(words) => {
+            let date = JobDate::of(rt, &words.run)?;
+            tell_odd_date(rt.alloc(), &words.run, listener);
+            let words = words.with(date.words(&words.run));
+            Ok(Answer::from(go_files(rt, &words, listener)?))
+        }
         Request::Explain(words) => explain(rt.alloc(), words, listener),
     }
 }
 
-/// Prints the line of an answer, and returns the exit status. If the line can't be written, this is reported.
-fn say<W: Write, L: Listener>(out: &mut W, outlet: Outlet, answer: &Answer, listener: &mut L) -> u8
-    ensures { Says (W.contents out.old) (W.contents out.new) result answer.now }
+/// Sends a line, and returns the status, or 1 if the line can't be written, which is reported.
+fn send<W: Write, L: Listener>(
+    out: &mut W,
+    outlet: Outlet,
+    text: &[u8],
+    status: u8,
+    listener: &mut L,
+) -> u8
+    ensures { (Appends (W.contents out.old) (W.contents out.new) (with_line_feed text.now) × (result ≡ status)) ⊎ (AppendsPrefix (W.contents out.old) (W.contents out.new) (with_line_feed text.now) × (result ≡ 1)) }
 {
-    let said = line(answer);
-    match send_line(out, said.text.as_slice()) {
-        Ok(()) => said.status,
+    match send_line(out, text) {
+        Ok(()) => status,
         Err(reason) => {
             tell_unwritten(outlet, reason, listener);
             1
@@ -71,20 +90,41 @@ fn say<W: Write, L: Listener>(out: &mut W, outlet: Outlet, answer: &Answer, list
     }
 }
 
-/// Prints the line of an answer, except that of a good end if the command is quiet, and returns the exit status.
-fn say_if_wanted<W: Write, L: Listener>(
+/// Prints the line of an answer, or its object, and returns the exit status. If it can't be written, this is reported.
+fn say<W: Write, L: Listener>(
     out: &mut W,
     outlet: Outlet,
-    is_quiet: bool,
+    format: Format,
     answer: &Answer,
     listener: &mut L,
 ) -> u8
-    ensures { SaysOrIsQuiet is_quiet (W.contents out.old) (W.contents out.new) result answer.now }
+    ensures { Says format (W.contents out.old) (W.contents out.new) result answer.now }
 {
-    if is_quiet && line(answer).status == 0 {
+    match format {
+        Format::Text => {
+            let said = line(answer);
+            send(out, outlet, said.text.as_slice(), said.status, listener)
+        }
+        Format::Json => {
+            let said = json_line(answer);
+            send(out, outlet, said.text.as_slice(), said.status, listener)
+        }
+    }
+}
+
+/// Prints the line of an answer, except that of a good end if the command is quiet, and returns the exit status.
+fn say_if_wanted<W: Write, L: Listener>(
+    out: &mut W,
+    request: &Request,
+    answer: &Answer,
+    listener: &mut L,
+) -> u8
+    ensures { PrintsALine (W.contents out.old) (W.contents out.new) result }
+{
+    if request.is_quiet() && line(answer).status == 0 {
         0
     } else {
-        say(out, outlet, answer, listener)
+        say(out, Outlet::of(request), request.format(), answer, listener)
     }
 }
 
@@ -98,7 +138,13 @@ fn refuse<R: Print + Eprint + AllocGlobal, W: Write, L: Listener>(
     ensures { PrintsALine (W.contents out.old) (W.contents out.new) result }
 {
     if refusal.is_no_memory() {
-        say(out, Outlet::STANDARD_OUTPUT, &Answer::NoMemory, listener)
+        say(
+            out,
+            Outlet::STANDARD_OUTPUT,
+            Format::Text,
+            &Answer::NoMemory,
+            listener,
+        )
     } else {
         refusal.explain(rt)
     }
@@ -108,7 +154,7 @@ fn refuse<R: Print + Eprint + AllocGlobal, W: Write, L: Listener>(
 ///
 /// The first word is the program's name. A fault of the command line prints clap's text on standard error, and help that
 /// was asked for goes to standard output, in place of the line. So does a text before the line that can't be shown whole.
-pub fn run<R: Files + Input + Print + Eprint + AllocGlobal, W: Write, L: Listener>(
+pub fn run<R: Clock + Env + Files + Input + Print + Eprint + AllocGlobal, W: Write, L: Listener>(
     rt: &R,
     words: &[String],
     out: &mut W,
@@ -133,19 +179,44 @@ fn conclude<W: Write, L: Listener>(
 ) -> u8
     ensures { PrintsALine (W.contents out.old) (W.contents out.new) result }
 {
-    let outlet = Outlet::of(request);
-    let status = say_if_wanted(out, outlet, request.is_quiet(), answer, listener);
+    let status = say_if_wanted(out, request, answer, listener);
     tell_answer(alloc, request, answer, reasons, listener);
     status
 }
 
-/// Runs a command, prints one line to `out`, and returns the exit status.
-fn obey<R: Files + Input + Print + Eprint + AllocGlobal, W: Write, L: Listener>(
+/// Runs a command, prints one line to `out`, and returns the exit status. Where the words want JSON, diagnostics are objects.
+fn obey<R: Clock + Env + Files + Input + Print + Eprint + AllocGlobal, W: Write, L: Listener>(
     rt: &R,
     request: &Request,
     out: &mut W,
     listener: &mut L,
 ) -> u8
+    ensures { PrintsALine (W.contents out.old) (W.contents out.new) result }
+{
+    match request.format() {
+        Format::Text => obey_as_asked(rt, request, out, listener),
+        Format::Json => match files_of(rt.alloc(), request) {
+            Ok(files) => {
+                let mut listener = JsonListener::new(rt.alloc(), listener, files);
+                obey_as_asked(rt, request, out, &mut listener)
+            }
+            Err(_) => say(
+                out,
+                Outlet::of(request),
+                Format::Json,
+                &Answer::NoMemory,
+                listener,
+            ),
+        },
+    }
+}
+
+/// Runs a command, prints one line to `out`, and returns the exit status.
+fn obey_as_asked<
+    R: Clock + Env + Files + Input + Print + Eprint + AllocGlobal,
+    W: Write,
+    L: Listener,
+>(rt: &R, request: &Request, out: &mut W, listener: &mut L) -> u8
     ensures { PrintsALine (W.contents out.old) (W.contents out.new) result }
 {
     let alloc = rt.alloc();
@@ -171,7 +242,10 @@ fn words<R: Env + AllocGlobal>(rt: &R) -> io::Result<Vec<String>> {
 
 /// Runs the command of the arguments over the standard streams, and returns the exit status. The line goes to standard output, or to standard error
 /// where a run writes records or lines to standard output.
-fn run_on_streams<R: Files + Input + Print + Eprint + AllocGlobal>(rt: &R, words: &[String]) -> u8 {
+fn run_on_streams<R: Clock + Env + Files + Input + Print + Eprint + AllocGlobal>(
+    rt: &R,
+    words: &[String],
+) -> u8 {
     let mut out = io::writer(rt);
     let mut listener = StandardStreams::new(rt);
     match request_of(rt.alloc(), words) {
@@ -191,6 +265,7 @@ fn refuse_words<R: Print + Eprint + AllocGlobal>(rt: &R, error: &Error) -> u8 {
         say(
             &mut out,
             Outlet::STANDARD_OUTPUT,
+            Format::Text,
             &Answer::NoMemory,
             &mut listener,
         )
@@ -200,7 +275,9 @@ fn refuse_words<R: Print + Eprint + AllocGlobal>(rt: &R, error: &Error) -> u8 {
 }
 
 /// The whole program. Words that aren't UTF-8 are a fault of the command line.
-pub fn main_with<R: Files + Input + Print + Eprint + Env + AllocGlobal>(rt: &R) -> ExitCode {
+pub fn main_with<R: Clock + Env + Files + Input + Print + Eprint + AllocGlobal>(
+    rt: &R,
+) -> ExitCode {
     let status = match words(rt) {
         Ok(words) => run_on_streams(rt, words.as_slice()),
         Err(error) => refuse_words(rt, &error),

@@ -4,14 +4,19 @@ use crate::outlet::Outlet;
 use rpg_cli_answers::{Answer, Listener, Reasons};
 use rpg_cli_files::{FileFault, Reason};
 use rpg_cli_text::TextWriter;
-use rpg_cli_words::{FileWord, Request, RunWords};
+use rpg_cli_words::{DateWord, FileWord, Request, RunWords};
 use rpg_engine::{InputFile, ReadFault, RunFault};
 use std::alloc::{AllocError, Global};
 
 /// A file by its path and its word.
-fn write_name(out: &mut TextWriter, request: &Request, word: FileWord) {
-    out.write_shown(request.path(word).unwrap_or("").as_bytes());
+fn write_path(out: &mut TextWriter, path: &str, word: FileWord) {
+    out.write_shown(path.as_bytes());
     write!(out, " ({})", word.name());
+}
+
+/// A file that the words name.
+fn write_name(out: &mut TextWriter, request: &Request, word: FileWord) {
+    write_path(out, request.path(word).unwrap_or(""), word);
 }
 
 /// A file, and why it failed.
@@ -20,22 +25,15 @@ fn write_fault(out: &mut TextWriter, request: &Request, word: FileWord, reason: 
     write!(out, ": {reason}\n");
 }
 
-fn write_file_fault(out: &mut TextWriter, request: &Request, word: FileWord, fault: FileFault) {
-    match fault {
-        FileFault::Input(reason) | FileFault::Output(reason) => {
-            write_fault(out, request, word, reason.text())
-        }
-        FileFault::Beside(reason) => {
-            write_name(out, request, word);
-            write!(
-                out,
-                ": no new file can be made beside it: {}\n",
-                reason.text()
-            );
-        }
-        FileFault::TooLarge => write_fault(out, request, word, "more than 16,777,216 bytes"),
-        FileFault::NoMemory => {}
-    }
+fn write_file_fault(out: &mut TextWriter, path: &str, word: FileWord, fault: FileFault) {
+    let (begin, reason) = match fault {
+        FileFault::Input(reason) | FileFault::Output(reason) => ("", reason.text()),
+        FileFault::Beside(reason) => ("no new file can be made beside it: ", reason.text()),
+        FileFault::TooLarge => ("", "more than 16,777,216 bytes"),
+        FileFault::NoMemory => return,
+    };
+    write_path(out, path, word);
+    write!(out, ": {begin}{reason}\n");
 }
 
 /// The system's reason for a fault, if it's known, and the line's end.
@@ -96,8 +94,12 @@ fn write_input_fault(
 }
 
 fn write_bad_date(out: &mut TextWriter, words: &RunWords) {
-    out.write_str("--date is six digits, as 112676; it was '");
-    out.write_shown(words.date.as_bytes());
+    if let Some(DateWord::Today(_)) = words.date {
+        out.write_str("--date today: the system's clock can't be read\n");
+        return;
+    }
+    out.write_str("--date is six digits, as 112676, or today; it was '");
+    out.write_shown(words.date_text().as_bytes());
     out.write_str("'\n");
 }
 
@@ -127,7 +129,9 @@ fn answer_message(
 ) -> Result<String, AllocError> {
     let mut out = TextWriter::new(alloc);
     match *answer {
-        Answer::File { word, fault } => write_file_fault(&mut out, request, word, fault),
+        Answer::File { word, fault } => {
+            write_file_fault(&mut out, request.path(word).unwrap_or(""), word, fault)
+        }
         Answer::Run(fault) => write_run_fault(&mut out, request, fault, reasons),
         Answer::OtherSource => write_fault(
             &mut out,
@@ -138,6 +142,24 @@ fn answer_message(
         _ => {}
     }
     out.finish()
+}
+
+fn source_fault_message(alloc: Global, path: &str, fault: FileFault) -> Result<String, AllocError> {
+    let mut out = TextWriter::new(alloc);
+    write_file_fault(&mut out, path, FileWord::Source, fault);
+    out.finish()
+}
+
+/// Reports why a source among several can't be read.
+pub(crate) fn tell_source_fault<L: Listener>(
+    alloc: Global,
+    path: &str,
+    fault: FileFault,
+    listener: &mut L,
+) {
+    if let Ok(message) = source_fault_message(alloc, path, fault) {
+        listener.tell(message.as_str());
+    }
 }
 
 /// Tells which file failed and why.

@@ -17,6 +17,8 @@ use Rattle.rpg_engine.specs.declared.object.ObjectFault.TheVariants as objects
 use Rattle.rpg_engine.specs.declared.report.Report.{Report}
 use Rattle.rpg_cli_answers.specs.declared.answer.Answer.{Answer}
 use Rattle.rpg_cli_answers.specs.declared.answer.Answer.TheVariants as answer
+use Rattle.rpg_warning_codes.specs.Codes.{code_text as warning_text}
+use Rattle.rpg_warning_codes.specs.declared.code.WarningCode.{WarningCode}
 
 -- ---- lines
 
@@ -56,6 +58,16 @@ file_text files.NoMemory = codes "no memory"
 abbrev pub counts_text : ℕ → ℕ → ℕ → List ℕ
 counts_text records dropped columns = codes "records " ++ decimal records ++ codes ", dropped " ++ decimal dropped ++ codes ", columns " ++ decimal columns
 
+abbrev pub card_text : ℕ → List ℕ
+card_text card = codes "card " ++ decimal card ++ codes ": "
+
+-- the first card with a warning that is denied, and its code
+abbrev pub denied_text : ℕ → WarningCode → List ℕ
+denied_text card code = card_text card ++ warning_text code
+
+abbrev pub checked_text : ℕ → ℕ → List ℕ
+checked_text sources rejected = codes "sources " ++ decimal sources ++ codes ", rejected " ++ decimal rejected
+
 abbrev pub refused_deck_text : Option ℕ → List ℕ
 refused_deck_text (Some card) = codes "card " ++ decimal card ++ codes ": refused"
 refused_deck_text None = codes "refused"
@@ -63,6 +75,8 @@ refused_deck_text None = codes "refused"
 abbrev pub line_text : Answer → List ℕ
 line_text answer.Compiled = codes "compiled"
 line_text answer.Faultless = codes "no fault"
+line_text (answer.Checked sources rejected status) = checked_text sources rejected
+line_text (answer.Denied card code) = denied_text card code
 line_text (answer.Accepted bound) = codes "accepted, bound " ++ decimal bound
 line_text (answer.Ended report) = report_text report
 line_text (answer.Source fault) = source_fault_text fault
@@ -70,6 +84,7 @@ line_text (answer.Object fault) = object_text fault
 line_text answer.OtherSource = codes "not the object's source"
 line_text answer.DiskFileWanted = codes "disk file wanted"
 line_text answer.SecondaryFileWanted = codes "secondary file wanted"
+line_text answer.DateWanted = codes "date wanted"
 line_text (answer.OverLimit bound) = codes "refused: bound " ++ decimal bound
 line_text (answer.Run fault) = run_text fault
 line_text (answer.File word fault) = file_text fault
@@ -108,6 +123,8 @@ run_status runs.NoMemory = 1
 abbrev pub exit_status : Answer → ℕ
 exit_status answer.Compiled = 0
 exit_status answer.Faultless = 0
+exit_status (answer.Checked sources rejected status) = status
+exit_status (answer.Denied card code) = 3
 exit_status (answer.Accepted bound) = 0
 exit_status (answer.Ended report) = ending_status report.ending
 exit_status (answer.Source fault) = source_status fault
@@ -115,6 +132,7 @@ exit_status (answer.Object fault) = object_status fault
 exit_status answer.OtherSource = 3
 exit_status answer.DiskFileWanted = 2
 exit_status answer.SecondaryFileWanted = 2
+exit_status answer.DateWanted = 2
 exit_status (answer.OverLimit bound) = 4
 exit_status (answer.Run fault) = run_status fault
 exit_status (answer.File word fault) = 1

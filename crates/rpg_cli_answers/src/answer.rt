@@ -8,6 +8,7 @@ use arrayvec::ArrayVec;
 use rpg_cli_files::{FileFault, SourceFault};
 use rpg_cli_words::FileWord;
 use rpg_engine::{ObjectFault, Report, RunFault};
+use rpg_warning_codes::WarningCode;
 
 /// How a command ended. What refuses a command is handed up as it is.
 #[derive(Clone, Copy)]
@@ -16,6 +17,17 @@ pub enum Answer {
     Compiled,
     /// The source has no fault.
     Faultless,
+    /// Several sources were checked: how many, how many of them are rejected, and the greatest exit status.
+    Checked {
+        sources: u64,
+        rejected: u64,
+        status: u8,
+    },
+    /// The source has a warning, and the words deny it.
+    Denied {
+        card: u16,
+        code: WarningCode,
+    },
     /// The object program keeps all rules: the most steps that a cycle of it can take.
     Accepted {
         bound: u64,
@@ -32,6 +44,8 @@ pub enum Answer {
     DiskFileWanted,
     /// The program has a secondary file, and the words name none.
     SecondaryFileWanted,
+    /// The program uses the date, and the words have none.
+    DateWanted,
     /// A cycle of the program may take more steps than the words allow.
     OverLimit {
         bound: u64,

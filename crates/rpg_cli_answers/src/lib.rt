@@ -2,11 +2,13 @@
 #![tactic(auto)]
 
 mod answer;
+mod json;
 mod listener;
 mod stop;
 mod text;
 
 pub use answer::{Answer, Line, named};
+pub use json::{JsonLine, json_line};
 pub use listener::Listener;
 pub use stop::{Reasons, Stop};
 pub use text::line;

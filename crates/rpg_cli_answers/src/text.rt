@@ -9,6 +9,7 @@ use arrayvec::ArrayVec;
 use itoa::Buffer;
 use rpg_cli_files::{FileFault, SourceFault};
 use rpg_engine::{JobEnd, ObjectFault, Report, RunFault};
+use rpg_warning_codes::WarningCode;
 
 /// A line under construction.
 type Text = ArrayVec<u8, 96>;
@@ -63,6 +64,34 @@ fn put_report(text: &mut Text, report: Report)
     put_number(text, report.most);
     put(text, b" of ");
     put_number(text, report.bound);
+}
+
+fn put_card(text: &mut Text, card: u16)
+    requires { array_vec_len text.old ≤ 4 }
+    ensures items { text.new.items ≡ text.old.items ++ answers.card_text card }
+    ensures len { array_vec_len text.new ≤ array_vec_len text.old + 27 }
+{
+    put(text, b"card ");
+    put_number(text, u64::from(card));
+    put(text, b": ");
+}
+
+fn put_denied(text: &mut Text, card: u16, code: WarningCode)
+    requires { array_vec_len text.old ≤ 4 }
+    ensures { text.new.items ≡ text.old.items ++ answers.denied_text card code }
+{
+    put_card(text, card);
+    put(text, code.text().as_bytes());
+}
+
+fn put_checked(text: &mut Text, sources: u64, rejected: u64)
+    requires { array_vec_len text.old ≤ 4 }
+    ensures { text.new.items ≡ text.old.items ++ answers.checked_text sources rejected }
+{
+    put(text, b"sources ");
+    put_number(text, sources);
+    put(text, b", rejected ");
+    put_number(text, rejected);
 }
 
 fn put_source_fault(text: &mut Text, fault: SourceFault)
@@ -172,6 +201,29 @@ fn run_status(fault: RunFault) -> u8
     }
 }
 
+fn ending_status(ending: JobEnd) -> u8
+    ensures { result ≡ answers.ending_status ending }
+{
+    match ending {
+        JobEnd::EndOfJob => 0,
+        JobEnd::Halt(_) => 5,
+    }
+}
+
+/// How a job ended, without its counts.
+pub(crate) fn ending_line(ending: JobEnd) -> Line
+    ensures text { result.text.items ≡ answers.ending_text ending }
+    ensures len { array_vec_len result.text ≤ 10 }
+    ensures status { result.status ≡ answers.ending_status ending }
+{
+    let mut text = ArrayVec::new();
+    put_ending(&mut text, ending);
+    Line {
+        text,
+        status: ending_status(ending),
+    }
+}
+
 /// The exit status of an answer.
 fn exit_status(answer: &Answer) -> u8
     ensures { result ≡ answers.exit_status answer.now }
@@ -183,18 +235,20 @@ fn exit_status(answer: &Answer) -> u8
         | Answer::Explained
         | Answer::Deck
         | Answer::Records { .. } => 0,
-        Answer::Ended(report) => match report.ending {
-            JobEnd::EndOfJob => 0,
-            JobEnd::Halt(_) => 5,
-        },
+        Answer::Ended(report) => ending_status(report.ending),
+        Answer::Checked { status, .. } => status,
         Answer::Source(SourceFault::At { .. })
+        | Answer::Denied { .. }
         | Answer::OtherSource
         | Answer::NoCard { .. }
         | Answer::DeckRefused { .. }
         | Answer::RecordRefused { .. } => 3,
         Answer::Source(SourceFault::NoMemory) => 1,
         Answer::Object(fault) => object_status(fault),
-        Answer::DiskFileWanted | Answer::SecondaryFileWanted | Answer::NoSuchCode => 2,
+        Answer::DiskFileWanted
+        | Answer::SecondaryFileWanted
+        | Answer::DateWanted
+        | Answer::NoSuchCode => 2,
         Answer::OverLimit { .. } => 4,
         Answer::Run(fault) => run_status(fault),
         Answer::File { .. } | Answer::NoMemory => 1,
@@ -210,6 +264,12 @@ pub fn line(answer: &Answer) -> Line
     match *answer {
         Answer::Compiled => put(&mut text, b"compiled"),
         Answer::Faultless => put(&mut text, b"no fault"),
+        Answer::Checked {
+            sources,
+            rejected,
+            ..
+        } => put_checked(&mut text, sources, rejected),
+        Answer::Denied { card, code } => put_denied(&mut text, card, code),
         Answer::Accepted { bound } => {
             put(&mut text, b"accepted, bound ");
             put_number(&mut text, bound);
@@ -220,6 +280,7 @@ pub fn line(answer: &Answer) -> Line
         Answer::OtherSource => put(&mut text, b"not the object's source"),
         Answer::DiskFileWanted => put(&mut text, b"disk file wanted"),
         Answer::SecondaryFileWanted => put(&mut text, b"secondary file wanted"),
+        Answer::DateWanted => put(&mut text, b"date wanted"),
         Answer::OverLimit { bound } => {
             put(&mut text, b"refused: bound ");
             put_number(&mut text, bound);

@@ -11,5 +11,5 @@ mod text;
 mod topic;
 mod warnings;
 
-pub use text::{all_pages, page_text};
+pub use text::{all_pages, list_text, pages_text};
 pub use topic::{Topic, topic_of};

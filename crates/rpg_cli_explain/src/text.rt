@@ -47,63 +47,106 @@ fn write_page(out: &mut TextWriter, topic: Topic) {
     write!(out, "\nWhat to do: {advice}.\n\nThen: {behind}.\n");
 }
 
-/// The page of a code.
-pub fn page_text(alloc: Global, topic: Topic) -> Result<String, AllocError> {
+/// The pages of codes, one after another.
+pub fn pages_text(alloc: Global, topics: &[Topic]) -> Result<String, AllocError> {
     let mut out = TextWriter::new(alloc);
-    write_page(&mut out, topic);
+    let mut is_first = true;
+    for topic in topics {
+        if !is_first {
+            out.write_char('\n');
+        }
+        is_first = false;
+        write_page(&mut out, *topic);
+    }
     out.finish()
 }
 
-fn write_next_page(out: &mut TextWriter, topic: Topic) {
+/// What is written of each code.
+#[derive(Clone, Copy)]
+enum Form {
+    /// Its page, after an empty line.
+    Page,
+    /// The code and its sentence in a line.
+    Line,
+}
+
+/// The column in which sentences begin.
+const SENTENCES: usize = 8;
+
+fn write_line(out: &mut TextWriter, topic: Topic) {
+    let end = out.len().saturating_add(SENTENCES);
+    write_code(out, topic);
+    out.pad_to(end);
+    out.write_str(topic.sentence());
     out.write_char('\n');
-    write_page(out, topic);
 }
 
-fn write_sources(out: &mut TextWriter) {
+fn write_next(out: &mut TextWriter, form: Form, topic: Topic) {
+    match form {
+        Form::Page => {
+            out.write_char('\n');
+            write_page(out, topic);
+        }
+        Form::Line => write_line(out, topic),
+    }
+}
+
+fn write_sources(out: &mut TextWriter, form: Form) {
     for code in SHEETS {
-        write_next_page(out, Topic::Sheet(code));
+        write_next(out, form, Topic::Sheet(code));
     }
 }
 
-fn write_faults(out: &mut TextWriter) {
+fn write_faults(out: &mut TextWriter, form: Form) {
     for code in FaultCode::all() {
-        write_next_page(out, Topic::Fault(code));
+        write_next(out, form, Topic::Fault(code));
     }
 }
 
-fn write_warnings(out: &mut TextWriter) {
+fn write_warnings(out: &mut TextWriter, form: Form) {
     for code in WARNINGS {
-        write_next_page(out, Topic::Warning(code));
+        write_next(out, form, Topic::Warning(code));
     }
 }
 
-fn write_halts(out: &mut TextWriter) {
+fn write_halts(out: &mut TextWriter, form: Form) {
     for halt in HALTS {
-        write_next_page(out, Topic::Halt(halt));
+        write_next(out, form, Topic::Halt(halt));
     }
 }
 
-fn write_rules(out: &mut TextWriter) {
+fn write_rules(out: &mut TextWriter, form: Form) {
     for rule in RULES {
-        write_next_page(out, Topic::Rule(rule));
+        write_next(out, form, Topic::Rule(rule));
     }
 }
 
-fn write_bytes(out: &mut TextWriter) {
+fn write_bytes(out: &mut TextWriter, form: Form) {
     for code in BYTES {
-        write_next_page(out, Topic::Bytes(code));
+        write_next(out, form, Topic::Bytes(code));
     }
+}
+
+fn write_all(out: &mut TextWriter, form: Form) {
+    write_sources(out, form);
+    write_faults(out, form);
+    write_warnings(out, form);
+    write_halts(out, form);
+    write_rules(out, form);
+    write_bytes(out, form);
 }
 
 /// All pages, as docs/MESSAGES.md begins with them.
 pub fn all_pages(alloc: Global) -> Result<String, AllocError> {
     let mut out = TextWriter::new(alloc);
     out.write_str(TITLE);
-    write_sources(&mut out);
-    write_faults(&mut out);
-    write_warnings(&mut out);
-    write_halts(&mut out);
-    write_rules(&mut out);
-    write_bytes(&mut out);
+    write_all(&mut out, Form::Page);
+    out.finish()
+}
+
+/// A line for each code: the code and its sentence.
+pub fn list_text(alloc: Global) -> Result<String, AllocError> {
+    let mut out = TextWriter::new(alloc);
+    write_all(&mut out, Form::Line);
     out.finish()
 }

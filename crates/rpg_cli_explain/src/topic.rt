@@ -7,12 +7,12 @@ use crate::page::Page;
 use crate::rules::rule_page;
 use crate::sheets::sheet_page;
 use crate::warnings::warning_page;
-use rpg_cli_warnings::WarningCode;
 use rpg_effect::halt::Halt;
 use rpg_faults::FaultCode;
 use rpg_object_format::fault::Code;
 use rpg_sheet::SheetCode;
 use rpg_verify_rules::{RULES, Rule};
+use rpg_warning_codes::WarningCode;
 
 /// A code that is explained.
 #[derive(Clone, Copy)]
@@ -77,6 +77,11 @@ impl Topic {
         }
     }
 
+    /// What to do.
+    pub fn advice(self) -> &'static str {
+        self.page().advice
+    }
+
     pub(crate) fn page(self) -> Page {
         match self {
             Topic::Sheet(code) => sheet_page(code),
@@ -98,7 +103,7 @@ impl Topic {
                 "checked once no S code is left. The line has the first card and its least code, standard\nerror has all. Nothing is written; status 3"
             }
             Topic::Warning(_) => {
-                "reported on standard error for a source without a fault. The object program is written, and the\nline is as without it; status 0"
+                "reported on standard error for a source without a fault. The object program is written, and the\nline is as without it; status 0. With --deny nothing is written, and the line has the code; status 3"
             }
             Topic::Halt(_) => {
                 "the job ends at once, and what was put out before stays; status 5"

@@ -1,7 +1,7 @@
 //! The pages of W1 to W6.
 
 use crate::page::{NAMES, Page};
-use rpg_cli_warnings::WarningCode;
+use rpg_warning_codes::WarningCode;
 
 const W1: Page = Page {
     given: NAMES,

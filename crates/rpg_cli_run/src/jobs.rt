@@ -5,6 +5,7 @@ ghost use Rattle.rpg_cli_run.specs.Judging.{BreaksLimit};
 ghost use Rattle.rpg_engine.specs.Bound.{bound};
 ghost use Rattle.rpg_engine.specs.Objects.{HasObjectFault, SpellsProgram};
 
+use crate::dating::has_date;
 use crate::halting::tell_halt;
 use crate::keeping::Kept;
 use crate::refusing::{tell_object, tell_wanted};
@@ -254,14 +255,14 @@ fn run_program<'a, R: Files + Input + Print + AllocGlobal>(
     keep_files(rt, words, &files, kept)?;
     let devices = emptied_devices(rt, files)?;
     match accepted {
-        Ok(program) => run_devices(rt.alloc(), &program, words.date.as_bytes(), devices),
+        Ok(program) => run_devices(rt.alloc(), &program, words.date_text().as_bytes(), devices),
         Err(fault) => Err(Answer::Object(fault).into()),
     }
 }
 
 /// The program of a run, accepted or refused, and the files that it needs besides those that every run has.
 ///
-/// The object is decoded first, and a disk file or a secondary file that is needed and not named is reported. If the arguments name a limit, or the
+/// The object is decoded first, and a disk file, a secondary file or a date that is needed and not named is reported. If the arguments name a limit, or the
 /// files that are written keep what they have, the rules, the date and the limit come next, before the other files.
 fn program_of<'a>(
     alloc: Global,
@@ -274,11 +275,12 @@ fn program_of<'a>(
 {
     let program = decode_object(alloc, object)?;
     let wanted = WantedFiles::of(&program, words)?;
+    has_date(&program, words.date)?;
     let accepted = accept(alloc, program);
     if let Some(most) = words.most {
-        keeps_limit(&accepted, words.date, most)?;
+        keeps_limit(&accepted, words.date_text(), most)?;
     } else if words.keeps {
-        keeps_limit(&accepted, words.date, u64::MAX)?;
+        keeps_limit(&accepted, words.date_text(), u64::MAX)?;
     }
     Ok((accepted, wanted))
 }
@@ -349,7 +351,7 @@ pub(crate) fn tell_refused<L: Listener>(
 ) {
     match answer {
         Answer::Object(fault) => tell_object(alloc, words.object, object, fault, listener),
-        Answer::DiskFileWanted | Answer::SecondaryFileWanted => {
+        Answer::DiskFileWanted | Answer::SecondaryFileWanted | Answer::DateWanted => {
             tell_wanted(alloc, words.object, object, answer, listener)
         }
         _ => {}

@@ -1,6 +1,7 @@
 //! The command that runs an object program over its files, and what other commands share with it.
 #![tactic(auto)]
 
+mod dating;
 mod going;
 mod halting;
 mod jobs;
@@ -10,6 +11,7 @@ mod refusing;
 mod running;
 mod sharing;
 mod sources;
+mod warned;
 
 pub use going::go_files;
 pub use jobs::run_files;
@@ -17,3 +19,4 @@ pub use judging::{compiled, verified};
 pub use refusing::tell_object;
 pub use sharing::{NamedFile, refuse_same_file};
 pub use sources::{OwnSource, own_source, tell_faults};
+pub use warned::judge_warnings;

@@ -14,5 +14,5 @@ mod warning;
 mod warnings;
 
 pub use messages::warning_messages;
-pub use warning::{Warning, WarningCode, WarningKind};
-pub use warnings::source_warnings;
+pub use warning::{Warning, WarningKind};
+pub use warnings::{source_warnings, wanted_warnings};

@@ -1,12 +1,9 @@
 //! What a person reads of the warnings of a source.
 
 use crate::warning::{Warning, WarningKind};
-use crate::warnings::source_warnings;
-use rpg_cards::IndexedCards;
 use rpg_cli_messages::{CardLines, write_picture, write_place, write_told};
 use rpg_cli_show_fields::Indicator;
 use rpg_cli_text::TextWriter;
-use rpg_faults::faultless_cards;
 use std::alloc::{AllocError, Global};
 
 /// The places of a line, from a first one to a last.
@@ -82,26 +79,15 @@ fn write_count(out: &mut TextWriter, path: &str, count: usize, most: u16) {
     out.write_char('\n');
 }
 
-/// The warnings of a source, in the order of its cards.
-fn warnings_by_card(alloc: Global, source: &[u8]) -> Result<Vec<Warning>, AllocError> {
-    let Ok(cards) = faultless_cards(alloc, source) else {
-        return Ok(Vec::new(alloc));
-    };
-    let cards = IndexedCards::new(alloc, &cards)?;
-    let mut warnings = source_warnings(alloc, &cards)?;
-    warnings.sort_by_key(|warning| warning.card)?;
-    Ok(warnings)
-}
-
-/// What a person reads of the warnings of a source, which `path` names: each is written as a fault is, in the order of the cards, `most` of them
-/// at most; and how many there are. Nothing where there is none, or where the source has a fault.
+/// What a person reads of these warnings of a source, which `path` names: each is written as a fault is, `most` of them at most; and how many
+/// there are. Nothing if there is none.
 pub fn warning_messages(
     alloc: Global,
     path: &str,
     source: &[u8],
+    warnings: &[Warning],
     most: u16,
 ) -> Result<String, AllocError> {
-    let warnings = warnings_by_card(alloc, source)?;
     let mut out = TextWriter::new(alloc);
     let mut lines = CardLines::of(source);
     for warning in warnings.iter().take(usize::from(most)) {

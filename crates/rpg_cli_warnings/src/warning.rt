@@ -4,42 +4,7 @@ ghost use Rattle.std.specs.Prelude.{◌≡◌};
 ghost use Rattle.rpg_cli_warnings.specs.Warnings as warnings;
 
 use rpg_sheet_specs::ColumnFault;
-
-/// What a source is warned of.
-#[derive(Clone, Copy, PartialEq, Eq)]
-pub enum WarningCode {
-    W1,
-    W2,
-    W3,
-    W4,
-    W5,
-    W6,
-}
-
-impl WarningCode {
-    pub const fn text(self) -> &'static str {
-        match self {
-            WarningCode::W1 => "W1",
-            WarningCode::W2 => "W2",
-            WarningCode::W3 => "W3",
-            WarningCode::W4 => "W4",
-            WarningCode::W5 => "W5",
-            WarningCode::W6 => "W6",
-        }
-    }
-
-    /// What may be wrong, as a person reads it.
-    pub const fn sentence(self) -> &'static str {
-        match self {
-            WarningCode::W1 => "an indicator is asked for, and nothing turns it on",
-            WarningCode::W2 => "an indicator is turned on, and no card asks for it",
-            WarningCode::W3 => "a field lies over another of the same line",
-            WarningCode::W4 => "a result has fewer digits before its point than a factor",
-            WarningCode::W5 => "a control level is asked for, and no field has it",
-            WarningCode::W6 => "PAGE has conditions, and isn't set back to 1",
-        }
-    }
-}
+use rpg_warning_codes::WarningCode;
 
 /// Why a card is warned of.
 #[derive(Clone, Copy)]

@@ -1,14 +1,16 @@
 //! All warnings of a source.
 
-ghost use Rattle.std.specs.Prelude.{◌≡◌, IfOk};
-ghost use Rattle.rpg_cli_warnings.specs.Warnings.{warnings_of};
+ghost use Rattle.std.specs.Prelude.{◌≡◌, IfOk, filter};
+ghost use Rattle.std.specs.List.Sorted.{IsPermutation};
+ghost use Rattle.rpg_cli_warnings.specs.Warnings.{is_wanted, wanted_of, warnings_of};
 
 use crate::digits::put_shorter;
 use crate::indicators::put_indicators;
 use crate::overlaps::put_overlaps;
 use crate::pages::put_pages;
 use crate::warning::Warning;
-use rpg_cards::IndexedCards;
+use rpg_cards::{IndexedCards, SpecCard};
+use rpg_warning_codes::WarningCodes;
 use std::alloc::{AllocError, Global};
 
 /// The greatest number of an indicator.
@@ -25,4 +27,36 @@ pub fn source_warnings(alloc: Global, source: &IndexedCards) -> Result<Vec<Warni
     put_shorter(&mut warnings, source)?;
     put_pages(&mut warnings, source.as_slice())?;
     Ok(warnings)
+}
+
+/// The warnings whose codes aren't allowed.
+fn without(
+    alloc: Global,
+    warnings: &[Warning],
+    allowed: WarningCodes,
+) -> Result<Vec<Warning>, AllocError>
+    ensures { IfOk result (λ wanted. wanted.items ≡ filter (is_wanted allowed) warnings.now) }
+{
+    let mut wanted = Vec::new(alloc);
+    for warning in warnings {
+        if !allowed.has(warning.kind.code()) {
+            wanted.push(*warning)?;
+        }
+    }
+    Ok(wanted)
+}
+
+/// The warnings of a source without a fault, in the order of its cards, except those whose codes are allowed.
+pub fn wanted_warnings(
+    alloc: Global,
+    cards: &[SpecCard],
+    allowed: WarningCodes,
+) -> Result<Vec<Warning>, AllocError>
+    ensures { IfOk result (λ warnings. IsPermutation (wanted_of allowed cards.now) warnings.items) }
+{
+    let cards = IndexedCards::new(alloc, cards)?;
+    let warnings = source_warnings(alloc, &cards)?;
+    let mut wanted = without(alloc, &warnings, allowed)?;
+    wanted.sort_by_key(|warning| warning.card)?;
+    Ok(wanted)
 }

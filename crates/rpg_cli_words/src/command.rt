@@ -2,6 +2,8 @@
 //!
 //! Each call of clap's builder is in a function of its own: the proof of a chain of them grows with its length.
 
+use crate::format::FORMATS;
+use crate::warned::WARNING_CODES;
 use crate::words::{COMMANDS, CommandWords, Kind, Word};
 use clap::{Arg, ArgAction, Command, value_parser};
 use std::alloc::{AllocError, Global};
@@ -9,6 +11,26 @@ use std::alloc::{AllocError, Global};
 /// A word that takes a value.
 fn valued<'a>(arg: Arg<'a>) -> Arg<'a> {
     arg.action(ArgAction::Set)
+}
+
+/// All words from a place on.
+fn placed_many<'a>(arg: Arg<'a>) -> Arg<'a> {
+    arg.action(ArgAction::Append).num_args(1..)
+}
+
+/// A code of a warning after each use of a name.
+fn warning_codes<'a>(arg: Arg<'a>, name: &'a str) -> Arg<'a> {
+    arg.long(name)
+        .value_name("CODE")
+        .action(ArgAction::Append)
+        .value_parser(WARNING_CODES.as_slice())
+}
+
+/// A form of diagnostics after a name; text, if there is none.
+fn format<'a>(arg: Arg<'a>, name: &'a str) -> Arg<'a> {
+    named(arg, name, "FORMAT")
+        .value_parser(FORMATS.as_slice())
+        .default_value("text")
 }
 
 /// A flag.
@@ -72,6 +94,7 @@ fn arg<'a>(alloc: Global, word: &Word) -> Result<Arg<'a>, AllocError> {
     let arg = plain(alloc, word);
     match word.kind {
         Kind::Placed => Ok(valued(arg)),
+        Kind::PlacedMany => Ok(placed_many(arg)),
         Kind::Named(value) => Ok(named(arg, word.name, value)),
         Kind::NamedAgainst(value, other) => named_against(arg, word.name, value, other),
         Kind::NamedOr(value, other) => named_or(arg, word.name, value, other),
@@ -81,6 +104,8 @@ fn arg<'a>(alloc: Global, word: &Word) -> Result<Arg<'a>, AllocError> {
         Kind::Allowance(default) => Ok(allowance(arg, word.name, default)),
         Kind::Count(default) => Ok(count(arg, word.name, default)),
         Kind::Length => Ok(length(arg, word.name)),
+        Kind::Format => Ok(format(arg, word.name)),
+        Kind::WarningCodes => Ok(warning_codes(arg, word.name)),
         Kind::Most => Ok(named(arg, word.name, "N").value_parser(value_parser!(u64))),
     }
 }
@@ -111,12 +136,14 @@ fn commands<'a>(alloc: Global) -> Result<Vec<Command<'a>>, AllocError> {
 const STATUSES: &str =
     "Exit statuses:\n  0  success\n  1  a file or a device failed, or memory ran out\n  2  the command line or the date is wrong, or a disk file or a secondary file is missing\n  3  the source, or a record, is rejected\n  4  the object program is rejected\n  5  the job halted";
 
-/// The format of object programs, and the logic that the program is proved in. Several kits have the same logic.
+/// The version, as CHANGELOG.md has it; the formats of object programs; and the logic that the program is proved in. Several kits have the same logic.
 const VERSION: &str =
-    "object programs of versions 1 and 2, proved in Rattle's logic dac8208d650f15bf";
+    "1.0.0 (unreleased), object programs of versions 1 and 2, proved in Rattle's logic dac8208d650f15bf";
 
 fn with_texts<'a>(command: Command<'a>) -> Command<'a> {
-    command.about("RPG II").version(VERSION)
+    command
+        .about("Compiles, checks and runs RPG II reports")
+        .version(VERSION)
 }
 
 fn with_statuses<'a>(command: Command<'a>) -> Command<'a> {

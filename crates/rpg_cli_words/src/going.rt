@@ -2,7 +2,10 @@
 
 ghost use Rattle.std.specs.Prelude.{◌<◌};
 
+use crate::dates::DateWord;
+use crate::format::format_of;
 use crate::request::{FileWord, Request, RunWords, STANDARD};
+use crate::warned::{WarningWords, warning_words};
 use clap::ArgMatches;
 
 /// The words of `go`.
@@ -12,9 +15,19 @@ pub struct GoWords<'a> {
     pub run: RunWords<'a>,
     /// How many backward branches and calls a cycle may take.
     pub allowance: u16,
-    /// How many faults are listed at most.
-    pub faults: u16,
+    pub warnings: WarningWords,
     ghost positive: { 0 < allowance },
+}
+
+impl<'a> GoWords<'a> {
+    /// The same words with those of another run.
+    pub fn with<'b>(&'b self, run: RunWords<'b>) -> GoWords<'b> {
+        GoWords {
+            run,
+            allowance: self.allowance,
+            warnings: self.warnings,
+        }
+    }
 }
 
 /// The words of the run. Where PRINT isn't given, standard output is meant.
@@ -24,13 +37,14 @@ fn run_words<'a>(given: &ArgMatches<'a>) -> Option<RunWords<'a>> {
         program: FileWord::Source,
         input: given.get_str("INPUT")?,
         print: given.get_str("PRINT").unwrap_or(STANDARD),
-        date: given.get_str("date")?,
+        date: given.get_str("date").map(DateWord::of),
         secondary: given.get_str("secondary"),
         disk: given.get_str("disk"),
         most: given.get_one::<u64>("most"),
         keeps: given.get_flag("keep"),
         source: None,
         is_quiet: given.get_flag("quiet"),
+        format: format_of(given),
     })
 }
 
@@ -42,6 +56,6 @@ pub(crate) fn go_words<'a>(given: &ArgMatches<'a>) -> Option<Request<'a>> {
     Some(Request::Go(GoWords {
         run: run_words(given)?,
         allowance,
-        faults: given.get_one::<u16>("faults")?,
+        warnings: warning_words(given)?,
     }))
 }

@@ -2,12 +2,17 @@
 #![tactic(auto)]
 
 mod command;
+mod dates;
+mod format;
 mod going;
 mod listing;
 mod records;
 mod request;
+mod warned;
 mod words;
 
+pub use dates::DateWord;
+pub use format::Format;
 pub use going::GoWords;
 pub use listing::{CardsWanted, CardsWords, ListWords};
 pub use records::{RecordFraming, RecordsWay, RecordsWords};
@@ -15,3 +20,4 @@ pub use request::{
     CheckWords, CompileWords, ExplainWords, FileWord, Refusal, Request, RunWords, SameFile, Shared,
     ShowWords, VerifyWords, is_standard, refuse_bytes, refuse_same_file, request_of,
 };
+pub use warned::WarningWords;

@@ -3,19 +3,22 @@
 ghost use Rattle.std.specs.Prelude.{◌<◌, ◌≤◌};
 
 use crate::command::command;
+use crate::dates::DateWord;
+use crate::format::{Format, format_of};
 use crate::going::{GoWords, go_words};
 use crate::listing::{CardsWords, ListWords, cards_words, list_words};
 use crate::records::{RecordsWords, bad_value, records_words};
+use crate::warned::{WarningWords, texts, warning_words};
 use clap::error::ErrorKind;
 use clap::{ArgMatches, Command, Error};
 use std::alloc::{AllocError, Global};
 
 /// What the words ask for.
-#[derive(Clone, Copy)]
+#[derive(Drop)]
 pub enum Request<'a> {
     /// Compiles a source.
     Compile(CompileWords<'a>),
-    /// Tells all faults of a source.
+    /// Reports all faults of sources.
     Check(CheckWords<'a>),
     /// Lists a source.
     List(ListWords<'a>),
@@ -31,7 +34,7 @@ pub enum Request<'a> {
     Run(RunWords<'a>),
     /// Compiles a source and runs it.
     Go(GoWords<'a>),
-    /// Explains a code.
+    /// Explains codes.
     Explain(ExplainWords<'a>),
 }
 
@@ -42,21 +45,21 @@ pub struct CompileWords<'a> {
     pub object: &'a str,
     /// How many backward branches and calls a cycle may take.
     pub allowance: u16,
-    /// The most faults or warnings to list.
-    pub faults: u16,
+    pub warnings: WarningWords,
     /// Whether no line is printed if the exit status is 0.
     pub is_quiet: bool,
+    pub format: Format,
     ghost positive: { 0 < allowance },
 }
 
 /// The words of `check`.
-#[derive(Clone, Copy)]
+#[derive(Drop)]
 pub struct CheckWords<'a> {
-    pub source: &'a str,
-    /// The most faults or warnings to list.
-    pub faults: u16,
+    pub sources: Vec<&'a str>,
+    pub warnings: WarningWords,
     /// Whether no line is printed if the exit status is 0.
     pub is_quiet: bool,
+    pub format: Format,
 }
 
 /// The words of `verify`.
@@ -73,6 +76,8 @@ pub struct ShowWords<'a> {
     pub object: &'a str,
     /// The source of the object program, if the words name it.
     pub source: Option<&'a str>,
+    /// Whether all rows are wanted: where the words ask for them, or name the source, whose names stand in them.
+    pub rows: bool,
 }
 
 /// The words of `run`.
@@ -86,7 +91,8 @@ pub struct RunWords<'a> {
     pub input: &'a str,
     /// Where the printed lines go, a file or `-`.
     pub print: &'a str,
-    pub date: &'a str,
+    /// The date, if the words have one.
+    pub date: Option<DateWord<'a>>,
     /// The records of a secondary file, if the words tell them.
     pub secondary: Option<&'a str>,
     /// Where the records of a disk file go, if the words tell it.
@@ -99,15 +105,16 @@ pub struct RunWords<'a> {
     pub source: Option<&'a str>,
     /// Whether no line is printed if the exit status is 0.
     pub is_quiet: bool,
+    pub format: Format,
 }
 
 /// The words of `explain`.
-#[derive(Clone, Copy)]
+#[derive(Drop)]
 pub struct ExplainWords<'a> {
-    /// The code; where the words name none, all are explained.
-    pub code: Option<&'a str>,
-    /// The number of a halt, where it's a word of its own.
-    pub number: Option<&'a str>,
+    /// The codes, the number of a halt as a word of its own; where there are none, all are explained.
+    pub codes: Vec<&'a str>,
+    /// Whether a line for each code is wanted, and no page.
+    pub lists: bool,
 }
 
 /// A word of the command line that names a file.
@@ -204,7 +211,7 @@ impl<'a> Request<'a> {
         match (self, word) {
             (Request::Compile(words), FileWord::Source) => Some(words.source),
             (Request::Compile(words), FileWord::Object) => Some(words.object),
-            (Request::Check(words), FileWord::Source) => Some(words.source),
+            (Request::Check(words), FileWord::Source) => words.sources.first().copied(),
             (Request::List(words), FileWord::Source) => Some(words.source),
             (Request::Cards(words), FileWord::Source) => Some(words.source),
             (Request::Verify(words), FileWord::Object) => Some(words.object),
@@ -226,6 +233,17 @@ impl<'a> Request<'a> {
             Request::Run(words) => words.is_quiet,
             Request::Go(words) => words.run.is_quiet,
             _ => false,
+        }
+    }
+
+    /// The form of diagnostics and of the answer.
+    pub fn format(&self) -> Format {
+        match self {
+            Request::Compile(words) => words.format,
+            Request::Check(words) => words.format,
+            Request::Run(words) => words.format,
+            Request::Go(words) => words.run.format,
+            _ => Format::Text,
         }
     }
 
@@ -254,7 +272,27 @@ fn may_be_standard(path: Option<&str>) -> bool {
     }
 }
 
+/// The date of a job whose program doesn't use it.
+const NO_DATE: &str = "000000";
+
 impl<'a> RunWords<'a> {
+    /// The six digits of the date. A job that has none is given zeros.
+    pub fn date_text(&self) -> &'a str {
+        match self.date {
+            None => NO_DATE,
+            Some(DateWord::Written(text)) => text,
+            Some(DateWord::Today(_)) => "today",
+        }
+    }
+
+    /// The same words, with a date.
+    pub fn on<'b>(&'b self, date: &'b str) -> RunWords<'b> {
+        RunWords {
+            date: Some(DateWord::Written(date)),
+            ..*self
+        }
+    }
+
     /// The file of records; none where they come from standard input.
     pub fn input_file(&self) -> Option<&'a str> {
         (!is_standard(self.input)).then_some(self.input)
@@ -362,17 +400,25 @@ fn compile_words<'a>(given: &ArgMatches<'a>) -> Option<Request<'a>> {
         source: given.get_str("SRC")?,
         object: given.get_str("OBJ")?,
         allowance,
-        faults: given.get_one::<u16>("faults")?,
+        warnings: warning_words(given)?,
         is_quiet: given.get_flag("quiet"),
+        format: format_of(given),
     }))
 }
 
-fn check_words<'a>(given: &ArgMatches<'a>) -> Option<Request<'a>> {
-    Some(Request::Check(CheckWords {
-        source: given.get_str("SRC")?,
-        faults: given.get_one::<u16>("faults")?,
+fn check_words<'a>(
+    alloc: Global,
+    given: &ArgMatches<'a>,
+) -> Result<Option<Request<'a>>, AllocError> {
+    let Some(warnings) = warning_words(given) else {
+        return Ok(None);
+    };
+    Ok(Some(Request::Check(CheckWords {
+        sources: texts(alloc, given, "SRC")?,
+        warnings,
         is_quiet: given.get_flag("quiet"),
-    }))
+        format: format_of(given),
+    })))
 }
 
 fn verify_words<'a>(given: &ArgMatches<'a>) -> Option<Request<'a>> {
@@ -386,6 +432,7 @@ fn show_words<'a>(given: &ArgMatches<'a>) -> Option<Request<'a>> {
     Some(Request::Show(ShowWords {
         object: given.get_str("OBJ")?,
         source: given.get_str("source"),
+        rows: given.get_flag("rows") || given.get_str("source").is_some(),
     }))
 }
 
@@ -395,36 +442,48 @@ fn run_words<'a>(given: &ArgMatches<'a>) -> Option<Request<'a>> {
         program: FileWord::Object,
         input: given.get_str("INPUT")?,
         print: given.get_str("PRINT")?,
-        date: given.get_str("date")?,
+        date: given.get_str("date").map(DateWord::of),
         secondary: given.get_str("secondary"),
         disk: given.get_str("disk"),
         most: given.get_one::<u64>("most"),
         keeps: given.get_flag("keep"),
         source: given.get_str("source"),
         is_quiet: given.get_flag("quiet"),
+        format: format_of(given),
     }))
 }
 
-fn explain_words<'a>(given: &ArgMatches<'a>) -> Request<'a> {
-    Request::Explain(ExplainWords {
-        code: given.get_str("CODE"),
-        number: given.get_str("N"),
-    })
+fn explain_words<'a>(alloc: Global, given: &ArgMatches<'a>) -> Result<Request<'a>, AllocError> {
+    Ok(Request::Explain(ExplainWords {
+        codes: texts(alloc, given, "CODE")?,
+        lists: given.get_flag("list"),
+    }))
 }
 
-fn request_in<'a>(matches: &ArgMatches<'a>) -> Option<Request<'a>> {
-    match matches.subcommand()? {
-        ("compile", given) => compile_words(given),
-        ("check", given) => check_words(given),
-        ("list", given) => list_words(given),
-        ("cards", given) => cards_words(given),
-        ("records", given) => records_words(given),
-        ("verify", given) => verify_words(given),
-        ("show", given) => show_words(given),
-        ("run", given) => run_words(given),
-        ("go", given) => go_words(given),
-        ("explain", given) => Some(explain_words(given)),
+/// The request of a command whose words need no memory.
+fn plain_request<'a>(name: &str, given: &ArgMatches<'a>) -> Option<Request<'a>> {
+    match name {
+        "compile" => compile_words(given),
+        "list" => list_words(given),
+        "cards" => cards_words(given),
+        "records" => records_words(given),
+        "verify" => verify_words(given),
+        "show" => show_words(given),
+        "run" => run_words(given),
+        "go" => go_words(given),
         _ => None,
+    }
+}
+
+fn request_in<'a>(
+    alloc: Global,
+    matches: &ArgMatches<'a>,
+) -> Result<Option<Request<'a>>, AllocError> {
+    match matches.subcommand() {
+        Some(("check", given)) => check_words(alloc, given),
+        Some(("explain", given)) => Ok(Some(explain_words(alloc, given)?)),
+        Some((name, given)) => Ok(plain_request(name, given)),
+        None => Ok(None),
     }
 }
 
@@ -443,7 +502,7 @@ fn unread(command: &mut Command<'_>, matches: &ArgMatches<'_>) -> Error {
 fn read<'a>(alloc: Global, words: &'a [String]) -> Result<Request<'a>, Error> {
     let mut command = command(alloc)?;
     let matches = command.try_get_matches_from_mut(words)?;
-    match request_in(&matches) {
+    match request_in(alloc, &matches)? {
         Some(request) => Ok(request),
         None => Err(unread(&mut command, &matches)),
     }

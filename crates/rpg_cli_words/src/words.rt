@@ -5,6 +5,8 @@
 pub(crate) enum Kind {
     /// A word that its place tells.
     Placed,
+    /// The words from its place on.
+    PlacedMany,
     /// A value after the word's name, and what help calls it.
     Named(&'static str),
     /// The same, which doesn't go with another word.
@@ -23,6 +25,10 @@ pub(crate) enum Kind {
     Most,
     /// The length of a record: 1 to 9,999.
     Length,
+    /// One of the forms of diagnostics.
+    Format,
+    /// The code of a warning, after each use of the word's name.
+    WarningCodes,
 }
 
 #[derive(Clone, Copy)]
@@ -72,6 +78,43 @@ const FAULTS: Word = Word {
     help: "The most faults or warnings to list",
 };
 
+/// The sources that are checked one after another.
+const SOURCES: Word = Word {
+    name: "SRC",
+    kind: Kind::PlacedMany,
+    is_required: true,
+    help: "The sources, a card a line; - is standard input",
+};
+
+/// A source that may come from standard input.
+const SOURCE_OR_INPUT: Word = Word {
+    name: "SRC",
+    kind: Kind::Placed,
+    is_required: true,
+    help: "The source, a card a line; - is standard input",
+};
+
+const DENY: Word = Word {
+    name: "deny",
+    kind: Kind::Flag,
+    is_required: false,
+    help: "Rejects a source that has a warning",
+};
+
+const FORMAT: Word = Word {
+    name: "format",
+    kind: Kind::Format,
+    is_required: false,
+    help: "The form of diagnostics and of the answer",
+};
+
+const ALLOW: Word = Word {
+    name: "allow",
+    kind: Kind::WarningCodes,
+    is_required: false,
+    help: "Leaves out the warnings of a code",
+};
+
 const QUIET: Word = Word {
     name: "quiet",
     kind: Kind::FlagByLetter('q'),
@@ -86,8 +129,8 @@ const ALLOWANCE: Word = Word {
     help: "How many backward branches and calls a cycle may take",
 };
 
-const COMPILE: [Word; 5] = [
-    SOURCE,
+const COMPILE: [Word; 8] = [
+    SOURCE_OR_INPUT,
     Word {
         name: "OBJ",
         kind: Kind::Placed,
@@ -96,19 +139,22 @@ const COMPILE: [Word; 5] = [
     },
     ALLOWANCE,
     FAULTS,
+    DENY,
+    ALLOW,
+    FORMAT,
     QUIET,
 ];
 
-const CHECK: [Word; 3] = [SOURCE, FAULTS, QUIET];
+const CHECK: [Word; 6] = [SOURCES, FAULTS, DENY, ALLOW, FORMAT, QUIET];
 
-const LIST: [Word; 1] = [SOURCE];
+const LIST: [Word; 1] = [SOURCE_OR_INPUT];
 
 const CARDS: [Word; 3] = [
     Word {
         name: "SRC",
         kind: Kind::Placed,
         is_required: true,
-        help: "The lines of shorthand, or with --short the cards",
+        help: "The lines of shorthand, or with --short the cards; - is standard input",
     },
     Word {
         name: "short",
@@ -204,19 +250,26 @@ const VERIFY: [Word; 2] = [OBJECT, QUIET];
 const EXPLAIN: [Word; 2] = [
     Word {
         name: "CODE",
-        kind: Kind::Placed,
+        kind: Kind::PlacedMany,
         is_required: false,
-        help: "The code",
+        help: "The codes, as F16 or halt 4; all where none is given",
     },
     Word {
-        name: "N",
-        kind: Kind::Placed,
+        name: "list",
+        kind: Kind::FlagAgainst("CODE"),
         is_required: false,
-        help: "The number of a halt",
+        help: "Prints a line for each code",
     },
 ];
 
-const SHOW: [Word; 2] = [OBJECT, OWN_SOURCE];
+const ROWS: Word = Word {
+    name: "rows",
+    kind: Kind::Flag,
+    is_required: false,
+    help: "Prints all rows of the object program",
+};
+
+const SHOW: [Word; 3] = [OBJECT, OWN_SOURCE, ROWS];
 
 const INPUT: Word = Word {
     name: "INPUT",
@@ -227,9 +280,9 @@ const INPUT: Word = Word {
 
 const DATE: Word = Word {
     name: "date",
-    kind: Kind::Named("N"),
-    is_required: true,
-    help: "The date, as six digits",
+    kind: Kind::Named("DATE"),
+    is_required: false,
+    help: "The date: six digits, or today (month, day, year), today-dmy or today-ymd; only for a program that uses it",
 };
 
 const SECONDARY: Word = Word {
@@ -260,7 +313,7 @@ const KEEP: Word = Word {
     help: "Keeps the old PRINT and disk file until the job has ended well",
 };
 
-const RUN: [Word; 10] = [
+const RUN: [Word; 11] = [
     OBJECT,
     INPUT,
     Word {
@@ -275,10 +328,11 @@ const RUN: [Word; 10] = [
     MOST,
     KEEP,
     OWN_SOURCE,
+    FORMAT,
     QUIET,
 ];
 
-const GO: [Word; 11] = [
+const GO: [Word; 14] = [
     SOURCE,
     INPUT,
     Word {
@@ -294,6 +348,9 @@ const GO: [Word; 11] = [
     KEEP,
     ALLOWANCE,
     FAULTS,
+    DENY,
+    ALLOW,
+    FORMAT,
     QUIET,
 ];
 
@@ -306,7 +363,7 @@ pub(crate) const COMMANDS: [CommandWords; 10] = [
     },
     CommandWords {
         name: "check",
-        about: "Reports all faults of the source SRC on standard error, and writes nothing",
+        about: "Reports all faults of each source SRC on standard error, and writes nothing",
         words: &CHECK,
     },
     CommandWords {
@@ -331,12 +388,12 @@ pub(crate) const COMMANDS: [CommandWords; 10] = [
     },
     CommandWords {
         name: "explain",
-        about: "Explains a code, as F16, S5, V21, B5 or halt 4, or all of them",
+        about: "Explains codes, as F16, S5, V21, B5 or halt 4, or all of them",
         words: &EXPLAIN,
     },
     CommandWords {
         name: "show",
-        about: "Shows the object program OBJ: its fields, record types, lines and instructions",
+        about: "Shows what the object program OBJ reads, writes and asks for, or its rows",
         words: &SHOW,
     },
     CommandWords {

@@ -1,0 +1,177 @@
+//! The command that checks sources.
+
+use crate::reading::source_bytes;
+use crate::telling::tell_source_fault;
+use rpg_cli_answers::{Answer, Listener, Stop, line, named};
+use rpg_cli_json::source_object;
+use rpg_cli_run::{judge_warnings, tell_faults};
+use rpg_cli_text::TextWriter;
+use rpg_cli_words::{CheckWords, FileWord, Format, SameFile, Shared, WarningWords, is_standard};
+use rpg_faults::faultless_cards;
+use std::alloc::{AllocError, Global};
+use std::rt::Files;
+
+/// Reports all faults of a source, or its warnings, and returns the answer of one that is rejected.
+fn check_source<R: Files + Input + AllocGlobal, L: Listener>(
+    rt: &R,
+    path: &str,
+    words: WarningWords,
+    listener: &mut L,
+) -> Result<(), Answer> {
+    let source = named(FileWord::Source, source_bytes(rt, path))?;
+    match faultless_cards(rt.alloc(), &source) {
+        Ok(_) => judge_warnings(rt.alloc(), path, &source, words, listener),
+        Err(fault) => {
+            tell_faults(rt.alloc(), path, &source, words.most, listener);
+            Err(fault.into())
+        }
+    }
+}
+
+fn answer_of<R: Files + Input + AllocGlobal, L: Listener>(
+    rt: &R,
+    path: &str,
+    words: WarningWords,
+    listener: &mut L,
+) -> Answer {
+    match check_source(rt, path, words, listener) {
+        Ok(()) => Answer::Faultless,
+        Err(answer) => answer,
+    }
+}
+
+/// The line of one source among several.
+fn source_line(alloc: Global, path: &str, answer: &Answer) -> Result<String, AllocError> {
+    let mut out = TextWriter::new(alloc);
+    out.write_shown(path.as_bytes());
+    out.write_str(": ");
+    out.write_shown(line(answer).text.as_slice());
+    out.write_char('\n');
+    out.finish()
+}
+
+/// The same as an object of JSON.
+fn object_line(alloc: Global, path: &str, answer: &Answer) -> Result<String, AllocError> {
+    let line = line(answer);
+    let mut words = TextWriter::new(alloc);
+    words.write_shown(line.text.as_slice());
+    let words = words.finish()?;
+    source_object(alloc, path, words.as_str(), line.status)
+}
+
+fn shown_answer(
+    alloc: Global,
+    format: Format,
+    path: &str,
+    answer: &Answer,
+) -> Result<String, AllocError> {
+    match format {
+        Format::Text => source_line(alloc, path, answer),
+        Format::Json => object_line(alloc, path, answer),
+    }
+}
+
+/// Shows the line of one source among several, and reports why a file failed.
+fn show_source<L: Listener>(
+    alloc: Global,
+    format: Format,
+    path: &str,
+    answer: &Answer,
+    listener: &mut L,
+) -> Result<(), Stop> {
+    if let Answer::File { fault, .. } = answer {
+        tell_source_fault(alloc, path, *fault, listener);
+    }
+    match shown_answer(alloc, format, path, answer) {
+        Ok(text) => Ok(listener.show(text.as_str())?),
+        Err(_) => Err(Answer::NoMemory.into()),
+    }
+}
+
+/// How the sources fared so far.
+#[derive(Clone, Copy)]
+struct Tally {
+    sources: u64,
+    rejected: u64,
+    /// The greatest exit status.
+    status: u8,
+}
+
+impl Tally {
+    const NONE: Tally = Tally {
+        sources: 0,
+        rejected: 0,
+        status: 0,
+    };
+
+    /// The tally with one more source.
+    fn with(self, status: u8) -> Tally {
+        Tally {
+            sources: self.sources.saturating_add(1),
+            rejected: self.rejected.saturating_add(u64::from(status != 0)),
+            status: self.status.max(status),
+        }
+    }
+
+    fn answer(self) -> Answer {
+        Answer::Checked {
+            sources: self.sources,
+            rejected: self.rejected,
+            status: self.status,
+        }
+    }
+}
+
+/// Checks sources one after another, and shows the line of each; of a source without a fault only if the command isn't quiet.
+fn check_each<R: Files + Input + AllocGlobal, L: Listener>(
+    rt: &R,
+    words: &CheckWords,
+    listener: &mut L,
+) -> Result<Answer, Stop> {
+    let mut tally = Tally::NONE;
+    for path in &words.sources {
+        let answer = answer_of(rt, path, words.warnings, listener);
+        let status = line(&answer).status;
+        if status != 0 || !words.is_quiet {
+            show_source(rt.alloc(), words.format, path, &answer, listener)?;
+        }
+        tally = tally.with(status);
+    }
+    Ok(tally.answer())
+}
+
+/// Standard input, where two sources are it.
+fn shared_input(sources: &[&str]) -> Option<SameFile> {
+    let mut is_taken = false;
+    for source in sources {
+        if is_standard(source) {
+            if is_taken {
+                return Some(SameFile {
+                    earlier: FileWord::Source,
+                    written: FileWord::Source,
+                    shared: Shared::StandardInput,
+                });
+            }
+            is_taken = true;
+        }
+    }
+    None
+}
+
+/// Checks one source, or several.
+pub(crate) fn check_files<R: Files + Input + AllocGlobal, L: Listener>(
+    rt: &R,
+    words: &CheckWords,
+    listener: &mut L,
+) -> Result<Answer, Stop> {
+    if let Some(same) = shared_input(&words.sources) {
+        return Err(same.into());
+    }
+    match words.sources.as_slice() {
+        [path] => {
+            check_source(rt, path, words.warnings, listener)?;
+            Ok(Answer::Faultless)
+        }
+        _ => check_each(rt, words, listener),
+    }
+}

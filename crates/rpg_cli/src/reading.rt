@@ -1,0 +1,51 @@
+//! Sources, by their paths or from standard input.
+
+use rpg_cli_files::{FileFault, Reason, file_bytes};
+use rpg_cli_words::is_standard;
+use std::io::{Error, ErrorKind, Read};
+use std::rt::Files;
+
+/// The most bytes of a source.
+const MOST_BYTES: usize = 16_777_216;
+
+fn input_fault(error: &Error) -> FileFault {
+    match error.kind() {
+        ErrorKind::OutOfMemory => FileFault::NoMemory,
+        kind => FileFault::Input(Reason::of(kind)),
+    }
+}
+
+/// All bytes of standard input.
+fn input_bytes<R: Input + AllocGlobal>(rt: &R) -> Result<Vec<u8>, FileFault> {
+    let mut bytes = Vec::new(rt.alloc());
+    match rt
+        .reader()
+        .take(MOST_BYTES as u64 + 1)
+        .read_to_end(&mut bytes)
+    {
+        Ok(_) if bytes.len() <= MOST_BYTES => Ok(bytes),
+        Ok(_) => Err(FileFault::TooLarge),
+        Err(error) => Err(input_fault(&error)),
+    }
+}
+
+/// The bytes of a source: those of a file, or of standard input.
+pub(crate) fn source_bytes<R: Files + Input + AllocGlobal>(
+    rt: &R,
+    path: &str,
+) -> Result<Vec<u8>, FileFault> {
+    if is_standard(path) {
+        input_bytes(rt)
+    } else {
+        file_bytes(rt, path)
+    }
+}
+
+/// The path by which the system has a source.
+pub(crate) fn system_path(path: &str) -> &str {
+    if is_standard(path) {
+        "/dev/stdin"
+    } else {
+        path
+    }
+}

@@ -1,0 +1,11 @@
+//! Diagnostics as objects of JSON, a line each.
+#![tactic(auto)]
+
+mod diagnostic;
+mod listener;
+mod objects;
+mod picture;
+mod string;
+
+pub use listener::JsonListener;
+pub use objects::{diagnostics, source_object};

@@ -1,0 +1,33 @@
+//! The lines below a diagnostic that show a card: a ruler, the card and a mark.
+
+/// What stands before a ruler and a mark.
+const MARGIN: &str = "      | ";
+
+/// A line of a picture.
+#[derive(Clone, Copy)]
+pub(crate) enum Picture<'a> {
+    Ruler,
+    Card(&'a str),
+    /// Blanks, and a mark under the columns after them.
+    Mark(&'a str),
+}
+
+fn is_number(text: &str) -> bool {
+    let digits = text.trim();
+    !digits.is_empty() && digits.bytes().all(|b| b.is_ascii_digit())
+}
+
+/// The card of a line that has its number before it.
+fn card_of(line: &str) -> Option<&str> {
+    let (number, card) = line.split_once(" | ")?;
+    (number.len() >= 5 && is_number(number)).then_some(card)
+}
+
+/// What a line of a picture shows; none if it is another line.
+pub(crate) fn picture_of(line: &str) -> Option<Picture<'_>> {
+    match line.strip_prefix(MARGIN) {
+        Some(mark) if mark.ends_with('^') => Some(Picture::Mark(mark)),
+        Some(_) => Some(Picture::Ruler),
+        None => card_of(line).map(|card| Picture::Card(card)),
+    }
+}

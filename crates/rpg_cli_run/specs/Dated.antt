@@ -1,0 +1,10 @@
+-- Whether a job has the date that its program uses.
+use Rattle.std.specs.Prelude.{◌≡◌, false, Option, None, Some, ⊤}
+use Rattle.rpg_cli_words.specs.declared.dates.DateWord.{DateWord}
+use Rattle.rpg_date_use.specs.DateUse.{uses_date}
+use Rattle.rpg_object_program.specs.Object.{Object}
+
+-- without a date the program doesn't use it
+abbrev pub HasDate : Option DateWord → Object → Type 0
+HasDate None p = uses_date p ≡ false
+HasDate (Some date) p = ⊤

@@ -1,0 +1,21 @@
+//! Whether a job has the date that its program uses.
+
+ghost use Rattle.std.specs.Prelude.{◌≡◌, IfErr, OnOk};
+ghost use Rattle.rpg_cli_run.specs.Dated.{HasDate};
+ghost use Rattle.rpg_cli_answers.specs.declared.answer.Answer.TheVariants as answers;
+
+use rpg_cli_answers::Answer;
+use rpg_cli_words::DateWord;
+use rpg_date_use::uses_date;
+use rpg_engine::Program;
+
+/// Asks for a date if the program uses it and the words have none.
+pub(crate) fn has_date(program: &Program, date: Option<DateWord<'_>>) -> Result<(), Answer>
+    ensures ok { OnOk result (HasDate date program.now) }
+    ensures err { IfErr result (λ answer. answer ≡ answers.DateWanted) }
+{
+    match date {
+        None if uses_date(program) => Err(Answer::DateWanted),
+        _ => Ok(()),
+    }
+}

@@ -1,0 +1,70 @@
+//! The warnings of a source, and whether they reject it.
+
+ghost use Rattle.std.specs.Prelude.{IfErr, OnOk};
+ghost use Rattle.rpg_cli_run.specs.Warned.{IsDenied, PassesWarnings};
+
+use rpg_cli_answers::{Answer, Listener};
+use rpg_cli_warnings::{Warning, wanted_warnings, warning_messages};
+use rpg_cli_words::WarningWords;
+use rpg_faults::faultless_cards;
+use std::alloc::{AllocError, Global};
+
+/// Rejects a source that has these warnings, if the words deny them, by the first.
+fn judged(words: WarningWords, warnings: &[Warning]) -> Result<(), Answer>
+    ensures ok { OnOk result (PassesWarnings words.denies warnings.now) }
+    ensures err { IfErr result (λ answer. IsDenied answer warnings.now) }
+{
+    match warnings.first() {
+        Some(warning) if words.denies => Err(Answer::Denied {
+            card: warning.card,
+            code: warning.kind.code(),
+        }),
+        _ => Ok(()),
+    }
+}
+
+/// The warnings of a source without a fault that the words don't allow.
+fn warnings_of(
+    alloc: Global,
+    source: &[u8],
+    words: WarningWords,
+) -> Result<Vec<Warning>, AllocError> {
+    match faultless_cards(alloc, source) {
+        Ok(cards) => wanted_warnings(alloc, &cards, words.allowed),
+        Err(_) => Ok(Vec::new(alloc)),
+    }
+}
+
+/// Reports warnings. If there is no memory for them, nothing is printed.
+fn tell_warnings<L: Listener>(
+    alloc: Global,
+    path: &str,
+    source: &[u8],
+    words: WarningWords,
+    warnings: &[Warning],
+    listener: &mut L,
+) {
+    if let Ok(messages) = warning_messages(alloc, path, source, warnings, words.most) {
+        listener.tell(messages.as_str());
+    }
+}
+
+/// Reports the warnings of a source without a fault, and rejects it if it has one and the words deny it.
+///
+/// If there is no memory to look for them, the source is rejected only if the words deny warnings.
+pub fn judge_warnings<L: Listener>(
+    alloc: Global,
+    path: &str,
+    source: &[u8],
+    words: WarningWords,
+    listener: &mut L,
+) -> Result<(), Answer> {
+    match warnings_of(alloc, source, words) {
+        Ok(warnings) => {
+            tell_warnings(alloc, path, source, words, &warnings, listener);
+            judged(words, &warnings)
+        }
+        Err(_) if words.denies => Err(Answer::NoMemory),
+        Err(_) => Ok(()),
+    }
+}

@@ -1,0 +1,8 @@
+use Rattle.std.proofs.Common.{◌≡◌, ◌++◌, drop, filter}
+use Rattle.rpg_cli_warnings.specs.Warnings.{is_wanted}
+use Rattle.rpg_cli_warnings.proofs.warnings.without.Given as goal
+
+abbrev pub invariant-loop-warning : goal.invariant-loop-warning
+invariant-loop-warning l =
+    l.wanted.items ++ filter (is_wanted l.allowed) (drop l.warning-index l.warnings)
+    ≡ filter (is_wanted l.allowed) l.warnings

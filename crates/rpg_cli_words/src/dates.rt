@@ -1,0 +1,23 @@
+//! The word for the date of a job.
+
+use rpg_dates::DateOrder;
+
+/// The date of a job.
+#[derive(Clone, Copy)]
+pub enum DateWord<'a> {
+    /// As it is written: six digits, or what is wrong.
+    Written(&'a str),
+    /// The day on which the job is run.
+    Today(DateOrder),
+}
+
+impl<'a> DateWord<'a> {
+    pub(crate) fn of(text: &'a str) -> DateWord<'a> {
+        match text {
+            "today" => DateWord::Today(DateOrder::MonthFirst),
+            "today-dmy" => DateWord::Today(DateOrder::DayFirst),
+            "today-ymd" => DateWord::Today(DateOrder::YearFirst),
+            _ => DateWord::Written(text),
+        }
+    }
+}

@@ -1,0 +1,22 @@
+//! The word for the form of diagnostics and of the answer.
+
+use clap::ArgMatches;
+
+/// The forms, as they are written.
+pub(crate) const FORMATS: [&str; 2] = ["text", "json"];
+
+/// The form of diagnostics and of the answer.
+#[derive(Clone, Copy, PartialEq, Eq)]
+pub enum Format {
+    /// Lines for people.
+    Text,
+    /// An object of JSON a line.
+    Json,
+}
+
+pub(crate) fn format_of(given: &ArgMatches<'_>) -> Format {
+    match given.get_str("format") {
+        Some("json") => Format::Json,
+        _ => Format::Text,
+    }
+}

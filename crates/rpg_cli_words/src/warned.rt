@@ -1,0 +1,50 @@
+//! The words about warnings, and words with several values.
+
+use clap::ArgMatches;
+use rpg_warning_codes::{WarningCode, WarningCodes};
+use std::alloc::{AllocError, Global};
+
+/// The codes that may be allowed.
+pub(crate) const WARNING_CODES: [&str; 6] = ["W1", "W2", "W3", "W4", "W5", "W6"];
+
+/// What becomes of the warnings of a source.
+#[derive(Clone, Copy)]
+pub struct WarningWords {
+    /// Whether a warning rejects the source.
+    pub denies: bool,
+    /// The codes of the warnings that are left out.
+    pub allowed: WarningCodes,
+    /// The most faults or warnings to list.
+    pub most: u16,
+}
+
+fn codes_of(texts: &[&str]) -> WarningCodes {
+    let mut codes = WarningCodes::NONE;
+    for text in texts {
+        if let Some(code) = WarningCode::named(text) {
+            codes = codes.with(code);
+        }
+    }
+    codes
+}
+
+pub(crate) fn warning_words(given: &ArgMatches<'_>) -> Option<WarningWords> {
+    Some(WarningWords {
+        denies: given.get_flag("deny"),
+        allowed: codes_of(given.get_strs("allow").unwrap_or(&[])),
+        most: given.get_one::<u16>("faults")?,
+    })
+}
+
+/// The values of a word that may have several.
+pub(crate) fn texts<'a>(
+    alloc: Global,
+    given: &ArgMatches<'a>,
+    name: &str,
+) -> Result<Vec<&'a str>, AllocError> {
+    let mut texts = Vec::new(alloc);
+    for text in given.get_strs(name).unwrap_or(&[]) {
+        texts.push(*text)?;
+    }
+    Ok(texts)
+}

@@ -1,0 +1,2 @@
+-- Whether an object program uses the date of its job.
+pub mod DateUse

@@ -1,0 +1,74 @@
+//! Operands that are the date.
+
+ghost use Rattle.std.specs.Prelude.{◌≡◌};
+ghost use Rattle.rpg_date_use.specs.DateUse as words;
+ghost use Rattle.rpg_effect.specs.Forms as forms;
+
+use rpg_effect::form::Class;
+use rpg_effect::line::LineField;
+use rpg_effect::operation::{Index, Instruction, Operand};
+use rpg_effect::row::Use;
+use rpg_object_program::columns::columns_of;
+use rpg_object_program::forms::form_at;
+use rpg_object_program::row::Rows;
+
+fn is_date(class: Class) -> bool
+    ensures { result ≡ forms.is_date class }
+{
+    match class {
+        Class::Date => true,
+        Class::Plain | Class::Array | Class::Table | Class::Constant => false,
+    }
+}
+
+/// Whether a field is the date.
+fn is_date_at(rows: &Rows, field: u16) -> bool
+    ensures { result ≡ words.is_date_at rows.now.fields.items field }
+{
+    match form_at(rows, field) {
+        Some(form) => is_date(form.class),
+        None => false,
+    }
+}
+
+fn index_is_date(rows: &Rows, index: Index<u16>) -> bool
+    ensures { result ≡ words.index_is_date rows.now.fields.items index }
+{
+    match index {
+        Index::Field(field) => is_date_at(rows, field),
+        Index::Blank | Index::Literal(_) => false,
+    }
+}
+
+/// Whether an operand is the date, or is an entry that the date names.
+fn operand_uses(rows: &Rows, operand: Operand<u16>) -> bool
+    ensures { result ≡ words.operand_uses rows.now.fields.items operand }
+{
+    is_date_at(rows, operand.field) || index_is_date(rows, operand.index)
+}
+
+fn column_uses(rows: &Rows, column: Option<Use<Operand<u16>>>) -> bool
+    ensures { result ≡ words.column_uses rows.now.fields.items column }
+{
+    match column {
+        Some(column) => operand_uses(rows, column.operand),
+        None => false,
+    }
+}
+
+/// Whether an operand of an instruction uses the date.
+pub(crate) fn instruction_uses(rows: &Rows, instruction: Instruction<u16>) -> bool
+    ensures { result ≡ words.instruction_uses rows.now.fields.items instruction }
+{
+    let row = columns_of(rows, instruction);
+    column_uses(rows, row.factor1)
+        || column_uses(rows, row.factor2)
+        || column_uses(rows, row.result)
+}
+
+/// Whether a field of a line uses the date.
+pub(crate) fn field_uses(rows: &Rows, field: &LineField<u16>) -> bool
+    ensures { result ≡ words.field_uses rows.now.fields.items field.now }
+{
+    operand_uses(rows, field.operand)
+}

@@ -1,0 +1,2 @@
+-- Dates of six digits.
+pub mod Dates

@@ -1,0 +1,81 @@
+//! The day of the system's clock, in the system's time zone.
+
+ghost use Rattle.std.specs.Prelude.{◌<◌, IfSome};
+
+use jiff::Timestamp;
+use jiff::civil::Date;
+use jiff::tz::{SystemTimeZone, TimeZone, TimeZoneDatabase};
+use rpg_dates::Day;
+use std::io::Read;
+use std::rt::{Clock, Env, Files};
+use std::{env, fs};
+
+/// Where zones have their files.
+const ZONES: &str = "/usr/share/zoneinfo/";
+
+/// The most bytes of a zone's file.
+const MOST_BYTES: u64 = 1_048_576;
+
+/// The bytes of a zone's file, if there is one of this name.
+fn zone_bytes<R: Files + AllocGlobal>(rt: &R, name: &str) -> Option<Vec<u8>> {
+    let path = format!(in rt.alloc(); "{ZONES}{name}").ok()?;
+    let file = fs::open(rt, path.as_str()).ok()?;
+    let mut bytes = Vec::new(rt.alloc());
+    file.take(MOST_BYTES).read_to_end(&mut bytes).ok()?;
+    Some(bytes)
+}
+
+/// A database with the zone that the variable TZ names, if it names one.
+fn zones<R: Env + Files + AllocGlobal>(rt: &R) -> TimeZoneDatabase {
+    let mut zones = TimeZoneDatabase::new(rt.alloc());
+    if let Ok(name) = env::var(rt, "TZ") {
+        let name = name.as_str();
+        let name = name.strip_prefix(':').unwrap_or(name);
+        if let Some(bytes) = zone_bytes(rt, name) {
+            let _inserted = zones.insert(name, &bytes);
+        }
+    }
+    zones
+}
+
+/// The part of a date that is below 100.
+fn below_hundred(part: i16) -> u8
+    ensures { result < 100 }
+{
+    (part.unsigned_abs() % 100) as u8
+}
+
+fn day_of(date: Date) -> Day
+    ensures year { result.year < 100 }
+    ensures month { result.month < 100 }
+    ensures day { result.day < 100 }
+{
+    Day {
+        year: below_hundred(date.year()),
+        month: below_hundred(i16::from(date.month())),
+        day: below_hundred(i16::from(date.day())),
+    }
+}
+
+/// The date of the clock in a zone.
+fn date_in(instant: Timestamp, zone: TimeZone<'_>) -> Date {
+    zone.to_datetime(instant).date()
+}
+
+/// The day of the system's clock in the system's zone; in UTC, if the system has no zone. None if the clock can't be read.
+pub fn today<R: Clock + Env + Files + AllocGlobal>(rt: &R) -> Option<Day>
+    ensures year { IfSome result (λ day. day.year < 100) }
+    ensures month { IfSome result (λ day. day.month < 100) }
+    ensures day { IfSome result (λ day. day.day < 100) }
+{
+    let instant = Timestamp::now(rt).ok()?;
+    let zones = zones(rt);
+    let date = match SystemTimeZone::read(rt) {
+        Ok(system) => match system.time_zone(&zones) {
+            Ok(zone) => date_in(instant, zone),
+            Err(_) => date_in(instant, TimeZone::UTC),
+        },
+        Err(_) => date_in(instant, TimeZone::UTC),
+    };
+    Some(day_of(date))
+}

@@ -1,0 +1,29 @@
+-- The texts of codes; which codes a set has, and the set with one more.
+use Rattle.std.specs.Prelude.{ℕ, List, Bool, true, codes}
+use Rattle.rpg_warning_codes.specs.declared.code.WarningCode.{WarningCode}
+use Rattle.rpg_warning_codes.specs.declared.code.WarningCode.TheVariants.{W1, W2, W3, W4, W5, W6}
+use Rattle.rpg_warning_codes.specs.declared.codes.WarningCodes.{WarningCodes}
+
+abbrev pub code_text : WarningCode → List ℕ
+code_text W1 = codes "W1"
+code_text W2 = codes "W2"
+code_text W3 = codes "W3"
+code_text W4 = codes "W4"
+code_text W5 = codes "W5"
+code_text W6 = codes "W6"
+
+abbrev pub has : WarningCodes → WarningCode → Bool
+has set W1 = set.w1
+has set W2 = set.w2
+has set W3 = set.w3
+has set W4 = set.w4
+has set W5 = set.w5
+has set W6 = set.w6
+
+abbrev pub with : WarningCodes → WarningCode → WarningCodes
+with set W1 = record set { w1 = true }
+with set W2 = record set { w2 = true }
+with set W3 = record set { w3 = true }
+with set W4 = record set { w4 = true }
+with set W5 = record set { w5 = true }
+with set W6 = record set { w6 = true }

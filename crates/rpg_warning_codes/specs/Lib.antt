@@ -1,0 +1,2 @@
+-- The codes of warnings, and sets of them.
+pub mod Codes

@@ -1,0 +1,55 @@
+//! The codes of warnings.
+
+ghost use Rattle.std.specs.Prelude.{◌≡◌};
+ghost use Rattle.rpg_warning_codes.specs.Codes.{code_text};
+
+/// What a source is warned of.
+#[derive(Clone, Copy, PartialEq, Eq)]
+pub enum WarningCode {
+    W1,
+    W2,
+    W3,
+    W4,
+    W5,
+    W6,
+}
+
+impl WarningCode {
+    pub const fn text(self) -> &'static str
+        ensures { result.now ≡ code_text self }
+    {
+        match self {
+            WarningCode::W1 => "W1",
+            WarningCode::W2 => "W2",
+            WarningCode::W3 => "W3",
+            WarningCode::W4 => "W4",
+            WarningCode::W5 => "W5",
+            WarningCode::W6 => "W6",
+        }
+    }
+
+    /// The code of this text.
+    pub fn named(text: &str) -> Option<WarningCode> {
+        match text {
+            "W1" => Some(WarningCode::W1),
+            "W2" => Some(WarningCode::W2),
+            "W3" => Some(WarningCode::W3),
+            "W4" => Some(WarningCode::W4),
+            "W5" => Some(WarningCode::W5),
+            "W6" => Some(WarningCode::W6),
+            _ => None,
+        }
+    }
+
+    /// What may be wrong, as a person reads it.
+    pub const fn sentence(self) -> &'static str {
+        match self {
+            WarningCode::W1 => "an indicator is asked for, and nothing turns it on",
+            WarningCode::W2 => "an indicator is turned on, and no card asks for it",
+            WarningCode::W3 => "a field lies over another of the same line",
+            WarningCode::W4 => "a result has fewer digits before its point than a factor",
+            WarningCode::W5 => "a control level is asked for, and no field has it",
+            WarningCode::W6 => "PAGE has conditions, and isn't set back to 1",
+        }
+    }
+}

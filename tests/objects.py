@@ -1,0 +1,129 @@
+"""All sessions once more with `--format json`: each line that rpg2 then prints must be an object of docs/diagnostics.schema.json, as Python's json reads it."""
+
+import json
+import re
+import subprocess
+import tempfile
+from dataclasses import dataclass
+from pathlib import Path
+
+import sessions
+from outcome import Outcome
+from program import SECONDS, Program
+
+# The commands that have --format.
+COMMANDS = ("compile", "check", "run", "go")
+
+# How an answer begins.
+ANSWER = b'{"answer":'
+
+# How the text of clap begins, which is none of rpg2's own.
+CLAP = (b"error: ", b"\x1b")
+
+TYPES = {"string": str, "integer": int}
+
+
+@dataclass(frozen=True)
+class Printed:
+    out: bytes
+    error: bytes
+    status: int
+
+
+def has_format(command: sessions.Command) -> bool:
+    words = command.words.split()
+    return words[0] in ("rpg2", "told") and any(it in COMMANDS for it in words[1:3]) and "help" not in words and "--help" not in words
+
+
+def words_of(command: sessions.Command) -> list[bytes]:
+    words = command.words.split()
+    begin = words.index("rpg2") + 1 if "rpg2" in words else 2
+    return [sessions.unescaped(it) for it in [*words[begin:], "--format", "json"]]
+
+
+def printed(session: sessions.Session, command: sessions.Command) -> Printed:
+    ended = subprocess.run(
+        ["rpg2", *words_of(command)],
+        executable=session.program.path,
+        cwd=session.folder,
+        stdin=session.given,
+        capture_output=True,
+        timeout=SECONDS,
+        check=False,
+    )
+    return Printed(ended.stdout, ended.stderr, ended.returncode)
+
+
+def fault_of_value(name: str, value: object, rule: dict) -> str | None:
+    """What is wrong with a member of an object."""
+    kind = rule.get("type")
+    if kind and (not isinstance(value, TYPES[kind]) or isinstance(value, bool)):
+        return f"{name} is no {kind}"
+    if "enum" in rule and value not in rule["enum"]:
+        return f"{name} is {value}"
+    if not rule.get("minimum", value) <= value <= rule.get("maximum", value):
+        return f"{name} is {value}"
+    if "pattern" in rule and not re.search(rule["pattern"], value):
+        return f"{name} is {value}"
+    return None
+
+
+def fault_of_object(line: bytes, rules: dict) -> str | None:
+    """What is wrong with a line that should be an object by these rules."""
+    try:
+        found = json.loads(line)
+    except ValueError as why:
+        return f"{why}: {line!r}"
+    if not isinstance(found, dict):
+        return f"no object: {line!r}"
+    missing = [it for it in rules["required"] if it not in found]
+    unknown = [it for it in found if it not in rules["properties"]]
+    if missing or unknown:
+        return f"missing {missing}, unknown {unknown}: {line!r}"
+    faults = [fault_of_value(name, value, rules["properties"][name]) for name, value in found.items()]
+    return next((f"{it}: {line!r}" for it in faults if it), None)
+
+
+def fault_of_answer(line: bytes, status: int, rules: dict) -> str | None:
+    fault = fault_of_object(line, rules)
+    if fault:
+        return fault
+    given = json.loads(line)["status"]
+    return None if given == status else f"status {given} in the answer, and {status} of the command"
+
+
+def answers_in(came: Printed) -> list[bytes]:
+    """The answer: a line of standard error if the job writes to standard output, else the last of that. None of a good end that is quiet."""
+    told = [it for it in came.error.splitlines() if it.startswith(ANSWER)]
+    shown = came.out.splitlines()[-1:]
+    return told or [it for it in shown if it.startswith(ANSWER)]
+
+
+def fault_of(came: Printed, rules: dict) -> str | None:
+    if came.error.startswith(CLAP):
+        return None
+    told = [it for it in came.error.splitlines() if not it.startswith(ANSWER)]
+    answers = answers_in(came)
+    if not answers and came.status != 0:
+        return "no answer"
+    faults = [fault_of_object(it, rules["diagnostic"]) for it in told]
+    faults += [fault_of_answer(it, came.status, rules["answer"]) for it in answers]
+    return next(filter(None, faults), None)
+
+
+def show(program: Program, path: Path, top: Path) -> list[Outcome]:
+    """Obeys the commands of a session, those that have --format with json."""
+    rules = json.loads((top / "docs/diagnostics.schema.json").read_text(encoding="utf-8"))["$defs"]
+    outcomes = []
+    with tempfile.TemporaryDirectory() as name, open(path.with_name("stdin"), "rb", buffering=0) as given:
+        folder = Path(name)
+        sessions.furnish(folder, top)
+        session = sessions.Session(program, folder, given)
+        for command in sessions.commands_in(path):
+            if has_format(command):
+                fault = fault_of(printed(session, command), rules)
+                place = f"{path.name}:{command.number}"
+                outcomes.append(Outcome(place, f"objects: {command.words}", f"\n{fault}" if fault else None))
+            else:
+                session.seen(command)
+    return outcomes
