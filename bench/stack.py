@@ -22,7 +22,7 @@ KINDS = (
     "SHEET-H SHEET-F SHEET-E SHEET-I SHEET-C SHEET-O SHEET-D"
 ).split()
 OF_SOURCES = (["compile", "SRC", "OBJ"], ["check", "SRC"], ["list", "SRC"], ["cards", "SRC", "--short"])
-OF_OBJECTS = (["verify", "OBJ"], ["show", "OBJ"], ["show", "OBJ", "--source", "SRC"], ["run", "OBJ", "/dev/null", "PRINT", "--date", "112676"])
+OF_OBJECTS = (["verify", "OBJ"], ["show", "OBJ", "--rows"], ["show", "OBJ", "--source", "SRC"], ["run", "OBJ", "/dev/null", "PRINT", "--date", "112676"])
 
 
 def answer(words, folder, limit=None):

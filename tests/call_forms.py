@@ -138,5 +138,5 @@ def shown_levels(desk: Desk, call: Call) -> Outcome:
     line, _ = desk.asked("compile", "source", "object")
     if it := re.match(r"card (\d+): F14\n", line):
         return call.told(f"cycle {cards_of_calls[int(it[1])]}")
-    shown = desk.asked("show", "object")[0]
+    shown = desk.asked("show", "--rows", "object")[0]
     return call.told(" ".join(re.findall(r"^ +\d+ +subroutine \d+, level (\d+)$", shown, re.M)))
