@@ -93,18 +93,43 @@ fn args_of<'a>(alloc: Global, words: &[Word]) -> Result<Vec<Arg<'a>>, AllocError
     Ok(args)
 }
 
-/// A command with its words.
-fn command_of<'a>(alloc: Global, row: &CommandWords) -> Result<Command<'a>, AllocError> {
-    let args = args_of(alloc, row.words)?;
+/// A command with these words.
+fn command_with<'a>(
+    alloc: Global,
+    row: &CommandWords,
+    words: &[Word],
+) -> Result<Command<'a>, AllocError> {
+    let args = args_of(alloc, words)?;
     Command::new(alloc, row.name).about(row.about).args(args)
 }
 
-fn commands<'a>(alloc: Global) -> Result<Vec<Command<'a>>, AllocError> {
+/// A command, without its words if another one is named: clap reads only those of the named one.
+fn command_of<'a>(
+    alloc: Global,
+    row: &CommandWords,
+    named: Option<&str>,
+) -> Result<Command<'a>, AllocError> {
+    match named {
+        Some(name) if name != row.name => command_with(alloc, row, &[]),
+        _ => command_with(alloc, row, row.words),
+    }
+}
+
+fn commands<'a>(alloc: Global, named: Option<&str>) -> Result<Vec<Command<'a>>, AllocError> {
     let mut commands = Vec::new(alloc);
     for row in &COMMANDS {
-        commands.push(command_of(alloc, row)?)?;
+        commands.push(command_of(alloc, row, named)?)?;
     }
     Ok(commands)
+}
+
+/// The command that comes first after the program's name. There is none where clap is asked for help.
+pub(crate) fn named_command(words: &[String]) -> Option<&str> {
+    let first = words.get(1)?.as_str();
+    COMMANDS
+        .iter()
+        .any(|row| row.name == first)
+        .then_some(first)
 }
 
 /// What each exit status tells, below the commands.
@@ -129,7 +154,8 @@ fn with_rules<'a>(command: Command<'a>) -> Command<'a> {
         .arg_required_else_help(true)
 }
 
-pub(crate) fn command<'a>(alloc: Global) -> Result<Command<'a>, AllocError> {
-    let commands = commands(alloc)?;
+/// The program's command, with the words of the one that is named, or with those of all if none is.
+pub(crate) fn command<'a>(alloc: Global, named: Option<&str>) -> Result<Command<'a>, AllocError> {
+    let commands = commands(alloc, named)?;
     with_rules(with_statuses(with_texts(Command::new(alloc, "rpg2")))).subcommands(commands)
 }

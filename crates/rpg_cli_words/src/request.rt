@@ -2,7 +2,7 @@
 
 ghost use Rattle.std.specs.Prelude.{◌<◌, ◌≤◌};
 
-use crate::command::command;
+use crate::command::{command, named_command};
 use crate::going::{GoWords, go_words};
 use crate::listing::{CardsWords, ListWords, cards_words, list_words};
 use crate::records::{RecordsWords, bad_value, records_words};
@@ -332,7 +332,7 @@ impl Refusal {
 
 /// A fault of the command line that clap doesn't see, in clap's form.
 fn fault_of_words(alloc: Global, kind: ErrorKind, message: &str) -> Result<Error, AllocError> {
-    command(alloc)?.error(kind, message)
+    command(alloc, None)?.error(kind, message)
 }
 
 /// Refuses words of which one isn't UTF-8.
@@ -441,7 +441,7 @@ fn unread(command: &mut Command<'_>, matches: &ArgMatches<'_>) -> Error {
 }
 
 fn read<'a>(alloc: Global, words: &'a [String]) -> Result<Request<'a>, Error> {
-    let mut command = command(alloc)?;
+    let mut command = command(alloc, named_command(words))?;
     let matches = command.try_get_matches_from_mut(words)?;
     match request_in(&matches) {
         Some(request) => Ok(request),
