@@ -5,7 +5,7 @@ ghost use Rattle.std.specs.Prelude.{◌<◌, ◌≤◌};
 use crate::command::{command, named_command};
 use crate::going::{GoWords, go_words};
 use crate::listing::{CardsWords, ListWords, cards_words, list_words};
-use crate::records::{RecordsWords, bad_value, records_words};
+use crate::records::{RecordsWords, fault_of, records_words};
 use clap::error::ErrorKind;
 use clap::{ArgMatches, Command, Error};
 use std::alloc::{AllocError, Global};
@@ -247,7 +247,7 @@ pub fn is_standard(path: &str) -> bool {
     path == STANDARD
 }
 
-fn may_be_standard(path: Option<&str>) -> bool {
+pub(crate) fn may_be_standard(path: Option<&str>) -> bool {
     match path {
         Some(path) => is_standard(path),
         None => false,
@@ -412,7 +412,53 @@ fn explain_words<'a>(given: &ArgMatches<'a>) -> Request<'a> {
     })
 }
 
+/// The words for sources and object programs, and what is said where one is a standard stream.
+const PROGRAM_FILES: [(&str, &str); 5] = [
+    (
+        "SRC",
+        "'<SRC>' can't be '-', a standard stream; a file of that name is './-'",
+    ),
+    (
+        "OBJ",
+        "'<OBJ>' can't be '-', a standard stream; a file of that name is './-'",
+    ),
+    (
+        "source",
+        "'--source <SRC>' can't be '-', a standard stream; a file of that name is './-'",
+    ),
+    (
+        "by",
+        "'--by <SRC>' can't be '-', a standard stream; a file of that name is './-'",
+    ),
+    (
+        "to",
+        "'--to <SRC>' can't be '-', a standard stream; a file of that name is './-'",
+    ),
+];
+
+/// What is wrong with the words for a source and an object program, if one is a standard stream.
+fn fault_of_program(given: &ArgMatches) -> Option<&'static str> {
+    for (name, fault) in PROGRAM_FILES {
+        if may_be_standard(given.get_str(name)) {
+            return Some(fault);
+        }
+    }
+    None
+}
+
+/// What is wrong with the values of a command that clap takes.
+fn bad_value(matches: &ArgMatches) -> Option<&'static str> {
+    let (name, given) = matches.subcommand()?;
+    match fault_of_program(given) {
+        None if name == "records" => fault_of(given),
+        fault => fault,
+    }
+}
+
 fn request_in<'a>(matches: &ArgMatches<'a>) -> Option<Request<'a>> {
+    if bad_value(matches).is_some() {
+        return None;
+    }
     match matches.subcommand()? {
         ("compile", given) => compile_words(given),
         ("check", given) => check_words(given),
