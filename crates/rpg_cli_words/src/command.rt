@@ -93,32 +93,19 @@ fn args_of<'a>(alloc: Global, words: &[Word]) -> Result<Vec<Arg<'a>>, AllocError
     Ok(args)
 }
 
-/// A command with these words.
-fn command_with<'a>(
-    alloc: Global,
-    row: &CommandWords,
-    words: &[Word],
-) -> Result<Command<'a>, AllocError> {
-    let args = args_of(alloc, words)?;
+/// A command with its words.
+fn command_of<'a>(alloc: Global, row: &CommandWords) -> Result<Command<'a>, AllocError> {
+    let args = args_of(alloc, row.words)?;
     Command::new(alloc, row.name).about(row.about).args(args)
 }
 
-/// A command, without its words if another one is named: clap reads only those of the named one.
-fn command_of<'a>(
-    alloc: Global,
-    row: &CommandWords,
-    named: Option<&str>,
-) -> Result<Command<'a>, AllocError> {
-    match named {
-        Some(name) if name != row.name => command_with(alloc, row, &[]),
-        _ => command_with(alloc, row, row.words),
-    }
-}
-
+/// The command that is named, or all of them if none is: clap reads no other, and each costs it some ten allocations.
 fn commands<'a>(alloc: Global, named: Option<&str>) -> Result<Vec<Command<'a>>, AllocError> {
     let mut commands = Vec::new(alloc);
     for row in &COMMANDS {
-        commands.push(command_of(alloc, row, named)?)?;
+        if named.unwrap_or(row.name) == row.name {
+            commands.push(command_of(alloc, row)?)?;
+        }
     }
     Ok(commands)
 }
@@ -154,7 +141,7 @@ fn with_rules<'a>(command: Command<'a>) -> Command<'a> {
         .arg_required_else_help(true)
 }
 
-/// The program's command, with the words of the one that is named, or with those of all if none is.
+/// The program's command, with the command that is named, or with all of them if none is.
 pub(crate) fn command<'a>(alloc: Global, named: Option<&str>) -> Result<Command<'a>, AllocError> {
     let commands = commands(alloc, named)?;
     with_rules(with_statuses(with_texts(Command::new(alloc, "rpg2")))).subcommands(commands)
