@@ -6,6 +6,8 @@ import select
 import shutil
 import subprocess
 import tempfile
+import time
+from collections.abc import Callable
 from dataclasses import dataclass, field
 from datetime import datetime, timedelta
 from pathlib import Path
@@ -70,7 +72,7 @@ class Session:
         does = getattr(self, f"do_{verb}", None)
         if does is None:
             return b"no such command\n"
-        if verb in ("text", "hex", "prompt"):
+        if verb in ("text", "hex", "prompt", "grows"):
             return does(rest, command.lines)
         return does(*rest.split())
 
@@ -143,7 +145,18 @@ class Session:
 
     def do_prompt(self, words: str, lines: list[str]) -> bytes:
         """Runs rpg2, with one record after another on standard input: the next only once something came for the one before."""
-        with subprocess.Popen(
+        with self.begun(words) as command:
+            return given_each(command, lines, lambda: piece_of(command.stdout))
+
+    def do_grows(self, words: str, lines: list[str]) -> bytes:
+        """As `prompt`, but what comes is what a file grows by."""
+        name, _, words = words.partition(" ")
+        with self.begun(words) as command, open(self.path(name), "w+b", buffering=0) as file:
+            return given_each(command, lines, lambda: growth_of(file))
+
+    def begun(self, words: str) -> subprocess.Popen:
+        """A command that runs. Its input and its output are pipes."""
+        return subprocess.Popen(
             words.split(),
             executable=self.program.path,
             cwd=self.folder,
@@ -151,15 +164,7 @@ class Session:
             stdout=subprocess.PIPE,
             stderr=subprocess.STDOUT,
             bufsize=0,
-        ) as command:
-            said = b""
-            for line in filter(None, lines):
-                command.stdin.write(text_of([line]))
-                is_heard = select.select([command.stdout], [], [], PATIENCE)[0]
-                said += os.read(command.stdout.fileno(), 1 << 16) if is_heard else b"nothing came\n"
-            command.stdin.close()
-            said += command.stdout.read()
-            return said + f"status {command.wait(SECONDS)}\n".encode()
+        )
 
     def do_text(self, name: str, lines: list[str]) -> bytes:
         self.path(name).write_bytes(text_of(lines))
@@ -209,6 +214,32 @@ class Session:
         pages = self.program.run(["explain"], self.folder).text
         is_same = self.path(name).read_bytes().startswith(pages + b"# ")
         return b"the pages of all codes\n" if is_same else b"another text\n"
+
+
+def piece_of(pipe: IO[bytes]) -> bytes:
+    """What comes out of a pipe next."""
+    return os.read(pipe.fileno(), 1 << 16) if select.select([pipe], [], [], PATIENCE)[0] else b""
+
+
+def growth_of(file: IO[bytes]) -> bytes:
+    """What a file that another process writes grows by next."""
+    end = time.monotonic() + PATIENCE
+    while time.monotonic() < end:
+        if grown := file.read():
+            return grown
+        time.sleep(0.001)
+    return b""
+
+
+def given_each(command: subprocess.Popen, lines: list[str], next_piece: Callable[[], bytes]) -> bytes:
+    """Gives a command one record after another, and returns each with what comes before the next is given, without the line feeds around it."""
+    seen = b""
+    for line in filter(None, lines):
+        command.stdin.write(text_of([line]))
+        seen += b"> " + text_of([line]) + (next_piece().strip(b"\n") or b"nothing came") + b"\n"
+    command.stdin.close()
+    rest = command.stdout.read().lstrip(b"\n")
+    return seen + b"> end of file\n" + rest + f"status {command.wait(SECONDS)}\n".encode()
 
 
 def furnish(folder: Path, top: Path) -> None:

@@ -124,12 +124,24 @@ fn command_of<'a>(alloc: Global, row: &CommandWords) -> Result<Command<'a>, Allo
     Command::new(alloc, row.name).about(row.about).args(args)
 }
 
-fn commands<'a>(alloc: Global) -> Result<Vec<Command<'a>>, AllocError> {
+/// The command that is named, or all of them if none is: clap reads no other, and each costs it some ten allocations.
+fn commands<'a>(alloc: Global, named: Option<&str>) -> Result<Vec<Command<'a>>, AllocError> {
     let mut commands = Vec::new(alloc);
     for row in &COMMANDS {
-        commands.push(command_of(alloc, row)?)?;
+        if named.unwrap_or(row.name) == row.name {
+            commands.push(command_of(alloc, row)?)?;
+        }
     }
     Ok(commands)
+}
+
+/// The command that comes first after the program's name. There is none where clap is asked for help.
+pub(crate) fn named_command(words: &[String]) -> Option<&str> {
+    let first = words.get(1)?.as_str();
+    COMMANDS
+        .iter()
+        .any(|row| row.name == first)
+        .then_some(first)
 }
 
 /// What each exit status tells, below the commands.
@@ -156,7 +168,8 @@ fn with_rules<'a>(command: Command<'a>) -> Command<'a> {
         .arg_required_else_help(true)
 }
 
-pub(crate) fn command<'a>(alloc: Global) -> Result<Command<'a>, AllocError> {
-    let commands = commands(alloc)?;
+/// The program's command, with the command that is named, or with all of them if none is.
+pub(crate) fn command<'a>(alloc: Global, named: Option<&str>) -> Result<Command<'a>, AllocError> {
+    let commands = commands(alloc, named)?;
     with_rules(with_statuses(with_texts(Command::new(alloc, "rpg2")))).subcommands(commands)
 }

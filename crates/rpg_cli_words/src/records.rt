@@ -1,6 +1,6 @@
 //! The words of the command that makes lines of records.
 
-use crate::request::{FileWord, Request, is_standard};
+use crate::request::{FileWord, Request, may_be_standard};
 use clap::ArgMatches;
 
 /// Which way records go.
@@ -92,20 +92,12 @@ fn byte_of(text: &str) -> Option<u8> {
     }
 }
 
-/// Whether a file is named that standard output can't stand for.
-fn is_stream(path: Option<&str>) -> bool {
-    match path {
-        Some(path) => is_standard(path),
-        None => false,
-    }
-}
-
 /// What is wrong with a value that clap takes.
-fn fault_of(given: &ArgMatches) -> Option<&'static str> {
-    if is_stream(given.get_str("OUT")) {
+pub(crate) fn fault_of(given: &ArgMatches) -> Option<&'static str> {
+    if may_be_standard(given.get_str("OUT")) {
         return Some("'<OUT>' is a file: what went to standard output can't be taken back");
     }
-    if is_stream(given.get_str("deck")) {
+    if may_be_standard(given.get_str("deck")) {
         return Some("'--deck <NEW>' is a file: what went to standard output can't be taken back");
     }
     match given.get_str("drop") {
@@ -116,18 +108,7 @@ fn fault_of(given: &ArgMatches) -> Option<&'static str> {
     }
 }
 
-/// What is wrong with the values of this command, if the words have it.
-pub(crate) fn bad_value(matches: &ArgMatches) -> Option<&'static str> {
-    match matches.subcommand()? {
-        ("records", given) => fault_of(given),
-        _ => None,
-    }
-}
-
 pub(crate) fn records_words<'a>(given: &ArgMatches<'a>) -> Option<Request<'a>> {
-    if fault_of(given).is_some() {
-        return None;
-    }
     let (deck, way) = deck(given)?;
     let dropped = match given.get_str("drop") {
         Some(text) => byte_of(text),

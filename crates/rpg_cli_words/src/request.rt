@@ -2,12 +2,12 @@
 
 ghost use Rattle.std.specs.Prelude.{◌<◌, ◌≤◌};
 
-use crate::command::command;
+use crate::command::{command, named_command};
 use crate::dates::DateWord;
 use crate::format::{Format, format_of};
 use crate::going::{GoWords, go_words};
 use crate::listing::{CardsWords, ListWords, cards_words, list_words};
-use crate::records::{RecordsWords, bad_value, records_words};
+use crate::records::{RecordsWords, fault_of, records_words};
 use crate::warned::{WarningWords, texts, warning_words};
 use clap::error::ErrorKind;
 use clap::{ArgMatches, Command, Error};
@@ -265,7 +265,7 @@ pub fn is_standard(path: &str) -> bool {
     path == STANDARD
 }
 
-fn may_be_standard(path: Option<&str>) -> bool {
+pub(crate) fn may_be_standard(path: Option<&str>) -> bool {
     match path {
         Some(path) => is_standard(path),
         None => false,
@@ -370,7 +370,7 @@ impl Refusal {
 
 /// A fault of the command line that clap doesn't see, in clap's form.
 fn fault_of_words(alloc: Global, kind: ErrorKind, message: &str) -> Result<Error, AllocError> {
-    command(alloc)?.error(kind, message)
+    command(alloc, None)?.error(kind, message)
 }
 
 /// Refuses words of which one isn't UTF-8.
@@ -460,6 +460,51 @@ fn explain_words<'a>(alloc: Global, given: &ArgMatches<'a>) -> Result<Request<'a
     }))
 }
 
+/// The words for sources and object programs that no standard stream stands for, and what is said where one does.
+const PROGRAM_FILES: [(&str, &str); 4] = [
+    (
+        "OBJ",
+        "'<OBJ>' can't be '-', a standard stream; a file of that name is './-'",
+    ),
+    (
+        "source",
+        "'--source <SRC>' can't be '-', a standard stream; a file of that name is './-'",
+    ),
+    (
+        "by",
+        "'--by <SRC>' can't be '-', a standard stream; a file of that name is './-'",
+    ),
+    (
+        "to",
+        "'--to <SRC>' can't be '-', a standard stream; a file of that name is './-'",
+    ),
+];
+
+/// What is said where the source that is compiled and run is a standard stream.
+const RUN_SOURCE: &str = "'<SRC>' can't be '-', a standard stream; a file of that name is './-'";
+
+/// What is wrong with the words for a source and an object program, if one is a standard stream.
+fn fault_of_program(command: &str, given: &ArgMatches) -> Option<&'static str> {
+    if command == "go" && may_be_standard(given.get_str("SRC")) {
+        return Some(RUN_SOURCE);
+    }
+    for (name, fault) in PROGRAM_FILES {
+        if may_be_standard(given.get_str(name)) {
+            return Some(fault);
+        }
+    }
+    None
+}
+
+/// What is wrong with the values of a command that clap takes.
+fn bad_value(matches: &ArgMatches) -> Option<&'static str> {
+    let (command, given) = matches.subcommand()?;
+    match fault_of_program(command, given) {
+        None if command == "records" => fault_of(given),
+        fault => fault,
+    }
+}
+
 /// The request of a command whose words need no memory.
 fn plain_request<'a>(name: &str, given: &ArgMatches<'a>) -> Option<Request<'a>> {
     match name {
@@ -479,6 +524,9 @@ fn request_in<'a>(
     alloc: Global,
     matches: &ArgMatches<'a>,
 ) -> Result<Option<Request<'a>>, AllocError> {
+    if bad_value(matches).is_some() {
+        return Ok(None);
+    }
     match matches.subcommand() {
         Some(("check", given)) => check_words(alloc, given),
         Some(("explain", given)) => Ok(Some(explain_words(alloc, given)?)),
@@ -500,7 +548,7 @@ fn unread(command: &mut Command<'_>, matches: &ArgMatches<'_>) -> Error {
 }
 
 fn read<'a>(alloc: Global, words: &'a [String]) -> Result<Request<'a>, Error> {
-    let mut command = command(alloc)?;
+    let mut command = command(alloc, named_command(words))?;
     let matches = command.try_get_matches_from_mut(words)?;
     match request_in(alloc, &matches)? {
         Some(request) => Ok(request),
