@@ -1,26 +1,28 @@
 //! The command that compiles a source and runs it.
 
-use crate::jobs::{run_bytes, tell_refused};
-use crate::judging::compiled;
+use crate::jobs::run_own;
+use crate::refusing::tell_wanted;
 use crate::sources::{OwnSource, tell_faults};
-use rpg_cli_answers::{Listener, Stop, named};
+use rpg_cli_answers::{Answer, Listener, Stop, named};
 use rpg_cli_files::file_bytes;
 use rpg_cli_words::{FileWord, GoWords};
 use rpg_engine::Report;
+use rpg_source_run::CompiledSource;
 use std::rt::Files;
 
-/// Runs the program of a source. The diagnostic of a halt has cards and names.
+/// Runs a compiled source. The diagnostic of a halt has cards and names.
 fn run_compiled<R: Files + Input + Print + AllocGlobal, L: Listener>(
     rt: &R,
     words: &GoWords,
-    text: Vec<u8>,
-    object: &[u8],
+    compiled: CompiledSource,
     listener: &mut L,
 ) -> Result<Report, Stop> {
-    let source = OwnSource::of(rt.alloc(), words.run.object, text)?;
-    let ran = run_bytes(rt, &words.run, object, Some(&source), listener);
+    let path = words.run.object;
+    let source = OwnSource::of(rt.alloc(), path, compiled)?;
+    let ran = run_own(rt, &words.run, &source, listener);
     if let Err(Stop::Answer(answer)) = ran {
-        tell_refused(rt.alloc(), &words.run, object, answer, listener);
+        let program = source.compiled.program().program();
+        tell_wanted(rt.alloc(), path, program, answer, listener);
     }
     ran
 }
@@ -35,11 +37,11 @@ pub fn go_files<R: Files + Input + Print + AllocGlobal, L: Listener>(
         return Err(same.into());
     }
     let text = named(FileWord::Source, file_bytes(rt, words.run.object))?;
-    match compiled(rt.alloc(), &text, words.allowance) {
-        Ok(object) => run_compiled(rt, words, text, &object, listener),
-        Err(answer) => {
+    match CompiledSource::new(rt.alloc(), text, words.allowance) {
+        Ok(compiled) => run_compiled(rt, words, compiled, listener),
+        Err((text, fault)) => {
             tell_faults(rt.alloc(), words.run.object, &text, words.faults, listener);
-            Err(answer.into())
+            Err(Answer::Source(fault).into())
         }
     }
 }
