@@ -2,10 +2,13 @@
 """Which definitions a contract rests on: those that its clauses name, and those that these name in turn.
 
 usage, at the top of the repository:
-    bench/reading.py [execute|compile|meaning]
+    bench/reading.py [execute|compile|meaning|shared]
 
 For each contract it prints its crates in the order of crates.txt, with the files of specs/ that have such definitions (a file after those
 that it uses) and how many definitions and lines these are, without comments and `use` lines. docs/develop/READING.md has the lists.
+
+`shared` prints the definitions that the compiled program is made of: first those that the meaning of cards isn't made of, so that the proof
+compares them with it, and then those that are one text for both. docs/develop/PROOFS.md has the counts.
 """
 
 import re
@@ -15,12 +18,15 @@ from functools import cache
 from graphlib import TopologicalSorter
 from pathlib import Path
 
-# a contract: the file and the name of its function
+# a contract: the file, the name of its function, and clauses that are left out, because another list has what they rest on
 CONTRACTS = {
-    "execute": ("crates/rpg_engine/src/engine.rt", "execute"),
-    "compile": ("crates/rpg_compile/src/source.rt", "compile"),
-    "meaning": ("crates/rpg_source_run/src/run.rt", "run_source"),
+    "execute": ("crates/rpg_engine/src/engine.rt", "execute", ()),
+    "compile": ("crates/rpg_compile/src/source.rt", "compile", ()),
+    "meaning": ("crates/rpg_source_run/src/run.rt", "run_source", ("headline", "report", "early")),
 }
+# the program that is compiled, and what its run is compared with
+PROGRAM = [(("rpg_compile_program", "Program"), "program_of")]
+MEANING = [(("rpg_meaning", "Sources"), "job_of"), (("rpg_meaning", "Start"), "IsStart"), (("rpg_meaning", "Runs"), "IsMeantRun")]
 USE = re.compile(r"^\s*(?:ghost )?(?:pub )?use Rattle\.(\w+)\.specs\.([\w.]+?)(?:\.\{(.*)\}|\s+as\s+(\S+?))?;?\s*$")
 WORD = re.compile(r"[^\s(){}\[\],;λ→:]+")
 
@@ -100,11 +106,13 @@ def followed(module, name):
     return followed(*it.names[name]) if name in it.names else None
 
 
-def roots(file, function):
+def roots(file, function, left_out):
     """The definitions that the clauses of a function name."""
     text = Path(file).read_text(encoding="utf-8")
     names, modules = uses_of(text.split("\n"))
     clauses = re.search(rf"^pub fn {function}\b.*?^{{", text, re.M | re.S)[0]
+    for clause in left_out:
+        clauses = re.sub(rf"^    ensures {clause} .*\n", "", clauses, flags=re.M)
     for word in WORD.findall(clauses):
         front, _, rest = word.partition(".")
         if word in names and (it := followed(*names[word])):
@@ -136,9 +144,11 @@ def in_order(modules):
     return list(TopologicalSorter(dict(sorted(above.items()))).static_order())
 
 
-def printed(name):
-    definitions = reached(roots(*CONTRACTS[name]))
-    lines = lambda them: sum(len(module_at(module).own[it]) for module, it in them)
+def lines(definitions):
+    return sum(len(module_at(module).own[it]) for module, it in definitions)
+
+
+def printed(name, definitions):
     crates = [line.partition(":")[0] for line in Path("crates.txt").read_text(encoding="utf-8").splitlines() if line.startswith("rpg")]
     files = {module for module, _ in definitions}
     print(f"{name}: {len(definitions)} definitions in {len(files)} files, {lines(definitions)} lines")
@@ -149,8 +159,13 @@ def printed(name):
 
 
 def main():
-    for name in sys.argv[1:] or CONTRACTS:
-        printed(name)
+    for name in sys.argv[1:] or [*CONTRACTS, "shared"]:
+        if name == "shared":
+            program, meaning = reached(PROGRAM), reached(MEANING)
+            printed("compared", program - meaning)
+            printed("shared", program & meaning)
+        else:
+            printed(name, reached(roots(*CONTRACTS[name])))
 
 
 if __name__ == "__main__":

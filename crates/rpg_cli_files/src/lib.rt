@@ -15,7 +15,7 @@ pub use files::{
     FileFault, FileIdentity, file_bytes, flush_device, identity, identity_at, input_file,
     output_file,
 };
-pub use matching::compiles_to;
+pub use matching::is_written_as;
 pub use pending::{KeptFile, Pending, kept_file};
 pub use reason::Reason;
 pub use replacing::write_bytes;

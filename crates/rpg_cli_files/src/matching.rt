@@ -1,25 +1,17 @@
-//! Whether a source is that of an object program.
+//! Whether bytes are those of a program.
 
-ghost use Rattle.std.specs.Prelude.{◌<◌, IfErr, IfOk};
+ghost use Rattle.std.specs.Prelude.{◌≡◌, ◌≢◌, IfOk};
 ghost use Rattle.std.specs.Bool.{MatchBool};
-ghost use Rattle.rpg_cli_files.specs.Spelling.{CompilesTo, CompilesToOther};
-ghost use Rattle.rpg_faults.specs.Source.{IsSourceRefusal};
+ghost use Rattle.rpg_object.specs.Program.{spelling};
 
-use crate::translation::compile_to_bytes;
-use rpg_compile::SourceFault;
-use std::alloc::Global;
+use rpg_object::encode;
+use rpg_object_program::Program;
+use std::alloc::{AllocError, Global};
 
-/// Whether a source is compiled to these bytes, or why it isn't compiled.
-pub fn compiles_to(
-    alloc: Global,
-    text: &[u8],
-    allowance: u16,
-    bytes: &[u8],
-) -> Result<bool, SourceFault>
-    requires { 0 < allowance }
-    ensures compiled { IfOk result (λ is_same. MatchBool is_same (CompilesTo text.now allowance bytes.now) (CompilesToOther text.now allowance bytes.now)) }
-    ensures refused { IfErr result (λ fault. IsSourceRefusal fault text.now) }
+/// Whether a program is written as these very bytes.
+pub fn is_written_as(alloc: Global, program: &Program, bytes: &[u8]) -> Result<bool, AllocError>
+    ensures { IfOk result (λ is_same. MatchBool is_same (spelling program.now ≡ bytes.now) (spelling program.now ≢ bytes.now)) }
 {
-    let compiled = compile_to_bytes(alloc, text, allowance)?;
-    Ok(compiled.as_slice() == bytes)
+    let written = encode(alloc, program)?;
+    Ok(written.as_slice() == bytes)
 }

@@ -20,7 +20,13 @@ abbrev pub TellsObject : Answer → List ℕ → Type 0
 TellsObject (answers.Object fault) bytes = HasObjectFault fault bytes
 TellsObject e bytes = ⊥
 
--- the bound of an accepted program is greater than what the words allow; or the program was refused, or the date is none
+-- the bound of an accepted program is greater than what the words allow; or the date is none
+abbrev pub BreaksBound : Answer → Object → ℕ → Type 0
+BreaksBound (answers.OverLimit most_steps) p most = (most < most_steps) × (most_steps ≡ bound p)
+BreaksBound (answers.Run fault) p most = fault ≡ runs.BadDate
+BreaksBound e p most = ⊥
+
+-- the same of a program that may have been refused
 abbrev pub BreaksLimit : Answer → Result Object ObjectFault → ℕ → Type 0
 BreaksLimit (answers.OverLimit most_steps) accepted most = (most < most_steps) × IfOk accepted (λ p. most_steps ≡ bound p)
 BreaksLimit (answers.Object fault) accepted most = accepted ≡ Err fault

@@ -1,28 +1,30 @@
 //! The command that compiles a source and runs it.
 
-use crate::jobs::{run_bytes, tell_refused};
-use crate::judging::compiled;
+use crate::jobs::run_own;
+use crate::refusing::tell_wanted;
 use crate::sources::{OwnSource, tell_faults};
 use crate::warned::judge_warnings;
 use rpg_cli_answers::{Answer, Listener, Stop, named};
 use rpg_cli_files::file_bytes;
 use rpg_cli_words::{FileWord, GoWords};
 use rpg_engine::Report;
+use rpg_source_run::CompiledSource;
 use std::alloc::Global;
 use std::rt::Files;
 
-/// Runs the program of a source. The diagnostic of a halt has cards and names.
+/// Runs a compiled source. The diagnostic of a halt has cards and names.
 fn run_compiled<R: Files + Input + Print + AllocGlobal, L: Listener>(
     rt: &R,
     words: &GoWords,
-    text: Vec<u8>,
-    object: &[u8],
+    compiled: CompiledSource,
     listener: &mut L,
 ) -> Result<Report, Stop> {
-    let source = OwnSource::of(rt.alloc(), words.run.object, text)?;
-    let ran = run_bytes(rt, &words.run, object, Some(&source), listener);
+    let path = words.run.object;
+    let source = OwnSource::of(rt.alloc(), path, compiled)?;
+    let ran = run_own(rt, &words.run, &source, listener);
     if let Err(Stop::Answer(answer)) = ran {
-        tell_refused(rt.alloc(), &words.run, object, answer, listener);
+        let program = source.compiled.program().program();
+        tell_wanted(rt.alloc(), path, program, answer, listener);
     }
     ran
 }
@@ -51,12 +53,12 @@ pub fn go_files<R: Files + Input + Print + AllocGlobal, L: Listener>(
         return Err(same.into());
     }
     let text = named(FileWord::Source, file_bytes(rt, words.run.object))?;
-    match compiled(rt.alloc(), &text, words.allowance) {
-        Ok(object) => {
-            deny_warned(rt.alloc(), words, &text, listener)?;
-            run_compiled(rt, words, text, &object, listener)
+    match CompiledSource::new(rt.alloc(), text, words.allowance) {
+        Ok(compiled) => {
+            deny_warned(rt.alloc(), words, compiled.text(), listener)?;
+            run_compiled(rt, words, compiled, listener)
         }
-        Err(answer) => {
+        Err((text, fault)) => {
             tell_faults(
                 rt.alloc(),
                 words.run.object,
@@ -64,7 +66,7 @@ pub fn go_files<R: Files + Input + Print + AllocGlobal, L: Listener>(
                 words.warnings.most,
                 listener,
             );
-            Err(answer.into())
+            Err(Answer::Source(fault).into())
         }
     }
 }

@@ -4,8 +4,8 @@ use rpg_cli_answers::Listener;
 use rpg_cli_files::{identity_at, input_file};
 use rpg_cli_halts::{HaltedCycle, HaltedSource, InputNames, halt_message};
 use rpg_cli_words::RunWords;
-use rpg_engine::{JobEnd, Report, Verified, accept, decode_object};
-use std::alloc::{AllocError, Global};
+use rpg_engine::{JobEnd, Report, Verified};
+use std::alloc::AllocError;
 use std::io::{BufRead, BufReader};
 use std::rt::Files;
 
@@ -57,17 +57,11 @@ fn halt_of(report: Report) -> Option<HaltedCycle> {
     }
 }
 
-/// The accepted program that the bytes of an object file spell.
-fn program_of(alloc: Global, object: &[u8]) -> Option<Verified> {
-    let program = decode_object(alloc, object).ok()?;
-    accept(alloc, program).ok()
-}
-
-/// Tells where a job halted, if it did: over the records that the words name, by the program that these bytes spell.
+/// Reports where a job halted, if it did: over the records that the words name.
 pub(crate) fn tell_halt<R: Files + AllocGlobal, L: Listener>(
     rt: &R,
     words: &RunWords,
-    object: &[u8],
+    program: &Verified,
     report: Report,
     source: Option<HaltedSource<'_>>,
     listener: &mut L,
@@ -75,10 +69,7 @@ pub(crate) fn tell_halt<R: Files + AllocGlobal, L: Listener>(
     let Some(halted) = halt_of(report) else {
         return;
     };
-    let Some(program) = program_of(rt.alloc(), object) else {
-        return;
-    };
-    if let Ok(message) = halted_message(rt, words, &program, halted, source) {
+    if let Ok(message) = halted_message(rt, words, program, halted, source) {
         listener.tell(message.as_str());
     }
 }

@@ -1,15 +1,16 @@
 //! The command that runs an object program over its files.
 
-ghost use Rattle.std.specs.Prelude.{◌≤◌, IfErr, IfOk, IfSome, OnOk};
-ghost use Rattle.rpg_cli_run.specs.Judging.{BreaksLimit};
+ghost use Rattle.std.specs.Prelude.{◌≤◌, ◌-◌, ◌^◌, ◌<◌, IfErr, IfOk, IfSome, OnOk};
+ghost use Rattle.rpg_cli_run.specs.Judging.{BreaksBound, BreaksLimit};
 ghost use Rattle.rpg_engine.specs.Bound.{bound};
 ghost use Rattle.rpg_engine.specs.Objects.{HasObjectFault, SpellsProgram};
+ghost use Rattle.rpg_files.specs.Counting.{faults_of};
 
 use crate::dating::has_date;
 use crate::halting::tell_halt;
 use crate::keeping::Kept;
-use crate::refusing::{tell_object, tell_wanted};
-use crate::running::run_over;
+use crate::refusing::tell_refused;
+use crate::running::{run_over, run_source_over};
 use crate::sharing::{NamedFile, refuse_same_file};
 use crate::sources::{OwnSource, own_source};
 use rpg_cli_answers::{Answer, Listener, Reasons, Stop, named};
@@ -17,12 +18,14 @@ use rpg_cli_files::{
     KeptFile, LineTarget, Opened, Pending, RecordSource, file_bytes, input_file, kept_file, lines,
     output_file, records,
 };
+use rpg_cli_halts::HaltedSource;
 use rpg_cli_words::{FileWord, RunWords, is_standard};
 use rpg_engine::{
     ObjectFault, Program, Report, RunFault, Verified, accept, decode_object, has_disk_file,
     has_secondary_file,
 };
 use rpg_files::Counted;
+use rpg_source_run::CompiledSource;
 use std::alloc::Global;
 use std::fs::OpenFile;
 use std::io::{Printer, Read, Write};
@@ -74,6 +77,22 @@ fn is_date(text: &str) -> bool {
     text.len() == 6 && text.bytes().all(|b| b.is_ascii_digit())
 }
 
+/// Whether an accepted program may run: the date is checked before its bound.
+fn keeps_bound(program: &Verified, date: &str, most: u64) -> Result<(), Answer>
+    ensures kept { OnOk result (bound program.now ≤ most) }
+    ensures refused { IfErr result (λ answer. BreaksBound answer program.now most) }
+{
+    if !is_date(date) {
+        return Err(Answer::Run(RunFault::BadDate));
+    }
+    if program.bound() > most {
+        return Err(Answer::OverLimit {
+            bound: program.bound(),
+        });
+    }
+    Ok(())
+}
+
 /// Whether a program may run: the rules and the date are checked before its bound.
 fn keeps_limit(
     accepted: &Result<Verified, ObjectFault>,
@@ -85,11 +104,7 @@ fn keeps_limit(
 {
     match accepted {
         Err(fault) => Err(Answer::Object(*fault)),
-        Ok(_) if !is_date(date) => Err(Answer::Run(RunFault::BadDate)),
-        Ok(program) if program.bound() > most => Err(Answer::OverLimit {
-            bound: program.bound(),
-        }),
-        Ok(_) => Ok(()),
+        Ok(program) => keeps_bound(program, date, most),
     }
 }
 
@@ -203,10 +218,65 @@ fn emptied_devices<R: Files + Input + Print>(
     })
 }
 
-/// Runs an accepted program over its devices. Where one of them failed, the reason comes with the answer.
+/// What a run runs.
+#[derive(Clone, Copy)]
+enum Runnable<'a> {
+    /// The program of an object file.
+    Object(&'a Verified),
+    /// A source, by the program that it compiles to.
+    Source(&'a OwnSource<'a>),
+}
+
+impl<'a> Runnable<'a> {
+    fn program(self) -> &'a Verified {
+        match self {
+            Runnable::Object(program) => program,
+            Runnable::Source(source) => source.compiled.program(),
+        }
+    }
+
+    /// The source, for the diagnostic of a halt.
+    fn halted(self) -> Option<HaltedSource<'a>> {
+        match self {
+            Runnable::Object(_) => None,
+            Runnable::Source(source) => Some(source.halted()),
+        }
+    }
+}
+
+/// Runs a program, or a source, over counted devices.
+fn run_counted<I: Read, S: Read, P: Write, D: Write>(
+    alloc: Global,
+    runnable: Runnable<'_>,
+    date: &[u8],
+    input: &mut Counted<I>,
+    secondary: &mut Counted<S>,
+    print: &mut Counted<P>,
+    disk: &mut Counted<D>,
+) -> Result<Report, Answer>
+    requires input { faults_of input.old < 2 ^ 64 - 1 }
+    requires secondary { faults_of secondary.old < 2 ^ 64 - 1 }
+    requires print { faults_of print.old < 2 ^ 64 - 1 }
+    requires disk { faults_of disk.old < 2 ^ 64 - 1 }
+{
+    match runnable {
+        Runnable::Object(program) => run_over(alloc, program, date, input, secondary, print, disk),
+        Runnable::Source(source) => run_source_over(
+            alloc,
+            &source.compiled,
+            date,
+            input,
+            secondary,
+            print,
+            disk,
+        ),
+    }
+}
+
+/// Runs a program, or a source, over its devices. Where one of them failed, the reason comes with the answer.
 fn run_devices<F: Read + Write + OpenFile + Drop, S: Read + Drop, P: Write + Drop>(
     alloc: Global,
-    program: &Verified,
+    runnable: Runnable<'_>,
     date: &[u8],
     devices: Devices<F, S, P>,
 ) -> Result<Report, Stop> {
@@ -220,9 +290,9 @@ fn run_devices<F: Read + Write + OpenFile + Drop, S: Read + Drop, P: Write + Dro
     let mut secondary = Counted::new(secondary);
     let mut print = Counted::new(print);
     let mut disk = Counted::new(disk);
-    let ran = run_over(
+    let ran = run_counted(
         alloc,
-        program,
+        runnable,
         date,
         &mut input,
         &mut secondary,
@@ -243,11 +313,11 @@ fn run_devices<F: Read + Write + OpenFile + Drop, S: Read + Drop, P: Write + Dro
     }
 }
 
-/// Opens the files of a run, empties those that are written, and runs the program over them, if it was accepted.
-fn run_program<'a, R: Files + Input + Print + AllocGlobal>(
+/// Opens the files of a run, empties those that are written, and runs what was accepted over them.
+fn run_opened<'a, R: Files + Input + Print + AllocGlobal>(
     rt: &R,
     words: &RunWords<'a>,
-    accepted: Result<Verified, ObjectFault>,
+    accepted: Result<Runnable<'_>, ObjectFault>,
     wanted: WantedFiles<'a>,
     kept: &mut Kept<'a>,
 ) -> Result<Report, Stop> {
@@ -255,9 +325,26 @@ fn run_program<'a, R: Files + Input + Print + AllocGlobal>(
     keep_files(rt, words, &files, kept)?;
     let devices = emptied_devices(rt, files)?;
     match accepted {
-        Ok(program) => run_devices(rt.alloc(), &program, words.date_text().as_bytes(), devices),
+        Ok(runnable) => run_devices(rt.alloc(), runnable, words.date_text().as_bytes(), devices),
         Err(fault) => Err(Answer::Object(fault).into()),
     }
+}
+
+/// Runs what was accepted over its files, and reports where its job halted.
+fn run_accepted<R: Files + Input + Print + AllocGlobal, L: Listener>(
+    rt: &R,
+    words: &RunWords,
+    accepted: Result<Runnable<'_>, ObjectFault>,
+    wanted: WantedFiles<'_>,
+    listener: &mut L,
+) -> Result<Report, Stop> {
+    let mut kept = Kept::new();
+    let ran = run_opened(rt, words, accepted, wanted, &mut kept);
+    if let (Ok(report), Ok(runnable)) = (ran, accepted) {
+        let program = runnable.program();
+        tell_halt(rt, words, program, report, runnable.halted(), listener);
+    }
+    kept.finish(rt, ran, listener)
 }
 
 /// The program of a run, accepted or refused, and the files that it needs besides those that every run has.
@@ -285,43 +372,62 @@ fn program_of<'a>(
     Ok((accepted, wanted))
 }
 
-/// Runs the object program of these bytes. Rules and date are checked once its files are open, unless the arguments name a limit or keep files.
-fn run_object<'a, R: Files + Input + Print + AllocGlobal>(
-    rt: &R,
+/// The files that the program of a compiled source needs besides those that every run has. A date that is needed, the date and the limit are checked next,
+/// as for an object.
+fn source_files<'a>(
     words: &RunWords<'a>,
+    compiled: &CompiledSource,
+) -> Result<WantedFiles<'a>, Answer>
+    ensures limit { OnOk result (IfSome words.now.most (λ most. bound compiled.now.program ≤ most)) }
+{
+    let program = compiled.program();
+    let wanted = WantedFiles::of(program.program(), words)?;
+    has_date(program.program(), words.date)?;
+    if let Some(most) = words.most {
+        keeps_bound(program, words.date_text(), most)?;
+    } else if words.keeps {
+        keeps_bound(program, words.date_text(), u64::MAX)?;
+    }
+    Ok(wanted)
+}
+
+/// Runs a compiled source over its files.
+pub(crate) fn run_own<R: Files + Input + Print + AllocGlobal, L: Listener>(
+    rt: &R,
+    words: &RunWords,
+    source: &OwnSource<'_>,
+    listener: &mut L,
+) -> Result<Report, Stop> {
+    let wanted = source_files(words, &source.compiled)?;
+    run_accepted(rt, words, Ok(Runnable::Source(source)), wanted, listener)
+}
+
+/// Runs the object program of these bytes. Rules and date are checked once its files are open, unless the arguments name a limit or keep files.
+fn run_object<R: Files + Input + Print + AllocGlobal, L: Listener>(
+    rt: &R,
+    words: &RunWords,
     object: &[u8],
-    kept: &mut Kept<'a>,
+    listener: &mut L,
 ) -> Result<Report, Stop> {
     let (accepted, wanted) = program_of(rt.alloc(), words, object)?;
-    run_program(rt, words, accepted, wanted, kept)
+    let runnable = match &accepted {
+        Ok(program) => Ok(Runnable::Object(program)),
+        Err(fault) => Err(*fault),
+    };
+    run_accepted(rt, words, runnable, wanted, listener)
 }
 
-/// Runs the object program of these bytes, and reports where its job halted.
-pub(crate) fn run_bytes<R: Files + Input + Print + AllocGlobal, L: Listener>(
+/// Runs the object program of these bytes, or the source that the words name, once it is found to be the object's.
+fn run_named<R: Files + Input + Print + AllocGlobal, L: Listener>(
     rt: &R,
     words: &RunWords,
     object: &[u8],
-    source: Option<&OwnSource<'_>>,
     listener: &mut L,
 ) -> Result<Report, Stop> {
-    let mut kept = Kept::new();
-    let ran = run_object(rt, words, object, &mut kept);
-    if let Ok(report) = ran {
-        let source = source.map(|source| source.halted());
-        tell_halt(rt, words, object, report, source, listener);
+    match own_source(rt, words.source, object, listener)? {
+        Some(source) => run_own(rt, words, &source, listener),
+        None => run_object(rt, words, object, listener),
     }
-    kept.finish(rt, ran, listener)
-}
-
-/// Runs the object program of these bytes. The source that the words name is read before.
-fn run_and_tell<R: Files + Input + Print + AllocGlobal, L: Listener>(
-    rt: &R,
-    words: &RunWords,
-    object: &[u8],
-    listener: &mut L,
-) -> Result<Report, Stop> {
-    let source = own_source(rt, words.source, object, listener)?;
-    run_bytes(rt, words, object, source.as_ref(), listener)
 }
 
 /// Runs an object program over its files, and reports what is wrong with one that is rejected, and where its job halted.
@@ -334,26 +440,9 @@ pub fn run_files<R: Files + Input + Print + AllocGlobal, L: Listener>(
         return Err(same.into());
     }
     let object = named(FileWord::Object, file_bytes(rt, words.object))?;
-    let ran = run_and_tell(rt, words, &object, listener);
+    let ran = run_named(rt, words, &object, listener);
     if let Err(Stop::Answer(answer)) = ran {
-        tell_refused(rt.alloc(), words, &object, answer, listener);
+        tell_refused(rt.alloc(), words.object, &object, answer, listener);
     }
     ran
-}
-
-/// Reports what is wrong with a program that is rejected, or which file it needs.
-pub(crate) fn tell_refused<L: Listener>(
-    alloc: Global,
-    words: &RunWords,
-    object: &[u8],
-    answer: Answer,
-    listener: &mut L,
-) {
-    match answer {
-        Answer::Object(fault) => tell_object(alloc, words.object, object, fault, listener),
-        Answer::DiskFileWanted | Answer::SecondaryFileWanted | Answer::DateWanted => {
-            tell_wanted(alloc, words.object, object, answer, listener)
-        }
-        _ => {}
-    }
 }

@@ -1,13 +1,15 @@
 //! Sources and object programs by their bytes.
 
-ghost use Rattle.std.specs.Prelude.{◌≡◌, ◌<◌, IfErr, IfOk, OnOk};
+ghost use Rattle.std.specs.Prelude.{◌≡◌, ◌<◌, IfErr, IfOk};
 ghost use Rattle.rpg_cli_run.specs.Judging.{IsSourceOf, TellsMismatch, TellsObject, TellsSource};
 ghost use Rattle.rpg_cli_files.specs.Spelling.{CompilesTo};
 ghost use Rattle.rpg_engine.specs.Objects.{IsAcceptedWith};
 
 use rpg_cli_answers::Answer;
-use rpg_cli_files::{compile_to_bytes, compiles_to};
+use rpg_cli_files::{SourceFault, compile_to_bytes, is_written_as};
 use rpg_engine::{Program, decode_object, verify_bytes};
+use rpg_object::laws::a_spelling_is_read_again;
+use rpg_source_run::CompiledSource;
 use std::alloc::Global;
 
 /// The bytes of the object program that a source is compiled to.
@@ -35,15 +37,27 @@ fn allowance_of(program: &Program) -> u16
     program.rows().allowance
 }
 
-/// Whether a source is that of the object program that the bytes spell: it is compiled to these very bytes.
-pub(crate) fn matched(alloc: Global, source: &[u8], object: &[u8]) -> Result<(), Answer>
-    ensures matched { OnOk result (IsSourceOf source.now object.now) }
-    ensures refused { IfErr result (λ answer. TellsMismatch answer source.now object.now) }
+/// The source of the object program that the bytes spell: it is compiled to these very bytes. Any other text is handed back.
+pub(crate) fn matched(
+    alloc: Global,
+    text: Vec<u8>,
+    object: &[u8],
+) -> Result<CompiledSource, (Vec<u8>, Answer)>
+    ensures matched { IfOk result (λ source. IsSourceOf text.items object.now × (source.text ≡ text)) }
+    ensures refused { IfErr result (λ e. TellsMismatch e.1 text.items object.now × (e.0 ≡ text)) }
 {
-    let program = decode_object(alloc, object)?;
-    if compiles_to(alloc, source, allowance_of(&program), object)? {
-        Ok(())
-    } else {
-        Err(Answer::OtherSource)
+    a_spelling_is_read_again();
+    let program = match decode_object(alloc, object) {
+        Ok(program) => program,
+        Err(fault) => return Err((text, fault.into())),
+    };
+    let source = match CompiledSource::new(alloc, text, allowance_of(&program)) {
+        Ok(source) => source,
+        Err((text, fault)) => return Err((text, fault.into())),
+    };
+    match is_written_as(alloc, source.program().program(), object) {
+        Ok(true) => Ok(source),
+        Ok(false) => Err((source.into_text(), Answer::OtherSource)),
+        Err(_) => Err((source.into_text(), SourceFault::NoMemory.into())),
     }
 }

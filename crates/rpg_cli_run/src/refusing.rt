@@ -3,48 +3,65 @@
 use rpg_cli_answers::{Answer, Listener};
 use rpg_cli_refusals::{bytes_message, rule_message};
 use rpg_cli_text::TextWriter;
-use rpg_engine::{ObjectFault, decode_object};
+use rpg_engine::{ObjectFault, Program, decode_object};
 use std::alloc::{AllocError, Global};
 
 fn wanted_message(
     alloc: Global,
     path: &str,
-    object: &[u8],
+    program: &Program,
     answer: Answer,
 ) -> Result<String, AllocError> {
     let mut out = TextWriter::new(alloc);
-    if let Ok(program) = decode_object(alloc, object) {
-        let rows = program.rows();
-        out.write_shown(path.as_bytes());
-        match answer {
-            Answer::DiskFileWanted => write!(
-                out,
-                " writes a disk file of {} columns: name it with --disk FILE\n",
-                rows.disk_length
-            ),
-            Answer::DateWanted => out.write_str(
-                " uses the date: give --date today, or six digits, as --date 112376\n",
-            ),
-            _ => write!(
-                out,
-                " reads a secondary file of {} columns: name it with --secondary FILE\n",
-                rows.secondary_length
-            ),
-        }
+    let rows = program.rows();
+    out.write_shown(path.as_bytes());
+    match answer {
+        Answer::DiskFileWanted => write!(
+            out,
+            " writes a disk file of {} columns: name it with --disk FILE\n",
+            rows.disk_length
+        ),
+        Answer::DateWanted => out
+            .write_str(" uses the date: give --date today, or six digits, as --date 112376\n"),
+        _ => write!(
+            out,
+            " reads a secondary file of {} columns: name it with --secondary FILE\n",
+            rows.secondary_length
+        ),
     }
     out.finish()
 }
 
-/// Reports which file a program needs that the arguments don't name.
+/// Reports which file or date a program needs that the arguments don't name, if the answer says that it needs one.
 pub(crate) fn tell_wanted<L: Listener>(
+    alloc: Global,
+    path: &str,
+    program: &Program,
+    answer: Answer,
+    listener: &mut L,
+) {
+    match answer {
+        Answer::DiskFileWanted | Answer::SecondaryFileWanted | Answer::DateWanted => {
+            if let Ok(message) = wanted_message(alloc, path, program, answer) {
+                listener.tell(message.as_str());
+            }
+        }
+        _ => {}
+    }
+}
+
+/// Reports what is wrong with the bytes of an object program that is rejected, or what it needs.
+pub(crate) fn tell_refused<L: Listener>(
     alloc: Global,
     path: &str,
     object: &[u8],
     answer: Answer,
     listener: &mut L,
 ) {
-    if let Ok(message) = wanted_message(alloc, path, object, answer) {
-        listener.tell(message.as_str());
+    if let Answer::Object(fault) = answer {
+        tell_object(alloc, path, object, fault, listener);
+    } else if let Ok(program) = decode_object(alloc, object) {
+        tell_wanted(alloc, path, &program, answer, listener);
     }
 }
 

@@ -6,13 +6,16 @@ ghost use Rattle.rpg_engine.specs.Devices.{EndsWellOn, ReportsOn, SendsPartsOn};
 ghost use Rattle.rpg_engine.specs.Faults.{device_counts};
 ghost use Rattle.rpg_engine.specs.Refusing.{IsToldOfDate};
 ghost use Rattle.rpg_engine.specs.Starting.{date_in};
+ghost use Rattle.rpg_faults.specs.Source.{cards_in};
 ghost use Rattle.rpg_files.specs.Counting.{device_of, faults_of};
+ghost use Rattle.rpg_source_run.specs.Running.{HasNoSecondary, IsFaultless, PrintsOn, StopsOn};
 
 use rpg_cli_answers::{Answer, named};
 use rpg_cli_files::flush_device;
 use rpg_cli_words::FileWord;
 use rpg_engine::{Report, Verified, execute_program};
 use rpg_files::Counted;
+use rpg_source_run::{CompiledSource, run_source};
 use std::alloc::Global;
 use std::io::{Read, Write};
 
@@ -51,6 +54,48 @@ pub(crate) fn run_over<I: Read, S: Read, P: Write, D: Write>(
         (device_counts input.old secondary.old print.old disk.old) (device_counts input.new secondary.new print.new disk.new) }
 {
     let report = execute_program(alloc, program, date, input, secondary, print, disk)?;
+    named(FileWord::Print, flush_device(print))?;
+    named(FileWord::Disk, flush_device(disk))?;
+    Ok(report)
+}
+
+/// Runs a compiled source over its inputs, and writes out what the writers still hold.
+pub(crate) fn run_source_over<I: Read, S: Read, P: Write, D: Write>(
+    alloc: Global,
+    source: &CompiledSource,
+    date: &[u8],
+    input: &mut Counted<I>,
+    secondary: &mut Counted<S>,
+    print: &mut Counted<P>,
+    disk: &mut Counted<D>,
+) -> Result<Report, Answer>
+    requires input { faults_of input.old < 2 ^ 64 - 1 }
+    requires secondary { faults_of secondary.old < 2 ^ 64 - 1 }
+    requires print { faults_of print.old < 2 ^ 64 - 1 }
+    requires disk { faults_of disk.old < 2 ^ 64 - 1 }
+
+    // The source has no fault. A bad date is reported.
+    ensures faultless { IsFaultless source.now.text.items }
+    ensures refused { TellsRun (λ ran. IsToldOfDate ran date.now) result }
+    // Then nothing is read or written; and the secondary input is never read if no card names a secondary file.
+    ensures untouched { date_in date.now ≡ None → (input.new ≡ input.old) × (secondary.new ≡ secondary.old) × (print.new ≡ print.old) × (disk.new ≡ disk.old) }
+    ensures alone { HasNoSecondary (cards_in source.now.text.items) → secondary.new ≡ secondary.old }
+
+    // Else the report and all output are those of the cards' run over the inputs' records, which is the only one.
+    ensures prints { TellsRun (λ ran. IfOk ran (PrintsOn I.remaining S.remaining P.contents D.contents source.now.text.items source.now.allowance date.now input secondary print disk)) result }
+    // If there is no report, each writer has a first part of the bytes of that run.
+    ensures stops { TellsRun (λ ran. IfErr ran (StopsOn I.remaining S.remaining P.contents D.contents source.now.text.items source.now.allowance date.now input secondary print disk)) result }
+    // The answer says whose fault it was.
+    ensures faults { TellsFaults result (I.remaining (device_of input.old)) (I.remaining (device_of input.new))
+        (S.remaining (device_of secondary.old)) (S.remaining (device_of secondary.new))
+        (device_counts input.old secondary.old print.old disk.old) (device_counts input.new secondary.new print.new disk.new) }
+
+    // As a run of its program it is what `run_over` promises.
+    ensures headline { TellsRun (λ ran. IfOk ran (EndsWellOn I.remaining S.remaining source.now.program date.now input secondary)) result }
+    ensures report { TellsRun (λ ran. IfOk ran (ReportsOn I.remaining S.remaining P.contents D.contents source.now.program date.now input secondary print disk)) result }
+    ensures early { TellsRun (λ ran. IfErr ran (SendsPartsOn I.remaining S.remaining P.contents D.contents source.now.program date.now input secondary print disk)) result }
+{
+    let report = run_source(alloc, source, date, input, secondary, print, disk)?;
     named(FileWord::Print, flush_device(print))?;
     named(FileWord::Disk, flush_device(disk))?;
     Ok(report)

@@ -8,33 +8,42 @@ use rpg_cli_messages::source_messages;
 use rpg_cli_show_fields::SourceRows;
 use rpg_cli_words::FileWord;
 use rpg_faults::{faultless_cards, source_faults};
+use rpg_source_run::CompiledSource;
 use std::alloc::Global;
 use std::rt::Files;
 
 /// How many faults of the source are listed at most.
 const MOST_TOLD: u16 = 20;
 
-/// A source that is the object's: its path, its text, and what its cards say.
+/// A source that is the program's: its path, what it compiles to, and what its cards say.
 #[derive(Drop)]
 pub struct OwnSource<'a> {
     path: &'a str,
-    text: Vec<u8>,
+    pub(crate) compiled: CompiledSource,
     pub rows: SourceRows,
 }
 
 impl<'a> OwnSource<'a> {
-    /// What the cards of a source without a fault say.
-    pub(crate) fn of(alloc: Global, path: &'a str, text: Vec<u8>) -> Result<OwnSource<'a>, Answer> {
-        let rows = rows_of(alloc, &text)?;
-        Ok(OwnSource { path, text, rows })
+    /// What the cards of a compiled source say.
+    pub(crate) fn of(
+        alloc: Global,
+        path: &'a str,
+        compiled: CompiledSource,
+    ) -> Result<OwnSource<'a>, Answer> {
+        let rows = rows_of(alloc, compiled.text())?;
+        Ok(OwnSource {
+            path,
+            compiled,
+            rows,
+        })
     }
 }
 
 impl OwnSource<'_> {
-    pub fn halted(&self) -> HaltedSource<'_> {
+    pub(crate) fn halted(&self) -> HaltedSource<'_> {
         HaltedSource {
             path: self.path,
-            text: &self.text,
+            text: self.compiled.text(),
             rows: &self.rows,
         }
     }
@@ -59,13 +68,15 @@ pub fn own_source<'a, R: Files + AllocGlobal, L: Listener>(
         return Ok(None);
     };
     let text = named(FileWord::OwnSource, file_bytes(rt, path))?;
-    if let Err(answer) = matched(rt.alloc(), &text, object) {
-        if let Answer::Source(_) = answer {
-            tell_faults(rt.alloc(), path, &text, MOST_TOLD, listener);
+    match matched(rt.alloc(), text, object) {
+        Ok(compiled) => Ok(Some(OwnSource::of(rt.alloc(), path, compiled)?)),
+        Err((text, answer)) => {
+            if let Answer::Source(_) = answer {
+                tell_faults(rt.alloc(), path, &text, MOST_TOLD, listener);
+            }
+            Err(answer)
         }
-        return Err(answer);
     }
-    Ok(Some(OwnSource::of(rt.alloc(), path, text)?))
 }
 
 /// Tells the faults of a source, if it has any. Where there is no memory for the messages the line alone says what is wrong.

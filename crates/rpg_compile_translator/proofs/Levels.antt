@@ -53,6 +53,18 @@ module _ (ps : List Pair) (n : ℕ) (none : NoneComesBack n ps) (callers : Calle
       let at_most = h.longest long.0 (chain_by_places ps s long.0 long.1) in
       omega (arith, long_count, count, at_least, at_most)
 
+  -- and so those that the definition gives are
+  pub longest_is : (s : ℕ) → s < n → symbols.IsCallLevel ps s (level_within ps (n - 1) s)
+  longest_is s low =
+      let c = level_chain ps (n - 1) s in
+      record {
+        chain = record { callers = c.0; chain = chain_by_places ps s c.0 c.1; count = c.2 };
+        longest = λ others h.
+            let there = chain_there ps s others h in
+            let short = chain_short ps n none callers s others low there in
+            chain_low ps (n - 1) s others there (omega arith);
+      }
+
   -- ---- no cycle
 
   first_among : (b a : ℕ) (chain : List ℕ) → chain_start a chain ≡ b → list_any (nat_eq b) (a ∷ chain) ≡ true

@@ -1,3 +1,4 @@
+pub mod CallLevels
 pub mod Called
 pub mod Limits
 pub mod Marked

@@ -1,6 +1,8 @@
 //! Laws of the definitions. The functions do nothing: they are called only for their contracts.
 
-ghost use Rattle.std.specs.Prelude.{ℕ};
+ghost use Rattle.std.specs.Prelude.{ℕ, List};
+ghost use Rattle.rpg_cards.specs.declared.spec_card.SpecCard.{SpecCard};
+ghost use Rattle.rpg_compile_translator.specs.CallLevels.{HasCallLevels};
 ghost use Rattle.rpg_faults.specs.Faults.{Faultless};
 ghost use Rattle.rpg_verify_rules.specs.Accepted.{IsAccepted};
 ghost use Rattle.rpg_compile_program.specs.Program.{program_of};
@@ -16,3 +18,8 @@ pub fn faultless_sources_are_accepted(cards: &[SpecCard])
     cards_are_in_range(cards);
     programs_are_accepted();
 }
+
+/// In the program of a source without a fault, the level of a subroutine is the number of subroutines on the longest chain of calls that ends in it.
+pub fn levels_are_longest_chains()
+    ensures { (cards : List SpecCard) (allowance : ℕ) → Faultless cards → HasCallLevels cards (program_of cards allowance) }
+{}

@@ -1,6 +1,6 @@
 //! Instructions, from the cards of calculations.
 //! The object program of the cards of a source: the code that writes it, and laws of sources without a fault: their programs keep the limits of the
-//! object format, their first values fit their fields, and they are accepted.
+//! object format, their first values fit their fields, they are accepted, and the levels of their subroutines are those of the longest chains.
 #![tactic(auto)]
 
 mod acceptance;
@@ -18,7 +18,7 @@ mod rows;
 mod section;
 mod tests;
 
-pub use acceptance::faultless_sources_are_accepted;
+pub use acceptance::{faultless_sources_are_accepted, levels_are_longest_chains};
 pub use first_values::faultless_sources_fill_their_fields;
 pub use limits::faultless_sources_keep_limits;
 pub use program::translate;

@@ -1,5 +1,5 @@
 -- A cycle of the machine is a cycle of the cards, and a run of it a run of the cards.
-use Rattle.std.proofs.Common.{◌≡◌, ℕ, zero, suc, ◌+◌, not, ◌||◌, ◌&&◌, List, Option, refl, ap, ◌∙◌, subst, arith}
+use Rattle.std.proofs.Common.{◌≡◌, ℕ, zero, suc, ◌+◌, not, ◌||◌, ◌&&◌, List, Option, refl, ap, ◌∙◌, subst}
 use Rattle.std.specs.FinMap as map
 use Rattle.std.specs.FinSet as set
 use Rattle.rpg_cards.specs.Keys.{Key, key_cmp}
@@ -20,7 +20,7 @@ use Rattle.rpg_meaning.proofs.Steps.{any_same, details_follow, ending_follows, f
 use Rattle.rpg_meaning.specs.Cycle as cards
 use Rattle.rpg_meaning.specs.Job.{IsProgramOf, Job, JobState}
 use Rattle.rpg_meaning.specs.Phases.{MeantPhase, any_on_in, by_effect, calculated, ◌andthen◌}
-use Rattle.rpg_meaning.specs.Runs.{MeantCourse, MeantRuns, MeantRunsIn, meant_begun, meant_ends_or, meant_left, meant_needs, meant_next}
+use Rattle.rpg_meaning.specs.Runs.{AtEndOfJob, AtHalt, MeantCourse, MeantRuns, Then, last_cycle, meant_begun, meant_left, meant_needs, meant_next, with_cycle}
 use Rattle.rpg_effect.specs.Lines.{total_output}
 use Rattle.rpg_machine.specs.Accepted.{IsOrderly}
 use Rattle.rpg_machine.specs.Config.{Config, Output, with_more}
@@ -101,15 +101,8 @@ module _ {p : Object} {job : Job} {number : Key → ℕ} (orderly : IsOrderly p)
         (subst (λ y. Followed p job number (cards.MeantCycle job earlier (runs.next_of (machine.needs_record p c i Primary) rs.primary) y) IsAny (meant_begun job v i) e d out) (next_same Secondary rs.secondary)
         (cycle_follows earlier _ _ (machine.begun p c i) (meant_begun job v i) (record { values = holds; no_cell = none; waiting = waiting; selected = refl }) begun_same e d out cycle))
 
-  ended : (e : PhaseEnd) (earlier : List Selected) (rs : runs.Records) (v : World key_cmp) (i : Inputs) (course : runs.Course) (d : UnderWay) (out : Output) (t : JobState)
-      → cards.MeantCycle job earlier (meant_next job (meant_begun job v i) Primary rs.primary) (meant_next job (meant_begun job v i) Secondary rs.secondary) (meant_begun job v i) e t out
-      → meant_ends_or e t out (λ t rest. MeantRunsIn 0 job (with_record t.selected earlier) (meant_left job (meant_begun job v i) rs) t.world t.inputs rest) (record { ending = e; cycles = 1; output = out })
-      → course ≡ runs.last_cycle e d out → HasCourse earlier rs v i course
-  ended e earlier rs v i course d out t meets over is = record {
-    meant = record { ending = e; cycles = 1; output = out };
-    runs = (e, t, out, meets, over);
-    same = record { ending = ap (λ (x : runs.Course). x.ending) is; cycles = ap (λ (x : runs.Course). x.cycles) is; output = ap (λ (x : runs.Course). x.output) is };
-  }
+  ended : (course : runs.Course) (e : PhaseEnd) (d : UnderWay) (out : Output) → course ≡ runs.last_cycle e d out → SameCourse (last_cycle e out) course
+  ended course e d out is = record { ending = ap (λ (x : runs.Course). x.ending) is; cycles = ap (λ (x : runs.Course). x.cycles) is; output = ap (λ (x : runs.Course). x.output) is }
 
   pub runs_follow : (n : ℕ) (rs : runs.Records) (earlier : List Selected) (v : World key_cmp) (c : Config) (i : Inputs) → Agree job.source.forms number v c.world → Holds p c.world → c.cells ≡ map.empty → AreWaiting p i
       → (course : runs.Course) → runs.RunsIn n p earlier rs c i course → HasCourse earlier rs v i course
@@ -126,24 +119,17 @@ module _ {p : Object} {job : Job} {number : Key → ℕ} (orderly : IsOrderly p)
           let settled = f.settled refl in
           let k = later (runs.left_behind p c i rs) (with_record d.selected earlier) f.state.world d.config d.inputs f.same.world settled.values settled.no_cell settled.waiting rest ran in
           record {
-            meant = record { ending = k.meant.ending; cycles = 1 + k.meant.cycles; output = with_more out k.meant.output };
-            runs = let counted : suc k.meant.cycles ≡ 1 + k.meant.cycles = omega arith in
-                subst (λ m. MeantRunsIn m job earlier rs v i (record { ending = k.meant.ending; cycles = 1 + k.meant.cycles; output = with_more out k.meant.output })) counted (going out f.state k.meant f.meets
+            meant = with_cycle out k.meant;
+            runs = Then earlier rs v i f.state out k.meant f.meets
                 (subst (λ o. MeantRuns job (with_record o earlier) (meant_left job (meant_begun job v i) rs) f.state.world f.state.inputs k.meant) f.same.selected
                 (subst (λ j. MeantRuns job (with_record d.selected earlier) (meant_left job (meant_begun job v i) rs) f.state.world j k.meant) f.same.inputs
-                (subst (λ x. MeantRuns job (with_record d.selected earlier) x f.state.world d.inputs k.meant) (left_same v c i a rs) k.runs))));
+                (subst (λ x. MeantRuns job (with_record d.selected earlier) x f.state.world d.inputs k.meant) (left_same v c i a rs) k.runs)));
             same = record {
               ending = ap (λ (x : runs.Course). x.ending) is ∙ k.same.ending;
               cycles = ap (λ (x : runs.Course). x.cycles) is ∙ ap (λ n. 1 + n) k.same.cycles;
               output = ap (λ (x : runs.Course). x.output) is ∙ ap (with_more out) k.same.output;
             };
           }
-        where
-          going : (out : Output) (t : JobState) (k : MeantCourse)
-              → cards.MeantCycle job earlier (meant_next job (meant_begun job v i) Primary rs.primary) (meant_next job (meant_begun job v i) Secondary rs.secondary) (meant_begun job v i) GoesOn t out
-              → MeantRuns job (with_record t.selected earlier) (meant_left job (meant_begun job v i) rs) t.world t.inputs k
-              → MeantRunsIn (suc k.cycles) job earlier rs v i (record { ending = k.ending; cycles = 1 + k.cycles; output = with_more out k.output })
-          going out t k meets ran = (GoesOn, t, out, meets, (k, ran, refl))
-      by EndOfJob d out f is later = ended EndOfJob earlier rs v i course d out f.state f.meets refl is
-      by (Halt k) d out f is later = ended (Halt k) earlier rs v i course d out f.state f.meets refl is
+      by EndOfJob d out f is later = record { meant = last_cycle EndOfJob out; runs = AtEndOfJob earlier rs v i f.state out f.meets; same = ended course EndOfJob d out is }
+      by (Halt k) d out f is later = record { meant = last_cycle (Halt k) out; runs = AtHalt earlier rs v i k f.state out f.meets; same = ended course (Halt k) d out is }
       by (Wrong x) d out f is later = absurd f.fine

@@ -1,5 +1,5 @@
 -- The cards have one run.
-use Rattle.std.proofs.Common.{◌≡◌, ◌+◌, ℕ, zero, suc, Bool, true, false, cond, List, [], Option, None, Some, refl, sym, ap, ◌∙◌, subst}
+use Rattle.std.proofs.Common.{◌≡◌, ℕ, Bool, true, false, List, [], Option, None, Some, refl, sym, ap, ◌∙◌, subst}
 use Rattle.rpg_cards.specs.Keys.{key_cmp}
 use Rattle.rpg_cycle.specs.Ends.{PhaseEnd, GoesOn, EndOfJob, Halt, Wrong}
 use Rattle.rpg_cycle.specs.Indicators.{last_record, level_indicators}
@@ -13,44 +13,50 @@ use Rattle.rpg_effect.specs.declared.input.InputFile.TheVariants.{Primary, Secon
 use Rattle.rpg_meaning.specs.Cycle as cards
 use Rattle.rpg_meaning.specs.Job.{Job, JobState}
 use Rattle.rpg_meaning.specs.Phases.{Came, MeantPhase, by_effect, calculated, meant_does, meant_either, meant_from_there, meant_passes, meant_unless, is_on_in, with_turned, ◌andthen◌}
-use Rattle.rpg_meaning.specs.Runs.{IsMeantRun, MeantCourse, MeantRunsIn, meant_begun, meant_ends_or, meant_left, meant_next}
+use Rattle.rpg_meaning.specs.Runs.{AtEndOfJob, AtHalt, IsMeantRun, MeantCourse, MeantRuns, NextCycle, Then, last_cycle, meant_begun, meant_left, meant_next, with_cycle}
 use Rattle.rpg_machine.specs.Config.{Output, no_output, with_more}
 use Rattle.rpg_meaning_calculations.specs.Laws as calculations
-use Rattle.rpg_meaning_calculations.specs.Meaning.{MeantOutcome, On, Over, Source, State, Stops, cards_run, cards_step, followed, is_finished, told_before}
+use Rattle.rpg_meaning_calculations.specs.Meaning as steps
+use Rattle.rpg_meaning_calculations.specs.Meaning.{CardsCome, MeantOutcome, On, Over, Source, State, Stops, cards_step, is_finished, told_before}
 use Rattle.rpg_meaning_calculations.specs.Parts.{InDetail, InTotal, Part}
 use Rattle.rpg_cycle_records.specs.Earlier.{Selected, with_record}
 use Rattle.rpg_cycle_records.specs.Waiting.{Inputs, unread}
 
 -- ---- calculations come to one end
 
-abbrev AtEnd : Source → MeantOutcome → Type 0
-AtEnd source (On t o) = is_finished source.sections t ≡ true
-AtEnd source (Stops k t o) = Unit {0}
-AtEnd source Over = ⊥
+abbrev on_state : State → MeantOutcome → State
+on_state s (On t o) = t
+on_state s other = s
 
-inside : (source : Source) (o : Output) (x : MeantOutcome) → AtEnd source (told_before o x) → AtEnd source x
-inside source o (On t more) h = h
-inside source o (Stops k t more) h = h
-inside source o Over h = h
+abbrev output_of : MeantOutcome → Output
+output_of (On t o) = o
+output_of (Stops k t o) = o
+output_of Over = no_output
 
-finished_there : (source : Source) (s : State) (m : ℕ) → is_finished source.sections s ≡ true → cards_run source m s ≡ On s no_output
-finished_there source s zero h = refl
-finished_there source s (suc m) h = ap (λ b. cond b (On s no_output) (followed (cards_step source s) (cards_run source m))) h
+module _ (source : Source) where
+  at_end : (s : State) (y : MeantOutcome) → CardsCome source s y → is_finished source.sections s ≡ true → On s no_output ≡ y
+  at_end _ _ (steps.AtEnd s f) g = refl
+  at_end _ _ (steps.AtHalt s t o k f is) g = absurd cc
+  at_end _ _ (steps.Then s t o rest f is later) g = absurd cc
 
-by_step : (source : Source) (x : MeantOutcome) (f g : State → MeantOutcome) → ((t : State) → AtEnd source (f t) → AtEnd source (g t) → f t ≡ g t) → AtEnd source (followed x f) → AtEnd source (followed x g) → followed x f ≡ followed x g
-by_step source (On t o) f g same h k = ap (told_before o) (same t (inside source o (f t) h) (inside source o (g t) k))
-by_step source (Stops n t o) f g same h k = refl
-by_step source Over f g same h k = refl
+  at_halt : (s : State) (y : MeantOutcome) → CardsCome source s y → (k : ℕ) (t : State) (o : Output) → is_finished source.sections s ≡ false → cards_step source s ≡ Stops k t o → Stops k t o ≡ y
+  at_halt _ _ (steps.AtEnd s f) k t o g is = absurd cc
+  at_halt _ _ (steps.AtHalt s u q l f at) k t o g is = sym is ∙ at
+  at_halt _ _ (steps.Then s u q rest f at later) k t o g is = absurd (let never : Stops k t o ≡ On u q = sym is ∙ at in cc)
 
-by_finish : (source : Source) (s : State) (b : Bool) (x : MeantOutcome) (f g : State → MeantOutcome) → ((t : State) → AtEnd source (f t) → AtEnd source (g t) → f t ≡ g t)
-    → AtEnd source (cond b (On s no_output) (followed x f)) → AtEnd source (cond b (On s no_output) (followed x g)) → cond b (On s no_output) (followed x f) ≡ cond b (On s no_output) (followed x g)
-by_finish source s true x f g same h k = refl
-by_finish source s false x f g same h k = by_step source x f g same h k
+  goes_on : (s : State) (y : MeantOutcome) → CardsCome source s y → (t : State) (o : Output) (x : MeantOutcome) → is_finished source.sections s ≡ false → cards_step source s ≡ On t o
+      → ((z : MeantOutcome) → CardsCome source t z → x ≡ z) → told_before o x ≡ y
+  goes_on _ _ (steps.AtEnd s f) t o x g is one = absurd cc
+  goes_on _ _ (steps.AtHalt s u q k f at) t o x g is one = absurd (let never : On t o ≡ Stops k u q = sym is ∙ at in cc)
+  goes_on _ _ (steps.Then s u q rest f at later) t o x g is one =
+      let same : On u q ≡ On t o = sym at ∙ is in
+      let rests = one rest (subst (λ v. CardsCome source v rest) (ap (on_state t) same) later) in
+      ap (told_before o) rests ∙ ap (λ v. told_before v rest) (sym (ap output_of same))
 
-one_end : (source : Source) (n m : ℕ) (s : State) → AtEnd source (cards_run source n s) → AtEnd source (cards_run source m s) → cards_run source n s ≡ cards_run source m s
-one_end source zero m s h k = sym (finished_there source s m h)
-one_end source (suc n) zero s h k = finished_there source s (suc n) k
-one_end source (suc n) (suc m) s h k = by_finish source s (is_finished source.sections s) (cards_step source s) (cards_run source n) (cards_run source m) (one_end source n m) h k
+  one_end : (s : State) (x y : MeantOutcome) → CardsCome source s x → CardsCome source s y → x ≡ y
+  one_end _ _ y (steps.AtEnd s f) other = at_end s y other f
+  one_end _ _ y (steps.AtHalt s t o k f is) other = at_halt s y other k t o f is
+  one_end _ _ y (steps.Then s t o rest f is later) other = goes_on s y other t o rest f is (λ z come. one_end t rest z later come)
 
 -- ---- phases
 
@@ -75,21 +81,14 @@ either_both P Q first second false = second
 unless_fixed : (test : JobState → Bool) (P : MeantPhase) → IsFixed P → IsFixed (meant_unless test P)
 unless_fixed test P fixed s e f t u o q h k = either_fixed P fixed (test s) s e f t u o q h k
 
-came_end : (source : Source) (x : MeantOutcome) (s : JobState) (e : PhaseEnd) (t : JobState) (o : Output) → Came source x s e t o → AtEnd source x
-came_end source (On v p) s e t o h = h.0
-came_end source (Stops k v p) s e t o h = tt
-came_end source Over s e t o h = h
-
-came_fixed : (source : Source) (x : MeantOutcome) → IsFixed (Came source x)
-came_fixed source (On v p) s e f t u o q h k = (h.1 ∙ sym k.1, h.2 ∙ sym k.2, h.3 ∙ sym k.3)
-came_fixed source (Stops n v p) s e f t u o q h k = (h.0 ∙ sym k.0, h.1 ∙ sym k.1, h.2 ∙ sym k.2)
-came_fixed source Over s e f t u o q h k = absurd h
+came_fixed : (x : MeantOutcome) → IsFixed (Came x)
+came_fixed (On v p) s e f t u o q h k = (h.0 ∙ sym k.0, h.1 ∙ sym k.1, h.2 ∙ sym k.2)
+came_fixed (Stops n v p) s e f t u o q h k = (h.0 ∙ sym k.0, h.1 ∙ sym k.1, h.2 ∙ sym k.2)
+came_fixed Over s e f t u o q h k = absurd h
 
 calculated_fixed : (source : Source) (part : Part) → IsFixed (calculated source part)
-calculated_fixed source part s e f t u o q (n, h) (m, k) =
-    let start = calculations.part_begun part s.world s.allowance in
-    let same = one_end source n m start (came_end source (cards_run source n start) s e t o h) (came_end source (cards_run source m start) s f u q k) in
-    came_fixed source (cards_run source n start) s e f t u o q h (subst (λ x. Came source x s f u q) (sym same) k)
+calculated_fixed source part s e f t u o q (x, come, h) (y, comes, k) =
+    came_fixed x s e f t u o q h (subst (λ z. Came z s f u q) (sym (one_end source (calculations.part_begun part s.world s.allowance) x y come comes)) k)
 
 then_fixed : (P Q : MeantPhase) → IsFixed P → IsFixed Q → IsFixed (P andthen Q)
 then_fixed P Q first second s e f t u o q (g, m, put, h, rest) (g', m', put', h', rest') =
@@ -132,36 +131,45 @@ module _ (job : Job) where
       (then_fixed (cards.meant_show_match job earlier) _ (does_fixed _)
       (then_fixed (cards.meant_fill_fields job) (calculated job.source InDetail) fill_fixed (calculated_fixed job.source InDetail)))))))))
 
-  -- the course of the rest with this cycle before it
-  abbrev with_cycle : Output → MeantCourse → MeantCourse
-  with_cycle out rest = record { ending = rest.ending; cycles = 1 + rest.cycles; output = with_more out rest.output }
+  next_fixed : (earlier : List Selected) (rs : Records) (w : World key_cmp) (i : Inputs) (e f : PhaseEnd) (t u : JobState) (o q : Output)
+      → NextCycle job earlier rs w i e t o → NextCycle job earlier rs w i f u q → (e ≡ f) × (t ≡ u) × (o ≡ q)
+  next_fixed earlier rs w i e f t u o q h k =
+      cycle_fixed earlier (meant_next job (meant_begun job w i) Primary rs.primary) (meant_next job (meant_begun job w i) Secondary rs.secondary) (meant_begun job w i) e f t u o q h k
 
-  -- what follows a cycle
-  abbrev Follow : Type 1
-  Follow = JobState → MeantCourse → Type 0
+  ends_job : (earlier : List Selected) (rs : Records) (w : World key_cmp) (i : Inputs) (l : MeantCourse) → MeantRuns job earlier rs w i l
+      → (t : JobState) (out : Output) → NextCycle job earlier rs w i EndOfJob t out → last_cycle EndOfJob out ≡ l
+  ends_job _ _ _ _ _ (AtEndOfJob earlier rs w i u put other) t out cycle = ap (last_cycle EndOfJob) (next_fixed earlier rs w i EndOfJob EndOfJob t u out put cycle other).2
+  ends_job _ _ _ _ _ (AtHalt earlier rs w i k u put other) t out cycle = absurd (let never = (next_fixed earlier rs w i EndOfJob (Halt k) t u out put cycle other).0 in cc)
+  ends_job _ _ _ _ _ (Then earlier rs w i u put rest other later) t out cycle = absurd (let never = (next_fixed earlier rs w i EndOfJob GoesOn t u out put cycle other).0 in cc)
 
-  ends_one : (e : PhaseEnd) (t : JobState) (out : Output) (First Rest : Follow) (k l : MeantCourse) → ((a b : MeantCourse) → First t a → Rest t b → a ≡ b) → meant_ends_or e t out First k → meant_ends_or e t out Rest l → k ≡ l
-  ends_one GoesOn t out First Rest k l one (a, h, i) (b, g, j) =
-      i ∙ ap (with_cycle out) (one a b h g) ∙ sym j
-  ends_one EndOfJob t out First Rest k l one h g = h ∙ sym g
-  ends_one (Halt n) t out First Rest k l one h g = h ∙ sym g
-  ends_one (Wrong x) t out First Rest k l one h g = absurd h
+  halts : (earlier : List Selected) (rs : Records) (w : World key_cmp) (i : Inputs) (l : MeantCourse) → MeantRuns job earlier rs w i l
+      → (n : ℕ) (t : JobState) (out : Output) → NextCycle job earlier rs w i (Halt n) t out → last_cycle (Halt n) out ≡ l
+  halts _ _ _ _ _ (AtEndOfJob earlier rs w i u put other) n t out cycle = absurd (let never = (next_fixed earlier rs w i (Halt n) EndOfJob t u out put cycle other).0 in cc)
+  halts _ _ _ _ _ (AtHalt earlier rs w i k u put other) n t out cycle =
+      let same = next_fixed earlier rs w i (Halt n) (Halt k) t u out put cycle other in
+      ap (λ e. last_cycle e out) same.0 ∙ ap (last_cycle (Halt k)) same.2
+  halts _ _ _ _ _ (Then earlier rs w i u put rest other later) n t out cycle = absurd (let never = (next_fixed earlier rs w i (Halt n) GoesOn t u out put cycle other).0 in cc)
 
-  pub runs_one : (n m : ℕ) (earlier : List Selected) (rs : Records) (w : World key_cmp) (i : Inputs) (k l : MeantCourse) → MeantRunsIn n job earlier rs w i k → MeantRunsIn m job earlier rs w i l → k ≡ l
-  runs_one zero m earlier rs w i k l h g = absurd h
-  runs_one (suc n) zero earlier rs w i k l h g = absurd g
-  runs_one (suc n) (suc m) earlier rs w i k l (e, t, out, cycle, ends) (f, u, put, cycle', ends') =
-      let s = meant_begun job w i in
-      let x = cycle_fixed earlier (meant_next job s Primary rs.primary) (meant_next job s Secondary rs.secondary) s e f t u out put cycle cycle' in
-      let First : Follow = λ t rest. MeantRunsIn n job (with_record t.selected earlier) (meant_left job s rs) t.world t.inputs rest in
-      let Rest : Follow = λ t rest. MeantRunsIn m job (with_record t.selected earlier) (meant_left job s rs) t.world t.inputs rest in
-      ends_one e t out First Rest k l (λ a b h g. runs_one n m (with_record t.selected earlier) (meant_left job s rs) t.world t.inputs a b h g) ends
-      (subst (λ y. meant_ends_or y t out Rest l) (sym x.0) (subst (λ y. meant_ends_or f y out Rest l) (sym x.1) (subst (λ y. meant_ends_or f u y Rest l) (sym x.2) ends')))
+  goes_on_to : (earlier : List Selected) (rs : Records) (w : World key_cmp) (i : Inputs) (l : MeantCourse) → MeantRuns job earlier rs w i l
+      → (t : JobState) (out : Output) (k : MeantCourse) → NextCycle job earlier rs w i GoesOn t out
+      → ((m : MeantCourse) → MeantRuns job (with_record t.selected earlier) (meant_left job (meant_begun job w i) rs) t.world t.inputs m → k ≡ m) → with_cycle out k ≡ l
+  goes_on_to _ _ _ _ _ (AtEndOfJob earlier rs w i u put other) t out k cycle one = absurd (let never = (next_fixed earlier rs w i GoesOn EndOfJob t u out put cycle other).0 in cc)
+  goes_on_to _ _ _ _ _ (AtHalt earlier rs w i n u put other) t out k cycle one = absurd (let never = (next_fixed earlier rs w i GoesOn (Halt n) t u out put cycle other).0 in cc)
+  goes_on_to _ _ _ _ _ (Then earlier rs w i u put rest other later) t out k cycle one =
+      let same = next_fixed earlier rs w i GoesOn GoesOn t u out put cycle other in
+      let rests = one rest (subst (λ (v : JobState). MeantRuns job (with_record v.selected earlier) (meant_left job (meant_begun job w i) rs) v.world v.inputs rest) (sym same.1) later) in
+      ap (with_cycle out) rests ∙ ap (λ o. with_cycle o rest) same.2
+
+  pub runs_one : (earlier : List Selected) (rs : Records) (w : World key_cmp) (i : Inputs) (k l : MeantCourse) → MeantRuns job earlier rs w i k → MeantRuns job earlier rs w i l → k ≡ l
+  runs_one _ _ _ _ _ l (AtEndOfJob earlier rs w i t out cycle) other = ends_job earlier rs w i l other t out cycle
+  runs_one _ _ _ _ _ l (AtHalt earlier rs w i n t out cycle) other = halts earlier rs w i l other n t out cycle
+  runs_one _ _ _ _ _ l (Then earlier rs w i t out rest cycle later) other =
+      goes_on_to earlier rs w i l other t out rest cycle (λ m runs. runs_one (with_record t.selected earlier) (meant_left job (meant_begun job w i) rs) t.world t.inputs rest m later runs)
 
   same_bytes : (a b : Bytes) → a.print ≡ b.print → a.disk ≡ b.disk → a ≡ b
   same_bytes a b p q = λ i. record { print = p i; disk = q i }
 
   pub runs_are_one : (w : World key_cmp) (records : Records) (k l : MeantCourse) (a b : Bytes) → IsMeantRun job w records k a → IsMeantRun job w records l b → (k ≡ l) × (a ≡ b)
   runs_are_one w records k l a b h g =
-      let same = runs_one k.cycles l.cycles [] records w unread k l h.runs g.runs in
+      let same = runs_one [] records w unread k l h.runs g.runs in
       (same, same_bytes a b (h.print ∙ ap (λ (x : MeantCourse). printed x.output) same ∙ sym g.print) (h.disk ∙ ap (λ (x : MeantCourse). stored x.output) same ∙ sym g.disk))

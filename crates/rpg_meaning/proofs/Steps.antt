@@ -27,7 +27,7 @@ use Rattle.rpg_cycle_safety.specs.Waiting.{AreWaiting}
 use Rattle.rpg_meaning.proofs.Following.{Followed, Follows, IsFine, IsSettled, Same, Selection, follows_does, follows_effect, follows_pass, follows_unless}
 use Rattle.rpg_meaning.specs.Cycle as cards
 use Rattle.rpg_meaning.specs.Job.{IsProgramOf, Job, JobState}
-use Rattle.rpg_meaning.specs.Phases.{Came, any_on_in, by_effect, calculated, meant_passes, turned_all, with_turned}
+use Rattle.rpg_meaning.specs.Phases.{any_on_in, by_effect, calculated, meant_passes, turned_all, with_turned}
 use Rattle.rpg_machine.specs.Accepted.{IsOrderly}
 use Rattle.rpg_machine.specs.Config.{Config, Output}
 use Rattle.rpg_machine.specs.Outputs.{input_fields_of}
@@ -37,7 +37,7 @@ use Rattle.rpg_meaning_calculations.proofs.Named.{lines_named}
 use Rattle.rpg_meaning_calculations.proofs.Runs.{meaning_kept}
 use Rattle.rpg_meaning_calculations.specs.Agreement.{part_section}
 use Rattle.rpg_meaning_calculations.specs.Laws.{EndsAs, part_begun}
-use Rattle.rpg_meaning_calculations.specs.Meaning.{MeantOutcome, On, Over, Stops, cards_run, part_has_end}
+use Rattle.rpg_meaning_calculations.specs.Meaning.{CardsCome, MeantOutcome, On, Over, Stops, part_has_end}
 use Rattle.rpg_meaning_calculations.specs.Parts.{InDetail, InSubroutine, InTotal, Part}
 use Rattle.rpg_object_program.specs.Constants.{word_at}
 use Rattle.rpg_object_program.specs.Object.{Object, lines_of}
@@ -140,10 +140,10 @@ module _ {p : Object} {job : Job} {number : Key → ℕ} (orderly : IsOrderly p)
 
   pub section_follows : (P : Selection) (part : Part) → part_has_end part ≡ true → Follows p job number P (machine.section p (part_section job.source.sections part)) (calculated job.source part) P
   section_follows P part ended c s settled same e d out (last, run, ends, files, kept) =
-      by m.0 (cards_run job.source m.0 (part_begun part s.world s.allowance)) refl m.1
+      by m.0 m.1 m.2
     where
-      m : (n : ℕ) × EndsAs p job.source number (cards_run job.source n (part_begun part s.world s.allowance)) last d.config out
-      m = subst (λ a. (n : ℕ) × EndsAs p job.source number (cards_run job.source n (part_begun part s.world a)) last d.config out) same.allowance
+      m : (x : MeantOutcome) × CardsCome job.source (part_begun part s.world s.allowance) x × EndsAs p job.source number x last d.config out
+      m = subst (λ a. (x : MeantOutcome) × CardsCome job.source (part_begun part s.world a) x × EndsAs p job.source number x last d.config out) same.allowance
           ((meaning_kept orderly is.calculations).runs part ended s.world c.config same.world settled.values.fits settled.no_cell last d.config out run)
 
       well : leading.EndsWell p (part_section job.source.sections part) c.config last d.config
@@ -157,26 +157,26 @@ module _ {p : Object} {job : Job} {number : Key → ℕ} (orderly : IsOrderly p)
       settles : e ≡ GoesOn → IsSettled p job number P d
       settles on = record { values = well.values; no_cell = well.no_cell (back last (sym ends ∙ on)); waiting = subst (AreWaiting p) (sym files) settled.waiting; selected = subst P (sym kept) settled.selected }
 
-      by : (n : ℕ) (x : MeantOutcome) → cards_run job.source n (part_begun part s.world s.allowance) ≡ x → EndsAs p job.source number x last d.config out → Followed p job number (calculated job.source part) P s e d out
-      by n (On u o) ran (finished, goes, put, a) =
+      by : (x : MeantOutcome) → CardsCome job.source (part_begun part s.world s.allowance) x → EndsAs p job.source number x last d.config out → Followed p job number (calculated job.source part) P s e d out
+      by (On u o) come (goes, put, a) =
           let state : JobState = record s { world = u.world; allowance = u.allowance } in
           record {
             state = state;
-            meets = (n, subst (λ x. Came job.source x s e state out) (sym ran) (finished, ends ∙ ap phase_end goes, refl, put));
+            meets = (On u o, come, (ends ∙ ap phase_end goes, refl, put));
             same = record { world = a.world; allowance = a.allowance; inputs = files ∙ same.inputs; selected = kept ∙ same.selected };
             fine = subst IsFine (sym ends) (named_fine last well.ending);
             settled = settles;
           }
-      by n (Stops k u o) ran (halts, put, a) =
+      by (Stops k u o) come (halts, put, a) =
           let state : JobState = record s { world = u.world; allowance = u.allowance } in
           record {
             state = state;
-            meets = (n, subst (λ x. Came job.source x s e state out) (sym ran) (ends ∙ ap phase_end halts, refl, put));
+            meets = (Stops k u o, come, (ends ∙ ap phase_end halts, refl, put));
             same = record { world = a.world; allowance = a.allowance; inputs = files ∙ same.inputs; selected = kept ∙ same.selected };
             fine = subst IsFine (sym ends) (named_fine last well.ending);
             settled = settles;
           }
-      by n Over ran h = absurd h
+      by Over come h = absurd h
 
   -- ---- what puts nothing out
 

@@ -4,14 +4,14 @@ use Rattle.std.specs.FinSet as set
 use Rattle.std.specs.List.{list_any}
 use Rattle.std.specs.Ordering.{nat_cmp}
 use Rattle.rpg_cards.specs.Keys.{key_cmp}
-use Rattle.rpg_cycle.specs.Ends.{PhaseEnd, GoesOn, EndOfJob, Halt, Wrong, phase_end}
+use Rattle.rpg_cycle.specs.Ends.{PhaseEnd, GoesOn, EndOfJob, Halt, phase_end}
 use Rattle.rpg_cycle.specs.Indicators.{indicators_turned}
 use Rattle.rpg_effect.specs.Effect.{Effect}
 use Rattle.rpg_effect.specs.World.{World}
 use Rattle.rpg_meaning.specs.Job.{JobState}
 use Rattle.rpg_machine.specs.Config.{Output, no_output, with_more}
 use Rattle.rpg_meaning_calculations.specs.Laws as calculations
-use Rattle.rpg_meaning_calculations.specs.Meaning.{MeantOutcome, On, Over, Source, Stops, cards_run, is_finished}
+use Rattle.rpg_meaning_calculations.specs.Meaning.{CardsCome, MeantOutcome, On, Over, Source, Stops}
 use Rattle.rpg_meaning_calculations.specs.Parts.{Part}
 
 -- A phase leads from one state to another; it goes on or ends the job, and it puts something out.
@@ -23,7 +23,7 @@ abbrev pub meant_from_there : MeantPhase → PhaseEnd → JobState → Output �
 meant_from_there Q GoesOn m put e t out = (more : Output) × Q m e t more × (out ≡ with_more put more)
 meant_from_there Q EndOfJob m put e t out = (e ≡ EndOfJob) × (t ≡ m) × (out ≡ put)
 meant_from_there Q (Halt k) m put e t out = (e ≡ Halt k) × (t ≡ m) × (out ≡ put)
-meant_from_there Q (Wrong f) m put e t out = ⊥
+meant_from_there Q other m put e t out = ⊥
 
 -- the one phase and then the other
 infixr 5 ◌andthen◌
@@ -52,14 +52,14 @@ abbrev pub by_effect : (World key_cmp → Effect key_cmp) → MeantPhase
 by_effect f s e t out = (e ≡ phase_end (f s.world).ending) × (t ≡ record s { world = (f s.world).world }) × (out ≡ record { lines = (f s.world).lines; records = (f s.world).records })
 
 -- calculations have come to an end, or to a halt
-abbrev pub Came : Source → MeantOutcome → MeantPhase
-Came source (On u o) s e t out = (is_finished source.sections u ≡ true) × (e ≡ GoesOn) × (t ≡ record s { world = u.world; allowance = u.allowance }) × (out ≡ o)
-Came source (Stops k u o) s e t out = (e ≡ Halt k) × (t ≡ record s { world = u.world; allowance = u.allowance }) × (out ≡ o)
-Came source Over s e t out = ⊥
+abbrev pub Came : MeantOutcome → MeantPhase
+Came (On u o) s e t out = (e ≡ GoesOn) × (t ≡ record s { world = u.world; allowance = u.allowance }) × (out ≡ o)
+Came (Stops k u o) s e t out = (e ≡ Halt k) × (t ≡ record s { world = u.world; allowance = u.allowance }) × (out ≡ o)
+Came Over s e t out = ⊥
 
--- the calculations of a part, as many as it takes
+-- the calculations of a part
 abbrev pub calculated : Source → Part → MeantPhase
-calculated source part s e t out = (n : ℕ) × Came source (cards_run source n (calculations.part_begun part s.world s.allowance)) s e t out
+calculated source part s e t out = (x : MeantOutcome) × CardsCome source (calculations.part_begun part s.world s.allowance) x × Came x s e t out
 
 -- ---- indicators
 

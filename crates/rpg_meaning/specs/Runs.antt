@@ -1,7 +1,7 @@
 -- Whole runs by cards: cycles, each with the records that are next in the files that take one in, until one ends the job.
-use Rattle.std.specs.Prelude.{◌≡◌, ℕ, zero, suc, ◌+◌, Bool, not, ◌&&◌, ◌||◌, List, [], Option, None}
+use Rattle.std.specs.Prelude.{◌≡◌, ℕ, ◌+◌, Bool, not, ◌&&◌, ◌||◌, List, [], Option, None}
 use Rattle.rpg_cards.specs.Keys.{key_cmp}
-use Rattle.rpg_cycle.specs.Ends.{PhaseEnd, GoesOn, EndOfJob, Halt, Wrong}
+use Rattle.rpg_cycle.specs.Ends.{PhaseEnd, GoesOn, EndOfJob, Halt}
 use Rattle.rpg_cycle.specs.Indicators.{halt_indicators, last_record}
 use Rattle.rpg_cycle.specs.Runs.{Records, next_of, printed, rest_where_needed, stored}
 use Rattle.rpg_effect.specs.Put.{Bytes}
@@ -36,24 +36,31 @@ meant_next job s f rs = next_of (meant_needs job s f) rs
 abbrev pub meant_left : Job → JobState → Records → Records
 meant_left job s rs = record { primary = rest_where_needed (meant_needs job s Primary) rs.primary; secondary = rest_where_needed (meant_needs job s Secondary) rs.secondary }
 
--- a cycle ended the job, or the rest follows
-abbrev pub meant_ends_or : PhaseEnd → JobState → Output → (JobState → MeantCourse → Type 0) → MeantCourse → Type 0
-meant_ends_or GoesOn t out Rest course = (rest : MeantCourse) × Rest t rest × (course ≡ record { ending = rest.ending; cycles = 1 + rest.cycles; output = with_more out rest.output })
-meant_ends_or EndOfJob t out Rest course = course ≡ record { ending = EndOfJob; cycles = 1; output = out }
-meant_ends_or (Halt k) t out Rest course = course ≡ record { ending = Halt k; cycles = 1; output = out }
-meant_ends_or (Wrong f) t out Rest course = ⊥
+-- the next cycle from a state before it, with the record that is next in each file that takes one in
+abbrev pub NextCycle : Job → List Selected → Records → World key_cmp → Inputs → PhaseEnd → JobState → Output → Type 0
+NextCycle job earlier rs w i =
+    MeantCycle job earlier (meant_next job (meant_begun job w i) Primary rs.primary) (meant_next job (meant_begun job w i) Secondary rs.secondary) (meant_begun job w i)
 
--- a run of at most so many cycles from a state before a cycle, behind earlier records (the last first), over the records that are left
-abbrev pub MeantRunsIn : ℕ → Job → List Selected → Records → World key_cmp → Inputs → MeantCourse → Type 0
-MeantRunsIn zero job earlier rs w i course = ⊥
-MeantRunsIn (suc n) job earlier rs w i course =
-    (e : PhaseEnd) × (t : JobState) × (out : Output)
-    × MeantCycle job earlier (meant_next job (meant_begun job w i) Primary rs.primary) (meant_next job (meant_begun job w i) Secondary rs.secondary) (meant_begun job w i) e t out
-    × meant_ends_or e t out (λ t rest. MeantRunsIn n job (with_record t.selected earlier) (meant_left job (meant_begun job w i) rs) t.world t.inputs rest) course
+-- the course of a run whose last cycle ends so
+abbrev pub last_cycle : PhaseEnd → Output → MeantCourse
+last_cycle e out = record { ending = e; cycles = 1; output = out }
 
--- a run, in as many cycles as it takes
-abbrev pub MeantRuns : Job → List Selected → Records → World key_cmp → Inputs → MeantCourse → Type 0
-MeantRuns job earlier rs w i course = MeantRunsIn course.cycles job earlier rs w i course
+-- the course of the rest with a cycle before it
+abbrev pub with_cycle : Output → MeantCourse → MeantCourse
+with_cycle out rest = record { ending = rest.ending; cycles = 1 + rest.cycles; output = with_more out rest.output }
+
+-- a run behind earlier records (the last first), over the records that are left: one cycle after another
+pub data MeantRuns (job : Job) : List Selected → Records → World key_cmp → Inputs → MeantCourse → Type 0 where
+  -- a cycle comes to the end of the job
+  AtEndOfJob : (earlier : List Selected) (rs : Records) (w : World key_cmp) (i : Inputs) (t : JobState) (out : Output)
+      → NextCycle job earlier rs w i EndOfJob t out → MeantRuns job earlier rs w i (last_cycle EndOfJob out)
+  -- a cycle halts
+  AtHalt : (earlier : List Selected) (rs : Records) (w : World key_cmp) (i : Inputs) (k : ℕ) (t : JobState) (out : Output)
+      → NextCycle job earlier rs w i (Halt k) t out → MeantRuns job earlier rs w i (last_cycle (Halt k) out)
+  -- a cycle goes on, and the rest follows
+  Then : (earlier : List Selected) (rs : Records) (w : World key_cmp) (i : Inputs) (t : JobState) (out : Output) (rest : MeantCourse)
+      → NextCycle job earlier rs w i GoesOn t out → MeantRuns job (with_record t.selected earlier) (meant_left job (meant_begun job w i) rs) t.world t.inputs rest
+      → MeantRuns job earlier rs w i (with_cycle out rest)
 
 -- the whole run over records from a world, with the bytes that are printed and stored
 pub record IsMeantRun (job : Job) (w : World key_cmp) (records : Records) (course : MeantCourse) (bytes : Bytes) : Type 0 where

@@ -8,8 +8,9 @@ use Rattle.rpg_cards.specs.Sections.{Sections}
 use Rattle.rpg_effect.specs.Ends.{End, GoesOn, Halt, Wrong}
 use Rattle.rpg_effect.specs.World.{World}
 use Rattle.rpg_machine.specs.Config.{Output, no_output}
+use Rattle.rpg_meaning_calculations.proofs.Counted.{cards_run, followed}
 use Rattle.rpg_meaning_calculations.proofs.Placed.{not_own}
-use Rattle.rpg_meaning_calculations.specs.Meaning.{MeantOutcome, On, Over, Source, State, Stops, after_effect, at_next, calculation_done, cards_run, cards_step, come_back, deed_done, followed, gone_to, is_done, is_finished, spending, told_before}
+use Rattle.rpg_meaning_calculations.specs.Meaning.{MeantOutcome, On, Over, Source, State, Stops, after_effect, at_next, calculation_done, cards_step, come_back, deed_done, gone_to, is_done, is_finished, spending, told_before}
 use Rattle.rpg_meaning_calculations.specs.Parts.{InSubroutine, Part, bears, calculations_in, label_position}
 
 -- an end: no calculation is left, a halt, or nothing that is meant

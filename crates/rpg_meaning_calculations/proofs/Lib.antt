@@ -1,4 +1,5 @@
 pub mod Accepted
+pub mod Counted
 pub mod Ending
 pub mod Filled
 pub mod Follows

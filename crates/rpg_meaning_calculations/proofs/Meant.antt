@@ -4,10 +4,11 @@ use Rattle.rpg_cards.specs.Keys.{Key, Name}
 use Rattle.rpg_cards.specs.Sections.{Sections, Subroutine, is_same_name}
 use Rattle.rpg_machine.specs.Accepted.{IsOrderly}
 use Rattle.rpg_machine.specs.Config.{Config}
+use Rattle.rpg_meaning_calculations.proofs.Counted.{HasEnded, cards_run, comes}
 use Rattle.rpg_meaning_calculations.proofs.Ending.{IsAtEnd, run_ends, work}
 use Rattle.rpg_meaning_calculations.proofs.Sections.{Does, section_does, section_ends}
 use Rattle.rpg_meaning_calculations.specs.Agreement.{AgreeAt}
-use Rattle.rpg_meaning_calculations.specs.Meaning.{MeantOutcome, On, Over, Source, State, Stops, cards_run}
+use Rattle.rpg_meaning_calculations.specs.Meaning.{CardsCome, MeantOutcome, On, Over, Source, State, Stops}
 use Rattle.rpg_meaning_calculations.specs.Parts.{InDetail, InSubroutine, InTotal, Part, body_named, calculations_in}
 use Rattle.rpg_meaning_calculations.specs.Sections.{AreOpen, Meets}
 use Rattle.rpg_meaning_calculations.specs.Translation.{IsTranslation}
@@ -40,8 +41,14 @@ module _ {p : Object} {source : Source} {number : Key → ℕ} (orderly : IsOrde
   by_end s d n a opened (Stops k t o) ran end does = does
   by_end s d n a opened Over ran end does = does
 
+  has_ended : (d : Config) (x : MeantOutcome) → Meets p source number d x → HasEnded source x
+  has_ended d (On t o) m = m.0
+  has_ended d (Stops k t o) m = tt
+  has_ended d Over m = m
+
   pub section_means : (s : State) (d : Config) → AgreeAt p source number s d → AreOpen p source.sections d.cells s.part s.back
-      → (n : ℕ) × Meets p source number d (cards_run source n s)
+      → (e : MeantOutcome) × CardsCome source s e × Meets p source number d e
   section_means s d a opened =
       let n = work source (most_of source.sections) (few source.sections) s + 1 in
-      (n, by_end s d n a opened _ refl (run_ends source (most_of source.sections) (few source.sections) n s (omega arith)) (section_does orderly is n s d a opened))
+      let m = by_end s d n a opened _ refl (run_ends source (most_of source.sections) (few source.sections) n s (omega arith)) (section_does orderly is n s d a opened) in
+      (cards_run source n s, comes source n s (has_ended d (cards_run source n s) m), m)

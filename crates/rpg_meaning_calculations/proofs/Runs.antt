@@ -17,7 +17,7 @@ use Rattle.rpg_meaning_calculations.proofs.Meant.{section_means}
 use Rattle.rpg_meaning_calculations.proofs.Placed.{place_start}
 use Rattle.rpg_meaning_calculations.specs.Agreement.{AgreeAt, AgreeEnded, part_section}
 use Rattle.rpg_meaning_calculations.specs.Laws.{EndsAs, KeepsMeaning, KeepsRuns, part_begun}
-use Rattle.rpg_meaning_calculations.specs.Meaning.{MeantOutcome, On, Over, Source, Stops, cards_run, part_has_end}
+use Rattle.rpg_meaning_calculations.specs.Meaning.{MeantOutcome, On, Over, Source, Stops, part_has_end}
 use Rattle.rpg_meaning_calculations.specs.Parts.{InDetail, InSubroutine, InTotal, Part, calculations_in}
 use Rattle.rpg_meaning_calculations.specs.Sections.{Meets}
 use Rattle.rpg_meaning_calculations.specs.Translation.{IsTranslation}
@@ -46,7 +46,7 @@ module _ {p : Object} {source : Source} {number : Key → ℕ} (orderly : IsOrde
   came : (x : MeantOutcome) (section : Section) (c : Config) (e : End) (d : Config) (out : Output) → RunsTo p section c e d out → Meets p source number (at_first p section c) x → EndsAs p source number x e d out
   came (On t o) section c e d out run (end, f, (j, ran), a) =
       let same = runs_are_one p section c e GoesOn d f out o run (record { enough = j; run = ran }) in
-      (end, same.0, same.2, subst (AgreeEnded p source number t) (sym same.1) (record { world = a.world; allowance = a.allowance }))
+      (same.0, same.2, subst (AgreeEnded p source number t) (sym same.1) (record { world = a.world; allowance = a.allowance }))
   came (Stops k t o) section c e d out run (f, (j, ran), a) =
       let same = runs_are_one p section c e (Halt k) d f out o run (record { enough = j; run = ran }) in
       (same.0, same.2, subst (AgreeEnded p source number t) (sym same.1) a)
@@ -55,7 +55,7 @@ module _ {p : Object} {source : Source} {number : Key → ℕ} (orderly : IsOrde
   runs_kept : KeepsRuns p source number
   runs_kept part h v c a fits none e d out run =
       let m = section_means orderly is (part_begun part v c.allowance) (at_first p (part_section source.sections part) c) (begins part h v c a fits none) h in
-      (m.0, came (cards_run source m.0 (part_begun part v c.allowance)) (part_section source.sections part) c e d out run m.1)
+      (m.0, m.1, came m.0 (part_section source.sections part) c e d out run m.2)
 
   pub meaning_kept : KeepsMeaning p source number
   meaning_kept = record {

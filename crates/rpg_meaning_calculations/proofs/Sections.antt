@@ -17,6 +17,7 @@ use Rattle.rpg_machine.specs.Run.{onward, put_before, run}
 use Rattle.rpg_machine.specs.Step.{Next, Outcome, Stop, arrived, effect, step, went}
 use Rattle.rpg_machine.specs.declared.control.Control.TheVariants.{Calls, Returns}
 use Rattle.rpg_object_program.specs.Instructions.{weight}
+use Rattle.rpg_meaning_calculations.proofs.Counted.{cards_run, followed}
 use Rattle.rpg_meaning_calculations.proofs.Accepted.{fit_after, calls_up, returns_own}
 use Rattle.rpg_meaning_calculations.proofs.Follows.{IsReached, calculation_follows, callee_of, own, own_label, passed, reached}
 use Rattle.rpg_meaning_calculations.proofs.Leads.{HasAt, Reaches, at, one_step, one_stop, stays, step_of, stop_behind, then_comes}
@@ -24,7 +25,7 @@ use Rattle.rpg_meaning_calculations.proofs.Parts.{code_of_part, own_number, sect
 use Rattle.rpg_meaning_calculations.proofs.Placed.{place_start}
 use Rattle.rpg_meaning_calculations.specs.Agreement.{AgreeAt, AgreeEnded, Comes, IsRunnable, MachineFollows, part_section, place_at}
 use Rattle.rpg_meaning_calculations.specs.Laws.{stays_in_part}
-use Rattle.rpg_meaning_calculations.specs.Meaning.{MeantOutcome, On, Over, Source, State, Stops, after_effect, at_next, calculation_done, cards_run, cards_step, come_back, deed_done, followed, gone_to, is_done, is_finished, part_has_end, told_before}
+use Rattle.rpg_meaning_calculations.specs.Meaning.{MeantOutcome, On, Over, Source, State, Stops, after_effect, at_next, calculation_done, cards_step, come_back, deed_done, gone_to, is_done, is_finished, part_has_end, told_before}
 use Rattle.rpg_meaning_calculations.specs.Parts.{InDetail, InSubroutine, InTotal, Part, calculations_in, label_position}
 use Rattle.rpg_meaning_calculations.specs.Sections.{AreOpen, return_place}
 use Rattle.rpg_meaning_calculations.specs.Translation.{IsTranslation}

@@ -9,7 +9,7 @@ use Rattle.rpg_machine.specs.Config.{Config, Output}
 use Rattle.rpg_machine.specs.Laws.{FitsIn}
 use Rattle.rpg_machine.specs.Run.{RunsTo}
 use Rattle.rpg_meaning_calculations.specs.Agreement.{AgreeAt, AgreeEnded, MachineFollows, part_section}
-use Rattle.rpg_meaning_calculations.specs.Meaning.{MeantOutcome, On, Over, Source, State, Stops, cards_run, cards_step, is_finished, part_has_end}
+use Rattle.rpg_meaning_calculations.specs.Meaning.{CardsCome, MeantOutcome, On, Over, Source, State, Stops, cards_step, part_has_end}
 use Rattle.rpg_meaning_calculations.specs.Parts.{Part, calculations_in}
 use Rattle.rpg_meaning_calculations.specs.Sections.{AreOpen, Meets}
 use Rattle.rpg_object_program.specs.Object.{Object}
@@ -36,11 +36,11 @@ KeepsCalculations p source number =
 abbrev pub KeepsSections : Object → Source → (Key → ℕ) → Type 0
 KeepsSections p source number =
     (s : State) (d : Config) → AgreeAt p source number s d → AreOpen p source.sections d.cells s.part s.back
-    → (n : ℕ) × Meets p source number d (cards_run source n s)
+    → (e : MeantOutcome) × CardsCome source s e × Meets p source number d e
 
--- the cards have come to what the section came to
+-- what the cards come to is what the section came to
 abbrev pub EndsAs : Object → Source → (Key → ℕ) → MeantOutcome → End → Config → Output → Type 0
-EndsAs p source number (On t o) e d out = (is_finished source.sections t ≡ true) × (e ≡ GoesOn) × (out ≡ o) × AgreeEnded p source number t d
+EndsAs p source number (On t o) e d out = (e ≡ GoesOn) × (out ≡ o) × AgreeEnded p source number t d
 EndsAs p source number (Stops k t o) e d out = (e ≡ Halt k) × (out ≡ o) × AgreeEnded p source number t d
 EndsAs p source number Over e d out = ⊥
 
@@ -54,7 +54,7 @@ KeepsRuns p source number =
     (part : Part) → part_has_end part ≡ true
     → (v : World key_cmp) (c : Config) → Agree source.forms number v c.world → FitsIn p.fields c.world → c.cells ≡ map.empty
     → (e : End) (d : Config) (out : Output) → RunsTo p (part_section source.sections part) c e d out
-    → (n : ℕ) × EndsAs p source number (cards_run source n (part_begun part v c.allowance)) e d out
+    → (x : MeantOutcome) × CardsCome source (part_begun part v c.allowance) x × EndsAs p source number x e d out
 
 pub record KeepsMeaning (p : Object) (source : Source) (number : Key → ℕ) : Type 0 where
   pub calculations : KeepsCalculations p source number

@@ -1,5 +1,5 @@
 -- What calculation cards mean, by names and labels: there are no field numbers, places or instructions in it.
-use Rattle.std.specs.Prelude.{ℕ, zero, suc, ◌+◌, ◌-◌, Bool, true, false, ◌&&◌, ◌==◌, nat_le, nat_lt, List, [], ◌∷◌, length, Option, None, Some, if◌then◌else◌, slice_get}
+use Rattle.std.specs.Prelude.{◌≡◌, ℕ, ◌+◌, ◌-◌, Bool, true, false, ◌&&◌, ◌==◌, nat_le, nat_lt, List, [], ◌∷◌, length, Option, None, Some, if◌then◌else◌, slice_get}
 use Rattle.std.specs.FinSet as set
 use Rattle.std.specs.List.{list_any}
 use Rattle.std.specs.Ordering.{nat_cmp}
@@ -7,7 +7,7 @@ use Rattle.rpg_cards.specs.Deeds.{Acts, Begins, Calculation, Deed, Ends, Execute
 use Rattle.rpg_cards.specs.Keys.{Key, key_cmp}
 use Rattle.rpg_cards.specs.Sections.{Sections}
 use Rattle.rpg_effect.specs.Effect.{Effect}
-use Rattle.rpg_effect.specs.Ends.{End, GoesOn, Halt, Wrong}
+use Rattle.rpg_effect.specs.Ends.{End, GoesOn, Halt}
 use Rattle.rpg_effect.specs.Lines.{Line, exception_output}
 use Rattle.rpg_effect.specs.Operate.{operate}
 use Rattle.rpg_effect.specs.World.{World, three_hold}
@@ -64,7 +64,7 @@ at_next s n = record s { next = n }
 abbrev pub after_effect : End → State → World key_cmp → Output → MeantOutcome
 after_effect GoesOn s w o = On (record s { world = w; next = s.next + 1 }) o
 after_effect (Halt k) s w o = Stops k (record s { world = w }) o
-after_effect (Wrong f) s w o = Over
+after_effect other s w o = Over
 
 abbrev pub affected : State → Effect key_cmp → MeantOutcome
 affected s e = after_effect e.ending s e.world (record { lines = e.lines; records = e.records })
@@ -118,12 +118,11 @@ told_before o (On t more) = On t (with_more o more)
 told_before o (Stops k t more) = Stops k t (with_more o more)
 told_before o Over = Over
 
-abbrev pub followed : MeantOutcome → (State → MeantOutcome) → MeantOutcome
-followed (On s o) go = told_before o (go s)
-followed (Stops k s o) go = Stops k s o
-followed Over go = Over
-
--- at most n calculations, up to the end of detail or total calculations
-abbrev pub cards_run : Source → ℕ → State → MeantOutcome
-cards_run source zero s = On s no_output
-cards_run source (suc n) s = if is_finished source.sections s then On s no_output else followed (cards_step source s) (cards_run source n)
+-- Where the cards come to, one calculation after the other.
+pub data CardsCome (source : Source) : State → MeantOutcome → Type 0 where
+  -- detail or total calculations are behind their last one
+  AtEnd : (s : State) → is_finished source.sections s ≡ true → CardsCome source s (On s no_output)
+  -- one calculation halts
+  AtHalt : (s t : State) (o : Output) (k : ℕ) → is_finished source.sections s ≡ false → cards_step source s ≡ Stops k t o → CardsCome source s (Stops k t o)
+  -- one calculation goes on, and the rest follows
+  Then : (s t : State) (o : Output) (rest : MeantOutcome) → is_finished source.sections s ≡ false → cards_step source s ≡ On t o → CardsCome source t rest → CardsCome source s (told_before o rest)

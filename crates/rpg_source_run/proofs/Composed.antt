@@ -1,10 +1,11 @@
 -- A run of a compiled program is a run of its cards, and the cards have no other.
-use Rattle.std.proofs.Common.{◌≡◌, ℕ, ℤ, List, Option, Some, ap, sym, ◌∙◌}
+use Rattle.std.proofs.Common.{◌≡◌, ◌+◌, ◌≤◌, ℕ, ℤ, List, Option, Some, ap, sym, ◌∙◌, subst}
 use Rattle.rpg_cards.specs.declared.spec_card.SpecCard.{SpecCard}
+use Rattle.rpg_cycle.specs.Counting.{records_count}
 use Rattle.rpg_cycle.specs.Job.{first_fields}
 use Rattle.rpg_cycle.specs.Runs.{Course, IsRun, Records}
 use Rattle.rpg_cycle.specs.Starting.{date_in}
-use Rattle.rpg_cycle_safety.specs.Coming.{HasRun}
+use Rattle.rpg_cycle_safety.specs.Coming.{HasRun, RunsWell}
 use Rattle.rpg_effect.specs.Put.{Bytes}
 use Rattle.rpg_engine.specs.Inputs.{records_of}
 use Rattle.rpg_engine.specs.Reporting.{Reports, SendsFirstParts}
@@ -17,7 +18,8 @@ use Rattle.rpg_meaning.specs.Sources.{job_of}
 use Rattle.rpg_object_program.specs.Object.{Object}
 use Rattle.rpg_source_run.specs.Printing.{OnlyRun, PrintsAsMeant, SendsPartsAsMeant}
 
-module _ (cards : List SpecCard) (allowance : ℕ) (p : Object) (digits : List ℕ) (day : ℤ) (does : DoesAsMeant cards allowance p) (dated : date_in digits ≡ Some day) where
+module _ (cards : List SpecCard) (allowance : ℕ) (p : Object) (digits : List ℕ) (day : ℤ) (does : DoesAsMeant cards allowance p) (dated : date_in digits ≡ Some day)
+    (each : (records : Records) (course : Course) (bytes : Bytes) → IsRun p day (first_fields p) records course bytes → RunsWell p (records_count records) course) where
   abbrev pub only_run : (records : Records) (course : Course) (bytes : Bytes) → IsRun p day (first_fields p) records course bytes → OnlyRun cards allowance day records
   only_run records course bytes run =
       let s = does.start day in
@@ -26,6 +28,7 @@ module _ (cards : List SpecCard) (allowance : ℕ) (p : Object) (digits : List �
         course = m.meant;
         bytes = bytes;
         run = record { start = s.0; starts = s.1; run = m.run };
+        few = subst (λ n. n ≤ records_count records + 1) m.cycles (each records course bytes run).cycles;
         only = λ other theirs h.
             let n = does.jobs digits day dated h.start h.starts records course bytes run in
             let same = runs_are_one (job_of cards allowance) h.start records other n.meant theirs bytes h.run n.run in (

@@ -1,2 +1,3 @@
 pub mod Composed
+pub mod Kept
 pub mod Stopping

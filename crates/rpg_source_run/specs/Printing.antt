@@ -1,8 +1,9 @@
 -- What a run of a source comes to, by its cards alone: how it ends, in how many cycles, and the bytes that it prints and stores.
-use Rattle.std.specs.Prelude.{◌≡◌, ℕ, ℤ, List, Option}
+use Rattle.std.specs.Prelude.{◌≡◌, ◌+◌, ◌≤◌, ℕ, ℤ, List, Option}
 use Rattle.std.specs.Io.KnownBytes.{Appends}
 use Rattle.rpg_cards.specs.Keys.{key_cmp}
 use Rattle.rpg_cards.specs.declared.spec_card.SpecCard.{SpecCard}
+use Rattle.rpg_cycle.specs.Counting.{records_count}
 use Rattle.rpg_cycle.specs.Runs.{Records}
 use Rattle.rpg_cycle.specs.Stages.{job_end}
 use Rattle.rpg_effect.specs.Put.{Bytes}
@@ -22,11 +23,13 @@ module _ (cards : List SpecCard) (allowance : ℕ) (day : ℤ) where
     pub starts : IsStart cards day start
     pub run : IsMeantRun (job_of cards allowance) start records course bytes
 
-  -- the cards have a run over these records, and every other one ends alike, in as many cycles and with the same bytes
+  -- the cards have a run over these records, in at most one cycle more than there are records, and every other one ends alike, in as many cycles and
+  -- with the same bytes
   pub record OnlyRun (records : Records) : Type 0 where
     pub course : MeantCourse
     pub bytes : Bytes
     pub run : CardsRun records course bytes
+    pub few : course.cycles ≤ records_count records + 1
     pub only : (other : MeantCourse) (theirs : Bytes) → CardsRun records other theirs → (other.ending ≡ course.ending) × (other.cycles ≡ course.cycles) × (theirs ≡ bytes)
 
   -- the report is of the cards' run over the records of both inputs, and each writer has all of its bytes

@@ -3,5 +3,7 @@
 
 pub mod law;
 mod run;
+mod source;
 
-pub use run::{SourceRunFault, run_source};
+pub use run::run_source;
+pub use source::CompiledSource;
