@@ -4,6 +4,7 @@
 mod decks;
 mod explaining;
 mod files;
+mod fitting;
 mod listing;
 mod outlet;
 mod program;

@@ -5,6 +5,7 @@ ghost use Rattle.rpg_cli.specs.Saying.{PrintsALine, Says, SaysOrIsQuiet};
 use crate::decks::cards_file;
 use crate::explaining::explain;
 use crate::files::{check_file, compile_files, show_file, verify_file};
+use crate::fitting::fit_file;
 use crate::listing::list_file;
 use crate::outlet::Outlet;
 use crate::records::records_file;
@@ -43,6 +44,7 @@ fn answer_to<R: Files + Input + Print + AllocGlobal, L: Listener>(
             Ok(Answer::Deck)
         }
         Request::Records(words) => records_file(rt, words, listener),
+        Request::Fit(words) => fit_file(rt, words, listener),
         Request::Verify(words) => {
             let bound = verify_file(rt, words, listener)?;
             Ok(Answer::Accepted { bound })

@@ -1,7 +1,7 @@
 //! Pages as text.
 
 use crate::page::Page;
-use crate::topic::{BYTES, HALTS, SHEETS, Topic, WARNINGS};
+use crate::topic::{BYTES, HALTS, REWRITINGS, SHEETS, Topic, WARNINGS};
 use rpg_cli_text::TextWriter;
 use rpg_faults::FaultCode;
 use rpg_verify_rules::RULES;
@@ -25,6 +25,18 @@ fn write_code(out: &mut TextWriter, topic: Topic) {
             write!(out, "V{number}");
         }
         Topic::Bytes(code) => out.write_str(code.text()),
+        Topic::Rewriting(rule) => {
+            let number = rule.number();
+            write!(out, "A{number}");
+        }
+    }
+}
+
+/// What stands above the examples of a page.
+const fn headings(topic: Topic) -> (&'static str, &'static str) {
+    match topic {
+        Topic::Rewriting(_) => ("Before", "After"),
+        _ => ("Breaks it", "Keeps it"),
     }
 }
 
@@ -43,7 +55,8 @@ fn write_page(out: &mut TextWriter, topic: Topic) {
     if !given.is_empty() {
         write!(out, "\n{given}\n");
     }
-    write!(out, "\nBreaks it:\n\n{breaks}\n\nKeeps it:\n\n{keeps}\n");
+    let (bad, good) = headings(topic);
+    write!(out, "\n{bad}:\n\n{breaks}\n\n{good}:\n\n{keeps}\n");
     write!(out, "\nWhat to do: {advice}.\n\nThen: {behind}.\n");
 }
 
@@ -95,6 +108,12 @@ fn write_bytes(out: &mut TextWriter) {
     }
 }
 
+fn write_rewritings(out: &mut TextWriter) {
+    for rule in REWRITINGS {
+        write_next_page(out, Topic::Rewriting(rule));
+    }
+}
+
 /// All pages, as docs/MESSAGES.md has them.
 pub fn all_pages(alloc: Global) -> Result<String, AllocError> {
     let mut out = TextWriter::new(alloc);
@@ -105,5 +124,6 @@ pub fn all_pages(alloc: Global) -> Result<String, AllocError> {
     write_halts(&mut out);
     write_rules(&mut out);
     write_bytes(&mut out);
+    write_rewritings(&mut out);
     out.finish()
 }

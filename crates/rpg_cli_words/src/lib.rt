@@ -2,12 +2,14 @@
 #![tactic(auto)]
 
 mod command;
+mod fitting;
 mod going;
 mod listing;
 mod records;
 mod request;
 mod words;
 
+pub use fitting::{FitWords, TableWord};
 pub use going::GoWords;
 pub use listing::{CardsWanted, CardsWords, ListWords};
 pub use records::{RecordFraming, RecordsWay, RecordsWords};

@@ -1,5 +1,6 @@
 //! The words of the command that makes lines of records.
 
+use crate::fitting;
 use crate::request::{FileWord, Request, is_standard};
 use clap::ArgMatches;
 
@@ -120,6 +121,7 @@ fn fault_of(given: &ArgMatches) -> Option<&'static str> {
 pub(crate) fn bad_value(matches: &ArgMatches) -> Option<&'static str> {
     match matches.subcommand()? {
         ("records", given) => fault_of(given),
+        ("fit", given) => fitting::fault_of(given),
         _ => None,
     }
 }

@@ -3,6 +3,7 @@
 ghost use Rattle.std.specs.Prelude.{◌<◌, ◌≤◌};
 
 use crate::command::command;
+use crate::fitting::{FitWords, fit_words};
 use crate::going::{GoWords, go_words};
 use crate::listing::{CardsWords, ListWords, cards_words, list_words};
 use crate::records::{RecordsWords, bad_value, records_words};
@@ -11,7 +12,7 @@ use clap::{ArgMatches, Command, Error};
 use std::alloc::{AllocError, Global};
 
 /// What the words ask for.
-#[derive(Clone, Copy)]
+#[derive(Drop)]
 pub enum Request<'a> {
     /// Compiles a source.
     Compile(CompileWords<'a>),
@@ -23,6 +24,8 @@ pub enum Request<'a> {
     Cards(CardsWords<'a>),
     /// Makes lines of records, or records of lines.
     Records(RecordsWords<'a>),
+    /// Rewrites an old deck.
+    Fit(FitWords<'a>),
     /// Verifies an object program.
     Verify(VerifyWords<'a>),
     /// Shows an object program.
@@ -130,6 +133,10 @@ pub enum FileWord {
     To,
     /// The deck that reads the lines.
     NewDeck,
+    /// An old deck as it is rewritten.
+    Fitted,
+    /// The records of a table file, by its place among those that the words name.
+    Table(usize),
 }
 
 impl FileWord {
@@ -146,6 +153,8 @@ impl FileWord {
             FileWord::In => "IN",
             FileWord::Out => "OUT",
             FileWord::NewDeck => "--deck NEW",
+            FileWord::Fitted => "NEW",
+            FileWord::Table(_) => "--table NAME=FILE",
         }
     }
 
@@ -164,6 +173,8 @@ impl FileWord {
             FileWord::By => "--by <SRC>",
             FileWord::To => "--to <SRC>",
             FileWord::NewDeck => "--deck <NEW>",
+            FileWord::Fitted => "[NEW]",
+            FileWord::Table(_) => "--table <NAME=FILE>",
         }
     }
 }
@@ -213,6 +224,7 @@ impl<'a> Request<'a> {
             (Request::Run(words), word) => words.path(word),
             (Request::Go(words), word) => words.run.path(word),
             (Request::Records(words), word) => words.path(word),
+            (Request::Fit(words), word) => words.path(word),
             _ => None,
         }
     }
@@ -234,6 +246,7 @@ impl<'a> Request<'a> {
         match self {
             Request::Run(words) => words.writes_standard_output(),
             Request::Go(words) => words.run.writes_standard_output(),
+            Request::Fit(words) => words.writes_standard_output(),
             _ => false,
         }
     }
@@ -428,6 +441,17 @@ fn request_in<'a>(matches: &ArgMatches<'a>) -> Option<Request<'a>> {
     }
 }
 
+/// The same for all commands, also for the one whose words take memory.
+fn any_request<'a>(
+    alloc: Global,
+    matches: &ArgMatches<'a>,
+) -> Result<Option<Request<'a>>, AllocError> {
+    match matches.subcommand() {
+        Some(("fit", given)) => fit_words(alloc, given),
+        _ => Ok(request_in(matches)),
+    }
+}
+
 /// The fault of words that clap takes and that aren't any request.
 fn unread(command: &mut Command<'_>, matches: &ArgMatches<'_>) -> Error {
     let told = match bad_value(matches) {
@@ -443,7 +467,7 @@ fn unread(command: &mut Command<'_>, matches: &ArgMatches<'_>) -> Error {
 fn read<'a>(alloc: Global, words: &'a [String]) -> Result<Request<'a>, Error> {
     let mut command = command(alloc)?;
     let matches = command.try_get_matches_from_mut(words)?;
-    match request_in(&matches) {
+    match any_request(alloc, &matches)? {
         Some(request) => Ok(request),
         None => Err(unread(&mut command, &matches)),
     }
