@@ -16,12 +16,12 @@ from pathlib import Path
 TOP = Path(__file__).resolve().parent.parent
 
 PLACED = re.compile(r"  (?P<name>[<\[][A-Z]+[>\]](?:\.\.\.)?) +(?P<help>\S.*)")
-OPTION = re.compile(r"  (?:-(?P<short>\w), |    )--(?P<name>[\w-]+)(?: <(?P<value>\w+)>)?(?:\.\.\.)? +(?P<help>\S.*)")
+OPTION = re.compile(r"  (?:-(?P<short>\w), |    )--(?P<name>[\w-]+)(?: <(?P<value>[\w=]+)>)?(?:\.\.\.)? +(?P<help>\S.*)")
 COMMAND = re.compile(r"  (?P<name>[a-z]+) +\S.*")
 CODE = re.compile(r"^## ([A-Z]\d+):", re.MULTILINE)
 
 # What the values of options and arguments that aren't here are: names of files.
-NOT_FILES = {"N", "XX", "CODE", "DATE", "FORMAT", "NAME", "00000000"}
+NOT_FILES = {"N", "XX", "CODE", "DATE", "FORMAT", "NAME", "NAME=FILE", "00000000"}
 
 
 @dataclass(frozen=True)

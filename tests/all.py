@@ -16,6 +16,7 @@ TOP = (
     "rpg_source_run",
     "rpg_record_lines",
     "rpg_fit_deck",
+    "rpg_fit",
     "rpg_cli_files",
     "rpg_cli_warnings",
     "rpg_cli_answers",

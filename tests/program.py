@@ -12,10 +12,10 @@ SECONDS = 60
 
 # The exit status of each line, as docs/COMMANDS.md has them.
 STATUSES = [
-    (0, r"compiled|no fault|/\*|accepted, bound \d+|end of job, cycles \d+, steps \d+ of \d+"),
+    (0, r"compiled|no fault|/\*|changes \d+|accepted, bound \d+|end of job, cycles \d+, steps \d+ of \d+"),
     (1, r"input failed|output failed|file too large|no memory"),
     (2, r"bad date|date wanted|disk file wanted|secondary file wanted|no such code"),
-    (3, r"card \d+: [SFW]\d+|not the object's source|line \d+: no card"),
+    (3, r"card \d+: [SFWA]\d+|new card \d+: [SF]\d+|not the object's source|line \d+: no card"),
     (4, r"refused: (B\d at \d+|V\d+ row \d+|bound \d+)"),
     (5, r"halt [1-8], cycles \d+, steps \d+ of \d+"),
 ]

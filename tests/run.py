@@ -25,6 +25,7 @@ sys.path.append(str(TOP / "build"))
 import calls
 import case_runs
 import evaluated
+import fits
 import installed
 import objects
 import sessions
@@ -101,6 +102,8 @@ def jobs_of(program: Program, word: str) -> Iterable[Job]:
         yield from call_jobs(program, path)
     if word in "evaluated":
         yield from evaluated.jobs_of(program, HERE / "evaluated")
+    if word in "fit":
+        yield from fits.jobs_of(program, HERE / "fit")
     if word in "installed":
         yield partial(installed_files, program)
 

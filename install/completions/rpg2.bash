@@ -2,10 +2,10 @@
 _rpg2() {
     local cur=${COMP_WORDS[COMP_CWORD]} prev=${COMP_WORDS[COMP_CWORD-1]} command= i
     for ((i = 1; i < COMP_CWORD; i++)); do
-        case ${COMP_WORDS[i]} in compile|check|list|cards|records|verify|explain|show|run|go|help) command=${COMP_WORDS[i]}; break;; esac
+        case ${COMP_WORDS[i]} in compile|check|list|cards|records|fit|verify|explain|show|run|go|help) command=${COMP_WORDS[i]}; break;; esac
     done
     if [ -z "$command" ]; then
-        COMPREPLY=($(compgen -W 'compile check list cards records verify explain show run go help --help --version' -- "$cur")); return
+        COMPREPLY=($(compgen -W 'compile check list cards records fit verify explain show run go help --help --version' -- "$cur")); return
     fi
     case $prev in
         --allow|--allowance|--date|--drop|--faults|--file|--format|--length|--most) return;;
@@ -18,6 +18,7 @@ _rpg2() {
         list) options='-h --help';;
         cards) options='--short --ruler -h --help';;
         records) options='--by --to --file --length --rdw --lines --ascii --low-blank --drop --deck -h --help';;
+        fit) options='--table --switches --forms -h --help';;
         verify) options='-q --quiet -h --help';;
         show) options='--source --rows -h --help';;
         run) options='--date --secondary --disk --most --keep --source --format -q --quiet -h --help';;

@@ -6,6 +6,7 @@ mod dates;
 mod decks;
 mod explaining;
 mod files;
+mod fitting;
 mod listing;
 mod naming;
 mod outlet;

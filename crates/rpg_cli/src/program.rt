@@ -11,6 +11,7 @@ use crate::dates::{JobDate, tell_odd_date};
 use crate::decks::cards_file;
 use crate::explaining::explain;
 use crate::files::{compile_files, show_file, verify_file};
+use crate::fitting::fit_file;
 use crate::listing::list_file;
 use crate::naming::files_of;
 use crate::outlet::Outlet;
@@ -48,6 +49,7 @@ fn answer_to<R: Clock + Env + Files + Input + Print + AllocGlobal, L: Listener>(
             Ok(Answer::Deck)
         }
         Request::Records(words) => records_file(rt, words, listener),
+        Request::Fit(words) => fit_file(rt, words, listener),
         Request::Verify(words) => {
             let bound = verify_file(rt, words, listener)?;
             Ok(Answer::Accepted { bound })

@@ -72,6 +72,10 @@ abbrev pub refused_deck_text : Option ℕ → List ℕ
 refused_deck_text (Some card) = codes "card " ++ decimal card ++ codes ": refused"
 refused_deck_text None = codes "refused"
 
+-- the card of an old deck, and the number of the rule that refuses it
+abbrev pub refused_card_text : ℕ → ℕ → List ℕ
+refused_card_text card rule = codes "card " ++ decimal card ++ codes ": A" ++ decimal rule
+
 abbrev pub line_text : Answer → List ℕ
 line_text answer.Compiled = codes "compiled"
 line_text answer.Faultless = codes "no fault"
@@ -94,6 +98,9 @@ line_text (answer.NoCard line) = codes "line " ++ decimal line ++ codes ": no ca
 line_text (answer.Records records dropped columns) = counts_text records dropped columns
 line_text (answer.DeckRefused card) = refused_deck_text card
 line_text (answer.RecordRefused number) = codes "record " ++ decimal number ++ codes ": refused"
+line_text (answer.Fitted changes) = codes "changes " ++ decimal changes
+line_text (answer.FitRefused card rule) = refused_card_text card rule
+line_text (answer.NewDeck fault) = codes "new " ++ source_fault_text fault
 line_text answer.NoSuchCode = codes "no such code"
 line_text answer.NoMemory = codes "no memory"
 
@@ -142,5 +149,8 @@ exit_status (answer.NoCard line) = 3
 exit_status (answer.Records records dropped columns) = 0
 exit_status (answer.DeckRefused card) = 3
 exit_status (answer.RecordRefused number) = 3
+exit_status (answer.Fitted changes) = 0
+exit_status (answer.FitRefused card rule) = 3
+exit_status (answer.NewDeck fault) = source_status fault
 exit_status answer.NoSuchCode = 2
 exit_status answer.NoMemory = 1

@@ -79,6 +79,17 @@ pub enum Answer {
     RecordRefused {
         number: u64,
     },
+    /// An old deck was rewritten: how many changes it took.
+    Fitted {
+        changes: u64,
+    },
+    /// An old deck can't be rewritten: the card, and the number of the rule that refuses it.
+    FitRefused {
+        card: u64,
+        rule: u8,
+    },
+    /// An old deck was rewritten, and the new deck has a fault.
+    NewDeck(SourceFault),
     /// There is no such code.
     NoSuchCode,
     NoMemory,

@@ -179,6 +179,17 @@ fn put_refused_deck(text: &mut Text, card: Option<u16>)
     put(text, b"refused");
 }
 
+/// The card of an old deck, and the rule that refuses it.
+fn put_refused_card(text: &mut Text, card: u64, rule: u8)
+    requires { array_vec_len text.old ≤ 4 }
+    ensures { text.new.items ≡ text.old.items ++ answers.refused_card_text card rule }
+{
+    put(text, b"card ");
+    put_number(text, card);
+    put(text, b": A");
+    put_short_number(text, rule);
+}
+
 fn object_status(fault: ObjectFault) -> u8
     ensures { result ≡ answers.object_status fault }
 {
@@ -234,16 +245,19 @@ fn exit_status(answer: &Answer) -> u8
         | Answer::Accepted { .. }
         | Answer::Explained
         | Answer::Deck
-        | Answer::Records { .. } => 0,
+        | Answer::Records { .. }
+        | Answer::Fitted { .. } => 0,
         Answer::Ended(report) => ending_status(report.ending),
         Answer::Checked { status, .. } => status,
         Answer::Source(SourceFault::At { .. })
+        | Answer::NewDeck(SourceFault::At { .. })
         | Answer::Denied { .. }
         | Answer::OtherSource
         | Answer::NoCard { .. }
         | Answer::DeckRefused { .. }
-        | Answer::RecordRefused { .. } => 3,
-        Answer::Source(SourceFault::NoMemory) => 1,
+        | Answer::RecordRefused { .. }
+        | Answer::FitRefused { .. } => 3,
+        Answer::Source(SourceFault::NoMemory) | Answer::NewDeck(SourceFault::NoMemory) => 1,
         Answer::Object(fault) => object_status(fault),
         Answer::DiskFileWanted
         | Answer::SecondaryFileWanted
@@ -304,6 +318,15 @@ pub fn line(answer: &Answer) -> Line
             put(&mut text, b"record ");
             put_number(&mut text, number);
             put(&mut text, b": refused");
+        }
+        Answer::Fitted { changes } => {
+            put(&mut text, b"changes ");
+            put_number(&mut text, changes);
+        }
+        Answer::FitRefused { card, rule } => put_refused_card(&mut text, card, rule),
+        Answer::NewDeck(fault) => {
+            put(&mut text, b"new ");
+            put_source_fault(&mut text, fault);
         }
         Answer::NoSuchCode => put(&mut text, b"no such code"),
         Answer::NoMemory => put(&mut text, b"no memory"),

@@ -5,6 +5,7 @@ mod bytes;
 mod faults;
 mod halts;
 mod page;
+mod rewriting;
 mod rules;
 mod sheets;
 mod text;

@@ -1,7 +1,7 @@
 //! Pages as text.
 
 use crate::page::Page;
-use crate::topic::{BYTES, HALTS, SHEETS, Topic, WARNINGS};
+use crate::topic::{BYTES, HALTS, REWRITINGS, SHEETS, Topic, WARNINGS};
 use rpg_cli_text::TextWriter;
 use rpg_faults::FaultCode;
 use rpg_verify_rules::RULES;
@@ -25,6 +25,18 @@ fn write_code(out: &mut TextWriter, topic: Topic) {
             write!(out, "V{number}");
         }
         Topic::Bytes(code) => out.write_str(code.text()),
+        Topic::Rewriting(rule) => {
+            let number = rule.number();
+            write!(out, "A{number}");
+        }
+    }
+}
+
+/// What stands above the examples of a page.
+const fn headings(topic: Topic) -> (&'static str, &'static str) {
+    match topic {
+        Topic::Rewriting(_) => ("Before", "After"),
+        _ => ("Breaks it", "Keeps it"),
     }
 }
 
@@ -43,7 +55,8 @@ fn write_page(out: &mut TextWriter, topic: Topic) {
     if !given.is_empty() {
         write!(out, "\n{given}\n");
     }
-    write!(out, "\nBreaks it:\n\n{breaks}\n\nKeeps it:\n\n{keeps}\n");
+    let (bad, good) = headings(topic);
+    write!(out, "\n{bad}:\n\n{breaks}\n\n{good}:\n\n{keeps}\n");
     write!(out, "\nWhat to do: {advice}.\n\nThen: {behind}.\n");
 }
 
@@ -127,6 +140,12 @@ fn write_bytes(out: &mut TextWriter, form: Form) {
     }
 }
 
+fn write_rewritings(out: &mut TextWriter, form: Form) {
+    for rule in REWRITINGS {
+        write_next(out, form, Topic::Rewriting(rule));
+    }
+}
+
 fn write_all(out: &mut TextWriter, form: Form) {
     write_sources(out, form);
     write_faults(out, form);
@@ -134,6 +153,7 @@ fn write_all(out: &mut TextWriter, form: Form) {
     write_halts(out, form);
     write_rules(out, form);
     write_bytes(out, form);
+    write_rewritings(out, form);
 }
 
 /// All pages, as docs/MESSAGES.md begins with them.

@@ -4,11 +4,13 @@ use crate::bytes::byte_page;
 use crate::faults::fault_page;
 use crate::halts::halt_page;
 use crate::page::Page;
+use crate::rewriting::{rewriting_page, rewriting_sentence};
 use crate::rules::rule_page;
 use crate::sheets::sheet_page;
 use crate::warnings::warning_page;
 use rpg_effect::halt::Halt;
 use rpg_faults::FaultCode;
+use rpg_fit_deck::Rule as Rewriting;
 use rpg_object_format::fault::Code;
 use rpg_sheet::SheetCode;
 use rpg_verify_rules::{RULES, Rule};
@@ -23,6 +25,8 @@ pub enum Topic {
     Halt(Halt),
     Rule(Rule),
     Bytes(Code),
+    /// A rule by which old decks are rewritten.
+    Rewriting(Rewriting),
 }
 
 pub(crate) const SHEETS: [SheetCode; 6] = [
@@ -64,6 +68,17 @@ pub(crate) const BYTES: [Code; 7] = [
     Code::PastLimit,
 ];
 
+/// The rules by which old decks are rewritten, as far as `rpg2 fit` applies them.
+pub(crate) const REWRITINGS: [Rewriting; 7] = [
+    Rewriting::Comments,
+    Rewriting::Columns,
+    Rewriting::Switches,
+    Rewriting::Forms,
+    Rewriting::Tables,
+    Rewriting::NumberedPages,
+    Rewriting::Disks,
+];
+
 impl Topic {
     /// What is wrong, in a sentence.
     pub fn sentence(self) -> &'static str {
@@ -74,6 +89,7 @@ impl Topic {
             Topic::Halt(halt) => halt.sentence(),
             Topic::Rule(rule) => rule.sentence(),
             Topic::Bytes(code) => code.sentence(),
+            Topic::Rewriting(rule) => rewriting_sentence(rule),
         }
     }
 
@@ -90,6 +106,7 @@ impl Topic {
             Topic::Halt(halt) => halt_page(halt),
             Topic::Rule(rule) => rule_page(rule),
             Topic::Bytes(code) => byte_page(code),
+            Topic::Rewriting(rule) => rewriting_page(rule),
         }
     }
 
@@ -114,8 +131,19 @@ impl Topic {
             Topic::Bytes(_) => {
                 "nothing is run. The first number that is wrong is reported, with the offset of its first byte,\ncounted from 0; the rules, V1 to V26, come after; status 4"
             }
+            Topic::Rewriting(_) => {
+                "rpg2 fit reports each change with its card; status 0. If the rule can't rewrite a card to the same\nmeaning, this is reported with the reason, and no NEW is written; status 3"
+            }
         }
     }
+}
+
+/// The rule with a number, which is counted from 0.
+fn rewriting_at(at: usize) -> Option<Topic> {
+    let found = REWRITINGS
+        .iter()
+        .find(|rule| usize::from(rule.number()) == at.saturating_add(1));
+    found.map(|rule| Topic::Rewriting(*rule))
 }
 
 /// The number after a family's letters, whatever their case: 16 of `f16` for `F`, 4 of `Halt 4` for `halt`.
@@ -141,6 +169,8 @@ pub fn topic_of(code: &str) -> Option<Topic> {
         RULES.get(at).map(|rule| Topic::Rule(*rule))
     } else if let Some(at) = number_behind(code, "B") {
         BYTES.get(at).map(|code| Topic::Bytes(*code))
+    } else if let Some(at) = number_behind(code, "A") {
+        rewriting_at(at)
     } else {
         let at = number_behind(code, "halt")?;
         HALTS.get(at).map(|halt| Topic::Halt(*halt))

@@ -43,6 +43,11 @@ fn named<'a>(arg: Arg<'a>, name: &'a str, value: &'a str) -> Arg<'a> {
     valued(arg.long(name).value_name(value))
 }
 
+/// A value after a name, which may stand several times.
+fn repeated<'a>(arg: Arg<'a>, name: &'a str, value: &'a str) -> Arg<'a> {
+    arg.long(name).value_name(value).action(ArgAction::Append)
+}
+
 /// A value after a name, which doesn't go with another word.
 fn named_against<'a>(
     arg: Arg<'a>,
@@ -96,6 +101,7 @@ fn arg<'a>(alloc: Global, word: &Word) -> Result<Arg<'a>, AllocError> {
         Kind::Placed => Ok(valued(arg)),
         Kind::PlacedMany => Ok(placed_many(arg)),
         Kind::Named(value) => Ok(named(arg, word.name, value)),
+        Kind::Repeated(value) => Ok(repeated(arg, word.name, value)),
         Kind::NamedAgainst(value, other) => named_against(arg, word.name, value, other),
         Kind::NamedOr(value, other) => named_or(arg, word.name, value, other),
         Kind::Flag => Ok(flag(arg, word.name)),

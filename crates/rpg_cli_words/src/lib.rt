@@ -3,6 +3,7 @@
 
 mod command;
 mod dates;
+mod fitting;
 mod format;
 mod going;
 mod listing;
@@ -12,6 +13,7 @@ mod warned;
 mod words;
 
 pub use dates::DateWord;
+pub use fitting::{FitWords, TableWord};
 pub use format::Format;
 pub use going::GoWords;
 pub use listing::{CardsWanted, CardsWords, ListWords};

@@ -4,6 +4,7 @@ ghost use Rattle.std.specs.Prelude.{◌<◌, ◌≤◌};
 
 use crate::command::{command, named_command};
 use crate::dates::DateWord;
+use crate::fitting::{self, FitWords, fit_words};
 use crate::format::{Format, format_of};
 use crate::going::{GoWords, go_words};
 use crate::listing::{CardsWords, ListWords, cards_words, list_words};
@@ -26,6 +27,8 @@ pub enum Request<'a> {
     Cards(CardsWords<'a>),
     /// Makes lines of records, or records of lines.
     Records(RecordsWords<'a>),
+    /// Rewrites an old deck.
+    Fit(FitWords<'a>),
     /// Verifies an object program.
     Verify(VerifyWords<'a>),
     /// Shows an object program.
@@ -137,6 +140,10 @@ pub enum FileWord {
     To,
     /// The deck that reads the lines.
     NewDeck,
+    /// An old deck as it is rewritten.
+    Fitted,
+    /// The records of a table file, by its place among those that the words name.
+    Table(usize),
 }
 
 impl FileWord {
@@ -153,6 +160,8 @@ impl FileWord {
             FileWord::In => "IN",
             FileWord::Out => "OUT",
             FileWord::NewDeck => "--deck NEW",
+            FileWord::Fitted => "NEW",
+            FileWord::Table(_) => "--table NAME=FILE",
         }
     }
 
@@ -171,6 +180,8 @@ impl FileWord {
             FileWord::By => "--by <SRC>",
             FileWord::To => "--to <SRC>",
             FileWord::NewDeck => "--deck <NEW>",
+            FileWord::Fitted => "[NEW]",
+            FileWord::Table(_) => "--table <NAME=FILE>",
         }
     }
 }
@@ -220,6 +231,7 @@ impl<'a> Request<'a> {
             (Request::Run(words), word) => words.path(word),
             (Request::Go(words), word) => words.run.path(word),
             (Request::Records(words), word) => words.path(word),
+            (Request::Fit(words), word) => words.path(word),
             _ => None,
         }
     }
@@ -252,6 +264,7 @@ impl<'a> Request<'a> {
         match self {
             Request::Run(words) => words.writes_standard_output(),
             Request::Go(words) => words.run.writes_standard_output(),
+            Request::Fit(words) => words.writes_standard_output(),
             _ => false,
         }
     }
@@ -501,6 +514,7 @@ fn bad_value(matches: &ArgMatches) -> Option<&'static str> {
     let (command, given) = matches.subcommand()?;
     match fault_of_program(command, given) {
         None if command == "records" => fault_of(given),
+        None if command == "fit" => fitting::fault_of(given),
         fault => fault,
     }
 }
@@ -530,6 +544,7 @@ fn request_in<'a>(
     match matches.subcommand() {
         Some(("check", given)) => check_words(alloc, given),
         Some(("explain", given)) => Ok(Some(explain_words(alloc, given)?)),
+        Some(("fit", given)) => fit_words(alloc, given),
         Some((name, given)) => Ok(plain_request(name, given)),
         None => Ok(None),
     }

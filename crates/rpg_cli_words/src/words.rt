@@ -9,6 +9,8 @@ pub(crate) enum Kind {
     PlacedMany,
     /// A value after the word's name, and what help calls it.
     Named(&'static str),
+    /// The same, which may stand several times.
+    Repeated(&'static str),
     /// The same, which doesn't go with another word.
     NamedAgainst(&'static str, &'static str),
     /// The same, and one of the two has to be there.
@@ -245,6 +247,39 @@ const RECORDS: [Word; 12] = [
     },
 ];
 
+const FIT: [Word; 5] = [
+    Word {
+        name: "SRC",
+        kind: Kind::Placed,
+        is_required: true,
+        help: "The old deck, a card a line",
+    },
+    Word {
+        name: "NEW",
+        kind: Kind::Placed,
+        is_required: false,
+        help: "Where the new deck goes; without it the changes are only reported",
+    },
+    Word {
+        name: "table",
+        kind: Kind::Repeated("NAME=FILE"),
+        is_required: false,
+        help: "The records of a table file, by its name on the cards; may be given several times",
+    },
+    Word {
+        name: "switches",
+        kind: Kind::Named("00000000"),
+        is_required: false,
+        help: "A digit for each of U1 to U8: 1 if the job was run with it on; without this all are off",
+    },
+    Word {
+        name: "forms",
+        kind: Kind::Flag,
+        is_required: false,
+        help: "No form gets more lines than its L card has",
+    },
+];
+
 const VERIFY: [Word; 2] = [OBJECT, QUIET];
 
 const EXPLAIN: [Word; 2] = [
@@ -355,7 +390,7 @@ const GO: [Word; 14] = [
 ];
 
 /// The commands, as help has them one after another.
-pub(crate) const COMMANDS: [CommandWords; 10] = [
+pub(crate) const COMMANDS: [CommandWords; 11] = [
     CommandWords {
         name: "compile",
         about: "Compiles the source SRC to the object program OBJ",
@@ -380,6 +415,11 @@ pub(crate) const COMMANDS: [CommandWords; 10] = [
         name: "records",
         about: "Makes lines of a shop's records, by the cards of the deck that reads them, or records of such lines",
         words: &RECORDS,
+    },
+    CommandWords {
+        name: "fit",
+        about: "Rewrites the old deck SRC as cards that are read, and reports each change",
+        words: &FIT,
     },
     CommandWords {
         name: "verify",

@@ -2,6 +2,8 @@
 
 ghost use Rattle.std.specs.Prelude.{◌<◌, ◌≤◌, length};
 
+use crate::card::Card;
+use crate::here::Here;
 use crate::sentence::Told;
 use crate::slot::{Made, Slot};
 
@@ -29,5 +31,39 @@ impl Fitted {
             Some(slot) => slot.told.as_slice(),
             None => &[],
         }
+    }
+    /// How many changes are told of all cards.
+    pub fn changes(&self) -> usize {
+        let mut count: usize = 0;
+        for slot in &self.slots {
+            count = count.saturating_add(slot.changes());
+        }
+        count
+    }
+
+    /// What stands in the place of a card of the source, where that is another card.
+    pub fn replacement(&self, card: usize) -> Option<Card> {
+        match self.slots.get(card.checked_sub(1)?)?.here {
+            Here::Changed(card) => Some(card),
+            Here::Kept | Here::Gone => None,
+        }
+    }
+
+    /// The card of the source that a card of NEW comes from. Both are counted from 1.
+    pub fn source_card(&self, card: usize) -> Option<usize> {
+        let mut before = card.checked_sub(1)?;
+        for (place, slot) in self.slots.iter().enumerate() {
+            if let Some(made) = slot.before.get(before) {
+                return Some(made.from);
+            }
+            before = before.saturating_sub(slot.before.len());
+            if !slot.is_gone() {
+                if before == 0 {
+                    return Some(place.saturating_add(1));
+                }
+                before -= 1;
+            }
+        }
+        self.end.get(before).map(|made| made.from)
     }
 }

@@ -43,6 +43,19 @@ impl Slot {
         Ok(())
     }
 
+    /// How many changes are told of the card.
+    pub fn changes(&self) -> usize {
+        self.told
+            .iter()
+            .filter(|told| matches!(told.what, What::Change(_)))
+            .count()
+    }
+
+    /// Whether nothing stands in the card's place.
+    pub fn is_gone(&self) -> bool {
+        matches!(self.here, Here::Gone)
+    }
+
     /// Whether a rule has told something of the card.
     fn is_told_by(&self, rule: Rule) -> bool {
         self.told.iter().any(|told| told.rule == rule)

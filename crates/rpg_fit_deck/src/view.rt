@@ -2,6 +2,7 @@
 
 use crate::card::Card;
 use crate::here::Here;
+use crate::marks::begins_data;
 use crate::slot::{Made, Slot};
 use std::alloc::{AllocError, Global};
 
@@ -52,10 +53,10 @@ impl View {
     }
 
     /// From here on lines are data.
-    fn begin_data(&mut self, slot: usize) {
+    fn begin_data(&mut self, at: Address) {
         if !self.in_data {
             self.in_data = true;
-            self.cards_end = Address { slot, made: 0 };
+            self.cards_end = at;
         }
     }
 
@@ -82,6 +83,9 @@ impl View {
                 slot,
                 made: made.id,
             };
+            if begins_data(made.card.columns(1, 80)) {
+                self.begin_data(at);
+            }
             self.push(Seen {
                 at,
                 number: made.from,
@@ -101,17 +105,17 @@ impl View {
         begins_data: bool,
     ) -> Result<(), AllocError> {
         self.push_made(place, slot.before.as_slice())?;
+        let at = Address {
+            slot: place,
+            made: 0,
+        };
         if begins_data {
-            self.begin_data(place);
+            self.begin_data(at);
         }
         let (card, width) = match slot.here {
             Here::Kept => (Card::of(line), line.len()),
             Here::Changed(card) => (card, 80),
             Here::Gone => return Ok(()),
-        };
-        let at = Address {
-            slot: place,
-            made: 0,
         };
         self.push(Seen {
             at,

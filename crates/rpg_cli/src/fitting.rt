@@ -1,0 +1,194 @@
+//! The command that rewrites an old deck.
+
+use rpg_cli_answers::{Answer, Listener, Stop, named};
+use rpg_cli_files::{FileFault, Opened, Reason, SourceCode, file_bytes, lines, write_bytes};
+use rpg_cli_fit::{change_messages, new_deck_messages, refusal_message, too_many_message};
+use rpg_cli_run::{NamedFile, refuse_same_file};
+use rpg_cli_words::{FileWord, FitWords, is_standard};
+use rpg_faults::{CardFault, SourceFault};
+use rpg_fit::{Fit, FitFault, Settings, Switches, TableFile, fit};
+use rpg_sheet::SheetCode;
+use std::alloc::{AllocError, Global};
+use std::io::Write;
+use std::rt::Files;
+
+/// The number of the first card past the limit.
+const PAST_LIMIT: u16 = 2001;
+
+/// The records of the table files that the words name.
+fn table_records<R: Files + AllocGlobal>(rt: &R, words: &FitWords) -> Result<Vec<Vec<u8>>, Answer> {
+    let mut records = Vec::new(rt.alloc());
+    for (place, table) in words.tables.iter().enumerate() {
+        let bytes = named(FileWord::Table(place), file_bytes(rt, table.path))?;
+        if records.push(bytes).is_err() {
+            return Err(Answer::NoMemory);
+        }
+    }
+    Ok(records)
+}
+
+/// The table files with their names.
+fn table_files<'b>(
+    alloc: Global,
+    words: &FitWords<'b>,
+    records: &'b [Vec<u8>],
+) -> Result<Vec<TableFile<'b>>, AllocError> {
+    let mut files = Vec::new(alloc);
+    for (table, bytes) in words.tables.iter().zip(records) {
+        files.push(TableFile {
+            name: table.name.as_bytes(),
+            records: bytes.as_slice(),
+        })?;
+    }
+    Ok(files)
+}
+
+fn switches_of(words: &FitWords) -> Switches {
+    match words.switches {
+        Some(digits) => Switches::of(digits.as_bytes()).unwrap_or(Switches::OFF),
+        None => Switches::OFF,
+    }
+}
+
+/// Rewrites a deck.
+fn rewrite(
+    alloc: Global,
+    words: &FitWords,
+    source: &[u8],
+    records: &[Vec<u8>],
+) -> Result<Fit, FitFault> {
+    let tables = table_files(alloc, words, records)?;
+    let settings = Settings {
+        switches: switches_of(words),
+        keeps_forms: words.keeps_forms,
+        tables: tables.as_slice(),
+    };
+    fit(alloc, source, &settings)
+}
+
+/// The answer to a deck that isn't rewritten. Why it isn't is reported.
+fn refuse<L: Listener>(
+    alloc: Global,
+    words: &FitWords,
+    source: &[u8],
+    fault: &FitFault,
+    listener: &mut L,
+) -> Answer {
+    match fault {
+        FitFault::Refused(refusal) => {
+            if let Ok(message) = refusal_message(alloc, words.source, source, refusal) {
+                listener.tell(message.as_str());
+            }
+            Answer::FitRefused {
+                card: refusal.card as u64,
+                rule: refusal.rule.number(),
+            }
+        }
+        FitFault::TooMany => {
+            if let Ok(message) = too_many_message(alloc, words.source) {
+                listener.tell(message.as_str());
+            }
+            Answer::NewDeck(SourceFault::At {
+                card: PAST_LIMIT,
+                code: SourceCode::Sheet(SheetCode::S6),
+                columns: None,
+            })
+        }
+        FitFault::NoMemory => Answer::NoMemory,
+    }
+}
+
+/// Refuses to write the new deck over a file that is read.
+fn keep_files<R: Files>(rt: &R, words: &FitWords, path: &str) -> Result<(), Stop> {
+    let written = NamedFile::at(rt, FileWord::Fitted, path);
+    let source = NamedFile::at(rt, FileWord::Source, words.source);
+    refuse_same_file(written, &[source])?;
+    for (place, table) in words.tables.iter().enumerate() {
+        let file = NamedFile::at(rt, FileWord::Table(place), table.path);
+        refuse_same_file(written, &[file])?;
+    }
+    Ok(())
+}
+
+/// Writes the new deck to standard output.
+fn show_new_deck<R: Files + Print>(rt: &R, new: &[u8]) -> Result<(), Answer> {
+    let mut target = named(FileWord::Fitted, lines(rt, Opened::<R::File>::Standard))?;
+    match target.write_all(new) {
+        Ok(()) => Ok(()),
+        Err(_) => Err(Answer::File {
+            word: FileWord::Fitted,
+            fault: FileFault::Output(target.fault().unwrap_or(Reason::Other)),
+        }),
+    }
+}
+
+/// Writes the new deck, if the words want it.
+fn write_new_deck<R: Files + Print + AllocGlobal>(
+    rt: &R,
+    words: &FitWords,
+    new: &[u8],
+) -> Result<(), Stop> {
+    match words.new_deck {
+        None => Ok(()),
+        Some(path) if is_standard(path) => Ok(show_new_deck(rt, new)?),
+        Some(path) => {
+            keep_files(rt, words, path)?;
+            Ok(named(FileWord::Fitted, write_bytes(rt, path, new))?)
+        }
+    }
+}
+
+/// Reports the changes of a deck, and the faults of the new one. If there is no memory for them, nothing is printed.
+fn tell_fit<L: Listener>(
+    alloc: Global,
+    words: &FitWords,
+    source: &[u8],
+    fit: &Fit,
+    listener: &mut L,
+) {
+    if let Ok(messages) = change_messages(alloc, words.source, source, fit) {
+        listener.tell(messages.as_str());
+    }
+    let new_path = words.new_deck.unwrap_or("NEW");
+    if let Ok(messages) = new_deck_messages(alloc, new_path, words.source, fit) {
+        listener.tell(messages.as_str());
+    }
+}
+
+/// The answer to a deck that is rewritten: its changes, or the first fault of the new one.
+fn answer_of(fit: &Fit) -> Answer {
+    match fit.faults.first() {
+        None => Answer::Fitted {
+            changes: fit.fitted.changes() as u64,
+        },
+        Some(
+            CardFault {
+                card,
+                code,
+                columns,
+            },
+        ) => Answer::NewDeck(SourceFault::At {
+            card: *card,
+            code: *code,
+            columns: *columns,
+        }),
+    }
+}
+
+/// Rewrites an old deck. The new one is written once it is whole, also where it has faults; where a rule refuses the old one nothing is.
+pub(crate) fn fit_file<R: Files + Print + AllocGlobal, L: Listener>(
+    rt: &R,
+    words: &FitWords,
+    listener: &mut L,
+) -> Result<Answer, Stop> {
+    let source = named(FileWord::Source, file_bytes(rt, words.source))?;
+    let records = table_records(rt, words)?;
+    match rewrite(rt.alloc(), words, &source, records.as_slice()) {
+        Ok(fit) => {
+            write_new_deck(rt, words, fit.fitted.new.as_slice())?;
+            tell_fit(rt.alloc(), words, &source, &fit, listener);
+            Ok(answer_of(&fit))
+        }
+        Err(fault) => Ok(refuse(rt.alloc(), words, &source, &fault, listener)),
+    }
+}

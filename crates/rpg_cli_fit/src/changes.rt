@@ -1,0 +1,126 @@
+//! The changes of a deck, one by one, and why a deck can't be rewritten.
+
+use crate::sentence::{write_card, write_sentence};
+use rpg_cli_messages::{CardLines, write_picture};
+use rpg_cli_text::TextWriter;
+use rpg_fit::{Card, Fit, Fitted, Note, Refusal, Rule, Told, What};
+use std::alloc::{AllocError, Global};
+
+/// The columns of a card.
+const COLUMNS: usize = 80;
+
+/// What a person reads of the changes of a deck, which `path` names: for each card the changes, and the card with a mark under the columns that
+/// are changed; then what is noted of cards that stay.
+pub fn change_messages(
+    alloc: Global,
+    path: &str,
+    source: &[u8],
+    fit: &Fit,
+) -> Result<String, AllocError> {
+    let mut out = TextWriter::new(alloc);
+    let mut lines = CardLines::of(source);
+    let cards = u16::try_from(fit.fitted.cards).unwrap_or(u16::MAX);
+    for card in 1..=cards {
+        if write_changes(&mut out, path, &fit.fitted, usize::from(card)) {
+            let line = lines.line_of(card);
+            write_picture(&mut out, card, line, None);
+            write_marks(&mut out, &fit.fitted, usize::from(card), line);
+        }
+    }
+    write_notes(&mut out, path, source, fit.notes.as_slice());
+    out.finish()
+}
+
+/// The code of a rule: `A6: `.
+fn write_rule(out: &mut TextWriter, rule: Rule) {
+    write!(out, "A{}: ", rule.number());
+}
+
+/// Writes the changes of a card, and answers whether there are some.
+fn write_changes(out: &mut TextWriter, path: &str, fitted: &Fitted, card: usize) -> bool {
+    let mut is_changed = false;
+    for told in fitted.told(card) {
+        is_changed = write_change(out, path, card, told) || is_changed;
+    }
+    is_changed
+}
+
+/// Writes a change; none where the card goes along with the change of another one.
+fn write_change(out: &mut TextWriter, path: &str, card: usize, told: &Told) -> bool {
+    match &told.what {
+        What::Change(sentence) => {
+            write_card(out, path, card);
+            write_rule(out, told.rule);
+            write_sentence(out, sentence);
+            out.write_char('\n');
+            true
+        }
+        What::With(_) => false,
+    }
+}
+
+/// Whether a column of a card was changed.
+fn is_changed(old: &Card, new: &Card, column: usize) -> bool {
+    old.column(column) != new.column(column)
+}
+
+/// Writes marks under the columns of a card that are changed.
+fn write_marks(out: &mut TextWriter, fitted: &Fitted, card: usize, line: &[u8]) {
+    let Some(new) = fitted.replacement(card) else {
+        return;
+    };
+    let old = Card::of(line);
+    if !(1..=COLUMNS).any(|column| is_changed(&old, &new, column)) {
+        return;
+    }
+    out.write_str("      | ");
+    for column in 1..=COLUMNS {
+        let mark = if is_changed(&old, &new, column) {
+            '^'
+        } else {
+            ' '
+        };
+        out.write_char(mark);
+    }
+    out.end_line();
+}
+
+fn write_notes(out: &mut TextWriter, path: &str, source: &[u8], notes: &[Note]) {
+    for note in notes {
+        write_card(out, path, note.card);
+        write!(out, "note: {}\n", note.text);
+        write_source_card(out, source, note.card);
+    }
+}
+
+/// Shows a card of a source.
+fn write_source_card(out: &mut TextWriter, source: &[u8], card: usize) {
+    let number = u16::try_from(card).unwrap_or(u16::MAX);
+    let line = CardLines::of(source).line_of(number);
+    write_picture(out, number, line, None);
+}
+
+/// Why a deck, which `path` names, can't be rewritten.
+pub fn refusal_message(
+    alloc: Global,
+    path: &str,
+    source: &[u8],
+    refusal: &Refusal,
+) -> Result<String, AllocError> {
+    let mut out = TextWriter::new(alloc);
+    write_card(&mut out, path, refusal.card);
+    write_rule(&mut out, refusal.rule);
+    out.write_str("can't be rewritten: ");
+    write_sentence(&mut out, &refusal.why);
+    out.write_char('\n');
+    write_source_card(&mut out, source, refusal.card);
+    out.finish()
+}
+
+/// That a deck has too many cards, or would have.
+pub fn too_many_message(alloc: Global, path: &str) -> Result<String, AllocError> {
+    let mut out = TextWriter::new(alloc);
+    out.write_shown(path.as_bytes());
+    out.write_str(": the new deck would have more than 2,000 cards\n");
+    out.finish()
+}

@@ -1,0 +1,47 @@
+//! The faults of a new deck, by its cards and by those of its source.
+
+use crate::sentence::write_card;
+use rpg_cli_messages::source_messages;
+use rpg_cli_text::TextWriter;
+use rpg_fit::Fit;
+use std::alloc::{AllocError, Global};
+
+/// How many faults are listed at most.
+const MOST: u16 = 20;
+
+/// What a person reads of the faults of a new deck, which `new_path` names, and for each of its cards with a fault the card of the source, which
+/// `path` names. Nothing where it has no fault.
+pub fn new_deck_messages(
+    alloc: Global,
+    new_path: &str,
+    path: &str,
+    fit: &Fit,
+) -> Result<String, AllocError> {
+    let mut out = TextWriter::new(alloc);
+    if fit.faults.is_empty() {
+        return out.finish();
+    }
+    let new = fit.fitted.new.as_slice();
+    let messages = source_messages(alloc, new_path, new, fit.faults.as_slice(), MOST)?;
+    out.write_str(messages.as_str());
+    write_origins(&mut out, new_path, path, fit);
+    out.finish()
+}
+
+/// Writes which cards of the source the cards with a fault come from.
+fn write_origins(out: &mut TextWriter, new_path: &str, path: &str, fit: &Fit) {
+    let mut last = 0;
+    for fault in fit.faults.iter().take(usize::from(MOST)) {
+        let card = usize::from(fault.card);
+        if card == last {
+            continue;
+        }
+        last = card;
+        if let Some(source) = fit.fitted.source_card(card) {
+            write_card(out, new_path, card);
+            out.write_str("note: it comes from ");
+            out.write_shown(path.as_bytes());
+            write!(out, ":{source}\n");
+        }
+    }
+}

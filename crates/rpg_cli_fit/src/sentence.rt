@@ -1,0 +1,22 @@
+//! Sentences about cards.
+
+use rpg_cli_text::TextWriter;
+use rpg_fit::Sentence;
+
+/// Writes a sentence, with a word of it for each `%`.
+pub(crate) fn write_sentence(out: &mut TextWriter, sentence: &Sentence) {
+    let mut words = sentence.words.iter();
+    for character in sentence.text.chars() {
+        if character != '%' {
+            out.write_char(character);
+        } else if let Some(word) = words.next() {
+            out.write_shown(word.text());
+        }
+    }
+}
+
+/// Writes a card's place: `PATH:CARD: `.
+pub(crate) fn write_card(out: &mut TextWriter, path: &str, card: usize) {
+    out.write_shown(path.as_bytes());
+    write!(out, ":{card}: ");
+}

@@ -1,0 +1,98 @@
+//! The words of the command that rewrites an old deck.
+
+use crate::request::{FileWord, Request, is_standard};
+use clap::ArgMatches;
+use std::alloc::{AllocError, Global};
+
+/// A table file: its name on F and E cards, and where its records are.
+#[derive(Clone, Copy)]
+pub struct TableWord<'a> {
+    pub name: &'a str,
+    pub path: &'a str,
+}
+
+/// The words of `fit`.
+#[derive(Drop)]
+pub struct FitWords<'a> {
+    pub source: &'a str,
+    /// Where the new deck goes, a file or `-`, if it's written.
+    pub new_deck: Option<&'a str>,
+    pub tables: Vec<TableWord<'a>>,
+    /// Eight digits: for each of U1 to U8 whether it is on. All are off where the words don't tell.
+    pub switches: Option<&'a str>,
+    /// Whether no form gets more lines than its L card has.
+    pub keeps_forms: bool,
+}
+
+impl<'a> FitWords<'a> {
+    /// Whether the new deck goes to standard output.
+    pub fn writes_standard_output(&self) -> bool {
+        match self.new_deck {
+            Some(path) => is_standard(path),
+            None => false,
+        }
+    }
+
+    pub(crate) fn path(&self, word: FileWord) -> Option<&'a str> {
+        match word {
+            FileWord::Source => Some(self.source),
+            FileWord::Fitted => self.new_deck,
+            FileWord::Table(place) => self.tables.get(place).map(|table| table.path),
+            _ => None,
+        }
+    }
+}
+
+/// The table file of a word `NAME=FILE`.
+fn table_of(text: &str) -> Option<TableWord<'_>> {
+    let (name, path) = text.split_once('=')?;
+    (!name.is_empty()).then_some(TableWord { name, path })
+}
+
+/// Whether a text has a digit 0 or 1 for each switch.
+fn are_switches(text: &str) -> bool {
+    text.len() == 8 && text.bytes().all(|digit| matches!(digit, b'0' | b'1'))
+}
+
+/// What is wrong with a value that clap takes.
+pub(crate) fn fault_of(given: &ArgMatches) -> Option<&'static str> {
+    match given.get_str("switches") {
+        Some(text) if !are_switches(text) => {
+            return Some("'--switches <00000000>' has eight digits, each 0 or 1");
+        }
+        _ => {}
+    }
+    for text in given.get_strs("table").unwrap_or(&[]) {
+        if table_of(*text).is_none() {
+            return Some("'--table <NAME=FILE>' has the name of a file on the cards, and a path");
+        }
+    }
+    None
+}
+
+/// The table files that the words name.
+fn tables_of<'a>(alloc: Global, given: &ArgMatches<'a>) -> Result<Vec<TableWord<'a>>, AllocError> {
+    let mut tables = Vec::new(alloc);
+    for text in given.get_strs("table").unwrap_or(&[]) {
+        if let Some(table) = table_of(*text) {
+            tables.push(table)?;
+        }
+    }
+    Ok(tables)
+}
+
+pub(crate) fn fit_words<'a>(
+    alloc: Global,
+    given: &ArgMatches<'a>,
+) -> Result<Option<Request<'a>>, AllocError> {
+    let Some(source) = given.get_str("SRC") else {
+        return Ok(None);
+    };
+    Ok(Some(Request::Fit(FitWords {
+        source,
+        new_deck: given.get_str("NEW"),
+        tables: tables_of(alloc, given)?,
+        switches: given.get_str("switches"),
+        keeps_forms: given.get_flag("forms"),
+    })))
+}

@@ -1,0 +1,9 @@
+//! An old deck as cards that are read: the rules one after the other, and the faults of the new deck.
+#![tactic(auto)]
+
+mod fitting;
+mod rules;
+
+pub use fitting::{Fit, FitFault, fit};
+pub use rpg_fit_cards::{Note, Settings, Switches, TableFile};
+pub use rpg_fit_deck::{Card, Fitted, Refusal, Rule, Sentence, Told, What};

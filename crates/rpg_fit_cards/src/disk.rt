@@ -1,0 +1,184 @@
+//! Several disk files become one.
+
+use crate::cards::{is_printer, of_form};
+use crate::draft::Draft;
+use crate::outputs::{OutputCard, OutputRole, output_cards};
+use rpg_fit_deck::{Address, Card, Editor, Seen, Sentence, View, Word};
+use std::alloc::{AllocError, Global};
+
+/// How many disk files can become one: each has a letter.
+const LETTERS: usize = 26;
+
+/// Makes one disk file of several: column 1 of its records has a letter for the file.
+pub fn disks(alloc: Global, editor: &mut Editor) {
+    if join(alloc, editor).is_err() {
+        editor.run_out();
+    }
+}
+
+/// A disk file that is written.
+#[derive(Clone, Copy)]
+struct Disk {
+    seen: Seen,
+    /// How many columns a record has.
+    length: usize,
+    letter: u8,
+}
+
+impl Disk {
+    fn name(&self) -> &[u8] {
+        self.seen.card.value(7, 14)
+    }
+}
+
+fn join(alloc: Global, editor: &mut Editor) -> Result<(), AllocError> {
+    let view = editor.view(alloc)?;
+    let Some(disks) = written_disks(alloc, &view)? else {
+        return Ok(());
+    };
+    let [first, others @ ..] = disks.as_slice() else {
+        return Ok(());
+    };
+    if others.is_empty() {
+        return Ok(());
+    }
+    tell_disks(editor, disks.as_slice());
+    let outputs = output_cards(alloc, &view)?;
+    for (place, output) in outputs.iter().enumerate() {
+        move_output(editor, disks.as_slice(), first, output);
+        if ends_conditions(outputs.as_slice(), place) {
+            put_letter(editor, &view, disks.as_slice(), output);
+        }
+    }
+    join_files(editor, first, others);
+    Ok(())
+}
+
+/// The disk files that are written; none where one has no length, or they are too many.
+fn written_disks(alloc: Global, view: &View) -> Result<Option<Vec<Disk>>, AllocError> {
+    let mut disks = Vec::new(alloc);
+    let mut letter = b'A';
+    for seen in &of_form(alloc, view, b'F')? {
+        if seen.card.column(15) != b'O' || is_printer(&seen.card) {
+            continue;
+        }
+        let Some(length) = seen.card.number(24, 27) else {
+            return Ok(None);
+        };
+        disks.push(Disk {
+            seen: *seen,
+            length,
+            letter,
+        })?;
+        letter = letter.saturating_add(1);
+    }
+    Ok((disks.len() <= LETTERS).then_some(disks))
+}
+
+fn tell_disks(editor: &mut Editor, disks: &[Disk]) {
+    for disk in disks {
+        let letter = Word::of(&[disk.letter]);
+        let sentence = Sentence {
+            text: "%: the disk records that begin with % (grep '^%' | cut -c2-%)",
+            words: [
+                Word::of(disk.name()),
+                letter,
+                letter,
+                Word::of_number(disk.length.saturating_add(1)),
+            ],
+        };
+        editor.tell(disk.seen.number, sentence);
+    }
+}
+
+/// The disk file of a line.
+fn disk_of<'a>(disks: &'a [Disk], file: &[u8]) -> Option<&'a Disk> {
+    disks.iter().find(|disk| disk.name() == file)
+}
+
+/// Gives the card of a line the name of its file, and moves a field of a disk file behind the letter.
+fn move_output(editor: &mut Editor, disks: &[Disk], first: &Disk, output: &OutputCard) {
+    let disk = disk_of(disks, output.file.text());
+    let with = match disk {
+        Some(disk) => disk.seen.number,
+        None => first.seen.number,
+    };
+    let mut draft = Draft::of(&output.seen);
+    match output.role {
+        OutputRole::Line => {
+            let name = match disk {
+                Some(_) => first.name(),
+                None => output.file.text(),
+            };
+            if draft.card.value(7, 14) != name {
+                draft.follow(editor, 7, 14, name, with);
+            }
+        }
+        OutputRole::Field if disk.is_some() => move_field(editor, &mut draft, with),
+        _ => {}
+    }
+}
+
+/// Moves the end of a field by one.
+fn move_field(editor: &mut Editor, draft: &mut Draft, with: usize) {
+    if let Some(end) = draft.card.number(40, 43) {
+        let end = Word::of_number(end.saturating_add(1));
+        let card = draft.card.with_right(40, 43, end.text());
+        draft.follow(editor, 40, 43, card.columns(40, 43), with);
+    }
+}
+
+/// Whether the card at a place is the last one of a line before its fields.
+fn ends_conditions(outputs: &[OutputCard], place: usize) -> bool {
+    let is_condition = match outputs.get(place) {
+        Some(output) => output.role != OutputRole::Field,
+        None => false,
+    };
+    let goes_on = match outputs.get(place.saturating_add(1)) {
+        Some(next) => matches!(next.role, OutputRole::And | OutputRole::Or),
+        None => false,
+    };
+    is_condition && !goes_on
+}
+
+/// Where the card behind another one is.
+fn behind(view: &View, place: usize) -> Address {
+    match view.cards.get(place.saturating_add(1)) {
+        Some(next) => next.at,
+        None => view.cards_end,
+    }
+}
+
+/// Puts the letter of its file into a line.
+fn put_letter(editor: &mut Editor, view: &View, disks: &[Disk], output: &OutputCard) {
+    if let Some(disk) = disk_of(disks, output.file.text()) {
+        let card = Card::of_form(b'O')
+            .with_right(40, 43, b"1")
+            .with(45, 47, &[b'\'', disk.letter, b'\'']);
+        let at = behind(view, output.place);
+        let _ = editor.insert_copy(at, card, output.line, disk.seen.number);
+    }
+}
+
+/// The length of the longest record.
+fn longest(first: &Disk, others: &[Disk]) -> usize {
+    let mut most = first.length;
+    for disk in others {
+        most = most.max(disk.length);
+    }
+    most
+}
+
+/// Leaves the first file alone, with records of the longest length and one.
+fn join_files(editor: &mut Editor, first: &Disk, others: &[Disk]) {
+    let length = Word::of_number(longest(first, others).saturating_add(1));
+    let mut draft = Draft::of(&first.seen);
+    let card = draft
+        .card
+        .with(20, 23, &[])
+        .with_right(24, 27, length.text());
+    draft.follow(editor, 20, 27, card.columns(20, 27), first.seen.number);
+    for disk in others {
+        editor.remove(disk.seen.at, disk.seen.number);
+    }
+}

@@ -1,0 +1,47 @@
+//! A card under change.
+
+use rpg_fit_deck::{Address, Card, Editor, Seen, Sentence};
+
+/// A card that a rule changes. Each change is told of the card itself.
+#[derive(Clone, Copy)]
+pub(crate) struct Draft {
+    at: Address,
+    pub number: usize,
+    pub card: Card,
+}
+
+impl Draft {
+    pub fn of(seen: &Seen) -> Draft {
+        Draft {
+            at: seen.at,
+            number: seen.number,
+            card: seen.card,
+        }
+    }
+
+    /// Puts a text in columns, and tells it.
+    pub fn change(
+        &mut self,
+        editor: &mut Editor,
+        first: usize,
+        last: usize,
+        text: &[u8],
+        sentence: Sentence,
+    ) {
+        editor.tell(self.number, sentence);
+        self.follow(editor, first, last, text, self.number);
+    }
+
+    /// Puts a text in columns, along with the change that is told of the card `with`.
+    pub fn follow(
+        &mut self,
+        editor: &mut Editor,
+        first: usize,
+        last: usize,
+        text: &[u8],
+        with: usize,
+    ) {
+        self.card.put(first, last, text);
+        editor.change(self.at, self.card, with);
+    }
+}

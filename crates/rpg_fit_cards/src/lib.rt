@@ -1,0 +1,26 @@
+//! Rules of an old deck's rewriting that look at single cards: comments, columns, switches, forms, table files, page counters and disk files.
+#![tactic(auto)]
+
+mod cards;
+mod column;
+mod comment;
+mod disk;
+mod draft;
+mod form;
+mod note;
+mod numbered_page;
+mod outputs;
+mod settings;
+mod switch;
+mod table;
+mod table_data;
+
+pub use column::columns;
+pub use comment::comments;
+pub use disk::disks;
+pub use form::forms;
+pub use note::{Note, notes};
+pub use numbered_page::numbered_pages;
+pub use settings::{Settings, Switches, TableFile};
+pub use switch::switches;
+pub use table::tables;

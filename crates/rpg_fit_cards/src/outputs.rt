@@ -1,0 +1,68 @@
+//! Output cards, each with its file.
+
+use crate::cards::is_of_form;
+use rpg_fit_deck::{Card, Seen, View, Word};
+use std::alloc::{AllocError, Global};
+
+/// What an output card is.
+#[derive(Clone, Copy, PartialEq, Eq)]
+pub(crate) enum OutputRole {
+    /// The card that begins a line.
+    Line,
+    And,
+    Or,
+    Field,
+}
+
+/// An output card.
+#[derive(Clone, Copy)]
+pub(crate) struct OutputCard {
+    pub seen: Seen,
+    /// Its place among the cards of the deck.
+    pub place: usize,
+    pub role: OutputRole,
+    /// The number of the card that begins its line.
+    pub line: usize,
+    /// The file of its line.
+    pub file: Word,
+}
+
+fn role_of(card: &Card) -> OutputRole {
+    let is_condition = card.is_blank(7, 13);
+    if is_condition && card.columns(14, 16) == b"AND".as_slice() {
+        OutputRole::And
+    } else if is_condition && card.columns(14, 15) == b"OR".as_slice() {
+        OutputRole::Or
+    } else if card.is_blank(7, 16) {
+        OutputRole::Field
+    } else {
+        OutputRole::Line
+    }
+}
+
+/// The output cards of a deck, without comments.
+pub(crate) fn output_cards(alloc: Global, view: &View) -> Result<Vec<OutputCard>, AllocError> {
+    let mut cards = Vec::new(alloc);
+    let mut line = 0;
+    let mut file = Word::empty();
+    for (place, seen) in view.cards.iter().enumerate() {
+        if !is_of_form(&seen.card, b'O') {
+            continue;
+        }
+        let role = role_of(&seen.card);
+        if role == OutputRole::Line {
+            line = seen.number;
+            if !seen.card.is_blank(7, 14) {
+                file = Word::of(seen.card.value(7, 14));
+            }
+        }
+        cards.push(OutputCard {
+            seen: *seen,
+            place,
+            role,
+            line,
+            file,
+        })?;
+    }
+    Ok(cards)
+}

@@ -1,0 +1,72 @@
+//! What the words of the command say about a deck.
+
+use rpg_fit_deck::Word;
+
+/// The external indicators U1 to U8, as the job was run with them.
+#[derive(Clone, Copy)]
+pub struct Switches {
+    /// For each a 1 where it is on, and a 0 where it is off.
+    digits: [u8; 8],
+}
+
+impl Switches {
+    /// All of them off.
+    pub const OFF: Switches = Switches { digits: [b'0'; 8] };
+
+    /// The switches of eight digits 0 and 1.
+    pub fn of(text: &[u8]) -> Option<Switches> {
+        let [first, second, third, fourth, fifth, sixth, seventh, eighth] = text else {
+            return None;
+        };
+        let digits = [
+            *first, *second, *third, *fourth, *fifth, *sixth, *seventh, *eighth,
+        ];
+        if digits.iter().all(|digit| matches!(*digit, b'0' | b'1')) {
+            Some(Switches { digits })
+        } else {
+            None
+        }
+    }
+
+    /// Whether a switch, which is counted from 1, is on.
+    pub fn is_on(&self, number: usize) -> bool {
+        match self.digits.get(number.saturating_sub(1)) {
+            Some(digit) => *digit == b'1',
+            None => false,
+        }
+    }
+
+    /// The eight digits.
+    pub fn word(&self) -> Word {
+        Word::of(&self.digits)
+    }
+}
+
+/// The records of a table file.
+#[derive(Clone, Copy)]
+pub struct TableFile<'a> {
+    /// Its name on F and E cards.
+    pub name: &'a [u8],
+    pub records: &'a [u8],
+}
+
+/// What the words of the command say about a deck.
+#[derive(Clone, Copy)]
+pub struct Settings<'a> {
+    pub switches: Switches,
+    /// Whether no form gets more lines than its L card has.
+    pub keeps_forms: bool,
+    pub tables: &'a [TableFile<'a>],
+}
+
+impl<'a> Settings<'a> {
+    /// The records of a table file, if the words have them.
+    pub(crate) fn records_of(&self, name: &[u8]) -> Option<&'a [u8]> {
+        for table in self.tables {
+            if table.name == name {
+                return Some(table.records);
+            }
+        }
+        None
+    }
+}

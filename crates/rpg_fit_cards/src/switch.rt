@@ -1,0 +1,192 @@
+//! Conditions on external indicators are decided.
+
+use crate::cards::{first_condition, is_of_form, of_form};
+use crate::draft::Draft;
+use crate::outputs::{OutputCard, OutputRole, output_cards};
+use crate::settings::Switches;
+use rpg_fit_deck::{Card, Editor, Seen, Sentence, View, Word};
+use rpg_text::is_blank;
+use std::alloc::{AllocError, Global};
+
+/// Decides conditions on U1 to U8: L0 stands for a condition that holds, NL0 for one that doesn't.
+pub fn switches(alloc: Global, editor: &mut Editor, switches: &Switches) {
+    if decide(alloc, editor, switches).is_err() {
+        editor.run_out();
+    }
+}
+
+fn decide(alloc: Global, editor: &mut Editor, switches: &Switches) -> Result<(), AllocError> {
+    let view = editor.view(alloc)?;
+    refuse_results(editor, &view);
+    if !editor.goes_on() {
+        return Ok(());
+    }
+    decide_conditions(editor, &view, switches);
+    let outputs = output_cards(alloc, &editor.view(alloc)?)?;
+    for file in &of_form(alloc, &view, b'F')? {
+        decide_file(editor, outputs.as_slice(), file, switches);
+    }
+    Ok(())
+}
+
+/// The number of the switch that an indicator is.
+fn switch_number(indicator: &[u8]) -> Option<usize> {
+    match indicator {
+        [b'U', digit] if matches!(*digit, b'1'..=b'8') => Some(usize::from(*digit - b'0')),
+        _ => None,
+    }
+}
+
+/// The columns of the indicators that a card turns on or off.
+fn result_columns(card: &Card) -> &'static [usize] {
+    match card.form() {
+        b'F' => &[33],
+        b'I' if card.is_blank(7, 20) => &[65, 67, 69],
+        b'I' => &[19],
+        b'C' => &[54, 56, 58],
+        _ => &[],
+    }
+}
+
+fn refuse_results(editor: &mut Editor, view: &View) {
+    for seen in &view.cards {
+        if !seen.card.is_comment() {
+            refuse_result(editor, seen);
+        }
+    }
+}
+
+/// Refuses a card that turns a switch on or off.
+fn refuse_result(editor: &mut Editor, seen: &Seen) {
+    for column in result_columns(&seen.card) {
+        let indicator = seen.card.columns(*column, column.saturating_add(1));
+        if switch_number(indicator).is_some() {
+            let sentence = Sentence::about("% is turned on or off here", Word::of(indicator));
+            editor.refuse(seen.number, sentence);
+        }
+    }
+}
+
+fn decide_conditions(editor: &mut Editor, view: &View, switches: &Switches) {
+    for seen in &view.cards {
+        if is_of_form(&seen.card, b'C') || is_of_form(&seen.card, b'O') {
+            let first = first_condition(seen.card.form());
+            if let Some(conditions) = decided(&seen.card, first, switches) {
+                let sentence = Sentence::about(
+                    "switches are decided by --switches %: L0 is always on, NL0 never",
+                    switches.word(),
+                );
+                let last = first.saturating_add(8);
+                Draft::of(seen).change(editor, first, last, conditions.text(), sentence);
+            }
+        }
+    }
+}
+
+/// The three conditions from a column on, where a switch is among them.
+fn decided(card: &Card, first: usize, switches: &Switches) -> Option<Word> {
+    let mut conditions = Word::empty();
+    let mut is_decided = false;
+    for place in 0..3usize {
+        let column = first.saturating_add(place.saturating_mul(3));
+        let condition = card.columns(column, column.saturating_add(2));
+        match switch_of(condition) {
+            Some(asked) => {
+                is_decided = true;
+                conditions.push_all(decision(switches.is_on(asked.number) != asked.is_off));
+            }
+            None if is_blank(condition) => {}
+            None => conditions.push_all(condition),
+        }
+    }
+    is_decided.then_some(conditions)
+}
+
+/// What stands for a condition that always holds, and for one that never does.
+fn decision(holds: bool) -> &'static [u8] {
+    if holds { b" L0" } else { b"NL0" }
+}
+
+/// A condition on a switch.
+#[derive(Clone, Copy)]
+struct SwitchCondition {
+    number: usize,
+    /// Whether it asks that the switch is off.
+    is_off: bool,
+}
+
+/// The switch that a condition asks for.
+fn switch_of(condition: &[u8]) -> Option<SwitchCondition> {
+    let [not, indicator @ ..] = condition else {
+        return None;
+    };
+    Some(SwitchCondition {
+        number: switch_number(indicator)?,
+        is_off: *not == b'N',
+    })
+}
+
+/// Decides the condition of a file.
+fn decide_file(editor: &mut Editor, outputs: &[OutputCard], file: &Seen, switches: &Switches) {
+    let condition = file.card.value(71, 72);
+    let Some(number) = switch_number(condition) else {
+        return;
+    };
+    if !switches.is_on(number) {
+        let is_input = file.card.column(15) == b'I';
+        if is_input {
+            refuse_input(editor, file.number, condition);
+        } else {
+            refuse_lines(editor, outputs, file);
+        }
+        if !editor.goes_on() {
+            return;
+        }
+        drop_lines(editor, outputs, file);
+    }
+    let sentence = Sentence::of_two(
+        "% is decided by --switches %",
+        Word::of(condition),
+        switches.word(),
+    );
+    Draft::of(file).change(editor, 71, 72, &[], sentence);
+}
+
+fn refuse_input(editor: &mut Editor, number: usize, condition: &[u8]) {
+    let sentence = Sentence::about(
+        "% is off, so the file has no records: blank 71-72 and run it with an empty file",
+        Word::of(condition),
+    );
+    editor.refuse(number, sentence);
+}
+
+/// Whether a card is a field that changes what other lines print.
+fn has_effect(output: &OutputCard) -> bool {
+    let card = &output.seen.card;
+    let counts = card.value(32, 37).starts_with(b"PAGE");
+    output.role == OutputRole::Field && (card.column(39) == b'B' || counts)
+}
+
+/// Refuses lines that can't be left out.
+fn refuse_lines(editor: &mut Editor, outputs: &[OutputCard], file: &Seen) {
+    let name = file.card.value(7, 14);
+    for output in outputs {
+        if output.file.text() == name && has_effect(output) {
+            let sentence = Sentence::of(
+                "a line of a file that isn't there has PAGE or blank after",
+            );
+            editor.refuse(output.line, sentence);
+        }
+    }
+}
+
+/// Gives the lines of a file a condition that never holds.
+fn drop_lines(editor: &mut Editor, outputs: &[OutputCard], file: &Seen) {
+    let name = file.card.value(7, 14);
+    for output in outputs {
+        let is_alternative = matches!(output.role, OutputRole::Line | OutputRole::Or);
+        if output.file.text() == name && is_alternative {
+            Draft::of(&output.seen).follow(editor, 23, 31, b"NL0", file.number);
+        }
+    }
+}

@@ -1,0 +1,188 @@
+//! Table files become data behind `**` cards.
+
+use crate::cards::of_form;
+use crate::draft::Draft;
+use crate::settings::Settings;
+use crate::table_data::{TableShape, entries_of, records_of};
+use rpg_fit_deck::{Address, Card, Editor, Seen, Sentence, View, Word};
+use rpg_text::has_only_characters;
+use std::alloc::{AllocError, Global};
+
+/// Puts the records of table files behind `**` cards, in the order of the E cards, and takes out the files.
+pub fn tables(alloc: Global, editor: &mut Editor, settings: &Settings) {
+    if put_tables(alloc, editor, settings).is_err() {
+        editor.run_out();
+    }
+}
+
+fn put_tables(alloc: Global, editor: &mut Editor, settings: &Settings) -> Result<(), AllocError> {
+    let view = editor.view(alloc)?;
+    let cards = of_form(alloc, &view, b'E')?;
+    let Some(first) = cards.iter().find(|seen| has_file(&seen.card)) else {
+        return Ok(());
+    };
+    put_data(alloc, editor, settings, &view, cards.as_slice())?;
+    if editor.goes_on() {
+        for file in &of_form(alloc, &view, b'F')? {
+            drop_file(editor, file, first.number);
+        }
+    }
+    Ok(())
+}
+
+/// Whether the table of an E card is read from a file.
+fn has_file(card: &Card) -> bool {
+    !card.is_blank(11, 18)
+}
+
+/// Whether a line begins the data of a table.
+fn begins_data(seen: &Seen) -> bool {
+    seen.card.columns(1, 3) == b"** ".as_slice()
+}
+
+/// The first lines of a deck's data, and what stands behind them.
+#[derive(Drop)]
+struct Parts {
+    starts: Vec<Address>,
+    end: Address,
+    /// How many of them the E cards before have.
+    used: usize,
+}
+
+impl Parts {
+    fn of(alloc: Global, view: &View) -> Result<Parts, AllocError> {
+        let mut starts = Vec::new(alloc);
+        for seen in &view.data {
+            if begins_data(seen) {
+                starts.push(seen.at)?;
+            }
+        }
+        Ok(Parts {
+            starts,
+            end: view.end,
+            used: 0,
+        })
+    }
+
+    /// Where the data of the next E card begin, or would.
+    fn next(&self) -> Address {
+        match self.starts.get(self.used) {
+            Some(at) => *at,
+            None => self.end,
+        }
+    }
+
+    /// Takes the data of the next E card, if there are some.
+    fn take(&mut self) -> bool {
+        let are_there = self.used < self.starts.len();
+        self.used = self.used.saturating_add(1);
+        are_there
+    }
+}
+
+fn put_data(
+    alloc: Global,
+    editor: &mut Editor,
+    settings: &Settings,
+    view: &View,
+    cards: &[Seen],
+) -> Result<(), AllocError> {
+    let mut parts = Parts::of(alloc, view)?;
+    for seen in cards {
+        if !seen.card.is_blank(19, 26) {
+            let sentence = Sentence::of("a table that is written at the end (19 to 26)");
+            editor.refuse(seen.number, sentence);
+        } else if has_file(&seen.card) {
+            put_records(alloc, editor, settings, parts.next(), seen)?;
+        } else if !seen.card.is_blank(33, 35) && !parts.take() {
+            editor.refuse(seen.number, Sentence::of("its data are missing"));
+        }
+        if !editor.goes_on() {
+            break;
+        }
+    }
+    Ok(())
+}
+
+/// Puts the records of an E card's file before the data of a later one.
+fn put_records(
+    alloc: Global,
+    editor: &mut Editor,
+    settings: &Settings,
+    before: Address,
+    seen: &Seen,
+) -> Result<(), AllocError> {
+    let name = seen.card.value(11, 18);
+    let word = Word::of(name);
+    let Some(text) = settings.records_of(name) else {
+        let sentence = "the records of % are wanted: give --table %=FILE";
+        editor.refuse(seen.number, Sentence::of_two(sentence, word, word));
+        return Ok(());
+    };
+    let Some(shape) = TableShape::of(&seen.card) else {
+        return Ok(());
+    };
+    let records = records_of(alloc, text)?;
+    if let Some(why) = shape.reason(word, records.len()) {
+        editor.refuse(seen.number, why);
+        return Ok(());
+    }
+    let entries = entries_of(alloc, &shape, records.as_slice())?;
+    if has_only_characters(entries.as_slice()) {
+        put_entries(editor, &shape, before, entries.as_slice(), seen.number);
+        take_over(editor, &shape, records.len(), seen);
+    } else {
+        let sentence = Sentence::about("% has a byte that is no character", word);
+        editor.refuse(seen.number, sentence);
+    }
+    Ok(())
+}
+
+/// Puts a `**` card and the entries behind it.
+fn put_entries(
+    editor: &mut Editor,
+    shape: &TableShape,
+    before: Address,
+    entries: &[u8],
+    with: usize,
+) {
+    let _ = editor.insert(before, Card::of(b"**"), with);
+    let width = shape.width.saturating_mul(shape.per_card()).max(1);
+    let mut rest = entries;
+    for _ in 0..shape.entries {
+        if rest.is_empty() {
+            break;
+        }
+        let (card, more) = rest.split_at(width.min(rest.len()));
+        let _ = editor.insert(before, Card::of(card), with);
+        rest = more;
+    }
+}
+
+/// Takes the file from an E card, and gives it as many entries as a data card has.
+fn take_over(editor: &mut Editor, shape: &TableShape, records: usize, seen: &Seen) {
+    let sentence = Sentence::of_two(
+        "% records of % stand behind ** now; compile again when they change",
+        Word::of_number(records),
+        Word::of(seen.card.value(11, 18)),
+    );
+    let mut draft = Draft::of(seen);
+    draft.change(editor, 11, 18, &[], sentence);
+    let per_card = shape.per_card();
+    if per_card != shape.per_record {
+        let card = draft
+            .card
+            .with_right(33, 35, Word::of_number(per_card).text());
+        draft.follow(editor, 33, 35, card.columns(33, 35), seen.number);
+    }
+}
+
+/// Takes out the F card of a table file, and blanks the letter on others that asks for E cards.
+fn drop_file(editor: &mut Editor, file: &Seen, with: usize) {
+    if file.card.columns(15, 16) == b"IT".as_slice() {
+        editor.tell(file.number, Sentence::of("a table file, taken out"));
+        editor.remove(file.at, file.number);
+    } else if file.card.column(39) == b'E' {
+        Draft::of(file).follow(editor, 39, 39, &[], with);
+    }
+}

@@ -1,0 +1,126 @@
+//! The records of a table file as the data of a table.
+
+use rpg_fit_deck::{Card, Sentence, Word};
+use rpg_text::first_line;
+use std::alloc::{AllocError, Global};
+
+/// The columns of a data card.
+const COLUMNS: usize = 80;
+
+/// What an E card says of its table, and of the one that alternates with it.
+#[derive(Clone, Copy)]
+pub(crate) struct TableShape {
+    /// How many entries a record has.
+    pub per_record: usize,
+    pub entries: usize,
+    /// The columns of an entry, or of two that alternate.
+    pub width: usize,
+    /// Whether some table is in ascending sequence.
+    pub is_ascending: bool,
+}
+
+impl TableShape {
+    /// The shape of a card's table, where its columns can be read.
+    pub fn of(card: &Card) -> Option<TableShape> {
+        let alternates = !card.is_blank(46, 51);
+        let other = if alternates { card.number(52, 54)? } else { 0 };
+        let shape = TableShape {
+            per_record: card.number(33, 35)?,
+            entries: card.number(36, 39)?,
+            width: card.number(40, 42)?.saturating_add(other),
+            is_ascending: card.column(45) == b'A' || alternates && card.column(57) == b'A',
+        };
+        (shape.per_record > 0 && shape.width > 0).then_some(shape)
+    }
+
+    /// How many records have all entries.
+    fn records(&self) -> usize {
+        let mut records: usize = 0;
+        let mut held: usize = 0;
+        for _ in 0..self.entries {
+            if held >= self.entries {
+                break;
+            }
+            held = held.saturating_add(self.per_record);
+            records = records.saturating_add(1);
+        }
+        records
+    }
+
+    /// How many entries a data card gets.
+    pub fn per_card(&self) -> usize {
+        let mut fit: usize = 0;
+        let mut columns = self.width;
+        for _ in 0..self.per_record.min(COLUMNS) {
+            if columns > COLUMNS {
+                break;
+            }
+            fit = fit.saturating_add(1);
+            columns = columns.saturating_add(self.width);
+        }
+        fit
+    }
+
+    /// Why records can't be its data, by the name of their file.
+    pub fn reason(&self, name: Word, records: usize) -> Option<Sentence> {
+        let wanted = self.records();
+        let (given, entries) = (Word::of_number(records), Word::of_number(self.entries));
+        if records > wanted {
+            return Some(Sentence {
+                text: "% has % records, and % hold the % entries",
+                words: [name, given, Word::of_number(wanted), entries],
+            });
+        }
+        if records < wanted && self.is_ascending {
+            let text = "% has % records for % entries in ascending sequence";
+            return Some(Sentence::of_three(text, name, given, entries));
+        }
+        if self.width > COLUMNS {
+            let text = "entries of % columns don't fit a card";
+            return Some(Sentence::about(text, Word::of_number(self.width)));
+        }
+        None
+    }
+}
+
+/// The lines of a file.
+pub(crate) fn records_of(alloc: Global, text: &[u8]) -> Result<Vec<&[u8]>, AllocError> {
+    let mut records = Vec::new(alloc);
+    let mut rest = text;
+    for _ in 0..text.len() {
+        if rest.is_empty() {
+            break;
+        }
+        let (record, more) = first_line(rest);
+        records.push(record)?;
+        rest = more;
+    }
+    Ok(records)
+}
+
+/// Appends blanks until a text has so many characters.
+fn pad(text: &mut Vec<u8>, length: usize) -> Result<(), AllocError> {
+    for _ in text.len()..length {
+        text.push(b' ')?;
+    }
+    Ok(())
+}
+
+/// All entries of a table one after another, by its records. Entries that are missing are blanks.
+pub(crate) fn entries_of(
+    alloc: Global,
+    shape: &TableShape,
+    records: &[&[u8]],
+) -> Result<Vec<u8>, AllocError> {
+    let mut text = Vec::new(alloc);
+    let width = shape.width.saturating_mul(shape.per_record);
+    for record in records {
+        let end = text.len().saturating_add(width);
+        text.extend_from_slice(record.get(..width).unwrap_or(*record))?;
+        pad(&mut text, end)?;
+    }
+    let whole = shape.width.saturating_mul(shape.entries);
+    text.truncate(whole);
+    pad(&mut text, whole)?;
+    Ok(text)
+}
