@@ -2,7 +2,7 @@
 use Rattle.std.specs.Prelude.{◌≡◌, false, Option, None, Some, ⊤}
 use Rattle.rpg_cli_words.specs.declared.dates.DateWord.{DateWord}
 use Rattle.rpg_date_use.specs.DateUse.{uses_date}
-use Rattle.rpg_object_program.specs.Object.{Object}
+use Rattle.rpg_engine.specs.Object.{Object}
 
 -- without a date the program doesn't use it
 abbrev pub HasDate : Option DateWord → Object → Type 0

@@ -15,7 +15,13 @@ pub(crate) fn has_date(program: &Program, date: Option<DateWord<'_>>) -> Result<
     ensures err { IfErr result (λ answer. answer ≡ answers.DateWanted) }
 {
     match date {
-        None if uses_date(program) => Err(Answer::DateWanted),
-        _ => Ok(()),
+        Some(_) => Ok(()),
+        None => {
+            if uses_date(program) {
+                Err(Answer::DateWanted)
+            } else {
+                Ok(())
+            }
+        }
     }
 }

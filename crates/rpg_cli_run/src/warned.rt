@@ -15,11 +15,17 @@ fn judged(words: WarningWords, warnings: &[Warning]) -> Result<(), Answer>
     ensures err { IfErr result (λ answer. IsDenied answer warnings.now) }
 {
     match warnings.first() {
-        Some(warning) if words.denies => Err(Answer::Denied {
-            card: warning.card,
-            code: warning.kind.code(),
-        }),
-        _ => Ok(()),
+        None => Ok(()),
+        Some(warning) => {
+            if words.denies {
+                Err(Answer::Denied {
+                    card: warning.card,
+                    code: warning.kind.code(),
+                })
+            } else {
+                Ok(())
+            }
+        }
     }
 }
 
