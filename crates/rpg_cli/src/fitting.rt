@@ -6,7 +6,7 @@ use rpg_cli_fit::{change_messages, new_deck_messages, refusal_message, too_many_
 use rpg_cli_run::{NamedFile, refuse_same_file};
 use rpg_cli_words::{FileWord, FitWords, is_standard};
 use rpg_faults::{CardFault, SourceFault};
-use rpg_fit::{Fit, FitFault, Settings, Switches, TableFile, fit};
+use rpg_fit::{FitFault, FittedDeck, Settings, Switches, TableFile, fit};
 use rpg_sheet::SheetCode;
 use std::alloc::{AllocError, Global};
 use std::io::Write;
@@ -56,7 +56,7 @@ fn rewrite(
     words: &FitWords,
     source: &[u8],
     records: &[Vec<u8>],
-) -> Result<Fit, FitFault> {
+) -> Result<FittedDeck, FitFault> {
     let tables = table_files(alloc, words, records)?;
     let settings = Settings {
         switches: switches_of(words),
@@ -143,7 +143,7 @@ fn tell_fit<L: Listener>(
     alloc: Global,
     words: &FitWords,
     source: &[u8],
-    fit: &Fit,
+    fit: &FittedDeck,
     listener: &mut L,
 ) {
     if let Ok(messages) = change_messages(alloc, words.source, source, fit) {
@@ -156,7 +156,7 @@ fn tell_fit<L: Listener>(
 }
 
 /// The answer to a deck that is rewritten: its changes, or the first fault of the new one.
-fn answer_of(fit: &Fit) -> Answer {
+fn answer_of(fit: &FittedDeck) -> Answer {
     match fit.faults.first() {
         None => Answer::Fitted {
             changes: fit.fitted.changes() as u64,

@@ -3,7 +3,7 @@
 use crate::sentence::{write_card, write_sentence};
 use rpg_cli_messages::{CardLines, write_picture};
 use rpg_cli_text::TextWriter;
-use rpg_fit::{Card, Fit, Fitted, Note, Refusal, Rule, Told, What};
+use rpg_fit::{Card, Fitted, FittedDeck, Note, Refusal, Rule, Told, What};
 use std::alloc::{AllocError, Global};
 
 /// The columns of a card.
@@ -15,7 +15,7 @@ pub fn change_messages(
     alloc: Global,
     path: &str,
     source: &[u8],
-    fit: &Fit,
+    fit: &FittedDeck,
 ) -> Result<String, AllocError> {
     let mut out = TextWriter::new(alloc);
     let mut lines = CardLines::of(source);

@@ -3,7 +3,7 @@
 use crate::sentence::write_card;
 use rpg_cli_messages::source_messages;
 use rpg_cli_text::TextWriter;
-use rpg_fit::Fit;
+use rpg_fit::FittedDeck;
 use std::alloc::{AllocError, Global};
 
 /// How many faults are listed at most.
@@ -15,7 +15,7 @@ pub fn new_deck_messages(
     alloc: Global,
     new_path: &str,
     path: &str,
-    fit: &Fit,
+    fit: &FittedDeck,
 ) -> Result<String, AllocError> {
     let mut out = TextWriter::new(alloc);
     if fit.faults.is_empty() {
@@ -29,7 +29,7 @@ pub fn new_deck_messages(
 }
 
 /// Writes which cards of the source the cards with a fault come from.
-fn write_origins(out: &mut TextWriter, new_path: &str, path: &str, fit: &Fit) {
+fn write_origins(out: &mut TextWriter, new_path: &str, path: &str, fit: &FittedDeck) {
     let mut last = 0;
     for fault in fit.faults.iter().take(usize::from(MOST)) {
         let card = usize::from(fault.card);

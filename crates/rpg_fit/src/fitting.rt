@@ -12,7 +12,7 @@ use std::alloc::{AllocError, Global};
 
 /// A deck that is rewritten.
 #[derive(Drop)]
-pub struct Fit {
+pub struct FittedDeck {
     pub fitted: Fitted,
     /// What is noted of cards that mean something else than before.
     pub notes: Vec<Note>,
@@ -54,9 +54,9 @@ impl From<SourceFault> for FitFault {
 /// How many cards a deck has at most.
 const MOST_CARDS: usize = 2000;
 
-/// A deck that all rules have seen.
+/// A deck that all rules have seen, and its notes.
 #[derive(Drop)]
-struct Rewritten {
+struct NotedDeck {
     fitted: Fitted,
     notes: Vec<Note>,
 }
@@ -68,13 +68,13 @@ struct Rewritten {
 /// # Errors
 ///
 /// A rule refuses the deck, it has too many cards, or memory is refused.
-pub fn fit(alloc: Global, source: &[u8], settings: &Settings) -> Result<Fit, FitFault>
+pub fn fit(alloc: Global, source: &[u8], settings: &Settings) -> Result<FittedDeck, FitFault>
     ensures laws { IfOk result (λ fit. IsFitted source.now fit.fitted) }
     ensures faults { IfOk result (λ fit. AreSourceFaults fit.fitted.new.items fit.faults.items) }
 {
-    let Rewritten { fitted, notes } = rewritten(alloc, source, settings)?;
+    let NotedDeck { fitted, notes } = rewritten(alloc, source, settings)?;
     let faults = source_faults(alloc, fitted.new.as_slice())?;
-    Ok(Fit {
+    Ok(FittedDeck {
         fitted,
         notes,
         faults,
@@ -82,7 +82,7 @@ pub fn fit(alloc: Global, source: &[u8], settings: &Settings) -> Result<Fit, Fit
 }
 
 /// Applies all rules to a deck.
-fn rewritten(alloc: Global, source: &[u8], settings: &Settings) -> Result<Rewritten, FitFault>
+fn rewritten(alloc: Global, source: &[u8], settings: &Settings) -> Result<NotedDeck, FitFault>
     ensures { IfOk result (λ done. IsFitted source.now done.fitted) }
 {
     if line_feeds(source) > MOST_CARDS {
@@ -93,7 +93,7 @@ fn rewritten(alloc: Global, source: &[u8], settings: &Settings) -> Result<Rewrit
     apply_all(alloc, &mut editor, settings);
     check(&editor)?;
     let fitted = editor.finish(alloc, source)?;
-    Ok(Rewritten {
+    Ok(NotedDeck {
         fitted,
         notes: noted,
     })

@@ -4,6 +4,6 @@
 mod fitting;
 mod rules;
 
-pub use fitting::{Fit, FitFault, fit};
+pub use fitting::{FitFault, FittedDeck, fit};
 pub use rpg_fit_cards::{Note, Settings, Switches, TableFile};
 pub use rpg_fit_deck::{Card, Fitted, Refusal, Rule, Sentence, Told, What};
