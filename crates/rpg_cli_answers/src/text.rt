@@ -221,20 +221,6 @@ fn ending_status(ending: JobEnd) -> u8
     }
 }
 
-/// How a job ended, without its counts.
-pub(crate) fn ending_line(ending: JobEnd) -> Line
-    ensures text { result.text.items ≡ answers.ending_text ending }
-    ensures len { array_vec_len result.text ≤ 10 }
-    ensures status { result.status ≡ answers.ending_status ending }
-{
-    let mut text = ArrayVec::new();
-    put_ending(&mut text, ending);
-    Line {
-        text,
-        status: ending_status(ending),
-    }
-}
-
 /// The exit status of an answer.
 fn exit_status(answer: &Answer) -> u8
     ensures { result ≡ answers.exit_status answer.now }

@@ -1,3 +1,2 @@
--- Lemmas on runs whose writers are flushed, and on sources that are those of object programs.
+-- Lemmas on runs whose writers are flushed.
 pub mod Flushing
-pub mod Matching
