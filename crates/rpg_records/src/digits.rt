@@ -1,10 +1,10 @@
 //! Numbers of packed and binary bytes as zoned texts, which rpg2 reads, and back.
 
-ghost use Rattle.std.specs.Prelude.{◌≡◌, ◌-◌, ◌*◌, ◌^◌, ◌≤◌, length, None, Some, OnErr, OnOk};
+ghost use Rattle.std.specs.Prelude.{◌≡◌, ◌-◌, ◌*◌, ◌^◌, ◌≤◌, length, None, Some, IfErr, OnErr, OnOk};
 ghost use Rattle.rpg_decimal_words.specs.Zoned.{number_in};
 ghost use Rattle.rpg_records.specs.Binary.{binary_number};
 ghost use Rattle.rpg_records.specs.Packed.{packed_in};
-ghost use Rattle.rpg_records.specs.Unpacked.{binary_text, packed_text};
+ghost use Rattle.rpg_records.specs.Unpacked.{binary_text, bytes_of_binary_text, bytes_of_packed_text, packed_text};
 
 use crate::binary::{read_binary, write_binary};
 use crate::packed::{read_packed, write_packed};
@@ -29,6 +29,7 @@ pub fn packed_to_zoned(bytes: &[u8], digits: &mut [u8]) -> Result<(), NumberFaul
     ensures digits { OnOk result (packed_text bytes.now ≡ Some digits.new) }
     ensures number { OnOk result (number_in digits.new ≡ packed_in bytes.now) }
     ensures fault { OnErr result (packed_in bytes.now ≡ None) }
+    ensures reason { IfErr result (λ fault. fault ≡ NumberFault.NotPacked) }
 {
     match read_packed(bytes) {
         Some(n) => {
@@ -44,6 +45,7 @@ pub fn zoned_to_packed(digits: &[u8], bytes: &mut [u8]) -> Result<(), NumberFaul
     requires low { 1 ≤ length bytes.old }
     requires high { length bytes.old ≤ 8 }
     requires long { length digits.now ≡ 2 * length bytes.old - 1 }
+    ensures bytes { OnOk result (bytes_of_packed_text (length bytes.old) digits.now ≡ Some bytes.new) }
     ensures number { OnOk result (packed_in bytes.new ≡ number_in digits.now) }
     ensures fault { OnErr result (number_in digits.now ≡ None) }
 {
@@ -82,6 +84,7 @@ pub fn binary_to_zoned(bytes: &[u8], digits: &mut [u8]) -> Result<(), NumberFaul
     ensures digits { OnOk result (binary_text (length digits.old) bytes.now ≡ Some digits.new) }
     ensures number { OnOk result (number_in digits.new ≡ Some (binary_number bytes.now)) }
     ensures fault { OnErr result (binary_text (length digits.old) bytes.now ≡ None) }
+    ensures reason { IfErr result (λ fault. fault ≡ NumberFault.TooLarge) }
 {
     let n = read_binary(bytes);
     if n.unsigned_abs() >= power_of_ten(digits.len()) {
@@ -97,6 +100,7 @@ pub fn zoned_to_binary(digits: &[u8], bytes: &mut [u8]) -> Result<(), NumberFaul
     requires low { 1 ≤ length digits.now }
     requires high { length digits.now ≤ 9 }
     requires room { 2 * 10 ^ length digits.now ≤ 256 ^ length bytes.old }
+    ensures bytes { OnOk result (bytes_of_binary_text (length bytes.old) digits.now ≡ Some bytes.new) }
     ensures number { OnOk result (Some (binary_number bytes.new) ≡ number_in digits.now) }
     ensures fault { OnErr result (number_in digits.now ≡ None) }
 {
