@@ -68,14 +68,28 @@ pub(crate) const BYTES: [Code; 7] = [
     Code::PastLimit,
 ];
 
-/// The rules by which old decks are rewritten, as far as `rpg2 fit` applies them.
-pub(crate) const REWRITINGS: [Rewriting; 7] = [
+/// The rules by which old decks are rewritten.
+pub(crate) const REWRITINGS: [Rewriting; 21] = [
     Rewriting::Comments,
     Rewriting::Columns,
     Rewriting::Switches,
     Rewriting::Forms,
     Rewriting::Tables,
+    Rewriting::OrTypes,
+    Rewriting::Sequence,
     Rewriting::NumberedPages,
+    Rewriting::OrSpaces,
+    Rewriting::Figures,
+    Rewriting::Moves,
+    Rewriting::InputArrays,
+    Rewriting::WholeCalculations,
+    Rewriting::WholeOutputs,
+    Rewriting::Places,
+    Rewriting::Pages,
+    Rewriting::Words,
+    Rewriting::Dollars,
+    Rewriting::Fetch,
+    Rewriting::Dates,
     Rewriting::Disks,
 ];
 
@@ -138,14 +152,6 @@ impl Topic {
     }
 }
 
-/// The rule with a number, which is counted from 0.
-fn rewriting_at(at: usize) -> Option<Topic> {
-    let found = REWRITINGS
-        .iter()
-        .find(|rule| usize::from(rule.number()) == at.saturating_add(1));
-    found.map(|rule| Topic::Rewriting(*rule))
-}
-
 /// The number after a family's letters, whatever their case: 16 of `f16` for `F`, 4 of `Halt 4` for `halt`.
 fn number_behind(code: &str, letters: &str) -> Option<usize> {
     let given = code.get(..letters.len())?;
@@ -170,7 +176,7 @@ pub fn topic_of(code: &str) -> Option<Topic> {
     } else if let Some(at) = number_behind(code, "B") {
         BYTES.get(at).map(|code| Topic::Bytes(*code))
     } else if let Some(at) = number_behind(code, "A") {
-        rewriting_at(at)
+        REWRITINGS.get(at).map(|rule| Topic::Rewriting(*rule))
     } else {
         let at = number_behind(code, "halt")?;
         HALTS.get(at).map(|halt| Topic::Halt(*halt))

@@ -1,21 +1,41 @@
 //! The rules, in their order.
 
+use rpg_fit_calculations::{dates, figures, moves, whole_calculations};
 use rpg_fit_cards::{Settings, columns, comments, disks, forms, numbered_pages, switches, tables};
 use rpg_fit_deck::{Editor, Rule};
+use rpg_fit_lines::{dollars, or_spaces, places, whole_outputs, words};
+use rpg_fit_overflow::{fetch, pages};
+use rpg_fit_terms::settle;
+use rpg_fit_types::{input_arrays, or_types, sequence};
 use std::alloc::Global;
 
-/// The rules that are applied, in their order, since rules stand on one another.
-const RULES: [Rule; 7] = [
+/// The rules in their order, since rules stand on one another.
+const RULES: [Rule; 21] = [
     Rule::Comments,
     Rule::Columns,
     Rule::Switches,
     Rule::Forms,
     Rule::Tables,
+    Rule::OrTypes,
+    Rule::Sequence,
     Rule::NumberedPages,
+    Rule::OrSpaces,
+    Rule::Figures,
+    Rule::Moves,
+    Rule::InputArrays,
+    Rule::WholeCalculations,
+    Rule::WholeOutputs,
+    Rule::Places,
+    Rule::Pages,
+    Rule::Words,
+    Rule::Dollars,
+    Rule::Fetch,
+    Rule::Dates,
     Rule::Disks,
 ];
 
-fn apply(alloc: Global, editor: &mut Editor, settings: &Settings, rule: Rule) {
+/// Applies a rule that looks at cards one by one, or at record types.
+fn apply_to_cards(alloc: Global, editor: &mut Editor, settings: &Settings, rule: Rule) {
     match rule {
         Rule::Comments => comments(alloc, editor),
         Rule::Columns => columns(alloc, editor),
@@ -24,6 +44,35 @@ fn apply(alloc: Global, editor: &mut Editor, settings: &Settings, rule: Rule) {
         Rule::Tables => tables(alloc, editor, settings),
         Rule::NumberedPages => numbered_pages(alloc, editor),
         Rule::Disks => disks(alloc, editor),
+        Rule::OrTypes => or_types(alloc, editor),
+        Rule::Sequence => sequence(alloc, editor),
+        Rule::InputArrays => input_arrays(alloc, editor),
+        _ => {}
+    }
+}
+
+/// Applies a rule about calculations.
+fn apply_to_calculations(alloc: Global, editor: &mut Editor, rule: Rule) {
+    let outcome = match rule {
+        Rule::Figures => figures(alloc, editor),
+        Rule::Moves => moves(alloc, editor),
+        Rule::WholeCalculations => whole_calculations(alloc, editor),
+        Rule::Dates => dates(alloc, editor),
+        _ => Ok(()),
+    };
+    settle(editor, outcome);
+}
+
+/// Applies a rule about output lines.
+fn apply_to_lines(alloc: Global, editor: &mut Editor, rule: Rule) {
+    match rule {
+        Rule::OrSpaces => or_spaces(alloc, editor),
+        Rule::WholeOutputs => whole_outputs(alloc, editor),
+        Rule::Places => places(alloc, editor),
+        Rule::Pages => pages(alloc, editor),
+        Rule::Words => words(alloc, editor),
+        Rule::Dollars => dollars(alloc, editor),
+        Rule::Fetch => fetch(alloc, editor),
         _ => {}
     }
 }
@@ -33,7 +82,9 @@ pub(crate) fn apply_all(alloc: Global, editor: &mut Editor, settings: &Settings)
     for rule in RULES {
         if editor.goes_on() {
             editor.begin(rule);
-            apply(alloc, editor, settings, rule);
+            apply_to_cards(alloc, editor, settings, rule);
+            apply_to_calculations(alloc, editor, rule);
+            apply_to_lines(alloc, editor, rule);
         }
     }
 }

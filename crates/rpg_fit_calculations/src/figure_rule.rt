@@ -1,0 +1,197 @@
+//! Figurative constants.
+
+use crate::columns::Columns;
+use crate::figure::{Beside, Figure, Instead, Use, replacement};
+use rpg_fit_deck::{Card, Editor, Seen, Sentence, View, Word};
+use rpg_fit_words::{
+    Calculation, Indicator, Operand, Place, Stop, form_of, fresh_name, insert_at, is_card,
+};
+use std::alloc::Global;
+
+/// The length of a field of blanks: that of the longest text.
+const BLANKS: usize = 256;
+
+/// The length of a field of zeros: the most digits of a number.
+const ZEROS: usize = 15;
+
+/// Fields that nothing writes, in place of constants that are longer than a literal.
+#[derive(Clone, Copy)]
+struct Fields {
+    blanks: Option<Word>,
+    zeros: Option<Word>,
+}
+
+impl Fields {
+    fn none() -> Fields {
+        Fields {
+            blanks: None,
+            zeros: None,
+        }
+    }
+
+    fn of(&self, figure: Figure) -> Option<Word> {
+        match figure {
+            Figure::Blanks => self.blanks,
+            Figure::Zeros => self.zeros,
+        }
+    }
+
+    fn keep(&mut self, figure: Figure, name: Word) {
+        match figure {
+            Figure::Blanks => self.blanks = Some(name),
+            Figure::Zeros => self.zeros = Some(name),
+        }
+    }
+}
+
+/// Rewrites figurative constants as numbers, as literals, or as fields that nothing writes.
+///
+/// # Errors
+///
+/// A constant has no such meaning beside the other operand, a name is needed and none is free, or memory is refused.
+pub fn figures(alloc: Global, editor: &mut Editor) -> Result<(), Stop> {
+    let view = editor.view(alloc)?;
+    let mut fields = Fields::none();
+    for seen in view.cards.iter() {
+        if is_card(seen, b'C') {
+            rewrite_card(alloc, editor, &view, &mut fields, *seen)?;
+        }
+    }
+    Ok(())
+}
+
+/// Rewrites the figurative constants of a calculation. The first may change the operation of the second.
+fn rewrite_card(
+    alloc: Global,
+    editor: &mut Editor,
+    view: &View,
+    fields: &mut Fields,
+    seen: Seen,
+) -> Result<(), Stop> {
+    let mut now = seen;
+    now.card = rewritten(alloc, editor, view, fields, now, Columns::Factor1)?;
+    now.card = rewritten(alloc, editor, view, fields, now, Columns::Factor2)?;
+    Ok(())
+}
+
+/// A card with the figurative constant in columns rewritten, in the deck too.
+fn rewritten(
+    alloc: Global,
+    editor: &mut Editor,
+    view: &View,
+    fields: &mut Fields,
+    seen: Seen,
+    columns: Columns,
+) -> Result<Card, Stop> {
+    let constant = Word::of(columns.value(&seen.card));
+    let Some(figure) = Figure::of(constant.text()) else {
+        return Ok(seen.card);
+    };
+    let instead = meaning(view, &seen, columns, figure)?;
+    let text = match instead {
+        Instead::Number => Word::of(b"0"),
+        Instead::Literal(literal) => literal,
+        Instead::Field => field(alloc, editor, fields, figure, seen.number)?,
+    };
+    let card = columns.put(with_operation(seen.card, instead), text.text());
+    editor.change(seen.at, card, seen.number);
+    editor.tell(seen.number, Sentence::of_two("% is %", constant, text));
+    Ok(card)
+}
+
+/// What stands for the figurative constant in columns.
+fn meaning(view: &View, seen: &Seen, columns: Columns, figure: Figure) -> Result<Instead, Stop> {
+    let constant = columns.value(&seen.card);
+    let Some(beside) = beside(view, other_operand(&seen.card, columns)) else {
+        return Err(Stop::refused(
+            seen.number,
+            Sentence::about(
+                "% stands with a name that nothing defines",
+                Word::of(constant),
+            ),
+        ));
+    };
+    match replacement(figure, constant, seen.card.value(28, 32), beside) {
+        Ok(instead) => Ok(instead),
+        Err(why) => Err(Stop::refused(seen.number, why)),
+    }
+}
+
+/// The operand that decides what a figurative constant in columns stands for.
+fn other_operand(card: &Card, columns: Columns) -> &[u8] {
+    if columns == Columns::Factor1 {
+        return Columns::Factor2.value(card);
+    }
+    let field = Columns::Result.value(card);
+    if field.is_empty() {
+        Columns::Factor1.value(card)
+    } else {
+        field
+    }
+}
+
+/// What an operand is; none if nothing defines it.
+fn beside(view: &View, other: &[u8]) -> Option<Beside> {
+    if let Some(constant) = Beside::of_constant(other) {
+        return Some(constant);
+    }
+    let form = form_of(view, Operand::of(other).name)?;
+    if form.is_number() {
+        Some(Beside::Number)
+    } else {
+        Some(Beside::Text(form.length))
+    }
+}
+
+/// A card with the operation that fits what stands for a figurative constant.
+fn with_operation(card: Card, instead: Instead) -> Card {
+    match instead {
+        Instead::Number if Use::of(card.value(28, 32)) == Use::Move => {
+            card.with(28, 32, b"Z-ADD")
+        }
+        _ => card,
+    }
+}
+
+/// The field that stands for a figurative constant. The first card that needs it makes it.
+fn field(
+    alloc: Global,
+    editor: &mut Editor,
+    fields: &mut Fields,
+    figure: Figure,
+    number: usize,
+) -> Result<Word, Stop> {
+    if let Some(name) = fields.of(figure) {
+        return Ok(name);
+    }
+    let view = editor.view(alloc)?;
+    let stem = match figure {
+        Figure::Blanks => b"BL$",
+        Figure::Zeros => b"ZE$",
+    };
+    let name = fresh_name(&view, stem, number)?;
+    let definition = definition(figure, name).unless(Indicator::ALWAYS);
+    insert_at(
+        alloc,
+        editor,
+        Place::DetailFront,
+        &[definition.made_of(number)],
+        number,
+    )?;
+    fields.keep(figure, name);
+    Ok(name)
+}
+
+/// The calculation that defines the field of a figurative constant.
+fn definition(figure: Figure, name: Word) -> Calculation {
+    match figure {
+        Figure::Blanks => Calculation::of(b"MOVE")
+            .factor2(b"' '")
+            .result(name.text())
+            .of_length(BLANKS, b' '),
+        Figure::Zeros => Calculation::of(b"Z-ADD")
+            .factor2(b"0")
+            .result(name.text())
+            .of_length(ZEROS, b'0'),
+    }
+}

@@ -1,0 +1,17 @@
+//! Rules that rewrite calculations: figurative constants, MOVEA, whole arrays and the parts of the date.
+#![tactic(auto)]
+
+mod columns;
+mod date_rule;
+mod figure;
+mod figure_rule;
+mod literal;
+mod movea;
+mod movea_rule;
+mod now;
+mod whole_rule;
+
+pub use date_rule::dates;
+pub use figure_rule::figures;
+pub use movea_rule::moves;
+pub use whole_rule::whole_calculations;

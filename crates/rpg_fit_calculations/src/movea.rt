@@ -1,0 +1,99 @@
+//! What MOVEA moves, as moves of single entries.
+
+use rpg_fit_deck::Sentence;
+
+/// What one side of a MOVEA has.
+#[derive(Clone, Copy)]
+pub(crate) enum Side {
+    /// A field or a literal of so many characters.
+    Field(usize),
+    /// An array from one of its entries on.
+    Array(Entries),
+}
+
+/// The entries of an array from one of them on.
+#[derive(Clone, Copy)]
+pub(crate) struct Entries {
+    /// The number of the first entry, from 1.
+    pub first: usize,
+    /// How many entries there are from there on.
+    pub count: usize,
+    /// The length of an entry.
+    pub length: usize,
+}
+
+impl Entries {
+    fn characters(self) -> usize {
+        self.count.saturating_mul(self.length)
+    }
+}
+
+/// What a MOVEA becomes.
+#[derive(Clone, Copy)]
+pub(crate) enum Moves {
+    /// A MOVEL.
+    Left,
+    /// A MOVE for each of so many entries.
+    EntryToEntry {
+        from: usize,
+        to: usize,
+        count: usize,
+    },
+    /// Into so many entries, through work fields.
+    Into {
+        to: usize,
+        count: usize,
+        length: usize,
+    },
+    /// Out of so many entries, through work fields.
+    OutOf {
+        from: usize,
+        count: usize,
+        length: usize,
+    },
+}
+
+/// What a MOVEA becomes. `is_same`: both sides are of one array.
+///
+/// # Errors
+///
+/// Moves of entries don't have the same meaning. The sentence says why.
+pub(crate) fn moves_of(from: Side, to: Side, is_same: bool) -> Result<Moves, Sentence> {
+    match (from, to) {
+        (Side::Field(_), Side::Field(_)) => Ok(Moves::Left),
+        (Side::Array(from), Side::Array(to)) => entry_to_entry(from, to, is_same),
+        (Side::Field(characters), Side::Array(to)) => Ok(Moves::Into {
+            to: to.first,
+            count: whole_entries(characters, to)?,
+            length: to.length,
+        }),
+        (Side::Array(from), Side::Field(characters)) => Ok(Moves::OutOf {
+            from: from.first,
+            count: whole_entries(characters, from)?,
+            length: from.length,
+        }),
+    }
+}
+
+fn entry_to_entry(from: Entries, to: Entries, is_same: bool) -> Result<Moves, Sentence> {
+    if from.length != to.length {
+        Err(Sentence::of("MOVEA between entries of other lengths"))
+    } else if is_same && from.first < to.first {
+        Err(Sentence::of("MOVEA of an array over itself"))
+    } else {
+        Ok(Moves::EntryToEntry {
+            from: from.first,
+            to: to.first,
+            count: from.count.min(to.count),
+        })
+    }
+}
+
+/// How many entries a field's characters are, if the field is the shorter side; else all of them.
+fn whole_entries(characters: usize, array: Entries) -> Result<usize, Sentence> {
+    let moved = characters.min(array.characters());
+    if array.length == 0 || moved % array.length != 0 {
+        return Err(Sentence::of("MOVEA ends within an entry"));
+    }
+    Ok(moved / array.length)
+}

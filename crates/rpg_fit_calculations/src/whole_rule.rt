@@ -1,0 +1,333 @@
+//! Calculations with whole arrays.
+
+use crate::columns::Columns;
+use crate::now::{Now, replace};
+use rpg_fit_deck::{Card, Editor, Sentence, Word};
+use rpg_fit_words::{
+    Array, Calculation, FreeIndicators, FreshNames, Group, Indicator, NewCard, Operand, Stop,
+    array_of, arrays, fresh_name, groups, under_flag, with_room,
+};
+use std::alloc::Global;
+
+/// From how many entries on the calculations are a loop.
+const LOOP_FROM: usize = 31;
+
+/// Rewrites calculations with whole arrays as calculations with their entries.
+///
+/// # Errors
+///
+/// A calculation can't be done entry by entry, a name or an indicator is needed and none is free, or memory is refused.
+pub fn whole_calculations(alloc: Global, editor: &mut Editor) -> Result<(), Stop> {
+    let view = editor.view(alloc)?;
+    let arrays = arrays(alloc, &view)?;
+    let found = groups(alloc, &view)?;
+    let mut free = FreeIndicators::new();
+    for (place, group) in found.iter().enumerate() {
+        if has_whole_array(arrays.as_slice(), group) {
+            let next = found.get(place.saturating_add(1));
+            rewrite_group(alloc, editor, &mut free, group, next)?;
+        }
+    }
+    Ok(())
+}
+
+/// Whether an operation takes whole arrays as they are, or names labels and subroutines.
+fn is_left(operation: &[u8]) -> bool {
+    operation == b"LOKUP".as_slice()
+        || operation == b"XFOOT".as_slice()
+        || operation == b"GOTO".as_slice()
+        || operation == b"EXSR".as_slice()
+        || operation == b"TAG".as_slice()
+        || operation == b"BEGSR".as_slice()
+        || operation == b"ENDSR".as_slice()
+}
+
+/// Whether the operation of a whole array is the same operation of each entry.
+fn is_by_entry(operation: &[u8]) -> bool {
+    operation == b"ADD".as_slice()
+        || operation == b"SUB".as_slice()
+        || operation == b"MULT".as_slice()
+        || operation == b"DIV".as_slice()
+        || operation == b"Z-ADD".as_slice()
+        || operation == b"Z-SUB".as_slice()
+        || operation == b"MOVE".as_slice()
+        || operation == b"MOVEL".as_slice()
+}
+
+/// Whether an operand is a whole array.
+fn is_whole(arrays: &[Array], text: &[u8]) -> bool {
+    array_of(arrays, text).is_some()
+}
+
+/// Whether a calculation has a whole array that has to be rewritten.
+fn has_whole_array(arrays: &[Array], group: &Group) -> bool {
+    !is_left(group.operation())
+        && Columns::ALL.iter().any(|columns| is_whole(arrays, columns.value(&group.last.card)))
+}
+
+/// Whether an operand is an entry of an array.
+fn is_entry_of(text: &[u8], array: &[u8]) -> bool {
+    text != array && Operand::of(text).name == array
+}
+
+/// Rejects a calculation with whole arrays that can't be done entry by entry.
+fn check(now: &Now, next: Option<&Group>) -> Result<(), Stop> {
+    let number = now.seen.number;
+    let card = &now.seen.card;
+    let operation = card.value(28, 32);
+    let result = Columns::Result.value(card);
+    if !is_by_entry(operation) {
+        let why = Sentence::about("a whole array beside %", Word::of(operation));
+        return Err(Stop::refused(number, why));
+    }
+    if !is_whole(now.arrays.as_slice(), result) {
+        return Err(Stop::refused(number, Sentence::of("a whole array into a field")));
+    }
+    if !card.is_blank(54, 59) {
+        return Err(Stop::refused(
+            number,
+            Sentence::of("resulting indicators of a whole array"),
+        ));
+    }
+    check_remainder(next)?;
+    check_own_entry(now, result)
+}
+
+/// Rejects a remainder of whole arrays.
+fn check_remainder(next: Option<&Group>) -> Result<(), Stop> {
+    match next {
+        Some(group) if group.operation() == b"MVR".as_slice() => Err(Stop::refused(
+            group.last.number,
+            Sentence::of("MVR behind a DIV of whole arrays"),
+        )),
+        _ => Ok(()),
+    }
+}
+
+/// Rejects an entry of the result as a factor.
+fn check_own_entry(now: &Now, array: &[u8]) -> Result<(), Stop> {
+    let card = &now.seen.card;
+    if is_entry_of(Columns::Factor1.value(card), array)
+        || is_entry_of(Columns::Factor2.value(card), array)
+    {
+        return Err(Stop::refused(
+            now.seen.number,
+            Sentence::about(
+                "an entry of % as a factor of the whole of it",
+                Word::of(array),
+            ),
+        ));
+    }
+    Ok(())
+}
+
+/// The least number of entries of the whole arrays of a calculation.
+fn least_entries(now: &Now) -> usize {
+    let mut least = usize::MAX;
+    for columns in Columns::ALL {
+        if let Some(array) = array_of(now.arrays.as_slice(), columns.value(&now.seen.card)) {
+            least = least.min(array.entries);
+        }
+    }
+    least
+}
+
+/// Rewrites a calculation with whole arrays.
+fn rewrite_group(
+    alloc: Global,
+    editor: &mut Editor,
+    free: &mut FreeIndicators,
+    group: &Group,
+    next: Option<&Group>,
+) -> Result<(), Stop> {
+    let now = Now::of(alloc, editor, group)?;
+    check(&now, next)?;
+    let entries = least_entries(&now);
+    if entries == 0 {
+        Ok(())
+    } else if entries < LOOP_FROM {
+        by_entry(alloc, editor, free, group, entries)
+    } else {
+        by_loop(alloc, editor, free, group, entries)
+    }
+}
+
+/// Gives the whole arrays of a calculation names with room for an index.
+fn make_rooms(alloc: Global, editor: &mut Editor, group: &Group, index: &Word) -> Result<(), Stop> {
+    for columns in Columns::ALL {
+        make_room(alloc, editor, group, columns, index.len().saturating_add(1))?;
+    }
+    Ok(())
+}
+
+/// Gives the whole array in columns a name with room for a comma and an index.
+fn make_room(
+    alloc: Global,
+    editor: &mut Editor,
+    group: &Group,
+    columns: Columns,
+    tail: usize,
+) -> Result<(), Stop> {
+    let now = Now::of(alloc, editor, group)?;
+    let name = columns.value(&now.seen.card);
+    if is_whole(now.arrays.as_slice(), name) {
+        with_room(alloc, editor, name, tail)?;
+    }
+    Ok(())
+}
+
+/// A card with an index for each of its whole arrays.
+fn indexed(arrays: &[Array], card: Card, index: &Word) -> Card {
+    let mut now = card;
+    for columns in Columns::ALL {
+        let name = columns.value(&card);
+        if is_whole(arrays, name) {
+            let entry = Word::of(name).and(b",").and(index.text());
+            now = columns.put(now, entry.text());
+        }
+    }
+    now
+}
+
+/// The calculation of an entry.
+fn entry_card(now: &Now, base: NewCard, index: &Word) -> NewCard {
+    NewCard {
+        card: indexed(now.arrays.as_slice(), base.card, index),
+        number: base.number,
+    }
+}
+
+/// Rewrites a calculation as one for each entry.
+fn by_entry(
+    alloc: Global,
+    editor: &mut Editor,
+    free: &mut FreeIndicators,
+    group: &Group,
+    entries: usize,
+) -> Result<(), Stop> {
+    make_rooms(alloc, editor, group, &Word::of_number(entries))?;
+    let now = Now::of(alloc, editor, group)?;
+    let under = under_flag(alloc, &now.view, group, free, false)?;
+    let base = NewCard::copy(&now.seen)
+        .with(7, 8, under.level.word().text())
+        .with(9, 17, under.conditions.text())
+        .with(49, 52, b"");
+    let mut cards = under.before;
+    for place in 0..entries {
+        let index = Word::of_number(place.saturating_add(1));
+        cards.push(entry_card(&now, base, &index))?;
+    }
+    replace(editor, group, cards.as_slice());
+    editor.tell(
+        now.seen.number,
+        Sentence::about("whole arrays: % calculations", Word::of_number(cards.len())),
+    );
+    Ok(())
+}
+
+/// Rewrites a calculation as a loop over the entries.
+fn by_loop(
+    alloc: Global,
+    editor: &mut Editor,
+    free: &mut FreeIndicators,
+    group: &Group,
+    entries: usize,
+) -> Result<(), Stop> {
+    let number = group.last.number;
+    let index = FreshNames::of(b"X#", 2).take(&editor.view(alloc)?, number)?;
+    make_rooms(alloc, editor, group, &index)?;
+    let now = Now::of(alloc, editor, group)?;
+    let under = under_flag(alloc, &now.view, group, free, true)?;
+    let Some(flag) = under.flag else {
+        return Ok(());
+    };
+    let frame = Loop {
+        level: under.level,
+        flag,
+        index,
+        again: fresh_name(&now.view, b"LOOP#", number)?,
+        done: fresh_name(&now.view, b"DONE#", number)?,
+        number,
+    };
+    let base = NewCard::copy(&now.seen)
+        .with(7, 8, under.level.word().text())
+        .with(9, 17, b"")
+        .with(49, 52, b"");
+    let mut cards = under.before;
+    cards.extend_from_slice(&frame.begin())?;
+    cards.push(entry_card(&now, base, &index))?;
+    cards.extend_from_slice(&frame.end(entries))?;
+    replace(editor, group, cards.as_slice());
+    editor.tell(
+        number,
+        Sentence::about(
+            "whole arrays: a loop of %; give --allowance more than 1000 where it is done often",
+            Word::of_number(entries),
+        ),
+    );
+    Ok(())
+}
+
+/// What surrounds the calculation of an entry in a loop.
+#[derive(Clone, Copy)]
+struct Loop {
+    /// Columns 7 to 8 of each calculation.
+    level: Indicator,
+    /// On if the loop is done at all, and then as long as it goes on.
+    flag: Indicator,
+    index: Word,
+    /// The label at its begin.
+    again: Word,
+    /// The label after it.
+    done: Word,
+    number: usize,
+}
+
+impl Loop {
+    fn card(&self, calculation: Calculation) -> NewCard {
+        calculation.at(self.level).made_of(self.number)
+    }
+
+    /// The cards before the calculation: the index is 1.
+    fn begin(&self) -> [NewCard; 3] {
+        [
+            self.card(
+                Calculation::of(b"GOTO")
+                    .unless(self.flag)
+                    .factor2(self.done.text()),
+            ),
+            self.card(
+                Calculation::of(b"Z-ADD")
+                    .factor2(b"1")
+                    .result(self.index.text())
+                    .of_length(4, b'0'),
+            ),
+            self.card(Calculation::of(b"TAG").factor1(self.again.text())),
+        ]
+    }
+
+    /// The cards after the calculation: the next index, and back as long as there is an entry of it.
+    fn end(&self, entries: usize) -> [NewCard; 4] {
+        [
+            self.card(
+                Calculation::of(b"ADD")
+                    .factor1(self.index.text())
+                    .factor2(b"1")
+                    .result(self.index.text()),
+            ),
+            self.card(
+                Calculation::of(b"COMP")
+                    .factor1(self.index.text())
+                    .factor2(Word::of_number(entries).text())
+                    .low(self.flag)
+                    .equal(self.flag),
+            ),
+            self.card(
+                Calculation::of(b"GOTO")
+                    .when(self.flag)
+                    .factor2(self.again.text()),
+            ),
+            self.card(Calculation::of(b"TAG").factor1(self.done.text())),
+        ]
+    }
+}

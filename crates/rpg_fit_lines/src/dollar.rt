@@ -1,0 +1,78 @@
+//! A dollar sign that floats in an edit word: the edit code that shows the same.
+
+use crate::constant::Constant;
+use crate::dollar_code::{NoCode, dollar_code};
+use crate::field::name_on;
+use crate::word_form::{Around, WordForm};
+use rpg_fit_deck::{Editor, Seen, Sentence, View, Word};
+use rpg_fit_words::{Form, Line, Operand, Stop, form_of, lines, settle};
+use std::alloc::Global;
+
+/// Puts an edit code in place of each word in which a dollar sign floats.
+pub fn dollars(alloc: Global, editor: &mut Editor) {
+    let outcome = code_lines(alloc, editor);
+    settle(editor, outcome);
+}
+
+fn code_lines(alloc: Global, editor: &mut Editor) -> Result<(), Stop> {
+    let view = editor.view(alloc)?;
+    let lines = lines(alloc, &view)?;
+    for line in lines.iter() {
+        code_fields(editor, &view, line)?;
+    }
+    Ok(())
+}
+
+fn code_fields(editor: &mut Editor, view: &View, line: &Line) -> Result<(), Stop> {
+    for field in line.fields.iter() {
+        if has_word(field) {
+            code_field(editor, view, field)?;
+        }
+    }
+    Ok(())
+}
+
+/// Whether a field is a name that is edited by a word.
+pub(crate) fn has_word(field: &Seen) -> bool {
+    !field.card.is_blank(32, 37) && field.card.is_blank(38, 38) && !field.card.is_blank(45, 70)
+}
+
+fn code_field(editor: &mut Editor, view: &View, field: &Seen) -> Result<(), Stop> {
+    let word = Constant::of(&field.card);
+    let name = Operand::of(name_on(&field.card)).name;
+    match (
+        WordForm::of(word.text()).around_dollar(),
+        form_of(view, name),
+    ) {
+        (Some(around), Some(form)) if form.is_number() => {
+            let code = code_of(around, form, field.number)?;
+            put_code(editor, field, code);
+            Ok(())
+        }
+        _ => Ok(()),
+    }
+}
+
+fn code_of(word: Around, form: Form, card: usize) -> Result<u8, Stop> {
+    match dollar_code(word, form.length, form.places()) {
+        Ok(code) => Ok(code),
+        Err(NoCode::Places) => Err(Stop::refused(
+            card,
+            Sentence::of("a $ that floats in a word which no edit code has"),
+        )),
+        Err(NoCode::Commas) => Err(Stop::refused(
+            card,
+            Sentence::of("a $ that floats in a word with other commas than an edit code's"),
+        )),
+    }
+}
+
+/// Edits a field by a code that fills with a dollar sign.
+fn put_code(editor: &mut Editor, field: &Seen, code: u8) {
+    let card = field.card.with(38, 38, &[code]).with(45, 70, b"'$'");
+    editor.change(field.at, card, field.number);
+    editor.tell(
+        field.number,
+        Sentence::about("the $ that floats is that of code %", Word::of(&[code])),
+    );
+}

@@ -1,0 +1,13 @@
+//! The card of an output field.
+
+use rpg_fit_deck::Card;
+
+/// The name that a field's card puts out, perhaps with an index.
+pub(crate) fn name_on(field: &Card) -> &[u8] {
+    field.value(32, 37)
+}
+
+/// Where a field ends: columns 40 to 43; 0 where that is no number.
+pub(crate) fn end_on(field: &Card) -> usize {
+    field.number(40, 43).unwrap_or(0)
+}

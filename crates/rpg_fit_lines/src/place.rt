@@ -1,0 +1,131 @@
+//! *PLACE: the fields before it in its line, once more.
+
+use crate::field::{end_on, name_on};
+use rpg_fit_deck::{Editor, Seen, Sentence, Word};
+use rpg_fit_words::{Condition, Line, NewCard, Stop, lines, settle};
+use std::alloc::Global;
+
+/// How many cards a deck has at most.
+const MOST_CARDS: usize = 2000;
+
+/// How many conditions a field has at most.
+const MOST_TERMS: usize = 3;
+
+/// In place of each *PLACE, puts copies of the fields before it, so far to the right that they end where it ends.
+pub fn places(alloc: Global, editor: &mut Editor) {
+    let outcome = place_lines(alloc, editor);
+    settle(editor, outcome);
+}
+
+fn place_lines(alloc: Global, editor: &mut Editor) -> Result<(), Stop> {
+    let view = editor.view(alloc)?;
+    let lines = lines(alloc, &view)?;
+    for line in lines.iter() {
+        place_fields(alloc, editor, line)?;
+    }
+    Ok(())
+}
+
+fn place_fields(alloc: Global, editor: &mut Editor, line: &Line) -> Result<(), Stop> {
+    let mut before = Before {
+        fields: Vec::new(alloc),
+        highest: 0,
+    };
+    for field in line.fields.iter() {
+        if name_on(&field.card) == b"*PLACE".as_slice() {
+            before.place(editor, field)?;
+        } else {
+            before.push(field)?;
+        }
+    }
+    Ok(())
+}
+
+/// The fields of a line before a card, copies among them.
+#[derive(Drop)]
+struct Before {
+    fields: Vec<NewCard>,
+    /// The greatest end of a field, or where the last *PLACE ends.
+    highest: usize,
+}
+
+impl Before {
+    fn push(&mut self, field: &Seen) -> Result<(), Stop> {
+        self.highest = self.highest.max(end_on(&field.card));
+        self.fields.push(NewCard::copy(field))?;
+        Ok(())
+    }
+
+    /// Replaces *PLACE by copies of the fields before it. Where these alone are more than a deck may have, they stay as they are: the
+    /// deck is too long.
+    fn place(&mut self, editor: &mut Editor, place: &Seen) -> Result<(), Stop> {
+        self.check(place)?;
+        let copies = self.fields.len();
+        if copies > MOST_CARDS {
+            return Ok(());
+        }
+        self.copy_all(editor, place, copies)?;
+        self.highest = end_on(&place.card);
+        editor.remove(place.at, place.number);
+        editor.tell(
+            place.number,
+            Sentence::about("*PLACE: % fields once more", Word::of_number(copies)),
+        );
+        Ok(())
+    }
+
+    /// Refuses *PLACE after PAGE, which would be counted twice, and where copies would come before the fields' ends.
+    fn check(&self, place: &Seen) -> Result<(), Stop> {
+        if self.fields.iter().any(is_page) {
+            return Err(Stop::refused(place.number, Sentence::of("PAGE stands before *PLACE")));
+        }
+        if end_on(&place.card) < self.highest.saturating_mul(2) {
+            return Err(Stop::refused(
+                place.number,
+                Sentence::about(
+                    "its end is less than twice %",
+                    Word::of_number(self.highest),
+                ),
+            ));
+        }
+        Ok(())
+    }
+
+    /// Puts a copy of each of so many fields before *PLACE.
+    fn copy_all(&mut self, editor: &mut Editor, place: &Seen, fields: usize) -> Result<(), Stop> {
+        let further = end_on(&place.card).saturating_sub(self.highest);
+        for index in 0..fields {
+            if let Some(field) = self.fields.get(index).copied() {
+                let copy = moved(field, place, further)?;
+                editor.insert_copy(place.at, copy.card, copy.number, place.number);
+                self.fields.push(copy)?;
+            }
+        }
+        Ok(())
+    }
+}
+
+fn is_page(field: &NewCard) -> bool {
+    name_on(&field.card) == b"PAGE".as_slice()
+}
+
+/// A copy of a field so much further to the right, under the conditions of *PLACE and its own, without blank after.
+fn moved(field: NewCard, place: &Seen, further: usize) -> Result<NewCard, Stop> {
+    let own = Condition::at(&field.card, 23);
+    let together = Condition::at(&place.card, 23).and_missing(&own);
+    if together.len() > MOST_TERMS {
+        return Err(Stop::refused(
+            place.number,
+            Sentence::of("more than three conditions together"),
+        ));
+    }
+    let end = Word::of_number(end_on(&field.card).saturating_add(further));
+    Ok(NewCard {
+        card: field
+            .card
+            .with(23, 31, together.columns(0).text())
+            .with(39, 39, &[])
+            .with_right(40, 43, end.text()),
+        number: field.number,
+    })
+}

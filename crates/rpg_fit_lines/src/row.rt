@@ -1,0 +1,63 @@
+//! The entries of a whole array in a line.
+
+/// Columns of a line that a field fills: so many, up to its end.
+#[derive(Clone, Copy)]
+pub(crate) struct Span {
+    pub end: usize,
+    pub width: usize,
+}
+
+/// The entries of an array, one after another, with so many blanks between two.
+#[derive(Clone, Copy)]
+pub(crate) struct Row {
+    pub entries: usize,
+    pub width: usize,
+    pub gap: usize,
+    /// Where the last entry ends.
+    pub end: usize,
+}
+
+impl Row {
+    /// How many columns there are from the end of an entry to that of the next one.
+    fn step(&self) -> usize {
+        self.width.saturating_add(self.gap)
+    }
+
+    /// How many columns all of them fill.
+    fn columns(&self) -> usize {
+        self.step()
+            .saturating_mul(self.entries.saturating_sub(1))
+            .saturating_add(self.width)
+    }
+
+    /// The columns of all of them, and of what is between them.
+    pub fn span(&self) -> Span {
+        Span {
+            end: self.end,
+            width: self.columns(),
+        }
+    }
+
+    /// Whether the first entry begins before column 1.
+    pub fn begins_early(&self) -> bool {
+        self.end < self.columns()
+    }
+
+    /// Where an entry ends; they are counted from 1.
+    pub fn end_of(&self, entry: usize) -> usize {
+        self.end.saturating_sub(
+            self.step()
+                .saturating_mul(self.entries.saturating_sub(entry)),
+        )
+    }
+
+    /// Whether a field stands between two entries.
+    pub fn has_between(&self, field: Span) -> bool {
+        (1..self.entries).any(|entry| {
+            let next = self.end_of(entry).saturating_add(1);
+            field.end >= next
+                && field.end.saturating_add(2)
+                    <= next.saturating_add(self.gap).saturating_add(field.width)
+        })
+    }
+}

@@ -1,0 +1,187 @@
+//! Whole arrays in output lines: a field for each entry.
+
+use crate::field::{end_on, name_on};
+use crate::row::{Row, Span};
+use crate::width::field_width;
+use rpg_fit_deck::{Editor, Seen, Sentence, View, Word};
+use rpg_fit_words::{
+    Array, Line, NewCard, Operand, Stop, array_of, arrays, form_of, lines, settle, with_room,
+};
+use std::alloc::Global;
+
+/// How many fields a line has at most.
+const MOST_FIELDS: usize = 200;
+
+/// How many blanks there are between two entries that are edited by a code.
+const GAP: usize = 2;
+
+/// Puts a field for each entry in place of each whole array.
+pub fn whole_outputs(alloc: Global, editor: &mut Editor) {
+    let outcome = spread_lines(alloc, editor);
+    settle(editor, outcome);
+}
+
+fn spread_lines(alloc: Global, editor: &mut Editor) -> Result<(), Stop> {
+    let view = editor.view(alloc)?;
+    let lines = lines(alloc, &view)?;
+    let mut deck = Arrays {
+        view: &view,
+        arrays: arrays(alloc, &view)?,
+        renamed: Vec::new(alloc),
+    };
+    for line in lines.iter() {
+        spread_fields(alloc, editor, &mut deck, line)?;
+    }
+    Ok(())
+}
+
+fn spread_fields(
+    alloc: Global,
+    editor: &mut Editor,
+    deck: &mut Arrays,
+    line: &Line,
+) -> Result<(), Stop> {
+    let mut before = Vec::new(alloc);
+    for field in line.fields.iter() {
+        match deck.array(field) {
+            Some(array) => {
+                let row = deck.row(field, array);
+                check(row, before.as_slice(), field.number)?;
+                before.push(row.span())?;
+                let name = deck.name_for(alloc, editor, field, array)?;
+                spread(editor, field, name, row);
+            }
+            None if name_on(&field.card) == b"*PLACE".as_slice() => {}
+            None => before.push(deck.span(field))?,
+        }
+    }
+    Ok(())
+}
+
+/// Refuses entries without room in their line.
+fn check(row: Row, before: &[Span], card: usize) -> Result<(), Stop> {
+    if row.begins_early() {
+        return Err(Stop::refused(card, Sentence::of("its first entry begins before column 1")));
+    }
+    if before.iter().any(|field| row.has_between(*field)) {
+        return Err(Stop::refused(
+            card,
+            Sentence::of("an earlier field stands between its entries"),
+        ));
+    }
+    if row.entries > MOST_FIELDS {
+        return Err(Stop::refused(
+            card,
+            Sentence::about(
+                "% entries, and a line has 200 fields",
+                Word::of_number(row.entries),
+            ),
+        ));
+    }
+    Ok(())
+}
+
+/// Puts a field for each entry of a row in a field's place. The last one takes its card's place.
+fn spread(editor: &mut Editor, field: &Seen, name: Word, row: Row) {
+    for entry in 1..row.entries {
+        let card = entry_card(field, name, row, entry);
+        editor.insert_copy(field.at, card.card, card.number, field.number);
+    }
+    let last = entry_card(field, name, row, row.entries);
+    editor.change(field.at, last.card, field.number);
+}
+
+/// The field of an entry.
+fn entry_card(field: &Seen, name: Word, row: Row, entry: usize) -> NewCard {
+    let name = name.and(b",").and(Word::of_number(entry).text());
+    let end = Word::of_number(row.end_of(entry));
+    let copy = NewCard::copy(field).with(32, 37, name.text());
+    NewCard {
+        card: copy.card.with_right(40, 43, end.text()),
+        number: copy.number,
+    }
+}
+
+/// A name that an array had, and has now.
+#[derive(Clone, Copy)]
+struct Renamed {
+    old: Word,
+    new: Word,
+}
+
+/// The arrays of a deck as it was, and those that have got another name since.
+#[derive(Drop)]
+struct Arrays<'a> {
+    view: &'a View,
+    arrays: Vec<Array>,
+    renamed: Vec<Renamed>,
+}
+
+impl Arrays<'_> {
+    /// The array that a field puts out as a whole.
+    fn array(&self, field: &Seen) -> Option<Array> {
+        let array = array_of(self.arrays.as_slice(), name_on(&field.card))?;
+        if array.entries == 0 {
+            None
+        } else {
+            Some(array)
+        }
+    }
+
+    /// The columns that a field fills.
+    fn span(&self, field: &Seen) -> Span {
+        let name = Operand::of(name_on(&field.card)).name;
+        Span {
+            end: end_on(&field.card),
+            width: field_width(&field.card, form_of(self.view, name)),
+        }
+    }
+
+    /// The entries of an array that a field puts out as a whole.
+    fn row(&self, field: &Seen, array: Array) -> Row {
+        let has_code = !field.card.is_blank(38, 38);
+        Row {
+            entries: array.entries,
+            width: self.span(field).width,
+            gap: if has_code && array.form.is_number() {
+                GAP
+            } else {
+                0
+            },
+            end: end_on(&field.card),
+        }
+    }
+
+    /// The name that an array has now.
+    fn name_now(&self, name: Word) -> Word {
+        for renamed in self.renamed.iter() {
+            if renamed.old.text() == name.text() {
+                return renamed.new;
+            }
+        }
+        name
+    }
+
+    /// The name of an array with room for the index of its last entry. The field's change is reported here, by the name that the array has
+    /// before.
+    fn name_for(
+        &mut self,
+        alloc: Global,
+        editor: &mut Editor,
+        field: &Seen,
+        array: Array,
+    ) -> Result<Word, Stop> {
+        let entries = Word::of_number(array.entries);
+        let name = self.name_now(array.name);
+        let tail = entries.len().saturating_add(1);
+        let new = with_room(alloc, editor, name.text(), tail)?;
+        if new.text() != name.text() {
+            self.renamed.push(Renamed {
+                old: array.name,
+                new,
+            })?;
+        }
+        editor.tell(field.number, Sentence::of_two("%: % fields", name, entries));
+        Ok(new)
+    }
+}

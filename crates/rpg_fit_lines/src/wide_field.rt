@@ -1,0 +1,201 @@
+//! Fields that have more digits than the numbers that are copied to them.
+
+use crate::wide_word::ShortNumber;
+use rpg_fit_deck::{Editor, Word};
+use rpg_fit_words::{
+    Calculation, Group, Indicator, Place, Stop, Time, fresh_name, groups, insert_at,
+};
+use std::alloc::Global;
+
+/// A field that has a number's value, with more digits.
+#[derive(Clone, Copy)]
+struct WideField {
+    number: Word,
+    places: usize,
+    name: Word,
+}
+
+/// A moment of the cycle at which numbers are copied.
+#[derive(Clone, Copy, PartialEq, Eq)]
+enum Moment {
+    /// Before each EXCPT.
+    BeforeExceptions,
+    DetailEnd,
+    TotalEnd,
+}
+
+/// The moments, in the order in which calculations for them are made.
+const MOMENTS: [Moment; 3] = [
+    Moment::BeforeExceptions,
+    Moment::DetailEnd,
+    Moment::TotalEnd,
+];
+
+impl Moment {
+    /// Whether a number is copied then for a line of a time, which may have an alternative of overflow.
+    fn is_before(self, time: Time, has_overflow: bool) -> bool {
+        match self {
+            Moment::BeforeExceptions => time == Time::Exception,
+            Moment::DetailEnd => { has_overflow || time != Time::Exception && time != Time::Total }
+            Moment::TotalEnd => has_overflow || time == Time::Total,
+        }
+    }
+}
+
+/// A copy of a number to a field at a moment.
+#[derive(Clone, Copy)]
+struct CopyAt {
+    name: Word,
+    moment: Moment,
+}
+
+/// When a line is put out.
+#[derive(Clone, Copy)]
+pub(crate) struct PutOut {
+    pub time: Time,
+    /// Whether the line has an alternative of overflow.
+    pub has_overflow: bool,
+}
+
+/// The fields with more digits that a deck has got so far.
+#[derive(Drop)]
+pub(crate) struct WideFields {
+    fields: Vec<WideField>,
+    copies: Vec<CopyAt>,
+}
+
+impl WideFields {
+    pub fn new(alloc: Global) -> WideFields {
+        WideFields {
+            fields: Vec::new(alloc),
+            copies: Vec::new(alloc),
+        }
+    }
+
+    /// The field for a number in a line, to which it is copied before the line is put out.
+    pub fn field_for(
+        &mut self,
+        alloc: Global,
+        editor: &mut Editor,
+        number: ShortNumber,
+        when: PutOut,
+    ) -> Result<Word, Stop> {
+        let name = match self.find(number) {
+            Some(name) => name,
+            None => self.make(alloc, editor, number, when)?,
+        };
+        for moment in MOMENTS {
+            if moment.is_before(when.time, when.has_overflow) {
+                self.copy(alloc, editor, number, CopyAt { name, moment })?;
+            }
+        }
+        Ok(name)
+    }
+
+    /// The field that there is for a number.
+    fn find(&self, number: ShortNumber) -> Option<Word> {
+        for field in self.fields.iter() {
+            if field.number.text() == number.name.text() && field.places == number.places {
+                return Some(field.name);
+            }
+        }
+        None
+    }
+
+    /// Makes a field for a number. In a line that no EXCPT puts out it gets its length by a calculation that is never done.
+    fn make(
+        &mut self,
+        alloc: Global,
+        editor: &mut Editor,
+        number: ShortNumber,
+        when: PutOut,
+    ) -> Result<Word, Stop> {
+        let view = editor.view(alloc)?;
+        let name = fresh_name(&view, b"W#", number.field.number)?;
+        let groups = groups(alloc, &view)?;
+        if when.time == Time::Exception && !groups.iter().any(is_exception) {
+            let never = copied(b"0", name, number).unless(Indicator::ALWAYS);
+            put(alloc, editor, Place::DetailFront, never, number)?;
+        }
+        self.fields.push(WideField {
+            number: number.name,
+            places: number.places,
+            name,
+        })?;
+        Ok(name)
+    }
+
+    /// Copies a number at a moment, unless it is copied then.
+    fn copy(
+        &mut self,
+        alloc: Global,
+        editor: &mut Editor,
+        number: ShortNumber,
+        copy: CopyAt,
+    ) -> Result<(), Stop> {
+        if self.copies.iter().any(|done| done.is_same(copy)) {
+            return Ok(());
+        }
+        self.copies.push(copy)?;
+        let calculation = copied(number.name.text(), copy.name, number);
+        match copy.moment {
+            Moment::BeforeExceptions => put_before_exceptions(alloc, editor, calculation, number),
+            Moment::DetailEnd => put(alloc, editor, Place::DetailEnd, calculation, number),
+            Moment::TotalEnd => put(
+                alloc,
+                editor,
+                Place::TotalEnd,
+                calculation.at(Indicator::ALWAYS),
+                number,
+            ),
+        }
+    }
+}
+
+impl CopyAt {
+    fn is_same(self, other: CopyAt) -> bool {
+        self.moment == other.moment && self.name.text() == other.name.text()
+    }
+}
+
+fn is_exception(group: &Group) -> bool {
+    group.operation() == b"EXCPT".as_slice()
+}
+
+/// The calculation that copies a number, or 0, to a field.
+fn copied(from: &[u8], name: Word, number: ShortNumber) -> Calculation {
+    Calculation::of(b"Z-ADD")
+        .factor2(from)
+        .result(name.text())
+        .of_length(number.places, number.decimals)
+}
+
+/// Puts a calculation in a place, made for a number's card.
+fn put(
+    alloc: Global,
+    editor: &mut Editor,
+    place: Place,
+    calculation: Calculation,
+    number: ShortNumber,
+) -> Result<(), Stop> {
+    let card = number.field.number;
+    insert_at(alloc, editor, place, &[calculation.made_of(card)], card)
+}
+
+/// Puts a calculation before each EXCPT, made for a number's card.
+fn put_before_exceptions(
+    alloc: Global,
+    editor: &mut Editor,
+    calculation: Calculation,
+    number: ShortNumber,
+) -> Result<(), Stop> {
+    let view = editor.view(alloc)?;
+    let groups = groups(alloc, &view)?;
+    for group in groups.iter() {
+        if is_exception(group) {
+            let card = calculation.at(group.section().level()).card();
+            editor.insert(group.first().at, card, number.field.number);
+        }
+    }
+    Ok(())
+}

@@ -1,0 +1,249 @@
+//! Edit words with more places than their number has digits: a field with as many digits.
+
+use crate::constant::Constant;
+use crate::dollar::has_word;
+use crate::field::name_on;
+use crate::wide_field::{PutOut, WideFields};
+use crate::word_form::WordForm;
+use rpg_fit_deck::{Editor, Seen, Sentence, View, Word};
+use rpg_fit_words::{
+    Form, Line, NewCard, Operand, Printer, Stop, Time, form_of, is_card, is_field_put_first,
+    is_total_skipped_late, lines, printer_of, record_types, settle,
+};
+use std::alloc::Global;
+
+/// How many digits a number has at most.
+const MOST_DIGITS: usize = 15;
+
+/// Puts a field with enough digits in place of each number that has fewer than its word has places. The number is copied there before
+/// the line comes.
+pub fn words(alloc: Global, editor: &mut Editor) {
+    let outcome = widen_lines(alloc, editor);
+    settle(editor, outcome);
+}
+
+fn widen_lines(alloc: Global, editor: &mut Editor) -> Result<(), Stop> {
+    let view = editor.view(alloc)?;
+    let lines = lines(alloc, &view)?;
+    let types = record_types(alloc, &view)?;
+    let printer = printer_of(&view);
+    let deck = Deck {
+        view: &view,
+        lines: lines.as_slice(),
+        printer,
+        is_total_skipped: is_total_skipped_late(printer, lines.as_slice(), types.as_slice()),
+    };
+    let mut wide = WideFields::new(alloc);
+    for (place, line) in lines.iter().enumerate() {
+        let at = LineAt { line, place };
+        deck.widen_fields(alloc, editor, &mut wide, at)?;
+    }
+    Ok(())
+}
+
+/// A line, and its place among the lines.
+#[derive(Clone, Copy)]
+struct LineAt<'a> {
+    line: &'a Line,
+    place: usize,
+}
+
+/// A deck before its words are rewritten.
+#[derive(Clone, Copy)]
+struct Deck<'a> {
+    view: &'a View,
+    lines: &'a [Line],
+    printer: Option<Printer>,
+    /// Whether overflow output may come before any total calculation.
+    is_total_skipped: bool,
+}
+
+impl Deck<'_> {
+    fn widen_fields(
+        &self,
+        alloc: Global,
+        editor: &mut Editor,
+        wide: &mut WideFields,
+        at: LineAt,
+    ) -> Result<(), Stop> {
+        for field in at.line.fields.iter() {
+            if let Some(number) = self.short_number(field) {
+                self.check(at, field, number)?;
+                self.widen(alloc, editor, wide, at, number)?;
+            }
+        }
+        Ok(())
+    }
+
+    /// The number of a field, where it has fewer digits than its word has places.
+    fn short_number(&self, field: &Seen) -> Option<ShortNumber> {
+        if !has_word(field) {
+            return None;
+        }
+        let name = name_on(&field.card);
+        let form = form_of(self.view, Operand::of(name).name)?;
+        let places = WordForm::of(Constant::of(&field.card).text()).places();
+        if form.is_number() && form.length > 0 && places > form.length {
+            Some(ShortNumber {
+                field: *field,
+                name: Word::of(name),
+                decimals: form.decimals,
+                places,
+            })
+        } else {
+            None
+        }
+    }
+
+    /// Refuses a number whose copy might not have its value where the line is put out.
+    fn check(&self, at: LineAt, field: &Seen, number: ShortNumber) -> Result<(), Stop> {
+        if number.places > MOST_DIGITS {
+            return Err(Stop::refused(
+                field.number,
+                Sentence::about("a word with % places", Word::of_number(number.places)),
+            ));
+        }
+        let name = Operand::of(name_on(&field.card));
+        if name.has_index_field() {
+            return Err(Stop::refused(
+                field.number,
+                Sentence::of("a word with more places than digits beside an index field"),
+            ));
+        }
+        if name.name == b"PAGE".as_slice() {
+            return Err(Stop::refused(
+                field.number,
+                Sentence::of("a word with more places than digits beside PAGE"),
+            ));
+        }
+        self.check_value(at, field, name.name)
+    }
+
+    /// Refuses a number that has a value before any calculation or that a line before it blanks.
+    fn check_value(&self, at: LineAt, field: &Seen, name: &[u8]) -> Result<(), Stop> {
+        if self.begins_with_value(name) && self.may_come_early(at.line, field) {
+            return Err(Stop::refused(
+                field.number,
+                Sentence::of(
+                    "a word with more places than digits, and the line may be put out before any calculation",
+                ),
+            ));
+        }
+        if self.may_be_blanked(at, name) {
+            return Err(Stop::refused(
+                field.number,
+                Sentence::about(
+                    "a word with more places than digits, and a line before it blanks %",
+                    Word::of(name),
+                ),
+            ));
+        }
+        Ok(())
+    }
+
+    /// Whether a name has a value before any calculation: part of the date, or data of the deck.
+    fn begins_with_value(&self, name: &[u8]) -> bool {
+        is_date(name) || self.view.cards.iter().any(|seen| has_data(seen, name))
+    }
+
+    /// Whether a field may be put out before any calculation.
+    fn may_come_early(&self, line: &Line, field: &Seen) -> bool {
+        is_field_put_first(self.printer, line, field)
+            || self.is_total_skipped && self.has_overflow(line)
+    }
+
+    /// Whether a line has an alternative of overflow.
+    fn has_overflow(&self, line: &Line) -> bool {
+        match self.printer {
+            Some(printer) => line.alternatives.iter().any(|alternative| printer.is_overflow(
+                line,
+                &alternative.condition,
+            )),
+            None => false,
+        }
+    }
+
+    /// Whether a field may be blanked between its copy and its line: by an earlier line of the same time, or by any where the line has an
+    /// alternative of overflow.
+    fn may_be_blanked(&self, at: LineAt, name: &[u8]) -> bool {
+        if self.has_overflow(at.line) && self.lines.iter().any(|line| blanks(line, name)) {
+            return true;
+        }
+        self.lines.get(..at.place).unwrap_or(&[]).iter().any(|line| is_same_time(
+            line.time,
+            at.line.time,
+        ) && blanks(line, name))
+    }
+
+    /// Puts a field with enough digits in a number's place. The field itself is still blanked by its card, where it was.
+    fn widen(
+        &self,
+        alloc: Global,
+        editor: &mut Editor,
+        wide: &mut WideFields,
+        at: LineAt,
+        number: ShortNumber,
+    ) -> Result<(), Stop> {
+        let when = PutOut {
+            time: at.line.time,
+            has_overflow: self.has_overflow(at.line),
+        };
+        let name = wide.field_for(alloc, editor, number, when)?;
+        let field = number.field;
+        if field.card.column(39) == b'B' {
+            let blanked = NewCard::copy(&field).with(45, 70, &[]);
+            editor.insert(field.at, blanked.card, field.number);
+        }
+        let card = field.card.with(39, 39, &[]).with(32, 37, name.text());
+        editor.change(field.at, card, field.number);
+        editor.tell(field.number, number.told(name));
+        Ok(())
+    }
+}
+
+/// A number with fewer digits than its word has places.
+#[derive(Clone, Copy)]
+pub(crate) struct ShortNumber {
+    pub field: Seen,
+    /// Its name, perhaps with an index.
+    pub name: Word,
+    pub decimals: u8,
+    pub places: usize,
+}
+
+impl ShortNumber {
+    fn told(&self, name: Word) -> Sentence {
+        Sentence::of_three(
+            "% with % digits is %, for the places of its word",
+            self.name,
+            Word::of_number(self.places),
+            name,
+        )
+    }
+}
+
+fn is_date(name: &[u8]) -> bool {
+    name == b"UDATE".as_slice()
+        || name == b"UDAY".as_slice()
+        || name == b"UMONTH".as_slice()
+        || name == b"UYEAR".as_slice()
+}
+
+/// Whether a card defines a table or an array of a name, with data in the deck.
+fn has_data(seen: &Seen, name: &[u8]) -> bool {
+    is_card(seen, b'E')
+        && !seen.card.is_blank(33, 35)
+        && (seen.card.value(27, 32) == name || seen.card.value(46, 51) == name)
+}
+
+/// Whether a line blanks a field, or an entry of an array, once it is put out.
+fn blanks(line: &Line, name: &[u8]) -> bool {
+    line.fields.iter().any(|field| {
+        field.card.column(39) == b'B' && Operand::of(name_on(&field.card)).name == name
+    })
+}
+
+/// Whether lines of two times are put out one after another without calculations between them.
+fn is_same_time(one: Time, other: Time) -> bool {
+    one == other || one.is_detail() && other.is_detail()
+}

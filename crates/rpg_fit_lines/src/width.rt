@@ -1,0 +1,45 @@
+//! How many columns an output field fills.
+
+use crate::constant::Constant;
+use rpg_edit_marks::{EditCode, Fill};
+use rpg_edit_widths::{How, width};
+use rpg_fit_deck::Card;
+use rpg_fit_words::Form;
+
+/// How many columns a field fills, edited as its card asks. A name without a form fills one.
+pub(crate) fn field_width(field: &Card, form: Option<Form>) -> usize {
+    let constant = Constant::of(field);
+    if field.is_blank(32, 37) {
+        return constant.text().len();
+    }
+    let Some(form) = form else {
+        return 1;
+    };
+    if !form.is_number() {
+        return form.length;
+    }
+    match EditCode::of(field.column(38)) {
+        Some(code) => coded_width(form, code, fill(constant.text())),
+        None if field.is_blank(45, 70) => form.length,
+        None => constant.text().len(),
+    }
+}
+
+/// How many columns a number fills that is edited by a code.
+fn coded_width(form: Form, code: EditCode, fill: Fill) -> usize {
+    let decimals = form.places();
+    if form.length == 0 || form.length > 15 || decimals > form.length {
+        return form.length;
+    }
+    let how = How::Code { code, fill };
+    width(form.length as u8, decimals as u8, &how)
+}
+
+/// What a constant beside an edit code fills with.
+fn fill(constant: &[u8]) -> Fill {
+    match constant {
+        [b'$'] => Fill::Dollar,
+        [b'*'] => Fill::Star,
+        _ => Fill::Blank,
+    }
+}

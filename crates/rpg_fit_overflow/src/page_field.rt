@@ -1,0 +1,86 @@
+//! The output fields that print PAGE.
+
+use crate::overflow::{Kind, Overflow};
+use rpg_fit_deck::Seen;
+use rpg_fit_words::{Condition, Indicator, Line, Stop, Term, Time};
+use std::alloc::Global;
+
+/// A field that prints PAGE, and its line.
+#[derive(Clone, Copy)]
+pub(crate) struct PageField<'a> {
+    pub line: &'a Line,
+    pub field: &'a Seen,
+}
+
+/// Whether a field prints PAGE.
+pub(crate) fn is_page(field: &Seen) -> bool {
+    field.card.value(32, 37) == b"PAGE".as_slice()
+}
+
+/// The number of the first card of a line that prints PAGE.
+pub(crate) fn page_card(line: &Line) -> Option<usize> {
+    for field in line.fields.iter() {
+        if is_page(field) {
+            return Some(field.number);
+        }
+    }
+    None
+}
+
+/// Whether PAGE is set back by calculations for an alternative: it isn't the first output, when none has been done, and it may hold.
+fn is_live(alternative: &Condition, own: &Condition) -> bool {
+    let first = Term::on(Indicator::FIRST_PAGE);
+    !alternative.has(first) && !own.has(first) && !alternative.clashes_with(own)
+}
+
+impl PageField<'_> {
+    /// Its own conditions.
+    pub fn own(&self) -> Condition {
+        Condition::at(&self.field.card, 23)
+    }
+
+    /// When PAGE is set back for the alternatives of a kind: where one of them and its own conditions hold. The overflow indicator isn't
+    /// asked for.
+    pub fn resets(
+        &self,
+        alloc: Global,
+        overflow: Overflow,
+        kind: Kind,
+    ) -> Result<Vec<Condition>, Stop> {
+        let own = self.own();
+        let alternatives = overflow.alternatives(alloc, self.line, kind)?;
+        let mut found = Vec::new(alloc);
+        for alternative in alternatives.iter() {
+            if is_live(alternative, &own) {
+                let together = without_overflow(overflow, kind, alternative).and_missing(&own);
+                push_new(&mut found, together)?;
+            }
+        }
+        Ok(found)
+    }
+
+    /// Whether a line is put out at the same time of the cycle.
+    pub fn is_at_time_of(&self, line: &Line) -> bool {
+        if self.line.time == Time::Total {
+            line.time == Time::Total
+        } else {
+            line.time.is_detail()
+        }
+    }
+}
+
+/// A condition without the overflow indicator, where it is one of overflow output.
+fn without_overflow(overflow: Overflow, kind: Kind, condition: &Condition) -> Condition {
+    match overflow.indicator() {
+        Some(indicator) if kind == Kind::AtOverflow => condition.without(Term::on(indicator)),
+        _ => *condition,
+    }
+}
+
+/// Appends a condition unless it is there.
+fn push_new(found: &mut Vec<Condition>, condition: Condition) -> Result<(), Stop> {
+    if !found.iter().any(|other| other.is_same(&condition)) {
+        found.push(condition)?;
+    }
+    Ok(())
+}

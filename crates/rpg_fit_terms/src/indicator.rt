@@ -1,0 +1,80 @@
+//! Indicators.
+
+use rpg_fit_deck::{Card, Word};
+
+/// An indicator: two characters of a card, perhaps blank.
+#[derive(Clone, Copy, PartialEq, Eq)]
+pub struct Indicator {
+    first: u8,
+    second: u8,
+}
+
+impl Indicator {
+    /// No indicator.
+    pub const BLANK: Indicator = Indicator {
+        first: b' ',
+        second: b' ',
+    };
+
+    /// L0, which is always on.
+    pub const ALWAYS: Indicator = Indicator {
+        first: b'L',
+        second: b'0',
+    };
+
+    /// 1P, which is on at the first output alone.
+    pub const FIRST_PAGE: Indicator = Indicator {
+        first: b'1',
+        second: b'P',
+    };
+
+    /// SR, which stands in columns 7 to 8 of the calculations of a subroutine.
+    pub const SUBROUTINE: Indicator = Indicator {
+        first: b'S',
+        second: b'R',
+    };
+
+    /// What stands in a column and the one behind it.
+    pub fn at(card: &Card, column: usize) -> Indicator {
+        Indicator {
+            first: card.column(column),
+            second: card.column(column.saturating_add(1)),
+        }
+    }
+
+    /// The indicator of a number below 100.
+    pub fn of_number(number: u8) -> Indicator {
+        Indicator {
+            first: b'0' + number / 10 % 10,
+            second: b'0' + number % 10,
+        }
+    }
+
+    /// The halt indicator of a number below 10.
+    pub fn halt(number: u8) -> Indicator {
+        Indicator {
+            first: b'H',
+            second: b'0' + number % 10,
+        }
+    }
+
+    /// Whether there is none.
+    pub fn is_blank(self) -> bool {
+        self == Indicator::BLANK
+    }
+
+    /// Whether it is one of 00 to 99.
+    pub fn is_number(self) -> bool {
+        self.first.is_ascii_digit() && self.second.is_ascii_digit()
+    }
+
+    /// Its characters.
+    pub fn word(self) -> Word {
+        Word::of(&[self.first, self.second])
+    }
+
+    /// A card with it in a column and the one behind it.
+    pub fn on(self, card: Card, column: usize) -> Card {
+        card.with(column, column.saturating_add(1), self.word().text())
+    }
+}

@@ -1,0 +1,24 @@
+//! Conditions, names, indicators and forms of a deck that is rewritten, and why a rule stops.
+#![tactic(auto)]
+
+mod cards;
+mod condition;
+mod form;
+mod free_indicator;
+mod fresh;
+mod indicator;
+mod name;
+mod operand;
+mod renaming;
+mod stop;
+
+pub use cards::{NewCard, address_after, is_card, put_cards};
+pub use condition::{Condition, Term};
+pub use form::{Array, Form, array_of, arrays, form_of};
+pub use free_indicator::{FreeIndicators, free_halt};
+pub use fresh::{FreshNames, fresh_name, unused_prefix};
+pub use indicator::Indicator;
+pub use name::is_name_used;
+pub use operand::Operand;
+pub use renaming::{rename, with_room};
+pub use stop::{Reason, Stop, settle};

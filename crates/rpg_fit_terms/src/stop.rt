@@ -1,0 +1,46 @@
+//! Why a rule stops.
+
+use rpg_fit_deck::{Editor, Sentence};
+use std::alloc::{AllocError, AllocFailed};
+
+/// Why a deck is refused, and for which card of the source.
+#[derive(Clone, Copy)]
+pub struct Reason {
+    pub card: usize,
+    pub why: Sentence,
+}
+
+/// Why a rule stops before it has rewritten the deck.
+#[derive(Clone, Copy)]
+pub enum Stop {
+    NoMemory,
+    Refused(Reason),
+}
+
+impl Stop {
+    /// The deck is refused for a card.
+    pub fn refused(card: usize, why: Sentence) -> Stop {
+        Stop::Refused(Reason { card, why })
+    }
+}
+
+impl From<AllocError> for Stop {
+    fn from(_: AllocError) -> Self {
+        Stop::NoMemory
+    }
+}
+
+impl<T: Drop> From<AllocFailed<T>> for Stop {
+    fn from(_: AllocFailed<T>) -> Self {
+        Stop::NoMemory
+    }
+}
+
+/// Passes on to the editor how a rule ended.
+pub fn settle(editor: &mut Editor, outcome: Result<(), Stop>) {
+    match outcome {
+        Ok(()) => {}
+        Err(Stop::NoMemory) => editor.run_out(),
+        Err(Stop::Refused(reason)) => editor.refuse(reason.card, reason.why),
+    }
+}

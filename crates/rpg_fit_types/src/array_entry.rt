@@ -1,0 +1,130 @@
+//! Entries of arrays that are read into fields of their own.
+
+use rpg_fit_deck::{Card, Editor, Seen, View, Word};
+use rpg_fit_terms::{Form, FreeIndicators, FreshNames, Indicator, NewCard, Stop};
+use rpg_fit_words::Calculation;
+use std::alloc::Global;
+
+/// An entry of an array: the array's name, and what stands behind the comma.
+#[derive(Clone, Copy)]
+pub(crate) struct Entry {
+    pub name: Word,
+    pub index: Word,
+}
+
+/// The field that an entry is read into for the types of an indicator.
+#[derive(Clone, Copy)]
+struct Shadow {
+    indicator: Indicator,
+    entry: Entry,
+    field: Word,
+}
+
+/// What is made while arrays are looked for.
+#[derive(Drop)]
+pub(crate) struct Filling {
+    pub free: FreeIndicators,
+    names: FreshNames,
+    shadows: Vec<Shadow>,
+    /// The calculations that fill the entries, of all types.
+    pub moves: Vec<NewCard>,
+}
+
+/// An array or an entry on a card: the card, its type's indicator, and the form of an entry.
+#[derive(Clone, Copy)]
+pub(crate) struct Reading {
+    pub seen: Seen,
+    pub indicator: Indicator,
+    pub form: Form,
+}
+
+/// The columns of an entry in a record.
+#[derive(Clone, Copy)]
+pub(crate) struct Span {
+    pub first: usize,
+    pub last: usize,
+}
+
+impl Filling {
+    /// Nothing so far.
+    pub fn new(alloc: Global) -> Filling {
+        Filling {
+            free: FreeIndicators::new(),
+            names: FreshNames::of(b"I#", 6),
+            shadows: Vec::new(alloc),
+            moves: Vec::new(alloc),
+        }
+    }
+
+    /// The field that an entry is read into already.
+    fn shadow(&self, indicator: Indicator, entry: &Entry) -> Option<Word> {
+        for shadow in self.shadows.iter() {
+            if shadow.indicator == indicator && is_same(&shadow.entry, entry) {
+                return Some(shadow.field);
+            }
+        }
+        None
+    }
+
+    /// The field that an entry is read into. A new one is moved to the entry.
+    fn field_of(&mut self, view: &View, reading: &Reading, entry: &Entry) -> Result<Word, Stop> {
+        if let Some(field) = self.shadow(reading.indicator, entry) {
+            return Ok(field);
+        }
+        let field = self.names.take(view, reading.seen.number)?;
+        self.shadows.push(Shadow {
+            indicator: reading.indicator,
+            entry: *entry,
+            field,
+        })?;
+        self.moves.push(move_to(reading, entry, &field))?;
+        Ok(field)
+    }
+
+    /// Puts the field that an entry is read into before an array's card.
+    pub fn read_entry(
+        &mut self,
+        editor: &mut Editor,
+        view: &View,
+        reading: &Reading,
+        entry: &Entry,
+        span: Span,
+    ) -> Result<(), Stop> {
+        let field = self.field_of(view, reading, entry)?;
+        let card = field_card(reading, &field, span);
+        editor.insert(reading.seen.at, card, reading.seen.number);
+        Ok(())
+    }
+}
+
+/// The card of a field that an entry is read into.
+fn field_card(reading: &Reading, field: &Word, span: Span) -> Card {
+    reading
+        .seen
+        .card
+        .made()
+        .with_right(44, 47, Word::of_number(span.first).text())
+        .with_right(48, 51, Word::of_number(span.last).text())
+        .with(52, 52, &[reading.form.decimals])
+        .with(53, 58, field.text())
+}
+
+/// Whether two entries are the same.
+fn is_same(one: &Entry, other: &Entry) -> bool {
+    one.name.text() == other.name.text() && one.index.text() == other.index.text()
+}
+
+/// The calculation that moves a field to an entry.
+fn move_to(reading: &Reading, entry: &Entry, field: &Word) -> NewCard {
+    let operation: &[u8] = if reading.form.is_number() {
+        b"Z-ADD"
+    } else {
+        b"MOVE"
+    };
+    let result = entry.name.and(b",").and(entry.index.text());
+    Calculation::of(operation)
+        .when(reading.indicator)
+        .factor2(field.text())
+        .result(result.text())
+        .made_of(reading.seen.number)
+}

@@ -1,0 +1,217 @@
+//! A type in place of each OR, and fields without a field record relation.
+
+use rpg_fit_deck::{Address, Card, Editor, Seen, Sentence, Word};
+use rpg_fit_terms::{Indicator, NewCard, Stop, address_after, put_cards, settle};
+use rpg_fit_words::{RecordType, record_types};
+use std::alloc::Global;
+
+/// A type of its own for each OR card, with the fields that belong to it. A field record relation that names the type's own indicator
+/// goes.
+pub fn or_types(alloc: Global, editor: &mut Editor) {
+    let outcome = separate_all(alloc, editor);
+    settle(editor, outcome);
+}
+
+fn separate_all(alloc: Global, editor: &mut Editor) -> Result<(), Stop> {
+    let view = editor.view(alloc)?;
+    let types = record_types(alloc, &view)?;
+    for kind in types.iter() {
+        check_relations(kind)?;
+        if alternatives(kind) == 1 {
+            blank_relations(editor, kind);
+        } else {
+            let behind = address_after(&view, last_of(kind).at);
+            separate(alloc, editor, kind, behind)?;
+        }
+    }
+    Ok(())
+}
+
+/// Whether a card of a type begins another alternative.
+fn is_or(seen: &Seen) -> bool {
+    seen.card.columns(14, 15) == b"OR".as_slice()
+}
+
+/// How many alternatives a type has.
+fn alternatives(kind: &RecordType) -> usize {
+    kind.more
+        .iter()
+        .filter(|seen| is_or(seen))
+        .count()
+        .saturating_add(1)
+}
+
+/// The last card of a type.
+fn last_of(kind: &RecordType) -> &Seen {
+    match kind.fields.last() {
+        Some(last) => last,
+        None => kind.more.last().unwrap_or(&kind.head),
+    }
+}
+
+/// The field record relation of a field, perhaps blank.
+fn relation(field: &Seen) -> Indicator {
+    Indicator::at(&field.card, 63)
+}
+
+/// Whether one of a type's alternatives has an indicator.
+fn has_indicator(kind: &RecordType, indicator: Indicator) -> bool {
+    Indicator::at(&kind.head.card, 19) == indicator
+        || kind.more.iter().any(|seen| is_or(seen) && Indicator::at(&seen.card, 19) == indicator)
+}
+
+/// Whether a field without a relation has a level in two columns.
+fn is_level_unrelated(kind: &RecordType, column: usize, level: &[u8]) -> bool {
+    let last = column.saturating_add(1);
+    kind.fields.iter().any(|field| relation(field).is_blank()
+        && field.card.value(column, last) == level)
+}
+
+/// Refuses a field whose level in two columns stands on a field without a relation too.
+fn check_level(kind: &RecordType, field: &Seen, column: usize) -> Result<(), Stop> {
+    let level = field.card.value(column, column.saturating_add(1));
+    if !level.is_empty() && is_level_unrelated(kind, column, level) {
+        return Err(Stop::refused(
+            field.number,
+            Sentence::about(
+                "% stands with and without a field record relation",
+                Word::of(level),
+            ),
+        ));
+    }
+    Ok(())
+}
+
+/// Refuses relations that no alternative of the type answers, and levels that stand with and without one.
+fn check_relations(kind: &RecordType) -> Result<(), Stop> {
+    for field in kind.fields.iter() {
+        let relation = relation(field);
+        if !relation.is_blank() {
+            if !has_indicator(kind, relation) {
+                return Err(Stop::refused(
+                    field.number,
+                    Sentence::about(
+                        "field record relation % is no indicator of this type",
+                        relation.word(),
+                    ),
+                ));
+            }
+            check_level(kind, field, 59)?;
+            check_level(kind, field, 61)?;
+        }
+    }
+    Ok(())
+}
+
+/// A field without its relation.
+fn unrelated(card: Card) -> Card {
+    card.with(63, 64, &[])
+}
+
+/// Blanks the relations of a type that has no OR.
+fn blank_relations(editor: &mut Editor, kind: &RecordType) {
+    for field in kind.fields.iter() {
+        if !relation(field).is_blank() {
+            editor.tell(
+                field.number,
+                Sentence::of("63 to 64 blanked: it names the type's own indicator"),
+            );
+            editor.change(field.at, unrelated(field.card), field.number);
+        }
+    }
+}
+
+/// Puts a type for each further alternative behind the first one.
+fn separate(
+    alloc: Global,
+    editor: &mut Editor,
+    kind: &RecordType,
+    behind: Address,
+) -> Result<(), Stop> {
+    editor.tell(
+        kind.head.number,
+        Sentence::about(
+            "% types in place of OR, each with its fields",
+            Word::of_number(alternatives(kind)),
+        ),
+    );
+    let others = other_types(alloc, kind)?;
+    remove_others(editor, kind);
+    keep_own_fields(editor, kind);
+    put_cards(editor, behind, others.as_slice(), kind.head.number);
+    Ok(())
+}
+
+/// Takes the OR cards out, and the AND cards behind them.
+fn remove_others(editor: &mut Editor, kind: &RecordType) {
+    let mut is_other = false;
+    for seen in kind.more.iter() {
+        is_other = is_other || is_or(seen);
+        if is_other {
+            editor.remove(seen.at, kind.head.number);
+        }
+    }
+}
+
+/// Leaves the first alternative the fields that belong to it.
+fn keep_own_fields(editor: &mut Editor, kind: &RecordType) {
+    let own = Indicator::at(&kind.head.card, 19);
+    for field in kind.fields.iter() {
+        let relation = relation(field);
+        if !relation.is_blank() {
+            if relation == own {
+                let card = unrelated(field.card.made());
+                editor.change(field.at, card, kind.head.number);
+            } else {
+                editor.remove(field.at, kind.head.number);
+            }
+        }
+    }
+}
+
+/// The card of a type in place of an OR card. The sequence is that of the first alternative.
+fn head_of(kind: &RecordType, or: &Seen, indicator: Indicator) -> NewCard {
+    NewCard::copy(or)
+        .with(7, 14, &[])
+        .with_columns(15, 18, &kind.head.card)
+        .with(19, 20, indicator.word().text())
+}
+
+/// Appends the fields that belong to an alternative.
+fn push_fields(cards: &mut Vec<NewCard>, kind: &RecordType, own: Indicator) -> Result<(), Stop> {
+    for field in kind.fields.iter() {
+        let relation = relation(field);
+        if relation.is_blank() || relation == own {
+            cards.push(NewCard::copy(field).with(63, 64, &[]))?;
+        }
+    }
+    Ok(())
+}
+
+/// The indicator of an alternative: its own, or that of the one above.
+fn indicator_of(or: &Seen, above: Indicator) -> Indicator {
+    let own = Indicator::at(&or.card, 19);
+    if own.is_blank() { above } else { own }
+}
+
+/// The types in place of the OR cards of a type.
+fn other_types(alloc: Global, kind: &RecordType) -> Result<Vec<NewCard>, Stop> {
+    let mut cards: Vec<NewCard> = Vec::new(alloc);
+    let mut own = Indicator::at(&kind.head.card, 19);
+    for seen in kind.more.iter() {
+        if is_or(seen) {
+            if !cards.is_empty() {
+                push_fields(&mut cards, kind, own)?;
+            }
+            own = indicator_of(seen, own);
+            cards.push(head_of(kind, seen, own))?;
+        } else if !cards.is_empty() {
+            cards.push(NewCard {
+                card: seen.card,
+                number: seen.number,
+            })?;
+        }
+    }
+    push_fields(&mut cards, kind, own)?;
+    Ok(cards)
+}

@@ -1,0 +1,90 @@
+//! The order of record types by number.
+
+use rpg_fit_deck::{Seen, Word};
+use rpg_fit_terms::{Indicator, Stop};
+use std::alloc::Global;
+
+/// A record type with a number.
+#[derive(Clone, Copy)]
+pub(crate) struct Numbered {
+    pub head: Seen,
+    pub number: usize,
+    pub indicator: Indicator,
+}
+
+/// A number of the order, as the first of its types has it.
+#[derive(Clone, Copy)]
+pub(crate) struct Step {
+    pub number: usize,
+    /// Whether there may be several records of it: N in 17.
+    pub is_many: bool,
+    /// Whether there may be none: O in 18.
+    pub is_optional: bool,
+}
+
+/// A number that no step has: behind all.
+const BEHIND_ALL: usize = 100;
+
+/// The steps of numbered types, in the order of their first cards.
+pub(crate) fn steps_of(alloc: Global, numbered: &[Numbered]) -> Result<Vec<Step>, Stop> {
+    let mut steps: Vec<Step> = Vec::new(alloc);
+    for one in numbered {
+        if !is_step(steps.as_slice(), one.number) {
+            steps.push(Step {
+                number: one.number,
+                is_many: one.head.card.column(17) == b'N',
+                is_optional: one.head.card.column(18) == b'O',
+            })?;
+        }
+    }
+    Ok(steps)
+}
+
+/// Whether a number is one of the steps.
+fn is_step(steps: &[Step], number: usize) -> bool {
+    steps.iter().any(|step| step.number == number)
+}
+
+/// Whether all steps between two numbers may be left out.
+fn are_optional(steps: &[Step], low: usize, high: usize) -> bool {
+    steps.iter().all(|step| step.number <= low || step.number >= high || step.is_optional)
+}
+
+/// Whether a record of a step may come behind the last one of a number, 0 where there was none: within a group, or as the first of the
+/// next one.
+fn may_follow(steps: &[Step], last: usize, step: &Step) -> bool {
+    last == step.number && step.is_many
+        || step.number > last && are_optional(steps, last, step.number)
+        || are_optional(steps, last, BEHIND_ALL) && are_optional(steps, 0, step.number)
+}
+
+/// The numbers behind which a record of a step may come, 0 first.
+pub(crate) fn numbers_before(
+    alloc: Global,
+    steps: &[Step],
+    step: &Step,
+) -> Result<Vec<usize>, Stop> {
+    let mut numbers = Vec::new(alloc);
+    if may_follow(steps, 0, step) {
+        numbers.push(0)?;
+    }
+    for number in 0..BEHIND_ALL {
+        if is_step(steps, number) && may_follow(steps, number, step) {
+            numbers.push(number)?;
+        }
+    }
+    Ok(numbers)
+}
+
+/// Letters for columns 15 to 16 in place of a number, by their place: NA to NZ, then XA and so on; none behind ZZ.
+pub(crate) fn letters(place: usize) -> Option<Word> {
+    let first = match place / 26 {
+        0 => b'N',
+        1 => b'X',
+        2 => b'Y',
+        3 => b'Z',
+        _ => return None,
+    };
+    let second = b'A' + (place % 26) as u8;
+    Some(Word::of(&[first, second]))
+}

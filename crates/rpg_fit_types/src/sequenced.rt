@@ -1,0 +1,216 @@
+//! Sequence by number: calculations test it.
+
+use crate::order::{Numbered, letters};
+use crate::order_test::{Marks, order_cards};
+use rpg_fit_deck::{Card, Editor, Sentence, View, Word};
+use rpg_fit_terms::{FreeIndicators, Indicator, Stop, free_halt, fresh_name, settle};
+use rpg_fit_words::{Place, RecordType, check_only_type, groups, insert_at, record_types};
+use std::alloc::Global;
+
+/// Letters in place of numbers in 15 to 16, and calculations that test the order of the records.
+pub fn sequence(alloc: Global, editor: &mut Editor) {
+    let outcome = order_all(alloc, editor);
+    settle(editor, outcome);
+}
+
+/// What was given to types so far.
+#[derive(Clone, Copy)]
+struct Given {
+    free: FreeIndicators,
+    /// How many types have letters now.
+    letters: usize,
+}
+
+fn order_all(alloc: Global, editor: &mut Editor) -> Result<(), Stop> {
+    let view = editor.view(alloc)?;
+    let types = record_types(alloc, &view)?;
+    let mut given = Given {
+        free: FreeIndicators::new(),
+        letters: 0,
+    };
+    for (place, kind) in types.iter().enumerate() {
+        if is_first_of_file(types.as_slice(), place, kind) {
+            order_file(alloc, editor, &mut given, &kind.file)?;
+        }
+    }
+    Ok(())
+}
+
+/// Whether no type before a place is of the same file.
+fn is_first_of_file(types: &[RecordType], place: usize, kind: &RecordType) -> bool {
+    !types
+        .iter()
+        .take(place)
+        .any(|other| other.file.text() == kind.file.text())
+}
+
+/// Whether a card has a number in 15 to 16.
+fn is_numbered(card: &Card) -> bool {
+    card.column(15).is_ascii_digit() && card.column(16).is_ascii_digit()
+}
+
+/// Tests the order of the types of a file, if they are numbered.
+fn order_file(
+    alloc: Global,
+    editor: &mut Editor,
+    given: &mut Given,
+    file: &Word,
+) -> Result<(), Stop> {
+    let view = editor.view(alloc)?;
+    let types = record_types(alloc, &view)?;
+    let numbered = numbered_types(alloc, given, &view, types.as_slice(), file)?;
+    match numbered.first() {
+        Some(first) => {
+            let card = first.head.number;
+            let marks = Marks {
+                halt: free_halt(&view, card)?,
+                last: fresh_name(&view, b"SEQ#", card)?,
+                equal: given.free.take(&view, card)?,
+                card,
+            };
+            tell_order(editor, file, &marks);
+            change_types(editor, given, numbered.as_slice(), card)?;
+            insert_tests(alloc, editor, &marks, numbered.as_slice())
+        }
+        None => Ok(()),
+    }
+}
+
+fn tell_order(editor: &mut Editor, file: &Word, marks: &Marks) {
+    editor.tell(
+        marks.card,
+        Sentence::of_two(
+            "the order of % is tested by calculations: a record out of order ends the job by halt 6 (%), behind its own lines",
+            *file,
+            marks.halt.word(),
+        ),
+    );
+}
+
+/// Puts the tests at the front of detail.
+fn insert_tests(
+    alloc: Global,
+    editor: &mut Editor,
+    marks: &Marks,
+    numbered: &[Numbered],
+) -> Result<(), Stop> {
+    let cards = order_cards(alloc, marks, numbered)?;
+    insert_at(
+        alloc,
+        editor,
+        Place::DetailFront,
+        cards.as_slice(),
+        marks.card,
+    )
+}
+
+/// Refuses columns 17 and 18 that say nothing of an order.
+fn check_columns(kind: &RecordType) -> Result<(), Stop> {
+    let many = kind.head.card.column(17);
+    let optional = kind.head.card.column(18);
+    if (many != b'1' && many != b'N') || (optional != b' ' && optional != b'O') {
+        return Err(Stop::refused(
+            kind.head.number,
+            Sentence::of("17 and 18 of a sequence by number are 1 or N, and O or blank"),
+        ));
+    }
+    Ok(())
+}
+
+/// Whether a type is a numbered one of a file.
+fn is_of(kind: &RecordType, file: &Word) -> bool {
+    is_numbered(&kind.head.card) && kind.file.text() == file.text()
+}
+
+/// Refuses columns 17 and 18 of a file's types.
+fn check_all_columns(types: &[RecordType], file: &Word) -> Result<(), Stop> {
+    for kind in types {
+        if is_of(kind, file) {
+            check_columns(kind)?;
+        }
+    }
+    Ok(())
+}
+
+/// The numbered types of a file, each with an indicator that no other number has.
+fn numbered_types(
+    alloc: Global,
+    given: &mut Given,
+    view: &View,
+    types: &[RecordType],
+    file: &Word,
+) -> Result<Vec<Numbered>, Stop> {
+    check_all_columns(types, file)?;
+    let mut numbered = Vec::new(alloc);
+    for kind in types {
+        if is_of(kind, file) {
+            let indicator = indicator_of(alloc, given, view, types, kind)?;
+            numbered.push(Numbered {
+                head: kind.head,
+                number: kind.head.card.number(15, 16).unwrap_or(0),
+                indicator,
+            })?;
+        }
+    }
+    Ok(numbered)
+}
+
+/// Whether another type has an indicator, and another number or none, or another file.
+fn is_of_another(types: &[RecordType], kind: &RecordType, indicator: Indicator) -> bool {
+    types.iter().any(|other| {
+        Indicator::at(&other.head.card, 19) == indicator
+            && (other.head.card.columns(15, 16) != kind.head.card.columns(15, 16)
+                || other.file.text() != kind.file.text())
+    })
+}
+
+/// The indicator of a numbered type: its own, or a free one.
+fn indicator_of(
+    alloc: Global,
+    given: &mut Given,
+    view: &View,
+    types: &[RecordType],
+    kind: &RecordType,
+) -> Result<Indicator, Stop> {
+    let own = Indicator::at(&kind.head.card, 19);
+    if own.is_blank() {
+        return given.free.take(view, kind.head.number);
+    }
+    if is_of_another(types, kind, own) {
+        return Err(Stop::refused(
+            kind.head.number,
+            Sentence::about("two types of other numbers have indicator %", own.word()),
+        ));
+    }
+    let groups = groups(alloc, view)?;
+    check_only_type(alloc, view, groups.as_slice(), own, kind.head.number)?;
+    Ok(own)
+}
+
+/// Gives each numbered type its indicator, and letters in place of its number.
+fn change_types(
+    editor: &mut Editor,
+    given: &mut Given,
+    numbered: &[Numbered],
+    with: usize,
+) -> Result<(), Stop> {
+    for one in numbered {
+        let letters = match letters(given.letters) {
+            Some(letters) => letters,
+            None => {
+                return Err(Stop::refused(
+                    one.head.number,
+                    Sentence::of("more than 104 types with a number"),
+                ));
+            }
+        };
+        given.letters = given.letters.saturating_add(1);
+        let card = one
+            .head
+            .card
+            .with(15, 18, letters.text())
+            .with(19, 20, one.indicator.word().text());
+        editor.change(one.head.at, card, with);
+    }
+    Ok(())
+}

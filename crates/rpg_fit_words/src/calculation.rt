@@ -1,0 +1,95 @@
+//! Calculations that rules make.
+
+use rpg_fit_deck::{Card, Word};
+use rpg_fit_terms::{Condition, Indicator, NewCard, Term};
+
+/// A calculation card under way.
+#[derive(Clone, Copy)]
+pub struct Calculation {
+    card: Card,
+}
+
+impl Calculation {
+    /// An operation, without anything else.
+    pub fn of(operation: &[u8]) -> Calculation {
+        Calculation {
+            card: Card::of_form(b'C').with(28, 32, operation),
+        }
+    }
+
+    fn with(self, first: usize, last: usize, text: &[u8]) -> Calculation {
+        Calculation {
+            card: self.card.with(first, last, text),
+        }
+    }
+
+    /// At a control level, or in a subroutine: columns 7 to 8.
+    pub fn at(self, level: Indicator) -> Calculation {
+        self.with(7, 8, level.word().text())
+    }
+
+    /// Under a condition of at most three terms.
+    pub fn under(self, condition: &Condition) -> Calculation {
+        self.with(9, 17, condition.columns(0).text())
+    }
+
+    /// Where an indicator is on.
+    pub fn when(self, indicator: Indicator) -> Calculation {
+        self.under(&Condition::on(indicator))
+    }
+
+    /// Where an indicator is off.
+    pub fn unless(self, indicator: Indicator) -> Calculation {
+        self.under(&Condition::none().and(Term::off(indicator)))
+    }
+
+    pub fn factor1(self, factor: &[u8]) -> Calculation {
+        self.with(18, 27, factor)
+    }
+
+    pub fn factor2(self, factor: &[u8]) -> Calculation {
+        self.with(33, 42, factor)
+    }
+
+    pub fn result(self, field: &[u8]) -> Calculation {
+        self.with(43, 48, field)
+    }
+
+    /// The length and decimals of the result; a text's decimals are blank.
+    pub fn of_length(self, length: usize, decimals: u8) -> Calculation {
+        Calculation {
+            card: self
+                .card
+                .with_right(49, 51, Word::of_number(length).text())
+                .with(52, 52, &[decimals]),
+        }
+    }
+
+    /// The indicator in 54 to 55: a high result, or the first to be turned on or off.
+    pub fn high(self, indicator: Indicator) -> Calculation {
+        self.with(54, 55, indicator.word().text())
+    }
+
+    /// The indicator in 56 to 57: a low result, or the second to be turned on or off.
+    pub fn low(self, indicator: Indicator) -> Calculation {
+        self.with(56, 57, indicator.word().text())
+    }
+
+    /// The indicator in 58 to 59: an equal result, or the third to be turned on or off.
+    pub fn equal(self, indicator: Indicator) -> Calculation {
+        self.with(58, 59, indicator.word().text())
+    }
+
+    /// Its card.
+    pub fn card(self) -> Card {
+        self.card
+    }
+
+    /// Its card, made of the card of a number.
+    pub fn made_of(self, number: usize) -> NewCard {
+        NewCard {
+            card: self.card,
+            number,
+        }
+    }
+}

@@ -1,0 +1,79 @@
+//! The first output, before any calculation, and overflow before any total calculation.
+
+use crate::line::Line;
+use crate::printer::Printer;
+use crate::record_type::RecordType;
+use rpg_fit_deck::{Card, Seen};
+use rpg_fit_terms::Condition;
+
+/// The line of a page from which on there is overflow.
+const OVERFLOW_LINE: usize = 60;
+
+/// Whether a line is put out at overflow under a condition.
+fn is_overflow(printer: Option<Printer>, line: &Line, condition: &Condition) -> bool {
+    match printer {
+        Some(printer) => printer.is_overflow(line, condition),
+        None => false,
+    }
+}
+
+/// Whether a line is put out at the first output.
+pub fn is_put_first(printer: Option<Printer>, line: &Line) -> bool {
+    line.time.is_detail()
+        && line.alternatives.iter().any(|alternative| {
+            alternative.condition.holds_first()
+                && !is_overflow(printer, line, &alternative.condition)
+        })
+}
+
+/// Whether a field is put out at the first output.
+pub fn is_field_put_first(printer: Option<Printer>, line: &Line, field: &Seen) -> bool {
+    is_put_first(printer, line) && Condition::at(&field.card, 23).holds_first()
+}
+
+/// How many lines a card spaces: columns 17 and 18.
+fn spaces(card: &Card) -> usize {
+    card.number(17, 17)
+        .unwrap_or(0)
+        .saturating_add(card.number(18, 18).unwrap_or(0))
+}
+
+/// The line of the page that printing is at behind a line's card, at most: `at` before it.
+fn line_behind(at: usize, card: &Card) -> usize {
+    let spaces = spaces(card);
+    let moved = if card.is_blank(17, 22) { 1 } else { spaces };
+    let before = card.number(19, 20).unwrap_or(0).saturating_add(spaces);
+    let after = card.number(21, 22).unwrap_or(0).saturating_add(spaces);
+    at.saturating_add(moved).max(before).max(after)
+}
+
+/// Whether the first output may reach the overflow line.
+pub fn reaches_overflow(printer: Option<Printer>, lines: &[Line]) -> bool {
+    let mut at = 1;
+    for line in lines {
+        let is_printed = match printer {
+            Some(printer) => printer.has(line),
+            None => false,
+        };
+        if is_printed && is_put_first(printer, line) {
+            at = line_behind(at, &line.head.card);
+        }
+    }
+    at >= OVERFLOW_LINE
+}
+
+/// Whether a type has control fields.
+fn has_levels(kind: &RecordType) -> bool {
+    kind.fields.iter().any(|field| !field.card.is_blank(59, 60))
+}
+
+/// Whether an overflow output may come before any total calculation: the first output reaches the overflow line, or only some types have
+/// control fields.
+pub fn is_total_skipped_late(
+    printer: Option<Printer>,
+    lines: &[Line],
+    types: &[RecordType],
+) -> bool {
+    types.iter().any(|kind| has_levels(kind)) && !types.iter().all(|kind| has_levels(kind))
+        || reaches_overflow(printer, lines)
+}

@@ -1,0 +1,150 @@
+//! Where a deck has indicators.
+
+use crate::group::{Group, Section};
+use rpg_fit_deck::{Address, Seen, Sentence, View, Word};
+use rpg_fit_terms::{Condition, Indicator, Stop, is_card};
+use std::alloc::Global;
+
+/// What a card does with an indicator.
+#[derive(Clone, Copy, PartialEq, Eq)]
+pub enum UseKind {
+    /// It is that of a record type, or of overflow.
+    Type,
+    /// An input field turns it on or off.
+    Field,
+    /// A calculation turns it on or off.
+    Result,
+    /// It is asked: a condition, or a field record relation.
+    Asked,
+}
+
+/// An indicator on a card.
+#[derive(Clone, Copy)]
+pub struct IndicatorUse {
+    pub at: Address,
+    pub number: usize,
+    pub form: u8,
+    pub kind: UseKind,
+    pub indicator: Indicator,
+}
+
+/// Appends the indicator in a column and the one behind it, where there is one.
+fn push_use(
+    found: &mut Vec<IndicatorUse>,
+    seen: &Seen,
+    kind: UseKind,
+    indicator: Indicator,
+) -> Result<(), Stop> {
+    if !indicator.is_blank() {
+        found.push(IndicatorUse {
+            at: seen.at,
+            number: seen.number,
+            form: seen.card.form(),
+            kind,
+            indicator,
+        })?;
+    }
+    Ok(())
+}
+
+/// Appends the indicators in three pairs of columns, from a column on.
+fn push_three(
+    found: &mut Vec<IndicatorUse>,
+    seen: &Seen,
+    kind: UseKind,
+    column: usize,
+) -> Result<(), Stop> {
+    for place in 0..3 {
+        let at = column.saturating_add(place * 2);
+        push_use(found, seen, kind, Indicator::at(&seen.card, at))?;
+    }
+    Ok(())
+}
+
+/// Appends the indicators that are asked in nine columns, from a column on.
+fn push_asked(found: &mut Vec<IndicatorUse>, seen: &Seen, column: usize) -> Result<(), Stop> {
+    for term in Condition::at(&seen.card, column).terms() {
+        push_use(found, seen, UseKind::Asked, term.indicator)?;
+    }
+    Ok(())
+}
+
+/// Appends the indicators of an I card.
+fn push_input(found: &mut Vec<IndicatorUse>, seen: &Seen) -> Result<(), Stop> {
+    if !seen.card.is_blank(7, 20) {
+        return push_use(found, seen, UseKind::Type, Indicator::at(&seen.card, 19));
+    }
+    push_three(found, seen, UseKind::Field, 65)?;
+    push_use(found, seen, UseKind::Asked, Indicator::at(&seen.card, 63))
+}
+
+/// Appends the indicators of a card.
+fn push_card(found: &mut Vec<IndicatorUse>, seen: &Seen) -> Result<(), Stop> {
+    match seen.card.form() {
+        b'I' => push_input(found, seen),
+        b'C' => {
+            push_asked(found, seen, 9)?;
+            push_three(found, seen, UseKind::Result, 54)
+        }
+        b'O' => push_asked(found, seen, 23),
+        b'F' => push_use(found, seen, UseKind::Type, Indicator::at(&seen.card, 33)),
+        _ => Ok(()),
+    }
+}
+
+/// The indicators of a deck, card by card.
+///
+/// # Errors
+///
+/// Memory is refused.
+pub fn indicator_uses(alloc: Global, view: &View) -> Result<Vec<IndicatorUse>, Stop> {
+    let mut found = Vec::new(alloc);
+    for seen in view.cards.iter() {
+        if !seen.card.is_comment() {
+            push_card(&mut found, seen)?;
+        }
+    }
+    Ok(found)
+}
+
+/// Whether a card belongs to a detail calculation.
+fn is_in_detail(groups: &[Group], at: Address) -> bool {
+    groups.iter().any(|group| {
+        group.section() == Section::Detail
+            && (group.last.at == at || group.leading.iter().any(|seen| seen.at == at))
+    })
+}
+
+/// Refuses, for a card, where an indicator that a rule asks at the front of detail may have been turned on or off since by anything but
+/// its record types: by an input field, or outside detail calculations. Those leave it for the next record, before which it goes off.
+///
+/// # Errors
+///
+/// It may have been, or memory is refused.
+pub fn check_only_type(
+    alloc: Global,
+    view: &View,
+    groups: &[Group],
+    indicator: Indicator,
+    card: usize,
+) -> Result<(), Stop> {
+    let uses = indicator_uses(alloc, view)?;
+    for one in uses.iter() {
+        let sets = match one.kind {
+            UseKind::Field => true,
+            UseKind::Result => !is_in_detail(groups, one.at),
+            UseKind::Type | UseKind::Asked => false,
+        };
+        if sets && one.indicator == indicator {
+            return Err(Stop::refused(
+                card,
+                Sentence::of_two(
+                    "indicator % of its type is turned on or off by card % too",
+                    indicator.word(),
+                    Word::of_number(one.number),
+                ),
+            ));
+        }
+    }
+    Ok(())
+}

@@ -1,0 +1,44 @@
+//! The printer and its overflow indicator.
+
+use crate::line::{Line, Time};
+use rpg_fit_deck::{View, Word};
+use rpg_fit_terms::{Condition, Indicator, Term, is_card};
+
+/// A deck's first printer.
+#[derive(Clone, Copy)]
+pub struct Printer {
+    /// The number of its card.
+    pub number: usize,
+    pub file: Word,
+    /// Its overflow indicator, perhaps blank.
+    pub overflow: Indicator,
+}
+
+/// The first printer of a deck.
+pub fn printer_of(view: &View) -> Option<Printer> {
+    for seen in view.cards.iter() {
+        if is_card(seen, b'F') && seen.card.value(40, 46) == b"PRINTER".as_slice() {
+            return Some(Printer {
+                number: seen.number,
+                file: Word::of(seen.card.value(7, 14)),
+                overflow: Indicator::at(&seen.card, 33),
+            });
+        }
+    }
+    None
+}
+
+impl Printer {
+    /// Whether a line is put out on it.
+    pub fn has(&self, line: &Line) -> bool {
+        self.file.text() == line.file.text()
+    }
+
+    /// Whether a line is put out at overflow under a condition.
+    pub fn is_overflow(&self, line: &Line, condition: &Condition) -> bool {
+        !self.overflow.is_blank()
+            && line.time != Time::Exception
+            && self.has(line)
+            && condition.has(Term::on(self.overflow))
+    }
+}

@@ -1,0 +1,61 @@
+//! Record types.
+
+use rpg_fit_deck::{Card, Seen, View, Word};
+use rpg_fit_terms::{Stop, is_card};
+use std::alloc::Global;
+
+/// A record type.
+#[derive(Drop)]
+pub struct RecordType {
+    pub head: Seen,
+    /// Its AND and OR cards.
+    pub more: Vec<Seen>,
+    pub fields: Vec<Seen>,
+    pub file: Word,
+}
+
+/// Whether a card of I gives a type more codes, or other ones: AND or OR in 14 to 16.
+fn continues(card: &Card) -> bool {
+    card.is_blank(7, 13)
+        && (card.columns(14, 16) == b"OR ".as_slice() || card.columns(14, 16) == b"AND".as_slice())
+}
+
+/// Appends a card to the type that it belongs to.
+fn push_to_last(found: &mut Vec<RecordType>, seen: &Seen) -> Result<(), Stop> {
+    if let Some(kind) = found.last_mut() {
+        if continues(&seen.card) {
+            kind.more.push(*seen)?;
+        } else {
+            kind.fields.push(*seen)?;
+        }
+    }
+    Ok(())
+}
+
+/// The record types of a deck, in their order, each with the name of its file.
+///
+/// # Errors
+///
+/// Memory is refused.
+pub fn record_types(alloc: Global, view: &View) -> Result<Vec<RecordType>, Stop> {
+    let mut found = Vec::new(alloc);
+    let mut file = Word::empty();
+    for seen in view.cards.iter() {
+        if is_card(seen, b'I') {
+            if continues(&seen.card) || seen.card.is_blank(7, 16) {
+                push_to_last(&mut found, seen)?;
+            } else {
+                if !seen.card.is_blank(7, 14) {
+                    file = Word::of(seen.card.value(7, 14));
+                }
+                found.push(RecordType {
+                    head: *seen,
+                    more: Vec::new(alloc),
+                    fields: Vec::new(alloc),
+                    file,
+                })?;
+            }
+        }
+    }
+    Ok(found)
+}
