@@ -43,7 +43,7 @@ const fn way_round(serves_as: FileUse) -> &'static str {
         FileUse::Primary | FileUse::Secondary =>
             "; a second input file has S in 16, and a third isn't supported: merge two beforehand (docs/OLD_PROGRAMS.md)",
         FileUse::Printer | FileUse::Disk =>
-            "; more output files aren't supported: write one with a code in column 1, and split it afterwards (docs/OLD_PROGRAMS.md)",
+            "; more output files aren't supported: write one with a code in column 1, and split it afterwards (rpg2 fit does it for disk files: A21)",
     }
 }
 

@@ -21,10 +21,11 @@ const UNREAD: [(&str, &str); 10] = [
     ("PAGE7", PAGES),
 ];
 
-const DATE: &str = ": take it from UDATE, by MOVEL, MOVE, or DIV and MVR (docs/OLD_PROGRAMS.md)";
+const DATE: &str =
+    ": take it from UDATE, by MOVEL, MOVE, or DIV and MVR (rpg2 fit rewrites it: A20)";
 
 const PAGES: &str =
-    ": PAGE is the one page counter; count others in a number of 4 digits, by ADD (docs/OLD_PROGRAMS.md)";
+    ": PAGE is the one page counter; count others in a number of 4 digits, by ADD (of a single one rpg2 fit makes PAGE: A8)";
 
 /// Which name of a field isn't defined: its own, or that of its index.
 pub(crate) fn missing<'a>(spot: Spot<'a>, entry: &'a Entry) -> &'a Word<6> {
@@ -59,7 +60,7 @@ pub(crate) fn write_unknown_name(out: &mut TextWriter, spot: Spot<'_>) -> Option
 }
 
 const ARRAY_ON_INPUT: &str =
-    ": input fields don't fill arrays; read fields of their own, and move them by Z-ADD or MOVE to its entries (docs/OLD_PROGRAMS.md)";
+    ": input fields don't fill arrays; read fields of their own, and move them by Z-ADD or MOVE to its entries (rpg2 fit rewrites it: A12)";
 
 /// What the name was before.
 fn write_first(out: &mut TextWriter, spot: Spot<'_>, name: &[u8], first: FieldForm) {

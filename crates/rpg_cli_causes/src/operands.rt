@@ -220,7 +220,9 @@ fn write_index_of(out: &mut TextWriter, entry: &Entry, form: FieldForm) {
                 " has {entries} {of_entries}, and is written with an index, as "
             );
             out.write_shown(entry.name.as_slice());
-            out.write_str(",1: whole arrays stand in XFOOT and LOKUP only (docs/OLD_PROGRAMS.md)");
+            out.write_str(
+                ",1: whole arrays stand in XFOOT and LOKUP only (rpg2 fit rewrites it: A13, A14)",
+            );
         }
         Some(EntryIndex::Literal(index)) => {
             write!(

@@ -3,13 +3,13 @@
 use crate::unread::Unread;
 
 const SWITCHES: &str =
-    "external switches (U1 to U8) aren't supported: turn indicators on by a first record of its own type (docs/OLD_PROGRAMS.md)";
+    "external switches (U1 to U8) aren't supported: turn indicators on by a first record of its own type (rpg2 fit --switches decides them: A3)";
 
 const COMMAND_KEYS: &str =
     "command keys (KA to KZ) aren't supported: put parameters in a first record of its own type (docs/OLD_PROGRAMS.md)";
 
 const SYMBOLIC: &str =
-    "symbolic devices and labels aren't read: blank 47-53, nothing depends on them";
+    "symbolic devices and labels aren't read: blank 47-53, nothing depends on them (rpg2 fit rewrites it: A2)";
 
 const KEYS: &str =
     "keys and record addresses aren't supported: sort the records beforehand (docs/OLD_PROGRAMS.md)";
@@ -29,15 +29,16 @@ const DESCENDING_TABLE: &str =
     "descending sequence isn't supported: write the entries in ascending order";
 
 const ARRAY_ON_INPUT: &str =
-    "input fields don't fill array entries: read a field, and move it by Z-ADD or MOVE in the calculations (docs/OLD_PROGRAMS.md)";
+    "input fields don't fill array entries: read a field, and move it by Z-ADD or MOVE in the calculations (rpg2 fit rewrites it: A12)";
 
 const BLANKS: &str =
-    "figurative constants aren't supported: MOVE a text of blanks as long as the result, as '   ' (docs/OLD_PROGRAMS.md)";
+    "figurative constants aren't supported: MOVE a text of blanks as long as the result, as '   ' (rpg2 fit rewrites it: A10)";
 
 const ZEROS: &str =
-    "figurative constants aren't supported: write 0, or a text of zeros (docs/OLD_PROGRAMS.md)";
+    "figurative constants aren't supported: write 0, or a text of zeros (rpg2 fit rewrites it: A10)";
 
-const ONE_OR_MORE: &str = "sequence by number isn't supported: blank column 17";
+const ONE_OR_MORE: &str =
+    "sequence by number isn't supported: blank column 17 (rpg2 fit rewrites it: A7)";
 
 const ZONES: &str =
     "it isn't among the operations that are read, and nothing takes its place: rewrite what depends on zones (docs/OLD_PROGRAMS.md)";
@@ -60,7 +61,11 @@ const OUTSIDE: &str =
 const ARRAY_LOOP: &str =
     "it isn't among the operations that are read: loop over the array with an index (docs/OLD_PROGRAMS.md)";
 
-const STACKER: &str = "stacker select isn't supported: blank this column";
+const MOVED_ARRAY: &str =
+    "it isn't among the operations that are read: loop over the array with an index (rpg2 fit rewrites it: A11)";
+
+const STACKER: &str =
+    "stacker select isn't supported: blank this column (rpg2 fit rewrites it: A2)";
 
 const END_POSITION: &str =
     "end positions count from the start of the line, without a sign: a number that ends in column 43";
@@ -71,19 +76,19 @@ pub(crate) const DIRECTIVES: &[Unread] = &[
         7,
         7,
         "/TITLE",
-        "/TITLE isn't read: put * in column 7, and the card is a comment",
+        "/TITLE isn't read: put * in column 7, and the card is a comment (rpg2 fit rewrites it: A1)",
     ),
     Unread(
         7,
         7,
         "/EJECT",
-        "/EJECT isn't read: put * in column 7, and the card is a comment",
+        "/EJECT isn't read: put * in column 7, and the card is a comment (rpg2 fit rewrites it: A1)",
     ),
     Unread(
         7,
         7,
         "/SPACE",
-        "/SPACE isn't read: put * in column 7, and the card is a comment",
+        "/SPACE isn't read: put * in column 7, and the card is a comment (rpg2 fit rewrites it: A1)",
     ),
     Unread(
         7,
@@ -99,13 +104,18 @@ pub(crate) const FORM_TYPES: &[Unread] = &[
         6,
         6,
         "L",
-        "line counter cards (L) aren't read: a page has 66 lines; take the card out if each form begins with a skip (docs/OLD_PROGRAMS.md)",
+        "line counter cards (L) aren't read: a page has 66 lines; take the card out if each form begins with a skip (rpg2 fit rewrites it: A4)",
     ),
     Unread(6, 6, "T", "telecommunications cards (T) aren't read"),
 ];
 
 pub(crate) const HEADER: &[Unread] = &[
-    Unread(15, 15, "", "DEBUG isn't supported: blank column 15"),
+    Unread(
+        15,
+        15,
+        "",
+        "DEBUG isn't supported: blank column 15 (rpg2 fit rewrites it: A2)",
+    ),
     Unread(
         21,
         21,
@@ -122,7 +132,7 @@ pub(crate) const HEADER: &[Unread] = &[
         41,
         41,
         "",
-        "forms alignment isn't supported: blank column 41, a file needs none",
+        "forms alignment isn't supported: blank column 41, a file needs none (rpg2 fit rewrites it: A2)",
     ),
 ];
 
@@ -157,7 +167,7 @@ pub(crate) const FILE: &[Unread] = &[
         16,
         16,
         "T",
-        "table files that are read at the start aren't supported: put the entries after a ** card (docs/OLD_PROGRAMS.md)",
+        "table files that are read at the start aren't supported: put the entries after a ** card (rpg2 fit rewrites it: A5)",
     ),
     Unread(
         18,
@@ -183,13 +193,13 @@ pub(crate) const FILE: &[Unread] = &[
         39,
         39,
         "L",
-        "line counter cards (L) aren't read: blank column 39 if each form begins with a skip; a page has 66 lines (docs/OLD_PROGRAMS.md)",
+        "line counter cards (L) aren't read: blank column 39 if each form begins with a skip; a page has 66 lines (rpg2 fit rewrites it: A4)",
     ),
     Unread(
         39,
         39,
         "E",
-        "the extension code isn't read: blank column 39, a deck with tables needs none",
+        "the extension code isn't read: blank column 39, a deck with tables needs none (rpg2 fit rewrites it: A5)",
     ),
     Unread(47, 53, "", SYMBOLIC),
     Unread(
@@ -214,7 +224,7 @@ pub(crate) const FILE: &[Unread] = &[
         70,
         70,
         "",
-        "the unit isn't read: blank column 70, nothing depends on it",
+        "the unit isn't read: blank column 70, nothing depends on it (rpg2 fit rewrites it: A2)",
     ),
     Unread(71, 72, "U#", SWITCHES),
 ];
@@ -224,7 +234,7 @@ pub(crate) const EXTENSION: &[Unread] = &[
         11,
         18,
         "",
-        "tables that are read from a file at the start aren't supported: put the entries after a ** card (docs/OLD_PROGRAMS.md)",
+        "tables that are read from a file at the start aren't supported: put the entries after a ** card (rpg2 fit rewrites it: A5)",
     ),
     Unread(
         19,
@@ -245,13 +255,13 @@ pub(crate) const RECORD_TYPE: &[Unread] = &[
         7,
         14,
         "       OR",
-        "OR among record types isn't supported: write a record type for each, and repeat the fields (docs/OLD_PROGRAMS.md)",
+        "OR among record types isn't supported: write a record type for each, and repeat the fields (rpg2 fit rewrites it: A6)",
     ),
     Unread(
         15,
         16,
         "##",
-        "sequence by number isn't supported: write two letters; the order of the types isn't checked then",
+        "sequence by number isn't supported: write two letters; the order of the types isn't checked then (rpg2 fit rewrites it: A7)",
     ),
     Unread(17, 17, "1", ONE_OR_MORE),
     Unread(17, 17, "N", ONE_OR_MORE),
@@ -259,7 +269,7 @@ pub(crate) const RECORD_TYPE: &[Unread] = &[
         18,
         18,
         "O",
-        "sequence by number isn't supported: blank column 18",
+        "sequence by number isn't supported: blank column 18 (rpg2 fit rewrites it: A7)",
     ),
     Unread(19, 20, "**", "look ahead isn't supported"),
     Unread(
@@ -301,7 +311,7 @@ pub(crate) const INPUT_FIELD: &[Unread] = &[
         63,
         64,
         "",
-        "field record relation isn't supported: repeat the fields under each record type (docs/OLD_PROGRAMS.md)",
+        "field record relation isn't supported: repeat the fields under each record type (rpg2 fit rewrites it: A6)",
     ),
     Unread(71, 74, "", "sterling fields aren't supported"),
 ];
@@ -323,7 +333,7 @@ pub(crate) const CALCULATION: &[Unread] = &[
     Unread(28, 32, "DSPLY", CONSOLE),
     Unread(28, 32, "KEY  ", CONSOLE),
     Unread(28, 32, "SET  ", CONSOLE),
-    Unread(28, 32, "MOVEA", ARRAY_LOOP),
+    Unread(28, 32, "MOVEA", MOVED_ARRAY),
     Unread(28, 32, "SORTA", ARRAY_LOOP),
     Unread(
         28,
@@ -350,7 +360,7 @@ pub(crate) const CALCULATION: &[Unread] = &[
         28,
         32,
         "DEBUG",
-        "it isn't among the operations that are read: put * in column 7, and put values out by lines of type E",
+        "it isn't among the operations that are read: put * in column 7, and put values out by lines of type E (rpg2 fit rewrites it: A1)",
     ),
     Unread(28, 32, "EXIT ", OUTSIDE),
     Unread(28, 32, "RLABL", OUTSIDE),
@@ -372,7 +382,7 @@ pub(crate) const LINE: &[Unread] = &[
         16,
         16,
         "F",
-        "fetch overflow isn't supported: blank column 16; the overflow lines come with the next cycle's (docs/OLD_PROGRAMS.md)",
+        "fetch overflow isn't supported: blank column 16; the overflow lines come with the next cycle's (rpg2 fit rewrites it: A19)",
     ),
     Unread(
         16,
@@ -402,13 +412,13 @@ pub(crate) const LINE_CONDITIONS: &[Unread] = &[
         16,
         16,
         "F",
-        "fetch overflow isn't supported: blank column 16 (docs/OLD_PROGRAMS.md)",
+        "fetch overflow isn't supported: blank column 16 (rpg2 fit rewrites it: A19)",
     ),
     Unread(
         17,
         22,
         "",
-        "an AND or OR card has no spaces and skips of its own: write two lines (docs/OLD_PROGRAMS.md)",
+        "an AND or OR card has no spaces and skips of its own: write two lines (rpg2 fit rewrites it: A9)",
     ),
     Unread(23, 31, ".U#", SWITCHES),
     Unread(23, 31, ".K&", COMMAND_KEYS),
@@ -421,7 +431,7 @@ pub(crate) const OUTPUT_FIELD: &[Unread] = &[
         32,
         37,
         "*PLACE",
-        "*PLACE isn't supported: write the fields once more, with their ends (docs/OLD_PROGRAMS.md)",
+        "*PLACE isn't supported: write the fields once more, with their ends (rpg2 fit rewrites it: A15)",
     ),
     Unread(
         32,
