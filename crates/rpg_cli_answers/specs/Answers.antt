@@ -45,7 +45,7 @@ run_text runs.BadDate = codes "bad date"
 run_text (runs.Read file fault) = codes "input failed"
 run_text (runs.Print sent) = codes "output failed"
 run_text (runs.Disk sent) = codes "output failed"
-run_text runs.NoMemory = codes "no memory"
+run_text (runs.NoMemory cycles) = codes "no memory"
 
 abbrev pub file_text : FileFault → List ℕ
 file_text (files.Input reason) = codes "input failed"
@@ -125,7 +125,7 @@ run_status runs.BadDate = 2
 run_status (runs.Read file fault) = 1
 run_status (runs.Print sent) = 1
 run_status (runs.Disk sent) = 1
-run_status runs.NoMemory = 1
+run_status (runs.NoMemory cycles) = 1
 
 abbrev pub exit_status : Answer → ℕ
 exit_status answer.Compiled = 0

@@ -139,7 +139,7 @@ fn put_run_fault(text: &mut Text, fault: RunFault)
         RunFault::BadDate => put(text, b"bad date"),
         RunFault::Read { .. } => put(text, b"input failed"),
         RunFault::Print { .. } | RunFault::Disk { .. } => put(text, b"output failed"),
-        RunFault::NoMemory => put(text, b"no memory"),
+        RunFault::NoMemory { .. } => put(text, b"no memory"),
     }
 }
 
@@ -208,7 +208,7 @@ fn run_status(fault: RunFault) -> u8
         RunFault::Read { .. }
         | RunFault::Print { .. }
         | RunFault::Disk { .. }
-        | RunFault::NoMemory => 1,
+        | RunFault::NoMemory { .. } => 1,
     }
 }
 

@@ -15,7 +15,7 @@ use Rattle.rpg_verify_rules.specs.Accepted.{IsAccepted}
 use Rattle.rpg_engine.specs.Objects.{HasObjectFault, IsRefused, SpellsProgram}
 use Rattle.rpg_engine.specs.Refusing.{HasDay, IsJobOf, IsToldOf, IsToldOfDate, MayRun, start_fault}
 use Rattle.rpg_engine.specs.Streaming.{IsRunFault, StopsEarly}
-use Rattle.rpg_engine.specs.Reporting.{HasParts, HasSent, IsPutOut, JobEndsWell, MayBePutOut, Reports, SendsParts}
+use Rattle.rpg_engine.specs.Reporting.{HasParts, HasSent, IsPutOutBy, JobEndsWell, MayBePutOut, Reports, SendsParts}
 use Rattle.rpg_cycle.specs.declared.ends.StartFault.{StartFault}
 use Rattle.rpg_cycle.specs.declared.ends.StartFault.TheVariants as starting
 use Rattle.rpg_engine.specs.declared.object.ObjectFault.{ObjectFault}
@@ -32,7 +32,7 @@ none_read a = record { read = []; ended = false; consumed = Consumes-nil a; at_e
 
 -- before the first cycle nothing was put out
 at_once : (a b print disk : Option (List ℕ)) (e : RunFault) (none_failed : Type 0) (p : Object) (day : ℤ) → ((file : InputFile) (why : ReadFault) → e ≡ faults.Read file why → ⊥)
-    → ((bytes : Bytes) → HasParts e print print disk disk bytes) → ((primary secondary : List ℕ) → IsPutOut p day primary secondary no_bytes → MayBePutOut e p day primary secondary no_bytes)
+    → ((bytes : Bytes) → HasParts e print print disk disk bytes) → ((primary secondary : List ℕ) → IsPutOutBy 0 p day primary secondary no_bytes → MayBePutOut e p day primary secondary no_bytes)
     → HasSent e none_failed print print disk disk no_bytes → OfFronts a a b b (StopsEarly p day e none_failed print print disk disk)
 at_once a b print disk e none_failed p day other parts may sent = record {
   primary = none_read a;
@@ -41,7 +41,7 @@ at_once a b print disk e none_failed p day other parts may sent = record {
     stops = λ more others_more can can_too. record {
       parts = λ course bytes run. parts bytes;
       bytes = no_bytes;
-      put_out = may _ _ (0, no_output, (refl, tt), refl);
+      put_out = may _ _ (no_output, (refl, tt), refl);
       sent = sent;
     };
     needs = λ file why is. absurd (other file why is);
@@ -51,16 +51,16 @@ at_once a b print disk e none_failed p day other parts may sent = record {
 pub object_refused : (a b print disk : Option (List ℕ)) (none_failed : Type 0) (fault : ObjectFault) (object : List ℕ) (p : Object) (day : ℤ) → HasObjectFault fault object
     → OfFronts a a b b (StopsEarly p day (faults.Object fault) none_failed print print disk disk)
 object_refused a b print disk none_failed fault object p day is =
-    at_once a b print disk (faults.Object fault) none_failed p day (λ file why is. absurd cc) (λ bytes. (none_sent print bytes.print, none_sent disk bytes.disk)) (λ xs ys put. inl put) tt
+    at_once a b print disk (faults.Object fault) none_failed p day (λ file why is. absurd cc) (λ bytes. (none_sent print bytes.print, none_sent disk bytes.disk)) (λ xs ys put. inl (0, put)) tt
 
-pub no_room : (a b print disk : Option (List ℕ)) (none_failed : Type 0) (p : Object) (day : ℤ) → OfFronts a a b b (StopsEarly p day faults.NoMemory none_failed print print disk disk)
+pub no_room : (a b print disk : Option (List ℕ)) (none_failed : Type 0) (p : Object) (day : ℤ) → OfFronts a a b b (StopsEarly p day (faults.NoMemory 0) none_failed print print disk disk)
 no_room a b print disk none_failed p day =
-    at_once a b print disk faults.NoMemory none_failed p day (λ file why is. absurd cc) (λ bytes. (none_sent print bytes.print, none_sent disk bytes.disk)) (λ xs ys put. put)
+    at_once a b print disk (faults.NoMemory 0) none_failed p day (λ file why is. absurd cc) (λ bytes. (none_sent print bytes.print, none_sent disk bytes.disk)) (λ xs ys put. put)
     (none_sent print [], none_sent disk [], λ none. (Appends-nil print, Appends-nil disk))
 
 pub not_started : (a b print disk : Option (List ℕ)) (none_failed : Type 0) (fault : StartFault) (p : Object) (day : ℤ) → OfFronts a a b b (StopsEarly p day (start_fault fault) none_failed print print disk disk)
 not_started a b print disk none_failed starting.BadDate p day =
-    at_once a b print disk faults.BadDate none_failed p day (λ file why is. absurd cc) (λ bytes. (none_sent print bytes.print, none_sent disk bytes.disk)) (λ xs ys put. inl put) tt
+    at_once a b print disk faults.BadDate none_failed p day (λ file why is. absurd cc) (λ bytes. (none_sent print bytes.print, none_sent disk bytes.disk)) (λ xs ys put. inl (0, put)) tt
 not_started a b print disk none_failed starting.NoMemory p day = no_room a b print disk none_failed p day
 
 -- ---- a job that began
@@ -110,7 +110,7 @@ told_of_run (Err faults.BadDate) date has only = absurd only
 told_of_run (Err (faults.Read file fault)) date has only = has
 told_of_run (Err (faults.Print sent)) date has only = has
 told_of_run (Err (faults.Disk sent)) date has only = has
-told_of_run (Err faults.NoMemory) date has only = tt
+told_of_run (Err (faults.NoMemory cycles)) date has only = tt
 
 pub on_err : {X E : Type 0} (r : Result X E) (P Q : E → Type 0) → ((e : E) → P e → Q e) → IfErr r P → IfErr r Q
 on_err (Ok x) P Q f h = tt
@@ -132,7 +132,7 @@ told_of_program (Err faults.BadDate) object date p spells accepted none = (p, sp
 told_of_program (Err (faults.Read file fault)) object date p spells accepted has = may_run object date p spells accepted has
 told_of_program (Err (faults.Print sent)) object date p spells accepted has = may_run object date p spells accepted has
 told_of_program (Err (faults.Disk sent)) object date p spells accepted has = may_run object date p spells accepted has
-told_of_program (Err faults.NoMemory) object date p spells accepted told = tt
+told_of_program (Err (faults.NoMemory cycles)) object date p spells accepted told = tt
 
 -- where there is no job of the bytes and the date, the date is none
 undated : (date : List ℕ) (day : Option ℤ) → date_in date ≡ day → ¬ HasDay date → date_in date ≡ None

@@ -31,7 +31,7 @@ use Rattle.rpg_object_program.specs.Object.{Object, input_length}
 use Rattle.rpg_object_program.specs.declared.section.Place.{Place}
 use Rattle.rpg_verify.specs.Bound.{bound}
 use Rattle.rpg_engine.specs.Inputs.{OfFronts, OfInputs, records_of}
-use Rattle.rpg_engine.specs.Reporting.{AreAlike, IsBad, GoesOnFor, HasParts, HasSent, IsPutOut, IsRunOver, IsUnread, MayBePutOut, Reports, WaitsFor, WentOn, following, records_in}
+use Rattle.rpg_engine.specs.Reporting.{AreAlike, IsBad, GoesOnFor, HasParts, HasSent, IsPutOut, IsPutOutBy, IsRunOver, IsUnread, MayBePutOut, Reports, WaitsFor, WentOn, following, records_in}
 use Rattle.rpg_engine.specs.Streaming.{Asks, FailsToRead, HasAnswered, IsRunFault, SendsSome, StopsBy, StopsEarly, TakesNone, ended_stage, record_with}
 use Rattle.rpg_engine.specs.declared.fault.CycleFault.{CycleFault}
 use Rattle.rpg_engine.specs.declared.fault.CycleFault.TheVariants as stops
@@ -148,11 +148,11 @@ some_of_run faults.BadDate printed stored print print' disk disk' lines records 
 some_of_run (faults.Read file fault) printed stored print print' disk disk' lines records some = tt
 some_of_run (faults.Print sent) printed stored print print' disk disk' lines records some = tt
 some_of_run (faults.Disk sent) printed stored print print' disk disk' lines records some = tt
-some_of_run faults.NoMemory printed stored print print' disk disk' lines records some = tt
+some_of_run (faults.NoMemory cycles) printed stored print print' disk disk' lines records some = tt
 
-pub stop_of_run : (fault : CycleFault) (e : RunFault) (none_failed : Type 0) (print print' disk disk' : Option (List ℕ)) (lines records : List ℕ) → StopsBy fault e none_failed print print' disk disk' lines records → IsRunFault e
-stop_of_run (stops.Read file fault) e none_failed print print' disk disk' lines records stop = subst IsRunFault (sym stop.0) tt
-stop_of_run stops.NoMemory e none_failed print print' disk disk' lines records stop = subst IsRunFault (sym stop.0) tt
+pub stop_of_run : (fault : CycleFault) (cycles : ℕ) (e : RunFault) (none_failed : Type 0) (print print' disk disk' : Option (List ℕ)) (lines records : List ℕ) → StopsBy fault cycles e none_failed print print' disk disk' lines records → IsRunFault e
+stop_of_run (stops.Read file fault) cycles e none_failed print print' disk disk' lines records stop = subst IsRunFault (sym stop.0) tt
+stop_of_run stops.NoMemory cycles e none_failed print print' disk disk' lines records stop = subst IsRunFault (sym stop.0) tt
 
 -- a job that needs a record goes on, and so do its files
 going_on : (p q : Bool) → (p && q) ≡ true → q ≡ true
@@ -258,13 +258,18 @@ begins_as bytes all front is begins = record { more = begins.more; is = is ∙ b
 abbrev pub bytes_with : (lines records : List ℕ) → Bytes
 bytes_with lines records = record { print = lines; disk = records }
 
-may_be_put_out : (e : RunFault) (p : Object) (day : ℤ) (primary secondary : List ℕ) (bytes : Bytes) → IsPutOut p day primary secondary bytes → MayBePutOut e p day primary secondary bytes
-may_be_put_out (faults.Object fault) p day primary secondary bytes put = inl put
-may_be_put_out faults.BadDate p day primary secondary bytes put = inl put
-may_be_put_out (faults.Read file fault) p day primary secondary bytes put = inl put
-may_be_put_out (faults.Print sent) p day primary secondary bytes put = inl put
-may_be_put_out (faults.Disk sent) p day primary secondary bytes put = inl put
-may_be_put_out faults.NoMemory p day primary secondary bytes put = put
+-- where memory ran out the fault reports these cycles
+abbrev pub CountsCycles : RunFault → ℕ → Type 0
+CountsCycles e cycles = (n : ℕ) → e ≡ faults.NoMemory n → n ≡ cycles
+
+may_be_put_out : (e : RunFault) (p : Object) (day : ℤ) (primary secondary : List ℕ) (bytes : Bytes) (cycles : ℕ) → CountsCycles e cycles → IsPutOutBy cycles p day primary secondary bytes
+    → MayBePutOut e p day primary secondary bytes
+may_be_put_out (faults.Object fault) p day primary secondary bytes cycles counts put = inl (cycles, put)
+may_be_put_out faults.BadDate p day primary secondary bytes cycles counts put = inl (cycles, put)
+may_be_put_out (faults.Read file fault) p day primary secondary bytes cycles counts put = inl (cycles, put)
+may_be_put_out (faults.Print sent) p day primary secondary bytes cycles counts put = inl (cycles, put)
+may_be_put_out (faults.Disk sent) p day primary secondary bytes cycles counts put = inl (cycles, put)
+may_be_put_out (faults.NoMemory n) p day primary secondary bytes cycles counts put = subst (λ (k : ℕ). IsPutOutBy k p day primary secondary bytes) (sym (counts n refl)) put
 
 -- a fault of a writer
 abbrev pub IsWriters : RunFault → Type 0
@@ -279,7 +284,7 @@ writers_put faults.BadDate p day primary secondary bytes is put = absurd is
 writers_put (faults.Read file fault) p day primary secondary bytes is put = absurd is
 writers_put (faults.Print sent) p day primary secondary bytes is put = put
 writers_put (faults.Disk sent) p day primary secondary bytes is put = put
-writers_put faults.NoMemory p day primary secondary bytes is put = absurd is
+writers_put (faults.NoMemory cycles) p day primary secondary bytes is put = absurd is
 
 same_bytes : (x y : List ℕ) (z w : List ℕ) → x ≡ y → z ≡ w → bytes_with x z ≡ bytes_with y w
 same_bytes x y z w h g = ap (λ (n : List ℕ). bytes_with n z) h ∙ ap (λ (n : List ℕ). bytes_with y n) g
@@ -329,11 +334,11 @@ module _ (first job : AtWork) (given others : Option (List ℕ)) (a b : Source) 
         (needs_too (is_going job.stage) (needs_record job.program stands_now job.inputs file) (needs_record job.program stands_now job.inputs Primary) fails.needed needs) more can;
   }
 
-  pub stopped_between : (e : RunFault) (none_failed : Type 0) (print print' disk disk' : Option (List ℕ)) → LeavesParts e (paper s.out.lines) (disk_bytes s.out.records) print print' disk disk'
+  pub stopped_between : (e : RunFault) (none_failed : Type 0) (print print' disk disk' : Option (List ℕ)) → CountsCycles e cycles → LeavesParts e (paper s.out.lines) (disk_bytes s.out.records) print print' disk disk'
       → HasSent e none_failed print print' disk disk' (bytes_with (paper s.out.lines) (disk_bytes s.out.records))
       → ((file : InputFile) (fault : ReadFault) → e ≡ faults.Read file fault → ReadFails job file fault s.primary.since s.secondary.since one two (paper s.out.lines) (disk_bytes s.out.records) print print' disk disk')
       → (day : ℤ) → IsStart first day → OfFronts given i.remaining others j.remaining (StopsEarly first.program day e none_failed print print' disk disk')
-  stopped_between e none_failed print print' disk disk' leaves sent fails day is = record {
+  stopped_between e none_failed print print' disk disk' counts leaves sent fails day is = record {
     primary = was_read given i (more_read given a.input i _ s.primary.since one);
     secondary = was_read others j (more_read others b.input j _ s.secondary.since two);
     fact = record {
@@ -348,8 +353,8 @@ module _ (first job : AtWork) (given others : Option (List ℕ)) (a b : Source) 
                 leaves bytes (begins_as bytes.print (printed course.output) (paper s.out.lines) run.print (printed_so_far course.output s.out later.0.output output))
                 (begins_as bytes.disk (stored course.output) (disk_bytes s.out.records) run.disk (stored_so_far course.output s.out later.0.output output));
             bytes = bytes_with (paper s.out.lines) (disk_bytes s.out.records);
-            put_out = may_be_put_out e first.program day xs ys (bytes_with (paper s.out.lines) (disk_bytes s.out.records))
-                (cycles, s.out, went_on day is more others_more can can_too (λ earlier rs c k. Unit {0}) tt, refl);
+            put_out = may_be_put_out e first.program day xs ys (bytes_with (paper s.out.lines) (disk_bytes s.out.records)) cycles counts
+                (s.out, went_on day is more others_more can can_too (λ earlier rs c k. Unit {0}) tt, refl);
             sent = sent;
           };
       needs = λ file fault read.
@@ -404,14 +409,14 @@ module _ (first : AtWork) (day : ℤ) (is : IsStart first day) (xs ys : List ℕ
   put_out_behind GoesOn head =
       let more = one_more first.program (config_on None first.config) (records_of xs ys) earlier now i rest after cycles most (max most there.config.steps) out there o u head refl in
       let both = put_on out o GoesOn refl in
-      inl (
-        cycles + 1,
+      let put : IsPutOutBy (cycles + 1) first.program day xs ys (put_with GoesOn) = (
         with_more out o,
         subst (λ (c : Config). GoesOnFor (cycles + 1) first.program [] (records_of xs ys) c unread (with_more out o) (λ e rs d k. Unit {0})) (start_is first day is)
             (goes_on_to (cycles + 1) first.program [] (records_of xs ys) (config_on None first.config) unread (with_more out o)
             (stand (with_record there.selected earlier) after there.config there.inputs) (λ e rs d k. Unit {0}) tt more.gone),
         same_bytes _ _ _ _ both.0 both.1,
-      )
+      ) in
+      inl (cycles + 1, put)
   put_out_behind EndOfJob head = put_at_end EndOfJob head tt
   put_out_behind (Halt k) head = put_at_end (Halt k) head tt
   put_out_behind (Wrong f) head = put_at_end (Wrong f) head tt
@@ -460,7 +465,7 @@ module _ (print print' print'' disk disk' disk'' : Option (List ℕ)) (waiting h
   some_parts (faults.Object fault) some bytes one two = absurd some
   some_parts faults.BadDate some bytes one two = absurd some
   some_parts (faults.Read file fault) some bytes one two = absurd some
-  some_parts faults.NoMemory some bytes one two = absurd some
+  some_parts (faults.NoMemory cycles) some bytes one two = absurd some
   some_parts (faults.Print sent) some bytes one two = (
     subst (λ (k : ℕ). AppendsFirst print print'' k bytes.print) (sym some.1) (first_sent print print' waiting gone_print lines p print'' bytes.print some.0 one some.2),
     subst (λ (x : Option (List ℕ)). AppendsPrefix disk x bytes.disk) (sym some.3) (prefix_sent disk disk' held gone_disk records d bytes.disk two),
@@ -474,7 +479,7 @@ module _ (print print' print'' disk disk' disk'' : Option (List ℕ)) (waiting h
   some_have (faults.Object fault) none_failed some = absurd some
   some_have faults.BadDate none_failed some = absurd some
   some_have (faults.Read file fault) none_failed some = absurd some
-  some_have faults.NoMemory none_failed some = absurd some
+  some_have (faults.NoMemory cycles) none_failed some = absurd some
   some_have (faults.Print sent) none_failed some = (
     subst (λ (k : ℕ). AppendsFirst print print'' k lines) (sym some.1) (first_sent print print' waiting gone_print lines p print'' lines some.0 (begins_whole lines) some.2),
     subst (λ (k : ℕ). k < length lines) (sym some.1) (strictly_sent print print' waiting gone_print lines p some.0 some.4),
@@ -487,41 +492,46 @@ module _ (print print' print'' disk disk' disk'' : Option (List ℕ)) (waiting h
   )
 
   -- a cycle wasn't done
-  pub stop_parts : (fault : CycleFault) (e : RunFault) (none_failed : Type 0) → StopsBy fault e none_failed print' print'' disk' disk'' waiting held → LeavesParts e lines records print print'' disk disk''
-  stop_parts stops.NoMemory e none_failed (is, went) bytes one two =
+  pub stop_parts : (fault : CycleFault) (cycles : ℕ) (e : RunFault) (none_failed : Type 0) → StopsBy fault cycles e none_failed print' print'' disk' disk'' waiting held → LeavesParts e lines records print print'' disk disk''
+  stop_parts stops.NoMemory cycles e none_failed (is, went) bytes one two =
       subst (λ (x : RunFault). HasParts x print print'' disk disk'' bytes) (sym is) (
         some_sent print print' waiting gone_print lines p print'' bytes.print one went.0,
         some_sent disk disk' held gone_disk records d disk'' bytes.disk two went.1,
       )
-  stop_parts (stops.Read file fault) e none_failed stop bytes one two =
+  stop_parts (stops.Read file fault) cycles e none_failed stop bytes one two =
       subst (λ (x : RunFault). HasParts x print print'' disk disk'' bytes) (sym stop.0) (
         subst (λ (x : Option (List ℕ)). AppendsPrefix print x bytes.print) (sym stop.1) (prefix_sent print print' waiting gone_print lines p bytes.print one),
         subst (λ (x : Option (List ℕ)). AppendsPrefix disk x bytes.disk) (sym stop.2) (prefix_sent disk disk' held gone_disk records d bytes.disk two),
       )
 
-  pub stop_has : (fault : CycleFault) (e : RunFault) (none_failed : Type 0) → StopsBy fault e none_failed print' print'' disk' disk'' waiting held → HasSent e none_failed print print'' disk disk'' (bytes_with lines records)
-  stop_has stops.NoMemory e none_failed (is, went) =
+  pub stop_has : (fault : CycleFault) (cycles : ℕ) (e : RunFault) (none_failed : Type 0) → StopsBy fault cycles e none_failed print' print'' disk' disk'' waiting held → HasSent e none_failed print print'' disk disk'' (bytes_with lines records)
+  stop_has stops.NoMemory cycles e none_failed (is, went) =
       subst (λ (x : RunFault). HasSent x none_failed print print'' disk disk'' (bytes_with lines records)) (sym is) (
         some_sent print print' waiting gone_print lines p print'' lines (begins_whole lines) went.0,
         some_sent disk disk' held gone_disk records d disk'' records (begins_whole records) went.1,
         λ none. let all = went.2 none in (rest_sent print print' waiting gone_print lines p print'' all.0, rest_sent disk disk' held gone_disk records d disk'' all.1),
       )
-  stop_has (stops.Read file fault) e none_failed stop = subst (λ (x : RunFault). HasSent x none_failed print print'' disk disk'' (bytes_with lines records)) (sym stop.0) tt
+  stop_has (stops.Read file fault) cycles e none_failed stop = subst (λ (x : RunFault). HasSent x none_failed print print'' disk disk'' (bytes_with lines records)) (sym stop.0) tt
 
   -- where no writer failed later, none had failed since the start
-  pub stop_since : (fault : CycleFault) (e : RunFault) (later start : Type 0) → (start → later) → StopsBy fault e later print' print'' disk' disk'' waiting held → StopsBy fault e start print' print'' disk' disk'' waiting held
-  stop_since stops.NoMemory e later start since (is, went) = (is, (went.0, went.1, λ none. went.2 (since none)))
-  stop_since (stops.Read file fault) e later start since stop = stop
+  pub stop_since : (fault : CycleFault) (cycles : ℕ) (e : RunFault) (later start : Type 0) → (start → later) → StopsBy fault cycles e later print' print'' disk' disk'' waiting held → StopsBy fault cycles e start print' print'' disk' disk'' waiting held
+  stop_since stops.NoMemory cycles e later start since (is, went) = (is, (went.0, went.1, λ none. went.2 (since none)))
+  stop_since (stops.Read file fault) cycles e later start since stop = stop
+
+  -- the fault reports the cycles that were done
+  pub stop_counts : (fault : CycleFault) (cycles : ℕ) (e : RunFault) (none_failed : Type 0) → StopsBy fault cycles e none_failed print' print'' disk' disk'' waiting held → CountsCycles e cycles
+  stop_counts stops.NoMemory cycles e none_failed (is, went) n told = let same : faults.NoMemory cycles ≡ faults.NoMemory n = sym is ∙ told in cc
+  stop_counts (stops.Read file fault) cycles e none_failed stop n told = absurd (let never : faults.Read file fault ≡ faults.NoMemory n = sym stop.0 ∙ told in cc)
 
   -- where a reader failed nothing waited
   module _ {R S : Type 0} (remaining : R → Option (List ℕ)) (others : S → Option (List ℕ)) (job : AtWork) (primary primary' : RecordReader R) (secondary secondary' : RecordReader S)
       (given beside : Option (List ℕ)) (s : Stands given (source_of remaining primary)) (t : Stands beside (source_of others secondary)) (limit : limit_of primary ≡ job.program.record_length) where
-    pub stop_needs : (fault : CycleFault) (e : RunFault) (none_failed : Type 0) → StopsBy fault e none_failed print' print'' disk' disk'' waiting held
+    pub stop_needs : (fault : CycleFault) (cycles : ℕ) (e : RunFault) (none_failed : Type 0) → StopsBy fault cycles e none_failed print' print'' disk' disk'' waiting held
         → (none : TakesNone remaining others job primary secondary fault primary' secondary')
         → ((file : InputFile) (why : ReadFault) → fault ≡ stops.Read file why → (waiting ≡ []) × (held ≡ [])) → (file : InputFile) (why : ReadFault) → e ≡ faults.Read file why
         → (let moved = moved_by remaining others job primary primary' secondary secondary' fault none in ReadFails job file why s.since t.since moved.0 moved.1 lines records print print'' disk disk'')
-    stop_needs stops.NoMemory e none_failed stop none waits file why read = absurd (let never : faults.NoMemory ≡ faults.Read file why = sym stop.0 ∙ read in cc)
-    stop_needs (stops.Read f w) e none_failed stop none waits file why read =
+    stop_needs stops.NoMemory cycles e none_failed stop none waits file why read = absurd (let never : faults.NoMemory cycles ≡ faults.Read file why = sym stop.0 ∙ read in cc)
+    stop_needs (stops.Read f w) cycles e none_failed stop none waits file why read =
         let nothing = waits f w refl in
         let fails = reading_fails remaining others job primary primary' secondary secondary' given beside s t limit lines records print print'' disk disk''
         (subst (λ (x : Option (List ℕ)). Appends print x lines) (sym stop.1) (all_sent print print' waiting gone_print lines p nothing.0))
@@ -543,4 +553,4 @@ some_writers faults.BadDate gone_print gone_disk print print' disk disk' lines r
 some_writers (faults.Read file fault) gone_print gone_disk print print' disk disk' lines records some = absurd some
 some_writers (faults.Print sent) gone_print gone_disk print print' disk disk' lines records some = tt
 some_writers (faults.Disk sent) gone_print gone_disk print print' disk disk' lines records some = tt
-some_writers faults.NoMemory gone_print gone_disk print print' disk disk' lines records some = absurd some
+some_writers (faults.NoMemory cycles) gone_print gone_disk print print' disk disk' lines records some = absurd some

@@ -19,7 +19,7 @@ use Rattle.rpg_files.specs.declared.reader.RecordReader.{RecordReader}
 use Rattle.rpg_engine.specs.Faults.{Counts, FaultsAre}
 use Rattle.rpg_engine.specs.Inputs.{HasTooMany, OfInputs}
 use Rattle.rpg_engine.specs.Refusing.{start_fault}
-use Rattle.rpg_engine.specs.Streaming.{FaultsOfWriters, GoesOutUnless, HasAnswered, SendsSome, StopsBy, TakesNone, WriterFaults}
+use Rattle.rpg_engine.specs.Streaming.{FaultsOfWriters, GoesOutUnless, HasAnswered, MayFail, SendsSome, StopsBy, TakesNone, WriterFaults}
 use Rattle.rpg_engine.specs.declared.fault.CycleFault.{CycleFault}
 use Rattle.rpg_engine.specs.declared.fault.CycleFault.TheVariants as stops
 use Rattle.rpg_engine.specs.declared.fault.RunFault.{RunFault}
@@ -44,7 +44,7 @@ module _ (printed stored : ℕ) (print print' disk disk' : Option (List ℕ)) (l
   some_goes (faults.Object fault) some rose = absurd some
   some_goes faults.BadDate some rose = absurd some
   some_goes (faults.Read file fault) some rose = absurd some
-  some_goes faults.NoMemory some rose = absurd some
+  some_goes (faults.NoMemory cycles) some rose = absurd some
   some_goes (faults.Print sent) some rose =
       ((some.0, some.2), no_prefix disk disk' records_put some.3, λ none. absurd (let one = rose.0 in let same = none.0 in omega arith))
   some_goes (faults.Disk sent) some rose =
@@ -55,15 +55,15 @@ module _ (printed stored : ℕ) (print print' disk disk' : Option (List ℕ)) (l
   goes_unless (Ok x) one two some rose = (all_prefix print print' lines one, all_prefix disk disk' records_put two, λ none. (one, two))
   goes_unless (Err e) one two some rose = some_goes e some rose
 
-  some_rise : (e : RunFault) → SendsSome e printed stored print print' disk disk' lines records_put → FaultsOfWriters e k k' l l' → FaultsOfWriters faults.NoMemory k k' l l'
+  some_rise : (e : RunFault) → SendsSome e printed stored print print' disk disk' lines records_put → FaultsOfWriters e k k' l l' → MayFail k k' l l'
   some_rise (faults.Object fault) some rose = absurd some
   some_rise faults.BadDate some rose = absurd some
   some_rise (faults.Read file fault) some rose = absurd some
-  some_rise faults.NoMemory some rose = absurd some
+  some_rise (faults.NoMemory cycles) some rose = absurd some
   some_rise (faults.Print sent) some rose = inr (inl rose)
   some_rise (faults.Disk sent) some rose = inr (inr rose)
 
-  pub one_rises : {X : Type 0} (r : Result X RunFault) → IfErr r (λ e. SendsSome e printed stored print print' disk disk' lines records_put) → WriterFaults r k k' l l' → FaultsOfWriters faults.NoMemory k k' l l'
+  pub one_rises : {X : Type 0} (r : Result X RunFault) → IfErr r (λ e. SendsSome e printed stored print print' disk disk' lines records_put) → WriterFaults r k k' l l' → MayFail k k' l l'
   one_rises (Ok x) some rose = inl rose
   one_rises (Err e) some rose = some_rise e some rose
 
@@ -123,14 +123,14 @@ pub some_faults : (e : RunFault) (printed stored : ℕ) (print print' disk disk'
 some_faults (faults.Object fault) printed stored print print' disk disk' lines records_put given left others rest n n' m m' k k' k'' l l' l'' X some rose h g p d = absurd some
 some_faults faults.BadDate printed stored print print' disk disk' lines records_put given left others rest n n' m m' k k' k'' l l' l'' X some rose h g p d = absurd some
 some_faults (faults.Read file fault) printed stored print print' disk disk' lines records_put given left others rest n n' m m' k k' k'' l l' l'' X some rose h g p d = absurd some
-some_faults faults.NoMemory printed stored print print' disk disk' lines records_put given left others rest n n' m m' k k' k'' l l' l'' X some rose h g p d = absurd some
+some_faults (faults.NoMemory cycles) printed stored print print' disk disk' lines records_put given left others rest n n' m m' k k' k'' l l' l'' X some rose h g p d = absurd some
 some_faults (faults.Print sent) printed stored print print' disk disk' lines records_put given left others rest n n' m m' k k' k'' l l' l'' X some rose h g p d =
     same_counts n' m' k'' l'' n m (k + 1) l h g (rose.0 ∙ ap (λ x. x + 1) p) (rose.1 ∙ d)
 some_faults (faults.Disk sent) printed stored print print' disk disk' lines records_put given left others rest n n' m m' k k' k'' l l' l'' X some rose h g p d =
     same_counts n' m' k'' l'' n m k (l + 1) h g (rose.0 ∙ p) (rose.1 ∙ ap (λ x. x + 1) d)
 
 -- memory ran out
-wanting_faults : (n n' m m' k k' k'' l l' l'' : ℕ) → FaultsOfWriters faults.NoMemory k' k'' l' l'' → n' ≡ n → m' ≡ m → k' ≡ k → l' ≡ l
+wanting_faults : (n n' m m' k k' k'' l l' l'' : ℕ) → MayFail k' k'' l' l'' → n' ≡ n → m' ≡ m → k' ≡ k → l' ≡ l
     → (counts n' m' k'' l'' ≡ counts n m k l) ⊎ ((counts n' m' k'' l'' ≡ counts n m (k + 1) l) ⊎ (counts n' m' k'' l'' ≡ counts n m k (l + 1)))
 wanting_faults n n' m m' k k' k'' l l' l'' (inl rose) h g p d = inl (same_counts n' m' k'' l'' n m k l h g (rose.0 ∙ p) (rose.1 ∙ d))
 wanting_faults n n' m m' k k' k'' l l' l'' (inr (inl rose)) h g p d = inr (inl (same_counts n' m' k'' l'' n m (k + 1) l h g (rose.0 ∙ ap (λ x. x + 1) p) (rose.1 ∙ d)))
@@ -139,18 +139,18 @@ wanting_faults n n' m m' k k' k'' l l' l'' (inr (inr rose)) h g p d = inr (inr (
 -- a cycle wasn't done
 module _ {R S : Type 0} (remaining : R → Option (List ℕ)) (beside : S → Option (List ℕ)) (primary primary' : RecordReader R) (secondary secondary' : RecordReader S)
     (given others : Option (List ℕ)) (s : Stands given (source_of remaining primary)) (t : Stands others (source_of beside secondary)) where
-  pub stop_faults : (job : AtWork) (fault : CycleFault) (e : RunFault) (none_failed : Type 0) (print print' disk disk' : Option (List ℕ)) (lines records_put : List ℕ) (n m k k' k'' l l' l'' : ℕ) (X : Type 0)
-      → TakesNone remaining beside job primary secondary fault primary' secondary' → StopsBy fault e none_failed print print' disk disk' lines records_put → FaultsOfWriters e k' k'' l' l''
+  pub stop_faults : (job : AtWork) (fault : CycleFault) (cycles : ℕ) (e : RunFault) (none_failed : Type 0) (print print' disk disk' : Option (List ℕ)) (lines records_put : List ℕ) (n m k k' k'' l l' l'' : ℕ) (X : Type 0)
+      → TakesNone remaining beside job primary secondary fault primary' secondary' → StopsBy fault cycles e none_failed print print' disk disk' lines records_put → FaultsOfWriters e k' k'' l' l''
       → faults_of (reader_of primary) ≡ n → faults_of (reader_of secondary) ≡ m → k' ≡ k → l' ≡ l
       → FaultsAre {X = X} (Err e) given (input_of remaining primary').remaining others (input_of beside secondary').remaining
       (counts n m k l) (counts (faults_of (reader_of primary')) (faults_of (reader_of secondary')) k'' l'')
-  stop_faults job (stops.Read file why) e none_failed print print' disk disk' lines records_put n m k k' k'' l l' l'' X none stop rose h g p d =
+  stop_faults job (stops.Read file why) cycles e none_failed print print' disk disk' lines records_put n m k k' k'' l l' l'' X none stop rose h g p d =
       let same : FaultsOfWriters (faults.Read file why) k' k'' l' l'' = subst (λ (x : RunFault). FaultsOfWriters x k' k'' l' l'') stop.0 rose in
       subst (λ (x : RunFault). FaultsAre {X = X} (Err x) given (input_of remaining primary').remaining others (input_of beside secondary').remaining
       (counts n m k l) (counts (faults_of (reader_of primary')) (faults_of (reader_of secondary')) k'' l'')) (sym stop.0)
       (reading_faults remaining beside primary primary' secondary secondary' given others s t job file why n m k k'' l l'' X none h g (same.0 ∙ p) (same.1 ∙ d))
-  stop_faults job stops.NoMemory e none_failed print print' disk disk' lines records_put n m k k' k'' l l' l'' X none (is, went) rose h g p d =
-      let same : FaultsOfWriters faults.NoMemory k' k'' l' l'' = subst (λ (x : RunFault). FaultsOfWriters x k' k'' l' l'') is rose in
+  stop_faults job stops.NoMemory cycles e none_failed print print' disk disk' lines records_put n m k k' k'' l l' l'' X none (is, went) rose h g p d =
+      let same : MayFail k' k'' l' l'' = subst (λ (x : RunFault). FaultsOfWriters x k' k'' l' l'') is rose in
       subst (λ (x : RunFault). FaultsAre {X = X} (Err x) given (input_of remaining primary').remaining others (input_of beside secondary').remaining
       (counts n m k l) (counts (faults_of (reader_of primary')) (faults_of (reader_of secondary')) k'' l'')) (sym is)
       (wanting_faults n _ m _ k k' k'' l l' l'' same (answered_faults remaining (job_needs_record job Primary) primary primary' none.0 ∙ h)

@@ -90,9 +90,9 @@ module _ {P D : Type 0} (contents : P → Option (List ℕ)) (stored : D → Opt
   GoesOutUnlessTo print disk lines records = GoesOutUnless (NoneFailed print disk) (contents (device_of print.entry.now)) (contents (device_of print.exit.now))
       (stored (device_of disk.entry.now)) (stored (device_of disk.exit.now)) lines records
 
-  -- a cycle wasn't done, and these bytes waited
-  abbrev pub StopsTo : CycleFault → Lent P → Lent D → (lines records : List ℕ) → RunFault → Type 0
-  StopsTo fault print disk lines records e = StopsBy fault e (NoneFailed print disk) (contents (device_of print.entry.now)) (contents (device_of print.exit.now))
+  -- a cycle wasn't done after so many that were, and these bytes waited
+  abbrev pub StopsTo : CycleFault → (cycles : ℕ) → Lent P → Lent D → (lines records : List ℕ) → RunFault → Type 0
+  StopsTo fault cycles print disk lines records e = StopsBy fault cycles e (NoneFailed print disk) (contents (device_of print.entry.now)) (contents (device_of print.exit.now))
       (stored (device_of disk.entry.now)) (stored (device_of disk.exit.now)) lines records
 
 module _ {R S P D : Type 0} (remaining : R → Option (List ℕ)) (others : S → Option (List ℕ)) (contents : P → Option (List ℕ)) (stored : D → Option (List ℕ)) where

@@ -27,6 +27,6 @@ FaultsAre (Err (faults.Read Primary reading.Device)) given left others rest old 
 FaultsAre (Err (faults.Read Secondary reading.Device)) given left others rest old new = new ≡ record old { secondary = old.secondary + 1 }
 FaultsAre (Err (faults.Read Primary reading.TooMany)) given left others rest old new = (new ≡ old) × OfInputs given left others rest (λ primary secondary. HasTooMany primary)
 FaultsAre (Err (faults.Read Secondary reading.TooMany)) given left others rest old new = (new ≡ old) × OfInputs given left others rest (λ primary secondary. HasTooMany secondary)
-FaultsAre (Err faults.NoMemory) given left others rest old new =
+FaultsAre (Err (faults.NoMemory cycles)) given left others rest old new =
     (new ≡ old) ⊎ ((new ≡ record old { print = old.print + 1 }) ⊎ (new ≡ record old { disk = old.disk + 1 }))
 FaultsAre result given left others rest old new = new ≡ old

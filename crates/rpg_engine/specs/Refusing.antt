@@ -29,7 +29,7 @@ IsToldOf (Err faults.BadDate) object date = (p : Object) × SpellsProgram object
 IsToldOf (Err (faults.Read file fault)) object date = MayRun object date
 IsToldOf (Err (faults.Print sent)) object date = MayRun object date
 IsToldOf (Err (faults.Disk sent)) object date = MayRun object date
-IsToldOf (Err faults.NoMemory) object date = Unit {0}
+IsToldOf (Err (faults.NoMemory cycles)) object date = Unit {0}
 
 -- the date is a day's
 abbrev pub HasDay : List ℕ → Type 0
@@ -43,9 +43,9 @@ IsToldOfDate (Err faults.BadDate) date = date_in date ≡ None
 IsToldOfDate (Err (faults.Read file fault)) date = HasDay date
 IsToldOfDate (Err (faults.Print sent)) date = HasDay date
 IsToldOfDate (Err (faults.Disk sent)) date = HasDay date
-IsToldOfDate (Err faults.NoMemory) date = Unit {0}
+IsToldOfDate (Err (faults.NoMemory cycles)) date = Unit {0}
 
 -- a fault of the start, as it is reported
 abbrev pub start_fault : StartFault → RunFault
 start_fault starting.BadDate = faults.BadDate
-start_fault starting.NoMemory = faults.NoMemory
+start_fault starting.NoMemory = faults.NoMemory 0

@@ -101,13 +101,17 @@ WentOn cycles p day primary secondary out Then = GoesOnFor cycles p [] (records_
 abbrev pub bytes_of : Output → Bytes
 bytes_of out = record { print = paper out.lines; disk = disk_bytes out.records }
 
+-- so many cycles of the run went on, and put these bytes out
+abbrev pub IsPutOutBy : ℕ → Object → ℤ → (primary secondary : List ℕ) → Bytes → Type 0
+IsPutOutBy cycles p day primary secondary bytes = (out : Output) × WentOn cycles p day primary secondary out (λ earlier rs c i. Unit {0}) × (bytes ≡ bytes_of out)
+
 -- these bytes had been put out by the end of a cycle that went on
 abbrev pub IsPutOut : Object → ℤ → (primary secondary : List ℕ) → Bytes → Type 0
-IsPutOut p day primary secondary bytes = (cycles : ℕ) × (out : Output) × WentOn cycles p day primary secondary out (λ earlier rs c i. Unit {0}) × (bytes ≡ bytes_of out)
+IsPutOut p day primary secondary bytes = (cycles : ℕ) × IsPutOutBy cycles p day primary secondary bytes
 
--- or, unless memory ran out, by the end of the one that ended the job
+-- or by the end of the one that ended the job; where memory ran out, by the end of as many cycles as the fault reports
 abbrev pub MayBePutOut : RunFault → Object → ℤ → (primary secondary : List ℕ) → Bytes → Type 0
-MayBePutOut faults.NoMemory p day primary secondary bytes = IsPutOut p day primary secondary bytes
+MayBePutOut (faults.NoMemory cycles) p day primary secondary bytes = IsPutOutBy cycles p day primary secondary bytes
 MayBePutOut e p day primary secondary bytes = IsPutOut p day primary secondary bytes ⊎ ((course : Course) × IsRunOver p day primary secondary course bytes)
 
 -- The printer is sent these bytes before the disk file: the printer failed before it had its own, or the disk file, and the printer had them
@@ -115,7 +119,7 @@ MayBePutOut e p day primary secondary bytes = IsPutOut p day primary secondary b
 abbrev pub HasSent : RunFault → (none_failed : Type 0) → (print print' disk disk' : Option (List ℕ)) → Bytes → Type 0
 HasSent (faults.Print sent) none_failed print print' disk disk' bytes = AppendsFirst print print' sent bytes.print × (sent < length bytes.print) × AppendsPrefix disk disk' bytes.disk
 HasSent (faults.Disk sent) none_failed print print' disk disk' bytes = Appends print print' bytes.print × AppendsFirst disk disk' sent bytes.disk × (sent < length bytes.disk)
-HasSent faults.NoMemory none_failed print print' disk disk' bytes =
+HasSent (faults.NoMemory cycles) none_failed print print' disk disk' bytes =
     AppendsPrefix print print' bytes.print × AppendsPrefix disk disk' bytes.disk × (none_failed → Appends print print' bytes.print × Appends disk disk' bytes.disk)
 HasSent e none_failed print print' disk disk' bytes = Unit {0}
 

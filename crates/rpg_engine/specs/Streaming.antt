@@ -95,10 +95,10 @@ abbrev pub GoesOutUnless : (none_failed : Type 0) → Option (List ℕ) → Opti
 GoesOutUnless none_failed print print' disk disk' lines records =
     AppendsPrefix print print' lines × AppendsPrefix disk disk' records × (none_failed → Appends print print' lines × Appends disk disk' records)
 
--- the fault reported of a cycle that wasn't done, and what the writers then have of the bytes that waited; a reader's fault is reported at once
-abbrev pub StopsBy : CycleFault → RunFault → (none_failed : Type 0) → Option (List ℕ) → Option (List ℕ) → Option (List ℕ) → Option (List ℕ) → List ℕ → List ℕ → Type 0
-StopsBy (stops.Read file fault) e none_failed print print' disk disk' lines records = (e ≡ faults.Read file fault) × (print' ≡ print) × (disk' ≡ disk)
-StopsBy stops.NoMemory e none_failed print print' disk disk' lines records = (e ≡ faults.NoMemory) × GoesOutUnless none_failed print print' disk disk' lines records
+-- the fault reported of a cycle that wasn't done after so many that were, and what the writers then have of the bytes that waited; a reader's fault is reported at once
+abbrev pub StopsBy : CycleFault → (cycles : ℕ) → RunFault → (none_failed : Type 0) → Option (List ℕ) → Option (List ℕ) → Option (List ℕ) → Option (List ℕ) → List ℕ → List ℕ → Type 0
+StopsBy (stops.Read file fault) cycles e none_failed print print' disk disk' lines records = (e ≡ faults.Read file fault) × (print' ≡ print) × (disk' ≡ disk)
+StopsBy stops.NoMemory cycles e none_failed print print' disk disk' lines records = (e ≡ faults.NoMemory cycles) × GoesOutUnless none_failed print print' disk disk' lines records
 
 -- a run stopped early: each writer has such parts of its output, and where a reader failed the job waited for its record
 pub record StopsEarly (p : Object) (day : ℤ) (e : RunFault) (none_failed : Type 0) (print print' disk disk' : Option (List ℕ)) (a b : Front) : Type 0 where
@@ -110,15 +110,19 @@ abbrev pub IsRunFault : RunFault → Type 0
 IsRunFault (faults.Read file fault) = Unit {0}
 IsRunFault (faults.Print sent) = Unit {0}
 IsRunFault (faults.Disk sent) = Unit {0}
-IsRunFault faults.NoMemory = Unit {0}
+IsRunFault (faults.NoMemory cycles) = Unit {0}
 IsRunFault e = ⊥
+
+-- where memory ran out: neither count rose, or one of them
+abbrev pub MayFail : (print print' disk disk' : ℕ) → Type 0
+MayFail print print' disk disk' =
+    ((print' ≡ print) × (disk' ≡ disk)) ⊎ (((print' ≡ print + 1) × (disk' ≡ disk)) ⊎ ((print' ≡ print) × (disk' ≡ disk + 1)))
 
 -- whose count rose
 abbrev pub FaultsOfWriters : RunFault → (print print' disk disk' : ℕ) → Type 0
 FaultsOfWriters (faults.Print sent) print print' disk disk' = (print' ≡ print + 1) × (disk' ≡ disk)
 FaultsOfWriters (faults.Disk sent) print print' disk disk' = (print' ≡ print) × (disk' ≡ disk + 1)
-FaultsOfWriters faults.NoMemory print print' disk disk' =
-    ((print' ≡ print) × (disk' ≡ disk)) ⊎ (((print' ≡ print + 1) × (disk' ≡ disk)) ⊎ ((print' ≡ print) × (disk' ≡ disk + 1)))
+FaultsOfWriters (faults.NoMemory cycles) print print' disk disk' = MayFail print print' disk disk'
 FaultsOfWriters e print print' disk disk' = (print' ≡ print) × (disk' ≡ disk)
 
 abbrev pub WriterFaults : {X : Type 0} → Result X RunFault → (print print' disk disk' : ℕ) → Type 0

@@ -80,8 +80,9 @@ pub fn execute_program<R1: Read, R2: Read, W1: Write, W2: Write>(
     ensures headline { IfOk result (EndsWellOn R1.remaining R2.remaining program.now date.now input secondary) }
     // The report and all output are those of the run over the inputs' records.
     ensures report { IfOk result (ReportsOn R1.remaining R2.remaining W1.contents W2.contents program.now date.now input secondary print disk) }
-    // Where it stops early each writer has a first part of the run's output, the printer before the disk file; and where a reader failed the job
-    // had sent all that was put out, and waited for a record of that reader's file.
+    // Where it stops early each writer has a first part of the run's output, the printer before the disk file; where a reader failed the job
+    // had sent all that was put out, and waited for a record of that reader's file; and where memory ran out each writer has the output of as
+    // many cycles as the fault reports, unless one failed over that.
     ensures early { IfErr result (SendsPartsOn R1.remaining R2.remaining W1.contents W2.contents program.now date.now input secondary print disk) }
     // The error says whose fault that was.
     ensures faults { TellsWhoseFault R1.remaining R2.remaining input secondary print disk result }
@@ -135,8 +136,9 @@ pub fn execute<R1: Read, R2: Read, W1: Write, W2: Write>(
     ensures headline { IfOk result (JobEndedWell R1.remaining R2.remaining object.now date.now input secondary) }
     // The report and all output are those of the run over the inputs' records.
     ensures report { IfOk result (ReportsJob R1.remaining R2.remaining W1.contents W2.contents object.now date.now input secondary print disk) }
-    // Where it stops early each writer has a first part of the run's output, the printer before the disk file; and where a reader failed the job
-    // had sent all that was put out, and waited for a record of that reader's file.
+    // Where it stops early each writer has a first part of the run's output, the printer before the disk file; where a reader failed the job
+    // had sent all that was put out, and waited for a record of that reader's file; and where memory ran out each writer has the output of as
+    // many cycles as the fault reports, unless one failed over that.
     ensures early { IfErr result (SendsPartsOfJob R1.remaining R2.remaining W1.contents W2.contents object.now date.now input secondary print disk) }
     // The error says whose fault that was.
     ensures faults { TellsWhoseFault R1.remaining R2.remaining input secondary print disk result }

@@ -22,7 +22,8 @@ pub enum RunFault {
     Print { sent: u128 },
     /// The disk file failed after this many bytes were written.
     Disk { sent: u128 },
-    NoMemory,
+    /// Memory ran out after so many cycles had finished. Their output was sent, unless a writer failed over it.
+    NoMemory { cycles: u64 },
 }
 
 impl From<ObjectFault> for RunFault {
@@ -41,7 +42,7 @@ impl From<StartFault> for RunFault {
     fn from(fault: StartFault) -> RunFault {
         match fault {
             StartFault::BadDate => RunFault::BadDate,
-            StartFault::NoMemory => RunFault::NoMemory,
+            StartFault::NoMemory => RunFault::NoMemory { cycles: 0 },
         }
     }
 }
@@ -64,9 +65,9 @@ impl From<AllocError> for CycleFault {
 }
 
 impl From<AllocError> for RunFault {
-    ghost from_gives = { λ _ e. e ≡ faults.NoMemory };
+    ghost from_gives = { λ _ e. e ≡ faults.NoMemory 0 };
 
     fn from(_error: AllocError) -> RunFault {
-        RunFault::NoMemory
+        RunFault::NoMemory { cycles: 0 }
     }
 }

@@ -53,7 +53,7 @@ pub(crate) fn run<S: Store + Drop, R1: Read, R2: Read, W1: Write, W2: Write>(
         let ended = match next_cycle(job, need, primary, secondary) {
             Ok(ended) => ended,
             Err(fault) => {
-                return Err(fault_behind(fault, print, disk, job.output(), waiting, sent));
+                return Err(fault_behind(fault, cycles, print, disk, job.output(), waiting, sent));
             }
         };
         cycles += 1;

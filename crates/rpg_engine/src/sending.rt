@@ -5,8 +5,7 @@ ghost use Rattle.std.specs.Io.KnownBytes.{Appends};
 ghost use Rattle.rpg_files.specs.Counting.{device_of, faults_of};
 ghost use Rattle.rpg_machine.specs.Running.{no_bytes};
 ghost use Rattle.rpg_engine.specs.Devices.{GoesOutTo, GoesOutUnlessTo, SendsSomeTo, StopsTo};
-ghost use Rattle.rpg_engine.specs.Streaming.{FaultsOfWriters, IsSureWhereAsked, WriterFaults};
-ghost use Rattle.rpg_engine.specs.declared.fault.RunFault.TheVariants as faults;
+ghost use Rattle.rpg_engine.specs.Streaming.{FaultsOfWriters, IsSureWhereAsked, MayFail, WriterFaults};
 
 use crate::fault::{CycleFault, RunFault};
 use rpg_cycle::{Job, Need, Output};
@@ -184,16 +183,17 @@ fn send_or_leave<W1: Write, W2: Write>(
     requires printed { sent.print ≤ 2 ^ 100 }
     requires stored { sent.disk ≤ 2 ^ 100 }
     ensures out { GoesOutUnlessTo W1.contents W2.contents print disk lines.now records.now }
-    ensures faults { FaultsOfWriters faults.NoMemory (faults_of print.old) (faults_of print.new) (faults_of disk.old) (faults_of disk.new) }
+    ensures faults { MayFail (faults_of print.old) (faults_of print.new) (faults_of disk.old) (faults_of disk.new) }
 {
     let _told = send_both(print, disk, lines, records, &mut sent);
 }
 
-/// The fault to report where a cycle wasn't done. Where memory ran out, what waited before that cycle is still sent, and a writer that
-/// fails then isn't reported: memory ran out first. Where a reader failed, nothing was left waiting.
+/// The fault to report where a cycle wasn't done after so many that were. Where memory ran out, what waited before that cycle is still
+/// sent, and a writer that fails then isn't reported: memory ran out first. Where a reader failed, nothing was left waiting.
 #[inline(never)]
 pub(crate) fn fault_behind<W1: Write, W2: Write>(
     fault: CycleFault,
+    cycles: u64,
     print: &mut Counted<W1>,
     disk: &mut Counted<W2>,
     output: &Output,
@@ -206,7 +206,7 @@ pub(crate) fn fault_behind<W1: Write, W2: Write>(
     requires stored { sent.disk ≤ 2 ^ 100 }
     requires lines { waiting.print ≤ length output.now.print.items }
     requires records { waiting.disk ≤ length output.now.disk.items }
-    ensures stops { StopsTo W1.contents W2.contents fault print disk
+    ensures stops { StopsTo W1.contents W2.contents fault cycles print disk
         (take waiting.print output.now.print.items) (take waiting.disk output.now.disk.items) result }
     ensures faults { FaultsOfWriters result (faults_of print.old) (faults_of print.new) (faults_of disk.old) (faults_of disk.new) }
 {
@@ -215,7 +215,7 @@ pub(crate) fn fault_behind<W1: Write, W2: Write>(
         CycleFault::NoMemory => {
             let (lines, records) = (&output.print[..waiting.print], &output.disk[..waiting.disk]);
             send_or_leave(print, disk, lines, records, sent);
-            RunFault::NoMemory
+            RunFault::NoMemory { cycles }
         }
     }
 }

@@ -38,7 +38,7 @@ fn write_fault(out: &mut TextWriter, fault: RunFault) {
         RunFault::Read { .. } => out.write_str("input failed"),
         RunFault::Print { sent } => write!(out, "output failed, {sent} bytes of print"),
         RunFault::Disk { sent } => write!(out, "output failed, {sent} bytes of disk"),
-        RunFault::NoMemory => out.write_str("no memory"),
+        RunFault::NoMemory { .. } => out.write_str("no memory"),
     }
 }
 

@@ -12,7 +12,7 @@ use Rattle.rpg_engine.specs.Streaming.{ended_stage}
 use Rattle.rpg_engine.specs.declared.report.Report.{Report}
 use Rattle.rpg_engine.proofs.Flows.{flow_begins, flow_goes_on, flow_sends, printed_behind, stored_behind}
 use Rattle.rpg_engine.proofs.Sent.{all_sent, front_is, goes_out}
-use Rattle.rpg_engine.proofs.Stopping.{IsWriters, moved_by, none_waits, some_have, some_of_run, some_parts, some_writers, stays_there, stop_has, stop_needs, stop_of_run, stop_parts, stop_since, stopped_behind, stopped_between, stream_reports}
+use Rattle.rpg_engine.proofs.Stopping.{IsWriters, moved_by, none_waits, some_have, some_of_run, some_parts, some_writers, stays_there, stop_counts, stop_has, stop_needs, stop_of_run, stop_parts, stop_since, stopped_behind, stopped_between, stream_reports}
 use Rattle.rpg_engine.proofs.Streams.{few_given, stays_bounded}
 use Rattle.rpg_engine.proofs.Taking.{both_behind, limit_of_taken, limit_stays, other_limit_of_taken, same_going, source_of, still_behind, takes_next, went}
 use Rattle.rpg_engine.proofs.Whose.{some_faults, stop_faults}
@@ -59,6 +59,7 @@ returns-in_err-send_before_reading-clause-early g c =
     let a = source_of g.R1.Read.remaining c.cycles.primary in
     let b = source_of g.R2.Read.remaining c.cycles.secondary in
     rw (e.1, e.2) (stopped_between c.args.job.now c.cycles.job _ _ a b a.input b.input c.cycles.cycles c.cycles.most f.streams (stays_there a.input) (stays_there b.input) _ _ _ _ _ _
+    (λ n told. absurd (subst IsWriters told (some_writers _ _ _ _ _ _ _ _ _ some)))
     (some_parts _ _ _ _ _ _ _ _ _ _ _ _ f.printed f.stored _ some) (some_have _ _ _ _ _ _ _ _ _ _ _ _ f.printed f.stored _ _ some)
     (λ file why read. absurd (subst IsWriters read (some_writers _ _ _ _ _ _ _ _ _ some))))
 
@@ -89,24 +90,25 @@ returns-in-Err-clause-early g c =
     let records = front_is job.output.disk c.next_cycle.new.job.output.disk grows.more.disk c.waiting_in-waiting.result.disk grows.disk (c.waiting_in-waiting.ensures.disk ∙ ap length c.output.ensures.disk) in
     let stopped = rw (lines, records) at (rw (c.output-in-Err.ensures.print, c.output-in-Err.ensures.disk) at c.fault_behind.ensures.stops) in
     let same = sends.faults in
-    let stop = stop_since _ _ _ _ _ _ _ _ _ _ _ _ f.printed f.stored c.in-Err.fault _ _ _
+    let stop = stop_since _ _ _ _ _ _ _ _ _ _ _ _ f.printed f.stored c.in-Err.fault _ _ _ _
     (λ (kept : (faults_of c.fault_behind.new.print ≡ faults_of c.args.print.now) × (faults_of c.fault_behind.new.disk ≡ faults_of c.args.disk.now)).
     (kept.0 ∙ sym (same.0 ∙ c.cycles.invariant.print), kept.1 ∙ sym (same.1 ∙ c.cycles.invariant.disk))) stopped in
     stopped_between c.args.job.now job _ _ a b _ _ c.cycles.cycles c.cycles.most s moved.0 moved.1 _ _ _ _ _ _
-    (stop_parts _ _ _ _ _ _ _ _ _ _ _ _ f.printed f.stored c.in-Err.fault _ _ stop)
-    (stop_has _ _ _ _ _ _ _ _ _ _ _ _ f.printed f.stored c.in-Err.fault _ _ stop)
+    (stop_counts _ _ _ _ _ _ _ _ _ _ _ _ f.printed f.stored c.in-Err.fault _ _ _ stop)
+    (stop_parts _ _ _ _ _ _ _ _ _ _ _ _ f.printed f.stored c.in-Err.fault _ _ _ stop)
+    (stop_has _ _ _ _ _ _ _ _ _ _ _ _ f.printed f.stored c.in-Err.fault _ _ _ stop)
     (stop_needs _ _ _ _ _ _ _ _ _ _ _ _ f.printed f.stored g.R1.Read.remaining g.R2.Read.remaining job c.cycles.primary c.next_cycle.new.primary c.cycles.secondary c.next_cycle.new.secondary
     _ _ s.primary s.secondary (limit_of_taken c.cycles.job job sends.rest c.cycles.invariant.limit_primary)
-    c.in-Err.fault _ _ stop none (none_waits job _ _ c.in-Err.fault sends.ready c.in-Err.ensures.sure))
+    c.in-Err.fault _ _ _ stop none (none_waits job _ _ c.in-Err.fault sends.ready c.in-Err.ensures.sure))
 
 pub returns-in-Err-clause-only : goal.returns-in-Err-clause-only
-returns-in-Err-clause-only g c = stop_of_run c.in-Err.fault _ _ _ _ _ _ _ _ c.fault_behind.ensures.stops
+returns-in-Err-clause-only g c = stop_of_run c.in-Err.fault _ _ _ _ _ _ _ _ _ c.fault_behind.ensures.stops
 
 pub returns-in-Err-clause-faults : goal.returns-in-Err-clause-faults
 returns-in-Err-clause-faults g c =
     let streams = c.cycles.invariant.flows.streams in
     let same = c.in_ok-send_before_reading.ensures.faults in
-    stop_faults g.R1.Read.remaining g.R2.Read.remaining c.cycles.primary c.next_cycle.new.primary c.cycles.secondary c.next_cycle.new.secondary _ _ streams.primary streams.secondary c.send_before_reading.new.job c.in-Err.fault _ _ _ _ _ _ _ _
+    stop_faults g.R1.Read.remaining g.R2.Read.remaining c.cycles.primary c.next_cycle.new.primary c.cycles.secondary c.next_cycle.new.secondary _ _ streams.primary streams.secondary c.send_before_reading.new.job c.in-Err.fault _ _ _ _ _ _ _ _ _
     _ _ _ _ _ _ _ _ Report c.in-Err.ensures.none c.fault_behind.ensures.stops c.fault_behind.ensures.faults
     c.cycles.invariant.primary c.cycles.invariant.secondary (same.0 ∙ c.cycles.invariant.print) (same.1 ∙ c.cycles.invariant.disk)
 
