@@ -24,3 +24,6 @@ returns-clause-stops g c =
 
 pub returns-clause-early : goal.returns-clause-early
 returns-clause-early g c = rw c.program.ensures.same at c.execute_program.ensures.early
+
+pub returns-clause-report : goal.returns-clause-report
+returns-clause-report g c = rw c.program.ensures.same at c.execute_program.ensures.report
