@@ -21,8 +21,9 @@ fn wanted_message(
             " writes a disk file of {} columns: name it with --disk FILE\n",
             rows.disk_length
         ),
-        Answer::DateWanted => out
-            .write_str(" uses the date: give --date today, or six digits, as --date 112376\n"),
+        Answer::DateWanted => out.write_str(
+            " uses the date: give --date today, or six digits, as --date 112376\n",
+        ),
         _ => write!(
             out,
             " reads a secondary file of {} columns: name it with --secondary FILE\n",
