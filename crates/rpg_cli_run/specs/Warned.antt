@@ -1,5 +1,5 @@
 -- Whether the warnings of a source reject it.
-use Rattle.std.specs.Prelude.{◌≡◌, Bool, true, List, None, slice_get, IsSomeAnd, ⊥}
+use Rattle.std.specs.Prelude.{◌≡◌, Bool, true, List, None, slice_get, IsSomeAnd}
 use Rattle.rpg_cli_answers.specs.declared.answer.Answer.{Answer}
 use Rattle.rpg_cli_answers.specs.declared.answer.Answer.TheVariants as answers
 use Rattle.rpg_cli_warnings.specs.Warnings.{code}

@@ -11,7 +11,7 @@ use rpg_engine::Program;
 
 /// Asks for a date if the program uses it and the words have none.
 pub(crate) fn has_date(program: &Program, date: Option<DateWord<'_>>) -> Result<(), Answer>
-    ensures ok { OnOk result (HasDate date program.now) }
+    ensures ok { OnOk result (HasDate date.entry program.now) }
     ensures err { IfErr result (λ answer. answer ≡ answers.DateWanted) }
 {
     match date {
