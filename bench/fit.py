@@ -1,0 +1,184 @@
+#!/usr/bin/env python3
+"""Compares what old decks mean with what they do once `rpg2 fit` has rewritten them.
+
+usage: bench/fit.py [COUNT [SEED]]        200 decks from seed 1 where they aren't given; RPG2 names the program
+       bench/fit.py --write FOLDER SEED   writes a deck and all that its job needs, and runs nothing
+
+It makes old decks by chance (old_deck_sources.py). An evaluator that shares nothing with rpg2 runs each as it stands (old_decks.py,
+old_deck_jobs.py). `rpg2 fit` rewrites it, and `rpg2 go` runs the new deck: its print, its disk files and its ending must be those of
+the evaluator. Where the old job ends at a record out of order, the new one must end by halt 6 and print the same lines before it. Decks
+that fit rejects are counted by the rule that rejects them. Fit must also leave the new deck as it is, byte for byte, and its sentences
+must name cards of the old deck. For each deck that differs it prints the seed, and how. The exit status is 1 if some differ.
+"""
+
+import os
+import re
+import subprocess
+import sys
+import tempfile
+from collections import Counter
+from dataclasses import dataclass
+from pathlib import Path
+
+import old_deck_sources
+from old_deck_jobs import OUT_OF_ORDER, Job
+from old_decks import OldDeck
+
+TOP = Path(__file__).resolve().parent.parent
+RPG2 = os.environ.get("RPG2", str(TOP / "crates/rpg2/out/rpg2"))
+DATE = "112376"
+ALLOWANCE = "60000"
+
+
+class Differs(Exception):
+    """How a deck differs."""
+
+
+@dataclass(frozen=True)
+class Answer:
+    """What a command of rpg2 answers."""
+
+    line: str
+    status: int
+    errors: str
+
+
+@dataclass(frozen=True)
+class Result:
+    """The end of a comparison: in a word, with the rule that rejects the deck, or with how it differs."""
+
+    kind: str  # same, halted, out of order, rejected or differs
+    why: str = ""
+
+
+class Room:
+    """A folder with the files of a job, in which a program runs."""
+
+    def __init__(self, program, folder, job):
+        self.program, self.folder, self.job = program, Path(folder), job
+        job.write(self.folder)
+
+    def answer(self, *words):
+        ran = subprocess.run([self.program, *words], cwd=self.folder, capture_output=True, text=True, encoding="latin-1", check=False)
+        return Answer(ran.stdout.strip(), ran.returncode, ran.stderr)
+
+    def text(self, name):
+        return (self.folder / name).read_bytes().decode("latin-1")
+
+    def fit(self, source, new):
+        tables = ["--table", f"{old_deck_sources.TABLE_FILE}=table"] if self.job.table is not None else []
+        return self.answer("fit", source, new, *tables, "--switches", self.job.switches)
+
+    def go(self):
+        secondary = ["--secondary", "second"] if self.job.has_secondary else []
+        return self.answer("go", "new", "records", "print", "--date", DATE, "--disk", "disk", *secondary, "--allowance", ALLOWANCE)
+
+
+# ---- what fit does to the cards
+
+
+def require(holds, why):
+    if not holds:
+        raise Differs(why)
+
+
+def check_sentences(room, told):
+    """The sentences are as many as the changes, and each names a card of the old deck."""
+    lines = room.text("deck").split("\n")
+    named = [int(it) for it in re.findall(r"^deck:(\d+): A\d+: ", told.errors, re.M)]
+    require(all(1 <= it <= len(lines) and lines[it - 1].strip() for it in named), f"a sentence names no card of the deck\n{told.errors}")
+    require(told.line == f"changes {len(named)}", f"{told.line}, and {len(named)} sentences\n{told.errors}")
+
+
+def check_rewritten(room, told):
+    """Without changes the bytes are the old ones, and the new deck needs no change."""
+    require(told.line != "changes 0" or room.text("new") == room.text("deck"), "changes 0, and other bytes")
+    again = room.fit("new", "newer")
+    require(again.line == "changes 0", f"once more: {again.line}\n{again.errors}")
+    require(room.text("newer") == room.text("new"), "once more: other bytes")
+
+
+# ---- what both decks do
+
+
+def ending_of(line):
+    return line.partition(",")[0].replace("end of job", "end")
+
+
+def disk_files(room, deck):
+    """The disk files of the old deck, each taken from the one that the new deck has. Of several, a letter in column 1 tells them apart."""
+    text, files = room.text("disk"), deck.disk_files()
+    if len(files) == 1:
+        return {files[0].name: text}
+    found = {}
+    for letter, file in zip("ABCDEFGHI", files):
+        mine = [it[1 : file.length + 1] for it in text.split("\n") if it[:1] == letter]
+        found[file.name] = "".join(it + "\n" for it in mine)
+    return found
+
+
+def check_run(room, deck, wanted, came):
+    """The ending, the print and the disk files; returns the kind of the run."""
+    printed, ending = room.text("print"), ending_of(came.line)
+    if wanted.ending == OUT_OF_ORDER:
+        is_same = ending == "halt 6" and printed.rstrip("\n").startswith(wanted.print.rstrip("\n"))
+        require(is_same, f"{came.line}, and a record is out of order")
+        return "out of order"
+    require(ending == wanted.ending, f"{came.line}, and not {wanted.ending}\n{came.errors}")
+    require(printed == wanted.print, "the print")
+    for name, text in disk_files(room, deck).items():
+        require(text == wanted.disks.get(name, ""), f"the disk file {name}")
+    return "same" if ending == "end" else "halted"
+
+
+def compared_in(room):
+    told = room.fit("deck", "new")
+    rejected = re.fullmatch(r"card \d+: (A\d+)", told.line)
+    if rejected and told.status == 3:
+        return Result("rejected", rejected[1])
+    require(told.status == 0, f"{told.line}\n{told.errors}")
+    check_sentences(room, told)
+    check_rewritten(room, told)
+    job = room.job
+    deck = OldDeck(job.deck, {old_deck_sources.TABLE_FILE: job.table})
+    wanted = Job(deck, job.switches, DATE).run(job.records, job.second)
+    return Result(check_run(room, deck, wanted, room.go()))
+
+
+def compared(program, seed):
+    """A deck by chance, compared in a folder of its own."""
+    with tempfile.TemporaryDirectory() as folder:
+        try:
+            return compared_in(Room(program, folder, old_deck_sources.made(seed)))
+        except Differs as how:
+            return Result("differs", str(how))
+
+
+# ---- the command
+
+
+def tell(counts, rules):
+    print(", ".join(f"{kind} {counts[kind]}" for kind in ("same", "halted", "out of order", "rejected")))
+    print("rejected by " + ", ".join(f"{rule} {rules[rule]}" for rule in sorted(rules, key=lambda it: int(it[1:]))))
+    print(f"{sum(counts.values())} decks, {counts['differs']} differ")
+
+
+def main(words):
+    if words[:1] == ["--write"]:
+        old_deck_sources.made(int(words[2])).write(Path(words[1]))
+        return 0
+    count, seed = int(words[0]) if words else 200, int(words[1]) if len(words) > 1 else 1
+    counts, rules = Counter(), Counter()
+    for number in range(seed, seed + count):
+        result = compared(RPG2, number)
+        counts[result.kind] += 1
+        if result.kind == "rejected":
+            rules[result.why] += 1
+        if result.kind == "differs":
+            print(f"deck {number} differs: {result.why}", flush=True)
+    tell(counts, rules)
+    return 1 if counts["differs"] else 0
+
+
+if __name__ == "__main__":
+    sys.exit(main(sys.argv[1:]))
