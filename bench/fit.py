@@ -45,10 +45,11 @@ class Answer:
 
 @dataclass(frozen=True)
 class Result:
-    """The end of a comparison: in a word, with the rule that rejects the deck, or with how it differs."""
+    """The end of a comparison: in a word, what fit answers, and how the deck differs."""
 
     kind: str  # same, halted, out of order, rejected or differs
-    why: str = ""
+    answer: str
+    how: str = ""
 
 
 class Room:
@@ -133,16 +134,15 @@ def check_run(room, deck, wanted, came):
 
 def compared_in(room):
     told = room.fit("deck", "new")
-    rejected = re.fullmatch(r"card \d+: (A\d+)", told.line)
-    if rejected and told.status == 3:
-        return Result("rejected", rejected[1])
+    if told.status == 3 and re.fullmatch(r"card \d+: A\d+", told.line):
+        return Result("rejected", told.line)
     require(told.status == 0, f"{told.line}\n{told.errors}")
     check_sentences(room, told)
     check_rewritten(room, told)
     job = room.job
     deck = OldDeck(job.deck, {old_deck_sources.TABLE_FILE: job.table})
     wanted = Job(deck, job.switches, DATE).run(job.records, job.second)
-    return Result(check_run(room, deck, wanted, room.go()))
+    return Result(check_run(room, deck, wanted, room.go()), told.line)
 
 
 def compared(program, seed):
@@ -151,7 +151,7 @@ def compared(program, seed):
         try:
             return compared_in(Room(program, folder, old_deck_sources.made(seed)))
         except Differs as how:
-            return Result("differs", str(how))
+            return Result("differs", "", str(how))
 
 
 # ---- the command
@@ -173,9 +173,9 @@ def main(words):
         result = compared(RPG2, number)
         counts[result.kind] += 1
         if result.kind == "rejected":
-            rules[result.why] += 1
+            rules[result.answer.split()[-1]] += 1
         if result.kind == "differs":
-            print(f"deck {number} differs: {result.why}", flush=True)
+            print(f"deck {number} differs: {result.how}", flush=True)
     tell(counts, rules)
     return 1 if counts["differs"] else 0
 
