@@ -28,6 +28,7 @@ TOP = Path(__file__).resolve().parent.parent
 RPG2 = os.environ.get("RPG2", str(TOP / "crates/rpg2/out/rpg2"))
 DATE = "112376"
 ALLOWANCE = "60000"
+SECONDS = 60
 
 
 class Differs(Exception):
@@ -60,7 +61,11 @@ class Room:
         job.write(self.folder)
 
     def answer(self, *words):
-        ran = subprocess.run([self.program, *words], cwd=self.folder, capture_output=True, text=True, encoding="latin-1", check=False)
+        given = {"cwd": self.folder, "stdin": subprocess.DEVNULL, "encoding": "latin-1", "timeout": SECONDS}
+        try:
+            ran = subprocess.run([self.program, *words], capture_output=True, check=False, **given)
+        except subprocess.TimeoutExpired:
+            raise Differs(f"{words[0]} takes more than {SECONDS} seconds") from None
         return Answer(ran.stdout.strip(), ran.returncode, ran.stderr)
 
     def text(self, name):
@@ -83,17 +88,20 @@ def require(holds, why):
         raise Differs(why)
 
 
-def check_sentences(room, told):
-    """The sentences are as many as the changes, and each names a card of the old deck."""
+def check_sentences(room, answer):
+    """Each sentence names a card of the old deck, and there are as many as changes, or one for a deck that is rejected."""
     lines = room.text("deck").split("\n")
-    named = [int(it) for it in re.findall(r"^deck:(\d+): A\d+: ", told.errors, re.M)]
-    require(all(1 <= it <= len(lines) and lines[it - 1].strip() for it in named), f"a sentence names no card of the deck\n{told.errors}")
-    require(told.line == f"changes {len(named)}", f"{told.line}, and {len(named)} sentences\n{told.errors}")
+    named = [(int(card), code) for card, code in re.findall(r"^deck:(\d+): (A\d+|note): ", answer.errors, re.M)]
+    changes = [it for it in named if it[1] != "note"]
+    is_good = all(1 <= card <= len(lines) and lines[card - 1].strip() for card, _ in named)
+    require(is_good, f"a sentence names no card of the deck\n{answer.errors}")
+    wanted = f"changes {len(changes)}" if answer.status == 0 else "".join(f"card {card}: {code}" for card, code in changes)
+    require(answer.line == wanted, f"{answer.line}, and other sentences\n{answer.errors}")
 
 
-def check_rewritten(room, told):
+def check_rewritten(room, answer):
     """Without changes the bytes are the old ones, and the new deck needs no change."""
-    require(told.line != "changes 0" or room.text("new") == room.text("deck"), "changes 0, and other bytes")
+    require(answer.line != "changes 0" or room.text("new") == room.text("deck"), "changes 0, and other bytes")
     again = room.fit("new", "newer")
     require(again.line == "changes 0", f"once more: {again.line}\n{again.errors}")
     require(room.text("newer") == room.text("new"), "once more: other bytes")
@@ -133,16 +141,18 @@ def check_run(room, deck, wanted, came):
 
 
 def compared_in(room):
-    told = room.fit("deck", "new")
-    if told.status == 3 and re.fullmatch(r"card \d+: A\d+", told.line):
-        return Result("rejected", told.line)
-    require(told.status == 0, f"{told.line}\n{told.errors}")
-    check_sentences(room, told)
-    check_rewritten(room, told)
+    """Raises Differs where the deck differs."""
+    answer = room.fit("deck", "new")
+    is_rejected = answer.status == 3 and re.fullmatch(r"card \d+: A\d+", answer.line)
+    require(is_rejected or answer.status == 0, f"{answer.line}\n{answer.errors}")
+    check_sentences(room, answer)
+    if is_rejected:
+        return Result("rejected", answer.line)
+    check_rewritten(room, answer)
     job = room.job
     deck = OldDeck(job.deck, {old_deck_sources.TABLE_FILE: job.table})
     wanted = Job(deck, job.switches, DATE).run(job.records, job.second)
-    return Result(check_run(room, deck, wanted, room.go()), told.line)
+    return Result(check_run(room, deck, wanted, room.go()), answer.line)
 
 
 def compared(program, seed):

@@ -235,18 +235,18 @@ class Job:
         if it.operation in ("MOVE", "MOVEL"):
             self.put(it.result, moved(it.operation, self.operand(it.factor_2, target, at), target), at)
         elif it.operation == "MVR":
-            self.store(it, self.left_over(target), at)
+            self.store(it, self.remainder_for(target), at)
         else:
             second = self.operand(it.factor_2, target, at)
             first = self.held(it.factor_1, at) if it.factor_1 else target
-            self.store(it, self.reckoned(it, first, second, target), at)
+            self.store(it, self.result_of(it, first, second, target), at)
 
-    def left_over(self, target):
+    def remainder_for(self, target):
         number, places = self.remainder
         more = target.places - places
         return kept(number * 10**more if more >= 0 else cut(number, 10**-more), target.length)
 
-    def reckoned(self, it, first, second, target):
+    def result_of(self, it, first, second, target):
         """The number that an operation of arithmetic stores."""
         number, divisor = fraction_of(it.operation, first, second)
         if divisor == 0:

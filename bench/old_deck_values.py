@@ -1,4 +1,4 @@
-"""Values of old decks: numbers, texts, moves and editing, as old_deck_jobs.py uses them. Nothing is shared with rpg2."""
+"""Values of old decks: numbers, texts, moves and editing, which old_deck_jobs.py uses. Nothing is shared with rpg2."""
 
 import re
 from typing import NamedTuple
