@@ -7,10 +7,33 @@ reads as it stands. A seed always gives the same deck.
 import random
 from dataclasses import dataclass
 
-FEATURES = [
-    "columns", "directive", "debug", "switch", "form", "table", "or", "relation", "sequence", "page2", "spaces", "figurative", "movea", "inputs",
-    "arrays", "outputs", "place", "page", "word", "dollar", "fetch", "dates", "disks", "files",
-]  # fmt: skip
+# Each feature with what a deck then may have.
+FEATURES = {
+    "columns": "devices, stackers and forms alignment",
+    "directive": "/EJECT",
+    "debug": "DEBUG",
+    "switch": "conditions by switches",
+    "form": "an L card",
+    "table": "a table file",
+    "or": "an OR type",
+    "relation": "field record relation",
+    "sequence": "types in sequence by number",
+    "page2": "PAGE2",
+    "spaces": "OR cards of lines with spaces and skips of their own",
+    "figurative": "figurative constants",
+    "movea": "MOVEA",
+    "inputs": "arrays on I cards",
+    "arrays": "calculations with whole arrays",
+    "outputs": "whole arrays on lines",
+    "place": "*PLACE",
+    "page": "page numbers with conditions",
+    "word": "edit words with more places than digits",
+    "dollar": "edit words with a floating $",
+    "fetch": "fetched overflow",
+    "dates": "UDAY, UMONTH and UYEAR",
+    "disks": "several disk files",
+    "files": "files by switches",
+}
 TABLE_FILE = "TABF"
 NO_INDICATORS = "      "
 DIVISIONS = ("AA", "AB", "BA", "CC")
@@ -454,7 +477,10 @@ class Source:
             return
         name = self.by.choice(self.text_arrays)
         entries, is_short = self.arrays[name][0], len(name) < 5
-        entry = lambda: f"{name},{self.by.randint(1, entries)}"
+
+        def entry():
+            return f"{name},{self.by.randint(1, entries)}"
+
         source = self.any("NAM", "'ABCDEF'", name, *self.text_arrays, entry()) if is_short else self.any("NAM", name)
         target = self.any("NAM", name, *self.text_arrays, *([entry()] if is_short else []))
         self.put(level, "MOVEA", "", source, target)
