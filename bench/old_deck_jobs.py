@@ -505,11 +505,10 @@ class Job:
     def begin(self):
         """Heading and detail lines, halt indicators, and what goes off before a record."""
         self.spent = 0
-        was_done = self.overflow_is_done
-        self.put_out("HD")
+        was_done, self.overflow_is_done = self.overflow_is_done, False
+        self.put_out("HD")  # a line that fetches overflow here leaves nothing for the overflow of the next cycle
         if was_done and not self.overflow_is_new:
             self.on.discard(self.overflow)
-        self.overflow_is_done = False
         if any(it[0] == "H" for it in self.on):
             raise Halt("halt 6")
         typed = {it.indicator for record_type in self.deck.types for it in record_type.alternatives}
