@@ -1,4 +1,4 @@
-"""Old decks: what `rpg2 fit` makes of each, and what it reports of their cards."""
+"""Old decks: what `rpg2 fit` makes of each, and what it reports of their cards. Of decks by chance: that the new deck does the same."""
 
 import re
 import tempfile
@@ -6,11 +6,15 @@ from collections.abc import Iterable
 from functools import partial
 from pathlib import Path
 
+import fit
+from case_file import lines_in
 from outcome import Outcome
 from program import Program
 
 # The words that decks are rewritten with, if NAME.words has no others.
 WORDS = "--table TABF=table --switches 10000000 --forms"
+
+AT_ONCE = 10
 
 
 def reported(errors: str) -> str:
@@ -57,6 +61,20 @@ def show(program: Program, path: Path) -> list[Outcome]:
     return [Outcome(str(path.relative_to(path.parent.parent)), f"fit {path.stem}", "\n" + "\n".join(faults) if faults else None)]
 
 
+def shown_by_chance(program: Program, decks: list[tuple[int, str]]) -> list[Outcome]:
+    """Decks by chance, each with the answer that is expected of fit: bench/fit.py compares what the old and the new deck do."""
+    return [compared(program, seed, answer) for seed, answer in decks]
+
+
+def compared(program: Program, seed: int, answer: str) -> Outcome:
+    result = fit.compared(str(program.path), seed)
+    fault = result.how if result.kind == "differs" else f"--- came\n{result.answer}" if result.answer != answer else None
+    return Outcome(f"fit/chance.answers:{seed}", f"old deck {seed}: {answer}", fault and f"\n{fault}")
+
+
 def jobs_of(program: Program, folder: Path) -> Iterable[partial]:
     for path in sorted(folder.glob("*.deck")):
         yield partial(show, program, path)
+    decks = list(enumerate(lines_in(folder / "chance.answers"), 1))
+    for first in range(0, len(decks), AT_ONCE):
+        yield partial(shown_by_chance, program, decks[first : first + AT_ONCE])

@@ -20,7 +20,7 @@ from pathlib import Path
 
 HERE = Path(__file__).resolve().parent
 TOP = HERE.parent
-sys.path.append(str(TOP / "build"))
+sys.path += [str(TOP / "build"), str(TOP / "bench")]
 
 import calls
 import case_runs

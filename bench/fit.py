@@ -1,0 +1,194 @@
+#!/usr/bin/env python3
+"""Compares what old decks mean with what they do once `rpg2 fit` has rewritten them.
+
+usage: bench/fit.py [COUNT [SEED]]        200 decks from seed 1 where they aren't given; RPG2 names the program
+       bench/fit.py --write FOLDER SEED   writes a deck and all that its job needs, and runs nothing
+
+It makes old decks by chance (old_deck_sources.py). An evaluator that shares nothing with rpg2 runs each as it stands (old_decks.py,
+old_deck_jobs.py). `rpg2 fit` rewrites it, and `rpg2 go` runs the new deck: its print, its disk files and its ending must be those of
+the evaluator. Where the old job ends at a record out of order, the new one must end by halt 6 and print the same lines before it. Decks
+that fit rejects are counted by the rule that rejects them. Fit must also leave the new deck as it is, byte for byte, and its sentences
+must name cards of the old deck. For each deck that differs it prints the seed, and how. The exit status is 1 if some differ.
+"""
+
+import os
+import re
+import subprocess
+import sys
+import tempfile
+from collections import Counter
+from dataclasses import dataclass
+from pathlib import Path
+
+import old_deck_sources
+from old_deck_jobs import OUT_OF_ORDER, Job
+from old_decks import OldDeck
+
+TOP = Path(__file__).resolve().parent.parent
+RPG2 = os.environ.get("RPG2", str(TOP / "crates/rpg2/out/rpg2"))
+DATE = "112376"
+ALLOWANCE = "60000"
+SECONDS = 60
+
+
+class Differs(Exception):
+    """How a deck differs."""
+
+
+@dataclass(frozen=True)
+class Answer:
+    """What a command of rpg2 answers."""
+
+    line: str
+    status: int
+    errors: str
+
+
+@dataclass(frozen=True)
+class Result:
+    """The end of a comparison: in a word, what fit answers, and how the deck differs."""
+
+    kind: str  # same, halted, out of order, rejected or differs
+    answer: str
+    how: str = ""
+
+
+class Room:
+    """A folder with the files of a job, in which a program runs."""
+
+    def __init__(self, program, folder, job):
+        self.program, self.folder, self.job = program, Path(folder), job
+        job.write(self.folder)
+
+    def answer(self, *words):
+        given = {"cwd": self.folder, "stdin": subprocess.DEVNULL, "encoding": "latin-1", "timeout": SECONDS}
+        try:
+            ran = subprocess.run([self.program, *words], capture_output=True, check=False, **given)
+        except subprocess.TimeoutExpired:
+            raise Differs(f"{words[0]} takes more than {SECONDS} seconds") from None
+        return Answer(ran.stdout.strip(), ran.returncode, ran.stderr)
+
+    def text(self, name):
+        return (self.folder / name).read_bytes().decode("latin-1")
+
+    def fit(self, source, new):
+        tables = ["--table", f"{old_deck_sources.TABLE_FILE}=table"] if self.job.table is not None else []
+        return self.answer("fit", source, new, *tables, "--switches", self.job.switches)
+
+    def go(self):
+        secondary = ["--secondary", "second"] if self.job.has_secondary else []
+        return self.answer("go", "new", "records", "print", "--date", DATE, "--disk", "disk", *secondary, "--allowance", ALLOWANCE)
+
+
+# ---- what fit does to the cards
+
+
+def require(holds, why):
+    if not holds:
+        raise Differs(why)
+
+
+def check_sentences(room, answer):
+    """Each sentence names a card of the old deck, and there are as many as changes, or one for a deck that is rejected."""
+    lines = room.text("deck").split("\n")
+    named = [(int(card), code) for card, code in re.findall(r"^deck:(\d+): (A\d+|note): ", answer.errors, re.M)]
+    changes = [it for it in named if it[1] != "note"]
+    is_good = all(1 <= card <= len(lines) and lines[card - 1].strip() for card, _ in named)
+    require(is_good, f"a sentence names no card of the deck\n{answer.errors}")
+    wanted = f"changes {len(changes)}" if answer.status == 0 else "".join(f"card {card}: {code}" for card, code in changes)
+    require(answer.line == wanted, f"{answer.line}, and other sentences\n{answer.errors}")
+
+
+def check_rewritten(room, answer):
+    """Without changes the bytes are the old ones, and the new deck needs no change."""
+    require(answer.line != "changes 0" or room.text("new") == room.text("deck"), "changes 0, and other bytes")
+    again = room.fit("new", "newer")
+    require(again.line == "changes 0", f"once more: {again.line}\n{again.errors}")
+    require(room.text("newer") == room.text("new"), "once more: other bytes")
+
+
+# ---- what both decks do
+
+
+def ending_of(line):
+    return line.partition(",")[0].replace("end of job", "end")
+
+
+def disk_files(room, deck):
+    """The disk files of the old deck, each taken from the one that the new deck has. Of several, a letter in column 1 tells them apart."""
+    text, files = room.text("disk"), deck.disk_files()
+    if len(files) == 1:
+        return {files[0].name: text}
+    found = {}
+    for letter, file in zip("ABCDEFGHI", files):
+        mine = [it[1 : file.length + 1] for it in text.split("\n") if it[:1] == letter]
+        found[file.name] = "".join(it + "\n" for it in mine)
+    return found
+
+
+def check_run(room, deck, wanted, came):
+    """The ending, the print and the disk files; returns the kind of the run."""
+    printed, ending = room.text("print"), ending_of(came.line)
+    if wanted.ending == OUT_OF_ORDER:
+        is_same = ending == "halt 6" and printed.rstrip("\n").startswith(wanted.print.rstrip("\n"))
+        require(is_same, f"{came.line}, and a record is out of order")
+        return "out of order"
+    require(ending == wanted.ending, f"{came.line}, and not {wanted.ending}\n{came.errors}")
+    require(printed == wanted.print, "the print")
+    for name, text in disk_files(room, deck).items():
+        require(text == wanted.disks.get(name, ""), f"the disk file {name}")
+    return "same" if ending == "end" else "halted"
+
+
+def compared_in(room):
+    """Raises Differs where the deck differs."""
+    answer = room.fit("deck", "new")
+    is_rejected = answer.status == 3 and re.fullmatch(r"card \d+: A\d+", answer.line)
+    require(is_rejected or answer.status == 0, f"{answer.line}\n{answer.errors}")
+    check_sentences(room, answer)
+    if is_rejected:
+        return Result("rejected", answer.line)
+    check_rewritten(room, answer)
+    job = room.job
+    deck = OldDeck(job.deck, {old_deck_sources.TABLE_FILE: job.table})
+    wanted = Job(deck, job.switches, DATE).run(job.records, job.second)
+    return Result(check_run(room, deck, wanted, room.go()), answer.line)
+
+
+def compared(program, seed):
+    """A deck by chance, compared in a folder of its own."""
+    with tempfile.TemporaryDirectory() as folder:
+        try:
+            return compared_in(Room(program, folder, old_deck_sources.made(seed)))
+        except Differs as how:
+            return Result("differs", "", str(how))
+
+
+# ---- the command
+
+
+def tell(counts, rules):
+    print(", ".join(f"{kind} {counts[kind]}" for kind in ("same", "halted", "out of order", "rejected")))
+    print("rejected by " + ", ".join(f"{rule} {rules[rule]}" for rule in sorted(rules, key=lambda it: int(it[1:]))))
+    print(f"{sum(counts.values())} decks, {counts['differs']} differ")
+
+
+def main(words):
+    if words[:1] == ["--write"]:
+        old_deck_sources.made(int(words[2])).write(Path(words[1]))
+        return 0
+    count, seed = int(words[0]) if words else 200, int(words[1]) if len(words) > 1 else 1
+    counts, rules = Counter(), Counter()
+    for number in range(seed, seed + count):
+        result = compared(RPG2, number)
+        counts[result.kind] += 1
+        if result.kind == "rejected":
+            rules[result.answer.split()[-1]] += 1
+        if result.kind == "differs":
+            print(f"deck {number} differs: {result.how}", flush=True)
+    tell(counts, rules)
+    return 1 if counts["differs"] else 0
+
+
+if __name__ == "__main__":
+    sys.exit(main(sys.argv[1:]))
