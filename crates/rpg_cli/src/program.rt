@@ -202,13 +202,7 @@ fn obey<R: Clock + Env + Files + Input + Print + Eprint + AllocGlobal, W: Write,
                 let mut listener = JsonListener::new(rt.alloc(), listener, files);
                 obey_as_asked(rt, request, out, &mut listener)
             }
-            Err(_) => say(
-                out,
-                Outlet::of(request),
-                Format::Json,
-                &Answer::NoMemory,
-                listener,
-            ),
+            Err(_) => say_if_wanted(out, request, &Answer::NoMemory, listener),
         },
     }
 }
