@@ -1,5 +1,5 @@
 -- What the program prints.
-use Rattle.std.specs.Prelude.{◌≡◌, ℕ, ◌≤◌, ◌⊎◌, List, Option}
+use Rattle.std.specs.Prelude.{◌≡◌, ℕ, Bool, true, ◌≤◌, ◌⊎◌, List, Option}
 use Rattle.std.specs.Io.KnownBytes.{Appends, Keeps}
 use Rattle.rpg_text.specs.Lines.{with_line_feed}
 use Rattle.rpg_cli_answers.specs.Answers.{exit_status, line_text}
@@ -22,6 +22,10 @@ SaysLine old new status answer text =
 -- the answer's line and its status
 abbrev pub Says : Format → Option (List ℕ) → Option (List ℕ) → ℕ → Answer → Type 0
 Says format old new status answer = SaysLine old new status answer (text_of format answer)
+
+-- its line and its status; or, where the words are quiet, nothing of a good end
+abbrev pub SaysOrIsQuiet : Bool → Format → Option (List ℕ) → Option (List ℕ) → ℕ → Answer → Type 0
+SaysOrIsQuiet is_quiet format old new status answer = Says format old new status answer ⊎ ((is_quiet ≡ true) × Keeps old new × (status ≡ 0) × (exit_status answer ≡ 0))
 
 -- an answer's line; or nothing, with a status of at most 2, if clap prints in its place, or if the line of a good end is left out
 abbrev pub PrintsALine : Option (List ℕ) → Option (List ℕ) → ℕ → Type 0

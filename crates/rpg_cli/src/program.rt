@@ -4,7 +4,7 @@ ghost use Rattle.std.specs.Prelude.{◌≡◌, ◌⊎◌};
 ghost use Rattle.std.specs.Io.KnownBytes.{Appends};
 ghost use Rattle.rpg_files.specs.Sending.{AppendsPrefix};
 ghost use Rattle.rpg_text.specs.Lines.{with_line_feed};
-ghost use Rattle.rpg_cli.specs.Saying.{PrintsALine, Says};
+ghost use Rattle.rpg_cli.specs.Saying.{PrintsALine, Says, SaysOrIsQuiet};
 
 use crate::checking::check_files;
 use crate::dates::{JobDate, tell_odd_date};
@@ -117,16 +117,18 @@ fn say<W: Write, L: Listener>(
 /// Prints the line of an answer, except that of a good end if the command is quiet, and returns the exit status.
 fn say_if_wanted<W: Write, L: Listener>(
     out: &mut W,
-    request: &Request,
+    outlet: Outlet,
+    is_quiet: bool,
+    format: Format,
     answer: &Answer,
     listener: &mut L,
 ) -> u8
-    ensures { PrintsALine (W.contents out.old) (W.contents out.new) result }
+    ensures { SaysOrIsQuiet is_quiet format (W.contents out.old) (W.contents out.new) result answer.now }
 {
-    if request.is_quiet() && line(answer).status == 0 {
+    if is_quiet && line(answer).status == 0 {
         0
     } else {
-        say(out, Outlet::of(request), request.format(), answer, listener)
+        say(out, outlet, format, answer, listener)
     }
 }
 
@@ -181,7 +183,9 @@ fn conclude<W: Write, L: Listener>(
 ) -> u8
     ensures { PrintsALine (W.contents out.old) (W.contents out.new) result }
 {
-    let status = say_if_wanted(out, request, answer, listener);
+    let outlet = Outlet::of(request);
+    let format = request.format();
+    let status = say_if_wanted(out, outlet, request.is_quiet(), format, answer, listener);
     tell_answer(alloc, request, answer, reasons, listener);
     status
 }
@@ -202,7 +206,14 @@ fn obey<R: Clock + Env + Files + Input + Print + Eprint + AllocGlobal, W: Write,
                 let mut listener = JsonListener::new(rt.alloc(), listener, files);
                 obey_as_asked(rt, request, out, &mut listener)
             }
-            Err(_) => say_if_wanted(out, request, &Answer::NoMemory, listener),
+            Err(_) => conclude(
+                rt.alloc(),
+                request,
+                &Answer::NoMemory,
+                Reasons::NONE,
+                out,
+                listener,
+            ),
         },
     }
 }
