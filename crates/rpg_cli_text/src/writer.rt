@@ -1,5 +1,6 @@
 //! A text that is written piece by piece, with one check at its end that memory sufficed.
 
+use crate::piece::Piece;
 use rpg_text::shown;
 use std::alloc::{AllocError, Global};
 use std::fmt::Display;
@@ -46,6 +47,60 @@ impl TextWriter {
     pub fn write_fmt(&mut self, piece: impl Display + Drop) {
         if !self.ran_out {
             self.ran_out = write!(self.text, "{piece}").is_err();
+        }
+    }
+
+    /// Appends a sentence, with a piece at each of its places: `{}` takes it as it is, `{:<8}` fills up with blanks after it, and `{:>8}` has
+    /// blanks before it, so that it takes eight columns at least.
+    pub fn fill(&mut self, sentence: &str, pieces: &[Piece<'_>]) {
+        let mut rest = sentence;
+        for piece in pieces {
+            let Some((before, place)) = rest.split_once('{') else {
+                break;
+            };
+            let Some((layout, after)) = place.split_once('}') else {
+                break;
+            };
+            self.write_str(before);
+            self.write_laid_out(layout, *piece);
+            rest = after;
+        }
+        self.write_str(rest);
+    }
+
+    /// Appends a piece in a column as `layout` has it.
+    fn write_laid_out(&mut self, layout: &str, piece: Piece<'_>) {
+        if let Some(width) = layout.strip_prefix(":<") {
+            let end = self.len().saturating_add(width.parse().unwrap_or(0));
+            self.write_piece(piece);
+            self.pad_to(end);
+        } else if let Some(width) = layout.strip_prefix(":>") {
+            self.write_right(piece, width.parse().unwrap_or(0));
+        } else {
+            self.write_piece(piece);
+        }
+    }
+
+    /// Appends a piece, with blanks before it where it has fewer than so many characters.
+    fn write_right(&mut self, piece: Piece<'_>, width: usize) {
+        match piece {
+            Piece::Number(number) => write!(self, "{number:>width$}"),
+            Piece::Character(character) => write!(self, "{character:>width$}"),
+            Piece::Word(word) => write!(self, "{word:>width$}"),
+            Piece::Outside(text) => {
+                let blanks = width.saturating_sub(text.len());
+                self.pad_to(self.len().saturating_add(blanks));
+                self.write_shown(text);
+            }
+        }
+    }
+
+    fn write_piece(&mut self, piece: Piece<'_>) {
+        match piece {
+            Piece::Number(number) => self.write_fmt(number),
+            Piece::Character(character) => self.write_char(character),
+            Piece::Word(word) => self.write_str(word),
+            Piece::Outside(text) => self.write_shown(text),
         }
     }
 
