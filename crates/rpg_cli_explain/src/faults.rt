@@ -1,136 +1,99 @@
 //! The pages of F1 to F18.
 
-use crate::page::{ALONE, NAMES, Page};
 use rpg_faults::FaultCode;
 
-const F1: Page = Page {
-    given: NAMES,
-    breaks: "     O                         NONE      10\n     C                     Z-ADDAMMT      TOT",
-    keeps: "     O                         TOT       10\n     C                     Z-ADDAMT       TOT",
-    advice: "a name is defined by an E card, by an input field, or by a calculation with a length\n(49-51) and that result field, wherever they stand. Look for a letter that differs, a name a\ncolumn too far left or right, and decimals (52) without a length",
-};
+const F1: &str = "cards\
+    %     O                         NONE      10\n     C                     Z-ADDAMMT      TOT\
+    %     O                         TOT       10\n     C                     Z-ADDAMT       TOT\
+    %a name is defined by an E card, by an input field, or by a calculation with a length\n(49-51) and that result field, wherever they stand. Look for a letter that differs, a name a\ncolumn too far left or right, and decimals (52) without a length";
 
-const F2: Page = Page {
-    given: NAMES,
-    breaks: "     C                     ADD  AMT       TOT     60\n     C                     Z-ADDAMT       UDATE   60",
-    keeps: "     C                     ADD  AMT       TOT     50\n     C                     ADD  AMT       TOT",
-    advice: "give the length on one card alone, or the same length and decimals on all of them.\nUDATE is there without being defined",
-};
+const F2: &str = "cards\
+    %     C                     ADD  AMT       TOT     60\n     C                     Z-ADDAMT       UDATE   60\
+    %     C                     ADD  AMT       TOT     50\n     C                     ADD  AMT       TOT\
+    %give the length on one card alone, or the same length and decimals on all of them.\nUDATE is there without being defined";
 
-const F3: Page = Page {
-    given: NAMES,
-    breaks: "- 16 digits; 10 decimals; decimals without a length:\n\n     C                     Z-ADDAMT       TOT    160\n     C                     ADD  AMT       TOT      0",
-    keeps: "- a number of 1 to 15 digits, decimals among them, of which there are at most 9; a text of 1 to\n  256 characters:\n\n     C                     Z-ADDAMT       TOT    150\n     C                     ADD  AMT       TOT",
-    advice: "write the length into 49-51, ending in 51, and the decimals into 52. Both or\nneither",
-};
+const F3: &str = "cards\
+    %- 16 digits; 10 decimals; decimals without a length:\n\n     C                     Z-ADDAMT       TOT    160\n     C                     ADD  AMT       TOT      0\
+    %- a number of 1 to 15 digits, decimals among them, of which there are at most 9; a text of 1 to\n  256 characters:\n\n     C                     Z-ADDAMT       TOT    150\n     C                     ADD  AMT       TOT\
+    %write the length into 49-51, ending in 51, and the decimals into 52. Both or\nneither";
 
-const F4: Page = Page {
-    given: NAMES,
-    breaks: "- a text in arithmetic, a result that is UDATE, an edit code beside a text:\n\n     C                     ADD  AMT       WORD    5\n     C                     ADD  TOT       UDATE",
-    keeps: "- numbers in arithmetic, one kind in COMP and LOKUP, anything in MOVE and MOVEL:\n\n     C                     ADD  AMT       TOT\n     C                     MOVE AMT       WORD    5",
-    advice: "an input field without a digit in column 52 is a text, also where it has digits\nalone: for a whole number put 0 there. A result with a length and without decimals is a text\ntoo",
-};
+const F4: &str = "cards\
+    %- a text in arithmetic, a result that is UDATE, an edit code beside a text:\n\n     C                     ADD  AMT       WORD    5\n     C                     ADD  TOT       UDATE\
+    %- numbers in arithmetic, one kind in COMP and LOKUP, anything in MOVE and MOVEL:\n\n     C                     ADD  AMT       TOT\n     C                     MOVE AMT       WORD    5\
+    %an input field without a digit in column 52 is a text, also where it has digits\nalone: for a whole number put 0 there. A result with a length and without decimals is a text\ntoo";
 
-const F5: Page = Page {
-    given: NAMES,
-    breaks: "- an array without an index, entry 6 of 5, an index on something that is no array:\n\n     C                     Z-ADD1         AR\n     C                     Z-ADD1         AR,6\n     C                     Z-ADD1         TOT,1",
-    keeps: "- a number from 1 to the entries, or the name of a number without decimals:\n\n     C                     Z-ADD1         AR,5\n     C                     Z-ADD1         AR,TOT",
-    advice: "write a comma and the index right after the name. Whole arrays are allowed in XFOOT and\nLOKUP only",
-};
+const F5: &str = "cards\
+    %- an array without an index, entry 6 of 5, an index on something that is no array:\n\n     C                     Z-ADD1         AR\n     C                     Z-ADD1         AR,6\n     C                     Z-ADD1         TOT,1\
+    %- a number from 1 to the entries, or the name of a number without decimals:\n\n     C                     Z-ADD1         AR,5\n     C                     Z-ADD1         AR,TOT\
+    %write a comma and the index right after the name. Whole arrays are allowed in XFOOT and\nLOKUP only";
 
-const F6: Page = Page {
-    given: ALONE,
-    breaks: "- the 1,001st calculation card; the field with which all fields have more than 65,535 bytes; the\n  101st subroutine",
-    keeps: "- at most 1,000 calculation cards; 4,000 names, and 4,000 fields with the constants; 65,535\n  bytes of fields, a byte a digit or character of each entry; 9,999 entries; 100 subroutines;\n  200 record types, each with 100 codes, 100 control fields and 500 fields; 1,000 lines, each\n  with 50 alternatives of 60 conditions and with 200 fields",
-    advice: "the card that passes the limit has the fault. Make two programs of it, or shorten a\ntable",
-};
+const F6: &str = "alone\
+    %- the 1,001st calculation card; the field with which all fields have more than 65,535 bytes; the\n  101st subroutine\
+    %- at most 1,000 calculation cards; 4,000 names, and 4,000 fields with the constants; 65,535\n  bytes of fields, a byte a digit or character of each entry; 9,999 entries; 100 subroutines;\n  200 record types, each with 100 codes, 100 control fields and 500 fields; 1,000 lines, each\n  with 50 alternatives of 60 conditions and with 200 fields\
+    %the card that passes the limit has the fault. Make two programs of it, or shorten a\ntable";
 
-const F7: Page = Page {
-    given: ALONE,
-    breaks: "- a file that no F card has, a second primary file, a printer of more than 132 places:\n\n     OPRNT    D        01\n     FOTHER   IP  F      80            READ40\n     FPRINT   O   F     133            PRINTER",
-    keeps: "- one primary file, and at most one secondary file, one printer and one disk file; record types\n  name the input files and lines the others, the first of each by its name:\n\n     FPRINT   O   F     132            PRINTER\n     OPRINT   D        01",
-    advice: "compare the name with the F cards. Card 0 means that no F card is a primary file, as\nin an empty source. Of two input files both have E in 17 or neither",
-};
+const F7: &str = "alone\
+    %- a file that no F card has, a second primary file, a printer of more than 132 places:\n\n     OPRNT    D        01\n     FOTHER   IP  F      80            READ40\n     FPRINT   O   F     133            PRINTER\
+    %- one primary file, and at most one secondary file, one printer and one disk file; record types\n  name the input files and lines the others, the first of each by its name:\n\n     FPRINT   O   F     132            PRINTER\n     OPRINT   D        01\
+    %compare the name with the F cards. Card 0 means that no F card is a primary file, as\nin an empty source. Of two input files both have E in 17 or neither";
 
-const F8: Page = Page {
-    given: NAMES,
-    breaks: "- a record type that turns on L0, a result that turns on 1P, a line that asks MR where no field\n  has a match level:\n\n     IINPUT   AA  L0\n     C                     ADD  AMT       TOT        1P\n     OPRINT   D        MR",
-    keeps: "- record types turn on 01 to 99, L1 to L9, LR or H1 to H9, calculations all but L0, 1P and MR;\n  calculations ask all but 1P, lines all, MR where a field has a match level (M1 to M9):\n\n     IINPUT   AA  01\n     C                     ADD  AMT       TOT        LR\n     OPRINT   D        1P",
-    advice: "take one of 01 to 99. A text field has an indicator for blanks (69-70) alone",
-};
+const F8: &str = "cards\
+    %- a record type that turns on L0, a result that turns on 1P, a line that asks MR where no field\n  has a match level:\n\n     IINPUT   AA  L0\n     C                     ADD  AMT       TOT        1P\n     OPRINT   D        MR\
+    %- record types turn on 01 to 99, L1 to L9, LR or H1 to H9, calculations all but L0, 1P and MR;\n  calculations ask all but 1P, lines all, MR where a field has a match level (M1 to M9):\n\n     IINPUT   AA  01\n     C                     ADD  AMT       TOT        LR\n     OPRINT   D        1P\
+    %take one of 01 to 99. A text field has an indicator for blanks (69-70) alone";
 
-const F9: Page = Page {
-    given: NAMES,
-    breaks: "- no operation, a factor 2 that is missing, a factor that the operation does not have, a length\n  without a result:\n\n     C           TOT            AMT       TOT\n     C                     ADD            TOT\n     C           TOT       Z-ADDAMT       TOT",
-    keeps: "     C           TOT       ADD  AMT       TOT\n     C                     Z-ADDAMT       TOT",
-    advice: "docs/MESSAGES.md has a table of what each operation has on its card. Lines for the\ndisk file have nothing in 17-22, and an output field has a name or a constant",
-};
+const F9: &str = "cards\
+    %- no operation, a factor 2 that is missing, a factor that the operation does not have, a length\n  without a result:\n\n     C           TOT            AMT       TOT\n     C                     ADD            TOT\n     C           TOT       Z-ADDAMT       TOT\
+    %     C           TOT       ADD  AMT       TOT\n     C                     Z-ADDAMT       TOT\
+    %docs/MESSAGES.md has a table of what each operation has on its card. Lines for the\ndisk file have nothing in 17-22, and an output field has a name or a constant";
 
-const F10: Page = Page {
-    given: NAMES,
-    breaks: "     C                     GOTO AWAY\n     C                     EXSR NOSUB",
-    keeps: "     C                     GOTO NEXT\n     C           NEXT      TAG",
-    advice: "give the label by a TAG card, the subroutine by BEGSR. GOTO leads to labels alone,\nEXSR to subroutines alone",
-};
+const F10: &str = "cards\
+    %     C                     GOTO AWAY\n     C                     EXSR NOSUB\
+    %     C                     GOTO NEXT\n     C           NEXT      TAG\
+    %give the label by a TAG card, the subroutine by BEGSR. GOTO leads to labels alone,\nEXSR to subroutines alone";
 
-const F11: Page = Page {
-    given: NAMES,
-    breaks: "- a label that is given twice, or that has the name of a field:\n\n     C           NEXT      TAG\n     C           TOT       TAG",
-    keeps: "- each label and each subroutine once, under a name of its own:\n\n     C           NEXT      TAG\n     C           NEXT2     TAG",
-    advice: "take another name for the later of the two cards",
-};
+const F11: &str = "cards\
+    %- a label that is given twice, or that has the name of a field:\n\n     C           NEXT      TAG\n     C           TOT       TAG\
+    %- each label and each subroutine once, under a name of its own:\n\n     C           NEXT      TAG\n     C           NEXT2     TAG\
+    %take another name for the later of the two cards";
 
-const F12: Page = Page {
-    given: NAMES,
-    breaks: "- a detail calculation after a total one or a subroutine; BEGSR without ENDSR; a field before\n  its record type or line:\n\n     CL1                   Z-ADDAMT       TOT\n     C                     ADD  AMT       TOT",
-    keeps: "- detail calculations, then total calculations (L0 to L9, LR in 7-8), then subroutines (SR),\n  each from BEGSR to ENDSR:\n\n     C                     ADD  AMT       TOT\n     CL1                   Z-ADDAMT       TOT",
-    advice: "move the card. AN and OR cards go on with the calculation right before them, AND and\nOR cards of I and O with the type or line right before them",
-};
+const F12: &str = "cards\
+    %- a detail calculation after a total one or a subroutine; BEGSR without ENDSR; a field before\n  its record type or line:\n\n     CL1                   Z-ADDAMT       TOT\n     C                     ADD  AMT       TOT\
+    %- detail calculations, then total calculations (L0 to L9, LR in 7-8), then subroutines (SR),\n  each from BEGSR to ENDSR:\n\n     C                     ADD  AMT       TOT\n     CL1                   Z-ADDAMT       TOT\
+    %move the card. AN and OR cards go on with the calculation right before them, AND and\nOR cards of I and O with the type or line right before them";
 
-const F13: Page = Page {
-    given: NAMES,
-    breaks: "- out of the detail calculations into a subroutine:\n\n     C                     GOTO OUT\n     CSR         OUT       ENDSR",
-    keeps: "- a GOTO leads to a label of its own section: the detail calculations, the total calculations,\n  or one subroutine:\n\n     C                     GOTO OUT\n     C           OUT       TAG",
-    advice: "set an indicator before the end of the section, and ask it where you want to go on.\nInto a subroutine leads EXSR",
-};
+const F13: &str = "cards\
+    %- out of the detail calculations into a subroutine:\n\n     C                     GOTO OUT\n     CSR         OUT       ENDSR\
+    %- a GOTO leads to a label of its own section: the detail calculations, the total calculations,\n  or one subroutine:\n\n     C                     GOTO OUT\n     C           OUT       TAG\
+    %set an indicator before the end of the section, and ask it where you want to go on.\nInto a subroutine leads EXSR";
 
-const F14: Page = Page {
-    given: NAMES,
-    breaks: "- a subroutine that does itself, maybe through others:\n\n     CSR         SUB       BEGSR\n     CSR                   EXSR SUB\n     CSR                   ENDSR",
-    keeps: "- subroutines may do others, as long as none leads back to itself",
-    advice: "go back to the subroutine's beginning by GOTO and a label in place of EXSR",
-};
+const F14: &str = "cards\
+    %- a subroutine that does itself, maybe through others:\n\n     CSR         SUB       BEGSR\n     CSR                   EXSR SUB\n     CSR                   ENDSR\
+    %- subroutines may do others, as long as none leads back to itself\
+    %go back to the subroutine's beginning by GOTO and a label in place of EXSR";
 
-const F15: Page = Page {
-    given: NAMES,
-    breaks: "- H beside an operation that is not rounded; MVR after a DIV with H, or after anything else:\n\n     C           AMT       DIV  3         TOT       H\n     C                     MVR            REM     30",
-    keeps: "- H beside ADD, SUB, MULT, DIV, Z-ADD, Z-SUB and XFOOT; MVR on the calculation card right after\n  a DIV without H:\n\n     C           AMT       DIV  3         TOT\n     C                     MVR            REM     30",
-    advice: "take the H away, or put MVR right after its DIV",
-};
+const F15: &str = "cards\
+    %- H beside an operation that is not rounded; MVR after a DIV with H, or after anything else:\n\n     C           AMT       DIV  3         TOT       H\n     C                     MVR            REM     30\
+    %- H beside ADD, SUB, MULT, DIV, Z-ADD, Z-SUB and XFOOT; MVR on the calculation card right after\n  a DIV without H:\n\n     C           AMT       DIV  3         TOT\n     C                     MVR            REM     30\
+    %take the H away, or put MVR right after its DIV";
 
-const F16: Page = Page {
-    given: NAMES,
-    breaks: "- with records of 80 columns and lines of 120 places: columns past the record, an end past the\n  line, a field of 5 digits that ends at place 4:\n\n     I                                       79  810AMT\n     O                         TOT      121\n     O                         TOT        4",
-    keeps: "     I                                       78  800AMT\n     O                         TOT      120\n     O                         TOT        5",
-    advice: "look at the record length (24-27) on the F card first: of the input file for I\ncards, of the printer for O cards. A number takes a place for each digit, and what its edit code\nor word adds. Control fields of one level have the same length in all record types, and so have\nmatch fields, of which each type has the same levels or none, a level once, 256 columns in all",
-};
+const F16: &str = "cards\
+    %- with records of 80 columns and lines of 120 places: columns past the record, an end past the\n  line, a field of 5 digits that ends at place 4:\n\n     I                                       79  810AMT\n     O                         TOT      121\n     O                         TOT        4\
+    %     I                                       78  800AMT\n     O                         TOT      120\n     O                         TOT        5\
+    %look at the record length (24-27) on the F card first: of the input file for I\ncards, of the printer for O cards. A number takes a place for each digit, and what its edit code\nor word adds. Control fields of one level have the same length in all record types, and so have\nmatch fields, of which each type has the same levels or none, a level once, 256 columns in all";
 
-const F17: Page = Page {
-    given: NAMES,
-    breaks: "- code Y on a number that has not 6 digits, a fill beside Y, an edit word of 3 places for 5\n  digits:\n\n     O                         TOT   Y   10\n     O                         TOT       10 '   '",
-    keeps: "- an edit word has a blank, 0 or * for each digit, and no $ right before its stop:\n\n     O                         UDATE Y   10\n     O                         TOT       10 '     '",
-    advice: "the message says how many digits the code or word takes, and how many the number has.\ndocs/EDITING.md shows what each code and word makes of a number",
-};
+const F17: &str = "cards\
+    %- code Y on a number that has not 6 digits, a fill beside Y, an edit word of 3 places for 5\n  digits:\n\n     O                         TOT   Y   10\n     O                         TOT       10 '   '\
+    %- an edit word has a blank, 0 or * for each digit, and no $ right before its stop:\n\n     O                         UDATE Y   10\n     O                         TOT       10 '     '\
+    %the message says how many digits the code or word takes, and how many the number has.\ndocs/EDITING.md shows what each code and word makes of a number";
 
-const F18: Page = Page {
-    given: ALONE,
-    breaks: "- an E card with entries a card (33-35), and no ** card for it; too few or too many entries;\n  letters in a number; with A in 45 a later entry that is lower:\n\n     E                    TABA    3   3  2 0A\n**\n100530",
-    keeps: "     E                    TABA    3   3  2 0A\n**\n102030",
-    advice: "the message says how many cards of data are needed and how many there are, or\nwhich entry is wrong. The data come after the sheets, each table's after a ** card, in the\norder of the E cards. Fewer entries than 33-35 says stand on the last card alone",
-};
+const F18: &str = "alone\
+    %- an E card with entries a card (33-35), and no ** card for it; too few or too many entries;\n  letters in a number; with A in 45 a later entry that is lower:\n\n     E                    TABA    3   3  2 0A\n**\n100530\
+    %     E                    TABA    3   3  2 0A\n**\n102030\
+    %the message says how many cards of data are needed and how many there are, or\nwhich entry is wrong. The data come after the sheets, each table's after a ** card, in the\norder of the E cards. Fewer entries than 33-35 says stand on the last card alone";
 
 /// The page of a code.
-pub(crate) fn fault_page(code: FaultCode) -> Page {
+pub(crate) fn fault_page(code: FaultCode) -> &'static str {
     match code {
         FaultCode::F1 => F1,
         FaultCode::F2 => F2,

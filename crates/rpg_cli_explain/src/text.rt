@@ -1,10 +1,8 @@
 //! Pages as text.
 
 use crate::page::Page;
-use crate::topic::{BYTES, HALTS, REWRITINGS, SHEETS, Topic, WARNINGS};
+use crate::topic::{FAMILIES, Family, Topic};
 use rpg_cli_text::TextWriter;
-use rpg_faults::FaultCode;
-use rpg_verify_rules::RULES;
 use std::alloc::{AllocError, Global};
 
 /// What stands before all pages.
@@ -104,56 +102,22 @@ fn write_next(out: &mut TextWriter, form: Form, topic: Topic) {
     }
 }
 
-fn write_sources(out: &mut TextWriter, form: Form) {
-    for code in SHEETS {
-        write_next(out, form, Topic::Sheet(code));
-    }
-}
+/// More than the codes of any family.
+const MOST: usize = 99;
 
-fn write_faults(out: &mut TextWriter, form: Form) {
-    for code in FaultCode::all() {
-        write_next(out, form, Topic::Fault(code));
-    }
-}
-
-fn write_warnings(out: &mut TextWriter, form: Form) {
-    for code in WARNINGS {
-        write_next(out, form, Topic::Warning(code));
-    }
-}
-
-fn write_halts(out: &mut TextWriter, form: Form) {
-    for halt in HALTS {
-        write_next(out, form, Topic::Halt(halt));
-    }
-}
-
-fn write_rules(out: &mut TextWriter, form: Form) {
-    for rule in RULES {
-        write_next(out, form, Topic::Rule(rule));
-    }
-}
-
-fn write_bytes(out: &mut TextWriter, form: Form) {
-    for code in BYTES {
-        write_next(out, form, Topic::Bytes(code));
-    }
-}
-
-fn write_rewritings(out: &mut TextWriter, form: Form) {
-    for rule in REWRITINGS {
-        write_next(out, form, Topic::Rewriting(rule));
+fn write_family(out: &mut TextWriter, form: Form, family: Family) {
+    for at in 0..MOST {
+        let Some(topic) = family.topic(at) else {
+            break;
+        };
+        write_next(out, form, topic);
     }
 }
 
 fn write_all(out: &mut TextWriter, form: Form) {
-    write_sources(out, form);
-    write_faults(out, form);
-    write_warnings(out, form);
-    write_halts(out, form);
-    write_rules(out, form);
-    write_bytes(out, form);
-    write_rewritings(out, form);
+    for family in FAMILIES {
+        write_family(out, form, family);
+    }
 }
 
 /// All pages, as docs/MESSAGES.md begins with them.

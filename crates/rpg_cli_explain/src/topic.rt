@@ -29,7 +29,30 @@ pub enum Topic {
     Rewriting(Rewriting),
 }
 
-pub(crate) const SHEETS: [SheetCode; 6] = [
+/// The codes of one kind. Each has one letter or word, and numbers from 1.
+#[derive(Clone, Copy)]
+pub(crate) enum Family {
+    Sheets,
+    Faults,
+    Warnings,
+    Halts,
+    Rules,
+    Bytes,
+    Rewritings,
+}
+
+/// All families, in the order of their pages.
+pub(crate) const FAMILIES: [Family; 7] = [
+    Family::Sheets,
+    Family::Faults,
+    Family::Warnings,
+    Family::Halts,
+    Family::Rules,
+    Family::Bytes,
+    Family::Rewritings,
+];
+
+const SHEETS: [SheetCode; 6] = [
     SheetCode::S1,
     SheetCode::S2,
     SheetCode::S3,
@@ -38,7 +61,7 @@ pub(crate) const SHEETS: [SheetCode; 6] = [
     SheetCode::S6,
 ];
 
-pub(crate) const WARNINGS: [WarningCode; 6] = [
+const WARNINGS: [WarningCode; 6] = [
     WarningCode::W1,
     WarningCode::W2,
     WarningCode::W3,
@@ -47,7 +70,7 @@ pub(crate) const WARNINGS: [WarningCode; 6] = [
     WarningCode::W6,
 ];
 
-pub(crate) const HALTS: [Halt; 8] = [
+const HALTS: [Halt; 8] = [
     Halt::ZeroDivisor,
     Halt::BadIndex,
     Halt::NoRecordType,
@@ -58,7 +81,7 @@ pub(crate) const HALTS: [Halt; 8] = [
     Halt::OutOfSequence,
 ];
 
-pub(crate) const BYTES: [Code; 7] = [
+const BYTES: [Code; 7] = [
     Code::NoObject,
     Code::Version,
     Code::CutShort,
@@ -69,7 +92,7 @@ pub(crate) const BYTES: [Code; 7] = [
 ];
 
 /// The rules by which old decks are rewritten.
-pub(crate) const REWRITINGS: [Rewriting; 21] = [
+const REWRITINGS: [Rewriting; 21] = [
     Rewriting::Comments,
     Rewriting::Columns,
     Rewriting::Switches,
@@ -113,7 +136,7 @@ impl Topic {
     }
 
     pub(crate) fn page(self) -> Page {
-        match self {
+        Page::of(match self {
             Topic::Sheet(code) => sheet_page(code),
             Topic::Fault(code) => fault_page(code),
             Topic::Warning(code) => warning_page(code),
@@ -121,7 +144,7 @@ impl Topic {
             Topic::Rule(rule) => rule_page(rule),
             Topic::Bytes(code) => byte_page(code),
             Topic::Rewriting(rule) => rewriting_page(rule),
-        }
+        })
     }
 
     /// What happens then: when it is reported, what becomes of the work, and the exit status.
@@ -152,6 +175,34 @@ impl Topic {
     }
 }
 
+impl Family {
+    /// What a code of the family begins with.
+    const fn letters(self) -> &'static str {
+        match self {
+            Family::Sheets => "S",
+            Family::Faults => "F",
+            Family::Warnings => "W",
+            Family::Halts => "halt",
+            Family::Rules => "V",
+            Family::Bytes => "B",
+            Family::Rewritings => "A",
+        }
+    }
+
+    /// The topic of a code, the first of the family being 0.
+    pub fn topic(self, at: usize) -> Option<Topic> {
+        Some(match self {
+            Family::Sheets => Topic::Sheet(*SHEETS.get(at)?),
+            Family::Faults => Topic::Fault(*FaultCode::all().get(at)?),
+            Family::Warnings => Topic::Warning(*WARNINGS.get(at)?),
+            Family::Halts => Topic::Halt(*HALTS.get(at)?),
+            Family::Rules => Topic::Rule(*RULES.get(at)?),
+            Family::Bytes => Topic::Bytes(*BYTES.get(at)?),
+            Family::Rewritings => Topic::Rewriting(*REWRITINGS.get(at)?),
+        })
+    }
+}
+
 /// The number after a family's letters, whatever their case: 16 of `f16` for `F`, 4 of `Halt 4` for `halt`.
 fn number_behind(code: &str, letters: &str) -> Option<usize> {
     let given = code.get(..letters.len())?;
@@ -165,20 +216,10 @@ fn number_behind(code: &str, letters: &str) -> Option<usize> {
 
 /// What the code of a person is about, as `F16`, `s5` or `halt 4`.
 pub fn topic_of(code: &str) -> Option<Topic> {
-    if let Some(at) = number_behind(code, "S") {
-        SHEETS.get(at).map(|code| Topic::Sheet(*code))
-    } else if let Some(at) = number_behind(code, "F") {
-        FaultCode::all().get(at).map(|code| Topic::Fault(*code))
-    } else if let Some(at) = number_behind(code, "W") {
-        WARNINGS.get(at).map(|code| Topic::Warning(*code))
-    } else if let Some(at) = number_behind(code, "V") {
-        RULES.get(at).map(|rule| Topic::Rule(*rule))
-    } else if let Some(at) = number_behind(code, "B") {
-        BYTES.get(at).map(|code| Topic::Bytes(*code))
-    } else if let Some(at) = number_behind(code, "A") {
-        REWRITINGS.get(at).map(|rule| Topic::Rewriting(*rule))
-    } else {
-        let at = number_behind(code, "halt")?;
-        HALTS.get(at).map(|halt| Topic::Halt(*halt))
+    for family in FAMILIES {
+        if let Some(at) = number_behind(code, family.letters()) {
+            return family.topic(at);
+        }
     }
+    None
 }
