@@ -2,13 +2,13 @@
 #![tactic(auto)]
 
 mod card;
+mod features;
 mod pattern;
 mod range;
 mod refused;
 mod sheets;
 mod slip;
 mod unread;
-mod unread_rows;
 
 pub use pattern::character_at;
 pub use range::begins_range;

@@ -1,23 +1,52 @@
-//! Patterns of what stands in columns.
+//! What stands in columns, and patterns of it.
+
+use rpg_cli_text::TextWriter;
+use rpg_sheet::ColumnFault;
 
 /// What stands in a column of a card, counted from 1: a blank after the line's end.
 pub fn character_at(line: &[u8], column: usize) -> u8 {
     line.get(column.saturating_sub(1)).copied().unwrap_or(b' ')
 }
 
+/// Writes what stands in the columns from a first to a last one.
+pub(crate) fn write_columns(out: &mut TextWriter, line: &[u8], first: usize, last: usize) {
+    for column in first..=last {
+        out.write_shown(&[character_at(line, column)]);
+    }
+}
+
+/// The number of two digits that a text has from a column on.
+fn number_at(text: &[u8], column: usize) -> u8 {
+    let tens = character_at(text, column).saturating_sub(b'0').min(9);
+    let ones = character_at(text, column.saturating_add(1))
+        .saturating_sub(b'0')
+        .min(9);
+    tens * 10 + ones
+}
+
+/// The columns that a line of a table has from a column on, as `07-14`.
+pub(crate) fn columns_at(text: &[u8], column: usize) -> ColumnFault {
+    ColumnFault {
+        column: number_at(text, column),
+        last: number_at(text, column.saturating_add(3)),
+    }
+}
+
 /// Whether a character is what one of a pattern stands for.
 fn stands_for(wanted: u8, found: u8) -> bool {
     match wanted {
         b'.' => true,
+        b'_' => found == b' ',
         b'#' => found.is_ascii_digit(),
         b'&' => found.is_ascii_uppercase(),
         _ => wanted == found,
     }
 }
 
-/// Whether a pattern stands in a card from a column on. In a pattern `.` is any character, `#` a digit, `&` a capital letter, and any other itself.
-pub(crate) fn is_at(line: &[u8], column: usize, pattern: &str) -> bool {
-    for (place, wanted) in pattern.as_bytes().iter().enumerate() {
+/// Whether a pattern stands in a card from a column on. In a pattern `.` is any character, `_` a blank, `#` a digit, `&` a capital letter, and any
+/// other itself.
+pub(crate) fn is_at(line: &[u8], column: usize, pattern: &[u8]) -> bool {
+    for (place, wanted) in pattern.iter().enumerate() {
         if !stands_for(*wanted, character_at(line, column.saturating_add(place))) {
             return false;
         }

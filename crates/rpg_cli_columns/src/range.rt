@@ -1,18 +1,68 @@
 //! Ranges of columns: what they are called and what may stand in them.
 
 use crate::card::CardKind;
-use crate::sheets::ranges_of;
+use crate::pattern::{character_at, columns_at};
+use crate::sheets::{ranges_of, sentence_of};
 use rpg_sheet::ColumnFault;
 
-/// A range of columns of a card: its first and its last, counted from 1, what it is called, and what may stand there.
+/// A range of columns of a card, what it is called, and what may stand there.
 #[derive(Clone, Copy)]
-pub(crate) struct Range(pub u8, pub u8, pub &'static str, pub &'static str);
+pub(crate) struct Range {
+    pub columns: ColumnFault,
+    pub name: &'static str,
+    pub wanted: &'static str,
+}
 
-/// The range of a card that the columns are.
-pub(crate) fn range_at(kind: CardKind, columns: ColumnFault) -> Option<Range> {
-    for range in ranges_of(kind) {
-        if range.0 == columns.column && range.1 == columns.last {
-            return Some(*range);
+/// Which range of a card is wanted. Columns are counted from 1.
+#[derive(Clone, Copy)]
+pub(crate) enum Sought {
+    /// The one of these columns.
+    Columns(ColumnFault),
+    /// The one that begins in a column.
+    From(usize),
+    /// The one that a column is in.
+    Around(usize),
+    /// The name that ends right before a column.
+    NameBefore(u8),
+}
+
+/// The letter for what may stand in the range of a line.
+fn letter_in(row: &str) -> u8 {
+    character_at(row.as_bytes(), 7)
+}
+
+/// The range of a line of a sheet.
+fn range_in(row: &'static str) -> Range {
+    let text = row.get(8..).unwrap_or("");
+    let (name, wanted) = match text.split_once(": ") {
+        Some(parts) => parts,
+        None => (text, sentence_of(letter_in(row))),
+    };
+    Range {
+        columns: columns_at(row.as_bytes(), 1),
+        name,
+        wanted,
+    }
+}
+
+/// Whether the range of a line is sought.
+fn is_sought(row: &str, sought: Sought) -> bool {
+    let ColumnFault { column, last } = columns_at(row.as_bytes(), 1);
+    match sought {
+        Sought::Columns(columns) => column == columns.column && last == columns.last,
+        Sought::From(first) => usize::from(column) == first,
+        Sought::Around(inner) => usize::from(column) <= inner && inner <= usize::from(last),
+        Sought::NameBefore(next) => {
+            last.saturating_add(1) == next && matches!(letter_in(row), b'N' | b'E')
+        }
+    }
+}
+
+/// The range of a card that is sought.
+pub(crate) fn range_of(kind: CardKind, sought: Sought) -> Option<Range> {
+    for row in ranges_of(kind).lines() {
+        if is_sought(row, sought) {
+            return Some(range_in(row));
         }
     }
     None
@@ -20,20 +70,5 @@ pub(crate) fn range_at(kind: CardKind, columns: ColumnFault) -> Option<Range> {
 
 /// Whether a range of the sheet that a card is on begins in a column, which is counted from 1.
 pub fn begins_range(line: &[u8], column: usize) -> bool {
-    for range in ranges_of(CardKind::of(line)) {
-        if usize::from(range.0) == column {
-            return true;
-        }
-    }
-    false
-}
-
-/// Whether a column, counted from 1, is in a range of a kind of card.
-pub(crate) fn is_in_range(kind: CardKind, column: usize) -> bool {
-    for range in ranges_of(kind) {
-        if usize::from(range.0) <= column && column <= usize::from(range.1) {
-            return true;
-        }
-    }
-    false
+    range_of(CardKind::of(line), Sought::From(column)).is_some()
 }

@@ -1,11 +1,10 @@
 //! What is said of columns that are refused.
 
 use crate::card::CardKind;
-use crate::pattern::character_at;
-use crate::range::{Range, range_at};
-use crate::sheets::{ENTRY, NAME, ranges_of};
+use crate::pattern::{character_at, write_columns};
+use crate::range::{Range, Sought, range_of};
 use crate::slip::{write_form_type_slip, write_slip};
-use crate::unread::{Unread, feature_at};
+use crate::unread::feature_at;
 use rpg_cli_text::TextWriter;
 use rpg_sheet::ColumnFault;
 
@@ -21,8 +20,8 @@ pub fn write_form_type(out: &mut TextWriter, line: &[u8]) {
     out.write_str("column 6 has \"");
     out.write_shown(&[form]);
     out.write_str("\": ");
-    if let Some(Unread(_, _, _, sentence)) = feature_at(line, FORM_TYPE) {
-        out.write_str(sentence);
+    if let Some(feature) = feature_at(line, FORM_TYPE) {
+        out.write_shown(feature.sentence);
         return;
     }
     out.write_str("a form type is H, F, E, I, C or O");
@@ -37,7 +36,12 @@ pub fn write_form_type(out: &mut TextWriter, line: &[u8]) {
 
 /// Whether the first character of a card is an asterisk, as if it were a comment.
 fn is_starred(line: &[u8]) -> bool {
-    line.iter().find(|byte| **byte != b' ') == Some(&b'*')
+    for byte in line {
+        if *byte != b' ' {
+            return *byte == b'*';
+        }
+    }
+    false
 }
 
 /// Writes which columns have a bad value: what stands there, what of RPG II that is or what may stand there, and whether it stands beside its place.
@@ -46,12 +50,12 @@ pub fn write_bad_columns(out: &mut TextWriter, line: &[u8], columns: Option<Colu
         out.write_str("some columns have a bad value");
         return;
     };
-    let range = range_at(CardKind::of(line), columns);
+    let range = range_of(CardKind::of(line), Sought::Columns(columns));
     write_columns_found(out, line, columns, range);
     match feature_at(line, columns) {
-        Some(Unread(_, _, pattern, sentence)) => {
-            out.write_str(sentence);
-            if pattern.is_empty() {
+        Some(feature) => {
+            out.write_shown(feature.sentence);
+            if feature.is_any {
                 write_slip(out, line, columns, 1);
             }
         }
@@ -71,8 +75,8 @@ fn write_columns_found(
     range: Option<Range>,
 ) {
     match range {
-        Some(Range(_, _, name, _)) => {
-            out.write_str(name);
+        Some(range) => {
+            out.write_str(range.name);
             out.write_str(" (");
             write_column_numbers(out, columns);
             out.write_char(')');
@@ -83,39 +87,37 @@ fn write_columns_found(
         }
     }
     out.write_str(" has \"");
-    write_columns(out, line, columns);
+    write_columns(out, line, columns.column.into(), columns.last.into());
     out.write_str("\": ");
+}
+
+/// Whether a small letter stands in columns, all of which are on the line.
+fn has_small_letter(line: &[u8], columns: ColumnFault) -> bool {
+    let first = usize::from(columns.column.saturating_sub(1));
+    for byte in line.get(first..usize::from(columns.last)).unwrap_or(&[]) {
+        if byte.is_ascii_lowercase() {
+            return true;
+        }
+    }
+    false
 }
 
 /// What may stand there.
 fn write_wanted(out: &mut TextWriter, line: &[u8], columns: ColumnFault, range: Option<Range>) {
     match range {
-        Some(Range(_, _, _, wanted)) => out.write_str(wanted),
+        Some(range) => out.write_str(range.wanted),
         None => out.write_str("nothing stands there on such a card"),
     }
-    let found = line.get(usize::from(columns.column.saturating_sub(1))..usize::from(columns.last));
-    if found.is_some_and(|text| text.iter().any(|byte| byte.is_ascii_lowercase())) {
+    if has_small_letter(line, columns) {
         out.write_str(CAPITALS);
     }
 }
 
 fn write_column_numbers(out: &mut TextWriter, columns: ColumnFault) {
     let ColumnFault { column, last } = columns;
-    if column == last {
-        write!(out, "{column}");
-    } else {
-        write!(out, "{column}-{last}");
-    }
-}
-
-/// What stands in the columns, with blanks after the end of the line.
-fn write_columns(out: &mut TextWriter, line: &[u8], columns: ColumnFault) {
-    for place in columns.column..=columns.last {
-        let byte = line
-            .get(usize::from(place.saturating_sub(1)))
-            .copied()
-            .unwrap_or(b' ');
-        out.write_shown(&[byte]);
+    write!(out, "{column}");
+    if column < last {
+        write!(out, "-{last}");
     }
 }
 
@@ -131,18 +133,26 @@ fn is_full(line: &[u8], first: u8, last: u8) -> bool {
 
 /// Writes that a name right before these columns, which goes on in them, may be too long for its own.
 fn write_overlong(out: &mut TextWriter, line: &[u8], columns: ColumnFault) {
-    for range in ranges_of(CardKind::of(line)) {
-        let Range(first, last, name, wanted) = *range;
-        let is_name = wanted == NAME || wanted == ENTRY;
-        if is_name
-            && last.saturating_add(1) == columns.column
-            && is_full(line, first, columns.column)
-        {
-            let length = columns.column.saturating_sub(first);
-            write!(
-                out,
-                "; or {name} ({first}-{last}) is longer than its {length} columns"
-            );
-        }
+    let before = range_of(CardKind::of(line), Sought::NameBefore(columns.column));
+    let Some(
+        Range {
+            columns: own,
+            name,
+            ..
+        },
+    ) = before
+    else {
+        return;
+    };
+    let ColumnFault {
+        column: first,
+        last,
+    } = own;
+    if is_full(line, first, columns.column) {
+        let length = columns.column.saturating_sub(first);
+        write!(
+            out,
+            "; or {name} ({first}-{last}) is longer than its {length} columns"
+        );
     }
 }

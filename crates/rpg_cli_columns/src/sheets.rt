@@ -1,178 +1,136 @@
 //! The ranges of the sheets, in the order of their columns. What stands in no range is blank.
+//!
+//! A line has the first and the last column, a letter for what may stand there, and what the range is called; without a letter what may stand
+//! there comes after the name.
 
 use crate::card::CardKind;
-use crate::range::Range;
 
-pub(crate) const NAME: &str =
-    "a name begins in the first column with a letter, $, # or @, and has only these and digits in it";
+const FILE: &str = "07-14 N the file name
+15-15 : the file type: I for input or O for output
+16-16 : the designation: P or S with I in column 15, blank with O
+17-17 : the end of file: E or blank
+18-18 : the sequence: A or blank
+19-19 : the file format: F
+24-27 # the record length
+33-34 : the overflow indicator: OA to OG or OV with O in column 15, or blank";
 
-const NUMBER: &str = "a number has digits alone and ends in the last column";
+const EXTENSION_ALONE: &str = "27-32 N the table's name
+33-35 B the entries a card
+36-39 # the number of entries
+40-42 # the length of an entry
+44-44 D the decimals
+45-45 : the sequence: A or blank";
 
-const NUMBER_OR_BLANK: &str =
-    "a number has digits alone and ends in the last column, or the columns are blank";
+const EXTENSION: &str = "27-32 N the table's name
+33-35 B the entries a card
+36-39 # the number of entries
+40-42 # the length of an entry
+44-44 D the decimals
+45-45 : the sequence: A or blank
+46-51 N the second table's name
+52-54 # the length of its entries
+56-56 D the decimals of its entries
+57-57 : the sequence of its entries: A or blank";
 
-const DIGIT: &str = "a digit, or blank";
+const RECORD_TYPE: &str = "07-14 N the file name
+15-16 : the sequence: two letters
+19-20 I the record identifying indicator
+21-27 R the first record code
+28-34 R the second record code
+35-41 R the third record code";
 
-const INDICATOR: &str =
-    "an indicator is two characters, as 01, L1, LR or OF, or the columns are blank";
+const RECORD_CODES: &str = "21-41 : the record codes: an AND card has one at least
+21-27 R the first record code
+28-34 R the second record code
+35-41 R the third record code";
 
-const CONDITION: &str =
-    "a condition is blank or N and then two characters, as 01, L1 or LR, or the columns are blank";
+const INPUT_FIELD: &str = "44-47 # the first column
+48-51 # the last column
+52-52 D the decimals
+53-58 N the field name
+59-60 : the control level: L1 to L9, or blank
+61-62 : the match level: M1 to M9, or blank
+65-66 I the plus indicator
+67-68 I the minus indicator
+69-70 I the zero or blank indicator";
 
-const FACTOR: &str =
-    "a name with its index if it has one, a number, or a text between apostrophes, from the first column on";
+const CALCULATION: &str = "07-08 : the control level: L0 to L9, LR, SR, AN or OR, or blank
+09-11 C the first condition
+12-14 C the second condition
+15-17 C the third condition
+18-27 F factor 1
+28-32 : the operation: one of those that docs/LANGUAGE.md lists, from the first column on
+33-42 F factor 2
+43-48 E the result field
+49-51 B the length
+52-52 D the decimals
+53-53 : half adjust: H or blank
+54-55 I the plus or high indicator
+56-57 I the minus or low indicator
+58-59 I the zero or equal indicator";
 
-pub(crate) const ENTRY: &str =
-    "a name, with a comma and its index if it has one, from the first column on";
+const LINE: &str = "07-14 N the file name
+15-15 : the type of the line: H, D, T or E
+17-17 : the space before: 0 to 3, or blank
+18-18 : the space after: 0 to 3, or blank
+19-20 : the skip before: two digits from 01 to 66, or blank
+21-22 : the skip after: two digits from 01 to 66, or blank
+23-25 C the first condition
+26-28 C the second condition
+29-31 C the third condition";
 
-const CODE: &str =
-    "a position that ends in the fourth column, N or blank, C, and the character, or the columns are blank";
+const LINE_CONDITIONS: &str = "23-25 C the first condition
+26-28 C the second condition
+29-31 C the third condition";
 
-static FILE: [Range; 8] = [
-    Range(7, 14, "the file name", NAME),
-    Range(15, 15, "the file type", "I for input or O for output"),
-    Range(
-        16,
-        16,
-        "the designation",
-        "P or S with I in column 15, blank with O",
-    ),
-    Range(17, 17, "the end of file", "E or blank"),
-    Range(18, 18, "the sequence", "A or blank"),
-    Range(19, 19, "the file format", "F"),
-    Range(24, 27, "the record length", NUMBER),
-    Range(
-        33,
-        34,
-        "the overflow indicator",
-        "OA to OG or OV with O in column 15, or blank",
-    ),
-];
+const OUTPUT_FIELD: &str = "23-25 C the first condition
+26-28 C the second condition
+29-31 C the third condition
+32-37 E the field name
+38-38 : the edit code: 1 to 4, A to D, J to M, X, Y or Z, or blank
+39-39 : blank after: B or blank
+40-43 # the end position
+45-70 : the constant or edit word: a text between apostrophes from the first column on, or blank";
 
-static EXTENSION: [Range; 10] = [
-    Range(27, 32, "the table's name", NAME),
-    Range(33, 35, "the entries a card", NUMBER_OR_BLANK),
-    Range(36, 39, "the number of entries", NUMBER),
-    Range(40, 42, "the length of an entry", NUMBER),
-    Range(44, 44, "the decimals", DIGIT),
-    Range(45, 45, "the sequence", "A or blank"),
-    Range(46, 51, "the second table's name", NAME),
-    Range(52, 54, "the length of its entries", NUMBER),
-    Range(56, 56, "the decimals of its entries", DIGIT),
-    Range(57, 57, "the sequence of its entries", "A or blank"),
-];
-
-static RECORD_TYPE: [Range; 6] = [
-    Range(7, 14, "the file name", NAME),
-    Range(15, 16, "the sequence", "two letters"),
-    Range(19, 20, "the record identifying indicator", INDICATOR),
-    Range(21, 27, "the first record code", CODE),
-    Range(28, 34, "the second record code", CODE),
-    Range(35, 41, "the third record code", CODE),
-];
-
-static RECORD_CODES: [Range; 4] = [
-    Range(21, 41, "the record codes", "an AND card has one at least"),
-    Range(21, 27, "the first record code", CODE),
-    Range(28, 34, "the second record code", CODE),
-    Range(35, 41, "the third record code", CODE),
-];
-
-static INPUT_FIELD: [Range; 9] = [
-    Range(44, 47, "the first column", NUMBER),
-    Range(48, 51, "the last column", NUMBER),
-    Range(52, 52, "the decimals", DIGIT),
-    Range(53, 58, "the field name", NAME),
-    Range(59, 60, "the control level", "L1 to L9, or blank"),
-    Range(61, 62, "the match level", "M1 to M9, or blank"),
-    Range(65, 66, "the plus indicator", INDICATOR),
-    Range(67, 68, "the minus indicator", INDICATOR),
-    Range(69, 70, "the zero or blank indicator", INDICATOR),
-];
-
-static CALCULATION: [Range; 14] = [
-    Range(
-        7,
-        8,
-        "the control level",
-        "L0 to L9, LR, SR, AN or OR, or blank",
-    ),
-    Range(9, 11, "the first condition", CONDITION),
-    Range(12, 14, "the second condition", CONDITION),
-    Range(15, 17, "the third condition", CONDITION),
-    Range(18, 27, "factor 1", FACTOR),
-    Range(
-        28,
-        32,
-        "the operation",
-        "one of those that docs/LANGUAGE.md lists, from the first column on",
-    ),
-    Range(33, 42, "factor 2", FACTOR),
-    Range(43, 48, "the result field", ENTRY),
-    Range(49, 51, "the length", NUMBER_OR_BLANK),
-    Range(52, 52, "the decimals", DIGIT),
-    Range(53, 53, "half adjust", "H or blank"),
-    Range(54, 55, "the plus or high indicator", INDICATOR),
-    Range(56, 57, "the minus or low indicator", INDICATOR),
-    Range(58, 59, "the zero or equal indicator", INDICATOR),
-];
-
-static LINE: [Range; 9] = [
-    Range(7, 14, "the file name", NAME),
-    Range(15, 15, "the type of the line", "H, D, T or E"),
-    Range(17, 17, "the space before", "0 to 3, or blank"),
-    Range(18, 18, "the space after", "0 to 3, or blank"),
-    Range(
-        19,
-        20,
-        "the skip before",
-        "two digits from 01 to 66, or blank",
-    ),
-    Range(
-        21,
-        22,
-        "the skip after",
-        "two digits from 01 to 66, or blank",
-    ),
-    Range(23, 25, "the first condition", CONDITION),
-    Range(26, 28, "the second condition", CONDITION),
-    Range(29, 31, "the third condition", CONDITION),
-];
-
-static OUTPUT_FIELD: [Range; 8] = [
-    Range(23, 25, "the first condition", CONDITION),
-    Range(26, 28, "the second condition", CONDITION),
-    Range(29, 31, "the third condition", CONDITION),
-    Range(32, 37, "the field name", ENTRY),
-    Range(
-        38,
-        38,
-        "the edit code",
-        "1 to 4, A to D, J to M, X, Y or Z, or blank",
-    ),
-    Range(39, 39, "blank after", "B or blank"),
-    Range(40, 43, "the end position", NUMBER),
-    Range(
-        45,
-        70,
-        "the constant or edit word",
-        "a text between apostrophes from the first column on, or blank",
-    ),
-];
-
-/// The ranges of a card.
-pub(crate) fn ranges_of(kind: CardKind) -> &'static [Range] {
+/// The ranges of a card, a line each.
+pub(crate) fn ranges_of(kind: CardKind) -> &'static str {
     match kind {
-        CardKind::Header | CardKind::Unknown => &[],
-        CardKind::File => &FILE,
-        CardKind::Extension => &EXTENSION,
-        CardKind::ExtensionAlone => &EXTENSION[..6],
-        CardKind::RecordType => &RECORD_TYPE,
-        CardKind::RecordCodes => &RECORD_CODES,
-        CardKind::InputField => &INPUT_FIELD,
-        CardKind::Calculation => &CALCULATION,
-        CardKind::Line => &LINE,
-        CardKind::LineConditions => &OUTPUT_FIELD[..3],
-        CardKind::OutputField => &OUTPUT_FIELD,
+        CardKind::Header | CardKind::Unknown => "",
+        CardKind::File => FILE,
+        CardKind::Extension => EXTENSION,
+        CardKind::ExtensionAlone => EXTENSION_ALONE,
+        CardKind::RecordType => RECORD_TYPE,
+        CardKind::RecordCodes => RECORD_CODES,
+        CardKind::InputField => INPUT_FIELD,
+        CardKind::Calculation => CALCULATION,
+        CardKind::Line => LINE,
+        CardKind::LineConditions => LINE_CONDITIONS,
+        CardKind::OutputField => OUTPUT_FIELD,
+    }
+}
+
+/// What may stand in a range, by its letter.
+pub(crate) fn sentence_of(letter: u8) -> &'static str {
+    match letter {
+        b'N' => {
+            "a name begins in the first column with a letter, $, # or @, and has only these and digits in it"
+        }
+        b'#' => "a number has digits alone and ends in the last column",
+        b'B' => {
+            "a number has digits alone and ends in the last column, or the columns are blank"
+        }
+        b'D' => "a digit, or blank",
+        b'I' => { "an indicator is two characters, as 01, L1, LR or OF, or the columns are blank" }
+        b'C' => {
+            "a condition is blank or N and then two characters, as 01, L1 or LR, or the columns are blank"
+        }
+        b'F' => {
+            "a name with its index if it has one, a number, or a text between apostrophes, from the first column on"
+        }
+        b'E' => { "a name, with a comma and its index if it has one, from the first column on" }
+        b'R' => {
+            "a position that ends in the fourth column, N or blank, C, and the character, or the columns are blank"
+        }
+        _ => "",
     }
 }

@@ -1,14 +1,17 @@
 //! Texts that stand a column or two beside the columns that are meant.
 
 use crate::card::CardKind;
-use crate::pattern::character_at;
-use crate::range::is_in_range;
+use crate::pattern::{character_at, write_columns};
+use crate::range::{Sought, range_of};
 use rpg_cli_text::TextWriter;
 use rpg_sheet::{Card, ColumnFault};
-use rpg_text::{has_only_characters, is_blank};
+use rpg_text::has_only_characters;
 
 /// The columns of a card.
 const COLUMNS: usize = 80;
+
+/// The column of the form type.
+const FORM_TYPE: usize = 6;
 
 /// The first and the last column that sheets have values in.
 const FIRST: usize = 7;
@@ -29,6 +32,12 @@ struct Move {
     by: usize,
 }
 
+impl Run {
+    fn has(self, column: usize) -> bool {
+        self.first <= column && column <= self.last
+    }
+}
+
 impl Move {
     fn right(by: usize) -> Self {
         Move { is_right: true, by }
@@ -41,6 +50,7 @@ impl Move {
         }
     }
 
+    /// Where a column comes to.
     fn applied_to(self, column: usize) -> usize {
         if self.is_right {
             column.saturating_add(self.by)
@@ -48,52 +58,48 @@ impl Move {
             column.saturating_sub(self.by)
         }
     }
-}
 
-/// The columns of a card from a first to a last one.
-fn columns(card: &[u8; 80], run: Run) -> &[u8] {
-    card.get(run.first.saturating_sub(1)..run.last)
-        .unwrap_or(&[])
-}
-
-fn put(card: &mut [u8; 80], first: usize, text: &[u8]) {
-    for (place, byte) in card.iter_mut().skip(first.saturating_sub(1)).zip(text) {
-        *place = *byte;
+    /// Which column comes to this one.
+    fn source_of(self, column: usize) -> usize {
+        if self.is_right {
+            column.saturating_sub(self.by)
+        } else {
+            column.saturating_add(self.by)
+        }
     }
 }
 
-fn blank(card: &mut [u8; 80], run: Run) {
-    let count = run.last.saturating_add(1).saturating_sub(run.first);
-    for place in card
-        .iter_mut()
-        .skip(run.first.saturating_sub(1))
-        .take(count)
-    {
-        *place = b' ';
+/// Whether the columns that a text comes to are on the card, and blank but for the text's own.
+fn has_room(line: &[u8], run: Run, by: Move) -> bool {
+    let first = by.applied_to(run.first);
+    let last = by.applied_to(run.last);
+    for column in first..=last {
+        if !run.has(column) && character_at(line, column) != b' ' {
+            return false;
+        }
+    }
+    first > 0 && last <= COLUMNS
+}
+
+/// What stands in a column once a text is moved.
+fn moved_at(line: &[u8], run: Run, by: Move, column: usize) -> u8 {
+    let source = by.source_of(column);
+    if run.has(source) {
+        character_at(line, source)
+    } else if run.has(column) {
+        b' '
+    } else {
+        character_at(line, column)
     }
 }
 
-/// A line as a card, with blanks after its end.
-fn card_of(line: &[u8]) -> [u8; 80] {
+/// A card with a text moved.
+fn moved(line: &[u8], run: Run, by: Move) -> [u8; 80] {
     let mut card = [b' '; 80];
-    put(&mut card, 1, line);
-    card
-}
-
-/// A card with a text moved, if it has room there.
-fn moved(line: &[u8], run: Run, by: Move) -> Option<[u8; 80]> {
-    let card = card_of(line);
-    let mut other = card;
-    blank(&mut other, run);
-    let place = Run {
-        first: by.applied_to(run.first),
-        last: by.applied_to(run.last),
-    };
-    if place.first == 0 || place.last > COLUMNS || !is_blank(columns(&other, place)) {
-        return None;
+    for (place, byte) in card.iter_mut().enumerate() {
+        *byte = moved_at(line, run, by, place.saturating_add(1));
     }
-    put(&mut other, place.first, columns(&card, run));
-    Some(other)
+    card
 }
 
 /// Whether a card can be read as one of the sheet that its column 6 names.
@@ -109,20 +115,24 @@ fn is_readable(card: &[u8; 80]) -> bool {
 }
 
 fn helps(line: &[u8], run: Run, by: Move) -> bool {
-    moved(line, run, by).is_some_and(|card| is_readable(&card))
+    has_room(line, run, by) && is_readable(&moved(line, run, by))
+}
+
+/// Whether a column is in a range of its card.
+fn is_in_range(line: &[u8], column: usize) -> bool {
+    range_of(CardKind::of(line), Sought::Around(column)).is_some()
 }
 
 /// Whether moving a text helps, and brings it to columns that have values of their own: in free ones anything can be read.
 fn helps_word(line: &[u8], run: Run, by: Move) -> bool {
-    let kind = CardKind::of(line);
-    is_in_range(kind, by.applied_to(run.first))
-        && is_in_range(kind, by.applied_to(run.last))
+    is_in_range(line, by.applied_to(run.first))
+        && is_in_range(line, by.applied_to(run.last))
         && helps(line, run, by)
 }
 
 /// The same of all that stands on a card, of which the first text has columns of its own.
 fn helps_card(line: &[u8], run: Run, by: Move) -> bool {
-    is_in_range(CardKind::of(line), by.applied_to(run.first)) && helps(line, run, by)
+    is_in_range(line, by.applied_to(run.first)) && helps(line, run, by)
 }
 
 /// The one of the two moves by so many columns that helps.
@@ -157,9 +167,9 @@ fn word_end(line: &[u8], column: usize) -> usize {
     LAST
 }
 
-/// The first column that isn't blank, from a first to a last one.
-fn first_filled(line: &[u8], first: usize, last: usize) -> Option<usize> {
-    for column in first..=last {
+/// The first column that isn't blank.
+fn first_filled(line: &[u8]) -> Option<usize> {
+    for column in FIRST..=LAST {
         if character_at(line, column) != b' ' {
             return Some(column);
         }
@@ -180,15 +190,17 @@ fn rest_from(line: &[u8], first: usize) -> Run {
 
 /// How far a text is moved, and which way.
 fn write_move(out: &mut TextWriter, by: Move) {
-    out.write_str(if by.by == 1 {
-        "one column"
-    } else {
-        "two columns"
-    });
-    out.write_str(if by.is_right {
-        " to the right"
-    } else {
-        " to the left"
+    out.write_str(match by {
+        Move {
+            is_right: true,
+            by: 1,
+        } => "one column to the right",
+        Move {
+            is_right: false,
+            by: 1,
+        } => "one column to the left",
+        Move { is_right: true, .. } => "two columns to the right",
+        Move { .. } => "two columns to the left",
     });
 }
 
@@ -200,7 +212,7 @@ fn write_word_slip(out: &mut TextWriter, line: &[u8], run: Run, by: usize) -> bo
         return false;
     };
     out.write_str("; \"");
-    out.write_shown(columns(&card_of(line), run));
+    write_columns(out, line, run.first, run.last);
     out.write_str("\" moved ");
     write_move(out, only);
     out.write_str(" can be read");
@@ -209,7 +221,7 @@ fn write_word_slip(out: &mut TextWriter, line: &[u8], run: Run, by: usize) -> bo
 
 /// Writes how moving all that stands on the card makes it readable, if there is one way.
 fn write_card_slip(out: &mut TextWriter, line: &[u8], by: usize) -> bool {
-    let Some(first) = first_filled(line, FIRST, LAST) else {
+    let Some(first) = first_filled(line) else {
         return false;
     };
     let run = rest_from(line, first);
@@ -253,48 +265,27 @@ pub(crate) fn write_slip(out: &mut TextWriter, line: &[u8], refused: ColumnFault
     }
 }
 
-/// Where a form type may stand that isn't in column 6, and how it comes there.
-const FORM_TYPE_SLIPS: [(usize, Move); 4] = [
-    (
-        5,
-        Move {
-            is_right: true,
-            by: 1,
-        },
-    ),
-    (
-        7,
-        Move {
-            is_right: false,
-            by: 1,
-        },
-    ),
-    (
-        4,
-        Move {
-            is_right: true,
-            by: 2,
-        },
-    ),
-    (
-        8,
-        Move {
-            is_right: false,
-            by: 2,
-        },
-    ),
-];
+/// Writes where the form type stands, if a move brings it into its column and the card can be read then.
+fn write_form_type_from(out: &mut TextWriter, line: &[u8], by: Move) -> bool {
+    let column = by.source_of(FORM_TYPE);
+    let is_in_word = character_at(line, column.saturating_sub(1)).is_ascii_alphabetic();
+    if is_in_word || !helps(line, rest_from(line, column), by) {
+        return false;
+    }
+    out.write_str("; ");
+    write_columns(out, line, column, column);
+    write!(out, " stands in column {column}: moved ");
+    write_move(out, by);
+    out.write_str(" the card can be read");
+    true
+}
 
 /// Writes where the form type of a card stands that can be read once it is moved.
 pub(crate) fn write_form_type_slip(out: &mut TextWriter, line: &[u8]) {
-    for (column, by) in FORM_TYPE_SLIPS {
-        let is_in_word = character_at(line, column.saturating_sub(1)).is_ascii_alphabetic();
-        if !is_in_word && helps(line, rest_from(line, column), by) {
-            out.write_str("; ");
-            out.write_shown(&[character_at(line, column)]);
-            write!(out, " stands in column {column}: moved ");
-            write_move(out, by);
-            out.write_str(" the card can be read");
+    for by in 1..=2 {
+        if write_form_type_from(out, line, Move::right(by))
+            || write_form_type_from(out, line, Move::left(by))
+        {
             return;
         }
     }

@@ -1,53 +1,70 @@
 //! What RPG II has on its sheets and this profile doesn't read.
 
 use crate::card::CardKind;
-use crate::pattern::is_at;
-use crate::unread_rows::{
-    CALCULATION, DIRECTIVES, EXTENSION, FILE, FORM_TYPES, HEADER, INPUT_FIELD, LINE,
-    LINE_CONDITIONS, OUTPUT_FIELD, RECORD_TYPE,
-};
+use crate::features::features;
+use crate::pattern::{character_at, columns_at, is_at};
 use rpg_sheet::ColumnFault;
 
-/// A feature of RPG II by where it stands: columns that are refused, counted from 1, within a first and a last one; a pattern of what stands
-/// there from the first refused column on, none where anything does; and what it is, with the way round.
-#[derive(Clone, Copy)]
-pub(crate) struct Unread(pub u8, pub u8, pub &'static str, pub &'static str);
+/// The directives for a listing stand from here on, whatever column 6 has.
+const DIRECTIVE: ColumnFault = ColumnFault { column: 7, last: 7 };
 
-/// The features of a kind of card.
-fn rows_of(kind: CardKind) -> &'static [Unread] {
+/// Where the pattern of a place begins in its line, after a blank, the letter of the card and the columns.
+const PATTERN: usize = 9;
+
+/// A feature of RPG II: what it is, with the way round, and whether it is there whatever its columns hold.
+#[derive(Clone, Copy)]
+pub(crate) struct Unread {
+    pub sentence: &'static [u8],
+    pub is_any: bool,
+}
+
+/// The letter of a kind of card.
+fn letter_of(kind: CardKind) -> u8 {
     match kind {
-        CardKind::Header => HEADER,
-        CardKind::File => FILE,
-        CardKind::Extension | CardKind::ExtensionAlone => EXTENSION,
-        CardKind::RecordType | CardKind::RecordCodes => RECORD_TYPE,
-        CardKind::InputField => INPUT_FIELD,
-        CardKind::Calculation => CALCULATION,
-        CardKind::Line => LINE,
-        CardKind::LineConditions => LINE_CONDITIONS,
-        CardKind::OutputField => OUTPUT_FIELD,
-        CardKind::Unknown => FORM_TYPES,
+        CardKind::Header => b'H',
+        CardKind::File => b'F',
+        CardKind::Extension | CardKind::ExtensionAlone => b'E',
+        CardKind::RecordType | CardKind::RecordCodes => b'T',
+        CardKind::InputField => b'I',
+        CardKind::Calculation => b'C',
+        CardKind::Line => b'O',
+        CardKind::LineConditions => b'A',
+        CardKind::OutputField => b'D',
+        CardKind::Unknown => b'?',
     }
 }
 
-/// The first of these features that stands in columns.
-fn first_in(rows: &'static [Unread], line: &[u8], columns: ColumnFault) -> Option<Unread> {
-    for row in rows {
-        let Unread(first, last, pattern, _) = *row;
-        let is_within = first <= columns.column && columns.last <= last;
-        if is_within && is_at(line, usize::from(columns.column), pattern) {
-            return Some(*row);
+/// Whether refused columns of a card are those of a place, and hold its pattern.
+fn fits(place: &[u8], letter: u8, line: &[u8], columns: ColumnFault) -> bool {
+    let ColumnFault { column, last } = columns_at(place, 4);
+    let pattern = place.get(PATTERN..).unwrap_or(&[]);
+    character_at(place, 2) == letter
+        && column <= columns.column
+        && columns.last <= last
+        && is_at(line, usize::from(columns.column), pattern)
+}
+
+/// The first feature that stands in columns of a card with this letter.
+fn first_at(letter: u8, line: &[u8], columns: ColumnFault) -> Option<Unread> {
+    let mut sentence: &'static [u8] = &[];
+    for row in features().lines() {
+        let row = row.as_bytes();
+        if character_at(row, 1) != b' ' {
+            sentence = row;
+        } else if fits(row, letter, line, columns) {
+            return Some(Unread {
+                sentence,
+                is_any: row.len() < PATTERN,
+            });
         }
     }
     None
 }
 
-/// The directive for a listing that a card is.
-fn directive(line: &[u8]) -> Option<Unread> {
-    let from_seven = ColumnFault { column: 7, last: 7 };
-    first_in(DIRECTIVES, line, from_seven)
-}
-
 /// What of RPG II stands in columns that were refused, and the way round; none where they hold no feature that is known here.
 pub(crate) fn feature_at(line: &[u8], columns: ColumnFault) -> Option<Unread> {
-    directive(line).or(first_in(rows_of(CardKind::of(line)), line, columns))
+    match first_at(b'/', line, DIRECTIVE) {
+        Some(directive) => Some(directive),
+        None => first_at(letter_of(CardKind::of(line)), line, columns),
+    }
 }
