@@ -18,6 +18,7 @@ TOP = Path(__file__).resolve().parent.parent
 PLACED = re.compile(r"  (?P<name>[<\[][A-Z]+[>\]](?:\.\.\.)?) +(?P<help>\S.*)")
 OPTION = re.compile(r"  (?:-(?P<short>\w), |    )--(?P<name>[\w-]+)(?: <(?P<value>[\w=]+)>)?(?:\.\.\.)? +(?P<help>\S.*)")
 COMMAND = re.compile(r"  (?P<name>[a-z]+) +\S.*")
+CHOICES = re.compile(r"\[possible values: ([^\]]+)\]")
 CODE = re.compile(r"^## ([A-Z]\d+):", re.MULTILINE)
 
 # What the values of options and arguments that aren't here are: names of files.
@@ -33,6 +34,11 @@ class Option:
 
     def takes_file(self) -> bool:
         return self.value is not None and self.value not in NOT_FILES
+
+    def choices(self) -> list[str]:
+        """The values that it takes, where the help lists them."""
+        found = CHOICES.search(self.help)
+        return found[1].split(", ") if found else []
 
     def written(self) -> list[str]:
         return [*([f"-{self.short}"] if self.short else []), f"--{self.name}"]
@@ -127,13 +133,18 @@ def entry(head: str, text: str) -> str:
     return f".TP\n\\fB{escaped(head)}\\fR\n{escaped(text)}\n"
 
 
+def placed_name(name: str) -> str:
+    """A word as the manual has it: SRC, or SRC ... where it may stand several times."""
+    return name.strip("<[]>.") + (" ..." if name.endswith("...") else "")
+
+
 def option_head(option: Option) -> str:
     return ", ".join(option.written()) + (f" {option.value}" if option.value else "")
 
 
 def command_part(command: Command) -> str:
     parts = [f".SS \"{escaped(command.usage)}\"\n{escaped(command.about)}.\n"]
-    parts += [entry(name.strip("<[]>"), text) for name, text in command.placed]
+    parts += [entry(placed_name(name), text) for name, text in command.placed]
     parts += [entry(option_head(it), it.help) for it in command.options if it.name != "help"]
     return "".join(parts)
 
@@ -157,6 +168,7 @@ _rpg2() {{
         COMPREPLY=($(compgen -W '{words} help --help --version' -- "$cur")); return
     fi
     case $prev in
+{choices}
         {plain}) return;;
         {files}) COMPREPLY=($(compgen -f -- "$cur")); return;;
     esac
@@ -182,12 +194,14 @@ def all_options(shown: Help) -> list[Option]:
 
 def bash(shown: Help) -> str:
     names = [it.name for it in shown.commands]
-    plain = sorted({f"--{it.name}" for it in all_options(shown) if it.value and not it.takes_file()})
+    chosen = {f"--{it.name}": it.choices() for it in all_options(shown) if it.choices()}
+    plain = sorted({f"--{it.name}" for it in all_options(shown) if it.value and not it.takes_file() and not it.choices()})
     files = sorted({f"--{it.name}" for it in all_options(shown) if it.takes_file()})
     rows = [f"        {it.name}) options='{written(it.options)}';;" for it in shown.commands if it.name != "explain"]
     return BASH.format(
         commands="|".join(names),
         words=" ".join(names),
+        choices="\n".join(f"        {name}) COMPREPLY=($(compgen -W '{' '.join(values)}' -- \"$cur\")); return;;" for name, values in sorted(chosen.items())),
         plain="|".join(plain),
         files="|".join(files),
         options="\n".join(rows),
@@ -204,12 +218,13 @@ def zsh_text(text: str) -> str:
 
 
 def zsh_option(option: Option) -> str:
-    value = "" if option.value is None else f":{option.value}:" + ("_files" if option.takes_file() else "")
-    return f"'--{option.name}[{zsh_text(option.help)}]{value}'"
+    values = "_files" if option.takes_file() else f"({' '.join(option.choices())})" if option.choices() else ""
+    value = "" if option.value is None else f":{option.value}:{values}"
+    return " ".join(f"'{it}[{zsh_text(option.help)}]{value}'" for it in option.written())
 
 
 def zsh_placed(command: Command, name: str, text: str, codes: list[str]) -> str:
-    mark = ":" if name.startswith("<") else "::"
+    mark = "*:" if name.endswith("...") else ":" if name.startswith("<") else "::"
     if name.strip("<[]>.") == "CODE":
         return f"'{mark}{zsh_text(text)}:({' '.join(codes)} halt)'"
     return f"'{mark}{zsh_text(text)}:{'_files' if command.takes_file() else ''}'"
@@ -234,7 +249,8 @@ def zsh(shown: Help) -> str:
 
 def fish_option(command: str, option: Option) -> str:
     short = f" -s {option.short}" if option.short else ""
-    takes = "" if option.value is None else " -r -F" if option.takes_file() else " -x"
+    values = f" -a '{' '.join(option.choices())}'" if option.choices() else ""
+    takes = "" if option.value is None else " -r -F" if option.takes_file() else f" -x{values}"
     return f"complete -c rpg2 -n '__fish_seen_subcommand_from {command}'{short} -l {option.name}{takes} -d '{quoted(option.help)}'"
 
 

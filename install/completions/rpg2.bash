@@ -8,7 +8,9 @@ _rpg2() {
         COMPREPLY=($(compgen -W 'compile check list cards records fit verify explain show run go help --help --version' -- "$cur")); return
     fi
     case $prev in
-        --allow|--allowance|--date|--drop|--faults|--file|--format|--length|--most|--switches|--table) return;;
+        --allow) COMPREPLY=($(compgen -W 'W1 W2 W3 W4 W5 W6' -- "$cur")); return;;
+        --format) COMPREPLY=($(compgen -W 'text json' -- "$cur")); return;;
+        --allowance|--date|--drop|--faults|--file|--length|--most|--switches|--table) return;;
         --by|--deck|--disk|--secondary|--source|--to) COMPREPLY=($(compgen -f -- "$cur")); return;;
     esac
     local options=
