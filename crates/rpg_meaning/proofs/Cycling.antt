@@ -18,7 +18,8 @@ use Rattle.rpg_meaning.proofs.Following.{Followed, Follows, Same, Selection, fol
 use Rattle.rpg_meaning.proofs.Selecting.{IsNone, control_same, fields_same, match_follows, selection_follows, takes_same}
 use Rattle.rpg_meaning.proofs.Steps.{any_same, details_follow, ending_follows, filling_follows, halting_follows, off_follows, overflows_follow, section_follows, totals_follow}
 use Rattle.rpg_meaning.specs.Cycle as cards
-use Rattle.rpg_meaning.specs.Job.{IsProgramOf, Job, JobState}
+use Rattle.rpg_meaning.proofs.ProgramOf.{IsProgramOf}
+use Rattle.rpg_meaning.specs.Job.{Job, JobState}
 use Rattle.rpg_meaning.specs.Phases.{MeantPhase, any_on_in, by_effect, calculated, ◌andthen◌}
 use Rattle.rpg_meaning.specs.Runs.{AtEndOfJob, AtHalt, MeantCourse, MeantRuns, Then, last_cycle, meant_begun, meant_left, meant_needs, meant_next, with_cycle}
 use Rattle.rpg_effect.specs.Lines.{total_output}

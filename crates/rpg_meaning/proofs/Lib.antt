@@ -7,6 +7,7 @@ pub mod MeantFirst
 pub mod MeantStart
 pub mod MeantTypes
 pub mod OneRun
+pub mod ProgramOf
 pub mod Selecting
 pub mod Starting
 pub mod Steps

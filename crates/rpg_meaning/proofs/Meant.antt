@@ -18,7 +18,7 @@ use Rattle.rpg_meaning.proofs.Cycling.{runs_follow}
 use Rattle.rpg_job.specs.Files.{length_of}
 use Rattle.rpg_meaning.proofs.MeantStart.{agrees_start, start_agrees}
 use Rattle.rpg_meaning.proofs.MeantTypes.{types_are_meant}
-use Rattle.rpg_meaning.specs.Job.{IsProgramOf}
+use Rattle.rpg_meaning.proofs.ProgramOf.{IsProgramOf}
 use Rattle.rpg_meaning.specs.Sources.{RunsAreMeant, job_of}
 use Rattle.rpg_meaning.specs.Start.{IsStart}
 use Rattle.rpg_meaning_calculations.proofs.MeantFiles.{primary_is_meant, secondary_is_meant}

@@ -18,7 +18,8 @@ use Rattle.rpg_text.specs.Texts.{is_character}
 use Rattle.rpg_meaning.proofs.Following.{Alike, Follows, IsFine, IsSettled, Same, Selection, follows_both, follows_does, follows_then}
 use Rattle.rpg_meaning.proofs.Steps.{all_turned, on_agrees}
 use Rattle.rpg_meaning.specs.Cycle as cards
-use Rattle.rpg_meaning.specs.Job.{IsProgramOf, Job, JobState}
+use Rattle.rpg_meaning.proofs.ProgramOf.{IsProgramOf}
+use Rattle.rpg_meaning.specs.Job.{Job, JobState}
 use Rattle.rpg_meaning.specs.Phases.{meant_does, meant_either, turned_all, with_turned, ◌andthen◌}
 use Rattle.rpg_machine.specs.Accepted.{IsOrderly}
 use Rattle.rpg_machine.specs.Config.{Config, charged}

@@ -26,7 +26,8 @@ use Rattle.rpg_cycle_safety.specs.Leading as leading
 use Rattle.rpg_cycle_safety.specs.Waiting.{AreWaiting}
 use Rattle.rpg_meaning.proofs.Following.{Followed, Follows, IsFine, IsSettled, Same, Selection, follows_does, follows_effect, follows_pass, follows_unless}
 use Rattle.rpg_meaning.specs.Cycle as cards
-use Rattle.rpg_meaning.specs.Job.{IsProgramOf, Job, JobState}
+use Rattle.rpg_meaning.proofs.ProgramOf.{IsProgramOf}
+use Rattle.rpg_meaning.specs.Job.{Job, JobState}
 use Rattle.rpg_meaning.specs.Phases.{any_on_in, by_effect, calculated, meant_passes, turned_all, with_turned}
 use Rattle.rpg_machine.specs.Accepted.{IsOrderly}
 use Rattle.rpg_machine.specs.Config.{Config, Output}

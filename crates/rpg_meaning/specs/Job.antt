@@ -1,14 +1,11 @@
 -- What a whole job stands on: what the cards of a source say by names.
-use Rattle.std.specs.Prelude.{◌≡◌, ℕ, List, map, Option}
+use Rattle.std.specs.Prelude.{ℕ, List, Option}
 use Rattle.rpg_cards.specs.Keys.{Key, key_cmp}
 use Rattle.rpg_effect.specs.Input.{TypeRow}
 use Rattle.rpg_effect.specs.World.{World}
 use Rattle.rpg_meaning_calculations.specs.Meaning.{Source}
-use Rattle.rpg_meaning_calculations.specs.Translation.{IsTranslation}
-use Rattle.rpg_object_program.specs.Object.{Object}
 use Rattle.rpg_cycle_records.specs.Earlier.{Selected}
 use Rattle.rpg_cycle_records.specs.Waiting.{Inputs}
-use Rattle.rpg_effect_renaming.specs.Naming.{renamed_type}
 
 -- fields, lines and calculations, the record types, the lengths of the records of both files, 0 where there is no secondary file, and what a
 -- cycle may spend
@@ -25,11 +22,3 @@ pub record JobState : Type 0 where
   pub allowance : ℕ
   pub inputs : Inputs
   pub selected : Option Selected
-
--- the program is what the cards stand for
-pub record IsProgramOf (p : Object) (job : Job) (number : Key → ℕ) : Type 0 where
-  pub calculations : IsTranslation p job.source number
-  pub same_types : p.types ≡ map (renamed_type number) job.types
-  pub same_length : p.record_length ≡ job.record_length
-  pub same_secondary : p.secondary_length ≡ job.secondary_length
-  pub same_allowance : p.allowance ≡ job.allowance
