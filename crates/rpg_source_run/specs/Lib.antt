@@ -1,2 +1,3 @@
+pub mod Law
 pub mod Printing
 pub mod Running

@@ -11,6 +11,7 @@ use Rattle.rpg_files.specs.Counting.{device_of}
 use Rattle.rpg_job.specs.Files.{is_secondary, length_of, the_file}
 use Rattle.rpg_sheet.specs.Sheet.{first_sheet_fault, source}
 use Rattle.rpg_source_run.specs.Printing.{PrintsAsMeant, SendsPartsAsMeant}
+use Rattle.rpg_source_run.specs.declared.source.CompiledSource.{CompiledSource}
 
 -- no card breaks a rule
 pub record IsFaultless (text : List ℕ) : Type 0 where
@@ -31,3 +32,14 @@ module _ {R S P D : Type 0} (remaining : R → Option (List ℕ)) (others : S �
   abbrev pub StopsOn : (text : List ℕ) → ℕ → (date : List ℕ) → Lent R → Lent S → Lent P → Lent D → RunFault → Type 0
   StopsOn text allowance date input secondary print disk e = (day : ℤ) → date_in date ≡ Some day → OfReaders remaining others input secondary
       (SendsPartsAsMeant (cards_in text) allowance day e (contents (device_of print.entry.now)) (contents (device_of print.exit.now)) (stored (device_of disk.entry.now)) (stored (device_of disk.exit.now)))
+
+  -- the same of a compiled source
+  abbrev pub SourcePrints : CompiledSource → (date : List ℕ) → Lent R → Lent S → Lent P → Lent D → Report → Type 0
+  SourcePrints source date input secondary print disk = PrintsOn source.text.items source.allowance date input secondary print disk
+
+  abbrev pub SourceStops : CompiledSource → (date : List ℕ) → Lent R → Lent S → Lent P → Lent D → RunFault → Type 0
+  SourceStops source date input secondary print disk = StopsOn source.text.items source.allowance date input secondary print disk
+
+-- a device is lent back as it was
+abbrev pub IsAsBefore : {T : Type 0} → Lent T → Type 0
+IsAsBefore device = device.exit.now ≡ device.entry.now

@@ -6,7 +6,7 @@ ghost use Rattle.rpg_engine.specs.Devices.{EndsWellOn, ReportsOn, SendsPartsOn, 
 ghost use Rattle.rpg_engine.specs.Refusing.{IsToldOfDate};
 ghost use Rattle.rpg_faults.specs.Source.{cards_in};
 ghost use Rattle.rpg_files.specs.Counting.{faults_of};
-ghost use Rattle.rpg_source_run.specs.Running.{HasNoSecondary, IsFaultless, PrintsOn, StopsOn};
+ghost use Rattle.rpg_source_run.specs.Running.{HasNoSecondary, IsAsBefore, IsFaultless, SourcePrints, SourceStops};
 
 use crate::law::source_to_print;
 use crate::source::CompiledSource;
@@ -37,13 +37,13 @@ pub fn run_source<R1: Read, R2: Read, W1: Write, W2: Write>(
     ensures faultless { IsFaultless source.now.text.items }
     ensures refused { IsToldOfDate result date.now }
     // Then nothing is read or written; and the secondary input is never read if no card names a secondary file.
-    ensures untouched { date_in date.now ≡ None → (input.new ≡ input.old) × (secondary.new ≡ secondary.old) × (print.new ≡ print.old) × (disk.new ≡ disk.old) }
+    ensures untouched { date_in date.now ≡ None → IsAsBefore input × IsAsBefore secondary × IsAsBefore print × IsAsBefore disk }
     ensures alone { HasNoSecondary (cards_in source.now.text.items) → secondary.new ≡ secondary.old }
 
     // Else the report, with its ending and its halt, and all output are those of the cards' run over the inputs' records, which is the only one.
-    ensures prints { IfOk result (PrintsOn R1.remaining R2.remaining W1.contents W2.contents source.now.text.items source.now.allowance date.now input secondary print disk) }
+    ensures prints { IfOk result (SourcePrints R1.remaining R2.remaining W1.contents W2.contents source.now date.now input secondary print disk) }
     // If there is no report, each writer has a first part of the bytes of that run.
-    ensures stops { IfErr result (StopsOn R1.remaining R2.remaining W1.contents W2.contents source.now.text.items source.now.allowance date.now input secondary print disk) }
+    ensures stops { IfErr result (SourceStops R1.remaining R2.remaining W1.contents W2.contents source.now date.now input secondary print disk) }
     // The error says whose fault that was.
     ensures faults { TellsWhoseFault R1.remaining R2.remaining input secondary print disk result }
 
