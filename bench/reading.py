@@ -2,13 +2,16 @@
 """Which definitions a contract rests on: those that its clauses name, and those that these name in turn.
 
 usage, at the top of the repository:
-    bench/reading.py [execute|compile|meaning|shared]
+    bench/reading.py [execute|compile|meaning|operations|shared|bookkeeping]
 
 For each contract it prints its crates in the order of crates.txt, with the files of specs/ that have such definitions (a file after those
 that it uses) and how many definitions and lines these are, without comments and `use` lines. docs/develop/READING.md has the lists.
 
 `shared` prints the definitions that the compiled program is made of: first those that the meaning of cards isn't made of, so that the proof
 compares them with it, and then those that are one text for both. docs/develop/PROOFS.md has the counts.
+
+`bookkeeping` prints for each crate the files of specs/ that no list needs at all, and the definitions that no list needs in its other files:
+these are for the contracts of calls inside the product, and for laws. It isn't among what is printed without a word.
 """
 
 import re
@@ -23,6 +26,7 @@ CONTRACTS = {
     "execute": ("crates/rpg_engine/src/engine.rt", "execute", ()),
     "compile": ("crates/rpg_compile/src/source.rt", "compile", ()),
     "meaning": ("crates/rpg_source_run/src/run.rt", "run_source", ("headline", "report", "early")),
+    "operations": ("crates/rpg_operation_laws/src/laws.rt", "operations_do", ()),
 }
 # the program that is compiled, and what its run is compared with
 PROGRAM = [(("rpg_compile_program", "Program"), "program_of")]
@@ -148,19 +152,35 @@ def lines(definitions):
     return sum(len(module_at(module).own[it]) for module, it in definitions)
 
 
+def all_crates():
+    return [line.partition(":")[0] for line in Path("crates.txt").read_text(encoding="utf-8").splitlines() if line.startswith("rpg")]
+
+
 def printed(name, definitions):
-    crates = [line.partition(":")[0] for line in Path("crates.txt").read_text(encoding="utf-8").splitlines() if line.startswith("rpg")]
     files = {module for module, _ in definitions}
     print(f"{name}: {len(definitions)} definitions in {len(files)} files, {lines(definitions)} lines")
-    for crate in crates:
+    for crate in all_crates():
         if own := [it for it in files if it[0] == crate]:
             here = [it for it in definitions if it[0][0] == crate]
             print(f"| {crate} | {', '.join(it[1] for it in in_order(own))} | {len(here)} | {lines(here)} |")
 
 
+def bookkeeping():
+    needed = set().union(*(reached(roots(*contract)) for contract in CONTRACTS.values()))
+    for crate in all_crates():
+        modules = [(crate, path.stem) for path in sorted(Path("crates", crate, "specs").glob("*.antt")) if path.stem != "Lib"]
+        left = {it: [name for name in module_at(it).own if (it, name) not in needed] for it in modules}
+        apart = [it[1] for it in modules if len(left[it]) == len(module_at(it).own)]
+        among = [f"{it[1]} ({', '.join(left[it])})" for it in modules if left[it] and it[1] not in apart]
+        if apart or among:
+            print(f"| {crate} | {', '.join(apart)} | {', '.join(among)} |")
+
+
 def main():
     for name in sys.argv[1:] or [*CONTRACTS, "shared"]:
-        if name == "shared":
+        if name == "bookkeeping":
+            bookkeeping()
+        elif name == "shared":
             program, meaning = reached(PROGRAM), reached(MEANING)
             printed("compared", program - meaning)
             printed("shared", program & meaning)
