@@ -55,14 +55,15 @@ not_data (spec.Data x) wants = absurd (wants_none wants)
     wants_none : false ≡ true → ⊥
     wants_none e = cc
 
-pub with_taken : (cards before : List SpecCard) (c : SpecCard) (d : Decks) (o : Option (Bor (List SpecCard))) (r : Bor (List SpecCard))
-    → MatchOption o (groups data_role d.rest.now ≡ []) (λ behind. groups data_role d.rest.now ≡ decks.deck behind.now ∷ groups data_role behind.now) → r ≡ unwrap_or o d.rest → wants_data c ≡ true
+pub with_taken : (cards before : List SpecCard) (c : SpecCard) (d : Decks) (o : Option (Bor (List SpecCard))) (empty r : Bor (List SpecCard))
+    → MatchOption o (groups data_role d.rest.now ≡ []) (λ behind. groups data_role d.rest.now ≡ decks.deck behind.now ∷ groups data_role behind.now) → r ≡ unwrap_or o empty → empty.now ≡ [] → wants_data c ≡ true
     → AreDecks cards before d → AreDecks cards (before ++ c ∷ []) (record { rest = r; wanted = d.wanted })
-with_taken cards before c d None r none is wants was = record {
-  rest = ap (λ (b : Bor (List SpecCard)). groups data_role b.now) is ∙ taken_none (groups data_role cards) (groups data_role d.rest.now) (wanted before) (wanted (before ++ c ∷ [])) none was.rest (one_more before c wants);
+with_taken cards before c d None empty r none is nothing wants was = record {
+  rest = ap (λ (b : Bor (List SpecCard)). groups data_role b.now) is ∙ ap (groups data_role) nothing
+      ∙ taken_none (groups data_role cards) [] (wanted before) (wanted (before ++ c ∷ [])) refl (sym none ∙ was.rest) (one_more before c wants);
   to_come = let e = was.to_come in let g = groups-push data_role before c in let z = not_data c.spec wants in omega arith;
 }
-with_taken cards before c d (Some behind) r first is wants was = record {
+with_taken cards before c d (Some behind) empty r first is nothing wants was = record {
   rest = ap (λ (b : Bor (List SpecCard)). groups data_role b.now) is
       ∙ taken (groups data_role cards) (groups data_role d.rest.now) (decks.deck behind.now) (groups data_role behind.now) (wanted before) (wanted (before ++ c ∷ [])) first was.rest (one_more before c wants);
   to_come = let e = was.to_come in let g = groups-push data_role before c in let z = not_data c.spec wants in omega arith;

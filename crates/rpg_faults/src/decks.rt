@@ -36,7 +36,7 @@ impl<'a> Decks<'a> {
     {
         if wants_data(card) {
             Decks {
-                rest: behind_next(self.rest).unwrap_or(self.rest),
+                rest: behind_next(self.rest).unwrap_or(&[]),
                 wanted: self.wanted,
             }
         } else if begins_deck(card) {
