@@ -3,51 +3,33 @@
 use rpg_cli_text::TextWriter;
 use rpg_text::is_blank;
 
-/// What is a byte that begins a text, or a part of one, and how to mend it.
-#[derive(Clone, Copy)]
-struct ByteCause(&'static [u8], &'static str);
-
-/// The first that fits is reported.
-const CAUSES: [ByteCause; 10] = [
-    ByteCause(b"\t", "a tab: `expand` turns tabs into blanks"),
-    ByteCause(
-        b"\x1a",
-        "the end-of-file mark of DOS (1a): `tr -d '\\032'` takes it away",
-    ),
-    ByteCause(
-        b"\r",
-        "a carriage return that no line feed follows: `tr '\\r' '\\n'` where lines end with it, `tr -d '\\r'` where it stands alone",
-    ),
-    ByteCause(
-        b"\xef\xbb\xbf",
-        "a byte order mark (ef bb bf): `tail -c +4` takes it away",
-    ),
-    ByteCause(
-        b"\xff\xfe",
-        "a byte order mark of UTF-16 (ff fe): `iconv -f UTF-16 -t ASCII` converts the file",
-    ),
-    ByteCause(
-        b"\xfe\xff",
-        "a byte order mark of UTF-16 (fe ff): `iconv -f UTF-16 -t ASCII` converts the file",
-    ),
-    ByteCause(b"\xe2\x80\x98", "a typographic quotation mark: write '"),
-    ByteCause(b"\xe2\x80\x99", "a typographic quotation mark: write '"),
-    ByteCause(b"\xe2\x80\x9c", "a typographic quotation mark: write '"),
-    ByteCause(b"\xe2\x80\x9d", "a typographic quotation mark: write '"),
-];
-
 /// How many bytes of a line decide whether it is EBCDIC.
 const LOOKED_AT: usize = 80;
 
 const EBCDIC: &str = "this looks like EBCDIC: docs/OLD_PROGRAMS.md converts it";
 
+/// What a text begins with, and how it is mended.
 fn cause_of(text: &[u8]) -> Option<&'static str> {
-    for ByteCause(begin, cause) in CAUSES {
-        if text.starts_with(begin) {
-            return Some(cause);
+    match text {
+        [b'\t', ..] => Some("a tab: `expand` turns tabs into blanks"),
+        [0x1a, ..] => Some("the end-of-file mark of DOS (1a): `tr -d '\\032'` takes it away"),
+        [b'\r', ..] => Some(
+            "a carriage return that no line feed follows: `tr '\\r' '\\n'` where lines end with it, `tr -d '\\r'` where it stands alone",
+        ),
+        [0xef, 0xbb, 0xbf, ..] => {
+            Some("a byte order mark (ef bb bf): `tail -c +4` takes it away")
         }
+        [0xff, 0xfe, ..] => Some(
+            "a byte order mark of UTF-16 (ff fe): `iconv -f UTF-16 -t ASCII` converts the file",
+        ),
+        [0xfe, 0xff, ..] => Some(
+            "a byte order mark of UTF-16 (fe ff): `iconv -f UTF-16 -t ASCII` converts the file",
+        ),
+        [0xe2, 0x80, 0x98 | 0x99 | 0x9c | 0x9d, ..] => {
+            Some("a typographic quotation mark: write '")
+        }
+        _ => None,
     }
-    None
 }
 
 /// Whether a byte is a blank, a letter or a digit of EBCDIC.
@@ -98,7 +80,7 @@ pub(crate) fn write_long_line(out: &mut TextWriter, line: &[u8]) {
     write!(out, "the line has {count} characters, and a card has 80");
     if looks_like_ebcdic(line) {
         write!(out, "; {EBCDIC}");
-    } else if line.iter().any(|byte| *byte == b'\r') {
+    } else if line.contains(&b'\r') {
         out.write_str(
             "; its lines end with carriage returns alone: `tr '\\r' '\\n'` makes line feeds of them",
         );

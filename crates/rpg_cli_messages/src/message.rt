@@ -30,24 +30,35 @@ pub fn source_messages(
         text: source,
     };
     let mut out = TextWriter::new(alloc);
-    let mut lines = CardLines::of(source);
     let mut slips = Vec::new(alloc);
-    for fault in faults.iter().take(usize::from(most)) {
-        let line = lines.line_of(fault.card);
-        match slip_of(known, line, *fault) {
-            Some(slip) if slips.iter().any(|other| *other == slip) => {
-                write_follower(&mut out, path, line, *fault, slip);
-            }
-            Some(slip) => {
-                slips.push(slip)?;
-                write_message(&mut out, path, line, known, *fault);
-                write_slip_card(&mut out, path, source, slip);
-            }
-            None => write_message(&mut out, path, line, known, *fault),
-        }
-    }
+    let listed = faults.get(..usize::from(most)).unwrap_or(faults);
+    write_messages(&mut out, &mut slips, path, known, listed)?;
     write_count(&mut out, path, faults, most);
     out.finish()
+}
+
+/// Writes faults in the order of their cards, and notes the slips that they come from.
+fn write_messages(
+    out: &mut TextWriter,
+    slips: &mut Vec<Slip>,
+    path: &str,
+    source: SourceCards<'_>,
+    faults: &[CardFault],
+) -> Result<(), AllocError> {
+    let mut lines = CardLines::of(source.text);
+    for fault in faults {
+        let line = lines.line_of(fault.card);
+        match slip_of(source, line, *fault) {
+            Some(slip) if slips.contains(&slip) => write_follower(out, path, line, *fault, slip),
+            Some(slip) => {
+                slips.push(slip)?;
+                write_message(out, path, line, source, *fault);
+                write_slip_card(out, path, source.text, slip);
+            }
+            None => write_message(out, path, line, source, *fault),
+        }
+    }
+    Ok(())
 }
 
 /// One slip of which several faults can come.
@@ -62,10 +73,10 @@ enum Slip {
 fn slip_of(source: SourceCards<'_>, line: &[u8], fault: CardFault) -> Option<Slip> {
     match fault.code {
         SourceCode::Sheet(SheetCode::S4) => {
-            later_card(source.text, fault.card, line).map(|later| Slip::Later(later))
+            Some(Slip::Later(later_card(source.text, fault.card, line)?))
         }
         SourceCode::Sheet(_) => None,
-        SourceCode::Fault(_) => root_of(source, line, fault).map(|root| Slip::Field(root)),
+        SourceCode::Fault(_) => Some(Slip::Field(root_of(source, line, fault)?)),
     }
 }
 
@@ -164,13 +175,6 @@ fn write_message(
     if fault.card > 0 {
         write_picture(out, fault.card, line, columns);
     }
-}
-
-/// Writes a remark on a card as a whole: a line `PATH:CARD: SENTENCE`, and the card, which has that line in the source.
-pub fn write_card_remark(out: &mut TextWriter, path: &str, card: u16, line: &[u8], sentence: &str) {
-    out.write_shown(path.as_bytes());
-    write!(out, ":{card}: {sentence}\n");
-    write_picture(out, card, line, None);
 }
 
 /// Writes where a fault is, and its code: `PATH:CARD:COLUMN: CODE: `. A fault of the source as a whole has card 0, and is at line 1.

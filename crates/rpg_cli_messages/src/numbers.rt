@@ -8,17 +8,26 @@ use rpg_faults::FaultCode;
 use rpg_sheet::{SheetFault, Spec};
 use std::alloc::{AllocError, Global};
 
+/// Appends a card, if it is on a sheet.
+fn put_card(known: &mut Vec<SpecCard>, number: u16, spec: Option<Spec>) -> Result<(), AllocError> {
+    if let Some(spec) = spec {
+        known.push(SpecCard { number, spec })?;
+    }
+    Ok(())
+}
+
 /// The cards that are on a sheet, with their numbers.
 fn numbered(alloc: Global, cards: Vec<Option<Spec>>) -> Result<Vec<SpecCard>, AllocError> {
     let mut known = Vec::new(alloc);
     let mut number = 1u16;
+    let mut ran_out = false;
     for spec in cards {
-        if let Some(spec) = spec {
-            known.push(SpecCard { number, spec })?;
+        if put_card(&mut known, number, spec).is_err() {
+            ran_out = true;
         }
         number = number.saturating_add(1);
     }
-    Ok(known)
+    if ran_out { Err(AllocError) } else { Ok(known) }
 }
 
 /// The cards of a source that are on a sheet, or none where one of them can't be read.

@@ -12,12 +12,25 @@ pub(crate) struct LaterCard {
 }
 
 /// The place of the sheet that a line is on.
-fn sheet_place(line: &[u8]) -> Option<usize> {
-    if character_at(line, 7) == b'*' {
-        return None;
+fn sheet_place(line: &[u8]) -> Option<u8> {
+    match character_at(line, 6) {
+        _ if character_at(line, 7) == b'*' => None,
+        b'H' => Some(0),
+        b'F' => Some(1),
+        b'E' => Some(2),
+        b'I' => Some(3),
+        b'C' => Some(4),
+        b'O' => Some(5),
+        _ => None,
     }
-    let form = character_at(line, 6);
-    b"HFEICO".iter().position(|other| *other == form)
+}
+
+/// Whether a line is of a sheet after the one at a place.
+fn is_later(line: &[u8], own: u8) -> bool {
+    match sheet_place(line) {
+        Some(place) => place > own,
+        None => false,
+    }
 }
 
 /// The first card before one that is of a later sheet.
@@ -29,7 +42,7 @@ pub(crate) fn later_card(text: &[u8], number: u16, line: &[u8]) -> Option<LaterC
             return None;
         }
         let (other, behind) = first_line(rest);
-        if sheet_place(other).is_some_and(|place| place > own) {
+        if is_later(other, own) {
             return Some(LaterCard {
                 card,
                 form: character_at(other, 6),

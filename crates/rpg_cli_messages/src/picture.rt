@@ -7,17 +7,9 @@ use rpg_text::trimmed;
 /// The columns of a card.
 const COLUMNS: usize = 80;
 
-/// A ruler, ten columns by ten: a figure at each tenth, a plus at each fifth.
-const RULER: [&str; 8] = [
-    "....+....1",
-    "....+....2",
-    "....+....3",
-    "....+....4",
-    "....+....5",
-    "....+....6",
-    "....+....7",
-    "....+....8",
-];
+/// A ruler: a figure at each tenth column, a plus at each fifth.
+const RULER: &str =
+    "....+....1....+....2....+....3....+....4....+....5....+....6....+....7....+....8";
 
 /// Shows the columns of a card, and the first one past them.
 pub fn write_first(out: &mut TextWriter, line: &[u8]) {
@@ -33,9 +25,7 @@ pub(crate) fn write_times(out: &mut TextWriter, character: char, count: usize) {
 /// A ruler over tens of columns, enough for the text of a card and for a column.
 fn write_ruler(out: &mut TextWriter, line: &[u8], last: usize) {
     let columns = trimmed(line).len().max(last).min(COLUMNS);
-    for ten in RULER.iter().take((columns + 9) / 10) {
-        out.write_str(ten);
-    }
+    out.write_str(RULER.get(..(columns + 9) / 10 * 10).unwrap_or(RULER));
 }
 
 /// Shows a card below a ruler, and a mark under its columns if there are some.
