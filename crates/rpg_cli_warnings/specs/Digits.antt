@@ -33,10 +33,10 @@ digits_of (defined.Good f) = whole_digits f
 digits_of defined.Missing = None
 digits_of defined.Bad = None
 
-abbrev pub factor_digits : List SpecCard → Option Factor → Option ℕ
+unfoldable pub factor_digits : List SpecCard → Option Factor → Option ℕ
 factor_digits cards f = option_and_then (λ x. digits_of (form_of_factor x cards)) f
 
-abbrev pub result_digits : List SpecCard → Option Entry → Option ℕ
+unfoldable pub result_digits : List SpecCard → Option Entry → Option ℕ
 result_digits cards r = option_and_then (λ (e : Entry). digits_of (form_of_name e.name cards)) r
 
 abbrev pub greater_of : Option ℕ → Option ℕ → Option ℕ
@@ -60,7 +60,7 @@ wanted_by (Some operation.Multiply) a b = product_digits a b
 wanted_by o a b = None
 
 -- the digits of the longest factor
-abbrev pub wanted_digits : List SpecCard → CalculationSpec → Option ℕ
+unfoldable pub wanted_digits : List SpecCard → CalculationSpec → Option ℕ
 wanted_digits cards k = wanted_by k.operation (factor_digits cards k.factor_1) (factor_digits cards k.factor_2)
 
 abbrev pub shorter : Option ℕ → Option ℕ → Option WarningKind
@@ -77,5 +77,5 @@ warned_of c k = record { card = c.number; columns = result_columns; kind = k }
 abbrev pub shorter_by : List SpecCard → CalculationSpec → Option WarningKind
 shorter_by cards k = shorter (wanted_digits cards k) (result_digits cards k.result_field)
 
-abbrev pub shorter_on : List SpecCard → SpecCard → Option Warning
+unfoldable pub shorter_on : List SpecCard → SpecCard → Option Warning
 shorter_on cards c = option_map (warned_of c) (option_and_then (shorter_by cards) (calculation_on c.spec))

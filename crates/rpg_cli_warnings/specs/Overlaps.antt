@@ -21,10 +21,10 @@ abbrev pub placed_by : List SpecCard → SpecCard → OutputField → Option Pla
 placed_by cards c f = if is_always_out f then option_map (placed_with c f) (width cards f) else None
 
 -- the places that a card's field has in each line
-abbrev pub placed_on : List SpecCard → SpecCard → Option Placed
+unfoldable pub placed_on : List SpecCard → SpecCard → Option Placed
 placed_on cards c = option_and_then (placed_by cards c) (output_field_on c.spec)
 
-abbrev pub meet : Placed → Placed → Bool
+unfoldable pub meet : Placed → Placed → Bool
 meet a b = nat_le a.first b.last && nat_le b.first a.last
 
 abbrev pub end_columns : ColumnFault

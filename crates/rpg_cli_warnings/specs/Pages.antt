@@ -24,5 +24,5 @@ abbrev pub page_by : SpecCard → OutputField → Option Warning
 page_by c f = if is_page f.operand && not (is_always_out f) then Some (page_at c) else None
 
 -- PAGE with a condition of its own: here it is left out or put out, and never set back
-abbrev pub page_on : SpecCard → Option Warning
+unfoldable pub page_on : SpecCard → Option Warning
 page_on c = option_and_then (page_by c) (output_field_on c.spec)

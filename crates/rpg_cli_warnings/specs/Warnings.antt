@@ -26,7 +26,7 @@ code kind.PageConditions = W6
 abbrev pub warnings_of : List SpecCard → List Warning
 warnings_of cards = warnings_up_to 129 cards ++ overlaps_from cards [] cards ++ filter_map (shorter_on cards) cards ++ filter_map page_on cards
 
-abbrev pub is_wanted : WarningCodes → Warning → Bool
+unfoldable pub is_wanted : WarningCodes → Warning → Bool
 is_wanted allowed w = not (has allowed (code w.kind))
 
 -- those whose codes aren't allowed

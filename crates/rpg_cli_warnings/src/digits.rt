@@ -35,6 +35,7 @@ fn digits_of(defined: Defined) -> Option<u16>
     }
 }
 
+#[tactic(auto, unfolding(crate::specs::Digits::factor_digits))]
 fn factor_digits(source: &IndexedCards, factor: &Option<Factor>) -> Option<u16>
     ensures { result ≡ digits.factor_digits source.now factor.now }
 {
@@ -44,6 +45,7 @@ fn factor_digits(source: &IndexedCards, factor: &Option<Factor>) -> Option<u16>
     }
 }
 
+#[tactic(auto, unfolding(crate::specs::Digits::result_digits))]
 fn result_digits(source: &IndexedCards, result_field: &Option<Entry>) -> Option<u16>
     ensures { result ≡ digits.result_digits source.now result_field.now }
 {
@@ -84,6 +86,7 @@ fn product_digits(a: Option<u16>, b: Option<u16>) -> Option<u16>
 }
 
 /// How many digits a result should have before its point.
+#[tactic(auto, unfolding(crate::specs::Digits::wanted_digits))]
 fn wanted_digits(source: &IndexedCards, calculation: &CalculationSpec) -> Option<u16>
     ensures { result ≡ digits.wanted_digits source.now calculation.now }
 {
@@ -108,6 +111,7 @@ fn shorter(wanted: Option<u16>, result_field: Option<u16>) -> Option<WarningKind
     }
 }
 
+#[tactic(auto, unfolding(crate::specs::Digits::shorter_on))]
 fn shorter_on(source: &IndexedCards, card: &SpecCard) -> Option<Warning>
     ensures { result ≡ digits.shorter_on source.now card.now }
 {

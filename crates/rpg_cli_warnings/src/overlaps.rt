@@ -31,6 +31,7 @@ pub(crate) fn is_always_out(field: &OutputField) -> bool
     conditions.first.is_none() && conditions.second.is_none() && conditions.third.is_none()
 }
 
+#[tactic(auto, unfolding(crate::specs::Overlaps::placed_on))]
 fn placed_on(source: &IndexedCards, card: &SpecCard) -> Option<Placed>
     ensures { result ≡ overlaps.placed_on source.now card.now }
 {
@@ -47,6 +48,7 @@ fn placed_on(source: &IndexedCards, card: &SpecCard) -> Option<Placed>
     })
 }
 
+#[tactic(auto, unfolding(crate::specs::Overlaps::meet))]
 fn meet(a: &Placed, b: &Placed) -> bool
     ensures { result ≡ overlaps.meet a.now b.now }
 {

@@ -25,6 +25,7 @@ fn is_page(operand: &Option<Entry>) -> bool
     }
 }
 
+#[tactic(auto, unfolding(crate::specs::Pages::page_on))]
 fn page_on(card: &SpecCard) -> Option<Warning>
     ensures { result ≡ pages.page_on card.now }
 {

@@ -2,7 +2,7 @@
 
 ghost use Rattle.std.specs.Prelude.{◌≡◌, IfOk, filter};
 ghost use Rattle.std.specs.List.Sorted.{IsPermutation};
-ghost use Rattle.rpg_cli_warnings.specs.Warnings.{is_wanted, wanted_of, warnings_of};
+ghost use Rattle.rpg_cli_warnings.specs.Warnings as warned;
 
 use crate::digits::put_shorter;
 use crate::indicators::put_indicators;
@@ -18,7 +18,7 @@ const LAST_INDICATOR: u8 = 129;
 
 /// All that a source without a fault is warned of: by indicators, then fields over each other, results that are too short and page numbers by their cards.
 pub fn source_warnings(alloc: Global, source: &IndexedCards) -> Result<Vec<Warning>, AllocError>
-    ensures { IfOk result (λ warnings. warnings.items ≡ warnings_of source.now) }
+    ensures { IfOk result (λ warnings. warnings.items ≡ warned.warnings_of source.now) }
 {
     let mut warnings = Vec::new(alloc);
     let mut placed = Vec::new(alloc);
@@ -29,17 +29,25 @@ pub fn source_warnings(alloc: Global, source: &IndexedCards) -> Result<Vec<Warni
     Ok(warnings)
 }
 
+/// Whether the code of a warning isn't allowed.
+#[tactic(auto, unfolding(crate::specs::Warnings::is_wanted))]
+fn is_wanted(warning: &Warning, allowed: WarningCodes) -> bool
+    ensures { result ≡ warned.is_wanted allowed warning.now }
+{
+    !allowed.has(warning.kind.code())
+}
+
 /// The warnings whose codes aren't allowed.
 fn without(
     alloc: Global,
     warnings: &[Warning],
     allowed: WarningCodes,
 ) -> Result<Vec<Warning>, AllocError>
-    ensures { IfOk result (λ wanted. wanted.items ≡ filter (is_wanted allowed) warnings.now) }
+    ensures { IfOk result (λ wanted. wanted.items ≡ filter (warned.is_wanted allowed) warnings.now) }
 {
     let mut wanted = Vec::new(alloc);
     for warning in warnings {
-        if !allowed.has(warning.kind.code()) {
+        if is_wanted(warning, allowed) {
             wanted.push(*warning)?;
         }
     }
@@ -52,7 +60,7 @@ pub fn wanted_warnings(
     cards: &[SpecCard],
     allowed: WarningCodes,
 ) -> Result<Vec<Warning>, AllocError>
-    ensures { IfOk result (λ warnings. IsPermutation (wanted_of allowed cards.now) warnings.items) }
+    ensures { IfOk result (λ warnings. IsPermutation (warned.wanted_of allowed cards.now) warnings.items) }
 {
     let cards = IndexedCards::new(alloc, cards)?;
     let warnings = source_warnings(alloc, &cards)?;
