@@ -87,12 +87,9 @@ fn write_columns(out: &mut TextWriter, bad: BadColumns, text: &[u8]) {
     write!(out, ": columns {from} to {to} are \"");
     out.write_shown(bad.of(text));
     out.write_str("\", and ");
-    let one = BadColumns {
-        from: column,
-        to: column,
-        ..bad
-    };
-    out.write_shown(one.of(text));
+    if let Some(character) = text.get(column.saturating_sub(1)) {
+        out.write_shown(&[*character]);
+    }
     write!(out, " in column {column} is no digit");
 }
 

@@ -18,10 +18,20 @@ pub(crate) enum BadRecord {
     TooLong(usize),
 }
 
+/// The place of the first byte that is no character.
+fn bad_byte(text: &[u8]) -> Option<usize> {
+    for (place, byte) in text.iter().enumerate() {
+        if !is_character(*byte) {
+            return Some(place);
+        }
+    }
+    None
+}
+
 impl BadRecord {
     /// What is wrong with a record of the primary file, if anything is.
     pub fn of(program: &Verified, text: &[u8]) -> Option<Self> {
-        if let Some(place) = text.iter().position(|byte| !is_character(*byte)) {
+        if let Some(place) = bad_byte(text) {
             return Some(BadRecord::Byte(place));
         }
         let length = usize::from(program.program().rows().input_length(InputFile::Primary));

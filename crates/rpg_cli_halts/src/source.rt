@@ -3,7 +3,7 @@
 use crate::columns::BadInput;
 use crate::halts::HaltedCycle;
 use rpg_cli_messages::{CardLines, write_picture};
-use rpg_cli_show_fields::{SourceRows, name_text, write_card_operand};
+use rpg_cli_show_fields::{SourceRows, write_card_operand};
 use rpg_cli_text::TextWriter;
 use rpg_effect::condition::has_conditions;
 use rpg_effect::halt::Halt;
@@ -132,7 +132,8 @@ fn write_input(out: &mut TextWriter, bad: BadInput, source: HaltedSource<'_>) {
     let card = source.rows.input_card(bad.row, bad.input);
     if let (Some(name), Some(card)) = (name, card) {
         source.write_card(out, card);
-        write!(out, "{} has these columns", name_text(name));
+        out.write_shown(name);
+        out.write_str(" has these columns");
         source.show_card(out, card);
     }
 }
