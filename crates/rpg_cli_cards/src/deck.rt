@@ -14,9 +14,7 @@ const LAST_LINE: u16 = 2000;
 const COLUMNS: usize = 80;
 
 pub(crate) fn write_line(out: &mut TextWriter, line: &[u8]) {
-    for character in trimmed(line) {
-        out.write_char(char::from(*character));
-    }
+    out.write_shown(trimmed(line));
     out.write_char('\n');
 }
 

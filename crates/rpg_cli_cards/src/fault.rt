@@ -3,7 +3,7 @@
 use std::alloc::AllocError;
 
 /// What is wrong with a line of shorthand.
-#[derive(Clone, Copy, PartialEq, Eq)]
+#[derive(Clone, Copy)]
 pub enum LineFault {
     /// A byte is no character.
     NoCharacter,
@@ -39,7 +39,7 @@ impl LineFault {
 }
 
 /// Why shorthand is no deck of cards.
-#[derive(Clone, Copy, PartialEq, Eq)]
+#[derive(Clone, Copy)]
 pub enum ShorthandFault {
     /// Lines are numbered from 1.
     At { line: u16, fault: LineFault },

@@ -34,9 +34,10 @@ pub(crate) fn cut(text: &[u8]) -> (&[u8], &[u8]) {
 
 /// A text without the blanks in front of it.
 pub(crate) fn without_blanks(text: &[u8]) -> &[u8] {
-    let blanks = text
-        .iter()
-        .take_while(|character| **character == b' ')
-        .count();
-    text.get(blanks..).unwrap_or(&[])
+    for (place, character) in text.iter().enumerate() {
+        if *character != b' ' {
+            return text.get(place..).unwrap_or(&[]);
+        }
+    }
+    &[]
 }
