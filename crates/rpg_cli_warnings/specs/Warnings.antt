@@ -26,8 +26,13 @@ code kind.PageConditions = W6
 abbrev pub warnings_of : List SpecCard → List Warning
 warnings_of cards = warnings_up_to 129 cards ++ overlaps_from cards [] cards ++ filter_map (shorter_on cards) cards ++ filter_map page_on cards
 
+-- the code of a warning
+unfoldable pub code_of : Warning → WarningCode
+code_of w = code w.kind
+
+-- a warning whose code isn't allowed
 unfoldable pub is_wanted : WarningCodes → Warning → Bool
-is_wanted allowed w = not (has allowed (code w.kind))
+is_wanted allowed w = not (has allowed (code_of w))
 
 -- those whose codes aren't allowed
 abbrev pub wanted_of : WarningCodes → List SpecCard → List Warning

@@ -10,7 +10,7 @@ use crate::overlaps::put_overlaps;
 use crate::pages::put_pages;
 use crate::warning::Warning;
 use rpg_cards::{IndexedCards, SpecCard};
-use rpg_warning_codes::WarningCodes;
+use rpg_warning_codes::{WarningCode, WarningCodes};
 use std::alloc::{AllocError, Global};
 
 /// The greatest number of an indicator.
@@ -29,12 +29,19 @@ pub fn source_warnings(alloc: Global, source: &IndexedCards) -> Result<Vec<Warni
     Ok(warnings)
 }
 
+#[tactic(auto, unfolding(crate::specs::Warnings::code_of))]
+fn code_of(warning: &Warning) -> WarningCode
+    ensures { result ≡ warned.code_of warning.now }
+{
+    warning.kind.code()
+}
+
 /// Whether the code of a warning isn't allowed.
 #[tactic(auto, unfolding(crate::specs::Warnings::is_wanted))]
 fn is_wanted(warning: &Warning, allowed: WarningCodes) -> bool
     ensures { result ≡ warned.is_wanted allowed warning.now }
 {
-    !allowed.has(warning.kind.code())
+    !allowed.has(code_of(warning))
 }
 
 /// The warnings whose codes aren't allowed.
