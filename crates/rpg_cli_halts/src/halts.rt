@@ -23,10 +23,7 @@ pub struct HaltedCycle {
 impl HaltedCycle {
     /// Whether the text of a record shows what was wrong: columns that were no number when its fields were filled, or its length or a byte of it.
     pub fn is_of_columns(self) -> bool {
-        matches!(
-            (self.halt, self.place),
-            (Halt::BadDigit | Halt::BadRecord, None)
-        )
+        self.place.is_none() && matches!(self.halt, Halt::BadDigit | Halt::BadRecord)
     }
 
     /// The record that the halt is about, where it is known. Each cycle before has taken one; the fields of a record are filled, and detail

@@ -10,7 +10,7 @@ use rpg_effect::halt::Halt;
 use rpg_effect::operation::{Action, Index, Instruction, Operand};
 use rpg_object_program::columns::row_of;
 use rpg_object_program::row::{Line, Rows};
-use rpg_object_program::section::{Place, Section};
+use rpg_object_program::section::Place;
 use rpg_text::trimmed;
 use rpg_verify::Verified;
 
@@ -90,29 +90,29 @@ fn write_made_of(
     }
 }
 
-/// The instructions of a section, and the place of the first.
-fn section_at(rows: &Rows, section: Section) -> Option<(&[Instruction<u16>], usize)> {
-    let detail = rows.detail.len();
-    match section {
-        Section::Detail => Some((&rows.detail, 0)),
-        Section::Total => Some((&rows.total, detail)),
-        Section::Subroutine(number) => {
-            let before = rows.subroutines.get(..usize::from(number))?;
-            let mut first = detail.saturating_add(rows.total.len());
-            for subroutine in before {
-                first = first.saturating_add(subroutine.instructions.len());
-            }
-            let own = rows.subroutines.get(usize::from(number))?;
-            Some((&own.instructions, first))
-        }
+/// The instruction at a place, which is counted through the detail and total calculations and the subroutines.
+fn instruction_at(rows: &Rows, place: Place) -> Option<Instruction<u16>> {
+    let number = usize::from(place.number);
+    if let Some(instruction) = rows.detail.get(number) {
+        return Some(*instruction);
     }
+    let number = number.checked_sub(rows.detail.len())?;
+    if let Some(instruction) = rows.total.get(number) {
+        return Some(*instruction);
+    }
+    in_subroutines(rows, number.checked_sub(rows.total.len())?)
 }
 
-/// The instruction at a place.
-fn instruction_at(rows: &Rows, place: Place) -> Option<Instruction<u16>> {
-    let (code, first) = section_at(rows, place.section)?;
-    code.get(usize::from(place.number).checked_sub(first)?)
-        .copied()
+/// The instruction with this number among those of all subroutines.
+fn in_subroutines(rows: &Rows, number: usize) -> Option<Instruction<u16>> {
+    let mut number = number;
+    for subroutine in &rows.subroutines {
+        if let Some(instruction) = subroutine.instructions.get(number) {
+            return Some(*instruction);
+        }
+        number = number.checked_sub(subroutine.instructions.len())?;
+    }
+    None
 }
 
 /// The card of the instruction that halted.
