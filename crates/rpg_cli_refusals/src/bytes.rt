@@ -1,26 +1,26 @@
 //! Bytes that are no object program.
 
-use crate::counted::write_count;
+use crate::fields::write_count;
 use crate::spot::{Spot, spot_at};
-use rpg_cli_text::TextWriter;
+use rpg_cli_text::{Piece, TextWriter};
 use rpg_object_format::fault::Code;
 use std::alloc::{AllocError, Global};
 
 /// The most bytes of a value that are shown.
 const MOST_SHOWN: usize = 32;
 
-/// What was looked for at an offset.
-fn write_wanted(out: &mut TextWriter, spot: Option<Spot>) {
+/// Writes what was looked for at an offset, and returns how many bytes it has.
+fn write_wanted(out: &mut TextWriter, spot: Option<Spot>) -> usize {
     let Some(spot) = spot else {
         out.write_str("the object program ends there");
-        return;
+        return 1;
     };
     out.write_str(spot.part.name);
     if let Some(row) = spot.row {
-        let table = spot.table;
-        write!(out, " of {table} {row}");
+        out.fill(" of {} {}", &[spot.table.into(), row.into()]);
     }
     out.write_str(" was looked for there");
+    spot.part.bytes
 }
 
 /// So many bytes from an offset on, as far as the file goes.
@@ -64,16 +64,17 @@ pub fn bytes_message(
     code: Code,
 ) -> Result<String, AllocError> {
     let mut out = TextWriter::new(alloc);
-    out.write_shown(path.as_bytes());
-    write!(
-        out,
-        ": {}: {}: offset {offset}: ",
-        code.text(),
-        code.sentence()
+    let path = Piece::Outside(path.as_bytes());
+    out.fill(
+        "{}: {}: {}: offset {}: ",
+        &[
+            path,
+            code.text().into(),
+            code.sentence().into(),
+            offset.into(),
+        ],
     );
-    let spot = spot_at(bytes, offset);
-    write_wanted(&mut out, spot);
-    let count = spot.map_or(1, |spot| spot.part.bytes);
+    let count = write_wanted(&mut out, spot_at(bytes, offset));
     write_found(&mut out, bytes, offset, count);
     out.write_char('\n');
     out.finish()

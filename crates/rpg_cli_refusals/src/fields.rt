@@ -1,25 +1,23 @@
 //! Fields and indicators in words.
 
-use crate::counted::write_count;
-use rpg_cli_text::TextWriter;
-use rpg_effect::condition::Conditions;
+use rpg_cli_text::{TextWriter, indicator_name};
+use rpg_effect::condition::{Condition, Conditions};
 use rpg_effect::form::{Class, FieldForm, Kind, is_array};
 use rpg_effect::operation::{Index, Operand, Shows};
 use rpg_object_program::forms::form_at;
 use rpg_object_program::row::Rows;
 
+/// A count, and what is counted by the name of one or of more.
+pub(crate) fn write_count(out: &mut TextWriter, count: usize, one: &str, more: &str) {
+    let counted = if count == 1 { one } else { more };
+    out.fill("{} {}", &[count.into(), counted.into()]);
+}
+
 /// An indicator by the name that it has on cards.
 pub(crate) fn write_indicator(out: &mut TextWriter, indicator: u8) {
-    match indicator {
-        0..=99 => write!(out, "{indicator:02}"),
-        100..=109 => write!(out, "L{}", indicator - 100),
-        110 => out.write_str("LR"),
-        111 => out.write_str("1P"),
-        112..=118 => write!(out, "O{}", (b'A' + (indicator - 112)) as char),
-        119 => out.write_str("OV"),
-        120..=128 => write!(out, "H{}", indicator - 119),
-        129 => out.write_str("MR"),
-        _ => write!(out, "number {indicator}"),
+    match indicator_name(indicator) {
+        Some(name) => out.write_str(name),
+        None => out.fill("number {}", &[indicator.into()]),
     }
 }
 
@@ -40,12 +38,16 @@ pub(crate) fn write_shows(out: &mut TextWriter, shows: Shows) {
     write_indicator_if_any(out, shows.zero);
 }
 
+fn indicator_in(condition: Option<Condition>) -> Option<u8> {
+    Some(condition?.indicator)
+}
+
 /// The indicators that are asked.
 pub(crate) fn asked(conditions: Conditions) -> Shows {
     Shows {
-        plus: conditions.first.map(|condition| condition.indicator),
-        minus: conditions.second.map(|condition| condition.indicator),
-        zero: conditions.third.map(|condition| condition.indicator),
+        plus: indicator_in(conditions.first),
+        minus: indicator_in(conditions.second),
+        zero: indicator_in(conditions.third),
     }
 }
 
@@ -72,7 +74,7 @@ fn write_decimals(out: &mut TextWriter, length: u16, decimals: u8) {
         (_, 0) => {}
         (1, _) => out.write_str(", a decimal"),
         (_, 1) => out.write_str(", 1 of them a decimal"),
-        _ => write!(out, ", {decimals} of them decimals"),
+        _ => out.fill(", {} of them decimals", &[decimals.into()]),
     }
 }
 
@@ -98,13 +100,13 @@ fn write_numbers(out: &mut TextWriter, rows: &Rows) {
     match rows.fields.len() {
         0 => out.write_str("and there are no fields"),
         1 => out.write_str("and the only field is 1"),
-        count => write!(out, "and fields are 1 to {count}"),
+        count => out.fill("and fields are 1 to {}", &[count.into()]),
     }
 }
 
 /// A field by its number, and what it is.
 pub(crate) fn write_field(out: &mut TextWriter, rows: &Rows, field: u16) {
-    write!(out, "field {field}, ");
+    out.fill("field {}, ", &[field.into()]);
     match form_at(rows, field) {
         Some(form) => write_form(out, form),
         None => write_numbers(out, rows),
@@ -113,7 +115,10 @@ pub(crate) fn write_field(out: &mut TextWriter, rows: &Rows, field: u16) {
 
 /// Whether a field is an array, which has an index.
 fn is_indexed(rows: &Rows, field: u16) -> bool {
-    form_at(rows, field).is_some_and(|form| is_array(form.class))
+    match form_at(rows, field) {
+        Some(form) => is_array(form.class),
+        None => false,
+    }
 }
 
 /// An operand: its field and its index.
@@ -122,7 +127,7 @@ pub(crate) fn write_operand(out: &mut TextWriter, rows: &Rows, operand: Operand<
     match operand.index {
         Index::Blank if is_indexed(rows, operand.field) => out.write_str(", without an index"),
         Index::Blank => {}
-        Index::Literal(index) => write!(out, ", with index {index}"),
+        Index::Literal(index) => out.fill(", with index {}", &[index.into()]),
         Index::Field(field) => {
             out.write_str(", with an index in ");
             write_field(out, rows, field);

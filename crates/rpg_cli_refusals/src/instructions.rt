@@ -66,7 +66,10 @@ pub(crate) fn write_section(out: &mut TextWriter, part: Part<'_>) {
         Section::Detail => out.write_str("the detail calculations"),
         Section::Total => out.write_str("the total calculations"),
         Section::Subroutine(number) => {
-            write!(out, "subroutine {number}, of level {}", part.level);
+            out.fill(
+                "subroutine {}, of level {}",
+                &[number.into(), part.level.into()],
+            );
         }
     }
 }

@@ -2,7 +2,6 @@
 #![tactic(auto)]
 
 mod bytes;
-mod counted;
 mod fields;
 mod instructions;
 mod line_fields;

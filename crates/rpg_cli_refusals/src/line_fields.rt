@@ -5,7 +5,6 @@ use rpg_cli_text::TextWriter;
 use rpg_effect::condition::{Condition, Conditions};
 use rpg_effect::form::{Kind, same_kind};
 use rpg_effect::line::{Editing, LineField, Source};
-use rpg_effect::operation::Operand;
 use rpg_effect::row::{Shape, Use};
 use rpg_object_program::columns::is_good;
 use rpg_object_program::forms::{
@@ -15,22 +14,14 @@ use rpg_object_program::row::Rows;
 use rpg_verify_rules::LineRule;
 
 fn asks_mr(condition: Option<Condition>) -> bool {
-    condition.is_some_and(|condition| condition.indicator == 129)
+    match condition {
+        Some(condition) => condition.indicator == 129,
+        None => false,
+    }
 }
 
 fn any_asks_mr(conditions: Conditions) -> bool {
     asks_mr(conditions.first) || asks_mr(conditions.second) || asks_mr(conditions.third)
-}
-
-fn is_there(rows: &Rows, operand: Operand<u16>) -> bool {
-    is_good(
-        rows,
-        Use {
-            operand,
-            kind: Kind::Number,
-            shape: Shape::One,
-        },
-    )
 }
 
 /// Whether a field is a plain number of 4 digits without decimals, as PAGE is.
@@ -40,22 +31,25 @@ fn is_page(rows: &Rows, field: u16) -> bool {
 }
 
 fn is_put_out(rows: &Rows, field: LineField<u16>) -> bool {
-    is_there(rows, field.operand)
+    let used = Use {
+        operand: field.operand,
+        kind: Kind::Number,
+        shape: Shape::One,
+    };
+    is_good(rows, used)
         && match field.source {
             Source::Value => true,
             Source::Page => is_page(rows, field.operand.field),
         }
 }
 
-fn is_number(rows: &Rows, field: u16) -> bool {
-    same_kind(kind_of(form_at(rows, field)), Kind::Number)
-}
-
 /// Whether editing, if there is some, has a number beside it.
 fn is_edited(rows: &Rows, field: LineField<u16>) -> bool {
     match field.editing {
         Editing::Plain => true,
-        Editing::Code(_) | Editing::Word(_) => is_number(rows, field.operand.field),
+        Editing::Code(_) | Editing::Word(_) => {
+            same_kind(kind_of(form_at(rows, field.operand.field)), Kind::Number)
+        }
     }
 }
 
@@ -105,10 +99,10 @@ fn write_word(out: &mut TextWriter, rows: &Rows, editing: Editing<u16>) {
 
 /// What a field puts out, and where it ends.
 fn write_line_field(out: &mut TextWriter, rows: &Rows, at: usize, field: LineField<u16>) {
-    write!(out, "; its field {at} is ");
+    out.fill("; its field {} is ", &[at.into()]);
     write_operand(out, rows, field.operand);
     write_word(out, rows, field.editing);
-    write!(out, ", and ends at place {}", field.end);
+    out.fill(", and ends at place {}", &[field.end.into()]);
 }
 
 /// The first field of a line that breaks a rule, if the field alone shows it.

@@ -1,6 +1,6 @@
 //! V2 and V8 to V15: what stands in an output line.
 
-use crate::counted::write_count;
+use crate::fields::write_count;
 use crate::line_fields::write_fields;
 use rpg_cli_text::TextWriter;
 use rpg_effect::condition::Condition;
@@ -31,21 +31,31 @@ fn write_spacing(out: &mut TextWriter, spacing: Spacing) {
         skip_before,
         skip_after,
     } = spacing;
-    write!(
-        out,
-        "; it spaces {space_before} before and {space_after} after, and skips to {skip_before} before and {skip_after} after"
+    out.fill(
+        "; it spaces {} before and {} after",
+        &[space_before.into(), space_after.into()],
+    );
+    out.fill(
+        ", and skips to {} before and {} after",
+        &[skip_before.into(), skip_after.into()],
     );
 }
 
 fn asks_mr(conditions: &Vec<Condition>) -> bool {
-    conditions
-        .iter()
-        .any(|condition| condition.indicator == 129)
+    for condition in conditions {
+        if condition.indicator == 129 {
+            return true;
+        }
+    }
+    false
 }
 
 fn write_alternative(out: &mut TextWriter, line: &Line) {
-    if let Some(at) = line.alternatives.iter().position(asks_mr) {
-        write!(out, "; its alternative {at} asks MR");
+    for (at, conditions) in line.alternatives.iter().enumerate() {
+        if asks_mr(conditions) {
+            out.fill("; its alternative {} asks MR", &[at.into()]);
+            return;
+        }
     }
 }
 
@@ -57,7 +67,10 @@ pub(crate) fn write_line(out: &mut TextWriter, rows: &Rows, rule: LineRule, row:
     let length = rows.file_length(line.file);
     let time = time_name(line.time);
     let file = file_name(line.file);
-    write!(out, ": line {row}, {time} {file}, of ");
+    out.fill(
+        ": line {}, {} {}, of ",
+        &[row.into(), time.into(), file.into()],
+    );
     write_count(out, usize::from(length), "place", "places");
     match rule {
         LineRule::V2 => {}

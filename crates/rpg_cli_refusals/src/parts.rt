@@ -10,7 +10,7 @@ pub(crate) struct RowPart {
 }
 
 /// The parts of a row: how many bytes each has, and what it is called.
-type RowParts = &'static [(usize, &'static str)];
+pub(crate) type RowParts = &'static [(usize, &'static str)];
 
 pub(crate) const FIELD: RowParts = &[
     (1, "the kind, 1 or 2,"),
@@ -151,25 +151,17 @@ pub(crate) fn part_at(parts: RowParts, place: usize) -> RowPart {
 }
 
 pub(crate) fn header_part(version: Version, place: usize) -> RowPart {
-    match (version, place) {
-        (_, 0..=29) => part_at(HEADER, place),
-        (Version::One, _) => RowPart {
-            name: ALWAYS_ZERO,
-            bytes: 2,
-        },
-        (Version::Two, _) => RowPart {
-            name: "the length of a secondary record, 0 to 9,999,",
-            bytes: 2,
-        },
-    }
+    let parts = match (version, place) {
+        (_, 0..=29) => HEADER,
+        (Version::One, _) => &[(2, ALWAYS_ZERO)],
+        (Version::Two, _) => &[(2, "the length of a secondary record, 0 to 9,999,")],
+    };
+    part_at(parts, place)
 }
 
 pub(crate) fn type_part(version: Version, place: usize) -> RowPart {
     match (version, place) {
-        (Version::One, 1) => RowPart {
-            name: ALWAYS_ZERO,
-            bytes: 1,
-        },
+        (Version::One, 1) => part_at(&[(1, ALWAYS_ZERO)], place),
         _ => part_at(TYPE, place),
     }
 }

@@ -9,15 +9,13 @@ use rpg_object_program::columns::{columns_of, has_kind, is_good, is_writable_use
 use rpg_object_program::row::Rows;
 use rpg_verify_rules::PlaceRule;
 
-/// An operand of an instruction, by the column that it stands in.
-#[derive(Clone, Copy)]
-struct Column {
-    name: &'static str,
-    used: Use<Operand<u16>>,
-}
+const TARGET: &str = "; it leads to {}; they begin at {} and end at {}";
 
-/// Whether an operand is what a rule asks.
-fn is_kept(rule: PlaceRule, rows: &Rows, used: Use<Operand<u16>>) -> bool {
+/// Whether an operand, if there is one, is what a rule asks.
+fn is_kept(rule: PlaceRule, rows: &Rows, used: Option<Use<Operand<u16>>>) -> bool {
+    let Some(used) = used else {
+        return true;
+    };
     match rule {
         PlaceRule::V16 => is_good(rows, used),
         PlaceRule::V17 => has_kind(rows, used),
@@ -26,45 +24,23 @@ fn is_kept(rule: PlaceRule, rows: &Rows, used: Use<Operand<u16>>) -> bool {
     }
 }
 
-fn broken(
-    rule: PlaceRule,
-    rows: &Rows,
-    name: &'static str,
-    used: Option<Use<Operand<u16>>>,
-) -> Option<Column> {
-    let used = used?;
-    if is_kept(rule, rows, used) {
-        None
-    } else {
-        Some(Column { name, used })
+/// What an operand is, by the name of its column.
+fn write_used(out: &mut TextWriter, rows: &Rows, name: &str, used: Option<Use<Operand<u16>>>) {
+    if let Some(used) = used {
+        out.fill("; {} is ", &[name.into()]);
+        write_operand(out, rows, used.operand);
     }
 }
 
 /// The first operand that isn't what a rule asks. V18 speaks of the result alone.
-fn broken_column(rule: PlaceRule, rows: &Rows, row: Row<Operand<u16>>) -> Option<Column> {
-    let to = broken(rule, rows, "the result", row.result);
-    match rule {
-        PlaceRule::V18 => to,
-        _ => broken(rule, rows, "factor 1", row.factor1)
-            .or(broken(rule, rows, "factor 2", row.factor2))
-            .or(to),
-    }
-}
-
-/// What an operand is.
-fn write_column(out: &mut TextWriter, rows: &Rows, column: Column) {
-    write!(out, "; {} is ", column.name);
-    write_operand(out, rows, column.used.operand);
-}
-
-fn write_used(
-    out: &mut TextWriter,
-    rows: &Rows,
-    name: &'static str,
-    used: Option<Use<Operand<u16>>>,
-) {
-    if let Some(used) = used {
-        write_column(out, rows, Column { name, used });
+fn write_broken(out: &mut TextWriter, rows: &Rows, rule: PlaceRule, row: Row<Operand<u16>>) {
+    let has_factors = !matches!(&rule, PlaceRule::V18);
+    if has_factors && !is_kept(rule, rows, row.factor1) {
+        write_used(out, rows, "factor 1", row.factor1);
+    } else if has_factors && !is_kept(rule, rows, row.factor2) {
+        write_used(out, rows, "factor 2", row.factor2);
+    } else if !is_kept(rule, rows, row.result) {
+        write_used(out, rows, "the result", row.result);
     }
 }
 
@@ -102,10 +78,7 @@ fn write_target(out: &mut TextWriter, part: Part<'_>, instruction: Instruction<u
     };
     let first = part.first;
     let end = part.end();
-    write!(
-        out,
-        "; it leads to {target}; they begin at {first} and end at {end}"
-    );
+    out.fill(TARGET, &[target.into(), first.into(), end.into()]);
 }
 
 /// How many subroutines there are.
@@ -113,7 +86,7 @@ fn write_subroutines(out: &mut TextWriter, rows: &Rows) {
     match rows.subroutines.len() {
         0 => out.write_str("; there is none"),
         1 => out.write_str("; the only one is subroutine 0"),
-        count => write!(out, "; there are {count}, counted from 0"),
+        count => out.fill("; there are {}, counted from 0", &[count.into()]),
     }
 }
 
@@ -122,16 +95,19 @@ fn write_called(out: &mut TextWriter, rows: &Rows, instruction: Instruction<u16>
     let Instruction::Call { subroutine } = instruction else {
         return;
     };
-    write!(out, "; it calls subroutine {subroutine}");
+    out.fill("; it calls subroutine {}", &[subroutine.into()]);
     match rows.subroutines.get(usize::from(subroutine)) {
-        Some(called) => write!(out, ", of level {}", called.level),
+        Some(called) => out.fill(", of level {}", &[called.level.into()]),
         None => write_subroutines(out, rows),
     }
 }
 
 /// Which instruction it is.
 fn write_place(out: &mut TextWriter, part: Part<'_>, place: usize, instruction: Instruction<u16>) {
-    write!(out, "the {} at place {place} of ", instruction.name());
+    out.fill(
+        "the {} at place {} of ",
+        &[instruction.name().into(), place.into()],
+    );
     write_section(out, part);
 }
 
@@ -153,11 +129,7 @@ pub(crate) fn write_instruction(out: &mut TextWriter, rows: &Rows, rule: PlaceRu
     write_place(out, part, place, instruction);
     let row = columns_of(rows, instruction);
     match rule {
-        PlaceRule::V16 | PlaceRule::V17 | PlaceRule::V18 => {
-            if let Some(column) = broken_column(rule, rows, row) {
-                write_column(out, rows, column);
-            }
-        }
+        PlaceRule::V16 | PlaceRule::V17 | PlaceRule::V18 => write_broken(out, rows, rule, row),
         PlaceRule::V19 => write_named(out, rows, instruction),
         PlaceRule::V20 => write_found(out, rows, row),
         PlaceRule::V21 => write_target(out, part, instruction),

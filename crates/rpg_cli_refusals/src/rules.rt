@@ -5,24 +5,22 @@ use crate::lines::write_line;
 use crate::places::write_instruction;
 use crate::subroutines::write_subroutine;
 use crate::types::write_type;
-use rpg_cli_text::TextWriter;
+use rpg_cli_text::{Piece, TextWriter};
 use rpg_object_program::Program;
 use rpg_object_program::row::Rows;
 use rpg_verify_rules::{BrokenRule, Rule};
 use std::alloc::{AllocError, Global};
 
-fn write_overflow(out: &mut TextWriter, rows: &Rows) {
-    if let Some(indicator) = rows.overflow {
-        out.write_str(": it is ");
-        write_indicator(out, indicator);
-    }
-}
-
 /// What stands in the row that breaks a rule.
 fn write_row(out: &mut TextWriter, rows: &Rows, broken: BrokenRule) {
     let BrokenRule { rule, row } = broken;
     match rule {
-        Rule::Overflow => write_overflow(out, rows),
+        Rule::Overflow => {
+            if let Some(indicator) = rows.overflow {
+                out.write_str(": it is ");
+                write_indicator(out, indicator);
+            }
+        }
         Rule::Type(rule) => write_type(out, rows, rule, row),
         Rule::Line(rule) => write_line(out, rows, rule, row),
         Rule::Place(rule) => write_instruction(out, rows, rule, row),
@@ -38,9 +36,12 @@ pub fn rule_message(
     broken: BrokenRule,
 ) -> Result<String, AllocError> {
     let mut out = TextWriter::new(alloc);
-    out.write_shown(path.as_bytes());
-    let number = broken.rule.number();
-    write!(out, ": V{number}: {}", broken.rule.sentence());
+    let path = Piece::Outside(path.as_bytes());
+    let rule = broken.rule;
+    out.fill(
+        "{}: V{}: {}",
+        &[path, rule.number().into(), rule.sentence().into()],
+    );
     write_row(&mut out, program.rows(), broken);
     out.write_char('\n');
     out.finish()

@@ -2,7 +2,7 @@
 
 use crate::parts::{
     ALTERNATIVE, CONTROL_FIELD, FIELD, INPUT_FIELD, INSTRUCTION, LINE, LINE_FIELD, MATCH_FIELD,
-    RECORD_CODE, RowPart, SUBROUTINE, header_part, part_at, type_part,
+    RECORD_CODE, RowPart, RowParts, SUBROUTINE, header_part, part_at, type_part,
 };
 use rpg_object_program::row::Version;
 
@@ -98,30 +98,32 @@ fn in_values(walk: &mut Walk<'_>) -> Option<Spot> {
     None
 }
 
+/// The tables of a record type: where its head counts their rows, the bytes of a row, and its parts. Version 1 has no match fields.
+const TYPE_TABLES: [(usize, usize, RowParts); 4] = [
+    (2, 4, RECORD_CODE),
+    (4, 6, CONTROL_FIELD),
+    (6, 10, INPUT_FIELD),
+    (8, 6, MATCH_FIELD),
+];
+
 fn in_type(walk: &mut Walk<'_>, row: usize) -> Option<Spot> {
-    let table = "record type";
-    let codes = walk.ahead(2);
-    let levels = walk.ahead(4);
-    let inputs = walk.ahead(6);
+    let begin = *walk;
     let version = walk.version();
-    let (head, matches) = match version {
-        Version::One => (8, 0),
-        Version::Two => (10, walk.ahead(8)),
+    let (head, tables) = match version {
+        Version::One => (8, 3),
+        Version::Two => (10, 4),
     };
     if let Some(place) = walk.within(head) {
-        return row_spot(type_part(version, place), table, row);
+        return row_spot(type_part(version, place), "record type", row);
     }
-    if let Some(place) = walk.within(codes.saturating_mul(4)) {
-        return row_spot(part_at(RECORD_CODE, place % 4), table, row);
+    for (count, bytes, parts) in TYPE_TABLES.iter().take(tables) {
+        let rows = begin.ahead(*count);
+        if let Some(place) = walk.within(rows.saturating_mul(*bytes)) {
+            let part = part_at(parts, place.checked_rem(*bytes)?);
+            return row_spot(part, "record type", row);
+        }
     }
-    if let Some(place) = walk.within(levels.saturating_mul(6)) {
-        return row_spot(part_at(CONTROL_FIELD, place % 6), table, row);
-    }
-    if let Some(place) = walk.within(inputs.saturating_mul(10)) {
-        return row_spot(part_at(INPUT_FIELD, place % 10), table, row);
-    }
-    let place = walk.within(matches.saturating_mul(6))?;
-    row_spot(part_at(MATCH_FIELD, place % 6), table, row)
+    None
 }
 
 fn in_types(walk: &mut Walk<'_>) -> Option<Spot> {

@@ -1,20 +1,25 @@
 //! V23 and V24: what stands in a subroutine.
 
-use crate::counted::write_count;
+use crate::fields::write_count;
 use rpg_cli_text::TextWriter;
 use rpg_effect::operation::Instruction;
 use rpg_object_program::row::{Rows, Subroutine};
 use rpg_verify_rules::is_return;
 
+fn first_return(code: &[Instruction<u16>]) -> Option<usize> {
+    for (at, instruction) in code.iter().enumerate() {
+        if is_return(*instruction) {
+            return Some(at);
+        }
+    }
+    None
+}
+
 /// The place of the first RET outside subroutines.
 fn stray_return(rows: &Rows) -> Option<usize> {
-    match rows.detail.iter().position(|i| is_return(*i)) {
+    match first_return(&rows.detail) {
         Some(at) => Some(at),
-        None => rows
-            .total
-            .iter()
-            .position(|i| is_return(*i))
-            .map(|at| at.saturating_add(rows.detail.len())),
+        None => first_return(&rows.total)?.checked_add(rows.detail.len()),
     }
 }
 
@@ -27,9 +32,9 @@ fn write_last(out: &mut TextWriter, subroutine: &Subroutine) {
     out.write_str(", of ");
     let count = subroutine.instructions.len();
     write_count(out, count, "instruction", "instructions");
-    write!(out, ", the last {}", last.name());
+    out.fill(", the last {}", &[last.name().into()]);
     if let Instruction::Return { subroutine } = *last {
-        write!(out, " of subroutine {subroutine}");
+        out.fill(" of subroutine {}", &[subroutine.into()]);
     }
 }
 
@@ -37,9 +42,13 @@ fn write_last(out: &mut TextWriter, subroutine: &Subroutine) {
 pub(crate) fn write_subroutine(out: &mut TextWriter, rows: &Rows, row: usize) {
     let stray = if row == 0 { stray_return(rows) } else { None };
     if let Some(place) = stray {
-        write!(out, ": the RET at place {place} stands in no subroutine");
+        out.fill(
+            ": the RET at place {} stands in no subroutine",
+            &[place.into()],
+        );
     } else if let Some(subroutine) = rows.subroutines.get(row) {
-        write!(out, ": subroutine {row}, of level {}", subroutine.level);
+        let level = subroutine.level;
+        out.fill(": subroutine {}, of level {}", &[row.into(), level.into()]);
         write_last(out, subroutine);
     }
 }

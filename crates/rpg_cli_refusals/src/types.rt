@@ -4,9 +4,19 @@ use crate::fields::{write_field, write_indicator, write_shows};
 use rpg_cli_text::TextWriter;
 use rpg_effect::form::{Kind, is_plain, same_kind};
 use rpg_effect::input::{ControlField, InputField, RecordCode};
-use rpg_object_program::forms::{form_at, kind_of, length_of};
+use rpg_object_program::forms::{form_at, kind_of};
 use rpg_object_program::row::{RecordType, Rows};
 use rpg_verify_rules::TypeRule;
+
+const CONTROL_FIELD: &str = "; its control field {}, of L{}";
+
+const MATCH_FIELD: &str = "; its match field {}, of M{}";
+
+const COLUMNS: &str = ", is columns {} to {}, and a record has {}";
+
+const TWICE_MATCHED: &str = "; its match field {} is of M{}, as one before it is";
+
+const INPUT_FIELD: &str = "; its input field {} is columns {} to {} of a record's {}, for ";
 
 /// Whether columns are those of a record of that length, and not turned round.
 fn are_columns(length: u16, from: u16, to: u16) -> bool {
@@ -17,28 +27,27 @@ fn write_codes(out: &mut TextWriter, length: u16, codes: &[RecordCode]) {
     for (at, code) in codes.iter().enumerate() {
         let position = code.position;
         if !are_columns(length, position, position) {
-            write!(
-                out,
-                "; its code {at} is at position {position}, and a record has {length}"
+            out.fill(
+                "; its code {} is at position {}, and a record has {}",
+                &[at.into(), position.into(), length.into()],
             );
             return;
         }
     }
 }
 
+fn write_level(out: &mut TextWriter, sentence: &str, at: usize, length: u16, field: ControlField) {
+    out.fill(sentence, &[at.into(), field.level.into()]);
+    out.fill(
+        COLUMNS,
+        &[field.from.into(), field.to.into(), length.into()],
+    );
+}
+
 fn write_levels(out: &mut TextWriter, length: u16, levels: &[ControlField]) {
     for (at, field) in levels.iter().enumerate() {
-        let ControlField {
-            level,
-            from,
-            to,
-            ..
-        } = *field;
-        if !are_columns(length, from, to) {
-            write!(
-                out,
-                "; its control field {at}, of L{level}, is columns {from} to {to}, and a record has {length}"
-            );
+        if !are_columns(length, field.from, field.to) {
+            write_level(out, CONTROL_FIELD, at, length, *field);
             return;
         }
     }
@@ -46,29 +55,22 @@ fn write_levels(out: &mut TextWriter, length: u16, levels: &[ControlField]) {
 
 /// Whether a match field before that place is of that level.
 fn stands_before(matches: &[ControlField], at: usize, level: u8) -> bool {
-    matches.iter().take(at).any(|field| field.level == level)
+    for field in matches.iter().take(at) {
+        if field.level == level {
+            return true;
+        }
+    }
+    false
 }
 
 fn write_matches(out: &mut TextWriter, length: u16, matches: &[ControlField]) {
     for (at, field) in matches.iter().enumerate() {
-        let ControlField {
-            level,
-            from,
-            to,
-            ..
-        } = *field;
-        if !are_columns(length, from, to) {
-            write!(
-                out,
-                "; its match field {at}, of M{level}, is columns {from} to {to}, and a record has {length}"
-            );
+        if !are_columns(length, field.from, field.to) {
+            write_level(out, MATCH_FIELD, at, length, *field);
             return;
         }
-        if stands_before(matches, at, level) {
-            write!(
-                out,
-                "; its match field {at} is of M{level}, as one before it is"
-            );
+        if stands_before(matches, at, field.level) {
+            out.fill(TWICE_MATCHED, &[at.into(), field.level.into()]);
             return;
         }
     }
@@ -76,11 +78,12 @@ fn write_matches(out: &mut TextWriter, length: u16, matches: &[ControlField]) {
 
 /// Whether columns of a record of that length fit a plain field.
 fn fits(rows: &Rows, length: u16, input: InputField<u16>) -> bool {
-    let form = form_at(rows, input.field);
-    let is_plain = form.is_some_and(|form| is_plain(form.class));
+    let Some(form) = form_at(rows, input.field) else {
+        return false;
+    };
     are_columns(length, input.from, input.to)
-        && is_plain
-        && u32::from(input.to) + 1 == u32::from(input.from) + u32::from(length_of(form))
+        && is_plain(form.class)
+        && u32::from(input.to) + 1 == u32::from(input.from) + u32::from(form.length)
 }
 
 fn write_inputs(out: &mut TextWriter, rows: &Rows, length: u16, inputs: &[InputField<u16>]) {
@@ -92,9 +95,9 @@ fn write_inputs(out: &mut TextWriter, rows: &Rows, length: u16, inputs: &[InputF
             ..
         } = *input;
         if !fits(rows, length, *input) {
-            write!(
-                out,
-                "; its input field {at} is columns {from} to {to} of a record's {length}, for "
+            out.fill(
+                INPUT_FIELD,
+                &[at.into(), from.into(), to.into(), length.into()],
             );
             write_field(out, rows, field);
             return;
@@ -122,7 +125,7 @@ fn is_marked(rows: &Rows, input: InputField<u16>) -> bool {
 fn write_marks(out: &mut TextWriter, rows: &Rows, inputs: &[InputField<u16>]) {
     for (at, input) in inputs.iter().enumerate() {
         if !is_marked(rows, *input) {
-            write!(out, "; its input field {at} is for ");
+            out.fill("; its input field {} is for ", &[at.into()]);
             write_field(out, rows, input.field);
             out.write_str(", with the indicators");
             write_shows(out, input.shows);
@@ -144,7 +147,7 @@ pub(crate) fn write_type(out: &mut TextWriter, rows: &Rows, rule: TypeRule, row:
         return;
     };
     let length = rows.input_length(record_type.file);
-    write!(out, ": record type {row}");
+    out.fill(": record type {}", &[row.into()]);
     match rule {
         TypeRule::V3 => write_codes(out, length, &record_type.codes),
         TypeRule::V4 => write_turned_on(out, record_type),
