@@ -135,7 +135,7 @@ impl Costs {
     /// Writes the cost of a place in its column, which is blank where it isn't known.
     pub fn write_column(&self, out: &mut TextWriter, place: usize) {
         match self.places.get(place) {
-            Some(cost) => write!(out, "{cost:>6}"),
+            Some(cost) => out.fill("{:>6}", &[(*cost).into()]),
             None => out.write_str("      "),
         }
     }
@@ -189,6 +189,8 @@ fn types_words(version: Version) -> &'static str {
     }
 }
 
+const BOUND: &str = "  accepted, bound {}: a cycle takes at most so many steps, of these\n";
+
 /// Writes the bound and what it is made of.
 pub(crate) fn write_bound(out: &mut TextWriter, verified: &Verified, costs: &Costs) {
     let rows = verified.program().rows();
@@ -204,10 +206,7 @@ pub(crate) fn write_bound(out: &mut TextWriter, verified: &Verified, costs: &Cos
         .saturating_sub(overflow)
         .saturating_sub(detail)
         .saturating_sub(total);
-    write!(
-        out,
-        "  accepted, bound {bound}: a cycle takes at most so many steps, of these\n"
-    );
+    out.fill(BOUND, &[bound.into()]);
     write_part(out, types, types_words(rows.version));
     write_part(
         out,
@@ -226,6 +225,6 @@ pub(crate) fn write_bound(out: &mut TextWriter, verified: &Verified, costs: &Cos
 
 fn write_part(out: &mut TextWriter, steps: u64, words: &str) {
     if steps > 0 {
-        write!(out, "    {steps:>14} {words}\n");
+        out.fill("    {:>14} {}\n", &[steps.into(), words.into()]);
     }
 }

@@ -6,11 +6,19 @@ use rpg_cli_text::TextWriter;
 use rpg_object_program::row::Rows;
 use rpg_verify::BrokenRule;
 
+pub(crate) const VERSION: &str = "object program, version {}, {} bytes\n";
+
+const TABLES: &str =
+    "  tables   fields {}, record types {}, lines {}, subroutines {},\n           instructions {} at detail time, {} at total time\n";
+
+const ALLOWANCE: &str = "  spends   a cycle may take {} branches back and calls\n";
+
 fn write_input(out: &mut TextWriter, rows: &Rows) {
-    write!(out, "  input    records of {} columns", rows.record_length);
+    let length = rows.record_length;
+    out.fill("  input    records of {} columns", &[length.into()]);
     let secondary = rows.secondary_length;
     if secondary > 0 {
-        write!(out, ", of the secondary file {secondary}");
+        out.fill(", of the secondary file {}", &[secondary.into()]);
     }
     out.write_char('\n');
 }
@@ -18,10 +26,11 @@ fn write_input(out: &mut TextWriter, rows: &Rows) {
 fn write_printer(out: &mut TextWriter, rows: &Rows) {
     match rows.printer_length {
         0 => out.write_str("  printer  none"),
-        length => write!(out, "  printer  lines of {length} places"),
+        length => out.fill("  printer  lines of {} places", &[length.into()]),
     }
     if let Some(number) = rows.overflow {
-        write!(out, ", overflow indicator {}", Indicator(number));
+        let name = Indicator(number).name();
+        out.fill(", overflow indicator {}", &[name.into()]);
     }
     out.write_char('\n');
 }
@@ -29,24 +38,21 @@ fn write_printer(out: &mut TextWriter, rows: &Rows) {
 fn write_disk(out: &mut TextWriter, rows: &Rows) {
     match rows.disk_length {
         0 => out.write_str("  disk     none\n"),
-        length => write!(out, "  disk     records of {length} columns\n"),
+        length => out.fill("  disk     records of {} columns\n", &[length.into()]),
     }
 }
 
 fn write_counts(out: &mut TextWriter, rows: &Rows) {
-    let fields = rows.fields.len();
-    let types = rows.types.len();
-    let lines = rows.lines.len();
-    let subroutines = rows.subroutines.len();
-    write!(
-        out,
-        "  tables   fields {fields}, record types {types}, lines {lines}, subroutines {subroutines},\n"
-    );
-    let detail = rows.detail.len();
-    let total = rows.total.len();
-    write!(
-        out,
-        "           instructions {detail} at detail time, {total} at total time\n"
+    out.fill(
+        TABLES,
+        &[
+            rows.fields.len().into(),
+            rows.types.len().into(),
+            rows.lines.len().into(),
+            rows.subroutines.len().into(),
+            rows.detail.len().into(),
+            rows.total.len().into(),
+        ],
     );
 }
 
@@ -57,17 +63,12 @@ pub(crate) fn write_header(
     layout: Layout,
     broken: Option<BrokenRule>,
 ) {
-    let bytes = layout.end;
     let version = rows.version.number();
-    write!(out, "object program, version {version}, {bytes} bytes\n");
+    out.fill(VERSION, &[version.into(), layout.end.into()]);
     write_input(out, rows);
     write_printer(out, rows);
     write_if_broken(out, broken, Table::Header, 0);
     write_disk(out, rows);
     write_counts(out, rows);
-    let allowance = rows.allowance;
-    write!(
-        out,
-        "  spends   a cycle may take {allowance} branches back and calls\n"
-    );
+    out.fill(ALLOWANCE, &[rows.allowance.into()]);
 }

@@ -13,8 +13,16 @@ use rpg_effect::row::Use;
 use rpg_object_program::columns::row_of;
 use rpg_verify::BrokenRule;
 
-/// The column of factor 1 where there is none, with a blank after it.
-const NO_FACTOR: &str = "               ";
+/// Instructions without operands, of which no column of factor 1 has something.
+const EXCEPT: &str = "               EXCPT";
+
+const JUMP: &str = "               JUMP   to {}";
+
+const SKIP: &str = "               SKIP   to {}";
+
+const CALL: &str = "               CALL   subroutine {}";
+
+const RETURN: &str = "               RET    subroutine {}";
 
 fn is_half_adjusted(action: Action<Operand<u16>>) -> bool {
     match action {
@@ -96,7 +104,7 @@ fn write_action(out: &mut TextWriter, named: NamedRows<'_>, action: Action<Opera
     let row = row_of(named.rows, action);
     let result_width = if named.source.is_some() { 14 } else { 8 };
     write_column(out, named, row.factor1, 14);
-    write!(out, "{:<6} ", action.name());
+    out.fill("{:<6} ", &[action.name().into()]);
     write_column(out, named, row.factor2, 14);
     write_column(out, named, row.result, result_width);
     out.write_char(if is_half_adjusted(action) { 'H' } else { ' ' });
@@ -105,34 +113,29 @@ fn write_action(out: &mut TextWriter, named: NamedRows<'_>, action: Action<Opera
 
 /// Writes where a branch leads, and under which conditions.
 fn write_branch(out: &mut TextWriter, is_taken_where: bool, conditions: Conditions, target: u16) {
-    let (word, when) = if is_taken_where {
-        ("JUMP", ", when")
+    let (sentence, when) = if is_taken_where {
+        (JUMP, ", when")
     } else {
-        ("SKIP", ", unless")
+        (SKIP, ", unless")
     };
-    write!(out, "{NO_FACTOR}{word:<6} to {target}");
+    out.fill(sentence, &[target.into()]);
     if has_conditions(conditions) {
         out.write_str(when);
         write_conditions(out, conditions);
     }
 }
 
-/// Writes a call or a return.
-fn write_call(out: &mut TextWriter, word: &str, subroutine: u16) {
-    write!(out, "{NO_FACTOR}{word:<6} subroutine {subroutine}");
-}
-
 fn write_instruction(out: &mut TextWriter, named: NamedRows<'_>, instruction: Instruction<u16>) {
     match instruction {
         Instruction::Act(action) => write_action(out, named, action),
-        Instruction::Except => write!(out, "{NO_FACTOR}EXCPT"),
+        Instruction::Except => out.write_str(EXCEPT),
         Instruction::Branch {
             is_taken_where,
             conditions,
             target,
         } => write_branch(out, is_taken_where, conditions, target),
-        Instruction::Call { subroutine } => write_call(out, "CALL", subroutine),
-        Instruction::Return { subroutine } => write_call(out, "RET", subroutine),
+        Instruction::Call { subroutine } => out.fill(CALL, &[subroutine.into()]),
+        Instruction::Return { subroutine } => out.fill(RETURN, &[subroutine.into()]),
     }
 }
 
@@ -155,7 +158,7 @@ struct Known<'a> {
 fn write_card_column(out: &mut TextWriter, named: NamedRows<'_>, place: usize) {
     if let Some(source) = named.source {
         match source.place_card(place) {
-            Some(card) => write!(out, "  {card:>5}"),
+            Some(card) => out.fill("  {:>5}", &[card.into()]),
             None => out.write_str("       "),
         }
     }
@@ -165,7 +168,7 @@ fn write_card_column(out: &mut TextWriter, named: NamedRows<'_>, place: usize) {
 fn write_section(out: &mut TextWriter, known: Known<'_>, begin: Begin, code: &[Instruction<u16>]) {
     let Begin { mut at, mut place } = begin;
     for instruction in code {
-        write!(out, "{at:>6} {place:>5} ");
+        out.fill("{:>6} {:>5} ", &[at.into(), place.into()]);
         known.costs.write_column(out, place);
         write_card_column(out, known.named, place);
         out.write_str("  ");
@@ -178,17 +181,15 @@ fn write_section(out: &mut TextWriter, known: Known<'_>, begin: Begin, code: &[I
 }
 
 fn write_heading(out: &mut TextWriter, named: NamedRows<'_>, name: &str, count: usize) {
-    if count == 0 {
-        write!(out, "\n        {name}: none\n");
-        return;
-    }
-    let card = if named.source.is_some() {
-        "   card"
-    } else {
-        ""
+    let heading = match named.source {
+        _ if count == 0 => "\n        {}: none\n",
+        Some(_) => "\n    at place   path   card  {}\n",
+        None => "\n    at place   path  {}\n",
     };
-    write!(out, "\n    at place   path{card}  {name}\n");
+    out.fill(heading, &[name.into()]);
 }
+
+const SUBROUTINE_ROW: &str = "{:>6}               subroutine {}, level {}\n";
 
 /// Writes a subroutine's level and its instructions.
 fn write_subroutines(out: &mut TextWriter, known: Known<'_>, begin: Begin) {
@@ -196,10 +197,7 @@ fn write_subroutines(out: &mut TextWriter, known: Known<'_>, begin: Begin) {
     for (number, subroutine) in known.named.rows.subroutines.iter().enumerate() {
         let level = subroutine.level;
         let code = &subroutine.instructions;
-        write!(
-            out,
-            "{at:>6}               subroutine {number}, level {level}\n"
-        );
+        out.fill(SUBROUTINE_ROW, &[at.into(), number.into(), level.into()]);
         write_if_broken(out, known.broken, Table::Subroutines, number);
         at = at.saturating_add(SUBROUTINE);
         write_section(out, known, Begin { at, place }, code);

@@ -38,7 +38,10 @@ fn write_alternatives(out: &mut TextWriter, alternatives: &[Vec<Condition>]) {
 fn write_head(out: &mut TextWriter, at: usize, number: usize, line: &Line, card: Option<u16>) {
     let file = file_word(line.file);
     let time = time_word(line.time);
-    write!(out, "{at:>6}  line {number}: {file}, {time}");
+    out.fill(
+        "{:>6}  line {}: {}, {}",
+        &[at.into(), number.into(), file.into(), time.into()],
+    );
     write_spacing(out, line.spacing);
     write_alternatives(out, &line.alternatives);
     write_card(out, card);
@@ -49,9 +52,8 @@ fn write_editing(out: &mut TextWriter, named: NamedRows<'_>, field: LineField<u1
     match field.editing {
         Editing::Plain => {}
         Editing::Code(code) => {
-            let letter = code_letter(code);
             let filled = fill_words(field.fill);
-            write!(out, " by code {letter}{filled}");
+            out.fill(" by code {}{}", &[code_letter(code).into(), filled.into()]);
         }
         Editing::Word(word) => {
             out.write_str(" by word ");
@@ -67,7 +69,7 @@ fn write_line_field(
     field: LineField<u16>,
     card: Option<u16>,
 ) {
-    write!(out, "{at:>6}    to place {:<4} ", field.end);
+    out.fill("{:>6}    to place {:<4} ", &[at.into(), field.end.into()]);
     if let Source::Page = field.source {
         out.write_str("PAGE, one more in ");
     }
@@ -94,9 +96,7 @@ fn write_line_fields(
 ) {
     let mut at = begin;
     for (i, field) in fields.iter().enumerate() {
-        let card = named
-            .source
-            .and_then(|source| source.line_field_card(number, i));
+        let card = named.line_field_card(number, i);
         write_line_field(out, named, at, *field, card);
         at = at.saturating_add(LINE_FIELD);
     }
@@ -112,7 +112,7 @@ pub(crate) fn write_lines(
     out.write_str("\n    at  LINES\n");
     let mut at = begin;
     for (number, line) in named.rows.lines.iter().enumerate() {
-        let card = named.source.and_then(|source| source.line_card(number));
+        let card = named.line_card(number);
         write_head(out, at, number, line, card);
         let fields = at.saturating_add(line_head_bytes(line));
         write_line_fields(out, named, fields, number, &line.fields);

@@ -1,5 +1,6 @@
 //! What an object program reads, writes and asks for, in words.
 
+use crate::header::VERSION;
 use crate::refusal::write_rule;
 use rpg_cli_show_fields::{Indicator, Layout};
 use rpg_cli_text::TextWriter;
@@ -12,29 +13,35 @@ use std::alloc::{AllocError, Global};
 /// The most bytes that a step puts out.
 const BYTES_OF_STEP: u64 = 10_000;
 
+const INPUT: &str = "  reads    records of {} columns from INPUT\n";
+
+const SECONDARY: &str = "           records of {} columns from --secondary FILE\n";
+
+const PRINT: &str = "  prints   lines of {} places to PRINT\n";
+
+const DISK: &str = "  writes   records of {} columns to --disk FILE\n";
+
+const PAGE: &str = "  page     a full page turns on {}\n";
+
+const STEPS: &str =
+    "  steps    a cycle takes at most {}\n  output   a cycle puts out at most {} bytes, print and disk together\n";
+
 fn write_inputs(out: &mut TextWriter, rows: &Rows) {
-    let length = rows.record_length;
-    write!(out, "  reads    records of {length} columns from INPUT\n");
+    out.fill(INPUT, &[rows.record_length.into()]);
     let secondary = rows.secondary_length;
     if secondary > 0 {
-        write!(
-            out,
-            "           records of {secondary} columns from --secondary FILE\n"
-        );
+        out.fill(SECONDARY, &[secondary.into()]);
     }
 }
 
 fn write_outputs(out: &mut TextWriter, rows: &Rows) {
     match rows.printer_length {
         0 => out.write_str("  prints   nothing\n"),
-        length => write!(out, "  prints   lines of {length} places to PRINT\n"),
+        length => out.fill(PRINT, &[length.into()]),
     }
     match rows.disk_length {
         0 => {}
-        length => write!(
-            out,
-            "  writes   records of {length} columns to --disk FILE\n"
-        ),
+        length => out.fill(DISK, &[length.into()]),
     }
 }
 
@@ -47,7 +54,12 @@ fn write_date(out: &mut TextWriter, uses_date: bool) {
 }
 
 fn has_level(record_type: &RecordType, level: u8) -> bool {
-    record_type.levels.iter().any(|field| field.level == level)
+    for field in &record_type.levels {
+        if field.level == level {
+            return true;
+        }
+    }
+    false
 }
 
 /// Whether a record type has a control field of a level.
@@ -65,7 +77,7 @@ fn write_levels(out: &mut TextWriter, rows: &Rows) {
     let mut is_none = true;
     for level in 1..=9u8 {
         if any_has_level(rows, level) {
-            write!(out, " L{level}");
+            out.fill(" L{}", &[level.into()]);
             is_none = false;
         }
     }
@@ -74,8 +86,7 @@ fn write_levels(out: &mut TextWriter, rows: &Rows) {
 
 fn write_overflow(out: &mut TextWriter, rows: &Rows) {
     if let Some(number) = rows.overflow {
-        let indicator = Indicator(number);
-        write!(out, "  page     a full page turns on {indicator}\n");
+        out.fill(PAGE, &[Indicator(number).name().into()]);
     }
 }
 
@@ -83,8 +94,7 @@ fn write_overflow(out: &mut TextWriter, rows: &Rows) {
 fn write_rows(out: &mut TextWriter, program: &Program) {
     let rows = program.rows();
     let version = rows.version.number();
-    let bytes = Layout::of(rows).end;
-    write!(out, "object program, version {version}, {bytes} bytes\n");
+    out.fill(VERSION, &[version.into(), Layout::of(rows).end.into()]);
     write_inputs(out, rows);
     write_outputs(out, rows);
     write_date(out, uses_date(program));
@@ -113,11 +123,7 @@ fn accepted_overview(alloc: Global, verified: &Verified) -> Result<String, Alloc
     write_rows(&mut out, verified.program());
     let steps = verified.bound();
     let bytes = steps.saturating_mul(BYTES_OF_STEP);
-    write!(out, "  steps    a cycle takes at most {steps}\n");
-    write!(
-        out,
-        "  output   a cycle puts out at most {bytes} bytes, print and disk together\n"
-    );
+    out.fill(STEPS, &[steps.into(), bytes.into()]);
     write_command(&mut out, verified.program());
     out.finish()
 }
@@ -130,7 +136,7 @@ fn refused_overview(
     let mut out = TextWriter::new(alloc);
     write_rows(&mut out, program);
     let row = broken.row;
-    write!(out, "  refused  row {row} by ");
+    out.fill("  refused  row {} by ", &[row.into()]);
     write_rule(&mut out, broken);
     out.finish()
 }

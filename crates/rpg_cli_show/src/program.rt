@@ -55,7 +55,7 @@ fn refused_text(
     let row = broken.row;
     let mut out = TextWriter::new(alloc);
     write_header(&mut out, rows, Layout::of(rows), Some(broken));
-    write!(out, "  refused  row {row} by ");
+    out.fill("  refused  row {} by ", &[row.into()]);
     write_rule(&mut out, broken);
     write_tables(alloc, &mut out, named, &Costs::none(alloc), Some(broken))?;
     out.finish()

@@ -26,8 +26,7 @@ fn speaks_of(rule: Rule, table: Table) -> bool {
 /// Writes the rule and what is wrong.
 pub(crate) fn write_rule(out: &mut TextWriter, broken: BrokenRule) {
     let rule = broken.rule;
-    let sentence = rule.sentence();
-    write!(out, "{rule}: {sentence}\n");
+    out.fill("V{}: {}\n", &[rule.number().into(), rule.sentence().into()]);
 }
 
 /// Tells the rule if this row breaks it.

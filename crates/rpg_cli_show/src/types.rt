@@ -16,53 +16,46 @@ fn write_head(out: &mut TextWriter, number: usize, record_type: &RecordType, car
         InputFile::Primary => "",
         InputFile::Secondary => " of the secondary file",
     };
-    if record_type.codes.is_empty() {
-        write!(out, "type {number}: every record{of_file}");
+    let sentence = if record_type.codes.is_empty() {
+        "type {}: every record{}"
     } else {
-        write!(out, "type {number}: records{of_file} with these codes");
-    }
+        "type {}: records{} with these codes"
+    };
+    out.fill(sentence, &[number.into(), of_file.into()]);
     if let Some(number) = record_type.indicator {
-        write!(out, ", turns on {}", Indicator(number));
+        out.fill(", turns on {}", &[Indicator(number).name().into()]);
     }
     write_card(out, card);
     out.write_char('\n');
 }
 
 fn write_code(out: &mut TextWriter, at: usize, code: RecordCode) {
-    let position = code.position;
-    let is = if code.is_negated { "isn't" } else { "is" };
-    write!(out, "{at:>6}    column {position} {is} ");
+    let sentence = if code.is_negated {
+        "{:>6}    column {} isn't "
+    } else {
+        "{:>6}    column {} is "
+    };
+    out.fill(sentence, &[at.into(), code.position.into()]);
     write_quoted(out, &[code.character]);
     out.write_char('\n');
 }
 
-/// What columns are a part of, with the letter of its levels.
-#[derive(Clone, Copy)]
-enum Joined {
-    Control,
-    Match,
-}
+const CONTROL_FIELD: &str = "{:>6}    columns {}-{} are a control field of L{}";
 
-fn write_level(out: &mut TextWriter, at: usize, joined: Joined, field: ControlField) {
+const MATCH_FIELD: &str = "{:>6}    columns {}-{} are a match field of M{}";
+
+fn write_level(out: &mut TextWriter, at: usize, sentence: &str, field: ControlField) {
     let ControlField {
         level,
         is_numeric,
         from,
         to,
     } = field;
-    let part = match joined {
-        Joined::Control => "control field of L",
-        Joined::Match => "match field of M",
-    };
-    let digits = if is_numeric {
-        ", by its digits alone"
-    } else {
-        ""
-    };
-    write!(
-        out,
-        "{at:>6}    columns {from}-{to} are a {part}{level}{digits}\n"
-    );
+    out.fill(sentence, &[at.into(), from.into(), to.into(), level.into()]);
+    if is_numeric {
+        out.write_str(", by its digits alone");
+    }
+    out.write_char('\n');
 }
 
 fn write_input(
@@ -78,7 +71,10 @@ fn write_input(
         field,
         shows,
     } = input;
-    write!(out, "{at:>6}    columns {from}-{to} to #{field}");
+    out.fill(
+        "{:>6}    columns {}-{} to #{}",
+        &[at.into(), from.into(), to.into(), field.into()],
+    );
     named.write_name(out, field);
     write_shown(out, "plus", shows.plus);
     write_shown(out, "minus", shows.minus);
@@ -100,12 +96,12 @@ fn write_codes(out: &mut TextWriter, begin: usize, codes: &[RecordCode]) -> usiz
 fn write_levels(
     out: &mut TextWriter,
     begin: usize,
-    joined: Joined,
+    sentence: &str,
     fields: &[ControlField],
 ) -> usize {
     let mut at = begin;
     for field in fields {
-        write_level(out, at, joined, *field);
+        write_level(out, at, sentence, *field);
         at = at.saturating_add(LEVEL);
     }
     at
@@ -120,7 +116,7 @@ fn write_inputs(
 ) -> usize {
     let mut at = begin;
     for (i, input) in inputs.iter().enumerate() {
-        let card = named.source.and_then(|source| source.input_card(number, i));
+        let card = named.input_card(number, i);
         write_input(out, named, at, *input, card);
         at = at.saturating_add(INPUT);
     }
@@ -134,14 +130,14 @@ fn write_type(
     number: usize,
     record_type: &RecordType,
 ) {
-    let card = named.source.and_then(|source| source.type_card(number));
-    write!(out, "{at:>6}  ");
+    let card = named.type_card(number);
+    out.fill("{:>6}  ", &[at.into()]);
     write_head(out, number, record_type, card);
     let codes = at.saturating_add(type_head_bytes(named.rows.version));
     let levels = write_codes(out, codes, &record_type.codes);
-    let inputs = write_levels(out, levels, Joined::Control, &record_type.levels);
+    let inputs = write_levels(out, levels, CONTROL_FIELD, &record_type.levels);
     let matches = write_inputs(out, named, inputs, number, &record_type.inputs);
-    let _ = write_levels(out, matches, Joined::Match, &record_type.matches);
+    let _ = write_levels(out, matches, MATCH_FIELD, &record_type.matches);
 }
 
 /// Writes all record types, of which the first begins at a byte.

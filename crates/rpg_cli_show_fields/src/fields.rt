@@ -3,7 +3,7 @@
 use crate::layout::{field_place, value_bytes};
 use crate::named::NamedRows;
 use crate::uses::Uses;
-use crate::values::{is_empty, write_value};
+use crate::values::{are_empty, is_empty, write_value};
 use crate::{SourceRows, name_text};
 use rpg_cli_text::TextWriter;
 use rpg_effect::form::{Class, FieldForm, Kind};
@@ -13,25 +13,24 @@ use std::alloc::{AllocError, Global};
 
 /// Writes how long the values are: digits and decimals of a number, characters of a text.
 fn write_kind(out: &mut TextWriter, form: FieldForm) {
-    let length = form.length;
-    let decimals = form.decimals;
-    match form.kind {
-        Kind::Number => write!(out, "number {length}.{decimals}"),
-        Kind::Text => write!(out, "text {length}"),
-    }
+    let sentence = match form.kind {
+        Kind::Number => "number {}.{}",
+        Kind::Text => "text {}",
+    };
+    out.fill(sentence, &[form.length.into(), form.decimals.into()]);
 }
 
 /// Writes a field's form.
 pub fn write_form(out: &mut TextWriter, form: FieldForm) {
-    let entries = form.entries;
     let is_series = matches!(&form.class, Class::Array | Class::Table);
-    match form.class {
-        Class::Plain => {}
-        Class::Date => out.write_str("date "),
-        Class::Constant => out.write_str("constant "),
-        Class::Array => write!(out, "array of {entries}: "),
-        Class::Table => write!(out, "table of {entries}: "),
-    }
+    let sentence = match form.class {
+        Class::Plain => "",
+        Class::Date => "date ",
+        Class::Constant => "constant ",
+        Class::Array => "array of {}: ",
+        Class::Table => "table of {}: ",
+    };
+    out.fill(sentence, &[form.entries.into()]);
     write_kind(out, form);
     if is_series && form.is_ascending {
         out.write_str(", ascending");
@@ -40,7 +39,7 @@ pub fn write_form(out: &mut TextWriter, form: FieldForm) {
 
 /// Whether entries that aren't all empty are told apart from their field.
 fn are_listed(values: &[Value]) -> bool {
-    values.len() > 1 && !values.iter().all(is_empty)
+    values.len() > 1 && !are_empty(values)
 }
 
 /// Writes what a field has at the start of a job.
@@ -61,10 +60,10 @@ fn write_first(out: &mut TextWriter, form: FieldForm, values: &[Value]) {
 
 /// Writes the columns of a field's name and of the card that defines it first, which are blank of a field that has none.
 fn write_name_columns(out: &mut TextWriter, source: &SourceRows, number: u16) {
-    let name = source.field_name(number).map_or("", name_text);
-    write!(out, "{name:<6}  ");
+    let name = source.field_name(number).unwrap_or(&[]);
+    out.fill("{:<6}  ", &[name_text(name).into()]);
     match source.field_card(number) {
-        Some(card) => write!(out, "{card:>4}  "),
+        Some(card) => out.fill("{:>4}  ", &[card.into()]),
         None => out.write_str("      "),
     }
 }
@@ -73,7 +72,7 @@ fn write_name_columns(out: &mut TextWriter, source: &SourceRows, number: u16) {
 fn write_row(out: &mut TextWriter, named: NamedRows<'_>, index: usize, form: FieldForm) {
     let at = field_place(index);
     let number = index.saturating_add(1);
-    write!(out, "{at:>6}  #{number:<5}");
+    out.fill("{:>6}  #{:<5}", &[at.into(), number.into()]);
     if let Some(source) = named.source {
         write_name_columns(out, source, field_number(index));
     }
@@ -125,7 +124,7 @@ fn write_entries(out: &mut TextWriter, begin: usize, form: FieldForm, values: &[
     let mut at = begin;
     for (i, value) in values.iter().enumerate() {
         let entry = i.saturating_add(1);
-        write!(out, "{at:>6}    {entry:>4}  ");
+        out.fill("{:>6}    {:>4}  ", &[at.into(), entry.into()]);
         write_value(out, value, form.decimals);
         out.write_char('\n');
         at = at.saturating_add(usize::from(form.length));
@@ -142,7 +141,7 @@ fn write_listed(
     let values = values_at(named.rows, index);
     if are_listed(values) {
         let number = index.saturating_add(1);
-        write!(out, "\n    at  FIRST VALUES OF #{number}");
+        out.fill("\n    at  FIRST VALUES OF #{}", &[number.into()]);
         named.write_name(out, field_number(index));
         out.write_char('\n');
         write_entries(out, at, form, values);

@@ -1,50 +1,27 @@
 //! The cards of record types and of lines.
 
 use rpg_cards::SpecCard;
-use rpg_sheet_specs::{InputSpec, OutputSpec};
 use std::alloc::{AllocError, Global};
 
-/// The card that a record type or a line begins with, and the cards of its fields.
-#[derive(Drop)]
-struct HeadedCards {
-    head: u16,
-    fields: Vec<u16>,
-}
-
-/// What a card is to the groups of its sheet.
+/// The card that a record type or a line begins with, and how many cards of fields stand before its own.
 #[derive(Clone, Copy)]
-enum Role {
-    Heading,
-    Field,
-    Other,
+struct Head {
+    card: u16,
+    fields_before: usize,
 }
 
-/// Groups, in the order of their rows.
+/// Record types or lines with their fields, in the order of their rows.
 #[derive(Drop)]
 pub(crate) struct CardGroups {
-    groups: Vec<HeadedCards>,
-}
-
-fn input_role(card: &SpecCard) -> Role {
-    match card.input() {
-        Some(InputSpec::Type(_)) => Role::Heading,
-        Some(InputSpec::Field(_)) => Role::Field,
-        Some(InputSpec::And(_)) | None => Role::Other,
-    }
-}
-
-fn output_role(card: &SpecCard) -> Role {
-    match card.output() {
-        Some(OutputSpec::Record(_)) => Role::Heading,
-        Some(OutputSpec::Field(_)) => Role::Field,
-        Some(OutputSpec::And(_) | OutputSpec::Or(_)) | None => Role::Other,
-    }
+    heads: Vec<Head>,
+    fields: Vec<u16>,
 }
 
 impl CardGroups {
     fn new(alloc: Global) -> Self {
         CardGroups {
-            groups: Vec::new(alloc),
+            heads: Vec::new(alloc),
+            fields: Vec::new(alloc),
         }
     }
 
@@ -52,7 +29,11 @@ impl CardGroups {
     pub fn of_types(alloc: Global, cards: &[SpecCard]) -> Result<Self, AllocError> {
         let mut types = CardGroups::new(alloc);
         for card in cards {
-            types.note(alloc, card.number, input_role(card))?;
+            if card.record_type().is_some() {
+                types.begin(card.number)?;
+            } else if card.input_field().is_some() {
+                types.fields.push(card.number)?;
+            }
         }
         Ok(types)
     }
@@ -61,34 +42,33 @@ impl CardGroups {
     pub fn of_lines(alloc: Global, cards: &[SpecCard]) -> Result<Self, AllocError> {
         let mut lines = CardGroups::new(alloc);
         for card in cards {
-            lines.note(alloc, card.number, output_role(card))?;
+            if card.line().is_some() {
+                lines.begin(card.number)?;
+            } else if card.output_field().is_some() {
+                lines.fields.push(card.number)?;
+            }
         }
         Ok(lines)
     }
 
-    fn note(&mut self, alloc: Global, card: u16, role: Role) -> Result<(), AllocError> {
-        match role {
-            Role::Heading => self.groups.push(HeadedCards {
-                head: card,
-                fields: Vec::new(alloc),
+    fn begin(&mut self, card: u16) -> Result<(), AllocError> {
+        let fields_before = self.fields.len();
+        Ok(
+            self.heads.push(Head {
+                card,
+                fields_before,
             })?,
-            Role::Field => {
-                if let Some(group) = self.groups.last_mut() {
-                    group.fields.push(card)?;
-                }
-            }
-            Role::Other => {}
-        }
-        Ok(())
+        )
     }
 
     /// The card of a row, the first being 0.
     pub fn head(&self, row: usize) -> Option<u16> {
-        Some(self.groups.get(row)?.head)
+        Some(self.heads.get(row)?.card)
     }
 
-    /// The card of a field of a row, both counted from 0.
+    /// The card of a field of a row, both counted from 0. The row has that field.
     pub fn field(&self, row: usize, field: usize) -> Option<u16> {
-        self.groups.get(row)?.fields.get(field).copied()
+        let place = self.heads.get(row)?.fields_before.checked_add(field)?;
+        self.fields.get(place).copied()
     }
 }

@@ -14,15 +14,38 @@ pub struct NamedRows<'a> {
 impl NamedRows<'_> {
     /// Writes the name of a field with a blank before it; nothing where it has none or the source isn't known.
     pub fn write_name(self, out: &mut TextWriter, field: u16) {
-        if let Some(name) = self.source.and_then(|source| source.field_name(field)) {
-            write!(out, " {}", name_text(name));
+        let Some(source) = self.source else {
+            return;
+        };
+        if let Some(name) = source.field_name(field) {
+            out.fill(" {}", &[name_text(name).into()]);
         }
+    }
+
+    /// The card that a record type begins with, where it is known.
+    pub fn type_card(self, row: usize) -> Option<u16> {
+        self.source?.type_card(row)
+    }
+
+    /// The card of an input field of a record type, where it is known.
+    pub fn input_card(self, row: usize, input: usize) -> Option<u16> {
+        self.source?.input_card(row, input)
+    }
+
+    /// The card that a line begins with, where it is known.
+    pub fn line_card(self, row: usize) -> Option<u16> {
+        self.source?.line_card(row)
+    }
+
+    /// The card of a field of a line, where it is known.
+    pub fn line_field_card(self, row: usize, field: usize) -> Option<u16> {
+        self.source?.line_field_card(row, field)
     }
 }
 
 /// Writes the card of a row behind it, where it is known.
 pub fn write_card(out: &mut TextWriter, card: Option<u16>) {
     if let Some(card) = card {
-        write!(out, " (card {card})");
+        out.fill(" (card {})", &[card.into()]);
     }
 }

@@ -26,7 +26,7 @@ fn constant_of(rows: &Rows, field: u16) -> Option<(&Value, u8)> {
 fn write_name(out: &mut TextWriter, source: &SourceRows, field: u16) {
     match source.field_name(field) {
         Some(name) => out.write_str(name_text(name)),
-        None => write!(out, "#{field}"),
+        None => out.fill("#{}", &[field.into()]),
     }
 }
 
@@ -43,15 +43,15 @@ pub fn write_field(out: &mut TextWriter, named: NamedRows<'_>, field: u16) {
 pub fn write_operand(out: &mut TextWriter, named: NamedRows<'_>, operand: Operand<u16>) {
     let NamedRows { rows, source } = named;
     let constant = constant_of(rows, operand.field);
-    write!(out, "#{}", operand.field);
+    out.fill("#{}", &[operand.field.into()]);
     if let Some((value, decimals)) = constant {
         out.write_char('=');
         write_value(out, value, decimals);
     }
     match operand.index {
         Index::Blank => {}
-        Index::Literal(entry) => write!(out, ",{entry}"),
-        Index::Field(field) => write!(out, ",#{field}"),
+        Index::Literal(entry) => out.fill(",{}", &[entry.into()]),
+        Index::Field(field) => out.fill(",#{}", &[field.into()]),
     }
     if let (Some(source), None) = (source, constant) {
         out.write_char(' ');
@@ -72,7 +72,7 @@ pub fn write_card_operand(
     }
     match operand.index {
         Index::Blank => {}
-        Index::Literal(entry) => write!(out, ",{entry}"),
+        Index::Literal(entry) => out.fill(",{}", &[entry.into()]),
         Index::Field(field) => {
             out.write_char(',');
             write_name(out, source, field);

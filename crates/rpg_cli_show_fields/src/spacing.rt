@@ -12,17 +12,17 @@ pub fn time_word(time: Time) -> &'static str {
     }
 }
 
-/// Writes a movement of the form, unless it is none.
-fn write_movement(out: &mut TextWriter, words: &str, lines: u8, when: &str) {
+/// Writes a movement of the form by so many lines, unless it is none.
+fn write_movement(out: &mut TextWriter, sentence: &str, lines: u8) {
     if lines > 0 {
-        write!(out, ", {words} {lines} {when}");
+        out.fill(sentence, &[lines.into()]);
     }
 }
 
 /// Writes how the form moves before and behind a line.
 pub fn write_spacing(out: &mut TextWriter, spacing: Spacing) {
-    write_movement(out, "skip to", spacing.skip_before, "before");
-    write_movement(out, "space", spacing.space_before, "before");
-    write_movement(out, "skip to", spacing.skip_after, "after");
-    write_movement(out, "space", spacing.space_after, "after");
+    write_movement(out, ", skip to {} before", spacing.skip_before);
+    write_movement(out, ", space {} before", spacing.space_before);
+    write_movement(out, ", skip to {} after", spacing.skip_after);
+    write_movement(out, ", space {} after", spacing.space_after);
 }

@@ -11,131 +11,94 @@ use std::alloc::{AllocError, Global};
 /// The most numbers that are told of a kind of use.
 const MOST_TOLD: usize = 12;
 
-/// The numbers of rows that use a field in the same way, each once.
-#[derive(Drop)]
-struct Numbers {
-    list: Vec<usize>,
+/// A way of using a field: a type reads columns into it, an instruction sets it or only uses it, a line has it.
+#[derive(Clone, Copy, PartialEq, Eq)]
+enum By {
+    Type,
+    Setting,
+    Using,
+    Line,
 }
 
-impl Numbers {
-    fn new(alloc: Global) -> Self {
-        Numbers {
-            list: Vec::new(alloc),
-        }
-    }
-
-    /// Notes a number, which isn't less than those before it.
-    fn note(&mut self, number: usize) -> Result<(), AllocError> {
-        if self.list.last().copied() == Some(number) {
-            return Ok(());
-        }
-        Ok(self.list.push(number)?)
-    }
-
-    /// Writes the numbers behind a word, if there are some.
-    fn write(&self, out: &mut TextWriter, word: &str) {
-        if self.list.is_empty() {
-            return;
-        }
-        write!(out, "  {word}");
-        for number in self.list.iter().take(MOST_TOLD) {
-            write!(out, " {number}");
-        }
-        let more = self.list.len().saturating_sub(MOST_TOLD);
-        if more > 0 {
-            write!(out, " and {more} more");
-        }
-    }
+/// A row that uses a field.
+#[derive(Clone, Copy)]
+struct RowUse {
+    by: By,
+    row: usize,
 }
 
-/// What uses a field: types that read columns into it, instructions that set it or only use it, and lines.
-#[derive(Drop)]
-struct FieldUses {
-    types: Numbers,
-    setting: Numbers,
-    using: Numbers,
-    lines: Numbers,
-}
-
-/// What uses each field, in the order of their numbers.
+/// What uses each field, in the order of their numbers. What an instruction uses is noted before what it sets.
 #[derive(Drop)]
 pub(crate) struct Uses {
-    fields: Vec<FieldUses>,
-}
-
-/// A way of using a field, with the row that does it.
-#[derive(Clone, Copy)]
-enum By {
-    Type(usize),
-    Setting(usize),
-    Using(usize),
-    Line(usize),
-}
-
-impl FieldUses {
-    fn new(alloc: Global) -> Self {
-        FieldUses {
-            types: Numbers::new(alloc),
-            setting: Numbers::new(alloc),
-            using: Numbers::new(alloc),
-            lines: Numbers::new(alloc),
-        }
-    }
-
-    fn note(&mut self, by: By) -> Result<(), AllocError> {
-        match by {
-            By::Type(number) => self.types.note(number),
-            By::Setting(number) => self.setting.note(number),
-            By::Using(number) => self.using.note(number),
-            By::Line(number) => self.lines.note(number),
-        }
-    }
-
-    fn write(&self, out: &mut TextWriter) {
-        self.types.write(out, "from type");
-        self.setting.write(out, "set at");
-        self.using.write(out, "used at");
-        self.lines.write(out, "on line");
-    }
+    fields: Vec<Vec<RowUse>>,
 }
 
 fn unused(alloc: Global, count: usize) -> Result<Uses, AllocError> {
     let mut fields = Vec::with_capacity(alloc, count)?;
     for _ in 0..count {
-        fields.push(FieldUses::new(alloc))?;
+        fields.push(Vec::new(alloc))?;
     }
     Ok(Uses { fields })
 }
 
-impl Uses {
-    /// Notes a use of a field, if there is one of that number.
-    fn note(&mut self, field: u16, by: By) -> Result<(), AllocError> {
-        if field == 0 {
-            return Ok(());
-        }
-        match self.fields.get_mut(usize::from(field).saturating_sub(1)) {
-            Some(uses) => uses.note(by),
-            None => Ok(()),
+/// Whether the row of a use is noted already as the last one.
+fn ends_with(uses: &[RowUse], used: RowUse) -> bool {
+    match uses.last() {
+        Some(last) => last.by == used.by && last.row == used.row,
+        None => false,
+    }
+}
+
+/// Writes the rows that use a field in one way behind the words for it, if there are some.
+fn write_rows(out: &mut TextWriter, words: &str, uses: &[RowUse], by: By) {
+    let mut count: usize = 0;
+    for used in uses {
+        if used.by == by {
+            if count == 0 {
+                out.write_str(words);
+            }
+            if count < MOST_TOLD {
+                out.fill(" {}", &[used.row.into()]);
+            }
+            count = count.saturating_add(1);
         }
     }
+    if count > MOST_TOLD {
+        out.fill(" and {} more", &[(count - MOST_TOLD).into()]);
+    }
+}
 
-    fn note_index(&mut self, index: Index<u16>, by: By) -> Result<(), AllocError> {
+impl Uses {
+    /// Notes a use of a field, if there is one of that number.
+    fn note(&mut self, field: u16, used: RowUse) -> Result<(), AllocError> {
+        let Some(index) = usize::from(field).checked_sub(1) else {
+            return Ok(());
+        };
+        if let Some(uses) = self.fields.get_mut(index) {
+            if !ends_with(uses, used) {
+                uses.push(used)?;
+            }
+        }
+        Ok(())
+    }
+
+    fn note_index(&mut self, index: Index<u16>, used: RowUse) -> Result<(), AllocError> {
         match index {
-            Index::Field(field) => self.note(field, by),
+            Index::Field(field) => self.note(field, used),
             Index::Blank | Index::Literal(_) => Ok(()),
         }
     }
 
     fn note_types(&mut self, types: &[RecordType]) -> Result<(), AllocError> {
-        for (number, record_type) in types.iter().enumerate() {
-            self.note_inputs(number, record_type)?;
+        for (row, record_type) in types.iter().enumerate() {
+            self.note_inputs(row, record_type)?;
         }
         Ok(())
     }
 
-    fn note_inputs(&mut self, number: usize, record_type: &RecordType) -> Result<(), AllocError> {
+    fn note_inputs(&mut self, row: usize, record_type: &RecordType) -> Result<(), AllocError> {
         for input in &record_type.inputs {
-            self.note(input.field, By::Type(number))?;
+            self.note(input.field, RowUse { by: By::Type, row })?;
         }
         Ok(())
     }
@@ -154,26 +117,28 @@ impl Uses {
         Ok(())
     }
 
-    fn note_line_field(&mut self, number: usize, field: LineField<u16>) -> Result<(), AllocError> {
-        self.note(field.operand.field, By::Line(number))?;
-        self.note_index(field.operand.index, By::Line(number))?;
+    fn note_line_field(&mut self, row: usize, field: LineField<u16>) -> Result<(), AllocError> {
+        let used = RowUse { by: By::Line, row };
+        self.note(field.operand.field, used)?;
+        self.note_index(field.operand.index, used)?;
         match field.editing {
-            Editing::Word(word) => self.note(word, By::Line(number)),
+            Editing::Word(word) => self.note(word, used),
             Editing::Plain | Editing::Code(_) => Ok(()),
         }
     }
 
+    /// Notes an operand of an instruction, if there is one. It uses its index, however it uses the field.
     fn note_used(
         &mut self,
-        place: usize,
+        row: usize,
         used: Option<Use<Operand<u16>>>,
         by: By,
     ) -> Result<(), AllocError> {
-        let Some(used) = used else {
+        let Some(Use { operand, .. }) = used else {
             return Ok(());
         };
-        self.note(used.operand.field, by)?;
-        self.note_index(used.operand.index, By::Using(place))
+        self.note_index(operand.index, RowUse { by: By::Using, row })?;
+        self.note(operand.field, RowUse { by, row })
     }
 
     fn note_instruction(
@@ -183,9 +148,9 @@ impl Uses {
         instruction: Instruction<u16>,
     ) -> Result<(), AllocError> {
         let row = columns_of(rows, instruction);
-        self.note_used(place, row.factor1, By::Using(place))?;
-        self.note_used(place, row.factor2, By::Using(place))?;
-        self.note_used(place, row.result, By::Setting(place))
+        self.note_used(place, row.factor1, By::Using)?;
+        self.note_used(place, row.factor2, By::Using)?;
+        self.note_used(place, row.result, By::Setting)
     }
 
     /// Notes what the instructions of a section use, and answers the place behind it.
@@ -224,7 +189,10 @@ impl Uses {
     /// Writes what uses the field of an index, the first being 0.
     pub fn write(&self, out: &mut TextWriter, index: usize) {
         if let Some(uses) = self.fields.get(index) {
-            uses.write(out);
+            write_rows(out, "  from type", uses, By::Type);
+            write_rows(out, "  set at", uses, By::Setting);
+            write_rows(out, "  used at", uses, By::Using);
+            write_rows(out, "  on line", uses, By::Line);
         }
     }
 }
