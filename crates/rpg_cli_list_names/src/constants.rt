@@ -72,7 +72,7 @@ impl Constants {
 }
 
 fn write_constant(out: &mut TextWriter, field: u16, constant: &Constant) {
-    write!(out, "  #{field:<4}  ");
+    out.fill("  #{:<4}  ", &[field.into()]);
     let end = out.len().saturating_add(FORM);
     write_form(out, constant.form());
     out.pad_to(end);

@@ -12,6 +12,9 @@ use std::alloc::{AllocError, Global};
 /// One more than the greatest number of an indicator.
 const BEHIND: usize = 130;
 
+const HEADING: &str =
+    "\nINDICATORS\n      turned on by                              asked on (N: where it's off)\n";
+
 /// How wide the column of what turns an indicator on is.
 const TURNED: usize = 40;
 
@@ -179,14 +182,13 @@ impl Indicators {
 
     /// Writes rows for each indicator that a card names.
     pub fn write(&self, out: &mut TextWriter) {
-        if !self.uses.iter().any(|uses| uses.are_some()) {
-            return;
-        }
-        out.write_str(
-            "\nINDICATORS\n      turned on by                              asked on (N: where it's off)\n",
-        );
+        let mut is_first = true;
         for (number, uses) in self.uses.iter().enumerate() {
             if uses.are_some() {
+                if is_first {
+                    out.write_str(HEADING);
+                }
+                is_first = false;
                 uses.write(out, number);
             }
         }
@@ -234,8 +236,7 @@ impl IndicatorUses {
 fn write_name(out: &mut TextWriter, number: usize, line: usize) {
     match u8::try_from(number) {
         Ok(number) if line == 0 => {
-            let indicator = Indicator(number);
-            write!(out, "  {indicator}  ");
+            out.fill("  {}  ", &[Indicator(number).name().into()]);
         }
         _ => out.write_str("      "),
     }
@@ -249,7 +250,6 @@ fn write_asked(out: &mut TextWriter, line: usize, asked: &[Asking]) {
     let before = line.saturating_mul(ON_A_LINE);
     for asking in asked.iter().skip(before).take(ON_A_LINE) {
         let Asking { card, is_negated } = *asking;
-        let off = if is_negated { "N" } else { "" };
-        write!(out, "{card}{off} ");
+        out.fill(if is_negated { "{}N " } else { "{} " }, &[card.into()]);
     }
 }

@@ -85,7 +85,7 @@ impl LabelUses {
         } else {
             "label"
         };
-        write!(out, "  {name:<6}  {is:<10}  ");
+        out.fill("  {:<6}  {:<10}  ", &[name.into(), is.into()]);
         self.given.write_column(out);
         out.write_str("  ");
         self.wanted.write_lines(out, WANTED);

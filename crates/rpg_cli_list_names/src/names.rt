@@ -52,9 +52,9 @@ impl NameUses {
 
     fn write(&self, out: &mut TextWriter, defined: Defined) {
         let name = name_text(self.name.as_slice());
-        write!(out, "  {name:<6}  ");
+        out.fill("  {:<6}  ", &[name.into()]);
         match self.field {
-            Some(number) => write!(out, "#{number:<4}  "),
+            Some(number) => out.fill("#{:<4}  ", &[number.into()]),
             None => out.write_str("-      "),
         }
         write_defined(out, defined);
@@ -190,12 +190,7 @@ impl Names {
         let (first, second) = factor_columns(calculation.operation);
         self.note_entry(card, entry_in(first, &calculation.factor_1), By::Using)?;
         self.note_entry(card, entry_in(second, &calculation.factor_2), By::Using)?;
-        let by = if calculation.length.is_some() {
-            By::Defining
-        } else {
-            By::Setting
-        };
-        self.note_entry(card, calculation.result_field.as_ref(), by)
+        self.note_entry(card, calculation.result_field.as_ref(), By::Setting)
     }
 
     fn note_entry(&mut self, card: u16, entry: Option<&Entry>, by: By) -> Result<(), AllocError> {

@@ -37,7 +37,7 @@ impl Numbers {
             if i > 0 {
                 out.write_char(' ');
             }
-            write!(out, "{number}");
+            out.fill("{}", &[(*number).into()]);
         }
         self.write_none(out);
         out.pad_to(end);
@@ -52,7 +52,7 @@ impl Numbers {
             } else if i > 0 {
                 out.write_char(' ');
             }
-            write!(out, "{number}");
+            out.fill("{}", &[(*number).into()]);
         }
         self.write_none(out);
     }

@@ -48,19 +48,13 @@ fn compared_word(outcome: Outcome) -> &'static str {
 }
 
 fn write_result(out: &mut TextWriter, operation: Operation, outcome: Outcome) {
-    let name = letters(operation);
-    match operation {
-        Operation::SetOn => out.write_str(name),
-        Operation::SetOff => write!(out, "off by {name}"),
-        Operation::Compare | Operation::LookUp => {
-            let word = compared_word(outcome);
-            write!(out, "{name} {word}");
-        }
-        _ => {
-            let word = outcome_word(outcome);
-            write!(out, "{name} {word}");
-        }
-    }
+    let (sentence, word) = match operation {
+        Operation::SetOn => ("{}", ""),
+        Operation::SetOff => ("off by {}", ""),
+        Operation::Compare | Operation::LookUp => ("{} {}", compared_word(outcome)),
+        _ => ("{} {}", outcome_word(outcome)),
+    };
+    out.fill(sentence, &[letters(operation).into(), word.into()]);
 }
 
 fn write_by(out: &mut TextWriter, by: By) {
@@ -69,10 +63,7 @@ fn write_by(out: &mut TextWriter, by: By) {
         By::ControlField => out.write_str("control field"),
         By::FullPage => out.write_str("a full page"),
         By::Field(Outcome::Zero) => out.write_str("input field zero or blank"),
-        By::Field(outcome) => {
-            let word = outcome_word(outcome);
-            write!(out, "input field {word}");
-        }
+        By::Field(outcome) => out.fill("input field {}", &[outcome_word(outcome).into()]),
         By::Result(None, outcome) => out.write_str(outcome_word(outcome)),
         By::Result(Some(operation), outcome) => write_result(out, operation, outcome),
     }
@@ -81,8 +72,7 @@ fn write_by(out: &mut TextWriter, by: By) {
 impl Turning {
     pub fn write(self, out: &mut TextWriter) {
         write_by(out, self.by);
-        let card = self.card;
-        write!(out, ", card {card}");
+        out.fill(", card {}", &[self.card.into()]);
     }
 }
 
