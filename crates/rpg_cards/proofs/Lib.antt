@@ -1,3 +1,4 @@
+mod FileLemmas
 pub mod GroupEnds
 pub mod GroupLemmas
 pub mod IndexLemmas

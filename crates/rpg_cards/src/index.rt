@@ -45,8 +45,8 @@ pub struct IndexedCards<'a> {
     cards: &'a [SpecCard],
     names: IndexMap<Name, FirstDefinition>,
     constants: IndexMap<Constant, usize>,
-    /// Those from the first F card on.
-    from_files: &'a [SpecCard],
+    /// Those from the first F card to the last.
+    around_files: &'a [SpecCard],
     has_match_field: bool,
 }
 
@@ -61,7 +61,7 @@ impl<'a> Model for IndexedCards<'a> {
 
     ghost view = { λ i. i.cards.now };
 
-    ghost invariant = { λ i. IsIndex i.names.entries i.constants.entries i.cards.now × HasSameFiles i.from_files.now i.cards.now × (i.has_match_field ≡ levels.has_match_field i.cards.now) };
+    ghost invariant = { λ i. IsIndex i.names.entries i.constants.entries i.cards.now × HasSameFiles i.around_files.now i.cards.now × (i.has_match_field ≡ levels.has_match_field i.cards.now) };
 }
 
 impl<'a> IndexedCards<'a> {
@@ -83,7 +83,7 @@ impl<'a> IndexedCards<'a> {
             cards,
             names,
             constants,
-            from_files: from_first_file(cards),
+            around_files: up_to_last_file(from_first_file(cards)),
             has_match_field: has_match_field(cards),
         })
     }
@@ -170,14 +170,14 @@ impl<'a> IndexedCards<'a> {
     pub fn file_named(&self, name: &Word<8>) -> Option<&'a FileSpec>
         ensures { option_copied result ≡ files.file_named name.now self.now }
     {
-        file_named(name, self.from_files)
+        file_named(name, self.around_files)
     }
 
     /// The first file that serves as that.
     pub fn file_for(&self, file_use: FileUse) -> Option<&'a FileSpec>
         ensures { option_copied result ≡ files.file_for file_use self.now }
     {
-        file_for(file_use, self.from_files)
+        file_for(file_use, self.around_files)
     }
 
     /// Whether a field has a match level, so that conditions may ask for MR.
@@ -198,6 +198,20 @@ fn from_first_file(cards: &[SpecCard]) -> &[SpecCard]
             return rest;
         }
         rest = behind;
+    }
+    rest
+}
+
+/// These cards without those after the last F card.
+fn up_to_last_file(cards: &[SpecCard]) -> &[SpecCard]
+    ensures { HasSameFiles result.now cards.now }
+{
+    let mut rest = cards;
+    while let Some((card, front)) = rest.split_last() {
+        if card.file().is_some() {
+            return rest;
+        }
+        rest = front;
     }
     rest
 }
