@@ -5,6 +5,7 @@ use Rattle.std.specs.List.{list_all}
 use Rattle.std.specs.Option.{option_map, option_to_list}
 use Rattle.rpg_cards.specs.Keys.{Key, Named}
 use Rattle.rpg_decimal_words.specs.Fraction.{over}
+use Rattle.rpg_decimal_words.specs.Move.{number_moved_left, number_moved_right, overlay_left, overlay_right}
 use Rattle.rpg_effect.specs.Act.{act, field_of_entry, found_shown, looked_up, moved, position_fault, remainder_after, store, stored_value, with_found, order_by}
 use Rattle.rpg_effect.specs.Effect.{Leaves, or_halt, unless_wrong}
 use Rattle.rpg_effect.specs.Ends.{Storage}
@@ -23,7 +24,7 @@ use Rattle.rpg_effect.specs.declared.operation.Operand.{Operand}
 use Rattle.rpg_effect.specs.declared.operation.Side.{Side}
 use Rattle.rpg_effect.specs.declared.operation.Side.TheVariants.{Left, Right}
 use Rattle.rpg_machine.specs.Config.{no_output}
-use Rattle.rpg_meaning_calculations.specs.Meaning.{MeantOutcome, Source, State, Stops, affected}
+use Rattle.rpg_meaning_calculations.specs.Meaning.{MeantOutcome, On, Source, State, Stops, affected, at_next, come_back}
 use Rattle.rpg_operation_laws.specs.Operations as is
 use Rattle.rpg_operation_laws.specs.Operations.{Compares, Computes, Divides, Leads, LooksUp, Moves, Sets}
 use Rattle.rpg_sheet_specs.specs.declared.calculation.CalculationSpec.{CalculationSpec}
@@ -100,7 +101,7 @@ module _ (source : Source) (s : State) (k : CalculationSpec) where
   move_by : Side → Kind → Kind → MeantOutcome
   move_by side from to = affected s (moved source.forms from to side s.world (is.entry source s k (is.factor_2 source s k)) (is.entry source s k (is.result source s k)))
 
-  pub moves : Moves source s k op.Move Right
+  pub moves : Moves source s k op.Move overlay_right number_moved_right
   unfolding operate resolved has_entries row_of position_of entry_of act moved move_by
   moves = record {
     number_to_number = λ a b. acted _ _ ∙ both _ _ _ _ _ (two_last (names (is.factor_2 source s k)) (names (is.result source s k))) (ap (λ f. move_by Right f (is.kind source s k (is.result source s k))) a ∙ ap (move_by Right kinds.Number) b);
@@ -109,7 +110,7 @@ module _ (source : Source) (s : State) (k : CalculationSpec) where
     text_to_number = λ a b. acted _ _ ∙ both _ _ _ _ _ (two_last (names (is.factor_2 source s k)) (names (is.result source s k))) (ap (λ f. move_by Right f (is.kind source s k (is.result source s k))) a ∙ ap (move_by Right kinds.Text) b ∙ spelled _);
   }
 
-  pub moves_left : Moves source s k op.MoveLeft Left
+  pub moves_left : Moves source s k op.MoveLeft overlay_left number_moved_left
   unfolding operate resolved has_entries row_of position_of entry_of act moved move_by
   moves_left = record {
     number_to_number = λ a b. acted _ _ ∙ both _ _ _ _ _ (two_last (names (is.factor_2 source s k)) (names (is.result source s k))) (ap (λ f. move_by Left f (is.kind source s k (is.result source s k))) a ∙ ap (move_by Left kinds.Number) b);
@@ -164,4 +165,20 @@ module _ (source : Source) (s : State) (k : CalculationSpec) where
   looks_up = record {
     nothing = λ e. acted _ _ ∙ both _ _ _ _ _ (sought (is.table source s k)) (ap (λ t. look t (is.found source s k)) (table_is k.result_field) ∙ ap (look (is.table_field source s k)) e);
     something = λ f e h. acted _ _ ∙ both _ _ _ _ _ (sought (is.table source s k)) (ap (λ t. look t (is.found source s k)) (table_is k.result_field) ∙ ap (look (is.table_field source s k)) e ∙ ap (look_with f) h);
+  }
+
+  -- ---- GOTO, EXSR, ENDSR
+
+  gone : Bool → MeantOutcome
+  gone earlier = if earlier then is.spends_one source s k (at_next s (is.target source s k)) else On (at_next s (is.target source s k)) no_output
+
+  pub leads : Leads source s k
+  unfolding gone
+  leads = record {
+    go_to_later = ap gone;
+    go_to_earlier = ap gone;
+    call = refl;
+    end_subroutine = λ part next others e. ap (come_back s) e;
+    label = refl;
+    begin_subroutine = refl;
   }

@@ -9,7 +9,7 @@ use Rattle.rpg_cards.specs.Keys.{Key, Named, key_cmp}
 use Rattle.rpg_decimal_words.specs.Fraction.{Fraction, fraction_cmp, minus, over, plus, times}
 use Rattle.rpg_decimal_words.specs.Order.{text_cmp}
 use Rattle.rpg_decimal_words.specs.Zoned.{number_in, zoned_text}
-use Rattle.rpg_effect.specs.Act.{exact, found_in, index_set, left_over, made_current, made_current_if_any, number_over, store, stored_value, summed, text_over}
+use Rattle.rpg_effect.specs.Act.{exact, found_in, index_set, left_over, made_current, made_current_if_any, store, stored_value, summed}
 use Rattle.rpg_effect.specs.Entries.{entry_of, position_of}
 use Rattle.rpg_effect.specs.Forms.{decimals_of, kind_of, length_of}
 use Rattle.rpg_effect.specs.Lines.{exception_output}
@@ -24,7 +24,6 @@ use Rattle.rpg_effect.specs.declared.operation.Entry.{Entry}
 use Rattle.rpg_effect.specs.declared.operation.Found.{Found}
 use Rattle.rpg_effect.specs.declared.operation.Operand.{Operand}
 use Rattle.rpg_effect.specs.declared.operation.Shows.{Shows}
-use Rattle.rpg_effect.specs.declared.operation.Side.{Side}
 use Rattle.rpg_job.specs.Calculations.{done_by, entry_named, first_or, meant_factor, meant_indicators, meant_name, meant_result}
 use Rattle.rpg_machine.specs.Config.{no_output}
 use Rattle.rpg_meaning_calculations.specs.Meaning.{MeantOutcome, On, Source, State, Stops, affected, at_next, deed_done}
@@ -208,19 +207,19 @@ module _ (source : Source) (s : State) (k : CalculationSpec) where
 
   -- ---- MOVE and MOVEL
 
-  -- the places of factor 2 over those of the result field, from the right or from the left
-  pub record Moves (operation : Operation) (side : Side) : Type 0 where
+  -- the places of factor 2 over those of the result field: how places come over others, and how the digits of one number over those of another
+  pub record Moves (operation : Operation) (places : List ℕ → List ℕ → List ℕ) (number_places : ℕ → ℤ → ℕ → ℤ → ℤ) : Type 0 where
     -- number to number: digits over digits
     pub number_to_number : kind factor_2 ≡ kinds.Number → kind result ≡ kinds.Number → does operation
-        ≡ assigning (takes (Number (number_over side (len factor_2) (digits factor_2) (len result) (digits result))))
+        ≡ assigning (takes (Number (number_places (len factor_2) (digits factor_2) (len result) (digits result))))
     -- number to text: the characters that are written for it
     pub number_to_text : kind factor_2 ≡ kinds.Number → kind result ≡ kinds.Text → does operation
-        ≡ assigning (takes (Text (text_over side (zoned_text (len factor_2) (digits factor_2)) (characters result))))
+        ≡ assigning (takes (Text (places (zoned_text (len factor_2) (digits factor_2)) (characters result))))
     pub text_to_text : kind factor_2 ≡ kinds.Text → kind result ≡ kinds.Text → does operation
-        ≡ assigning (takes (Text (text_over side (characters factor_2) (characters result))))
+        ≡ assigning (takes (Text (places (characters factor_2) (characters result))))
     -- text to number: over the characters that are written for the number; halt 4 if they then spell no number
     pub text_to_number : kind factor_2 ≡ kinds.Text → kind result ≡ kinds.Number → does operation
-        ≡ assigning (takes_number (number_in (text_over side (characters factor_2) (zoned_text (len result) (digits result)))))
+        ≡ assigning (takes_number (number_in (places (characters factor_2) (zoned_text (len result) (digits result)))))
 
   -- ---- COMP and LOKUP
 

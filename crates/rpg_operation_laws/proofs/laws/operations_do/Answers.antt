@@ -1,4 +1,4 @@
-use Rattle.rpg_operation_laws.proofs.Done.{compares, computes, divides, looks_up, moves, moves_left, sets}
+use Rattle.rpg_operation_laws.proofs.Done.{compares, computes, divides, leads, looks_up, moves, moves_left, sets}
 use Rattle.rpg_operation_laws.proofs.laws.operations_do.Goals as goal
 
 pub returns-clause-computes : goal.returns-clause-computes
@@ -21,3 +21,6 @@ returns-clause-sets c = sets
 
 pub returns-clause-looks_up : goal.returns-clause-looks_up
 returns-clause-looks_up c = looks_up
+
+pub returns-clause-leads : goal.returns-clause-leads
+returns-clause-leads c = leads
