@@ -1,5 +1,5 @@
 #!/usr/bin/env python3
-"""Tries wrong definitions of the compiler's: the proofs that its definitions agree with those of rpg_job must refuse each of them.
+"""Tries wrong definitions: the proofs that the compiler's agree with those of rpg_job, and the equations of operations, must refuse each of them.
 
 usage, at the top of the repository, once the libraries stand (`rt ci`, or `rt all check`):
     bench/wrong_definitions.py [--libraries FOLDER ..] [NAME..]
@@ -25,11 +25,15 @@ from pathlib import Path
 KIT = Path(os.path.realpath(shutil.which("rt") or sys.exit("there is no rt"))).parent.parent
 CRATE = "wrong_definitions"
 # the definitions that may be wrong, or that stand above such a one
-DEFINITIONS = ("rpg_cards", "rpg_symbols", "rpg_faults_flow", "rpg_faults_operands", "rpg_faults_limits", "rpg_faults", "rpg_compile_program", "rpg_job")
+DEFINITIONS = (
+    "rpg_effect", "rpg_cards", "rpg_symbols", "rpg_faults_flow", "rpg_faults_operands", "rpg_faults_limits", "rpg_faults", "rpg_compile_program",
+    "rpg_job", "rpg_meaning_calculations", "rpg_operation_laws",
+)
 # the proofs of the equations
 EQUATIONS = {
     "rpg_meaning_calculations": ("MeantLists", "MeantFiles", "MeantConstants", "MeantSections", "MeantForms", "MeantLines", "MeantCalculations"),
     "rpg_meaning": ("MeantTypes", "MeantFirst"),
+    "rpg_operation_laws": ("Done",),
 }
 USE = re.compile(r"^(?:pub )?use Rattle\.(\w+)\.(specs|proofs)\.(\w+)\b", re.M)
 
