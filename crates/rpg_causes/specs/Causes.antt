@@ -1,0 +1,85 @@
+-- The cause of a fault: the rule of its code, with what breaks it.
+use Rattle.std.specs.Prelude.{ℕ, ◌==◌, List, [], ◌∷◌, ◌++◌, Bool, false, Option, None, Some, is_some, option_and_then, if◌then◌else◌}
+use Rattle.std.specs.Option.{option_map, option_or}
+use Rattle.rpg_cards.specs.Cards.{output_record_on}
+use Rattle.rpg_cards.specs.declared.spec_card.SpecCard.{SpecCard}
+use Rattle.rpg_causes.specs.Columns as columns
+use Rattle.rpg_causes.specs.Files.{file_cause}
+use Rattle.rpg_causes.specs.Indexes.{index_cause}
+use Rattle.rpg_causes.specs.Indicators as indicators
+use Rattle.rpg_causes.specs.Labels.{nowhere, target, twice}
+use Rattle.rpg_causes.specs.Movements.{moved_disk}
+use Rattle.rpg_causes.specs.Names.{redefined, undefined_name}
+use Rattle.rpg_causes.specs.Operands.{operand_cause}
+use Rattle.rpg_causes.specs.Places.{is_outside, outside}
+use Rattle.rpg_causes.specs.Rounding.{rounding_cause}
+use Rattle.rpg_causes.specs.Sizes.{size_cause}
+use Rattle.rpg_causes.specs.declared.cause.Cause.{Cause}
+use Rattle.rpg_causes.specs.declared.cause.Cause.TheVariants as cause
+use Rattle.rpg_faults.specs.Rules.{rule}
+use Rattle.rpg_faults_flow.specs.Kept.{Rule}
+use Rattle.rpg_faults.specs.declared.code.FaultCode.{FaultCode}
+use Rattle.rpg_faults.specs.declared.code.FaultCode.TheVariants.{F1, F2, F3, F4, F5, F6, F7, F8, F9, F10, F11, F12, F13, F14, F15, F16, F17, F18}
+
+-- F9: of a calculation, of operands and output fields, or of a line
+abbrev pub missing : List SpecCard → SpecCard → List SpecCard → Option Cause
+missing before c after =
+    option_or (option_map cause.Column (columns.on_calculation before c after))
+    (option_or (option_map cause.Column (columns.on_operands (before ++ c ∷ after) c after))
+    (option_map cause.Movement (option_and_then (moved_disk (before ++ c ∷ after) before) (output_record_on c.spec))))
+
+-- ---- each code
+
+-- what gives a cause: the rule of the code; of F13 and F14 that the card names what is given, and of F16 the rule of the card's own columns
+unfoldable pub explained_rule : FaultCode → Rule
+explained_rule F1 before c after = rule F1 before c after
+explained_rule F2 before c after = rule F2 before c after
+explained_rule F3 before c after = rule F3 before c after
+explained_rule F4 before c after = rule F4 before c after
+explained_rule F5 before c after = rule F5 before c after
+explained_rule F6 before c after = false
+explained_rule F7 before c after = rule F7 before c after
+explained_rule F8 before c after = rule F8 before c after
+explained_rule F9 before c after = rule F9 before c after
+explained_rule F10 before c after = rule F10 before c after
+explained_rule F11 before c after = rule F11 before c after
+explained_rule F12 before c after = false
+explained_rule F13 before c after = is_some (target (before ++ c ∷ after) c after)
+explained_rule F14 before c after = is_some (target (before ++ c ∷ after) c after)
+explained_rule F15 before c after = rule F15 before c after
+explained_rule F16 before c after = is_outside (before ++ c ∷ after) before c
+explained_rule F17 before c after = false
+explained_rule F18 before c after = false
+
+-- why a card breaks the rule of a code
+unfoldable pub cause_of : FaultCode → List SpecCard → SpecCard → List SpecCard → Option Cause
+cause_of F1 before c after = option_map cause.UndefinedName (undefined_name (before ++ c ∷ after) c after)
+cause_of F2 before c after = option_map cause.RedefinedName (redefined (before ++ c ∷ after) before c)
+cause_of F3 before c after = option_map cause.Size (size_cause c)
+cause_of F4 before c after = option_map cause.Operand (operand_cause (before ++ c ∷ after) c after)
+cause_of F5 before c after = option_map cause.Index (index_cause (before ++ c ∷ after) c after)
+cause_of F6 before c after = None
+cause_of F7 before c after = option_map cause.File (file_cause (before ++ c ∷ after) before c)
+cause_of F8 before c after = option_map cause.Indicator (indicators.on_card (before ++ c ∷ after) c.spec)
+cause_of F9 before c after = missing before c after
+cause_of F10 before c after = option_map cause.Nowhere (nowhere (before ++ c ∷ after) c after)
+cause_of F11 before c after = option_map cause.Twice (twice before c after)
+cause_of F12 before c after = None
+cause_of F13 before c after = option_map cause.Apart (target (before ++ c ∷ after) c after)
+cause_of F14 before c after = option_map cause.Recursion (target (before ++ c ∷ after) c after)
+cause_of F15 before c after = option_map cause.Rounding (rounding_cause before c after)
+cause_of F16 before c after = option_map cause.Outside (outside (before ++ c ∷ after) before c)
+cause_of F17 before c after = None
+cause_of F18 before c after = None
+
+-- ---- of a source
+
+-- the cause at the first card with this number
+abbrev pub cause_at : List SpecCard → List SpecCard → ℕ → FaultCode → Option Cause
+cause_at before [] number code = None
+cause_at before (c ∷ after) number code = if c.number == number then cause_of code before c after else cause_at (before ++ c ∷ []) after number code
+
+-- the first card with this number breaks that rule
+abbrev pub is_broken_at : List SpecCard → List SpecCard → ℕ → FaultCode → Bool
+is_broken_at before [] number code = false
+is_broken_at before (c ∷ after) number code = if c.number == number then explained_rule code before c after else is_broken_at (before ++ c ∷ []) after number code

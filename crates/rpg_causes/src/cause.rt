@@ -1,0 +1,137 @@
+//! The cause of a fault of any code.
+
+ghost use Rattle.std.specs.Prelude.{◌≡◌, ◌≤◌, [], ◌∷◌, ◌++◌, length, is_some};
+ghost use Rattle.rpg_cards.specs.Sheets.{AreSheets};
+ghost use Rattle.rpg_causes.specs.Causes as causes;
+ghost use Rattle.rpg_faults.specs.Rules as rules;
+ghost use Rattle.rpg_faults.specs.declared.code.FaultCode.TheVariants.{F9};
+
+use crate::columns::{ColumnCause, on_calculation, on_operands};
+use crate::files::{FileCause, FileOnCard, file_cause, moved_disk};
+use crate::indexes::{IndexCause, index_cause};
+use crate::indicators::{IndicatorCause, indicator_cause};
+use crate::kinds::{OperandCause, operand_cause};
+use crate::labels::{NowhereCause, Target, TwiceCause, nowhere_cause, target_on, twice_cause};
+use crate::names::{Redefined, redefined_name, undefined_name, with_card};
+use crate::places::{PlaceCause, outside_cause};
+use crate::rounding::{RoundingCause, rounding_cause};
+use crate::sizes::{SizeCause, size_cause};
+use rpg_cards::{IndexedCards, Sheets, SpecCard};
+use rpg_faults::FaultCode;
+use rpg_symbols::Name;
+
+/// Why a card has a fault.
+#[derive(Drop)]
+pub enum Cause {
+    /// F1: no card defines that name.
+    UndefinedName(Name),
+    /// F2
+    RedefinedName(Redefined),
+    /// F3
+    Size(SizeCause),
+    /// F4
+    Operand(OperandCause),
+    /// F5
+    Index(IndexCause),
+    /// F7
+    File(FileCause),
+    /// F8
+    Indicator(IndicatorCause),
+    /// F9
+    Column(ColumnCause),
+    /// F9: spaces and skips for that file, the disk file.
+    Movement(FileOnCard),
+    /// F10
+    Nowhere(NowhereCause),
+    /// F11
+    Twice(TwiceCause),
+    /// F13: the label.
+    Apart(Target),
+    /// F14: the subroutine.
+    Recursion(Target),
+    /// F15
+    Rounding(RoundingCause),
+    /// F16: what is outside the record or the line; nothing of control fields and match fields.
+    Outside(PlaceCause),
+}
+
+/// Why the first card with a number breaks the rule of a code; nothing where it doesn't, and for a code whose causes aren't given here.
+pub fn fault_cause(source: &IndexedCards, number: u16, code: FaultCode) -> Option<Cause>
+    requires { length source.now ≤ 2000 }
+    ensures cause { result ≡ causes.cause_at [] source.now number code }
+    ensures rule { is_some result ≡ causes.is_broken_at [] source.now number code }
+{
+    let mut sheets = Sheets::none();
+    let mut before = no_cards(source);
+    let mut rest = source.as_slice();
+    while let Some((card, after)) = rest.split_first() {
+        if card.number == number {
+            return cause_of(source, &sheets, before, card, after, code);
+        }
+        sheets = sheets.with(source, before, card);
+        before = with_card(source, before, card, after);
+        rest = after;
+    }
+    None
+}
+
+fn no_cards<'a>(source: &IndexedCards<'a>) -> &'a [SpecCard]
+    ensures { result.now ≡ [] }
+{
+    &source.as_slice()[..0]
+}
+
+#[tactic(auto, unfolding(crate::specs::Causes::cause_of, crate::specs::Causes::explained_rule, rpg_faults::specs::Rules::rule))]
+fn cause_of(
+    source: &IndexedCards,
+    sheets: &Sheets,
+    before: &[SpecCard],
+    card: &SpecCard,
+    after: &[SpecCard],
+    code: FaultCode,
+) -> Option<Cause>
+    requires split { source.now ≡ before.now ++ card.now ∷ after.now }
+    requires few { length source.now ≤ 2000 }
+    requires sheets { AreSheets source.now before.now sheets.now }
+    ensures cause { result ≡ causes.cause_of code before.now card.now after.now }
+    ensures rule { is_some result ≡ causes.explained_rule code before.now card.now after.now }
+{
+    match code {
+        FaultCode::F1 => Some(Cause::UndefinedName(undefined_name(source, card, after)?)),
+        FaultCode::F2 => Some(Cause::RedefinedName(redefined_name(source, before, card, after)?)),
+        FaultCode::F3 => Some(Cause::Size(size_cause(card)?)),
+        FaultCode::F4 => Some(Cause::Operand(operand_cause(source, card, after)?)),
+        FaultCode::F5 => Some(Cause::Index(index_cause(source, card, after)?)),
+        FaultCode::F7 => Some(Cause::File(file_cause(source, sheets, before, card)?)),
+        FaultCode::F8 => Some(Cause::Indicator(indicator_cause(source, card)?)),
+        FaultCode::F9 => missing(source, before, card, after),
+        FaultCode::F10 => Some(Cause::Nowhere(nowhere_cause(source, before, card, after)?)),
+        FaultCode::F11 => Some(Cause::Twice(twice_cause(source, before, card, after)?)),
+        FaultCode::F13 => Some(Cause::Apart(target_on(source, card, after)?)),
+        FaultCode::F14 => Some(Cause::Recursion(target_on(source, card, after)?)),
+        FaultCode::F15 => Some(Cause::Rounding(rounding_cause(before, card, after)?)),
+        FaultCode::F16 => Some(Cause::Outside(outside_cause(source, before, card)?)),
+        _ => None,
+    }
+}
+
+/// F9: of a calculation, of its operands, or of a line.
+#[tactic(auto, unfolding(rpg_faults::specs::Rules::rule))]
+fn missing(
+    source: &IndexedCards,
+    before: &[SpecCard],
+    card: &SpecCard,
+    after: &[SpecCard],
+) -> Option<Cause>
+    requires { source.now ≡ before.now ++ card.now ∷ after.now }
+    ensures cause { result ≡ causes.missing before.now card.now after.now }
+    ensures rule { is_some result ≡ rules.rule F9 before.now card.now after.now }
+{
+    if let Some(cause) = on_calculation(before, card, after) {
+        return Some(Cause::Column(cause));
+    }
+    if let Some(cause) = on_operands(source, card, after) {
+        return Some(Cause::Column(cause));
+    }
+    Some(Cause::Movement(moved_disk(source, before, card)?))
+}

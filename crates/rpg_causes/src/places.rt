@@ -1,0 +1,222 @@
+//! F16: columns outside the record, ends outside the line, and fields that are too wide.
+
+ghost use Rattle.std.specs.Prelude.{◌≡◌, Option, is_some, option_copied, option_and_then, Some};
+ghost use Rattle.std.specs.Option.{option_map};
+ghost use Rattle.rpg_cards.specs.Files.{file_by};
+ghost use Rattle.rpg_cards.specs.Groups.{input_role, open_file, output_role};
+ghost use Rattle.rpg_causes.specs.Files as files;
+ghost use Rattle.rpg_causes.specs.Places as causes;
+ghost use Rattle.rpg_faults.specs.Places as rules;
+ghost use Rattle.rpg_sheet_specs.specs.declared.file.FileSpec.{FileSpec};
+
+use crate::files::{FileOnCard, file_of_name, open_line_file};
+use rpg_cards::{IndexedCards, SpecCard};
+use rpg_faults_operands::width;
+use rpg_sheet_specs::{ColumnRange, InputField, InputSpec, OutputField, RecordCode, Three, Word};
+
+/// What is outside a record or a line.
+#[derive(Drop)]
+pub enum PlaceCause {
+    /// A code's position 0.
+    NoPosition(ColumnRange),
+    /// A code's position past the records of that file.
+    PositionPast {
+        at: ColumnRange,
+        position: u16,
+        file: FileOnCard,
+    },
+    /// A field's column 0.
+    NoColumn,
+    /// The last column of a field comes before its first.
+    TurnedRound {
+        from: u16,
+        to: u16,
+    },
+    /// A field's columns past the records of that file.
+    PastRecord {
+        from: u16,
+        to: u16,
+        file: FileOnCard,
+    },
+    /// An end in place 0.
+    NoEnd,
+    /// An end past the lines of that file.
+    PastLine {
+        end: u16,
+        file: FileOnCard,
+    },
+    /// A field or a constant that takes more places than there are up to its end.
+    Wider {
+        places: usize,
+        end: u16,
+    },
+}
+
+/// F16 of a card's own columns: what is outside the record or the line.
+#[tactic(auto, unfolding(crate::specs::Places::outside))]
+pub(crate) fn outside_cause(
+    source: &IndexedCards,
+    before: &[SpecCard],
+    card: &SpecCard,
+) -> Option<PlaceCause>
+    ensures cause { result ≡ causes.outside source.now before.now card.now }
+    ensures rule { is_some result ≡ causes.is_outside source.now before.now card.now }
+{
+    if let Some(input) = card.input() {
+        return of_input(&file_known(source, own_file(before, input)), input);
+    }
+    let field = card.output_field()?;
+    of_output(source, &file_known(source, open_line_file(before)), field)
+}
+
+// ---- the file
+
+fn open_type_file(before: &[SpecCard]) -> Option<&Word<8>>
+    ensures { option_copied result ≡ open_file input_role before.now }
+{
+    let mut name = None;
+    for card in before {
+        name = type_file(card, name);
+    }
+    name
+}
+
+/// The file of the open record type, with one more card.
+fn type_file<'a>(card: &'a SpecCard, kept: Option<&'a Word<8>>) -> Option<&'a Word<8>>
+    ensures { option_copied result ≡ files.type_file card.now (option_copied kept.entry) }
+{
+    match card.record_type() {
+        None => kept,
+        Some(record_type) => match &record_type.file {
+            Some(name) => Some(name),
+            None => kept,
+        },
+    }
+}
+
+fn own_file<'a>(before: &'a [SpecCard], input: &'a InputSpec) -> Option<&'a Word<8>>
+    ensures { option_copied result ≡ rules.own_file before.now input.now }
+{
+    let open = open_type_file(before);
+    match input {
+        InputSpec::Type(record_type) => match &record_type.file {
+            Some(name) => Some(name),
+            None => open,
+        },
+        InputSpec::And(_) | InputSpec::Field(_) => open,
+    }
+}
+
+fn file_known(source: &IndexedCards, name: Option<&Word<8>>) -> Option<FileOnCard>
+    ensures file { result ≡ causes.file_known source.now (option_copied name.entry) }
+    ensures known { option_map (λ f. f.record_length) result ≡ option_map (λ f. f.record_length) (file_by (option_copied name.entry) source.now) }
+{
+    file_of_name(name?, source.as_slice())
+}
+
+fn copied(file: &FileOnCard) -> FileOnCard
+    ensures { result ≡ file.now }
+{
+    FileOnCard {
+        card: file.card,
+        name: Word::new(file.name.as_slice()),
+        serves_as: file.serves_as,
+        record_length: file.record_length,
+    }
+}
+
+/// The file, if a column is past its records.
+fn if_past(file: &Option<FileOnCard>, column: u16) -> Option<FileOnCard>
+    ensures file { result ≡ causes.past column file.now }
+    ensures rule { (known : Option FileSpec) → option_map (λ f. f.record_length) file.now ≡ option_map (λ f. f.record_length) known → is_some result ≡ rules.is_past known column }
+{
+    let file = file.as_ref()?;
+    if file.record_length < column {
+        return Some(copied(file));
+    }
+    None
+}
+
+// ---- record types and input fields
+
+fn of_input(file: &Option<FileOnCard>, input: &InputSpec) -> Option<PlaceCause>
+    ensures cause { result ≡ causes.of_input file.now input.now }
+    ensures rule { (known : Option FileSpec) → option_map (λ f. f.record_length) file.now ≡ option_map (λ f. f.record_length) known → is_some result ≡ rules.outside_on_input known input.now }
+{
+    match input {
+        InputSpec::Type(record_type) => of_codes(file, &record_type.codes),
+        InputSpec::And(codes) => of_codes(file, codes),
+        InputSpec::Field(field) => of_field(file, field),
+    }
+}
+
+fn of_codes(file: &Option<FileOnCard>, codes: &Three<Option<RecordCode>>) -> Option<PlaceCause>
+    ensures cause { result ≡ causes.of_codes file.now codes.now }
+    ensures rule { (known : Option FileSpec) → option_map (λ f. f.record_length) file.now ≡ option_map (λ f. f.record_length) known → is_some result ≡ rules.bad_codes known codes.now }
+{
+    let first = of_code(file, ColumnRange::FirstCode, codes.first);
+    if first.is_some() {
+        return first;
+    }
+    let second = of_code(file, ColumnRange::SecondCode, codes.second);
+    if second.is_some() {
+        return second;
+    }
+    of_code(file, ColumnRange::ThirdCode, codes.third)
+}
+
+fn of_code(
+    file: &Option<FileOnCard>,
+    at: ColumnRange,
+    code: Option<RecordCode>,
+) -> Option<PlaceCause>
+    ensures cause { result ≡ option_and_then (causes.of_code file.now at) code }
+    ensures rule { (known : Option FileSpec) → option_map (λ f. f.record_length) file.now ≡ option_map (λ f. f.record_length) known → is_some result ≡ rules.is_code_outside known code }
+{
+    let position = code?.position;
+    if position == 0 {
+        return Some(PlaceCause::NoPosition(at));
+    }
+    let file = if_past(file, position)?;
+    Some(PlaceCause::PositionPast { at, position, file })
+}
+
+fn of_field(file: &Option<FileOnCard>, field: &InputField) -> Option<PlaceCause>
+    ensures cause { result ≡ causes.of_field file.now field.now }
+    ensures rule { (known : Option FileSpec) → option_map (λ f. f.record_length) file.now ≡ option_map (λ f. f.record_length) known → is_some result ≡ rules.outside_record known field.now }
+{
+    let from = field.from;
+    let to = field.to;
+    if from == 0 || to == 0 {
+        return Some(PlaceCause::NoColumn);
+    }
+    if to < from {
+        return Some(PlaceCause::TurnedRound { from, to });
+    }
+    let file = if_past(file, to)?;
+    Some(PlaceCause::PastRecord { from, to, file })
+}
+
+// ---- output fields
+
+fn of_output(
+    source: &IndexedCards,
+    file: &Option<FileOnCard>,
+    field: &OutputField,
+) -> Option<PlaceCause>
+    ensures cause { result ≡ causes.of_output source.now file.now field.now }
+    ensures rule { (known : Option FileSpec) → option_map (λ f. f.record_length) file.now ≡ option_map (λ f. f.record_length) known → is_some result ≡ rules.outside_line source.now known field.now }
+{
+    let end = field.end;
+    if end == 0 {
+        return Some(PlaceCause::NoEnd);
+    }
+    if let Some(file) = if_past(file, end) {
+        return Some(PlaceCause::PastLine { end, file });
+    }
+    let places = width(source, field)?;
+    if usize::from(end) < places {
+        return Some(PlaceCause::Wider { places, end });
+    }
+    None
+}
