@@ -1,7 +1,9 @@
 //! F12 and F15: the order of cards, H, and MVR.
 
+use crate::filled::{Piece, write_filled};
 use crate::spot::{Spot, text_at};
-use rpg_cards::{SpecCard, ends_subroutine, goes_on};
+use rpg_cards::{SpecCard, ends_subroutine};
+use rpg_causes::RoundingCause;
 use rpg_cli_text::TextWriter;
 use rpg_sheet::{CalculationSpec, ControlLevel, InputSpec, OutputSpec, Spec};
 
@@ -111,19 +113,15 @@ pub(crate) fn write_order(out: &mut TextWriter, spot: Spot<'_>) -> Option<()> {
     Some(())
 }
 
-/// F15: where H isn't allowed, or what MVR needs.
-pub(crate) fn write_rounding(out: &mut TextWriter, spot: Spot<'_>) -> Option<()> {
-    if spot.column() != 53 {
-        out.write_str(
-            "MVR follows a DIV without H on the card right before it, and has no AN or OR cards",
-        );
-    } else if goes_on(spot.after) {
-        out.write_str("the calculation goes on with AN or OR, and its last card alone has H");
-    } else if spot.operation().is_empty() {
-        out.write_str("H (53) without an operation (28-32)");
-    } else {
-        out.write_shown(spot.operation());
-        out.write_str(" isn't half adjusted: blank column 53");
-    }
-    Some(())
+/// F15: why H, or MVR, isn't allowed.
+pub(crate) fn write_rounding(out: &mut TextWriter, spot: Spot<'_>, cause: RoundingCause) {
+    let sentence = match cause {
+        RoundingCause::LastCardAlone =>
+            "the calculation goes on with AN or OR, and its last card alone has H",
+        RoundingCause::NoOperation => "H (53) without an operation (28-32)",
+        RoundingCause::NotRounded => "{} isn't half adjusted: blank column 53",
+        RoundingCause::SeveralCards => "MVR has no AN or OR cards",
+        RoundingCause::NoDivision => "MVR follows a DIV without H on the card right before it",
+    };
+    write_filled(out, sentence, &[Piece::Shown(spot.operation())]);
 }

@@ -1,39 +1,48 @@
 //! The cause of a fault in words.
 
 use crate::calculations::{write_order, write_rounding};
-use crate::files::write_file_fault;
+use crate::files::{write_file, write_movement};
 use crate::indicators::write_bad_indicator;
 use crate::labels::{write_apart, write_nowhere, write_recursion, write_twice};
-use crate::missing::write_missing;
-use crate::names::{write_redefined, write_unknown_name};
-use crate::operands::{write_wrong_index, write_wrong_operand};
-use crate::places::write_outside;
-use crate::sizes::{write_bad_size, write_limit};
+use crate::missing::write_column;
+use crate::names::{write_redefined, write_undefined};
+use crate::operands::{write_index, write_operand};
+use crate::places::{write_joined, write_outside};
+use crate::sizes::{write_limit, write_size};
 use crate::spot::{SourceCards, Spot};
+use rpg_causes::Cause;
 use rpg_cli_text::TextWriter;
 use rpg_faults::FaultCode;
 use rpg_sheet::ColumnFault;
 
-/// Writes the cause, if it is known; else nothing.
-fn write_known(out: &mut TextWriter, spot: Spot<'_>, code: FaultCode) -> Option<()> {
+/// Writes a cause in words.
+fn write_told(out: &mut TextWriter, spot: Spot<'_>, cause: &Cause) {
+    match cause {
+        Cause::UndefinedName(name) => write_undefined(out, spot, name.as_slice()),
+        Cause::RedefinedName(redefined) => write_redefined(out, spot, redefined),
+        Cause::Size(size) => write_size(out, *size),
+        Cause::Operand(operand) => write_operand(out, spot, operand),
+        Cause::Index(index) => write_index(out, spot, index),
+        Cause::File(file) => write_file(out, spot, file),
+        Cause::Indicator(indicator) => write_bad_indicator(out, indicator),
+        Cause::Column(column) => write_column(out, spot, column),
+        Cause::Movement(file) => write_movement(out, spot, file),
+        Cause::Nowhere(nowhere) => write_nowhere(out, spot, nowhere),
+        Cause::Twice(twice) => write_twice(out, twice),
+        Cause::Apart(target) => write_apart(out, target),
+        Cause::Recursion(target) => write_recursion(out, target),
+        Cause::Rounding(rounding) => write_rounding(out, spot, *rounding),
+        Cause::Outside(place) => write_outside(out, spot, place),
+    }
+}
+
+/// Writes the cause of a code that has none by contract, as far as the columns show it.
+fn write_by_columns(out: &mut TextWriter, spot: Spot<'_>, code: FaultCode) -> Option<()> {
     match code {
-        FaultCode::F1 => write_unknown_name(out, spot),
-        FaultCode::F2 => write_redefined(out, spot),
-        FaultCode::F3 => write_bad_size(out, spot),
-        FaultCode::F4 => write_wrong_operand(out, spot),
-        FaultCode::F5 => write_wrong_index(out, spot),
         FaultCode::F6 => write_limit(out, spot),
-        FaultCode::F7 => write_file_fault(out, spot),
-        FaultCode::F8 => write_bad_indicator(out, spot),
-        FaultCode::F9 => write_missing(out, spot),
-        FaultCode::F10 => write_nowhere(out, spot),
-        FaultCode::F11 => write_twice(out, spot),
         FaultCode::F12 => write_order(out, spot),
-        FaultCode::F13 => write_apart(out, spot),
-        FaultCode::F14 => write_recursion(out, spot),
-        FaultCode::F15 => write_rounding(out, spot),
-        FaultCode::F16 => write_outside(out, spot),
-        FaultCode::F17 | FaultCode::F18 => None,
+        FaultCode::F16 => write_joined(out, spot),
+        _ => None,
     }
 }
 
@@ -47,11 +56,15 @@ pub fn write_cause(
     columns: Option<ColumnFault>,
     code: FaultCode,
 ) -> bool {
-    match Spot::of(source, line, number, columns) {
-        Some(spot) => write_known(out, spot, code).is_some(),
-        None => {
-            out.write_str("no card is a primary file (F card, I in 15, P in 16)");
+    let Some(spot) = Spot::of(source, line, number, columns) else {
+        out.write_str("no card is a primary file (F card, I in 15, P in 16)");
+        return true;
+    };
+    match source.cause(number, code) {
+        Some(cause) => {
+            write_told(out, spot, &cause);
             true
         }
+        None => write_by_columns(out, spot, code).is_some(),
     }
 }

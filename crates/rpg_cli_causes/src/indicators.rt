@@ -1,48 +1,49 @@
 //! F8: indicators that aren't allowed.
 
-use crate::spot::Spot;
+use rpg_causes::IndicatorCause;
 use rpg_cli_text::TextWriter;
-use rpg_sheet::{InputSpec, Spec};
 
-/// Whether one of these indicators is never set: L0, 1P and MR.
-fn is_never_set(indicator: &[u8]) -> bool {
-    indicator == b"L0".as_slice() || indicator == b"1P".as_slice() || indicator == b"MR".as_slice()
-}
-
-/// The indicator that a condition asks, without its N.
-fn asked(condition: &[u8]) -> &[u8] {
-    condition
-        .get(condition.len().saturating_sub(2)..)
-        .unwrap_or(&[])
+/// Writes an indicator as it stands on cards.
+fn write_indicator(out: &mut TextWriter, number: u8) {
+    match number {
+        100..=109 => write!(out, "L{}", number.saturating_sub(100)),
+        110 => out.write_str("LR"),
+        111 => out.write_str("1P"),
+        112..=118 => {
+            out.write_char('O');
+            out.write_char(b'A'.saturating_add(number.saturating_sub(112)) as char);
+        }
+        119 => out.write_str("OV"),
+        120..=128 => write!(out, "H{}", number.saturating_sub(119)),
+        129 => out.write_str("MR"),
+        _ => write!(out, "{number:02}"),
+    }
 }
 
 /// F8: which indicator isn't allowed, and which are.
-pub(crate) fn write_bad_indicator(out: &mut TextWriter, spot: Spot<'_>) -> Option<()> {
-    let marked = spot.marked();
-    match &spot.card.spec {
-        Spec::Input(InputSpec::Type(_)) => {
-            out.write_shown(marked);
+pub(crate) fn write_bad_indicator(out: &mut TextWriter, cause: &IndicatorCause) {
+    match cause {
+        IndicatorCause::NotOfType(indicator) => {
+            write_indicator(out, indicator.number());
             out.write_str(
                 " isn't turned on by record types: 01 to 99, L1 to L9, LR and H1 to H9 are",
             );
         }
-        Spec::Input(InputSpec::Field(field)) if !is_never_set(marked) => {
-            out.write_shown(field.name.as_slice());
+        IndicatorCause::NeverSet(indicator) => {
+            write_indicator(out, indicator.number());
+            out.write_str(" isn't set: results and fields set all but L0, 1P and MR");
+        }
+        IndicatorCause::TextField(name) => {
+            out.write_shown(name.as_slice());
             out.write_str(
                 " is a text, since column 52 is blank, and only its blanks are tested (69-70)",
             );
         }
-        Spec::Calculation(_) if spot.column() < 18 && asked(marked) == b"1P".as_slice() => {
-            out.write_str("1P isn't asked in calculations: it is on before the first record alone");
-        }
-        Spec::Calculation(_) if spot.column() < 18 => out.write_str(NO_MATCH),
-        Spec::Output(_) => out.write_str(NO_MATCH),
-        _ => {
-            out.write_shown(marked);
-            out.write_str(" isn't set: results and fields set all but L0, 1P and MR");
+        IndicatorCause::FirstPage => out.write_str(
+            "1P isn't asked in calculations: it is on before the first record alone",
+        ),
+        IndicatorCause::NoMatchFields => {
+            out.write_str("MR is asked, and no field has a match level (61-62)");
         }
     }
-    Some(())
 }
-
-const NO_MATCH: &str = "MR is asked, and no field has a match level (61-62)";

@@ -5,6 +5,7 @@ mod calculations;
 mod cause;
 mod counted;
 mod files;
+mod filled;
 mod indicators;
 mod labels;
 mod missing;

@@ -1,129 +1,80 @@
 //! F16: columns of records and of lines.
 
 use crate::counted::noun;
-use crate::files::{file_of_line, file_of_type};
+use crate::filled::{Piece, write_filled};
 use crate::spot::{Spot, text_at};
+use rpg_causes::{FileOnCard, PlaceCause};
 use rpg_cli_text::TextWriter;
-use rpg_faults_operands::width;
-use rpg_sheet::{InputField, InputSpec, OutputField};
+use rpg_sheet::{ColumnRange, InputSpec};
 
 /// How long the records, or the lines, are, and which card has that.
-fn write_length(out: &mut TextWriter, kind: &'static str, number: u16, name: &[u8], length: u16) {
-    write!(out, ", and {kind} of ");
-    out.write_shown(name);
-    write!(out, " have {length} (card {number})");
+fn write_length(out: &mut TextWriter, kind: &'static str, file: &FileOnCard) {
+    let pieces = [
+        Piece::Word(kind),
+        Piece::Shown(file.name.as_slice()),
+        Piece::Number(u64::from(file.record_length)),
+        Piece::Card(Some(file.card)),
+    ];
+    write_filled(out, ", and {} of {} have {}{}", &pieces);
 }
 
-/// The position of a code.
-fn write_code(out: &mut TextWriter, spot: Spot<'_>) -> Option<()> {
-    let columns = spot.columns?;
-    let first = usize::from(columns.column);
-    let position = text_at(spot.line, first, first.saturating_add(3));
-    out.write_str("position ");
-    out.write_shown(position);
-    if position.iter().all(|digit| *digit == b'0') {
-        out.write_str(": columns of a record are counted from 1");
-        return Some(());
-    }
-    if let Some((number, file)) = file_of_type(spot) {
-        write_length(
+/// The position of a code, as it stands on the card.
+fn position(spot: Spot<'_>, at: ColumnRange) -> Piece<'_> {
+    let first = usize::from(at.columns().column);
+    Piece::Shown(text_at(spot.line, first, first.saturating_add(3)))
+}
+
+/// F16 of a card's own columns: what is outside the record or the line.
+pub(crate) fn write_outside(out: &mut TextWriter, spot: Spot<'_>, cause: &PlaceCause) {
+    match cause {
+        PlaceCause::NoPosition(at) => write_filled(
             out,
-            "records",
-            number,
-            file.name.as_slice(),
-            file.record_length,
-        );
-    }
-    Some(())
-}
-
-/// The columns of an input field.
-fn write_columns(out: &mut TextWriter, spot: Spot<'_>, field: &InputField) {
-    let InputField { from, to, .. } = field;
-    if *from == 0 || *to == 0 {
-        out.write_str("columns of a record are counted from 1");
-    } else if to < from {
-        write!(out, "the last column, {to}, comes before the first, {from}");
-    } else {
-        write!(out, "columns {from}-{to}");
-        if let Some((number, file)) = file_of_type(spot) {
-            write_length(
-                out,
-                "records",
-                number,
-                file.name.as_slice(),
-                file.record_length,
-            );
-        }
-    }
-}
-
-fn write_on_input(out: &mut TextWriter, spot: Spot<'_>, input: &InputSpec) -> Option<()> {
-    match (input, spot.column()) {
-        (InputSpec::Field(field), 44 | 48) => write_columns(out, spot, field),
-        (InputSpec::Field(_), 59) => {
-            out.write_str("the control fields of ");
-            out.write_shown(spot.marked());
-            out.write_str(" have more than 256 columns together in this type");
-        }
-        (InputSpec::Field(_), _) => {
-            out.write_shown(spot.marked());
-            out.write_str(
-                " stands twice in this type, or its match fields have more than 256 columns together",
-            );
-        }
-        (_, 0) => out.write_str(
-            "the control fields of a level, or the match fields, have other lengths or levels in this type than in one before",
+            "position {}: columns of a record are counted from 1",
+            &[position(spot, *at)],
         ),
-        _ => return write_code(out, spot),
-    }
-    Some(())
-}
-
-/// An output field that ends past the line, or has no room before its end.
-fn write_end(out: &mut TextWriter, spot: Spot<'_>, field: &OutputField) {
-    let end = field.end;
-    if end == 0 {
-        out.write_str("places of a line are counted from 1");
-        return;
-    }
-    match file_of_line(spot) {
-        Some((number, file)) if file.record_length < end => {
-            write!(out, "the end is place {end}");
-            write_length(
-                out,
-                "lines",
-                number,
-                file.name.as_slice(),
-                file.record_length,
-            );
+        PlaceCause::PositionPast { at, file, .. } => {
+            write_filled(out, "position {}", &[position(spot, *at)]);
+            write_length(out, "records", file);
         }
-        _ => write_room(out, spot, field),
+        PlaceCause::NoColumn => out.write_str("columns of a record are counted from 1"),
+        PlaceCause::TurnedRound { from, to } => write!(
+            out,
+            "the last column, {to}, comes before the first, {from}"
+        ),
+        PlaceCause::PastRecord { from, to, file } => {
+            write!(out, "columns {from}-{to}");
+            write_length(out, "records", file);
+        }
+        PlaceCause::NoEnd => out.write_str("places of a line are counted from 1"),
+        PlaceCause::PastLine { end, file } => {
+            write!(out, "the end is place {end}");
+            write_length(out, "lines", file);
+        }
+        PlaceCause::Wider { places, end } => write_width(out, spot, *places, *end),
     }
 }
 
 /// How many places a field takes.
-fn write_room(out: &mut TextWriter, spot: Spot<'_>, field: &OutputField) {
-    let end = field.end;
-    if field.operand.is_some() {
-        out.write_shown(text_at(spot.line, 32, 37));
-    } else {
-        out.write_str("the constant");
+fn write_width(out: &mut TextWriter, spot: Spot<'_>, width: usize, end: u16) {
+    match spot.card.output_field() {
+        Some(field) if field.operand.is_some() => out.write_shown(text_at(spot.line, 32, 37)),
+        _ => out.write_str("the constant"),
     }
-    match width(spot.source.cards, field) {
-        Some(width) => {
-            let of_places = noun(width, "place", "places");
-            write!(out, " takes {width} {of_places}, and ends in place {end}");
-        }
-        None => write!(out, " has no room before place {end}"),
-    }
+    let of_places = noun(width, "place", "places");
+    write!(out, " takes {width} {of_places}, and ends in place {end}");
 }
 
-/// F16: which columns, and of which record or line.
-pub(crate) fn write_outside(out: &mut TextWriter, spot: Spot<'_>) -> Option<()> {
-    if let Some(input) = spot.card.input() {
-        return write_on_input(out, spot, input);
-    }
-    write_end(out, spot, spot.card.output_field()?);
+/// F16 of control fields and match fields: which of their reasons it is, the columns decide.
+pub(crate) fn write_joined(out: &mut TextWriter, spot: Spot<'_>) -> Option<()> {
+    let marked = [Piece::Shown(spot.marked())];
+    let sentence = match (spot.card.input()?, spot.column()) {
+        (InputSpec::Field(_), 59) =>
+            "the control fields of {} have more than 256 columns together in this type",
+        (InputSpec::Field(_), _) =>
+            "{} stands twice in this type, or its match fields have more than 256 columns together",
+        _ =>
+            "the control fields of a level, or the match fields, have other lengths or levels in this type than in one before",
+    };
+    write_filled(out, sentence, &marked);
     Some(())
 }

@@ -1,7 +1,7 @@
 //! Which faults come of one slip.
 
-use crate::names::missing;
 use crate::spot::{SourceCards, Spot};
+use rpg_causes::Cause;
 use rpg_effect::form::Kind;
 use rpg_faults::{CardFault, FaultCode, SourceCode};
 use rpg_sheet::{Entry, Spec};
@@ -51,10 +51,10 @@ pub fn root_of(source: SourceCards<'_>, line: &[u8], fault: CardFault) -> Option
     };
     let spot = Spot::of(source, line, fault.card, fault.columns)?;
     match code {
-        FaultCode::F1 => {
-            let name = missing(spot, spot.entry()?);
-            Some(Root::Unknown(padded(name.as_slice())))
-        }
+        FaultCode::F1 => match source.cause(fault.card, code)? {
+            Cause::UndefinedName(name) => Some(Root::Unknown(padded(name.as_slice()))),
+            _ => None,
+        },
         FaultCode::F4 | FaultCode::F17 => text_root(spot),
         _ => None,
     }

@@ -1,56 +1,37 @@
 //! F3 and F6: lengths, decimals, and how many there may be.
 
 use crate::counted::noun;
+use crate::filled::{Piece, write_filled};
 use crate::spot::Spot;
+use rpg_causes::SizeCause;
 use rpg_cli_text::TextWriter;
-use rpg_sheet::{InputSpec, OutputSpec, Spec, TableSpec};
-
-/// The most digits of a number.
-const MOST_DIGITS: u16 = 15;
-
-/// A length, or decimals, past their limits.
-fn write_size(out: &mut TextWriter, length: u16, decimals: Option<u8>) {
-    match decimals {
-        None => write!(
-            out,
-            "a length of {length}: a number has 1 to 15 digits, a text 1 to 256 characters"
-        ),
-        Some(_) if length == 0 || length > MOST_DIGITS => {
-            write!(out, "a length of {length}: a number has 1 to 15 digits");
-        }
-        Some(decimals) => {
-            let of_decimals = noun(usize::from(decimals), "decimal", "decimals");
-            let of_digits = noun(usize::from(length), "digit", "digits");
-            write!(
-                out,
-                "{decimals} {of_decimals} of {length} {of_digits}: there are at most 9, and no more than digits"
-            );
-        }
-    }
-}
-
-fn write_table_size(out: &mut TextWriter, table: &TableSpec) {
-    write_size(out, table.length, table.decimals);
-}
+use rpg_sheet::{InputSpec, OutputSpec, Spec};
 
 /// F3: the length, or the decimals.
-pub(crate) fn write_bad_size(out: &mut TextWriter, spot: Spot<'_>) -> Option<()> {
-    if let Some(calculation) = spot.card.calculation() {
-        match calculation.length {
-            Some(length) => write_size(out, length, calculation.decimals),
-            None => out.write_str("decimals (52) without a length (49-51)"),
-        }
-    } else if let Some(extension) = spot.card.extension() {
-        match spot.column() {
-            40 | 44 => write_table_size(out, &extension.table),
-            _ => write_table_size(out, extension.alternating.as_ref()?),
-        }
-    } else {
-        let field = spot.card.input_field()?;
-        let length = field.to.checked_sub(field.from)?.saturating_add(1);
-        write_size(out, length, field.decimals);
+pub(crate) fn write_size(out: &mut TextWriter, cause: SizeCause) {
+    match cause {
+        SizeCause::Length(length) => write_filled(
+            out,
+            "a length of {}: a number has 1 to 15 digits, a text 1 to 256 characters",
+            &[Piece::Number(u64::from(length))],
+        ),
+        SizeCause::Digits(length) => write_filled(
+            out,
+            "a length of {}: a number has 1 to 15 digits",
+            &[Piece::Number(u64::from(length))],
+        ),
+        SizeCause::Decimals { decimals, length } => write_filled(
+            out,
+            "{} {} of {} {}: there are at most 9, and no more than digits",
+            &[
+                Piece::Number(u64::from(decimals)),
+                Piece::Word(noun(usize::from(decimals), "decimal", "decimals")),
+                Piece::Number(u64::from(length)),
+                Piece::Word(if length == 1 { "digit" } else { "digits" }),
+            ],
+        ),
+        SizeCause::NoLength => out.write_str("decimals (52) without a length (49-51)"),
     }
-    Some(())
 }
 
 /// Which limits a card can pass.

@@ -1,9 +1,10 @@
 //! A fault's card among the others, and what stands there.
 
 use rpg_cards::{Defined, IndexedCards, SpecCard};
-use rpg_cli_text::TextWriter;
-use rpg_effect::form::{Class, FieldForm, Kind};
-use rpg_sheet::{ColumnFault, Entry, EntryIndex, Factor, Word};
+use rpg_causes::{Cause, fault_cause};
+use rpg_effect::form::FieldForm;
+use rpg_faults::FaultCode;
+use rpg_sheet::{ColumnFault, ColumnRange, Entry, Factor, Spec, Word};
 use rpg_text::{first_line, trimmed};
 
 /// The cards of a source that can be read, and its text: none where only the card of the fault is known.
@@ -13,6 +14,19 @@ pub struct SourceCards<'a> {
     pub text: &'a [u8],
 }
 
+impl SourceCards<'_> {
+    /// Why a card has a fault.
+    pub(crate) fn cause(self, number: u16, code: FaultCode) -> Option<Cause> {
+        if self.cards.as_slice().len() > MOST_CARDS {
+            return None;
+        }
+        fault_cause(self.cards, number, code)
+    }
+}
+
+/// No source has more cards.
+const MOST_CARDS: usize = 2000;
+
 /// A card with a fault.
 #[derive(Clone, Copy)]
 pub(crate) struct Spot<'a> {
@@ -20,7 +34,6 @@ pub(crate) struct Spot<'a> {
     pub line: &'a [u8],
     pub card: &'a SpecCard,
     pub before: &'a [SpecCard],
-    pub after: &'a [SpecCard],
     /// The columns that the fault is about; none where it is about the card as a whole.
     pub columns: Option<ColumnFault>,
 }
@@ -47,13 +60,12 @@ impl<'a> Spot<'a> {
     ) -> Option<Self> {
         let cards = source.cards.as_slice();
         let place = cards.iter().position(|card| card.number == number)?;
-        let (card, after) = cards.get(place..)?.split_first()?;
+        let card = cards.get(place)?;
         Some(Spot {
             source,
             line,
             card,
             before: cards.get(..place)?,
-            after,
             columns,
         })
     }
@@ -76,6 +88,18 @@ impl<'a> Spot<'a> {
             ),
             None => &[],
         }
+    }
+
+    /// What stands in a range of columns.
+    pub fn text_in(self, range: ColumnRange) -> &'a [u8] {
+        let ColumnFault { column, last } = range.columns();
+        text_at(self.line, usize::from(column), usize::from(last))
+    }
+
+    /// Whether a card, by its number, is an E card.
+    pub fn is_extension(self, number: u16) -> bool {
+        self.source.cards.as_slice().iter().any(|card| card.number == number
+            && matches!(card.spec, Spec::Extension(_)))
     }
 
     /// The name of a calculation's operation.
@@ -132,7 +156,7 @@ impl<'a> Spot<'a> {
 }
 
 /// The first of these cards that defines a name.
-pub(crate) fn first_defining<'a>(cards: &'a [SpecCard], name: &[u8]) -> Option<&'a SpecCard> {
+fn first_defining<'a>(cards: &'a [SpecCard], name: &[u8]) -> Option<&'a SpecCard> {
     for card in cards {
         let definitions = card.definitions();
         if definitions
@@ -151,33 +175,4 @@ fn factor_entry(factor: &Factor) -> Option<&Entry> {
         Factor::Entry(entry) => Some(entry),
         Factor::Literal(_) => None,
     }
-}
-
-/// The name of the field that is an entry's index.
-pub(crate) fn index_name(entry: &Entry) -> Option<&Word<6>> {
-    match &entry.index {
-        Some(EntryIndex::Name(name)) => Some(name),
-        Some(EntryIndex::Literal(_)) | None => None,
-    }
-}
-
-/// What a field is: `a number 6.2` has 6 digits, of which 2 are decimals.
-pub(crate) fn write_form(out: &mut TextWriter, form: FieldForm) {
-    let entries = form.entries;
-    match form.class {
-        Class::Array => write!(out, "an array of {entries}, each "),
-        Class::Table => write!(out, "a table of {entries}, each "),
-        Class::Plain | Class::Constant | Class::Date => {}
-    }
-    let length = form.length;
-    match form.kind {
-        Kind::Text if length == 1 => out.write_str("a text of 1 character"),
-        Kind::Text => write!(out, "a text of {length} characters"),
-        Kind::Number => write!(out, "a number {length}.{}", form.decimals),
-    }
-}
-
-/// The card that is meant, in brackets.
-pub(crate) fn write_card(out: &mut TextWriter, card: u16) {
-    write!(out, " (card {card})");
 }
