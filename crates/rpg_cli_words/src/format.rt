@@ -2,9 +2,6 @@
 
 use clap::ArgMatches;
 
-/// The forms, as they are written.
-pub(crate) const FORMATS: [&str; 2] = ["text", "json"];
-
 /// The form of diagnostics and of the answer.
 #[derive(Clone, Copy, PartialEq, Eq)]
 pub enum Format {

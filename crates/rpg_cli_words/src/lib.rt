@@ -1,7 +1,6 @@
 //! The words of the command line, read by clap.
 #![tactic(auto)]
 
-mod command;
 mod dates;
 mod fitting;
 mod format;
@@ -10,7 +9,6 @@ mod listing;
 mod records;
 mod request;
 mod warned;
-mod words;
 
 pub use dates::DateWord;
 pub use fitting::{FitWords, TableWord};

@@ -2,7 +2,6 @@
 
 ghost use Rattle.std.specs.Prelude.{◌<◌, ◌≤◌};
 
-use crate::command::{command, named_command};
 use crate::dates::DateWord;
 use crate::fitting::{self, FitWords, fit_words};
 use crate::format::{Format, format_of};
@@ -12,6 +11,7 @@ use crate::records::{RecordsWords, fault_of, records_words};
 use crate::warned::{WarningWords, texts, warning_words};
 use clap::error::ErrorKind;
 use clap::{ArgMatches, Command, Error};
+use rpg_cli_commands::{command, named_command};
 use std::alloc::{AllocError, Global};
 
 /// What the words ask for.

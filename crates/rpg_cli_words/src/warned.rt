@@ -4,9 +4,6 @@ use clap::ArgMatches;
 use rpg_warning_codes::{WarningCode, WarningCodes};
 use std::alloc::{AllocError, Global};
 
-/// The codes that may be allowed.
-pub(crate) const WARNING_CODES: [&str; 6] = ["W1", "W2", "W3", "W4", "W5", "W6"];
-
 /// What becomes of the warnings of a source.
 #[derive(Clone, Copy)]
 pub struct WarningWords {

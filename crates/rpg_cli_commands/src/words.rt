@@ -1,5 +1,11 @@
 //! The words of each command, as data.
 
+/// The forms of diagnostics, as they are written.
+pub(crate) const FORMATS: [&str; 2] = ["text", "json"];
+
+/// The codes of warnings that may be allowed.
+pub(crate) const WARNING_CODES: [&str; 6] = ["W1", "W2", "W3", "W4", "W5", "W6"];
+
 /// How a word is written, and what it takes.
 #[derive(Clone, Copy)]
 pub(crate) enum Kind {

@@ -2,9 +2,7 @@
 //!
 //! Each call of clap's builder is in a function of its own: the proof of a chain of them grows with its length.
 
-use crate::format::FORMATS;
-use crate::warned::WARNING_CODES;
-use crate::words::{COMMANDS, CommandWords, Kind, Word};
+use crate::words::{COMMANDS, CommandWords, FORMATS, Kind, WARNING_CODES, Word};
 use clap::{Arg, ArgAction, Command, value_parser};
 use std::alloc::{AllocError, Global};
 
@@ -142,7 +140,7 @@ fn commands<'a>(alloc: Global, named: Option<&str>) -> Result<Vec<Command<'a>>, 
 }
 
 /// The command that comes first after the program's name. There is none where clap is asked for help.
-pub(crate) fn named_command(words: &[String]) -> Option<&str> {
+pub fn named_command(words: &[String]) -> Option<&str> {
     let first = words.get(1)?.as_str();
     COMMANDS
         .iter()
@@ -175,7 +173,7 @@ fn with_rules<'a>(command: Command<'a>) -> Command<'a> {
 }
 
 /// The program's command, with the command that is named, or with all of them if none is.
-pub(crate) fn command<'a>(alloc: Global, named: Option<&str>) -> Result<Command<'a>, AllocError> {
+pub fn command<'a>(alloc: Global, named: Option<&str>) -> Result<Command<'a>, AllocError> {
     let commands = commands(alloc, named)?;
     with_rules(with_statuses(with_texts(Command::new(alloc, "rpg2")))).subcommands(commands)
 }

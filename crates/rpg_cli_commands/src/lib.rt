@@ -1,0 +1,7 @@
+//! The commands of `rpg2` and their words, as data and as clap knows them.
+#![tactic(auto)]
+
+mod building;
+mod words;
+
+pub use building::{command, named_command};
