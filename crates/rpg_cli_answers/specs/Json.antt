@@ -1,12 +1,44 @@
 -- The object of JSON that is printed for an answer.
-use Rattle.std.specs.Prelude.{ℕ, List, ◌++◌, codes, decimal}
+use Rattle.std.specs.Prelude.{ℕ, List, [], ◌++◌, codes, decimal}
+use Rattle.rpg_engine.specs.Halts.{halt_number}
+use Rattle.rpg_engine.specs.JobEnd.{JobEnd}
+use Rattle.rpg_engine.specs.JobEnd.TheVariants as endings
+use Rattle.rpg_engine.specs.declared.report.Report.{Report}
 use Rattle.rpg_cli_answers.specs.Answers.{exit_status, line_text}
 use Rattle.rpg_cli_answers.specs.declared.answer.Answer.{Answer}
+use Rattle.rpg_cli_answers.specs.declared.answer.Answer.TheVariants as answers
 
--- the answer in words, and the exit status
-abbrev pub object_text : List ℕ → ℕ → List ℕ
-object_text words status = codes "{\"answer\":\"" ++ words ++ codes "\",\"status\":" ++ decimal status ++ codes "}"
+-- what stands before the value of a member
+abbrev pub member_name : List ℕ → List ℕ
+member_name name = codes ",\"" ++ name ++ codes "\":"
 
--- the line that is printed without JSON, which has no character that is escaped, and the exit status
+-- a member whose value is a number
+abbrev pub member : (name : List ℕ) → ℕ → List ℕ
+member name n = member_name name ++ decimal n
+
+-- the number of the halt, if the job halted
+abbrev pub halt_member : JobEnd → List ℕ
+halt_member endings.EndOfJob = []
+halt_member (endings.Halt halt) = member (codes "halt") (halt_number halt)
+
+-- how a job ended, the number of cycles, the most steps of one, and the steps that none can pass
+abbrev pub report_members : Report → List ℕ
+report_members report = halt_member report.ending ++ member (codes "cycles") report.cycles ++ member (codes "steps") report.most ++ member (codes "bound") report.bound
+
+-- how many sources, and how many of them are rejected
+abbrev pub checked_members : (sources rejected : ℕ) → List ℕ
+checked_members sources rejected = member (codes "sources") sources ++ member (codes "rejected") rejected
+
+-- the numbers of an answer that counts
+abbrev pub counts_of : Answer → List ℕ
+counts_of (answers.Ended report) = report_members report
+counts_of (answers.Checked sources rejected status) = checked_members sources rejected
+counts_of a = []
+
+-- the answer in words
+abbrev pub beginning : List ℕ → List ℕ
+beginning words = codes "{\"answer\":\"" ++ words ++ codes "\""
+
+-- the line that is printed without JSON, which has no character that is escaped, the counts, and the exit status
 abbrev pub json_text : Answer → List ℕ
-json_text a = object_text (line_text a) (exit_status a)
+json_text a = beginning (line_text a) ++ counts_of a ++ member (codes "status") (exit_status a) ++ codes "}"

@@ -9,55 +9,142 @@ use crate::answer::Answer;
 use crate::text::line;
 use arrayvec::ArrayVec;
 use itoa::Buffer;
+use rpg_engine::{JobEnd, Report};
 
 /// An object under construction.
-type Object = ArrayVec<u8, 192>;
+type Object = ArrayVec<u8, 256>;
 
 /// The object of JSON that is printed for an answer, without its line feed, and the exit status.
 #[derive(Drop)]
 pub struct JsonLine {
-    pub text: ArrayVec<u8, 192>,
+    pub text: ArrayVec<u8, 256>,
     pub status: u8,
 }
 
 fn add(text: &mut Object, piece: &[u8])
-    requires { array_vec_len text.old + length piece.now ≤ 192 }
+    requires { array_vec_len text.old + length piece.now ≤ 256 }
     ensures items { text.new.items ≡ text.old.items ++ piece.now }
     ensures len { array_vec_len text.new ≡ array_vec_len text.old + length piece.now }
 {
     text.try_extend_from_slice(piece).unwrap();
 }
 
-fn add_status(text: &mut Object, status: u8)
-    requires { array_vec_len text.old ≤ 189 }
-    ensures items { text.new.items ≡ text.old.items ++ decimal status }
-    ensures len { array_vec_len text.new ≤ array_vec_len text.old + 3 }
+/// Adds the name of a member.
+fn add_name(text: &mut Object, name: &[u8])
+    requires name { length name.now ≤ 10 }
+    requires room { array_vec_len text.old ≤ 230 }
+    ensures items { text.new.items ≡ text.old.items ++ json.member_name name.now }
+    ensures len { array_vec_len text.new ≡ array_vec_len text.old + length name.now + 4 }
 {
-    add(text, Buffer::new().format(status).as_bytes());
+    add(text, b",\"");
+    add(text, name);
+    add(text, b"\":");
 }
 
-/// The answer in words, and the exit status.
-fn add_answer(text: &mut Object, words: &[u8], status: u8)
-    requires begin { array_vec_len text.old ≤ 2 }
-    requires words { length words.now ≤ 96 }
-    ensures items { text.new.items ≡ text.old.items ++ json.object_text words.now status }
+/// Adds a member whose value is a number.
+fn add_number(text: &mut Object, name: &[u8], number: u64)
+    requires name { length name.now ≤ 10 }
+    requires room { array_vec_len text.old ≤ 200 }
+    ensures items { text.new.items ≡ text.old.items ++ json.member name.now number }
+    ensures len { array_vec_len text.new ≤ array_vec_len text.old + length name.now + 24 }
 {
-    add(text, b"{\"answer\":\"");
-    add(text, words);
-    add(text, b"\",\"status\":");
-    add_status(text, status);
-    add(text, b"}");
+    add_name(text, name);
+    add(text, Buffer::new().format(number).as_bytes());
 }
 
-/// The object of an answer in words and its exit status.
-fn object(words: &[u8], status: u8) -> JsonLine
+/// The same of a number of at most three digits.
+fn add_short_number(text: &mut Object, name: &[u8], number: u8)
+    requires name { length name.now ≤ 10 }
+    requires room { array_vec_len text.old ≤ 220 }
+    ensures items { text.new.items ≡ text.old.items ++ json.member name.now number }
+    ensures len { array_vec_len text.new ≤ array_vec_len text.old + length name.now + 7 }
+{
+    add_name(text, name);
+    add(text, Buffer::new().format(number).as_bytes());
+}
+
+fn add_halt(text: &mut Object, ending: JobEnd)
+    requires { array_vec_len text.old ≤ 110 }
+    ensures items { text.new.items ≡ text.old.items ++ json.halt_member ending }
+    ensures len { array_vec_len text.new ≤ array_vec_len text.old + 11 }
+{
+    match ending {
+        JobEnd::EndOfJob => {}
+        JobEnd::Halt(halt) => add_short_number(text, b"halt", halt.number()),
+    }
+}
+
+fn add_report(text: &mut Object, report: Report)
+    requires { array_vec_len text.old ≤ 110 }
+    ensures items { text.new.items ≡ text.old.items ++ json.report_members report }
+    ensures len { array_vec_len text.new ≤ array_vec_len text.old + 100 }
+{
+    add_halt(text, report.ending);
+    add_number(text, b"cycles", report.cycles);
+    add_number(text, b"steps", report.most);
+    add_number(text, b"bound", report.bound);
+}
+
+fn add_checked(text: &mut Object, sources: u64, rejected: u64)
+    requires { array_vec_len text.old ≤ 110 }
+    ensures items { text.new.items ≡ text.old.items ++ json.checked_members sources rejected }
+    ensures len { array_vec_len text.new ≤ array_vec_len text.old + 100 }
+{
+    add_number(text, b"sources", sources);
+    add_number(text, b"rejected", rejected);
+}
+
+/// The numbers of an answer that counts.
+fn add_counts(text: &mut Object, answer: &Answer)
+    requires { array_vec_len text.old ≤ 110 }
+    ensures items { text.new.items ≡ text.old.items ++ json.counts_of answer.now }
+    ensures len { array_vec_len text.new ≤ array_vec_len text.old + 100 }
+{
+    match *answer {
+        Answer::Ended(report) => add_report(text, report),
+        Answer::Checked {
+            sources,
+            rejected,
+            ..
+        } => add_checked(text, sources, rejected),
+        Answer::Compiled
+        | Answer::Faultless
+        | Answer::Denied { .. }
+        | Answer::Accepted { .. }
+        | Answer::Source(_)
+        | Answer::Object(_)
+        | Answer::OtherSource
+        | Answer::DiskFileWanted
+        | Answer::SecondaryFileWanted
+        | Answer::DateWanted
+        | Answer::OverLimit { .. }
+        | Answer::Run(_)
+        | Answer::File { .. }
+        | Answer::Explained
+        | Answer::Deck
+        | Answer::NoCard { .. }
+        | Answer::Records { .. }
+        | Answer::DeckRefused { .. }
+        | Answer::RecordRefused { .. }
+        | Answer::Fitted { .. }
+        | Answer::FitRefused { .. }
+        | Answer::NewDeck(_)
+        | Answer::NoSuchCode
+        | Answer::NoMemory => {}
+    }
+}
+
+/// Begins an object with the answer in words.
+fn begin(words: &[u8]) -> Object
     requires { length words.now ≤ 96 }
-    ensures text { result.text.items ≡ json.object_text words.now status }
-    ensures status { result.status ≡ status }
+    ensures items { result.items ≡ json.beginning words.now }
+    ensures len { array_vec_len result ≤ 110 }
 {
     let mut text = ArrayVec::new();
-    add_answer(&mut text, words, status);
-    JsonLine { text, status }
+    add(&mut text, b"{\"answer\":\"");
+    add(&mut text, words);
+    add(&mut text, b"\"");
+    text
 }
 
 /// The object of JSON that is printed for an answer, and the exit status.
@@ -66,5 +153,12 @@ pub fn json_line(answer: &Answer) -> JsonLine
     ensures status { result.status ≡ exit_status answer.now }
 {
     let plain = line(answer);
-    object(plain.text.as_slice(), plain.status)
+    let mut text = begin(plain.text.as_slice());
+    add_counts(&mut text, answer);
+    add_short_number(&mut text, b"status", plain.status);
+    add(&mut text, b"}");
+    JsonLine {
+        text,
+        status: plain.status,
+    }
 }
