@@ -3,9 +3,9 @@
 use crate::columns::Columns;
 use rpg_fit_deck::{Card, Editor, Seen, Sentence, View, Word};
 use rpg_fit_words::{
-    Array, Calculation, Indicator, Line, NewCard, Operand, Place, Printer, Section, Stop, Time,
-    array_of, arrays, fresh_name, groups, insert_at, is_card, is_field_put_first, is_name_used,
-    is_total_skipped_late, lines, printer_of, record_types,
+    Array, Calculation, Group, Indicator, Line, NewCard, Operand, Place, Printer, Section, Stop,
+    Time, array_of, arrays, fresh_name, groups, insert_at, is_card, is_field_put_first,
+    is_name_used, is_total_skipped_late, lines, printer_of, record_types,
 };
 use std::alloc::Global;
 
@@ -18,7 +18,7 @@ enum DatePart {
 }
 
 impl DatePart {
-    /// All parts, in the order in which they are told.
+    /// All parts, in the order in which they are reported.
     const ALL: [DatePart; 3] = [DatePart::Day, DatePart::Month, DatePart::Year];
 
     fn name(self) -> &'static [u8] {
@@ -67,8 +67,14 @@ fn undefined_parts(alloc: Global, view: &View) -> Result<Vec<DatePart>, Stop> {
     Ok(parts)
 }
 
+/// Whether an array, a result or an input field defines a name.
 fn is_defined(view: &View, arrays: &[Array], name: &[u8]) -> bool {
-    array_of(arrays, name).is_some() || view.cards.iter().any(|seen| defines(seen, name))
+    for seen in view.cards.iter() {
+        if defines(seen, name) {
+            return true;
+        }
+    }
+    array_of(arrays, name).is_some()
 }
 
 /// Whether a card is a calculation that gives a name its length, or an input field.
@@ -79,40 +85,48 @@ fn defines(seen: &Seen, name: &[u8]) -> bool {
 
 /// Whether a name is one of some parts of the date.
 fn is_part(parts: &[DatePart], name: &[u8]) -> bool {
-    parts.iter().any(|part| part.name() == name)
+    for part in parts {
+        if part.name() == name {
+            return true;
+        }
+    }
+    false
 }
 
-/// Whether a card has one of some parts of the date, other than as an index.
-fn has_part(parts: &[DatePart], card: &Card) -> bool {
+/// Whether a card has one of some parts of the date, as an operand or as its index.
+fn has_part(parts: &[DatePart], card: &Card, as_index: bool) -> bool {
     match card.form() {
-        b'C' => Columns::ALL
-            .iter()
-            .any(|columns| is_part(parts, columns.value(card))),
-        b'O' => is_part(parts, card.value(32, 37)),
+        b'C' => {
+            is_operand(parts, Columns::Factor1.value(card), as_index)
+                || is_operand(parts, Columns::Factor2.value(card), as_index)
+                || is_operand(parts, Columns::Result.value(card), as_index)
+        }
+        b'O' => is_operand(parts, card.value(32, 37), as_index),
         _ => false,
     }
 }
 
-/// Whether a card has one of some parts of the date as an index.
-fn has_index(parts: &[DatePart], card: &Card) -> bool {
-    match card.form() {
-        b'C' => Columns::ALL.iter().any(|columns| is_part(
-            parts,
-            Operand::of(columns.value(card)).index,
-        )),
-        b'O' => is_part(parts, Operand::of(card.value(32, 37)).index),
-        _ => false,
-    }
+/// Whether an operand, or its index, is one of some parts of the date.
+fn is_operand(parts: &[DatePart], text: &[u8], as_index: bool) -> bool {
+    is_part(
+        parts,
+        if as_index {
+            Operand::of(text).index
+        } else {
+            text
+        },
+    )
 }
 
-/// The number of the first card that has one of some parts of the date; where all have them as indexes, of the first of those.
+/// The number of the first card that has one of some parts of the date; if all have them as indexes, of the first of those.
 fn first_card(view: &View, parts: &[DatePart]) -> usize {
     let mut indexed = 0;
     for seen in view.cards.iter() {
-        if !seen.card.is_comment() && has_part(parts, &seen.card) {
+        let is_card = !seen.card.is_comment();
+        if is_card && has_part(parts, &seen.card, false) {
             return seen.number;
         }
-        if indexed == 0 && !seen.card.is_comment() && has_index(parts, &seen.card) {
+        if indexed == 0 && is_card && has_part(parts, &seen.card, true) {
             indexed = seen.number;
         }
     }
@@ -133,13 +147,15 @@ fn check_lines(alloc: Global, view: &View, parts: &[DatePart]) -> Result<(), Sto
 
 /// Whether a line is put out at overflow.
 fn has_overflow(printer: Option<Printer>, line: &Line) -> bool {
-    match printer {
-        Some(printer) => line.alternatives.iter().any(|alternative| printer.is_overflow(
-            line,
-            &alternative.condition,
-        )),
-        None => false,
+    let Some(printer) = printer else {
+        return false;
+    };
+    for alternative in line.alternatives.iter() {
+        if printer.is_overflow(line, &alternative.condition) {
+            return true;
+        }
     }
+    false
 }
 
 /// Rejects parts of the date on a line. `is_early`: overflow may put it out before any total calculation.
@@ -152,13 +168,8 @@ fn check_line(
     for field in line.fields.iter() {
         let name = field.card.value(32, 37);
         if is_part(parts, name) && (is_early || is_field_put_first(printer, line, field)) {
-            return Err(Stop::refused(
-                field.number,
-                Sentence::about(
-                    "% on a line that may be put out before any calculation",
-                    Word::of(name),
-                ),
-            ));
+            let why = "% on a line that may be put out before any calculation";
+            return Err(Stop::refused(field.number, Sentence::about(why, Word::of(name))));
         }
     }
     Ok(())
@@ -166,12 +177,28 @@ fn check_line(
 
 /// Whether a deck has total calculations or total lines.
 fn has_total(alloc: Global, view: &View) -> Result<bool, Stop> {
-    let groups = groups(alloc, view)?;
-    let lines = lines(alloc, view)?;
     Ok(
-        groups.iter().any(|group| group.section() == Section::Total)
-            || lines.iter().any(|line| line.time == Time::Total),
+        has_total_line(lines(alloc, view)?.as_slice())
+            || has_total_group(groups(alloc, view)?.as_slice()),
     )
+}
+
+fn has_total_line(lines: &[Line]) -> bool {
+    for line in lines {
+        if line.time == Time::Total {
+            return true;
+        }
+    }
+    false
+}
+
+fn has_total_group(groups: &[Group]) -> bool {
+    for group in groups {
+        if group.section() == Section::Total {
+            return true;
+        }
+    }
+    false
 }
 
 /// The calculations that fill parts of the date.
@@ -235,7 +262,7 @@ impl Filling {
     }
 }
 
-/// What is told of the parts of the date that are fields now.
+/// The sentence about the parts of the date that are fields now.
 fn sentence(first: DatePart, more: &[DatePart]) -> Sentence {
     let first = Word::of(first.name());
     match more {

@@ -31,27 +31,23 @@ pub fn whole_calculations(alloc: Global, editor: &mut Editor) -> Result<(), Stop
     Ok(())
 }
 
-/// Whether an operation takes whole arrays as they are, or names labels and subroutines.
-fn is_left(operation: &[u8]) -> bool {
-    operation == b"LOKUP".as_slice()
-        || operation == b"XFOOT".as_slice()
-        || operation == b"GOTO".as_slice()
-        || operation == b"EXSR".as_slice()
-        || operation == b"TAG".as_slice()
-        || operation == b"BEGSR".as_slice()
-        || operation == b"ENDSR".as_slice()
-}
+/// Operations that take whole arrays as they are, or name labels and subroutines.
+const LEFT: [&[u8]; 7] = [
+    b"LOKUP", b"XFOOT", b"GOTO", b"EXSR", b"TAG", b"BEGSR", b"ENDSR",
+];
 
-/// Whether the operation of a whole array is the same operation of each entry.
-fn is_by_entry(operation: &[u8]) -> bool {
-    operation == b"ADD".as_slice()
-        || operation == b"SUB".as_slice()
-        || operation == b"MULT".as_slice()
-        || operation == b"DIV".as_slice()
-        || operation == b"Z-ADD".as_slice()
-        || operation == b"Z-SUB".as_slice()
-        || operation == b"MOVE".as_slice()
-        || operation == b"MOVEL".as_slice()
+/// Operations that a whole array and each of its entries have alike.
+const BY_ENTRY: [&[u8]; 8] = [
+    b"ADD", b"SUB", b"MULT", b"DIV", b"Z-ADD", b"Z-SUB", b"MOVE", b"MOVEL",
+];
+
+fn is_one_of(operation: &[u8], operations: &[&[u8]]) -> bool {
+    for one in operations {
+        if *one == operation {
+            return true;
+        }
+    }
+    false
 }
 
 /// Whether an operand is a whole array.
@@ -61,8 +57,7 @@ fn is_whole(arrays: &[Array], text: &[u8]) -> bool {
 
 /// Whether a calculation has a whole array that has to be rewritten.
 fn has_whole_array(arrays: &[Array], group: &Group) -> bool {
-    !is_left(group.operation())
-        && Columns::ALL.iter().any(|columns| is_whole(arrays, columns.value(&group.last.card)))
+    !is_one_of(group.operation(), &LEFT) && least_entries(arrays, &group.last.card).is_some()
 }
 
 /// Whether an operand is an entry of an array.
@@ -76,7 +71,7 @@ fn check(now: &Now, next: Option<&Group>) -> Result<(), Stop> {
     let card = &now.seen.card;
     let operation = card.value(28, 32);
     let result = Columns::Result.value(card);
-    if !is_by_entry(operation) {
+    if !is_one_of(operation, &BY_ENTRY) {
         let why = Sentence::about("a whole array beside %", Word::of(operation));
         return Err(Stop::refused(number, why));
     }
@@ -84,49 +79,35 @@ fn check(now: &Now, next: Option<&Group>) -> Result<(), Stop> {
         return Err(Stop::refused(number, Sentence::of("a whole array into a field")));
     }
     if !card.is_blank(54, 59) {
-        return Err(Stop::refused(
-            number,
-            Sentence::of("resulting indicators of a whole array"),
-        ));
+        let why = Sentence::of("resulting indicators of a whole array");
+        return Err(Stop::refused(number, why));
     }
-    check_remainder(next)?;
-    check_own_entry(now, result)
-}
-
-/// Rejects a remainder of whole arrays.
-fn check_remainder(next: Option<&Group>) -> Result<(), Stop> {
-    match next {
-        Some(group) if group.operation() == b"MVR".as_slice() => Err(Stop::refused(
-            group.last.number,
-            Sentence::of("MVR behind a DIV of whole arrays"),
-        )),
-        _ => Ok(()),
+    if let Some(group) = next {
+        if group.operation() == b"MVR".as_slice() {
+            let why = Sentence::of("MVR behind a DIV of whole arrays");
+            return Err(Stop::refused(group.last.number, why));
+        }
     }
+    check_own_entry(card, result, number)
 }
 
 /// Rejects an entry of the result as a factor.
-fn check_own_entry(now: &Now, array: &[u8]) -> Result<(), Stop> {
-    let card = &now.seen.card;
+fn check_own_entry(card: &Card, array: &[u8], number: usize) -> Result<(), Stop> {
     if is_entry_of(Columns::Factor1.value(card), array)
         || is_entry_of(Columns::Factor2.value(card), array)
     {
-        return Err(Stop::refused(
-            now.seen.number,
-            Sentence::about(
-                "an entry of % as a factor of the whole of it",
-                Word::of(array),
-            ),
-        ));
+        let why = "an entry of % as a factor of the whole of it";
+        return Err(Stop::refused(number, Sentence::about(why, Word::of(array))));
     }
     Ok(())
 }
 
-/// The least number of entries of the whole arrays of a calculation.
-fn least_entries(now: &Now) -> usize {
-    let mut least = usize::MAX;
+/// The least number of entries of the whole arrays of a calculation; none if it has no whole array.
+fn least_entries(arrays: &[Array], card: &Card) -> Option<usize> {
+    let mut least = None;
     for columns in Columns::ALL {
-        if let Some(array) = array_of(now.arrays.as_slice(), columns.value(&now.seen.card)) {
-            least = least.min(array.entries);
+        if let Some(array) = array_of(arrays, columns.value(card)) {
+            least = Some(array.entries.min(least.unwrap_or(array.entries)));
         }
     }
     least
@@ -142,13 +123,10 @@ fn rewrite_group(
 ) -> Result<(), Stop> {
     let now = Now::of(alloc, editor, group)?;
     check(&now, next)?;
-    let entries = least_entries(&now);
-    if entries == 0 {
-        Ok(())
-    } else if entries < LOOP_FROM {
-        by_entry(alloc, editor, free, group, entries)
-    } else {
-        by_loop(alloc, editor, free, group, entries)
+    match least_entries(now.arrays.as_slice(), &now.seen.card) {
+        None | Some(0) => Ok(()),
+        Some(entries) if entries < LOOP_FROM => by_entry(alloc, editor, free, group, entries),
+        Some(entries) => by_loop(alloc, editor, free, group, entries),
     }
 }
 
