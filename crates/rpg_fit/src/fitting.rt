@@ -4,9 +4,10 @@ ghost use Rattle.std.specs.Prelude.{IfOk};
 ghost use Rattle.rpg_faults.specs.EverySource.{AreSourceFaults};
 ghost use Rattle.rpg_fit_deck.specs.Laws.{IsFitted};
 
+use crate::note::{Note, notes};
 use crate::rules::apply_all;
 use rpg_faults::{CardFault, SourceFault, source_faults};
-use rpg_fit_cards::{Note, Settings, notes};
+use rpg_fit_cards::Settings;
 use rpg_fit_deck::{Editor, Fitted, Refusal, RenderError};
 use std::alloc::{AllocError, Global};
 
@@ -23,7 +24,7 @@ pub struct FittedDeck {
 /// Why a deck isn't rewritten.
 #[derive(Clone, Copy)]
 pub enum FitFault {
-    /// A rule refuses a card of it.
+    /// A rule rejects a card of it.
     Refused(Refusal),
     /// It has more than 2,000 cards, or would have.
     TooMany,
@@ -67,7 +68,7 @@ struct NotedDeck {
 ///
 /// # Errors
 ///
-/// A rule refuses the deck, it has too many cards, or memory is refused.
+/// A rule rejects the deck, it has too many cards, or memory is refused.
 pub fn fit(alloc: Global, source: &[u8], settings: &Settings) -> Result<FittedDeck, FitFault>
     ensures laws { IfOk result (λ fit. IsFitted source.now fit.fitted) }
     ensures faults { IfOk result (λ fit. AreSourceFaults fit.fitted.new.items fit.faults.items) }

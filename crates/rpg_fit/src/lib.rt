@@ -2,8 +2,10 @@
 #![tactic(auto)]
 
 mod fitting;
+mod note;
 mod rules;
 
 pub use fitting::{FitFault, FittedDeck, fit};
-pub use rpg_fit_cards::{Note, Settings, Switches, TableFile};
+pub use note::Note;
+pub use rpg_fit_cards::{Settings, Switches, TableFile};
 pub use rpg_fit_deck::{Card, Fitted, Refusal, Rule, Sentence, Told, What};

@@ -34,9 +34,9 @@ const RULES: [Rule; 21] = [
     Rule::Disks,
 ];
 
-/// Applies a rule that looks at cards one by one, or at record types.
+/// Applies a rule that looks at cards one by one.
 fn apply_to_cards(alloc: Global, editor: &mut Editor, settings: &Settings, rule: Rule) {
-    match rule {
+    let outcome = match rule {
         Rule::Comments => comments(alloc, editor),
         Rule::Columns => columns(alloc, editor),
         Rule::Switches => switches(alloc, editor, &settings.switches),
@@ -44,47 +44,50 @@ fn apply_to_cards(alloc: Global, editor: &mut Editor, settings: &Settings, rule:
         Rule::Tables => tables(alloc, editor, settings),
         Rule::NumberedPages => numbered_pages(alloc, editor),
         Rule::Disks => disks(alloc, editor),
-        Rule::OrTypes => or_types(alloc, editor),
-        Rule::Sequence => sequence(alloc, editor),
-        Rule::InputArrays => input_arrays(alloc, editor),
-        _ => {}
+        _ => Ok(()),
+    };
+    if outcome.is_err() {
+        editor.run_out();
     }
 }
 
-/// Applies a rule about calculations.
+/// Applies a rule about calculations or single lines.
 fn apply_to_calculations(alloc: Global, editor: &mut Editor, rule: Rule) {
     let outcome = match rule {
         Rule::Figures => figures(alloc, editor),
         Rule::Moves => moves(alloc, editor),
         Rule::WholeCalculations => whole_calculations(alloc, editor),
         Rule::Dates => dates(alloc, editor),
+        Rule::OrSpaces => or_spaces(alloc, editor),
+        Rule::WholeOutputs => whole_outputs(alloc, editor),
+        Rule::Places => places(alloc, editor),
+        Rule::Words => words(alloc, editor),
+        Rule::Dollars => dollars(alloc, editor),
         _ => Ok(()),
     };
     settle(editor, outcome);
 }
 
-/// Applies a rule about output lines.
-fn apply_to_lines(alloc: Global, editor: &mut Editor, rule: Rule) {
+/// Applies a rule about record types, pages or overflow.
+fn apply_to_cycle(alloc: Global, editor: &mut Editor, rule: Rule) {
     match rule {
-        Rule::OrSpaces => or_spaces(alloc, editor),
-        Rule::WholeOutputs => whole_outputs(alloc, editor),
-        Rule::Places => places(alloc, editor),
+        Rule::OrTypes => or_types(alloc, editor),
+        Rule::Sequence => sequence(alloc, editor),
+        Rule::InputArrays => input_arrays(alloc, editor),
         Rule::Pages => pages(alloc, editor),
-        Rule::Words => words(alloc, editor),
-        Rule::Dollars => dollars(alloc, editor),
         Rule::Fetch => fetch(alloc, editor),
         _ => {}
     }
 }
 
-/// Applies all rules, until one of them refuses the deck or memory runs out.
+/// Applies all rules, until one of them rejects the deck or memory runs out.
 pub(crate) fn apply_all(alloc: Global, editor: &mut Editor, settings: &Settings) {
     for rule in RULES {
         if editor.goes_on() {
             editor.begin(rule);
             apply_to_cards(alloc, editor, settings, rule);
             apply_to_calculations(alloc, editor, rule);
-            apply_to_lines(alloc, editor, rule);
+            apply_to_cycle(alloc, editor, rule);
         }
     }
 }

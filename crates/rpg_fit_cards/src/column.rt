@@ -2,8 +2,8 @@
 
 use crate::cards::is_printer;
 use crate::draft::Draft;
-use rpg_fit_deck::{Card, Editor, Seen, Sentence, View, Word};
-use std::alloc::Global;
+use rpg_fit_deck::{Card, Editor, Seen, Sentence, Word};
+use std::alloc::{AllocError, Global};
 
 /// Columns of a form that stand for nothing.
 struct Spare {
@@ -50,14 +50,12 @@ const SPARES: [Spare; 5] = [
 const COLUMNS: usize = 80;
 
 /// Blanks columns that stand for nothing, and gives a card file the record length of its block.
-pub fn columns(alloc: Global, editor: &mut Editor) {
-    match editor.view(alloc) {
-        Ok(view) => tidy_all(editor, &view),
-        Err(_) => editor.run_out(),
-    }
-}
-
-fn tidy_all(editor: &mut Editor, view: &View) {
+///
+/// # Errors
+///
+/// Memory is refused.
+pub fn columns(alloc: Global, editor: &mut Editor) -> Result<(), AllocError> {
+    let view = editor.view(alloc)?;
     for seen in &view.cards {
         let mut draft = Draft::of(seen);
         cut(editor, seen, &mut draft);
@@ -67,9 +65,10 @@ fn tidy_all(editor: &mut Editor, view: &View) {
             blank_stackers(editor, &mut draft);
         }
     }
+    Ok(())
 }
 
-/// Cuts what stands behind the columns of a card.
+/// Cuts what follows the columns of a card.
 fn cut(editor: &mut Editor, seen: &Seen, draft: &mut Draft) {
     if seen.width > COLUMNS {
         let last = Word::of_number(seen.width);

@@ -7,13 +7,11 @@ use std::alloc::{AllocError, Global};
 const DIRECTIVES: [&[u8]; 3] = [b"/TITLE", b"/EJECT", b"/SPACE"];
 
 /// Makes comments of directives for the listing, and of DEBUG with the cards of its conditions.
-pub fn comments(alloc: Global, editor: &mut Editor) {
-    if make_comments(alloc, editor).is_err() {
-        editor.run_out();
-    }
-}
-
-fn make_comments(alloc: Global, editor: &mut Editor) -> Result<(), AllocError> {
+///
+/// # Errors
+///
+/// Memory is refused.
+pub fn comments(alloc: Global, editor: &mut Editor) -> Result<(), AllocError> {
     let view = editor.view(alloc)?;
     put_directives(editor, &view);
     let view = editor.view(alloc)?;
@@ -24,7 +22,12 @@ fn make_comments(alloc: Global, editor: &mut Editor) -> Result<(), AllocError> {
 
 fn is_directive(card: &Card) -> bool {
     let found = card.columns(7, 12);
-    DIRECTIVES.iter().any(|word| found == *word)
+    for word in &DIRECTIVES {
+        if found == *word {
+            return true;
+        }
+    }
+    false
 }
 
 fn make_comment(editor: &mut Editor, seen: &Seen, with: usize) {

@@ -1,6 +1,6 @@
 //! Several disk files become one.
 
-use crate::cards::{is_printer, of_form};
+use crate::cards::{is_of_form, is_printer};
 use crate::draft::Draft;
 use crate::outputs::{OutputCard, OutputRole, output_cards};
 use rpg_fit_deck::{Address, Card, Editor, Seen, Sentence, View, Word};
@@ -8,13 +8,6 @@ use std::alloc::{AllocError, Global};
 
 /// How many disk files can become one: each has a letter.
 const LETTERS: usize = 26;
-
-/// Makes one disk file of several: column 1 of its records has a letter for the file.
-pub fn disks(alloc: Global, editor: &mut Editor) {
-    if join(alloc, editor).is_err() {
-        editor.run_out();
-    }
-}
 
 /// A disk file that is written.
 #[derive(Clone, Copy)]
@@ -31,48 +24,64 @@ impl Disk {
     }
 }
 
-fn join(alloc: Global, editor: &mut Editor) -> Result<(), AllocError> {
+/// Makes one disk file of several: column 1 of its records has a letter for the file.
+///
+/// # Errors
+///
+/// Memory is refused.
+pub fn disks(alloc: Global, editor: &mut Editor) -> Result<(), AllocError> {
     let view = editor.view(alloc)?;
-    let Some(disks) = written_disks(alloc, &view)? else {
-        return Ok(());
-    };
-    let [first, others @ ..] = disks.as_slice() else {
-        return Ok(());
-    };
-    if others.is_empty() {
-        return Ok(());
-    }
-    tell_disks(editor, disks.as_slice());
-    let outputs = output_cards(alloc, &view)?;
-    for (place, output) in outputs.iter().enumerate() {
-        move_output(editor, disks.as_slice(), first, output);
-        if ends_conditions(outputs.as_slice(), place) {
-            put_letter(editor, &view, disks.as_slice(), output);
+    let disks = written_disks(alloc, &view)?;
+    if let [first, others @ ..] = disks.as_slice() {
+        if !others.is_empty() {
+            let outputs = output_cards(alloc, &view)?;
+            tell_disks(editor, disks.as_slice());
+            move_outputs(editor, &view, disks.as_slice(), first, outputs.as_slice());
+            join_files(editor, first, others);
         }
     }
-    join_files(editor, first, others);
     Ok(())
 }
 
-/// The disk files that are written; none where one has no length, or they are too many.
-fn written_disks(alloc: Global, view: &View) -> Result<Option<Vec<Disk>>, AllocError> {
-    let mut disks = Vec::new(alloc);
-    let mut letter = b'A';
-    for seen in &of_form(alloc, view, b'F')? {
-        if seen.card.column(15) != b'O' || is_printer(&seen.card) {
-            continue;
+/// Moves the fields of all disk files' lines one to the right, and puts the letter of its file in column 1 of each line.
+fn move_outputs(
+    editor: &mut Editor,
+    view: &View,
+    disks: &[Disk],
+    first: &Disk,
+    outputs: &[OutputCard],
+) {
+    for (place, output) in outputs.iter().enumerate() {
+        move_output(editor, disks, first, output);
+        if ends_conditions(outputs, place) {
+            put_letter(editor, view, disks, output);
         }
-        let Some(length) = seen.card.number(24, 27) else {
-            return Ok(None);
-        };
-        disks.push(Disk {
-            seen: *seen,
-            length,
-            letter,
-        })?;
-        letter = letter.saturating_add(1);
     }
-    Ok((disks.len() <= LETTERS).then_some(disks))
+}
+
+/// The disk files that are written; none where one has no length, or they are too many.
+fn written_disks(alloc: Global, view: &View) -> Result<Vec<Disk>, AllocError> {
+    let mut disks: Vec<Disk> = Vec::new(alloc);
+    let mut letter = b'A';
+    for seen in &view.cards {
+        if is_disk(&seen.card) {
+            match seen.card.number(24, 27) {
+                Some(length) if disks.len() < LETTERS => disks.push(Disk {
+                    seen: *seen,
+                    length,
+                    letter,
+                })?,
+                _ => return Ok(Vec::new(alloc)),
+            }
+            letter = letter.saturating_add(1);
+        }
+    }
+    Ok(disks)
+}
+
+/// Whether a card is that of a file that is written, and no printer.
+fn is_disk(card: &Card) -> bool {
+    is_of_form(card, b'F') && card.column(15) == b'O' && !is_printer(card)
 }
 
 fn tell_disks(editor: &mut Editor, disks: &[Disk]) {
@@ -93,10 +102,15 @@ fn tell_disks(editor: &mut Editor, disks: &[Disk]) {
 
 /// The disk file of a line.
 fn disk_of<'a>(disks: &'a [Disk], file: &[u8]) -> Option<&'a Disk> {
-    disks.iter().find(|disk| disk.name() == file)
+    for disk in disks {
+        if disk.name() == file {
+            return Some(disk);
+        }
+    }
+    None
 }
 
-/// Gives the card of a line the name of its file, and moves a field of a disk file behind the letter.
+/// Gives the card of a line the name of its file, and moves a field of a disk file one to the right.
 fn move_output(editor: &mut Editor, disks: &[Disk], first: &Disk, output: &OutputCard) {
     let disk = disk_of(disks, output.file.text());
     let with = match disk {
@@ -141,8 +155,8 @@ fn ends_conditions(outputs: &[OutputCard], place: usize) -> bool {
     is_condition && !goes_on
 }
 
-/// Where the card behind another one is.
-fn behind(view: &View, place: usize) -> Address {
+/// Where the card after another one is.
+fn address_after(view: &View, place: usize) -> Address {
     match view.cards.get(place.saturating_add(1)) {
         Some(next) => next.at,
         None => view.cards_end,
@@ -155,7 +169,7 @@ fn put_letter(editor: &mut Editor, view: &View, disks: &[Disk], output: &OutputC
         let card = Card::of_form(b'O')
             .with_right(40, 43, b"1")
             .with(45, 47, &[b'\'', disk.letter, b'\'']);
-        let at = behind(view, output.place);
+        let at = address_after(view, output.place);
         let _ = editor.insert_copy(at, card, output.line, disk.seen.number);
     }
 }

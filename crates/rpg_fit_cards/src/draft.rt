@@ -2,7 +2,7 @@
 
 use rpg_fit_deck::{Address, Card, Editor, Seen, Sentence};
 
-/// A card that a rule changes. Each change is told of the card itself.
+/// A card that a rule changes. Each change is reported for the card itself.
 #[derive(Clone, Copy)]
 pub(crate) struct Draft {
     at: Address,
@@ -19,7 +19,7 @@ impl Draft {
         }
     }
 
-    /// Puts a text in columns, and tells it.
+    /// Puts a text in columns, and reports it.
     pub fn change(
         &mut self,
         editor: &mut Editor,
@@ -32,7 +32,7 @@ impl Draft {
         self.follow(editor, first, last, text, self.number);
     }
 
-    /// Puts a text in columns, along with the change that is told of the card `with`.
+    /// Puts a text in columns, along with the change that is reported for the card `with`.
     pub fn follow(
         &mut self,
         editor: &mut Editor,

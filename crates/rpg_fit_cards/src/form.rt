@@ -1,8 +1,8 @@
 //! L cards are taken out.
 
-use crate::cards::{first_condition, is_printer, of_form};
+use crate::cards::{is_of_form, is_printer};
 use crate::draft::Draft;
-use crate::outputs::{OutputCard, OutputRole, output_cards};
+use crate::outputs::{OutputRole, output_role};
 use crate::settings::Settings;
 use rpg_fit_deck::{Card, Editor, Seen, Sentence, View, Word};
 use std::alloc::{AllocError, Global};
@@ -11,13 +11,6 @@ use std::alloc::{AllocError, Global};
 const LINES: usize = 66;
 
 const OVERFLOW: usize = 60;
-
-/// Takes out L cards of the form that each page has, and others where no form gets more.
-pub fn forms(alloc: Global, editor: &mut Editor, settings: &Settings) {
-    if take_out(alloc, editor, settings).is_err() {
-        editor.run_out();
-    }
-}
 
 /// What a deck does on its form.
 #[derive(Clone, Copy)]
@@ -28,51 +21,79 @@ struct FormUse {
     skips: bool,
 }
 
-fn take_out(alloc: Global, editor: &mut Editor, settings: &Settings) -> Result<(), AllocError> {
+/// Takes out L cards of the form that each page has, and others where no form gets more.
+///
+/// # Errors
+///
+/// Memory is refused.
+pub fn forms(alloc: Global, editor: &mut Editor, settings: &Settings) -> Result<(), AllocError> {
     let view = editor.view(alloc)?;
-    let files = of_form(alloc, &view, b'F')?;
-    let outputs = output_cards(alloc, &view)?;
     let form_use = FormUse {
-        overflow: asked_overflow(&view, files.as_slice()),
-        skips: outputs.iter().any(skips),
+        overflow: asked_overflow(&view),
+        skips: has_skip(&view),
     };
-    for seen in &of_form(alloc, &view, b'L')? {
-        if let Some(form) = form_of(&seen.card) {
-            take_out_form(editor, &form_use, form, settings.keeps_forms, seen);
-            if !editor.goes_on() {
-                return Ok(());
-            }
-            blank_references(editor, files.as_slice(), seen.number);
+    for seen in &view.cards {
+        if is_of_form(&seen.card, b'L') && editor.goes_on() {
+            take_out(editor, &view, &form_use, settings.keeps_forms, seen);
         }
     }
     Ok(())
 }
 
 /// The overflow indicator of the printer, where some condition asks for it.
-fn asked_overflow(view: &View, files: &[Seen]) -> Option<Word> {
-    let printer = files.iter().find(|file| is_printer(&file.card))?;
-    let indicator = printer.card.value(33, 34);
-    let is_asked = !indicator.is_empty()
-        && view.cards.iter().any(|seen| asks(&seen.card, indicator));
-    is_asked.then_some(Word::of(indicator))
+fn asked_overflow(view: &View) -> Option<Word> {
+    let indicator = overflow_of(view)?;
+    for seen in &view.cards {
+        if asks(&seen.card, indicator.text()) {
+            return Some(indicator);
+        }
+    }
+    None
+}
+
+/// The overflow indicator of the first printer, if it has one.
+fn overflow_of(view: &View) -> Option<Word> {
+    for seen in &view.cards {
+        if is_of_form(&seen.card, b'F') && is_printer(&seen.card) {
+            let indicator = seen.card.value(33, 34);
+            return (!indicator.is_empty()).then_some(Word::of(indicator));
+        }
+    }
+    None
+}
+
+/// Whether an indicator stands in a column and the next one.
+fn has_at(card: &Card, column: usize, indicator: &[u8]) -> bool {
+    card.columns(column, column.saturating_add(1)) == indicator
 }
 
 /// Whether a condition of a card asks for an indicator.
 fn asks(card: &Card, indicator: &[u8]) -> bool {
-    let first = first_condition(card.form());
-    let is_condition = matches!(card.form(), b'C' | b'O') && !card.is_comment();
-    is_condition
-        && [1usize, 4, 7].iter().any(|offset| {
-            let column = first.saturating_add(*offset);
-            card.columns(column, column.saturating_add(1)) == indicator
-        })
+    !card.is_comment()
+        && match card.form() {
+            b'C' => has_at(card, 10, indicator)
+                || has_at(card, 13, indicator)
+                || has_at(card, 16, indicator),
+            b'O' => has_at(card, 24, indicator)
+                || has_at(card, 27, indicator)
+                || has_at(card, 30, indicator),
+            _ => false,
+        }
 }
 
-/// Whether a card begins a line that skips.
-fn skips(output: &OutputCard) -> bool {
-    let card = &output.seen.card;
-    let skip = card.number(19, 20).is_some() || card.number(21, 22).is_some();
-    output.role == OutputRole::Line && skip
+/// Whether the card of a line skips.
+fn has_skip(view: &View) -> bool {
+    for seen in &view.cards {
+        let card = &seen.card;
+        if is_of_form(card, b'O') && output_role(card) == OutputRole::Line && skips(card) {
+            return true;
+        }
+    }
+    false
+}
+
+fn skips(card: &Card) -> bool {
+    card.number(19, 20).is_some() || card.number(21, 22).is_some()
 }
 
 /// The form of an L card.
@@ -134,23 +155,22 @@ fn reason_of_short(form_use: &FormUse, lines: Word, keeps_forms: bool) -> Option
     if keeps_forms {
         None
     } else {
-        let text = "a form of % lines; --forms says that no form gets more";
+        let text = "a form of % lines: give --forms if no form gets more";
         Some(Sentence::about(text, lines))
     }
 }
 
-fn take_out_form(
-    editor: &mut Editor,
-    form_use: &FormUse,
-    form: Form,
-    keeps_forms: bool,
-    seen: &Seen,
-) {
+/// Takes out an L card. One whose columns can't be read stays: the compiler reports it.
+fn take_out(editor: &mut Editor, view: &View, form_use: &FormUse, keeps_forms: bool, seen: &Seen) {
+    let Some(form) = form_of(&seen.card) else {
+        return;
+    };
     match reason(form_use, form, keeps_forms) {
         Some(why) => editor.refuse(seen.number, why),
         None => {
             editor.tell(seen.number, removal(form));
             editor.remove(seen.at, seen.number);
+            blank_references(editor, view, seen.number);
         }
     }
 }
@@ -167,10 +187,10 @@ fn removal(form: Form) -> Sentence {
 }
 
 /// Blanks the letter on F cards that asks for an L card.
-fn blank_references(editor: &mut Editor, files: &[Seen], with: usize) {
-    for file in files {
-        if file.card.column(39) == b'L' {
-            Draft::of(file).follow(editor, 39, 39, &[], with);
+fn blank_references(editor: &mut Editor, view: &View, with: usize) {
+    for seen in &view.cards {
+        if is_of_form(&seen.card, b'F') && seen.card.column(39) == b'L' {
+            Draft::of(seen).follow(editor, 39, 39, &[], with);
         }
     }
 }

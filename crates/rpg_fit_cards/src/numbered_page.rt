@@ -1,8 +1,8 @@
 //! PAGE1 to PAGE7 become PAGE.
 
-use crate::cards::of_form;
-use crate::draft::Draft;
-use rpg_fit_deck::{Card, Editor, Seen, Sentence, View, Word};
+use crate::cards::is_of_form;
+use rpg_fit_deck::{Card, Editor, Sentence, View, Word};
+use rpg_fit_terms::{Operand, rename};
 use std::alloc::{AllocError, Global};
 
 /// The page counters of the old language.
@@ -10,105 +10,66 @@ const COUNTERS: [&[u8]; 8] = [
     b"PAGE", b"PAGE1", b"PAGE2", b"PAGE3", b"PAGE4", b"PAGE5", b"PAGE6", b"PAGE7",
 ];
 
-/// Columns that have a name.
-#[derive(Clone, Copy)]
-struct Spot {
-    first: usize,
-    last: usize,
-}
-
-/// The columns of a card that may have names.
-fn spots(form: u8) -> &'static [Spot] {
-    match form {
-        b'E' => &[
-            Spot {
-                first: 27,
-                last: 32,
-            },
-            Spot {
-                first: 46,
-                last: 51,
-            },
-        ],
-        b'I' => &[Spot {
-            first: 53,
-            last: 58,
-        }],
-        b'C' => &[
-            Spot {
-                first: 18,
-                last: 27,
-            },
-            Spot {
-                first: 33,
-                last: 42,
-            },
-            Spot {
-                first: 43,
-                last: 48,
-            },
-        ],
-        b'O' => &[Spot {
-            first: 32,
-            last: 37,
-        }],
-        _ => &[],
-    }
-}
-
 /// Makes PAGE of the one page counter of a deck.
-pub fn numbered_pages(alloc: Global, editor: &mut Editor) {
-    if rename_counter(alloc, editor).is_err() {
-        editor.run_out();
-    }
-}
-
-fn rename_counter(alloc: Global, editor: &mut Editor) -> Result<(), AllocError> {
+///
+/// # Errors
+///
+/// Memory is refused.
+pub fn numbered_pages(alloc: Global, editor: &mut Editor) -> Result<(), AllocError> {
     let view = editor.view(alloc)?;
-    let calculations = of_form(alloc, &view, b'C')?;
     let mut used = Vec::new(alloc);
     for counter in &COUNTERS {
-        if counts(&view, calculations.as_slice(), *counter) {
+        if counts(&view, *counter) {
             used.push(*counter)?;
         }
     }
     match used.as_slice() {
         [first, second, ..] if *first == b"PAGE".as_slice() => {
-            refuse_second(editor, &view, *second, *first);
+            reject_second(editor, &view, *second, *first);
         }
-        [first, second, ..] => refuse_second(editor, &view, *first, *second),
-        [counter] if *counter != b"PAGE".as_slice() => rename(editor, &view, *counter),
+        [first, second, ..] => reject_second(editor, &view, *first, *second),
+        [counter] if *counter != b"PAGE".as_slice() => become_page(editor, &view, *counter),
         _ => {}
     }
     Ok(())
 }
 
 /// Whether a counter is used, and no calculation gives it a length of its own.
-fn counts(view: &View, calculations: &[Seen], counter: &[u8]) -> bool {
-    let is_defined = calculations.iter().any(|seen| defines(&seen.card, counter));
-    (counter == b"PAGE".as_slice() || !is_defined) && first_with(view, counter).is_some()
+fn counts(view: &View, counter: &[u8]) -> bool {
+    (counter == b"PAGE".as_slice() || !is_defined(view, counter))
+        && first_with(view, counter).is_some()
 }
 
-fn defines(card: &Card, name: &[u8]) -> bool {
-    !card.is_blank(49, 51) && card.value(43, 48) == name
-}
-
-/// What stands behind a name in columns, where it is there: nothing, or a comma and an index.
-fn index_behind<'a>(found: &'a [u8], name: &[u8]) -> Option<&'a [u8]> {
-    if !found.starts_with(name) {
-        return None;
+/// Whether a calculation gives a name its length.
+fn is_defined(view: &View, name: &[u8]) -> bool {
+    for seen in &view.cards {
+        let card = &seen.card;
+        if is_of_form(card, b'C') && !card.is_blank(49, 51) && card.value(43, 48) == name {
+            return true;
+        }
     }
-    let behind = found.get(name.len()..)?;
-    matches!(behind, [] | [b',', ..]).then_some(behind)
+    false
+}
+
+/// Whether columns of a card have a name, perhaps with an index.
+fn has_at(card: &Card, first: usize, last: usize, name: &[u8]) -> bool {
+    Operand::of(card.value(first, last)).name == name
 }
 
 /// Whether a card has a name.
 fn has_name(card: &Card, name: &[u8]) -> bool {
     !card.is_comment()
-        && spots(card.form()).iter().any(|spot| index_behind(
-            card.value(spot.first, spot.last),
-            name,
-        ).is_some())
+        && match card.form() {
+            b'E' => has_at(card, 27, 32, name) || has_at(card, 46, 51, name),
+            b'I' => has_at(card, 53, 58, name),
+            b'C' => {
+                has_at(card, 18, 27, name)
+                    || has_at(card, 33, 42, name)
+                    || has_at(card, 43, 48, name)
+            }
+            b'O' => has_at(card, 32, 37, name),
+            _ => false,
+        }
 }
 
 /// The first card that prints a name, or else the first that has it.
@@ -125,7 +86,7 @@ fn first_with(view: &View, name: &[u8]) -> Option<usize> {
     first
 }
 
-fn refuse_second(editor: &mut Editor, view: &View, counter: &[u8], other: &[u8]) {
+fn reject_second(editor: &mut Editor, view: &View, counter: &[u8], other: &[u8]) {
     let sentence = Sentence::of_two(
         "% beside %: one page counter is there",
         Word::of(counter),
@@ -134,32 +95,10 @@ fn refuse_second(editor: &mut Editor, view: &View, counter: &[u8], other: &[u8])
     editor.refuse(first_with(view, counter).unwrap_or(1), sentence);
 }
 
-/// Whether the names of a card are those of labels and subroutines.
-fn has_labels(card: &Card) -> bool {
-    let operation = card.value(28, 32);
-    card.form() == b'C' && matches!(operation, b"GOTO" | b"EXSR" | b"TAG" | b"BEGSR" | b"ENDSR")
-}
-
-fn rename(editor: &mut Editor, view: &View, counter: &[u8]) {
-    let Some(first) = first_with(view, counter) else {
-        return;
-    };
-    editor.tell(first, Sentence::about("% is PAGE now", Word::of(counter)));
-    for seen in &view.cards {
-        if has_name(&seen.card, counter) && !has_labels(&seen.card) {
-            rename_in(editor, seen, counter, first);
-        }
-    }
-}
-
-/// Renames a counter in the columns of a card.
-fn rename_in(editor: &mut Editor, seen: &Seen, counter: &[u8], with: usize) {
-    let mut draft = Draft::of(seen);
-    for spot in spots(seen.card.form()) {
-        let found = seen.card.value(spot.first, spot.last);
-        if let Some(index) = index_behind(found, counter) {
-            let name = Word::of(b"PAGE").and(index);
-            draft.follow(editor, spot.first, spot.last, name.text(), with);
-        }
+/// Makes PAGE of a counter wherever it stands, other than as a label or a subroutine.
+fn become_page(editor: &mut Editor, view: &View, counter: &[u8]) {
+    if let Some(first) = first_with(view, counter) {
+        editor.tell(first, Sentence::about("% is PAGE now", Word::of(counter)));
+        rename(editor, view, counter, b"PAGE", first);
     }
 }

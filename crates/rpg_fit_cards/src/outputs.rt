@@ -27,7 +27,8 @@ pub(crate) struct OutputCard {
     pub file: Word,
 }
 
-fn role_of(card: &Card) -> OutputRole {
+/// What an output card is, by its columns.
+pub(crate) fn output_role(card: &Card) -> OutputRole {
     let is_condition = card.is_blank(7, 13);
     if is_condition && card.columns(14, 16) == b"AND".as_slice() {
         OutputRole::And
@@ -49,7 +50,7 @@ pub(crate) fn output_cards(alloc: Global, view: &View) -> Result<Vec<OutputCard>
         if !is_of_form(&seen.card, b'O') {
             continue;
         }
-        let role = role_of(&seen.card);
+        let role = output_role(&seen.card);
         if role == OutputRole::Line {
             line = seen.number;
             if !seen.card.is_blank(7, 14) {

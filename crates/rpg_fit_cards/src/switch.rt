@@ -1,6 +1,6 @@
 //! Conditions on external indicators are decided.
 
-use crate::cards::{first_condition, is_of_form, of_form};
+use crate::cards::{first_condition, is_of_form};
 use crate::draft::Draft;
 use crate::outputs::{OutputCard, OutputRole, output_cards};
 use crate::settings::Switches;
@@ -9,22 +9,22 @@ use rpg_text::is_blank;
 use std::alloc::{AllocError, Global};
 
 /// Decides conditions on U1 to U8: L0 stands for a condition that holds, NL0 for one that doesn't.
-pub fn switches(alloc: Global, editor: &mut Editor, switches: &Switches) {
-    if decide(alloc, editor, switches).is_err() {
-        editor.run_out();
-    }
-}
-
-fn decide(alloc: Global, editor: &mut Editor, switches: &Switches) -> Result<(), AllocError> {
+///
+/// # Errors
+///
+/// Memory is refused.
+pub fn switches(alloc: Global, editor: &mut Editor, switches: &Switches) -> Result<(), AllocError> {
     let view = editor.view(alloc)?;
-    refuse_results(editor, &view);
+    reject_results(editor, &view);
     if !editor.goes_on() {
         return Ok(());
     }
     decide_conditions(editor, &view, switches);
     let outputs = output_cards(alloc, &editor.view(alloc)?)?;
-    for file in &of_form(alloc, &view, b'F')? {
-        decide_file(editor, outputs.as_slice(), file, switches);
+    for seen in &view.cards {
+        if is_of_form(&seen.card, b'F') {
+            decide_file(editor, outputs.as_slice(), seen, switches);
+        }
     }
     Ok(())
 }
@@ -48,16 +48,16 @@ fn result_columns(card: &Card) -> &'static [usize] {
     }
 }
 
-fn refuse_results(editor: &mut Editor, view: &View) {
+fn reject_results(editor: &mut Editor, view: &View) {
     for seen in &view.cards {
         if !seen.card.is_comment() {
-            refuse_result(editor, seen);
+            reject_result(editor, seen);
         }
     }
 }
 
-/// Refuses a card that turns a switch on or off.
-fn refuse_result(editor: &mut Editor, seen: &Seen) {
+/// Rejects a card that turns a switch on or off.
+fn reject_result(editor: &mut Editor, seen: &Seen) {
     for column in result_columns(&seen.card) {
         let indicator = seen.card.columns(*column, column.saturating_add(1));
         if switch_number(indicator).is_some() {
@@ -135,9 +135,9 @@ fn decide_file(editor: &mut Editor, outputs: &[OutputCard], file: &Seen, switche
     if !switches.is_on(number) {
         let is_input = file.card.column(15) == b'I';
         if is_input {
-            refuse_input(editor, file.number, condition);
+            reject_input(editor, file.number, condition);
         } else {
-            refuse_lines(editor, outputs, file);
+            reject_lines(editor, outputs, file);
         }
         if !editor.goes_on() {
             return;
@@ -152,7 +152,7 @@ fn decide_file(editor: &mut Editor, outputs: &[OutputCard], file: &Seen, switche
     Draft::of(file).change(editor, 71, 72, &[], sentence);
 }
 
-fn refuse_input(editor: &mut Editor, number: usize, condition: &[u8]) {
+fn reject_input(editor: &mut Editor, number: usize, condition: &[u8]) {
     let sentence = Sentence::about(
         "% is off, so the file has no records: blank 71-72 and run it with an empty file",
         Word::of(condition),
@@ -167,8 +167,8 @@ fn has_effect(output: &OutputCard) -> bool {
     output.role == OutputRole::Field && (card.column(39) == b'B' || counts)
 }
 
-/// Refuses lines that can't be left out.
-fn refuse_lines(editor: &mut Editor, outputs: &[OutputCard], file: &Seen) {
+/// Rejects lines that can't be left out.
+fn reject_lines(editor: &mut Editor, outputs: &[OutputCard], file: &Seen) {
     let name = file.card.value(7, 14);
     for output in outputs {
         if output.file.text() == name && has_effect(output) {

@@ -1,6 +1,6 @@
-//! Table files become data behind `**` cards.
+//! Table files become data after `**` cards.
 
-use crate::cards::of_form;
+use crate::cards::is_of_form;
 use crate::draft::Draft;
 use crate::settings::Settings;
 use crate::table_data::{TableShape, entries_of, records_of};
@@ -8,26 +8,28 @@ use rpg_fit_deck::{Address, Card, Editor, Seen, Sentence, View, Word};
 use rpg_text::has_only_characters;
 use std::alloc::{AllocError, Global};
 
-/// Puts the records of table files behind `**` cards, in the order of the E cards, and takes out the files.
-pub fn tables(alloc: Global, editor: &mut Editor, settings: &Settings) {
-    if put_tables(alloc, editor, settings).is_err() {
-        editor.run_out();
-    }
-}
-
-fn put_tables(alloc: Global, editor: &mut Editor, settings: &Settings) -> Result<(), AllocError> {
+/// Puts the records of table files after `**` cards, in the order of the E cards, and takes out the files.
+///
+/// # Errors
+///
+/// Memory is refused.
+pub fn tables(alloc: Global, editor: &mut Editor, settings: &Settings) -> Result<(), AllocError> {
     let view = editor.view(alloc)?;
-    let cards = of_form(alloc, &view, b'E')?;
-    let Some(first) = cards.iter().find(|seen| has_file(&seen.card)) else {
-        return Ok(());
-    };
-    put_data(alloc, editor, settings, &view, cards.as_slice())?;
-    if editor.goes_on() {
-        for file in &of_form(alloc, &view, b'F')? {
-            drop_file(editor, file, first.number);
-        }
+    if let Some(first) = first_with_file(&view) {
+        put_data(alloc, editor, settings, &view)?;
+        drop_files(editor, &view, first);
     }
     Ok(())
+}
+
+/// The number of the first E card whose table is read from a file.
+fn first_with_file(view: &View) -> Option<usize> {
+    for seen in &view.cards {
+        if is_of_form(&seen.card, b'E') && has_file(&seen.card) {
+            return Some(seen.number);
+        }
+    }
+    None
 }
 
 /// Whether the table of an E card is read from a file.
@@ -40,7 +42,7 @@ fn begins_data(seen: &Seen) -> bool {
     seen.card.columns(1, 3) == b"** ".as_slice()
 }
 
-/// The first lines of a deck's data, and what stands behind them.
+/// The first lines of a deck's data, and where the card after them is.
 #[derive(Drop)]
 struct Parts {
     starts: Vec<Address>,
@@ -80,26 +82,37 @@ impl Parts {
     }
 }
 
+/// Puts the records of all E cards' files, up to the first card that is rejected.
 fn put_data(
     alloc: Global,
     editor: &mut Editor,
     settings: &Settings,
     view: &View,
-    cards: &[Seen],
 ) -> Result<(), AllocError> {
     let mut parts = Parts::of(alloc, view)?;
-    for seen in cards {
-        if !seen.card.is_blank(19, 26) {
-            let sentence = Sentence::of("a table that is written at the end (19 to 26)");
-            editor.refuse(seen.number, sentence);
-        } else if has_file(&seen.card) {
-            put_records(alloc, editor, settings, parts.next(), seen)?;
-        } else if !seen.card.is_blank(33, 35) && !parts.take() {
-            editor.refuse(seen.number, Sentence::of("its data are missing"));
+    for seen in &view.cards {
+        if is_of_form(&seen.card, b'E') && editor.goes_on() {
+            put_table(alloc, editor, settings, &mut parts, seen)?;
         }
-        if !editor.goes_on() {
-            break;
-        }
+    }
+    Ok(())
+}
+
+/// Puts the records of an E card's file.
+fn put_table(
+    alloc: Global,
+    editor: &mut Editor,
+    settings: &Settings,
+    parts: &mut Parts,
+    seen: &Seen,
+) -> Result<(), AllocError> {
+    if !seen.card.is_blank(19, 26) {
+        let sentence = Sentence::of("a table that is written at the end (19 to 26)");
+        editor.refuse(seen.number, sentence);
+    } else if has_file(&seen.card) {
+        put_records(alloc, editor, settings, parts.next(), seen)?;
+    } else if !seen.card.is_blank(33, 35) && !parts.take() {
+        editor.refuse(seen.number, Sentence::of("its data are missing"));
     }
     Ok(())
 }
@@ -138,7 +151,7 @@ fn put_records(
     Ok(())
 }
 
-/// Puts a `**` card and the entries behind it.
+/// Puts a `**` card and the entries after it.
 fn put_entries(
     editor: &mut Editor,
     shape: &TableShape,
@@ -174,6 +187,15 @@ fn take_over(editor: &mut Editor, shape: &TableShape, records: usize, seen: &See
             .card
             .with_right(33, 35, Word::of_number(per_card).text());
         draft.follow(editor, 33, 35, card.columns(33, 35), seen.number);
+    }
+}
+
+/// Takes out table files, unless a card was rejected.
+fn drop_files(editor: &mut Editor, view: &View, with: usize) {
+    for seen in &view.cards {
+        if is_of_form(&seen.card, b'F') && editor.goes_on() {
+            drop_file(editor, seen, with);
+        }
     }
 }
 

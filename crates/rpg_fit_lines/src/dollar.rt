@@ -5,16 +5,15 @@ use crate::dollar_code::{NoCode, dollar_code};
 use crate::field::name_on;
 use crate::word_form::{Around, WordForm};
 use rpg_fit_deck::{Editor, Seen, Sentence, View, Word};
-use rpg_fit_words::{Form, Line, Operand, Stop, form_of, lines, settle};
+use rpg_fit_words::{Form, Line, Operand, Stop, form_of, lines};
 use std::alloc::Global;
 
 /// Puts an edit code in place of each word in which a dollar sign floats.
-pub fn dollars(alloc: Global, editor: &mut Editor) {
-    let outcome = code_lines(alloc, editor);
-    settle(editor, outcome);
-}
-
-fn code_lines(alloc: Global, editor: &mut Editor) -> Result<(), Stop> {
+///
+/// # Errors
+///
+/// The deck is rejected, or memory is refused.
+pub fn dollars(alloc: Global, editor: &mut Editor) -> Result<(), Stop> {
     let view = editor.view(alloc)?;
     let lines = lines(alloc, &view)?;
     for line in lines.iter() {

@@ -68,8 +68,12 @@ fn ending(text: &[u8]) -> Option<Ending> {
 }
 
 fn has_blanks_and_commas(text: &[u8]) -> bool {
-    text.iter()
-        .all(|character| *character == b' ' || *character == b',')
+    for character in text {
+        if *character != b' ' && *character != b',' {
+            return false;
+        }
+    }
+    true
 }
 
 /// The places of so many whole digits before the last one, with the commas of an edit code.

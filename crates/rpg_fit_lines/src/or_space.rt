@@ -3,7 +3,7 @@
 use rpg_fit_deck::{Editor, Seen, Sentence, Word};
 use rpg_fit_words::{
     Alternative, Condition, Indicator, Line, NewCard, Stop, Term, Time, lines, name_files,
-    printer_of, put_cards, settle,
+    printer_of, put_cards,
 };
 use std::alloc::Global;
 
@@ -11,12 +11,11 @@ use std::alloc::Global;
 const MOST_ALTERNATIVES: usize = 2000;
 
 /// Puts several lines in place of each line whose alternatives have different spaces or skips. No two of them are put out together.
-pub fn or_spaces(alloc: Global, editor: &mut Editor) {
-    let outcome = split_lines(alloc, editor);
-    settle(editor, outcome);
-}
-
-fn split_lines(alloc: Global, editor: &mut Editor) -> Result<(), Stop> {
+///
+/// # Errors
+///
+/// The deck is rejected, or memory is refused.
+pub fn or_spaces(alloc: Global, editor: &mut Editor) -> Result<(), Stop> {
     let view = editor.view(alloc)?;
     let lines = lines(alloc, &view)?;
     let overflow = match printer_of(&view) {
@@ -225,7 +224,7 @@ impl Split<'_> {
         Ok(())
     }
 
-    /// Refuses a further alternative: an earlier line may turn overflow on, and no deck has so many.
+    /// Rejects a further alternative: an earlier line may turn overflow on, and no deck has so many.
     fn check(&self, asked: Indicator, alternatives: usize) -> Result<(), Stop> {
         if !self.overflow.is_blank() && asked == self.overflow {
             return Err(Stop::refused(

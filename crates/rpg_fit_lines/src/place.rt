@@ -2,7 +2,7 @@
 
 use crate::field::{end_on, name_on};
 use rpg_fit_deck::{Editor, Seen, Sentence, Word};
-use rpg_fit_words::{Condition, Line, NewCard, Stop, lines, settle};
+use rpg_fit_words::{Condition, Line, NewCard, Stop, lines};
 use std::alloc::Global;
 
 /// How many cards a deck has at most.
@@ -12,12 +12,11 @@ const MOST_CARDS: usize = 2000;
 const MOST_TERMS: usize = 3;
 
 /// In place of each *PLACE, puts copies of the fields before it, so far to the right that they end where it ends.
-pub fn places(alloc: Global, editor: &mut Editor) {
-    let outcome = place_lines(alloc, editor);
-    settle(editor, outcome);
-}
-
-fn place_lines(alloc: Global, editor: &mut Editor) -> Result<(), Stop> {
+///
+/// # Errors
+///
+/// The deck is rejected, or memory is refused.
+pub fn places(alloc: Global, editor: &mut Editor) -> Result<(), Stop> {
     let view = editor.view(alloc)?;
     let lines = lines(alloc, &view)?;
     for line in lines.iter() {
@@ -74,7 +73,7 @@ impl Before {
         Ok(())
     }
 
-    /// Refuses *PLACE after PAGE, which would be counted twice, and where copies would come before the fields' ends.
+    /// Rejects *PLACE after PAGE, which would be counted twice, and where copies would come before the fields' ends.
     fn check(&self, place: &Seen) -> Result<(), Stop> {
         if self.fields.iter().any(is_page) {
             return Err(Stop::refused(place.number, Sentence::of("PAGE stands before *PLACE")));

@@ -53,11 +53,13 @@ impl Row {
 
     /// Whether a field stands between two entries.
     pub fn has_between(&self, field: Span) -> bool {
-        (1..self.entries).any(|entry| {
+        for entry in 1..self.entries {
             let next = self.end_of(entry).saturating_add(1);
-            field.end >= next
-                && field.end.saturating_add(2)
-                    <= next.saturating_add(self.gap).saturating_add(field.width)
-        })
+            let last = next.saturating_add(self.gap).saturating_add(field.width);
+            if field.end >= next && field.end.saturating_add(2) <= last {
+                return true;
+            }
+        }
+        false
     }
 }

@@ -5,7 +5,7 @@ use crate::row::{Row, Span};
 use crate::width::field_width;
 use rpg_fit_deck::{Editor, Seen, Sentence, View, Word};
 use rpg_fit_words::{
-    Array, Line, NewCard, Operand, Stop, array_of, arrays, form_of, lines, settle, with_room,
+    Array, Line, NewCard, Operand, Stop, array_of, arrays, form_of, lines, with_room,
 };
 use std::alloc::Global;
 
@@ -16,12 +16,11 @@ const MOST_FIELDS: usize = 200;
 const GAP: usize = 2;
 
 /// Puts a field for each entry in place of each whole array.
-pub fn whole_outputs(alloc: Global, editor: &mut Editor) {
-    let outcome = spread_lines(alloc, editor);
-    settle(editor, outcome);
-}
-
-fn spread_lines(alloc: Global, editor: &mut Editor) -> Result<(), Stop> {
+///
+/// # Errors
+///
+/// The deck is rejected, or memory is refused.
+pub fn whole_outputs(alloc: Global, editor: &mut Editor) -> Result<(), Stop> {
     let view = editor.view(alloc)?;
     let lines = lines(alloc, &view)?;
     let mut deck = Arrays {
@@ -58,16 +57,16 @@ fn spread_fields(
     Ok(())
 }
 
-/// Refuses entries without room in their line.
+/// Rejects entries without room in their line.
 fn check(row: Row, before: &[Span], card: usize) -> Result<(), Stop> {
     if row.begins_early() {
         return Err(Stop::refused(card, Sentence::of("its first entry begins before column 1")));
     }
-    if before.iter().any(|field| row.has_between(*field)) {
-        return Err(Stop::refused(
-            card,
-            Sentence::of("an earlier field stands between its entries"),
-        ));
+    for field in before {
+        if row.has_between(*field) {
+            let why = Sentence::of("an earlier field stands between its entries");
+            return Err(Stop::refused(card, why));
+        }
     }
     if row.entries > MOST_FIELDS {
         return Err(Stop::refused(

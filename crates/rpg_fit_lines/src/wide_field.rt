@@ -125,6 +125,16 @@ impl WideFields {
         Ok(name)
     }
 
+    /// Whether a field gets its copy at a moment already.
+    fn has_copy(&self, copy: CopyAt) -> bool {
+        for done in self.copies.iter() {
+            if done.moment == copy.moment && done.name.text() == copy.name.text() {
+                return true;
+            }
+        }
+        false
+    }
+
     /// Copies a number at a moment, unless it is copied then.
     fn copy(
         &mut self,
@@ -133,7 +143,7 @@ impl WideFields {
         number: ShortNumber,
         copy: CopyAt,
     ) -> Result<(), Stop> {
-        if self.copies.iter().any(|done| done.is_same(copy)) {
+        if self.has_copy(copy) {
             return Ok(());
         }
         self.copies.push(copy)?;
@@ -149,12 +159,6 @@ impl WideFields {
                 number,
             ),
         }
-    }
-}
-
-impl CopyAt {
-    fn is_same(self, other: CopyAt) -> bool {
-        self.moment == other.moment && self.name.text() == other.name.text()
     }
 }
 

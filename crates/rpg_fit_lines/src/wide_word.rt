@@ -8,7 +8,7 @@ use crate::word_form::WordForm;
 use rpg_fit_deck::{Editor, Seen, Sentence, View, Word};
 use rpg_fit_words::{
     Form, Line, NewCard, Operand, Printer, Stop, Time, form_of, is_card, is_field_put_first,
-    is_total_skipped_late, lines, printer_of, record_types, settle,
+    is_total_skipped_late, lines, printer_of, record_types,
 };
 use std::alloc::Global;
 
@@ -17,12 +17,11 @@ const MOST_DIGITS: usize = 15;
 
 /// Puts a field with enough digits in place of each number that has fewer than its word has places. The number is copied there before
 /// the line comes.
-pub fn words(alloc: Global, editor: &mut Editor) {
-    let outcome = widen_lines(alloc, editor);
-    settle(editor, outcome);
-}
-
-fn widen_lines(alloc: Global, editor: &mut Editor) -> Result<(), Stop> {
+///
+/// # Errors
+///
+/// The deck is rejected, or memory is refused.
+pub fn words(alloc: Global, editor: &mut Editor) -> Result<(), Stop> {
     let view = editor.view(alloc)?;
     let lines = lines(alloc, &view)?;
     let types = record_types(alloc, &view)?;
@@ -95,7 +94,7 @@ impl Deck<'_> {
         }
     }
 
-    /// Refuses a number whose copy might not have its value where the line is put out.
+    /// Rejects a number whose copy might not have its value where the line is put out.
     fn check(&self, at: LineAt, field: &Seen, number: ShortNumber) -> Result<(), Stop> {
         if number.places > MOST_DIGITS {
             return Err(Stop::refused(
@@ -119,7 +118,7 @@ impl Deck<'_> {
         self.check_value(at, field, name.name)
     }
 
-    /// Refuses a number that has a value before any calculation or that a line before it blanks.
+    /// Rejects a number that has a value before any calculation or that a line before it blanks.
     fn check_value(&self, at: LineAt, field: &Seen, name: &[u8]) -> Result<(), Stop> {
         if self.begins_with_value(name) && self.may_come_early(at.line, field) {
             return Err(Stop::refused(
@@ -143,7 +142,12 @@ impl Deck<'_> {
 
     /// Whether a name has a value before any calculation: part of the date, or data of the deck.
     fn begins_with_value(&self, name: &[u8]) -> bool {
-        is_date(name) || self.view.cards.iter().any(|seen| has_data(seen, name))
+        for seen in self.view.cards.iter() {
+            if has_data(seen, name) {
+                return true;
+            }
+        }
+        is_date(name)
     }
 
     /// Whether a field may be put out before any calculation.
@@ -154,25 +158,28 @@ impl Deck<'_> {
 
     /// Whether a line has an alternative of overflow.
     fn has_overflow(&self, line: &Line) -> bool {
-        match self.printer {
-            Some(printer) => line.alternatives.iter().any(|alternative| printer.is_overflow(
-                line,
-                &alternative.condition,
-            )),
-            None => false,
+        let Some(printer) = self.printer else {
+            return false;
+        };
+        for alternative in line.alternatives.iter() {
+            if printer.is_overflow(line, &alternative.condition) {
+                return true;
+            }
         }
+        false
     }
 
     /// Whether a field may be blanked between its copy and its line: by an earlier line of the same time, or by any where the line has an
     /// alternative of overflow.
     fn may_be_blanked(&self, at: LineAt, name: &[u8]) -> bool {
-        if self.has_overflow(at.line) && self.lines.iter().any(|line| blanks(line, name)) {
-            return true;
+        let at_overflow = self.has_overflow(at.line);
+        for (place, line) in self.lines.iter().enumerate() {
+            let is_before = place < at.place && is_same_time(line.time, at.line.time);
+            if (at_overflow || is_before) && blanks(line, name) {
+                return true;
+            }
         }
-        self.lines.get(..at.place).unwrap_or(&[]).iter().any(|line| is_same_time(
-            line.time,
-            at.line.time,
-        ) && blanks(line, name))
+        false
     }
 
     /// Puts a field with enough digits in a number's place. The field itself is still blanked by its card, where it was.
@@ -222,11 +229,16 @@ impl ShortNumber {
     }
 }
 
+/// The date and its parts.
+const DATES: [&[u8]; 4] = [b"UDATE", b"UDAY", b"UMONTH", b"UYEAR"];
+
 fn is_date(name: &[u8]) -> bool {
-    name == b"UDATE".as_slice()
-        || name == b"UDAY".as_slice()
-        || name == b"UMONTH".as_slice()
-        || name == b"UYEAR".as_slice()
+    for date in &DATES {
+        if *date == name {
+            return true;
+        }
+    }
+    false
 }
 
 /// Whether a card defines a table or an array of a name, with data in the deck.
@@ -238,9 +250,12 @@ fn has_data(seen: &Seen, name: &[u8]) -> bool {
 
 /// Whether a line blanks a field, or an entry of an array, once it is put out.
 fn blanks(line: &Line, name: &[u8]) -> bool {
-    line.fields.iter().any(|field| {
-        field.card.column(39) == b'B' && Operand::of(name_on(&field.card)).name == name
-    })
+    for field in line.fields.iter() {
+        if field.card.column(39) == b'B' && Operand::of(name_on(&field.card)).name == name {
+            return true;
+        }
+    }
+    false
 }
 
 /// Whether lines of two times are put out one after another without calculations between them.

@@ -1,7 +1,7 @@
 //! What a deck means in another way than before, though it is read as it is.
 
-use crate::cards::{is_of_form, is_printer};
-use rpg_fit_deck::{Card, View};
+use rpg_fit_deck::{Card, Seen, View};
+use rpg_fit_terms::is_card;
 use std::alloc::{AllocError, Global};
 
 /// What is noted of a card.
@@ -13,17 +13,17 @@ pub struct Note {
 }
 
 /// What is noted of the cards of a source: halt indicators that calculations turn on, and the printer where it has no overflow indicator.
-pub fn notes(alloc: Global, view: &View) -> Result<Vec<Note>, AllocError> {
+pub(crate) fn notes(alloc: Global, view: &View) -> Result<Vec<Note>, AllocError> {
     let mut notes = Vec::new(alloc);
     let mut printer = None;
     for seen in &view.cards {
-        if turns_halt_on(&seen.card) {
+        if turns_halt_on(seen) {
             notes.push(Note {
                 card: seen.number,
                 text: "the job ends behind the lines of this record; the operator could go on",
             })?;
         }
-        if printer.is_none() && is_of_form(&seen.card, b'F') && is_printer(&seen.card) {
+        if printer.is_none() && is_printer(seen) {
             printer = Some(*seen);
         }
     }
@@ -39,15 +39,20 @@ pub fn notes(alloc: Global, view: &View) -> Result<Vec<Note>, AllocError> {
 }
 
 /// Whether a calculation turns on one of H1 to H9.
-fn turns_halt_on(card: &Card) -> bool {
-    let is_seton = is_of_form(card, b'C') && card.value(28, 32) == b"SETON".as_slice();
-    is_seton
-        && [54usize, 56, 58].iter().any(|column| is_halt(card.columns(
-            *column,
-            column.saturating_add(1),
-        )))
+fn turns_halt_on(seen: &Seen) -> bool {
+    let card = &seen.card;
+    is_card(seen, b'C')
+        && card.value(28, 32) == b"SETON".as_slice()
+        && (is_halt(card, 54) || is_halt(card, 56) || is_halt(card, 58))
 }
 
-fn is_halt(indicator: &[u8]) -> bool {
-    matches!(indicator, [b'H', digit] if matches!(*digit, b'1'..=b'9'))
+/// Whether one of H1 to H9 stands in a column and the next one.
+fn is_halt(card: &Card, column: usize) -> bool {
+    let digit = card.column(column.saturating_add(1));
+    card.column(column) == b'H' && digit.is_ascii_digit() && digit != b'0'
+}
+
+/// Whether a card is that of a printer.
+fn is_printer(seen: &Seen) -> bool {
+    is_card(seen, b'F') && seen.card.value(40, 46) == b"PRINTER".as_slice()
 }
