@@ -4,7 +4,7 @@ use Rattle.std.proofs.lemmas.List.{take_more}
 use Rattle.std.specs.Prelude.{is_some}
 use Rattle.std.specs.Option.{option_and_then, option_map, option_map_or, option_or}
 use Rattle.rpg_cards.proofs.GroupLemmas.{open_group-push}
-use Rattle.rpg_cards.specs.Calculations.{CalculationGroup, group_with, last_card, open_calculation_group}
+use Rattle.rpg_cards.specs.Calculations.{group_with, last_card, open_calculation_group}
 use Rattle.rpg_cards.specs.Cards.{calculation_on, input_on, output_on, output_record_in, output_record_on, type_in, type_on}
 use Rattle.rpg_cards.specs.Groups.{Group, file_of_group, input_card_role, input_role, open_file, open_group, output_card_role, output_role, role_on, with_card}
 use Rattle.rpg_cards.specs.declared.spec_card.SpecCard.{SpecCard}

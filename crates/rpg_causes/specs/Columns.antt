@@ -1,5 +1,5 @@
 -- F9: which columns are missing or not allowed, and why.
-use Rattle.std.specs.Prelude.{ℕ, ◌==◌, nat_lt, List, Bool, true, false, not, ◌&&◌, ◌||◌, Option, None, Some, is_none, is_some, option_and_then, if◌then◌else◌}
+use Rattle.std.specs.Prelude.{ℕ, ◌==◌, nat_lt, List, Bool, true, false, ◌&&◌, ◌||◌, Option, None, Some, is_none, is_some, option_and_then, if◌then◌else◌}
 use Rattle.std.specs.Option.{option_map, option_or}
 use Rattle.rpg_cards.specs.Calculations.{CalculationGroup, card_ending, depends, goes_on, group_end, open_calculation_group}
 use Rattle.rpg_cards.specs.Cards.{calculation_on, output_field_on}

@@ -1,5 +1,5 @@
 -- F7, and F9 of lines: which file a card is about, what is wrong with it, and which F card it is on.
-use Rattle.std.specs.Prelude.{ℕ, List, [], ◌∷◌, Bool, false, not, nat_eq, Option, None, Some, is_some, find, option_and_then, if◌then◌else◌}
+use Rattle.std.specs.Prelude.{ℕ, List, [], ◌∷◌, Bool, nat_eq, Option, None, Some, is_some, option_and_then, if◌then◌else◌}
 use Rattle.std.specs.Cmp.Lexicographic.{pointwise}
 use Rattle.std.specs.Option.{option_map, option_map_or, option_or}
 use Rattle.rpg_cards.specs.Cards.{file_on, output_record_on, type_on}
@@ -12,7 +12,7 @@ use Rattle.rpg_causes.specs.declared.files.FileCause.TheVariants.{EndsApart, Len
 use Rattle.rpg_causes.specs.declared.files.FileOnCard.{FileOnCard}
 use Rattle.rpg_causes.specs.declared.files.FileUser.{FileUser}
 use Rattle.rpg_causes.specs.declared.files.FileUser.TheVariants as user
-use Rattle.rpg_faults_limits.specs.Files.{ends_apart, longest_in_file, moves}
+use Rattle.rpg_faults_limits.specs.Files.{ends_apart, longest_in_file}
 use Rattle.rpg_sheet_specs.specs.declared.file.FileSpec.{FileSpec}
 use Rattle.rpg_sheet_specs.specs.declared.input.RecordType.{RecordType}
 use Rattle.rpg_sheet_specs.specs.declared.output.OutputRecord.{OutputRecord}

@@ -1,5 +1,5 @@
 -- F8: why an indicator isn't allowed.
-use Rattle.std.specs.Prelude.{ℕ, Bool, List, Option, None, Some, is_none, is_some, option_and_then, ◌&&◌, ◌||◌, if◌then◌else◌}
+use Rattle.std.specs.Prelude.{ℕ, List, Option, None, Some, is_none, is_some, option_and_then, ◌&&◌, ◌||◌, if◌then◌else◌}
 use Rattle.std.specs.Option.{option_or}
 use Rattle.rpg_cards.specs.declared.spec_card.SpecCard.{SpecCard}
 use Rattle.rpg_causes.specs.declared.indicators.IndicatorCause.{IndicatorCause}

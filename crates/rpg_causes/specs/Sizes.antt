@@ -2,7 +2,7 @@
 use Rattle.std.specs.Prelude.{ℕ, ◌+◌, ◌-◌, nat_le, Option, None, Some, is_none, option_and_then, if◌then◌else◌}
 use Rattle.std.specs.Option.{option_map, option_or}
 use Rattle.rpg_cards.specs.Cards.{calculation_on, extension_on, input_field_on}
-use Rattle.rpg_cards.specs.Names.{field_form, sized_form}
+use Rattle.rpg_cards.specs.Names.{sized_form}
 use Rattle.rpg_cards.specs.declared.spec_card.SpecCard.{SpecCard}
 use Rattle.rpg_causes.specs.declared.sizes.SizeCause.{SizeCause}
 use Rattle.rpg_causes.specs.declared.sizes.SizeCause.TheVariants.{Decimals, Digits, Length, NoLength}

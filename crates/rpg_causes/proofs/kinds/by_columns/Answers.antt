@@ -2,7 +2,7 @@ use Rattle.std.proofs.Common.{◌∙◌, ap}
 use Rattle.std.specs.Option.{option_map_or}
 use Rattle.std.specs.Prelude.{false}
 use Rattle.rpg_causes.proofs.Tests.{in_other_order}
-use Rattle.rpg_causes.specs.Operands.{are_wrong, held_factor, held_result}
+use Rattle.rpg_causes.specs.Operands.{are_wrong, held_factor}
 use Rattle.rpg_causes.specs.declared.kinds.Held.{Held}
 use Rattle.rpg_faults_operands.specs.Kinds.{has_wrong_class, wrong_result}
 use Rattle.rpg_faults_operands.specs.Operands.{factor_form, field_content, result_form}

@@ -1,4 +1,4 @@
-use Rattle.std.proofs.Common.{◌∙◌, ap, sym, arith, length, length-append, take}
+use Rattle.std.proofs.Common.{◌∙◌, ap, arith, length, length-append, take}
 use Rattle.std.proofs.lemmas.List.{length-take}
 use Rattle.rpg_cards.proofs.ItemLemmas.{definitions-take, few_definitions}
 use Rattle.rpg_cards.specs.Names.{definitions, definitions_on}

@@ -1,5 +1,4 @@
-use Rattle.std.proofs.Common.{◌∙◌, ap, sym}
-use Rattle.std.specs.Prelude.{is_some}
+use Rattle.std.proofs.Common.{◌∙◌, sym}
 use Rattle.rpg_cards.specs.Names.{definitions}
 use Rattle.rpg_causes.proofs.Options.{none_of}
 use Rattle.rpg_causes.proofs.NameLemmas as causes
