@@ -11,7 +11,7 @@ use Rattle.rpg_cards.specs.Keys.{Key, Name}
 use Rattle.rpg_cards.specs.Plain.{Each, IsCallAmong, IsChainAmong, IsFound, NoneComesBack, Pair, call_in, calls_from, calls_in, calls_of, with_call}
 use Rattle.rpg_cards.specs.Sections.{Subroutine, callee}
 use Rattle.rpg_compile_program.specs.Levels.{greatest, level_within, subroutine_level}
-use Rattle.rpg_compile_program.specs.Sound.{CallsUp}
+use Rattle.rpg_compile_program.proofs.Sound.{CallsUp}
 use Rattle.rpg_faults_flow.proofs.Reaching.{distinct_chain, take_chain}
 
 -- ---- bounds

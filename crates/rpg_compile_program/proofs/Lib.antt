@@ -29,6 +29,7 @@ pub mod Plain
 pub mod Redefined
 pub mod RightRows
 pub mod Settings
+pub mod Sound
 pub mod Types
 pub mod Whole
 pub mod Words

@@ -13,7 +13,7 @@ use Rattle.rpg_cards.specs.Keys.{Key}
 use Rattle.rpg_cards.specs.Plain.{ArePlain, ArePlainBodies, IsCallAmong, NoneComesBack, calls_from, calls_in, calls_of}
 use Rattle.rpg_cards.specs.Sections.{Sections, Subroutine}
 use Rattle.rpg_compile_program.specs.Levels.{subroutine_level}
-use Rattle.rpg_compile_program.specs.Sound.{AreSound, AreSoundBodies}
+use Rattle.rpg_compile_program.proofs.Sound.{AreSound, AreSoundBodies}
 
 module _ (all : List (Subroutine Key)) (none : NoneComesBack (length all) (calls_of all)) where
   bodies_sound : (own : ℕ) (ss : List (Subroutine Key)) → ((a b : ℕ) → IsCallAmong a b (calls_from all own ss) → IsCallAmong a b (calls_of all)) → ArePlainBodies all ss → AreSoundBodies all (subroutine_level all) own ss

@@ -22,7 +22,7 @@ use Rattle.rpg_cards.specs.Keys.{Key, Name}
 use Rattle.rpg_cards.specs.Plain.{Each, HasGoal, defines_subroutine}
 use Rattle.rpg_cards.specs.Sections.{Sections, Subroutine, callee}
 use Rattle.rpg_compile_program.specs.Code.{code_from, label_place, section_code, sizes, step_code, subroutines_code, waits}
-use Rattle.rpg_compile_program.specs.Sound.{AreSound, AreSoundBodies, CallsUp, IsSoundBody}
+use Rattle.rpg_compile_program.proofs.Sound.{AreSound, AreSoundBodies, CallsUp, IsSoundBody}
 use Rattle.rpg_compile_program.specs.Whole.{IsCodeOf, called_number}
 use Rattle.rpg_cards.specs.Sections.{is_same_name}
 

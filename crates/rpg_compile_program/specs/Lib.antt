@@ -5,7 +5,6 @@ pub mod Lines
 pub mod Program
 pub mod Ranges
 pub mod Rules
-pub mod Sound
 pub mod Table
 pub mod Types
 pub mod Whole
