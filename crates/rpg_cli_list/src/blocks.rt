@@ -1,16 +1,29 @@
 //! The blocks of a listing: rows of one file under a heading, each with the cards after its first.
 
+use crate::files::DescribedFile;
 use rpg_cards::SpecCard;
 use rpg_cli_list_names::name_text;
 use rpg_cli_text::TextWriter;
 use rpg_sheet_specs::Word;
 
-/// The cards after the first of a row, up to the place where the next row begins.
-pub(crate) fn followers(behind: &[SpecCard], next: Option<usize>) -> &[SpecCard] {
-    match next {
-        Some(next) => behind.get(..next).unwrap_or(&[]),
-        None => behind,
+/// The cards up to the next record type.
+pub(crate) fn cards_of_type(behind: &[SpecCard]) -> &[SpecCard] {
+    for (place, card) in behind.iter().enumerate() {
+        if card.record_type().is_some() {
+            return behind.get(..place).unwrap_or(&[]);
+        }
     }
+    behind
+}
+
+/// The cards up to the next line.
+pub(crate) fn cards_of_line(behind: &[SpecCard]) -> &[SpecCard] {
+    for (place, card) in behind.iter().enumerate() {
+        if card.line().is_some() {
+            return behind.get(..place).unwrap_or(&[]);
+        }
+    }
+    behind
 }
 
 /// What the rows are, the file where a card names it, and the length of its records with the word for what it counts.
@@ -18,15 +31,15 @@ pub(crate) fn write_heading(
     out: &mut TextWriter,
     rows: &str,
     name: Option<&Word<8>>,
-    length: Option<(u16, &str)>,
+    file: Option<DescribedFile>,
+    counted: &str,
 ) {
-    write!(out, "\n{rows}");
+    out.fill("\n{}", &[rows.into()]);
     if let Some(name) = name {
-        let name = name_text(name.as_slice());
-        write!(out, " OF {name}");
+        out.fill(" OF {}", &[name_text(name.as_slice()).into()]);
     }
-    if let Some((length, counted)) = length {
-        write!(out, ", {length} {counted}");
+    if let Some(file) = file {
+        out.fill(", {} {}", &[file.record_length.into(), counted.into()]);
     }
     out.write_char('\n');
 }

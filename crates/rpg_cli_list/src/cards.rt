@@ -12,7 +12,7 @@ use rpg_text::trimmed;
 const MARGIN: usize = 6;
 
 fn write_card(out: &mut TextWriter, number: usize, line: &[u8]) {
-    write!(out, "{number:>5}");
+    out.fill("{:>5}", &[number.into()]);
     let text = trimmed(line);
     if !text.is_empty() {
         out.write_char(' ');

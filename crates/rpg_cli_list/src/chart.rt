@@ -19,9 +19,7 @@ pub(crate) struct Chart {
 
 /// The places that a text takes which ends at one of them, the first being 1: none where it would begin before.
 pub(crate) fn first_place(width: usize, end: u16) -> Option<usize> {
-    usize::from(end)
-        .checked_sub(width)
-        .map(|before| before.saturating_add(1))
+    usize::from(end).checked_sub(width)?.checked_add(1)
 }
 
 impl Chart {

@@ -23,12 +23,16 @@ pub(crate) struct FileIndex {
     files: IndexMap<Word<8>, DescribedFile>,
 }
 
+fn overflow_of(file: &FileSpec) -> Option<u8> {
+    Some(file.overflow?.number())
+}
+
 fn described(card: u16, file: &FileSpec) -> DescribedFile {
     DescribedFile {
         card,
         serves_as: use_of(file),
         record_length: file.record_length,
-        overflow: file.overflow.map(|indicator| indicator.number()),
+        overflow: overflow_of(file),
     }
 }
 
@@ -89,21 +93,16 @@ impl FileIndex {
 }
 
 fn write_file(out: &mut TextWriter, name: &str, file: DescribedFile) {
-    let DescribedFile {
-        card,
-        serves_as,
-        record_length,
-        overflow,
-    } = file;
-    let serves = use_word(serves_as);
-    let words = length_words(serves_as);
-    write!(
-        out,
-        "  {name:<8}  {serves:<9}  {record_length:>4} {words}  card {card}"
+    let serves = use_word(file.serves_as);
+    let words = length_words(file.serves_as);
+    out.fill("  {:<8}  {:<9}  ", &[name.into(), serves.into()]);
+    out.fill(
+        "{:>4} {}  card {}",
+        &[file.record_length.into(), words.into(), file.card.into()],
     );
-    if let Some(number) = overflow {
-        let indicator = Indicator(number);
-        write!(out, ", turns on {indicator} where a page is full");
+    if let Some(number) = file.overflow {
+        let name = Indicator(number).name();
+        out.fill(", turns on {} where a page is full", &[name.into()]);
     }
     out.write_char('\n');
 }

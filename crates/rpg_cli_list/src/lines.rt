@@ -1,6 +1,6 @@
 //! Lines: when each is put out, how it looks, and where its fields stand.
 
-use crate::blocks::{followers, write_heading};
+use crate::blocks::{cards_of_line, write_heading};
 use crate::chart::{Chart, first_place};
 use crate::files::{DescribedFile, FileIndex, length_words};
 use crate::picture::picture;
@@ -12,34 +12,32 @@ use rpg_cli_text::TextWriter;
 use rpg_edit_marks::Fill;
 use rpg_effect::line::Spacing;
 use rpg_faults_operands::fill_in;
-use rpg_sheet_specs::{Entry, EntryIndex, Movement, OutputField, OutputRecord, OutputSpec};
+use rpg_sheet_specs::{Entry, EntryIndex, Movement, OutputField, OutputRecord, OutputSpec, Within};
 use std::alloc::{AllocError, Global};
+
+fn lines_in<const FIRST: u8, const LAST: u8>(column: Option<Within<FIRST, LAST>>) -> u8 {
+    match column {
+        Some(lines) => lines.number(),
+        None => 0,
+    }
+}
 
 /// How the form moves: if all four columns are blank, one line is spaced after.
 fn spacing_of(movement: Movement) -> Spacing {
-    match movement {
+    let space_after = match movement {
         Movement {
             space_before: None,
             space_after: None,
             skip_before: None,
             skip_after: None,
-        } => Spacing {
-            skip_before: 0,
-            space_before: 0,
-            skip_after: 0,
-            space_after: 1,
-        },
-        Movement {
-            space_before,
-            space_after,
-            skip_before,
-            skip_after,
-        } => Spacing {
-            skip_before: skip_before.map_or(0, |line| line.number()),
-            space_before: space_before.map_or(0, |lines| lines.number()),
-            skip_after: skip_after.map_or(0, |line| line.number()),
-            space_after: space_after.map_or(0, |lines| lines.number()),
-        },
+        } => 1,
+        _ => lines_in(movement.space_after),
+    };
+    Spacing {
+        skip_before: lines_in(movement.skip_before),
+        space_before: lines_in(movement.space_before),
+        skip_after: lines_in(movement.skip_after),
+        space_after,
     }
 }
 
@@ -52,7 +50,7 @@ fn write_head(
     cards: &[SpecCard],
 ) {
     let time = time_word(time_of(record.time));
-    write!(out, "  line, card {card}: {time}");
+    out.fill("  line, card {}: {}", &[card.into(), time.into()]);
     match file {
         Some(file) if file.serves_as == FileUse::Printer => {
             write_spacing(out, spacing_of(record.movement));
@@ -111,10 +109,13 @@ fn write_places(
     field: &OutputField,
 ) -> Result<(), AllocError> {
     let end = field.end;
-    let width = picture(alloc, source, field)?.map(|text| text.len());
-    match width.and_then(|width| first_place(width, end)) {
-        Some(first) => write!(out, "{first:>4}-{end:<4}"),
-        None => write!(out, "    -{end:<4}"),
+    let first = match picture(alloc, source, field)? {
+        Some(text) => first_place(text.len(), end),
+        None => None,
+    };
+    match first {
+        Some(first) => out.fill("{:>4}-{:<4}", &[first.into(), end.into()]),
+        None => out.fill("    -{:<4}", &[end.into()]),
     }
     Ok(())
 }
@@ -123,11 +124,8 @@ fn write_entry(out: &mut TextWriter, entry: &Entry) {
     out.write_str(name_text(entry.name.as_slice()));
     match &entry.index {
         None => {}
-        Some(EntryIndex::Literal(index)) => write!(out, ",{index}"),
-        Some(EntryIndex::Name(index)) => {
-            out.write_char(',');
-            out.write_str(name_text(index.as_slice()));
-        }
+        Some(EntryIndex::Literal(index)) => out.fill(",{}", &[(*index).into()]),
+        Some(EntryIndex::Name(index)) => out.fill(",{}", &[name_text(index.as_slice()).into()]),
     }
 }
 
@@ -137,9 +135,8 @@ fn write_printed(out: &mut TextWriter, field: &OutputField) {
         write_entry(out, entry);
     }
     if let Some(code) = field.code {
-        let letter = code_letter(code);
         let filled = fill_words(fill_in(&field.text).unwrap_or(Fill::Blank));
-        write!(out, " by code {letter}{filled}");
+        out.fill(" by code {}{}", &[code_letter(code).into(), filled.into()]);
     } else if let Some(text) = &field.text {
         if field.operand.is_some() {
             out.write_str(" by word ");
@@ -155,7 +152,7 @@ fn write_field(
     card: u16,
     field: &OutputField,
 ) -> Result<(), AllocError> {
-    write!(out, "  {card:>6}  ");
+    out.fill("  {:>6}  ", &[card.into()]);
     write_places(alloc, out, source, field)?;
     out.write_str("  ");
     write_printed(out, field);
@@ -178,12 +175,13 @@ fn write_line(
     if let Some(file) = file {
         write_chart(alloc, out, source, file.record_length, cards)?;
     }
-    if !cards.iter().any(|card| card.output_field().is_some()) {
-        return Ok(());
-    }
-    out.write_str("    card  places     printed\n");
+    let mut is_first = true;
     for card in cards {
         if let Some(field) = card.output_field() {
+            if is_first {
+                out.write_str("    card  places     printed\n");
+            }
+            is_first = false;
             write_field(alloc, out, source, card.number, field)?;
         }
     }
@@ -208,12 +206,14 @@ pub(crate) fn write_lines(
             file = files.named(name);
         }
         if is_first || record.file.is_some() {
-            let length = file.map(|file| (file.record_length, length_words(file.serves_as)));
-            write_heading(out, "LINES", record.file.as_ref(), length);
+            let counted = match file {
+                Some(file) => length_words(file.serves_as),
+                None => "",
+            };
+            write_heading(out, "LINES", record.file.as_ref(), file, counted);
         }
         is_first = false;
-        let behind = cards.get(place.saturating_add(1)..).unwrap_or(&[]);
-        let behind = followers(behind, behind.iter().position(|card| card.line().is_some()));
+        let behind = cards_of_line(cards.get(place.saturating_add(1)..).unwrap_or(&[]));
         write_head(out, card.number, record, file, behind);
         write_line(alloc, out, source, file, behind)?;
     }

@@ -13,34 +13,20 @@ use rpg_cli_text::TextWriter;
 use rpg_faults::CardFault;
 use std::alloc::{AllocError, Global};
 
+const UNREAD: &str =
+    "{} card{} that can't be read\nthe tables are of the others; other checks run once all can be read\n";
+
 /// How many cards there are, and how many faults.
 fn write_head(out: &mut TextWriter, path: &str, deck: &Deck, faults: usize) {
     let cards = deck.lines.len();
-    let of_cards = counted(cards);
+    let sentence = match (deck.unread.is_empty(), faults) {
+        (false, _) => UNREAD,
+        (true, 0) => "no fault\n",
+        (true, _) => "{} fault{}\n",
+    };
     out.write_shown(path.as_bytes());
-    write!(out, ": {cards} card{of_cards}, ");
-    if deck.unread.is_empty() {
-        write_fault_count(out, faults);
-    } else {
-        write_unread_count(out, faults);
-    }
-}
-
-fn write_fault_count(out: &mut TextWriter, faults: usize) {
-    let of_faults = counted(faults);
-    if faults == 0 {
-        out.write_str("no fault\n");
-    } else {
-        write!(out, "{faults} fault{of_faults}\n");
-    }
-}
-
-fn write_unread_count(out: &mut TextWriter, cards: usize) {
-    let of_cards = counted(cards);
-    write!(
-        out,
-        "{cards} card{of_cards} that can't be read\nthe tables are of the others; other checks run once all can be read\n"
-    );
+    out.fill(": {} card{}, ", &[cards.into(), counted(cards).into()]);
+    out.fill(sentence, &[faults.into(), counted(faults).into()]);
 }
 
 fn write_constants(

@@ -1,6 +1,6 @@
 //! Record types with their codes and fields.
 
-use crate::blocks::{followers, write_heading};
+use crate::blocks::{cards_of_type, write_heading};
 use crate::chart::{Chart, MOST_DRAWN};
 use crate::files::{DescribedFile, FileIndex};
 use crate::tables::write_decimals;
@@ -14,10 +14,9 @@ use std::alloc::{AllocError, Global};
 /// Which type it is, and what it turns on.
 fn write_head(out: &mut TextWriter, card: u16, record_type: &RecordType) {
     let sequence = name_text(record_type.sequence.as_slice());
-    write!(out, "  type {sequence}, card {card}");
+    out.fill("  type {}, card {}", &[sequence.into(), card.into()]);
     if let Some(number) = number_of(record_type.indicator) {
-        let indicator = Indicator(number);
-        write!(out, ", turns on {indicator}");
+        out.fill(", turns on {}", &[Indicator(number).name().into()]);
     }
     out.write_char('\n');
 }
@@ -54,9 +53,12 @@ fn write_codes(out: &mut TextWriter, card: u16, codes: &Three<Option<RecordCode>
 
 fn write_code(out: &mut TextWriter, card: u16, code: Option<RecordCode>) {
     if let Some(code) = code {
-        let position = code.position;
-        let is = if code.negated { "isn't" } else { "is" };
-        write!(out, "  {card:>6}  column {position} {is} ");
+        let sentence = if code.negated {
+            "  {:>6}  column {} isn't "
+        } else {
+            "  {:>6}  column {} is "
+        };
+        out.fill(sentence, &[card.into(), code.position.into()]);
         write_quoted(out, &[code.character.number()]);
         out.write_char('\n');
     }
@@ -66,17 +68,18 @@ fn write_field(out: &mut TextWriter, card: u16, field: &InputField) {
     let name = name_text(field.name.as_slice());
     let from = field.from;
     let to = field.to;
-    write!(out, "  {card:>6}  {from:>4}-{to:<4}  {name:<6}  ");
+    out.fill(
+        "  {:>6}  {:>4}-{:<4}  {:<6}  ",
+        &[card.into(), from.into(), to.into(), name.into()],
+    );
     write_length(out, from, to);
     out.write_str("  ");
     write_decimals(out, field.decimals);
     if let Some(level) = field.level {
-        let level = level.number();
-        write!(out, "  L{level}");
+        out.fill("  L{}", &[level.number().into()]);
     }
     if let Some(level) = field.match_level {
-        let level = level.number();
-        write!(out, "  M{level}");
+        out.fill("  M{}", &[level.number().into()]);
     }
     write_shown(out, "plus", number_of(field.indicators.first));
     write_shown(out, "minus", number_of(field.indicators.second));
@@ -89,8 +92,8 @@ fn write_length(out: &mut TextWriter, from: u16, to: u16) {
     if from > to {
         out.write_str("     -");
     } else {
-        let length = u32::from(to - from) + 1;
-        write!(out, "{length:>6}");
+        let length = usize::from(to - from) + 1;
+        out.fill("{:>6}", &[length.into()]);
     }
 }
 
@@ -126,7 +129,12 @@ fn write_fields(out: &mut TextWriter, behind: &[SpecCard]) {
 }
 
 fn has_fields(behind: &[SpecCard]) -> bool {
-    behind.iter().any(|card| card.input_field().is_some())
+    for card in behind {
+        if card.input_field().is_some() {
+            return true;
+        }
+    }
+    false
 }
 
 /// Writes a type with its fields.
@@ -169,15 +177,10 @@ pub(crate) fn write_records(
             file = files.named(name);
         }
         if is_first || record_type.file.is_some() {
-            let length = file.map(|file| (file.record_length, "columns"));
-            write_heading(out, "RECORDS", record_type.file.as_ref(), length);
+            write_heading(out, "RECORDS", record_type.file.as_ref(), file, "columns");
         }
         is_first = false;
-        let behind = cards.get(place.saturating_add(1)..).unwrap_or(&[]);
-        let behind = followers(
-            behind,
-            behind.iter().position(|card| card.record_type().is_some()),
-        );
+        let behind = cards_of_type(cards.get(place.saturating_add(1)..).unwrap_or(&[]));
         write_type(alloc, out, file, card.number, record_type, behind)?;
     }
     Ok(())

@@ -7,20 +7,16 @@ use rpg_sheet_specs::{ExtensionSpec, TableSpec};
 
 fn write_table(out: &mut TextWriter, card: u16, extension: &ExtensionSpec, table: &TableSpec) {
     let name = name_text(table.name.as_slice());
-    let kind = if is_table(&table.name) {
-        "table"
+    let row = if is_table(&table.name) {
+        "table  {:>7}  {:>6}  "
     } else {
-        "array"
+        "array  {:>7}  {:>6}  "
     };
-    let entries = extension.entries;
-    let length = table.length;
-    write!(
-        out,
-        "  {card:>4}  {name:<6}  {kind}  {entries:>7}  {length:>6}  "
-    );
+    out.fill("  {:>4}  {:<6}  ", &[card.into(), name.into()]);
+    out.fill(row, &[extension.entries.into(), table.length.into()]);
     write_decimals(out, table.decimals);
     let order = if table.ascending { "ascending" } else { "" };
-    write!(out, "  {order:<9}  ");
+    out.fill("  {:<9}  ", &[order.into()]);
     write_data(out, extension);
     out.end_line();
 }
@@ -28,7 +24,7 @@ fn write_table(out: &mut TextWriter, card: u16, extension: &ExtensionSpec, table
 /// Writes decimals into their column, which tables and fields have.
 pub(crate) fn write_decimals(out: &mut TextWriter, decimals: Option<u8>) {
     match decimals {
-        Some(decimals) => write!(out, "{decimals:>8}"),
+        Some(decimals) => out.fill("{:>8}", &[decimals.into()]),
         None => out.write_str("        "),
     }
 }
@@ -37,8 +33,8 @@ pub(crate) fn write_decimals(out: &mut TextWriter, decimals: Option<u8>) {
 fn write_data(out: &mut TextWriter, extension: &ExtensionSpec) {
     match (extension.entries_per_card, &extension.alternating) {
         (None, _) => out.write_str("no data"),
-        (Some(count), None) => write!(out, "{count} on a card"),
-        (Some(count), Some(_)) => write!(out, "{count} pairs on a card"),
+        (Some(count), None) => out.fill("{} on a card", &[count.into()]),
+        (Some(count), Some(_)) => out.fill("{} pairs on a card", &[count.into()]),
     }
 }
 

@@ -11,8 +11,7 @@ pub(crate) fn write_ruler(out: &mut TextWriter, columns: usize) {
     for column in 1..=columns {
         match (column % 10, column % 5) {
             (0, _) => {
-                let tens = column / 10 % 10;
-                write!(out, "{tens}");
+                out.fill("{}", &[(column / 10 % 10).into()]);
             }
             (_, 0) => out.write_char('+'),
             _ => out.write_char('.'),
