@@ -13,6 +13,7 @@ import sys
 TOP = (
     "rpg_engine",
     "rpg_compile",
+    "rpg_causes",
     "rpg_source_run",
     "rpg_record_lines",
     "rpg_fit_deck",
